@@ -1,0 +1,15 @@
+-- What a function of this crate answers, beside what is wanted of it.
+use Rattle.std.specs.Prelude.{◌≡◌, ◌≤◌, ◌⊎◌, Result, Ok, Err, IfErr}
+use Rattle.block_file.specs.declared.fault.Cause.{Cause}
+use Rattle.block_file.specs.declared.fault.Cause.TheVariants.{Memory}
+use Rattle.block_file.specs.declared.fault.BlockFault.{BlockFault}
+
+-- of a line: the value or the cause that is wanted, or else want of memory
+abbrev pub Gives : {X Y : Type 0} → (X → Y) → Result X Cause → Result Y Cause → Type 0
+Gives view (Ok x) wanted = wanted ≡ Ok (view x)
+Gives view (Err cause) wanted = (cause ≡ Memory) ⊎ (wanted ≡ Err cause)
+
+-- of a file: the value or the fault that is wanted, or else want of memory on a line with no fault before it
+abbrev pub Reads : {X Y : Type 0} → (X → Y) → Result X BlockFault → Result Y BlockFault → Type 0
+Reads view (Ok x) wanted = wanted ≡ Ok (view x)
+Reads view (Err fault) wanted = (wanted ≡ Err fault) ⊎ ((fault.cause ≡ Memory) × IfErr wanted (λ first. fault.line ≤ first.line))

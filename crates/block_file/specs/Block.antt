@@ -1,0 +1,122 @@
+-- Block files of format 1.
+use Rattle.std.specs.Prelude.{ℕ, ◌==◌, nat_le, nat_lt, Bool, true, not, ◌&&◌, ◌||◌, List, [], ◌∷◌, ◌++◌, length, map, codes, Option, Some, None, is_none, Result, Ok, Err, if◌then◌else◌}
+use Rattle.std.specs.List.{list_all}
+use Rattle.std.specs.Option.{ok_or}
+use Rattle.std.specs.Result.{result_map_both}
+use Rattle.std.specs.Ordering.{is_lt}
+use Rattle.std.specs.Str.{bytes_eq}
+use Rattle.std.specs.String.{string_bytes}
+use Rattle.std.specs.FinMap as finite
+use Rattle.rv_ledger.specs.Key.{Storage, key_cmp}
+use Rattle.block_file.specs.declared.block_text.BlockText.{BlockText}
+use Rattle.block_file.specs.declared.block_text.CallLine.{CallLine}
+use Rattle.block_file.specs.declared.fault.Cause.{Cause}
+use Rattle.block_file.specs.declared.fault.Cause.TheVariants.{BadHeader, BadLine, BadNumber, KeyOrder, UnknownProgram, Limit}
+use Rattle.block_file.specs.declared.fault.BlockFault.{BlockFault}
+use Rattle.block_file.specs.Line.{◌>>=◌, cut, decimal_of, path_of, bytes_of, key_of, read_parts}
+
+-- a call: the number of its program, its gas limit and its input
+pub record CallValue : Type 0 where
+  pub program : ℕ
+  pub gas : ℕ
+  pub input : List ℕ
+
+-- what a block file says: the paths of its programs, the storage that it starts from, and its calls
+pub record BlockValue : Type 0 where
+  pub programs : List (List ℕ)
+  pub store : Storage
+  pub calls : List CallValue
+
+-- what a `CallLine` and a `BlockText` say
+abbrev pub call_value : CallLine → CallValue
+call_value call = record { program = call.program; gas = call.gas; input = call.input.items }
+
+abbrev pub block_value : BlockText → BlockValue
+block_value text = record { programs = map string_bytes text.programs.items; store = text.store; calls = map call_value text.calls.items }
+
+-- what the lines so far say, and the KEY of the last `store` line
+pub record Seen : Type 0 where
+  pub block : BlockValue
+  pub last : Option (List ℕ)
+
+-- no line so far
+abbrev pub start : Seen
+start = record { block = record { programs = []; store = finite.empty; calls = [] }; last = None }
+
+-- the PATH of a line `program N PATH` behind n others
+abbrev pub program_of : ℕ → List ℕ → List ℕ → Result (List ℕ) Cause
+program_of n number path = do
+  p ← path_of path
+  next ← ok_or (decimal_of number) BadNumber
+  if not (next == n) then Err BadNumber else
+      if nat_le 64 n then Err Limit else Ok p
+
+-- whether a key is above the last one
+abbrev pub is_above : Option (List ℕ) → List ℕ → Bool
+is_above None key = true
+is_above (Some last) key = is_lt (key_cmp last key)
+
+-- the key and the value of a line `store KEY VALUE` behind the key `last`
+abbrev pub stored_of : Option (List ℕ) → List ℕ → List ℕ → Result (List ℕ × List ℕ) Cause
+stored_of last key value = do
+  k ← key_of key
+  v ← bytes_of value
+  if not (is_above last k) then Err KeyOrder else
+      if nat_lt 64 (length v) then Err Limit else Ok (k, v)
+
+-- the call of a line `call PROGRAM GAS INPUT` behind `programs` programs and `calls` calls
+abbrev pub call_of : ℕ → ℕ → List ℕ → List ℕ → List ℕ → Result CallValue Cause
+call_of programs calls program gas input = do
+  p ← ok_or (decimal_of program) BadNumber
+  g ← ok_or (decimal_of gas) BadNumber
+  bytes ← bytes_of input
+  if not (nat_lt p programs) then Err UnknownProgram else
+      if (nat_le 1024 calls || g == 0 || nat_lt 10000000 g || nat_lt 4096 (length bytes)) then Err Limit else
+      Ok (record { program = p; gas = g; input = bytes })
+
+-- what each kind of line adds
+abbrev pub with_program : Seen → List ℕ → List ℕ → Result Seen Cause
+with_program s number path = do
+  p ← program_of (length s.block.programs) number path
+  Ok (record s { block = record s.block { programs = s.block.programs ++ p ∷ [] } })
+
+abbrev pub with_stored : Seen → List ℕ → List ℕ → Result Seen Cause
+with_stored s key value = do
+  entry ← stored_of s.last key value
+  Ok (record { block = record s.block { store = finite.insert s.block.store entry.0 entry.1 }; last = Some entry.0 })
+
+abbrev pub with_call : Seen → List ℕ → List ℕ → List ℕ → Result Seen Cause
+with_call s program gas input = do
+  call ← call_of (length s.block.programs) (length s.block.calls) program gas input
+  Ok (record s { block = record s.block { calls = s.block.calls ++ call ∷ [] } })
+
+-- what a line of three or four fields adds, the first of them its kind; the kinds come in their order
+abbrev pub with_kind : Seen → List (List ℕ) → Result Seen Cause
+with_kind s (kind ∷ a ∷ b ∷ []) =
+    if bytes_eq kind (codes "program") && is_none s.last && length s.block.calls == 0 then with_program s a b else
+    if bytes_eq kind (codes "store") && length s.block.calls == 0 then with_stored s a b else Err BadLine
+with_kind s (kind ∷ a ∷ b ∷ c ∷ []) = if bytes_eq kind (codes "call") then with_call s a b c else Err BadLine
+with_kind s _ = Err BadLine
+
+-- what a line adds: no field is empty, and the fields are parted by one space
+abbrev pub with_fields : Seen → List (List ℕ) → Result Seen Cause
+with_fields s fields = if list_all (λ field. not (length field == 0)) fields then with_kind s fields else Err BadLine
+
+abbrev pub with_line : Seen → List ℕ → Result Seen Cause
+with_line s line = with_fields s (cut 32 line)
+
+-- what the lines behind the header add
+abbrev pub body_of : List (List ℕ) → Result Seen BlockFault
+body_of parts = read_parts with_line BadLine 2 start parts
+
+-- what the parts between the LFs say
+abbrev pub block_of_parts : List (List ℕ) → Result BlockValue BlockFault
+block_of_parts [] = Err (record { line = 1; cause = BadHeader })
+block_of_parts (header ∷ rest) =
+    if not (bytes_eq header (codes "rvblock 1")) then Err (record { line = 1; cause = BadHeader }) else
+    if length rest == 0 then Err (record { line = 1; cause = BadLine }) else
+    result_map_both (λ s. s.block) (λ fault. fault) (body_of rest)
+
+-- what a block file says, or its first fault
+abbrev pub block_of : List ℕ → Result BlockValue BlockFault
+block_of bytes = block_of_parts (cut 10 bytes)

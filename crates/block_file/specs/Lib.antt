@@ -1,0 +1,5 @@
+pub mod Answer
+pub mod Line
+pub mod Block
+pub mod Reader
+pub mod Schedule

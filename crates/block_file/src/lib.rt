@@ -1,0 +1,17 @@
+//! Block files and schedule files: what their texts say, or the first fault.
+#![tactic(auto)]
+
+mod block;
+mod block_text;
+mod fault;
+mod fields;
+mod reader;
+mod schedule;
+
+pub use block::parse;
+pub use block_text::{BlockText, CallLine};
+pub use fault::{BlockFault, Cause};
+pub use schedule::parse_schedule;
+
+#[cfg(test)]
+mod tests;

@@ -1,0 +1,211 @@
+//! The lines of a block file behind its header.
+
+ghost use Rattle.std.specs.Prelude.{◌≡◌, ◌<◌, ◌==◌, not, [], ◌∷◌, length, map, IfOk};
+ghost use Rattle.std.specs.List.{list_all};
+ghost use Rattle.std.specs.String.{string_bytes};
+ghost use Rattle.block_file.specs.Answer.{Gives};
+ghost use Rattle.block_file.specs.Block.{call_value, program_of, stored_of, call_of, is_above, with_program, with_stored, with_call, with_kind, with_fields, with_line, start};
+ghost use Rattle.block_file.specs.Reader.{seen};
+
+use crate::block_text::{BlockText, CallLine, PROGRAM_LIMIT};
+use crate::fault::Cause;
+use crate::fields;
+use rv_ledger::call::{GAS_LIMIT, INPUT_LIMIT};
+use rv_ledger::job::CALL_LIMIT;
+use rv_ledger::{Key, Store, Value};
+use std::alloc::Global;
+
+/// What the lines so far say.
+#[derive(Drop)]
+pub struct Reader {
+    /// What they say of the block.
+    pub text: BlockText,
+    /// The key of the last `store` line.
+    pub last: Option<Key>,
+}
+
+impl Reader {
+    /// No line so far.
+    pub fn new(alloc: Global) -> Reader
+        ensures { seen result ≡ start }
+    {
+        Reader {
+            text: BlockText {
+                programs: Vec::new(alloc),
+                store: Store::new(alloc),
+                calls: Vec::new(alloc),
+            },
+            last: None,
+        }
+    }
+
+    /// Takes the next line.
+    pub fn read(&mut self, alloc: Global, line: &[u8]) -> Result<(), Cause>
+        ensures { Gives (λ _. seen self.new) result (with_line (seen self.old) line.now) }
+    {
+        let fields = fields::parts(alloc, line, b' ')?;
+        self.take(alloc, fields.as_slice())
+    }
+
+    /// Takes the fields of the next line.
+    fn take(&mut self, alloc: Global, fields: &[&[u8]]) -> Result<(), Cause>
+        ensures { Gives (λ _. seen self.new) result (with_fields (seen self.old) (map (λ field. field.now) fields.now)) }
+    {
+        if !are_filled(fields) {
+            return Err(Cause::BadLine);
+        }
+        match *fields {
+            [kind, first, second] => self.take_three(alloc, kind, first, second),
+            [kind, first, second, third] => self.take_four(alloc, kind, first, second, third),
+            _ => Err(Cause::BadLine),
+        }
+    }
+
+    /// Takes a `program` or a `store` line.
+    fn take_three(
+        &mut self,
+        alloc: Global,
+        kind: &[u8],
+        first: &[u8],
+        second: &[u8],
+    ) -> Result<(), Cause>
+        ensures { Gives (λ _. seen self.new) result (with_kind (seen self.old) (kind.now ∷ first.now ∷ second.now ∷ [])) }
+    {
+        let has_call = !self.text.calls.is_empty();
+        if kind == b"program".as_slice() && self.last.is_none() && !has_call {
+            return self.program(alloc, first, second);
+        }
+        if kind == b"store".as_slice() && !has_call {
+            return self.store(alloc, first, second);
+        }
+        Err(Cause::BadLine)
+    }
+
+    /// Takes a `call` line.
+    fn take_four(
+        &mut self,
+        alloc: Global,
+        kind: &[u8],
+        first: &[u8],
+        second: &[u8],
+        third: &[u8],
+    ) -> Result<(), Cause>
+        ensures { Gives (λ _. seen self.new) result (with_kind (seen self.old) (kind.now ∷ first.now ∷ second.now ∷ third.now ∷ [])) }
+    {
+        if kind != b"call".as_slice() {
+            return Err(Cause::BadLine);
+        }
+        self.call(alloc, first, second, third)
+    }
+
+    /// Takes the fields of a `program` line.
+    fn program(&mut self, alloc: Global, number: &[u8], path: &[u8]) -> Result<(), Cause>
+        ensures { Gives (λ _. seen self.new) result (with_program (seen self.old) number.now path.now) }
+    {
+        let path = program_of(alloc, self.text.programs.len(), number, path)?;
+        self.text.programs.push(path)?;
+        Ok(())
+    }
+
+    /// Takes the fields of a `store` line.
+    fn store(&mut self, alloc: Global, key: &[u8], value: &[u8]) -> Result<(), Cause>
+        ensures { Gives (λ _. seen self.new) result (with_stored (seen self.old) key.now value.now) }
+    {
+        let (key, value) = stored_of(alloc, self.last, key, value)?;
+        self.text.store.insert(key, value)?;
+        self.last = Some(key);
+        Ok(())
+    }
+
+    /// Takes the fields of a `call` line.
+    fn call(&mut self, alloc: Global, program: &[u8], gas: &[u8], input: &[u8]) -> Result<(), Cause>
+        ensures { Gives (λ _. seen self.new) result (with_call (seen self.old) program.now gas.now input.now) }
+    {
+        let programs = self.text.programs.len();
+        let calls = self.text.calls.len();
+        let call = call_of(alloc, programs, calls, program, gas, input)?;
+        self.text.calls.push(call)?;
+        Ok(())
+    }
+}
+
+/// Whether each field has a byte.
+fn are_filled(fields: &[&[u8]]) -> bool
+    ensures { result ≡ list_all (λ field. not (length field == 0)) (map (λ field. field.now) fields.now) }
+{
+    fields.iter().all(|field| !field.is_empty())
+}
+
+/// Whether a key is above the last one.
+fn is_above(last: Option<Key>, key: &Key) -> bool
+    ensures { result ≡ is_above last key.now }
+{
+    match last {
+        Some(last) => last.cmp(key).is_lt(),
+        None => true,
+    }
+}
+
+/// The path of a `program` line behind `count` others.
+fn program_of(alloc: Global, count: usize, number: &[u8], path: &[u8]) -> Result<String, Cause>
+    ensures path { Gives string_bytes result (program_of count number.now path.now) }
+    ensures few { IfOk result (λ _. count < 64) }
+{
+    let path = fields::path(alloc, path)?;
+    let number = fields::decimal(number).ok_or(Cause::BadNumber)?;
+    if number != count as u64 {
+        return Err(Cause::BadNumber);
+    }
+    if count >= PROGRAM_LIMIT {
+        return Err(Cause::Limit);
+    }
+    Ok(path)
+}
+
+/// The key and the value of a `store` line behind one of the key `last`.
+fn stored_of(
+    alloc: Global,
+    last: Option<Key>,
+    key: &[u8],
+    value: &[u8],
+) -> Result<(Key, Value), Cause>
+    ensures { Gives (λ entry. entry) result (stored_of last key.now value.now) }
+{
+    let key = fields::key(key)?;
+    let bytes = fields::hex_bytes(alloc, value)?;
+    if !is_above(last, &key) {
+        return Err(Cause::KeyOrder);
+    }
+    match Value::of(bytes.as_slice()) {
+        Some(value) => Ok((key, value)),
+        None => Err(Cause::Limit),
+    }
+}
+
+/// The call of a `call` line behind some programs and calls.
+fn call_of(
+    alloc: Global,
+    programs: usize,
+    calls: usize,
+    program: &[u8],
+    gas: &[u8],
+    input: &[u8],
+) -> Result<CallLine, Cause>
+    ensures line { Gives call_value result (call_of programs calls program.now gas.now input.now) }
+    ensures limits { IfOk result (λ call. (call.program < programs) × (calls < 1024)) }
+{
+    let program = fields::decimal(program).ok_or(Cause::BadNumber)?;
+    let gas = fields::decimal(gas).ok_or(Cause::BadNumber)?;
+    let input = fields::hex_bytes(alloc, input)?;
+    if program >= programs as u64 {
+        return Err(Cause::UnknownProgram);
+    }
+    if calls >= CALL_LIMIT || gas == 0 || gas > u64::from(GAS_LIMIT) || input.len() > INPUT_LIMIT {
+        return Err(Cause::Limit);
+    }
+    Ok(CallLine {
+        program: program as usize,
+        gas: gas as u32,
+        input,
+    })
+}

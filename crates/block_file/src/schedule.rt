@@ -1,0 +1,65 @@
+//! Schedule files.
+
+ghost use Rattle.std.specs.Prelude.{◌≡◌, [], map};
+ghost use Rattle.block_file.specs.Answer.{Gives, Reads};
+ghost use Rattle.block_file.specs.Line.{read_parts};
+ghost use Rattle.block_file.specs.Schedule.{entry_of, with_entry, schedule_of};
+
+use crate::fault::{BlockFault, Cause};
+use crate::fields;
+use std::alloc::Global;
+
+/// The entries of a schedule file in order, each the number of a worker: one decimal of at most
+/// 65,535 a line, each line ended by a line feed. Refused with the first line that is no such
+/// decimal or lacks its line feed (BadNumber), and where memory runs out (Memory).
+pub fn parse_schedule(alloc: Global, bytes: &[u8]) -> Result<Vec<u16>, BlockFault>
+    ensures { Reads (λ entries. entries.items) result (schedule_of bytes.now) }
+{
+    match fields::parts(alloc, bytes, b'\n') {
+        Ok(parts) => entries_of(alloc, parts.as_slice()),
+        Err(_) => Err(BlockFault {
+            line: 1,
+            cause: Cause::Memory,
+        }),
+    }
+}
+
+/// The entries of the parts between the line feeds.
+fn entries_of(alloc: Global, parts: &[&[u8]]) -> Result<Vec<u16>, BlockFault>
+    ensures { Reads (λ entries. entries.items) result (read_parts with_entry Cause.BadNumber 1 [] (map (λ part. part.now) parts.now)) }
+{
+    let mut entries = Vec::new(alloc);
+    for (index, part) in parts.iter().enumerate() {
+        let line = index + 1;
+        if line == parts.len() {
+            if !part.is_empty() {
+                return Err(BlockFault {
+                    line,
+                    cause: Cause::BadNumber,
+                });
+            }
+        } else if let Err(cause) = take(&mut entries, part) {
+            return Err(BlockFault { line, cause });
+        }
+    }
+    Ok(entries)
+}
+
+/// Takes the entry of the next line.
+fn take(entries: &mut Vec<u16>, line: &[u8]) -> Result<(), Cause>
+    ensures { Gives (λ _. entries.new.items) result (with_entry entries.old.items line.now) }
+{
+    let entry = entry(line)?;
+    entries.push(entry)?;
+    Ok(())
+}
+
+/// The entry of a line, else BadNumber.
+fn entry(line: &[u8]) -> Result<u16, Cause>
+    ensures { result ≡ entry_of line.now }
+{
+    match fields::decimal(line) {
+        Some(number) if number <= u64::from(u16::MAX) => Ok(number as u16),
+        _ => Err(Cause::BadNumber),
+    }
+}

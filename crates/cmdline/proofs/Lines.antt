@@ -1,0 +1,55 @@
+-- What clap finds on the lines of `rvstm`.
+use Rattle.std.proofs.Common.{◌≡◌, ◌==◌, ◌&&◌, ℕ, Bool, true, false, not, [], ◌∷◌, Some, refl, sym, codes}
+use Rattle.clap.specs.Words.{Text, first_of, first_value, is_simple, is_simple_and_free, rows_of, takes}
+use Rattle.clap.specs.declared.parser.matches.Found.{Found}
+use Rattle.clap.proofs.OnLiterals.{clap_on_literals}
+use Rattle.clap.proofs.WalkLemmas.{first_value-rows}
+use Rattle.cmdline.specs.Line.{SeqOf, asked, is_operand, rvstm_app}
+
+-- `get_str` reads the rows
+pub first_in_rows : (f : Found) (id : Text) → first_value f id ≡ first_of id (rows_of f)
+first_in_rows f id = first_value-rows f id
+
+-- the third test of a chain, which is negated there
+pub third_is_false : (a b c rest : Bool) → (a && (not b && (not c && rest))) ≡ true → c ≡ false
+third_is_false true false false rest h = refl
+third_is_false true false true rest h = sym h
+third_is_false true true c rest h = cc
+third_is_false false b c rest h = cc
+
+-- clap's definitions tell all of this command: its matches, and its faults
+pub is_plain : is_simple rvstm_app ≡ true
+unfolding clap_on_literals
+is_plain = refl
+
+pub is_free : is_simple_and_free rvstm_app ≡ true
+unfolding clap_on_literals
+is_free = refl
+
+-- a word whose first byte is tested for a hyphen
+taken_by_test : (program : Text) (x : ℕ) (rest : Text) (b : Bool) → (x == 45) ≡ b → not b ≡ true
+    → takes rvstm_app (program ∷ codes "seq" ∷ (x ∷ rest) ∷ []) ≡ true
+unfolding clap_on_literals
+taken_by_test program x rest false e h = simp e refl
+taken_by_test program x rest true e h = cc
+
+-- clap takes `seq FILE`
+pub seq_is_taken : (program file : Text) → is_operand file ≡ true
+    → takes rvstm_app (program ∷ codes "seq" ∷ file ∷ []) ≡ true
+unfolding clap_on_literals
+seq_is_taken program [] h = refl
+seq_is_taken program (x ∷ rest) h = taken_by_test program x rest (x == 45) refl h
+
+-- the same, of what it asks for
+asked_by_test : (program : Text) (x : ℕ) (rest : Text) (b : Bool) → (x == 45) ≡ b → not b ≡ true
+    → asked (program ∷ codes "seq" ∷ (x ∷ rest) ∷ []) ≡ Some (SeqOf (x ∷ rest))
+unfolding clap_on_literals
+asked_by_test program x rest false e h = simp e refl
+asked_by_test program x rest true e h = cc
+
+-- `seq FILE` asks for a run of FILE
+pub seq_is_asked : (program file : Text) → is_operand file ≡ true
+    → asked (program ∷ codes "seq" ∷ file ∷ []) ≡ Some (SeqOf file)
+unfolding clap_on_literals
+seq_is_asked program [] h = refl
+seq_is_asked program (x ∷ rest) h = asked_by_test program x rest (x == 45) refl h

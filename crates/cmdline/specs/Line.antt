@@ -1,0 +1,60 @@
+-- The command line of `rvstm`, in clap's words.
+use Rattle.std.specs.Prelude.{◌≡◌, Bool, true, not, ◌==◌, List, [], ◌∷◌, Option, Some, None, Result}
+use Rattle.std.specs.Prelude.{MatchResult, codes, option_and_then, option_map, if◌then◌else◌}
+use Rattle.std.specs.Str.{bytes_eq}
+use Rattle.clap.specs.Words.{App, Row, Rule, Text, first_of, new_app, new_rule}
+use Rattle.clap.specs.Words.{kind_of, subcommand_of, with_rule, with_subcommand}
+use Rattle.clap.specs.declared.builder.ArgAction.TheVariants as action
+use Rattle.clap.specs.declared.error.Error.{Error}
+use Rattle.clap.specs.declared.error.ErrorKind.TheVariants as kind
+use Rattle.cmdline.specs.declared.Request.{Request}
+use Rattle.cmdline.specs.declared.Request.TheVariants.{Seq}
+
+-- the argument FILE: one required word
+abbrev pub file_rule : Rule
+file_rule = record (new_rule (codes "file")) {
+  action = Some action.Set;
+  value_names = 1;
+  required = true;
+}
+
+-- `seq FILE`
+abbrev pub seq_app : App
+seq_app = with_rule (new_app (codes "seq")) file_rule
+
+-- `rvstm`, which has a version and wants a subcommand
+abbrev pub top_app : App
+top_app = record (new_app (codes "rvstm")) {
+  top = record (new_app (codes "rvstm")).top { has_version = true; subcommand_required = true };
+}
+
+-- the whole command line
+abbrev pub rvstm_app : App
+rvstm_app = with_subcommand top_app seq_app.top
+
+-- a request with its words as texts
+pub data Asked : Type 0 where
+  SeqOf : Text → Asked
+
+abbrev pub asked_by : Request → Asked
+asked_by (Seq file) = SeqOf file.now
+
+-- what a subcommand asks for, by its name and what clap found for its arguments
+abbrev pub asked_in : Text × List Row → Option Asked
+asked_in found = if bytes_eq found.0 (codes "seq")
+    then option_map SeqOf (first_of (codes "file") found.1)
+    else None
+
+-- what a whole line, with the program's name first, asks for where clap takes it
+abbrev pub asked : List Text → Option Asked
+asked words = option_and_then asked_in (subcommand_of rvstm_app words)
+
+-- the word begins with no hyphen
+abbrev pub is_operand : Text → Bool
+is_operand [] = true
+is_operand (x ∷ rest) = not (x == 45)
+
+-- the answer is this request, or memory ran out
+abbrev pub AnswersUnlessMemory : Result (Option Request) Error → Asked → Type 0
+AnswersUnlessMemory r a =
+    MatchResult r (λ found. option_map asked_by found ≡ Some a) (λ e. kind_of e ≡ kind.OutOfMemory)

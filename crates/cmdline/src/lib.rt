@@ -1,0 +1,94 @@
+//! The command line of the program `rvstm`.
+#![tactic(auto)]
+
+ghost use Rattle.std.specs.Prelude.{◌≡◌, ◌∷◌, [], List, ℕ, IfOk, true, false, map, option_and_then, option_map, codes};
+ghost use Rattle.std.specs.String.{string_bytes};
+ghost use Rattle.clap.specs.Words.{FailsBy, app_of, fault_of, first_of, found_of, rows_of, rule_of, subcommand_rows_of};
+ghost use Rattle.cmdline.specs.Line.{AnswersUnlessMemory, SeqOf, asked, asked_by, asked_in, file_rule, is_operand, rvstm_app, seq_app};
+
+use clap::{Arg, ArgAction, ArgMatches, Command, Error};
+use std::alloc::{AllocError, Global};
+
+/// What a command line asks for.
+#[derive(Clone, Copy, Debug, PartialEq, Eq)]
+pub enum Request<'a> {
+    /// Run the calls of a block file in order and print the result.
+    Seq {
+        /// The path of the block file.
+        file: &'a str,
+    },
+}
+
+/// Reads a command line, whose first word is the program's name. Refuses one with no subcommand, an
+/// unknown one, a missing or a surplus word; help and the version are such errors too, for which
+/// `use_stderr` is false. `None` is a line for which clap gives no value that it demands.
+pub fn request_of<'a>(alloc: Global, words: &'a [String]) -> Result<Option<Request<'a>>, Error>
+    // an accepted line asks for just this
+    ensures answer { IfOk result (λ r.
+        option_map asked_by r ≡ asked (map string_bytes words.now)) }
+    // a line with a fault is never accepted, and the error is of the fault's kind or want of memory
+    ensures refused { FailsBy (fault_of rvstm_app (map string_bytes words.now)) result }
+    // `seq FILE` is accepted, unless memory runs out
+    ensures seq { (program file : List ℕ)
+        → map string_bytes words.now ≡ program ∷ codes "seq" ∷ file ∷ [] → is_operand file ≡ true
+        → AnswersUnlessMemory result (SeqOf file) }
+{
+    let matches = rvstm(alloc)?.try_get_matches_from(words)?;
+    Ok(request_in(&matches))
+}
+
+// The whole command, with a subcommand for each request.
+fn rvstm<'a>(alloc: Global) -> Result<Command<'a>, AllocError>
+    ensures { IfOk result (λ c. app_of c ≡ rvstm_app) }
+{
+    Command::new(alloc, "rvstm")
+        .about("Executes blocks of RV32IM contract calls")
+        .version("0.1.0")
+        .subcommand_required(true)
+        .subcommand(seq(alloc)?)
+}
+
+// `seq FILE`
+fn seq<'a>(alloc: Global) -> Result<Command<'a>, AllocError>
+    ensures { IfOk result (λ c. app_of c ≡ seq_app) }
+{
+    Command::new(alloc, "seq")
+        .about("Runs the calls of a block file in order and prints the result")
+        .arg(block_file(alloc))
+}
+
+// The argument FILE of each subcommand that runs a block.
+fn block_file<'a>(alloc: Global) -> Arg<'a>
+    ensures rule { rule_of result ≡ file_rule }
+    ensures local { result.global ≡ false }
+{
+    Arg::new(alloc, "file")
+        .value_name("FILE")
+        .help("The block file")
+        .required(true)
+        .action(ArgAction::Set)
+}
+
+// The request of a line that clap took.
+fn request_in<'a>(matches: &ArgMatches<'a>) -> Option<Request<'a>>
+    ensures { option_map asked_by result
+        ≡ option_and_then asked_in (subcommand_rows_of matches.now) }
+{
+    match matches.subcommand()? {
+        ("seq", found) => seq_in(found),
+        _ => None,
+    }
+}
+
+// The request of what clap found for `seq`.
+#[tactic(auto, using(crate::proofs::Lines::first_in_rows))]
+fn seq_in<'a>(found: &ArgMatches<'a>) -> Option<Request<'a>>
+    ensures { option_map asked_by result
+        ≡ option_map SeqOf (first_of (codes "file") (rows_of (found_of found.now))) }
+{
+    let file = found.get_str("file")?;
+    Some(Request::Seq { file })
+}
+
+#[cfg(test)]
+mod tests;

@@ -1,0 +1,120 @@
+-- The storage calls: an ECALL whose number is in a7, on the key at a0 (this project's own profile).
+use Rattle.std.specs.Prelude.{ℕ, ◌+◌, ◌-◌, ◌*◌, ◌==◌, nat_lt, Bool, ◌&&◌, if◌then◌else◌, List, take, drop, slice_index, Option, Some, None, Result, Ok, Err}
+use Rattle.rv_ledger.specs.declared.end.Trap.{Trap}
+use Rattle.rv_ledger.specs.declared.end.Trap.TheVariants.{MemoryFault, UnknownCall, BadLength}
+use Rattle.rv_mem.specs.declared.access.Access.TheVariants as access
+use Rattle.rv_mem.specs.Space.{Space, each}
+use Rattle.ecalls.specs.declared.storage_call.StorageCall.{StorageCall}
+use Rattle.ecalls.specs.declared.storage_call.StorageCall.TheVariants as call
+use Rattle.ecalls.specs.declared.request_kind.Request.{Request}
+use Rattle.ecalls.specs.declared.request_kind.Request.TheVariants as request
+
+-- the registers that a storage call reads
+abbrev pub a0 : List ℕ → ℕ
+a0 registers = slice_index registers 10
+
+abbrev pub a1 : List ℕ → ℕ
+a1 registers = slice_index registers 11
+
+abbrev pub a2 : List ℕ → ℕ
+a2 registers = slice_index registers 12
+
+abbrev pub a7 : List ℕ → ℕ
+a7 registers = slice_index registers 17
+
+-- the call of a number
+abbrev pub call_of : ℕ → Option StorageCall
+call_of number =
+    if number == 0 then Some call.Read
+    else if number == 1 then Some call.Write
+    else if number == 2 then Some call.Remove
+    else if number == 3 then Some call.Return
+    else if number == 4 then Some call.Revert
+    else None
+
+-- the length that a call names: a buffer's, a value's or an output's
+abbrev pub length_of : StorageCall → List ℕ → ℕ
+length_of call.Read registers = a2 registers
+length_of call.Write registers = a2 registers
+length_of call.Remove registers = 0
+length_of call.Return registers = a1 registers
+length_of call.Revert registers = a1 registers
+
+-- the greatest length of a call
+abbrev pub longest : StorageCall → ℕ
+longest call.Read = 64
+longest call.Write = 64
+longest call.Remove = 0
+longest call.Return = 256
+longest call.Revert = 256
+
+-- the gas of a call
+abbrev pub charge_of : StorageCall → List ℕ → ℕ
+charge_of call.Read registers = 200
+charge_of call.Write registers = 400 + 4 * a2 registers
+charge_of call.Remove registers = 300
+charge_of call.Return registers = 10 + a1 registers
+charge_of call.Revert registers = 10 + a1 registers
+
+-- the call if its length is not above the greatest
+abbrev pub within_length : List ℕ → Option StorageCall → Result StorageCall Trap
+within_length registers None = Err UnknownCall
+within_length registers (Some call) = if nat_lt (longest call) (length_of call registers) then Err BadLength else Ok call
+
+-- the call that the registers ask for, by its number and then its length, or the trap, which costs nothing
+unfoldable pub asked : List ℕ → Result StorageCall Trap
+asked registers = within_length registers (call_of (a7 registers))
+
+-- its charge, or the trap
+abbrev pub charge_asked : List ℕ → Result StorageCall Trap → Result ℕ Trap
+charge_asked registers (Err trap) = Err trap
+charge_asked registers (Ok call) = Ok (charge_of call registers)
+
+-- the charge of an ECALL, or the trap that costs nothing
+abbrev pub ecall_charge : List ℕ → Result ℕ Trap
+ecall_charge registers = charge_asked registers (asked registers)
+
+-- the n bytes of memory from an address on
+abbrev pub bytes_at : Space → ℕ → ℕ → List ℕ
+bytes_at memory address n = take n (drop (address - 65536) memory.bytes)
+
+-- whether n bytes may be read
+abbrev pub is_readable : Space → ℕ → ℕ → Bool
+is_readable memory address n = each access.Read memory.rights address n
+
+-- whether n bytes may be written
+abbrev pub is_writable : Space → ℕ → ℕ → Bool
+is_writable memory address n = each access.Write memory.rights address n
+
+-- whether a call has its rights over the whole of each range: a key has 32 bytes
+abbrev pub has_rights : StorageCall → List ℕ → Space → Bool
+has_rights call.Read r memory = is_readable memory (a0 r) 32 && is_writable memory (a1 r) (a2 r)
+has_rights call.Write r memory = is_readable memory (a0 r) 32 && is_readable memory (a1 r) (a2 r)
+has_rights call.Remove r memory = is_readable memory (a0 r) 32
+has_rights call.Return r memory = is_readable memory (a0 r) (a1 r)
+has_rights call.Revert r memory = is_readable memory (a0 r) (a1 r)
+
+-- what a call asks for, with the bytes that it names
+abbrev pub request_with : StorageCall → List ℕ → Space → Request
+request_with call.Read r memory = request.Read (bytes_at memory (a0 r) 32)
+request_with call.Write r memory = request.Write (record { key = bytes_at memory (a0 r) 32; value = Some (bytes_at memory (a1 r) (a2 r)) })
+request_with call.Remove r memory = request.Write (record { key = bytes_at memory (a0 r) 32; value = None })
+request_with call.Return r memory = request.Return (bytes_at memory (a0 r) (a1 r))
+request_with call.Revert r memory = request.Revert (bytes_at memory (a0 r) (a1 r))
+
+-- the output that a call names, or its trap
+abbrev pub output_of : List ℕ → Space → Result (List ℕ) Trap
+output_of r memory = if is_readable memory (a0 r) (a1 r) then Ok (bytes_at memory (a0 r) (a1 r)) else Err MemoryFault
+
+-- what a call with its rights asks for
+abbrev pub request_by : StorageCall → List ℕ → Space → Result Request Trap
+request_by call registers memory =
+    if has_rights call registers memory then Ok (request_with call registers memory) else Err MemoryFault
+
+abbrev pub request_asked : List ℕ → Space → Result StorageCall Trap → Result Request Trap
+request_asked registers memory (Err trap) = Err trap
+request_asked registers memory (Ok call) = request_by call registers memory
+
+-- what an ECALL asks for, or its first trap: by number, length and rights
+unfoldable pub request_of : List ℕ → Space → Result Request Trap
+request_of registers memory = request_asked registers memory (asked registers)

@@ -1,0 +1,31 @@
+//! Bytes copied out of memory.
+
+ghost use Rattle.std.specs.Prelude.{◌≡◌, ◌≤◌, Some, None, if◌then◌else◌};
+ghost use Rattle.ecalls.specs.StorageCalls.{bytes_at, is_readable};
+
+use rv_ledger::{Key, ShortBytes};
+use rv_mem::Memory;
+
+/// The key at an address, or None where a byte of it may not be read.
+pub fn key_at(memory: &Memory, address: u32) -> Option<Key>
+    ensures { result ≡ (if is_readable memory.now address 32 then Some (bytes_at memory.now address 32) else None) }
+{
+    let mut bytes = [0; 32];
+    memory.copy_out(address, &mut bytes).ok()?;
+    Some(Key::new(bytes))
+}
+
+/// The bytes at an address, or None where one may not be read.
+pub fn bytes_at<const LIMIT: usize>(
+    memory: &Memory,
+    address: u32,
+    len: u32,
+) -> Option<ShortBytes<LIMIT>>
+    requires { len ≤ LIMIT }
+    ensures { result ≡ (if is_readable memory.now address len then Some (bytes_at memory.now address len) else None) }
+{
+    let mut room = [0; LIMIT];
+    let bytes = &mut room[..len as usize];
+    memory.copy_out(address, bytes).ok()?;
+    ShortBytes::of(bytes)
+}

@@ -1,0 +1,15 @@
+//! The storage calls of a contract: what an ECALL asks for, what it costs and which trap it meets.
+#![tactic(auto)]
+
+mod copies;
+pub mod request_kind;
+pub mod requests;
+pub mod storage_call;
+
+pub use request_kind::Request;
+pub use requests::request;
+pub use rv_ledger::{Trap, Writes};
+pub use storage_call::{StorageCall, asked, ecall_charge};
+
+#[cfg(test)]
+mod tests;

@@ -1,0 +1,16 @@
+//! The kinds of requests.
+
+use rv_ledger::{Key, Output, Write};
+
+/// What a storage call asks for, with the bytes that it names in memory.
+#[derive(Debug, Drop)]
+pub enum Request {
+    /// The value of a key.
+    Read(Key),
+    /// A write or a removal.
+    Write(Write),
+    /// To return this output.
+    Return(Output),
+    /// To revert with this output.
+    Revert(Output),
+}

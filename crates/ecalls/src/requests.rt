@@ -1,0 +1,75 @@
+//! What an ECALL asks for.
+
+ghost use Rattle.std.specs.Prelude.{◌≡◌, ◌≤◌};
+ghost use Rattle.ecalls.specs.StorageCalls.{a1, a2, output_of, request_by, request_of};
+ghost use Rattle.ecalls.specs.declared.storage_call.StorageCall.TheVariants as call;
+
+use crate::copies::{bytes_at, key_at};
+use crate::request_kind::Request;
+use crate::storage_call::{StorageCall, asked};
+use rv_isa::{Reg, Regs};
+use rv_ledger::{Output, Trap, Write};
+use rv_mem::Memory;
+
+/// What the ECALL asks for, or its first trap: UnknownCall, BadLength, or MemoryFault where a byte of
+/// its key, buffer, value or output lacks the right that it needs.
+#[tactic(auto, unfolding(crate::specs::StorageCalls::request_of))]
+pub fn request(registers: &Regs, memory: &Memory) -> Result<Request, Trap>
+    ensures { result ≡ request_of registers.now memory.now }
+{
+    match asked(registers)? {
+        StorageCall::Read => read(registers, memory),
+        StorageCall::Write => write(registers, memory),
+        StorageCall::Remove => remove(registers, memory),
+        StorageCall::Return => Ok(Request::Return(output(registers, memory)?)),
+        StorageCall::Revert => Ok(Request::Revert(output(registers, memory)?)),
+    }
+}
+
+/// A read: its key may be read and its buffer may be written.
+fn read(registers: &Regs, memory: &Memory) -> Result<Request, Trap>
+    ensures { result ≡ request_by call.Read registers.now memory.now }
+{
+    let Some(key) = key_at(memory, registers.get(Reg::a0())) else {
+        return Err(Trap::MemoryFault);
+    };
+    if !memory.range_writable(registers.get(Reg::a1()), registers.get(Reg::a2())) {
+        return Err(Trap::MemoryFault);
+    }
+    Ok(Request::Read(key))
+}
+
+/// A write: its key and its value may be read.
+fn write(registers: &Regs, memory: &Memory) -> Result<Request, Trap>
+    requires { a2 registers.now ≤ 64 }
+    ensures { result ≡ request_by call.Write registers.now memory.now }
+{
+    let Some(key) = key_at(memory, registers.get(Reg::a0())) else {
+        return Err(Trap::MemoryFault);
+    };
+    let Some(value) = bytes_at(memory, registers.get(Reg::a1()), registers.get(Reg::a2())) else {
+        return Err(Trap::MemoryFault);
+    };
+    Ok(Request::Write(Write {
+        key,
+        value: Some(value),
+    }))
+}
+
+/// A removal: its key may be read.
+fn remove(registers: &Regs, memory: &Memory) -> Result<Request, Trap>
+    ensures { result ≡ request_by call.Remove registers.now memory.now }
+{
+    let Some(key) = key_at(memory, registers.get(Reg::a0())) else {
+        return Err(Trap::MemoryFault);
+    };
+    Ok(Request::Write(Write { key, value: None }))
+}
+
+/// An output, each byte of which may be read.
+fn output(registers: &Regs, memory: &Memory) -> Result<Output, Trap>
+    requires { a1 registers.now ≤ 256 }
+    ensures { result ≡ output_of registers.now memory.now }
+{
+    bytes_at(memory, registers.get(Reg::a0()), registers.get(Reg::a1())).ok_or(Trap::MemoryFault)
+}

@@ -1,0 +1,98 @@
+//! The five storage calls, their lengths and their charges.
+
+ghost use Rattle.std.specs.Prelude.{◌≡◌, ◌≤◌, IfOk, IfSome};
+ghost use Rattle.ecalls.specs.StorageCalls.{asked, call_of, charge_of, ecall_charge, length_of, longest};
+
+use rv_isa::{Reg, Regs};
+use rv_ledger::Trap;
+
+/// A storage call, by its number in a7.
+#[derive(Clone, Copy, Debug, PartialEq, Eq)]
+pub enum StorageCall {
+    /// Reads the value of a key into a buffer.
+    Read = 0,
+    /// Writes a value to a key.
+    Write = 1,
+    /// Removes a key.
+    Remove = 2,
+    /// Ends the call with an output; its writes count.
+    Return = 3,
+    /// Ends the call with an output; its writes are dropped.
+    Revert = 4,
+}
+
+impl StorageCall {
+    /// The call of a number.
+    fn of(number: u32) -> Option<StorageCall>
+        ensures { result ≡ call_of number }
+    {
+        match number {
+            0 => Some(StorageCall::Read),
+            1 => Some(StorageCall::Write),
+            2 => Some(StorageCall::Remove),
+            3 => Some(StorageCall::Return),
+            4 => Some(StorageCall::Revert),
+            _ => None,
+        }
+    }
+
+    /// The length that the registers name for the call.
+    fn length(self, registers: &Regs) -> u32
+        ensures { result ≡ length_of self registers.now }
+    {
+        match self {
+            StorageCall::Read | StorageCall::Write => registers.get(Reg::a2()),
+            StorageCall::Remove => 0,
+            StorageCall::Return | StorageCall::Revert => registers.get(Reg::a1()),
+        }
+    }
+
+    /// The greatest length of the call.
+    fn longest(self) -> u32
+        ensures value { result ≡ longest self }
+        ensures small { result ≤ 256 }
+    {
+        match self {
+            StorageCall::Read | StorageCall::Write => 64,
+            StorageCall::Remove => 0,
+            StorageCall::Return | StorageCall::Revert => 256,
+        }
+    }
+
+    /// The gas of the call, for a length within its limit.
+    fn charge(self, registers: &Regs) -> u32
+        requires { length_of self registers.now ≤ longest self }
+        ensures { result ≡ charge_of self registers.now }
+    {
+        match self {
+            StorageCall::Read => 200,
+            StorageCall::Write => 400 + 4 * registers.get(Reg::a2()),
+            StorageCall::Remove => 300,
+            StorageCall::Return | StorageCall::Revert => 10 + registers.get(Reg::a1()),
+        }
+    }
+}
+
+/// The storage call of the number in a7; or UnknownCall where no call has it, and else BadLength
+/// where its length is above its greatest: 64 bytes in a2, or for an output 256 in a1.
+#[tactic(auto, unfolding(crate::specs::StorageCalls::asked))]
+pub fn asked(registers: &Regs) -> Result<StorageCall, Trap>
+    ensures call { result ≡ asked registers.now }
+    ensures short { IfOk result (λ call. length_of call registers.now ≤ longest call) }
+{
+    let Some(call) = StorageCall::of(registers.get(Reg::a7())) else {
+        return Err(Trap::UnknownCall);
+    };
+    if call.length(registers) > call.longest() {
+        return Err(Trap::BadLength);
+    }
+    Ok(call)
+}
+
+/// The charge of an ECALL in gas, 10 to 656; or UnknownCall, or else BadLength, which cost nothing.
+pub fn ecall_charge(registers: &Regs) -> Result<u32, Trap>
+    ensures { result ≡ ecall_charge registers.now }
+{
+    let call = asked(registers)?;
+    Ok(call.charge(registers))
+}

@@ -1,0 +1,6 @@
+pub mod Layout
+pub mod Header
+pub mod Faults
+pub mod Readable
+pub mod Image
+pub mod Words

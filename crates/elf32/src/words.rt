@@ -1,0 +1,87 @@
+//! The words of a program's text.
+
+ghost use Rattle.std.specs.Prelude.{◌≡◌, ◌+◌, ◌*◌, ◌/◌, ◌-◌, ◌<◌, ◌++◌, length, IfOk, OnOk, AllPairs, List, ℕ};
+ghost use Rattle.elf32.specs.Image.{image_of};
+ghost use Rattle.elf32.specs.Layout.{IsPlaced, Layout};
+ghost use Rattle.elf32.specs.Words.{lead, word_count, word_of_segment, words_of, words_of_segment};
+
+use crate::header::word_at;
+use crate::image::Image;
+use crate::segment::Segment;
+use std::alloc::{AllocError, Global};
+
+/// A word that may be executed, and where it stands.
+#[derive(Clone, Copy, Debug, PartialEq, Eq)]
+pub struct PlacedWord {
+    /// A multiple of 4.
+    pub address: u32,
+    /// The little-endian number in the four bytes there.
+    pub word: u32,
+}
+
+impl Segment {
+    // How far the first multiple of 4 lies behind the address.
+    fn lead(&self) -> u32
+        ensures value { result ≡ lead self.now }
+        ensures small { result < 4 }
+    {
+        (4 - self.address % 4) % 4
+    }
+
+    fn word_count(&self) -> usize
+        ensures { result ≡ word_count self.now }
+    {
+        self.content
+            .bytes()
+            .len()
+            .saturating_sub(self.lead() as usize)
+            / 4
+    }
+
+    fn word(&self, k: usize) -> PlacedWord
+        requires placed { IsPlaced self.now }
+        requires below { k < word_count self.now }
+        ensures { result ≡ word_of_segment self.now k }
+    {
+        let at = self.lead() as usize + 4 * k;
+        PlacedWord {
+            address: self.address + at as u32,
+            word: word_at(self.content.bytes(), at),
+        }
+    }
+
+    #[tactic(auto, unfolding(crate::specs::Words::words_of_segment))]
+    fn put_words(&self, words: &mut Vec<PlacedWord>) -> Result<(), AllocError>
+        requires { IsPlaced self.now }
+        ensures { OnOk result (words.new.items ≡ words.old.items ++ words_of_segment self.now) }
+    {
+        if !self.rights.executable {
+            return Ok(());
+        }
+        for k in 0..self.word_count() {
+            words.push(self.word(k))?;
+        }
+        Ok(())
+    }
+}
+
+impl Image {
+    /// The words at multiples of 4 whose four bytes are file bytes of segments with PF_X, each with its
+    /// address, in the order of the segments. Those of a file that loads ascend: `words_ascend`.
+    pub fn words(&self, alloc: Global) -> Result<Vec<PlacedWord>, AllocError>
+        ensures { IfOk result (λ v. v.items ≡ words_of self.now) }
+    {
+        let mut words = Vec::new(alloc);
+        for segment in self.segments() {
+            segment.put_words(&mut words)?;
+        }
+        Ok(words)
+    }
+}
+
+/// A law, and no code: the words of a file that loads ascend.
+pub fn words_ascend()
+    ensures { (bytes : List ℕ) (layout : Layout)
+        → image_of bytes ≡ Ok layout
+        → AllPairs (λ v w. v.address < w.address) (words_of layout) }
+{}

@@ -1,0 +1,26 @@
+ghost use Rattle.std.specs.Prelude.{◌≡◌};
+ghost use Rattle.gas.specs.Costs.{cost_of, cost_of_operation};
+
+use rv_isa::{Instr, Operation};
+
+/// The gas that `instr` costs. ECALL costs 0 here: what it asks for has a charge of its own.
+pub fn cost(instr: &Instr) -> u32
+    ensures { result ≡ cost_of instr.now }
+{
+    match instr {
+        Instr::Compute { operation, .. } => operation_cost(*operation),
+        Instr::Load { .. } | Instr::Store { .. } => 2,
+        Instr::Ecall => 0,
+        _ => 1,
+    }
+}
+
+fn operation_cost(operation: Operation) -> u32
+    ensures { result ≡ cost_of_operation operation }
+{
+    match operation {
+        Operation::Div | Operation::Divu | Operation::Rem | Operation::Remu => 16,
+        Operation::Mul | Operation::Mulh | Operation::Mulhsu | Operation::Mulhu => 4,
+        _ => 1,
+    }
+}

@@ -1,0 +1,75 @@
+//! The reads that a run of a call made of the storage, in order, with where each answer came from.
+#![tactic(auto)]
+
+ghost use Rattle.std.specs.Prelude.{◌≡◌, ◌++◌, ◌∷◌, [], List, OnOk, OnErr};
+ghost use Rattle.read_set.specs.declared.Read.{Read};
+
+use rv_ledger::Key;
+use std::alloc::{AllocError, Global};
+use std::marker::Model;
+
+/// Where the answer to a read came from.
+#[derive(Clone, Copy, Debug, PartialEq, Eq)]
+pub enum Origin {
+    /// The storage before the block.
+    Base,
+    /// A version of the key: what an earlier call of the block wrote.
+    Version {
+        /// The index of that call, below 1,024.
+        writer: u16,
+        /// Which run of that call wrote it, 0 to 65,534.
+        incarnation: u16,
+    },
+}
+
+/// One read of the storage.
+#[derive(Clone, Copy, Debug, PartialEq, Eq)]
+pub struct Read {
+    /// The key.
+    pub key: Key,
+    /// Where its answer came from.
+    pub origin: Origin,
+}
+
+/// The reads of one run, in the order in which they were made; a key that is read twice stands
+/// twice.
+#[derive(Debug, Drop)]
+pub struct ReadSet {
+    items: Vec<Read>,
+}
+
+impl Model for ReadSet {
+    ghost use Rattle.std.specs.Prelude.{List};
+    ghost use Rattle.read_set.specs.declared.Read.{Read};
+
+    ghost Value = { List Read };
+
+    ghost view = { λ s. s.items.items };
+}
+
+impl ReadSet {
+    /// No reads.
+    pub fn new(alloc: Global) -> ReadSet
+        ensures { result ≡ [] }
+    {
+        ReadSet {
+            items: Vec::new(alloc),
+        }
+    }
+
+    /// Adds a read at the end; refused where memory ran out, and then nothing changes.
+    pub fn push(&mut self, read: Read) -> Result<(), AllocError>
+        ensures ok { OnOk result (self.new ≡ self.old ++ read ∷ []) }
+        ensures err { OnErr result (self.new ≡ self.old) }
+    {
+        self.items.push(read)?;
+        Ok(())
+    }
+
+    /// The reads in order.
+    pub fn reads(&self) -> &[Read]
+        ensures { result.now ≡ self.now }
+    {
+        self.items.as_slice()
+    }
+}

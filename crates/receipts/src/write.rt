@@ -1,0 +1,85 @@
+//! Writing the text.
+
+ghost use Rattle.std.specs.Prelude.{◌≡◌, ◌≢◌, ◌<◌, ◌≤◌, length, take, IfOk, IfErr, OnErr, OnOk};
+ghost use Rattle.receipts.specs.Text.{result_text};
+ghost use Rattle.receipts.specs.Written.{AppendsPart, taken_by};
+ghost use Rattle.std.specs.Io.KnownBytes.{Appends, Keeps};
+
+use crate::text::result_text;
+use rv_ledger::Outcome;
+use std::alloc::Global;
+use std::io;
+use std::io::Write;
+use thiserror::Error;
+
+/// Why an output is refused.
+#[derive(Clone, Copy, Debug, PartialEq, Eq, Error)]
+pub enum WriteFault {
+    /// A write failed.
+    #[error("Io 1")]
+    Io = 1,
+    /// A write took no bytes.
+    #[error("WroteNothing 2")]
+    WroteNothing = 2,
+    /// Memory for the text ran out, and nothing was written.
+    #[error("Memory 3")]
+    Memory = 3,
+}
+
+/// Writes the text of an outcome's receipts and storage. Refused with Memory before anything is
+/// written, and else as `write_whole` is; then a beginning of the text was written, and not all of
+/// it.
+pub fn write_outcome<W: Write>(
+    alloc: Global,
+    outcome: &Outcome,
+    out: &mut W,
+) -> Result<(), WriteFault>
+    ensures ok { OnOk result (Appends (W.contents out.old) (W.contents out.new)
+        (result_text outcome.now.receipts.items outcome.now.store)) }
+    ensures err { OnErr result (AppendsPart (W.contents out.old) (W.contents out.new)
+        (result_text outcome.now.receipts.items outcome.now.store)) }
+    ensures memory { IfErr result (λ e. e ≡ WriteFault.Memory → out.new ≡ out.old) }
+{
+    let Ok(text) = result_text(alloc, outcome.receipts.as_slice(), &outcome.store) else {
+        return Err(WriteFault::Memory);
+    };
+    write_whole(text.as_bytes(), out)
+}
+
+/// Writes all the bytes. Refused with Io where a write failed, and with WroteNothing where one took
+/// no bytes; then a beginning of the bytes was written, and not all of them.
+pub fn write_whole<W: Write>(bytes: &[u8], out: &mut W) -> Result<(), WriteFault>
+    ensures ok { OnOk result (Appends (W.contents out.old) (W.contents out.new) bytes.now) }
+    ensures err { OnErr result (AppendsPart (W.contents out.old) (W.contents out.new) bytes.now) }
+    ensures fault { IfErr result (λ e. e ≢ WriteFault.Memory) }
+{
+    let mut rest = bytes;
+    while !rest.is_empty() {
+        let count = write_some(rest, out)?;
+        rest = rest.split_at(count).1;
+    }
+    Ok(())
+}
+
+/// Writes at least one of the first bytes, and answers how many; where it is refused, nothing was
+/// written.
+fn write_some<W: Write>(bytes: &[u8], out: &mut W) -> Result<usize, WriteFault>
+    ensures ok { IfOk result (λ n. (0 < n) × (n ≤ length bytes.now)
+        × Appends (W.contents out.old) (W.contents out.new) (take n bytes.now)) }
+    ensures err { OnErr result (Keeps (W.contents out.old) (W.contents out.new)) }
+    ensures fault { IfErr result (λ e. e ≢ WriteFault.Memory) }
+{
+    taken(out.write(bytes))
+}
+
+/// How many bytes a writer took, at least one; Io where the write failed, WroteNothing where it
+/// took none.
+fn taken(answer: io::Result<usize>) -> Result<usize, WriteFault>
+    ensures { result ≡ taken_by answer }
+{
+    match answer {
+        Ok(0) => Err(WriteFault::WroteNothing),
+        Ok(count) => Ok(count),
+        Err(_) => Err(WriteFault::Io),
+    }
+}

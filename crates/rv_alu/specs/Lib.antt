@@ -1,0 +1,5 @@
+pub mod Operations
+pub mod Branches
+pub mod Accesses
+pub mod Effects
+pub mod Computations

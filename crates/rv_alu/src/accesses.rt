@@ -1,0 +1,24 @@
+ghost use Rattle.std.specs.Prelude.{◌≡◌, pos, ◌+ℤ◌, ◌*◌, ◌^◌, ◌<◌};
+ghost use Rattle.rv_isa.specs.Number.{wrapped};
+ghost use Rattle.rv_alu.specs.Accesses.{width_of, extended_of};
+
+use rv_isa::{Immediate, LoadKind};
+
+/// The address of a load or a store at `base`, rs1, plus `offset`, modulo 2^32.
+pub fn address(base: u32, offset: Immediate) -> u32
+    ensures { result ≡ wrapped (pos base +ℤ offset.value) }
+{
+    base.wrapping_add_signed(offset.value)
+}
+
+/// What a load writes to rd where it reads `number`: below 2^8 for LB and LBU, 2^16 for LH and LHU.
+pub fn extended(kind: LoadKind, number: u32) -> u32
+    requires { number < 2 ^ (8 * width_of kind) }
+    ensures { result ≡ extended_of kind number }
+{
+    match kind {
+        LoadKind::Lb => i32::from((number as u8).cast_signed()).cast_unsigned(),
+        LoadKind::Lh => i32::from((number as u16).cast_signed()).cast_unsigned(),
+        LoadKind::Lw | LoadKind::Lbu | LoadKind::Lhu => number,
+    }
+}

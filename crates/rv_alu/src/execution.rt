@@ -1,0 +1,100 @@
+ghost use Rattle.std.specs.Prelude.{◌≡◌, pos, ◌+ℤ◌, IsTrue, IfSome, IfNone};
+ghost use Rattle.rv_alu.specs.Effects.{effect_of, is_plain, put, onward, jumped};
+ghost use Rattle.rv_alu.specs.Computations.{is_computation};
+
+use crate::accesses::address;
+use crate::branches::holds;
+use crate::immediates::{compute_immediate, compute_shift};
+use crate::operations::compute;
+use rv_isa::{Instr, Reg, Regs};
+
+/// Makes `instr`, which stands at `pc`, and gives the pc after it. None where it jumps or branches
+/// to an address that is no multiple of 4; then nothing changes.
+pub fn execute(instr: &Instr, registers: &mut Regs, pc: u32) -> Option<u32>
+    requires { IsTrue (is_plain instr.now) }
+    ensures done { IfSome result (λ next. effect_of instr.now registers.old pc ≡ Some (registers.new, next)) }
+    ensures misaligned { IfNone result (effect_of instr.now registers.old pc ≡ None) }
+    ensures unchanged { IfNone result (registers.new ≡ registers.old) }
+{
+    match *instr {
+        Instr::Jal { rd, offset } => {
+            let target = pc.wrapping_add_signed(offset.value);
+            jump(registers, rd, pc, target)
+        }
+        Instr::Jalr { rd, base, offset } => {
+            let target = address(registers.get(base), offset) & !1;
+            jump(registers, rd, pc, target)
+        }
+        Instr::Branch {
+            condition,
+            left,
+            right,
+            offset,
+        } => {
+            if holds(condition, registers.get(left), registers.get(right)) {
+                let target = pc.wrapping_add_signed(offset.value);
+                if target % 4 == 0 { Some(target) } else { None }
+            } else {
+                Some(pc.wrapping_add(4))
+            }
+        }
+        _ => {
+            write_value(instr, registers, pc);
+            Some(pc.wrapping_add(4))
+        }
+    }
+}
+
+/// Goes from `pc` to `target` and writes the address after `pc` to `rd`. None where `target` is no
+/// multiple of 4; then nothing changes.
+fn jump(registers: &mut Regs, rd: Reg, pc: u32, target: u32) -> Option<u32>
+    ensures done { let linked = put registers.old rd (pos pc +ℤ pos 4) in
+        IfSome result (λ next. jumped linked target ≡ Some (registers.new, next)) }
+    ensures misaligned { let linked = put registers.old rd (pos pc +ℤ pos 4) in
+        IfNone result (jumped linked target ≡ None) }
+    ensures unchanged { IfNone result (registers.new ≡ registers.old) }
+{
+    if target % 4 != 0 {
+        return None;
+    }
+    registers.set(rd, pc.wrapping_add(4));
+    Some(target)
+}
+
+/// Writes what `instr`, which stands at `pc` and goes on to the next, computes.
+fn write_value(instr: &Instr, registers: &mut Regs, pc: u32)
+    requires { IsTrue (is_computation instr.now) }
+    ensures { effect_of instr.now registers.old pc ≡ onward registers.new pc }
+{
+    let (rd, value) = match *instr {
+        Instr::Lui { rd, immediate } => (rd, immediate.value << 12),
+        Instr::Auipc { rd, immediate } => (rd, pc.wrapping_add(immediate.value << 12)),
+        Instr::ComputeImmediate {
+            operation,
+            rd,
+            source,
+            immediate,
+        } => (
+            rd,
+            compute_immediate(operation, registers.get(source), immediate),
+        ),
+        Instr::ShiftImmediate {
+            shift,
+            rd,
+            source,
+            amount,
+        } => (rd, compute_shift(shift, registers.get(source), amount)),
+        Instr::Compute {
+            operation,
+            rd,
+            left,
+            right,
+        } => (
+            rd,
+            compute(operation, registers.get(left), registers.get(right)),
+        ),
+        Instr::Fence { .. } => return,
+        _ => unreachable!(),
+    };
+    registers.set(rd, value);
+}

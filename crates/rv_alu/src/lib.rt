@@ -1,0 +1,17 @@
+//! What the instructions of RV32IM do to the registers and the pc, and of loads and stores the
+//! address and the number that a load writes.
+#![tactic(auto)]
+
+mod accesses;
+mod branches;
+mod division;
+mod execution;
+mod immediates;
+mod operations;
+mod products;
+
+pub use accesses::{address, extended};
+pub use execution::execute;
+
+#[cfg(test)]
+mod tests;

@@ -1,0 +1,19 @@
+-- Whole numbers and the bits that hold them: RISC-V Unprivileged ISA, 2.1 "Programmers' Model for Base Integer ISA" and 2.3 "Immediate Encoding Variants"
+use Rattle.std.specs.Prelude.{ℕ, ℤ, pos, ◌/◌, ◌%◌, ◌^◌, ◌-ℤ◌, nat_lt, if◌then◌else◌, unsigned_abs}
+use Rattle.std.specs.Int.{int_rem_euclid}
+
+-- z modulo 2^k: the k-bit two's complement of z
+abbrev pub residue : ℕ → ℤ → ℕ
+residue k z = unsigned_abs (int_rem_euclid z (pos (2 ^ k)))
+
+-- n[low + count - 1 : low], as a number
+abbrev pub bits : ℕ → ℕ → ℕ → ℕ
+bits n low count = n / 2 ^ low % 2 ^ count
+
+-- what a register that holds n means as a signed number
+abbrev pub signed : ℕ → ℤ
+signed n = if nat_lt n (2 ^ 31) then pos n else (pos n -ℤ pos (2 ^ 32))
+
+-- z modulo 2^32: what a register holds of it
+abbrev pub wrapped : ℤ → ℕ
+wrapped z = residue 32 z

@@ -1,0 +1,95 @@
+ghost use Rattle.std.specs.Prelude.{◌≡◌};
+ghost use Rattle.rv_isa.specs.Word.{word_of};
+ghost use Rattle.rv_isa.specs.declared.instruction.Instr.{Instr};
+ghost use Rattle.rv_isa.specs.declared.instruction.Instr.TheVariants.{ShiftImmediate, Compute};
+
+use crate::formats::{b_word, i_word, j_word, r_word, s_word, u_word};
+use crate::tables::{
+    condition_funct3, immediate_funct3, load_funct3, operation_functs, shift_functs, store_funct3,
+};
+use crate::{Instr, Operation, Reg, Shift, ShiftAmount};
+
+/// The word of an instruction.
+pub fn encode(instr: &Instr) -> u32
+    ensures { result ≡ word_of instr.now }
+{
+    match *instr {
+        Instr::Lui { rd, immediate } => u_word(immediate, rd, 0b0110111),
+        Instr::Auipc { rd, immediate } => u_word(immediate, rd, 0b0010111),
+        Instr::Jal { rd, offset } => j_word(offset, rd, 0b1101111),
+        Instr::Jalr { rd, base, offset } => i_word(offset, base, 0b000, rd, 0b1100111),
+        Instr::Branch {
+            condition,
+            left,
+            right,
+            offset,
+        } => b_word(offset, right, left, condition_funct3(condition), 0b1100011),
+        Instr::Load {
+            kind,
+            rd,
+            base,
+            offset,
+        } => i_word(offset, base, load_funct3(kind), rd, 0b0000011),
+        Instr::Store {
+            kind,
+            source,
+            base,
+            offset,
+        } => s_word(offset, source, base, store_funct3(kind), 0b0100011),
+        Instr::ComputeImmediate {
+            operation,
+            rd,
+            source,
+            immediate,
+        } => {
+            let funct3 = immediate_funct3(operation);
+            i_word(immediate, source, funct3, rd, 0b0010011)
+        }
+        Instr::ShiftImmediate {
+            shift,
+            rd,
+            source,
+            amount,
+        } => shift_word(shift, rd, source, amount),
+        Instr::Compute {
+            operation,
+            rd,
+            left,
+            right,
+        } => compute_word(operation, rd, left, right),
+        Instr::Fence {
+            rd,
+            source,
+            immediate,
+        } => i_word(immediate, source, 0b000, rd, 0b0001111),
+        Instr::Ecall => 0x0000_0073,
+        Instr::Ebreak => 0x0010_0073,
+    }
+}
+
+fn shift_word(shift: Shift, rd: Reg, source: Reg, amount: ShiftAmount) -> u32
+    ensures { result ≡ word_of (ShiftImmediate shift rd source amount) }
+{
+    let (funct7, funct3) = shift_functs(shift);
+    r_word(
+        funct7,
+        u32::from(amount.value),
+        source,
+        funct3,
+        rd,
+        0b0010011,
+    )
+}
+
+fn compute_word(operation: Operation, rd: Reg, left: Reg, right: Reg) -> u32
+    ensures { result ≡ word_of (Compute operation rd left right) }
+{
+    let (funct7, funct3) = operation_functs(operation);
+    r_word(funct7, u32::from(right.number), left, funct3, rd, 0b0110011)
+}
+
+/// A law: two instructions with one word are one.
+#[tactic(auto, using(crate::proofs::Again::one_word))]
+pub fn one_instr()
+    ensures { (x y : Instr) → word_of x ≡ word_of y → x ≡ y }
+{}

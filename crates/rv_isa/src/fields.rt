@@ -1,0 +1,137 @@
+// The operands that stand in a word.
+ghost use Rattle.std.specs.Prelude.{◌≡◌, ℕ, ◌*◌, ◌/◌, ◌%◌, ◌^◌, ◌<◌};
+ghost use Rattle.rv_isa.specs.Decoding.{slots_of, register_at, immediate_at, amount_at, upper_at, branch_at, jump_at, i_immediate, s_immediate, b_offset, u_immediate, j_offset};
+
+use crate::{BranchOffset, Immediate, JumpOffset, Reg, ShiftAmount, Upper};
+
+#[tactic(auto, using(crate::proofs::Same::same_register))]
+fn register(number: u32) -> Reg
+    requires { number < 2 ^ 5 }
+    ensures { result ≡ register_at number }
+{
+    Reg {
+        number: number as u8,
+    }
+}
+
+pub fn rd(word: u32) -> Reg
+    ensures { result ≡ register_at (slots_of word).rd }
+{
+    register(word >> 7 & 0x1f)
+}
+
+pub fn rs1(word: u32) -> Reg
+    ensures { result ≡ register_at (slots_of word).rs1 }
+{
+    register(word >> 15 & 0x1f)
+}
+
+pub fn rs2(word: u32) -> Reg
+    ensures { result ≡ register_at (slots_of word).rs2 }
+{
+    register(word >> 20 & 0x1f)
+}
+
+pub fn funct3(word: u32) -> u32
+    ensures value { result ≡ (slots_of word).funct3 }
+    ensures small { result < 2 ^ 3 }
+{
+    word >> 12 & 0x7
+}
+
+pub fn funct7(word: u32) -> u32
+    ensures value { result ≡ (slots_of word).funct7 }
+    ensures small { result < 2 ^ 7 }
+{
+    word >> 25
+}
+
+#[tactic(auto, using(crate::proofs::Same::same_amount))]
+fn amount(number: u32) -> ShiftAmount
+    requires { number < 2 ^ 5 }
+    ensures { result ≡ amount_at number }
+{
+    ShiftAmount {
+        value: number as u8,
+    }
+}
+
+pub fn shift_amount(word: u32) -> ShiftAmount
+    ensures { result ≡ amount_at (slots_of word).rs2 }
+{
+    amount(word >> 20 & 0x1f)
+}
+
+// The signed number whose 12 bits are `number`.
+#[tactic(auto, using(crate::proofs::Same::same_immediate))]
+fn extend_12(number: u32) -> Immediate
+    requires { number < 2 ^ 12 }
+    ensures { result ≡ immediate_at number }
+{
+    Immediate {
+        value: (number << 20).cast_signed() >> 20,
+    }
+}
+
+pub fn immediate_of_i(word: u32) -> Immediate
+    ensures { result ≡ i_immediate (slots_of word) }
+{
+    extend_12(word >> 20)
+}
+
+pub fn immediate_of_s(word: u32) -> Immediate
+    ensures { result ≡ s_immediate (slots_of word) }
+{
+    extend_12((word >> 25 << 5) + (word >> 7 & 0x1f))
+}
+
+// The even signed number whose bits 12 to 1 are `half`.
+#[tactic(auto, using(crate::proofs::Same::same_branch))]
+fn extend_13(half: u32) -> BranchOffset
+    requires { half < 2 ^ 12 }
+    ensures { result ≡ branch_at half }
+{
+    BranchOffset {
+        value: (half << 20).cast_signed() >> 19,
+    }
+}
+
+pub fn branch_offset(word: u32) -> BranchOffset
+    ensures { result ≡ b_offset (slots_of word) }
+{
+    extend_13(
+        (word >> 31 << 11)
+            + ((word >> 7 & 0x1) << 10)
+            + ((word >> 25 & 0x3f) << 4)
+            + (word >> 8 & 0xf),
+    )
+}
+
+#[tactic(auto, using(crate::proofs::Same::same_upper))]
+pub fn upper(word: u32) -> Upper
+    ensures { result ≡ u_immediate (slots_of word) }
+{
+    Upper { value: word >> 12 }
+}
+
+// The even signed number whose bits 20 to 1 are `half`.
+#[tactic(auto, using(crate::proofs::Same::same_jump))]
+fn extend_21(half: u32) -> JumpOffset
+    requires { half < 2 ^ 20 }
+    ensures { result ≡ jump_at half }
+{
+    JumpOffset {
+        value: (half << 12).cast_signed() >> 11,
+    }
+}
+
+pub fn jump_offset(word: u32) -> JumpOffset
+    ensures { result ≡ j_offset (slots_of word) }
+{
+    extend_21(
+        (word >> 31 << 19)
+            + ((word >> 12 & 0xff) << 11)
+            + ((word >> 20 & 0x1) << 10)
+            + (word >> 21 & 0x3ff),
+    )
+}

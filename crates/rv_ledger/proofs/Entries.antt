@@ -1,0 +1,87 @@
+-- A map of entries as a finite map: its values, one entry set, one gone, and its entries in order.
+use Rattle.std.proofs.Common.{◌≡◌, ◌+◌, ◌≤◌, arith, length, nat_lt, is_some, if◌then◌else◌, ◌||◌, ℕ, List, [], ◌∷◌, Option, Some, None, Bool, true, false, ◌&&◌, cond, refl, sym, ap, subst, ◌∙◌, T}
+use Rattle.std.specs.declared.cmp.Ordering.TheVariants.{Less}
+use Rattle.std.specs.List.{AllByRecursion}
+use Rattle.std.specs.List.Sorted.{IsStrictlySortedBy}
+use Rattle.std.specs.Ordering.{is_lt}
+use Rattle.std.specs.Cmp.{eq_by_cmp_equiv}
+use Rattle.std.specs.Cmp.Lexicographic.{nat_list_cmp_total}
+use Rattle.std.specs.FinMap.{find, get, insert, remove, from_entries, from_sorted, entries, len, len-entries, entries-from_sorted, get-from_sorted, is_sorted, get-from_entries, get-insert, get-remove, same_map, slice_cmp-IsAntisymmetric, nat_cmp-IsAntisymmetric, IsAntisymmetric}
+use Rattle.std.specs.FinMap.Entries.{below_all}
+use Rattle.std.specs.Map.{lookup, keys_of}
+use Rattle.std.proofs.lemmas.Bool.Decides.{nat_tests}
+use Rattle.std.specs.BTreeMap.{is_at}
+use Rattle.rv_ledger.specs.Key.{key_cmp, has_room, WriteMap}
+
+-- keys that compare alike are one
+pub key_cmp-IsAntisymmetric : IsAntisymmetric key_cmp
+key_cmp-IsAntisymmetric = slice_cmp-IsAntisymmetric nat_cmp-IsAntisymmetric
+
+-- a scan of the entries finds what a look-up finds
+pub find_lookup : {X : Type 0} (es : List (List ℕ × X)) (q : List ℕ) → find key_cmp q es ≡ lookup (is_at (key_cmp q)) es
+find_lookup [] q = refl
+find_lookup (e ∷ es) q = ap (cond (is_at (key_cmp q) e.0) (Some e.1)) (find_lookup es q)
+
+-- what the map that the entries make has at a key
+pub get_value : {X : Type 0} (es : List (List ℕ × X)) (q : List ℕ) → get (from_entries {R = key_cmp} es) q ≡ lookup (is_at (key_cmp q)) es
+get_value es q = get-from_entries nat_list_cmp_total es q ∙ find_lookup es q
+
+-- entries that differ at one key by a value make maps that differ by that value
+pub one_set : {X : Type 0} (es fs : List (List ℕ × X)) (k : List ℕ) (v : X) → ((q : List ℕ) → lookup (is_at (key_cmp q)) fs ≡ cond (is_at (key_cmp k) q) (Some v) (lookup (is_at (key_cmp q)) es)) → from_entries {R = key_cmp} fs ≡ insert (from_entries es) k v
+one_set es fs k v h = same_map nat_list_cmp_total key_cmp-IsAntisymmetric _ _ (λ q.
+    get_value fs q ∙ h q ∙ ap (λ b. cond b (Some v) (lookup (is_at (key_cmp q)) es)) ((eq_by_cmp_equiv nat_list_cmp_total).symm k q)
+    ∙ sym (get-insert nat_list_cmp_total (from_entries es) k v q ∙ ap (cond (is_at (key_cmp q) k) (Some v)) (get_value es q)))
+
+-- entries that differ at one key by its absence make maps that differ by that
+pub one_gone : {X : Type 0} (es fs : List (List ℕ × X)) (k : List ℕ) → ((q : List ℕ) → lookup (is_at (key_cmp q)) fs ≡ cond (is_at (key_cmp k) q) None (lookup (is_at (key_cmp q)) es)) → from_entries {R = key_cmp} fs ≡ remove (from_entries es) k
+one_gone es fs k h = same_map nat_list_cmp_total key_cmp-IsAntisymmetric _ _ (λ q.
+    get_value fs q ∙ h q ∙ ap (λ b. cond b None (lookup (is_at (key_cmp q)) es)) ((eq_by_cmp_equiv nat_list_cmp_total).symm k q)
+    ∙ sym (get-remove nat_list_cmp_total (from_entries es) k q ∙ ap (cond (is_at (key_cmp q) k) None) (get_value es q)))
+
+both_true : (a b : Bool) → T a → T b → T (a && b)
+both_true true b p q = q
+both_true false b p q = p
+
+below_all_of : {X : Type 0} (k : List ℕ) (es : List (List ℕ × X)) → AllByRecursion (λ y. key_cmp k y ≡ Less) (keys_of es) → T (below_all key_cmp k es)
+below_all_of k [] h = tt
+below_all_of k (e ∷ es) h = both_true _ _ (subst (λ r. T (is_lt r)) (sym h.0) tt) (below_all_of k es h.1)
+
+sorted_of : {X : Type 0} (es : List (List ℕ × X)) → IsStrictlySortedBy key_cmp (keys_of es) → T (is_sorted key_cmp es)
+unfolding IsStrictlySortedBy
+sorted_of [] h = tt
+sorted_of (e ∷ es) h = both_true _ _ (below_all_of e.0 es h.0) (sorted_of es h.1)
+
+-- the entries of the map that ascending entries make are those entries
+pub entries_in_order : {X : Type 0} (es : List (List ℕ × X)) → IsStrictlySortedBy key_cmp (keys_of es) → entries (from_entries {R = key_cmp} es) ≡ es
+entries_in_order es h =
+    let test : T (is_sorted key_cmp es) = sorted_of es h in
+    ap entries (same_map nat_list_cmp_total key_cmp-IsAntisymmetric (from_entries es) (from_sorted es) (λ q. get-from_entries nat_list_cmp_total es q ∙ sym (get-from_sorted key_cmp es q test)))
+    ∙ entries-from_sorted key_cmp es test
+
+-- how many entries the map that ascending entries make has
+len_in_order : {X : Type 0} (es : List (List ℕ × X)) → IsStrictlySortedBy key_cmp (keys_of es) → len (from_entries {R = key_cmp} es) ≡ length es
+len_in_order es h = len-entries (from_entries es) ∙ ap length (entries_in_order es h)
+
+-- room for one more write, read off the entries
+pub has_room_entries : (es : List (List ℕ × Option (List ℕ))) (q : List ℕ) → IsStrictlySortedBy key_cmp (keys_of es) → has_room (from_entries es) q ≡ (is_some (lookup (is_at (key_cmp q)) es) || nat_lt (length es) 256)
+has_room_entries es q h = ap (λ o. is_some o || nat_lt (len (from_entries {R = key_cmp} es)) 256) (get_value es q) ∙ ap (λ n. is_some (lookup (is_at (key_cmp q)) es) || nat_lt n 256) (len_in_order es h)
+
+grows_within : (b : Bool) (n : ℕ) → (b || nat_lt n 256) ≡ true → n ≤ 256 → n + (if b then 0 else 1) ≤ 256
+grows_within true n h k = omega arith
+grows_within false n h k = grind (arith, nat_tests)
+
+-- a write that has room keeps the limit
+pub insert_fits : (es : List (List ℕ × Option (List ℕ))) (q : List ℕ) (m : WriteMap) (o : Option (Option (List ℕ))) (n : ℕ) → IsStrictlySortedBy key_cmp (keys_of es) → from_entries es ≡ m → has_room m q ≡ true → length es ≤ 256 → o ≡ lookup (is_at (key_cmp q)) es → n ≡ length es + (if (is_some o) then 0 else 1) → n ≤ 256
+insert_fits es q m o n h is room short found grown =
+    let old_room : (is_some (lookup (is_at (key_cmp q)) es) || nat_lt (length es) 256) ≡ true = sym (ap (λ (w : WriteMap). has_room w q) (sym is) ∙ has_room_entries es q h) ∙ room in
+    let fits : length es + (if (is_some (lookup (is_at (key_cmp q)) es)) then 0 else 1) ≤ 256 = grows_within _ _ old_room short in
+    subst (λ (k : ℕ). k ≤ 256) (sym (grown ∙ ap (λ (x : Option (Option (List ℕ))). length es + (if (is_some x) then 0 else 1)) found)) fits
+
+-- the answer of `||` where its first part holds, and where it doesn't
+pub or_first : (a b r : Bool) → r ≡ a → r ≡ true → r ≡ (a || b)
+or_first true b r e h = e
+or_first false b r e h = cc
+
+pub or_second : (a b r s : Bool) → r ≡ a → r ≡ false → s ≡ b → s ≡ (a || b)
+or_second true b r s e h k = cc
+or_second false b r s e h k = k

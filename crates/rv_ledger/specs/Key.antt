@@ -1,0 +1,22 @@
+-- Keys, and finite maps from them.
+use Rattle.std.specs.Prelude.{ℕ, List, Option, Bool, ◌||◌, nat_lt}
+use Rattle.std.specs.declared.cmp.Ordering.{Ordering}
+use Rattle.std.specs.Ordering.{nat_cmp}
+use Rattle.std.specs.Cmp.Lexicographic.{slice_cmp}
+use Rattle.std.specs.FinMap.{FinMap, contains_key, len}
+
+-- keys are ordered by their bytes, the first one first
+abbrev pub key_cmp : List ℕ → List ℕ → Ordering
+key_cmp = slice_cmp nat_cmp
+
+-- a storage: a finite map from keys to values
+abbrev pub Storage : Type 0
+Storage = FinMap key_cmp (List ℕ)
+
+-- what a call has written: at each key a value, or None where it was removed
+abbrev pub WriteMap : Type 0
+WriteMap = FinMap key_cmp (Option (List ℕ))
+
+-- whether one more write to a key is within the limit of 256 keys
+abbrev pub has_room : WriteMap → List ℕ → Bool
+has_room writes key = contains_key writes key || nat_lt (len writes) 256

@@ -1,0 +1,97 @@
+//! A call of a contract.
+
+use elf32::Image;
+use std::alloc::{AllocError, Global};
+use std::marker::Model;
+use std::sync::Arc;
+use thiserror::Error;
+
+/// The greatest gas limit of a call.
+pub const GAS_LIMIT: u32 = 10_000_000;
+
+/// The greatest length of an input, in bytes.
+pub const INPUT_LIMIT: usize = 4096;
+
+/// Why a call is refused.
+#[derive(Clone, Copy, Debug, PartialEq, Eq, Error)]
+pub enum CallFault {
+    /// The gas limit is not 1 to 10,000,000.
+    #[error("BadGas 1")]
+    BadGas = 1,
+    /// The input is longer than 4,096 bytes.
+    #[error("InputTooLong 2")]
+    InputTooLong = 2,
+}
+
+/// A call: a program, a gas limit of 1 to 10,000,000 and an input of at most 4,096 bytes.
+#[derive(Drop)]
+pub struct Call {
+    image: Arc<Image>,
+    gas: u32,
+    input: Vec<u8>,
+}
+
+impl Model for Call {
+    ghost use Rattle.std.specs.Arc.{arc_value};
+    ghost use Rattle.rv_ledger.specs.Call.{Invocation, IsInLimits};
+
+    ghost Value = { Invocation };
+
+    ghost view = { λ c. record { image = arc_value c.image; gas = c.gas; input = c.input.items } };
+
+    ghost invariant = { λ c. IsInLimits c.gas c.input.items };
+}
+
+impl Call {
+    ghost use Rattle.std.specs.Prelude.{◌≡◌, IfOk};
+    ghost use Rattle.std.specs.Arc.{arc_value};
+    ghost use Rattle.rv_ledger.specs.Call.{call_of, IsInLimits};
+
+    /// The call of a program, a gas limit and an input; or BadGas where the gas limit is not 1 to
+    /// 10,000,000, and else InputTooLong where the input is longer than 4,096 bytes.
+    pub fn new(image: Arc<Image>, gas: u32, input: Vec<u8>) -> Result<Call, CallFault>
+        ensures { result ≡ call_of (arc_value image) gas input.items }
+    {
+        if gas == 0 || gas > GAS_LIMIT {
+            return Err(CallFault::BadGas);
+        }
+        if input.len() > INPUT_LIMIT {
+            return Err(CallFault::InputTooLong);
+        }
+        Ok(Call { image, gas, input })
+    }
+
+    /// The program.
+    pub fn image(&self) -> &Image
+        ensures { result.now ≡ self.now.image }
+    {
+        &self.image
+    }
+
+    /// The gas limit, 1 to 10,000,000.
+    pub fn gas(&self) -> u32
+        ensures value { result ≡ self.now.gas }
+        ensures limits { IsInLimits self.now.gas self.now.input }
+    {
+        self.gas
+    }
+
+    /// The input, of at most 4,096 bytes.
+    pub fn input(&self) -> &[u8]
+        ensures value { result.now ≡ self.now.input }
+        ensures limits { IsInLimits self.now.gas self.now.input }
+    {
+        self.input.as_slice()
+    }
+
+    /// An equal call; refused where memory ran out.
+    pub fn copy(&self) -> Result<Call, AllocError>
+        ensures { IfOk result (λ c. c ≡ self.now) }
+    {
+        Ok(Call {
+            image: Arc::try_clone(&self.image)?,
+            gas: self.gas,
+            input: self.input.clone()?,
+        })
+    }
+}

@@ -1,0 +1,42 @@
+//! What one call did.
+
+use crate::end::End;
+use crate::short_bytes::Output;
+use crate::writes::Writes;
+use rv_isa::Regs;
+use std::alloc::AllocError;
+
+/// What one call did, as the validators compare it.
+#[derive(Drop)]
+pub struct Receipt {
+    /// How it ended.
+    pub end: End,
+    /// The gas that it used, at most its limit.
+    pub gas: u32,
+    /// The address of the instruction that ended it.
+    pub pc: u32,
+    /// What it returned or reverted with, else empty.
+    pub out: Output,
+    /// The registers at its end.
+    pub regs: Regs,
+    /// What it wrote where it returned, else nothing.
+    pub writes: Writes,
+}
+
+impl Receipt {
+    ghost use Rattle.std.specs.Prelude.{◌≡◌, IfOk};
+
+    /// An equal receipt; refused where memory ran out.
+    pub fn copy(&self) -> Result<Receipt, AllocError>
+        ensures { IfOk result (λ r. r ≡ self.now) }
+    {
+        Ok(Receipt {
+            end: self.end,
+            gas: self.gas,
+            pc: self.pc,
+            out: self.out.copy(),
+            regs: self.regs,
+            writes: self.writes.copy()?,
+        })
+    }
+}

@@ -1,0 +1,79 @@
+//! The storage of a block.
+
+use crate::key::Key;
+use crate::short_bytes::Value;
+use std::alloc::{AllocError, Global};
+use std::collections::BTreeMap;
+use std::collections::btree_map::Iter;
+use std::marker::Model;
+
+/// A storage: a finite map from keys to values, of any number of keys.
+#[derive(Drop)]
+pub struct Store {
+    entries: BTreeMap<Key, Value>,
+}
+
+impl Model for Store {
+    ghost use Rattle.std.specs.FinMap as map;
+    ghost use Rattle.std.specs.Coded.{coded_list, coded_ℕ};
+    ghost use Rattle.rv_ledger.specs.Key.{Storage};
+
+    ghost Value = { Storage };
+
+    ghost coded = { map.code (coded_list coded_ℕ) (coded_list coded_ℕ) };
+
+    ghost view = { λ s. map.from_entries s.entries.entries };
+}
+
+impl Store {
+    ghost use Rattle.std.specs.Prelude.{◌≡◌, OnOk, OnErr, IfOk};
+    ghost use Rattle.std.specs.Option.{option_copied};
+    ghost use Rattle.std.specs.FinMap as map;
+
+    /// The storage without a key.
+    pub fn new(alloc: Global) -> Store
+        ensures { result ≡ map.empty }
+    {
+        Store {
+            entries: BTreeMap::new(alloc),
+        }
+    }
+
+    /// The value at a key, or None where it is absent.
+    pub fn get(&self, key: &Key) -> Option<&Value>
+        ensures { option_copied result ≡ map.get self.now key.now }
+    {
+        self.entries.get(key)
+    }
+
+    /// Sets the value at a key; refused where memory ran out, and then nothing changes.
+    pub fn insert(&mut self, key: Key, value: Value) -> Result<(), AllocError>
+        ensures ok { OnOk result (self.new ≡ map.insert self.old key value) }
+        ensures err { OnErr result (self.new ≡ self.old) }
+    {
+        self.entries.insert(key, value)?;
+        Ok(())
+    }
+
+    /// Takes a key out; nothing changes where it is absent.
+    pub fn remove(&mut self, key: &Key)
+        ensures { self.new ≡ map.remove self.old key.now }
+    {
+        let _ = self.entries.remove(key);
+    }
+
+    /// The keys, ascending, each with its value.
+    pub fn iter(&self) -> Iter<'_, Key, Value>
+        ensures { result ≡ map.entries self.now }
+    {
+        self.entries.iter()
+    }
+
+    /// An equal storage; refused where memory ran out.
+    pub fn copy(&self) -> Result<Store, AllocError>
+        ensures { IfOk result (λ s. s ≡ self.now) }
+    {
+        let entries = self.entries.clone()?;
+        Ok(Store { entries })
+    }
+}

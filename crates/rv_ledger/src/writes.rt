@@ -1,0 +1,106 @@
+//! What a call has written: the last write to each key, for at most 256 keys.
+
+use crate::key::Key;
+use crate::short_bytes::Value;
+use std::alloc::{AllocError, Global};
+use std::collections::BTreeMap;
+use std::collections::btree_map::Iter;
+use std::marker::Model;
+
+/// The greatest number of keys that one call may write.
+pub const WRITE_LIMIT: usize = 256;
+
+/// A write to one key: the value that it has from now on, or None where it is removed.
+#[derive(Debug, Drop)]
+pub struct Write {
+    /// The key.
+    pub key: Key,
+    /// Its new value, or None where it is removed.
+    pub value: Option<Value>,
+}
+
+/// The writes of one call, the last to each key, for at most 256 keys.
+#[derive(Drop)]
+pub struct Writes {
+    entries: BTreeMap<Key, Option<Value>>,
+}
+
+impl Model for Writes {
+    ghost use Rattle.std.specs.Prelude.{◌≤◌};
+    ghost use Rattle.std.specs.FinMap as map;
+    ghost use Rattle.std.specs.BTreeMap.{btree_map_len};
+    ghost use Rattle.std.specs.Coded.{coded_list, coded_option, coded_ℕ};
+    ghost use Rattle.rv_ledger.specs.Key.{WriteMap};
+
+    ghost Value = { WriteMap };
+
+    ghost coded = { map.code (coded_list coded_ℕ) (coded_option (coded_list coded_ℕ)) };
+
+    ghost view = { λ w. map.from_entries w.entries.entries };
+
+    ghost invariant = { λ w. btree_map_len w.entries ≤ 256 };
+}
+
+impl Writes {
+    ghost use Rattle.std.specs.Prelude.{◌≡◌, ◌≤◌, IsTrue, OnOk, OnErr, IfOk};
+    ghost use Rattle.std.specs.Option.{option_copied};
+    ghost use Rattle.std.specs.FinMap as map;
+    ghost use Rattle.rv_ledger.specs.Key.{has_room};
+
+    /// No writes.
+    pub fn new(alloc: Global) -> Writes
+        ensures { result ≡ map.empty }
+    {
+        Writes {
+            entries: BTreeMap::new(alloc),
+        }
+    }
+
+    /// What was last written to a key, or None where it was not written.
+    pub fn get(&self, key: &Key) -> Option<&Option<Value>>
+        ensures { option_copied result ≡ map.get self.now key.now }
+    {
+        self.entries.get(key)
+    }
+
+    /// Whether a key may be written: it was already, or there are fewer than 256 others.
+    pub fn has_room(&self, key: &Key) -> bool
+        ensures { result ≡ has_room self.now key.now }
+    {
+        let len = self.entries.len();
+        self.entries.contains_key(key) || len < WRITE_LIMIT
+    }
+
+    /// Records a write to a key that `has_room` allows, in place of an earlier one to that key;
+    /// refused where memory ran out, and then nothing changes.
+    pub fn insert(&mut self, write: Write) -> Result<(), AllocError>
+        requires { IsTrue (has_room self.old write.key) }
+        ensures ok { OnOk result (self.new ≡ map.insert self.old write.key write.value) }
+        ensures err { OnErr result (self.new ≡ self.old) }
+    {
+        self.entries.insert(write.key, write.value)?;
+        Ok(())
+    }
+
+    /// Forgets all writes.
+    pub fn clear(&mut self)
+        ensures { self.new ≡ map.empty }
+    {
+        self.entries.clear();
+    }
+
+    /// The written keys, ascending, each with what was last written to it.
+    pub fn iter(&self) -> Iter<'_, Key, Option<Value>>
+        ensures { result ≡ map.entries self.now }
+    {
+        self.entries.iter()
+    }
+
+    /// Equal writes; refused where memory ran out.
+    pub fn copy(&self) -> Result<Writes, AllocError>
+        ensures { IfOk result (λ w. w ≡ self.now) }
+    {
+        let entries = self.entries.clone()?;
+        Ok(Writes { entries })
+    }
+}

@@ -1,0 +1,82 @@
+-- Memory as a caller sees it, and what loads, stores and copies make of it.
+use Rattle.std.specs.Prelude.{◌≡◌, ℕ, zero, suc, ◌+◌, ◌-◌, ◌/◌, ◌%◌, ◌==◌, nat_le, nat_lt, Bool, true, false, ◌&&◌, if◌then◌else◌, List, ◌++◌, length, take, drop, slice_index_or, Result, Ok, Err, IsOk}
+use Rattle.byteorder.specs.Endian.{little_number, little_bytes}
+use Rattle.elf32.specs.declared.segment.Rights.{Rights}
+use Rattle.rv_mem.specs.declared.access.Access.{Access}
+use Rattle.rv_mem.specs.declared.access.Access.TheVariants.{Read, Write, Run}
+use Rattle.rv_mem.specs.declared.fault.Fault.{Fault}
+use Rattle.rv_mem.specs.declared.fault.Fault.TheVariants.{Misaligned, MemoryFault, FetchFault, Memory}
+
+-- memory: the byte at the address 0x10000 + k is the k-th, and the k-th rights are those of the
+-- 4,096 bytes from 0x10000 + 4096 k on
+pub record Space : Type 0 where
+  pub bytes : List ℕ
+  pub rights : List Rights
+
+-- the addresses of memory
+abbrev pub is_address : ℕ → Bool
+is_address a = nat_le 0x1_0000 a && nat_lt a 0x11_0000
+
+-- the right that an access needs
+abbrev pub allows : Access → Rights → Bool
+allows Read rights = rights.readable
+allows Write rights = rights.writable
+allows Run rights = rights.executable
+
+-- the rights where there is no page
+abbrev pub no_rights : Rights
+no_rights = record { readable = false; writable = false; executable = false }
+
+-- the byte at an address may be used so: it is in memory, and its page has the right
+abbrev pub may : Access → List Rights → ℕ → Bool
+may access rights a = is_address a && allows access (slice_index_or rights ((a - 0x1_0000) / 4096) no_rights)
+
+-- each of the n bytes from an address on may be used so
+unfoldable pub each : Access → List Rights → ℕ → ℕ → Bool
+each access rights a zero = true
+each access rights a (suc n) = may access rights a && each access rights (a + 1) n
+
+-- the fault of an access without the right
+abbrev pub fault_of : Access → Fault
+fault_of Read = MemoryFault
+fault_of Write = MemoryFault
+fault_of Run = FetchFault
+
+-- where in the bytes an access to n bytes at an address begins, or its fault: alignment comes first
+abbrev pub place_of : ℕ → Access → List Rights → ℕ → Result ℕ Fault
+place_of n access rights a =
+    if a % n == 0 then (if each access rights a n then Ok (a - 0x1_0000) else Err (fault_of access)) else Err Misaligned
+
+-- what f makes of a place, or the fault
+abbrev pub from_place : {X : Type 0} → (ℕ → X) → Result ℕ Fault → Result X Fault
+from_place f (Ok place) = Ok (f place)
+from_place f (Err fault) = Err fault
+
+-- a load of n bytes: the number that they are, the lowest first (RISC-V Unprivileged ISA, 2.6)
+abbrev pub loaded : ℕ → Access → Space → ℕ → Result ℕ Fault
+loaded n access m a =
+    from_place (λ place. little_number n (drop place m.bytes)) (place_of n access m.rights a)
+
+-- the list with another laid over it from a place on
+unfoldable pub over : List ℕ → ℕ → List ℕ → List ℕ
+over bytes place new = take place bytes ++ new ++ drop (place + length new) bytes
+
+-- memory with bytes written from a place on
+abbrev pub written : Space → List ℕ → ℕ → Space
+written m new place = record m { bytes = over m.bytes place new }
+
+-- a store of the lowest n bytes of a value, the lowest first (RISC-V Unprivileged ISA, 2.6)
+abbrev pub stored : ℕ → Space → ℕ → ℕ → Result Space Fault
+stored n m a value = from_place (written m (little_bytes n value)) (place_of n Write m.rights a)
+
+-- a copy into memory, at any alignment
+abbrev pub copied : Space → ℕ → List ℕ → Result Space Fault
+copied m a new =
+    if each Write m.rights a (length new) then Ok (written m new (a - 0x1_0000)) else Err MemoryFault
+
+-- a call that should leave memory as `want` has it: it does so, or it answers want's fault, or for
+-- want of memory refuses what is no fault. A refused call changes nothing
+abbrev pub Leaves : {X : Type 0} → Result X Fault → Result Space Fault → Space → Space → Type 0
+Leaves (Ok x) want old new = want ≡ Ok new
+Leaves (Err Memory) want old new = IsOk want × (new ≡ old)
+Leaves (Err fault) want old new = (want ≡ Err fault) × (new ≡ old)

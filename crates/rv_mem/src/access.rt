@@ -1,0 +1,41 @@
+//! The ways to use a byte of memory.
+
+ghost use Rattle.std.specs.Prelude.{◌≡◌};
+ghost use Rattle.rv_mem.specs.Space.{allows, fault_of};
+
+use crate::fault::Fault;
+use elf32::Rights;
+
+/// A way to use a byte: a right allows each.
+#[derive(Clone, Copy, Debug, PartialEq, Eq)]
+pub enum Access {
+    /// A load.
+    Read,
+    /// A store.
+    Write,
+    /// A fetch of an instruction.
+    Run,
+}
+
+impl Access {
+    /// Whether a page with these rights may be used so.
+    pub(crate) fn is_allowed_by(self, rights: Rights) -> bool
+        ensures { result ≡ allows self rights }
+    {
+        match self {
+            Access::Read => rights.readable,
+            Access::Write => rights.writable,
+            Access::Run => rights.executable,
+        }
+    }
+
+    /// The fault of a use without the right.
+    pub(crate) fn fault(self) -> Fault
+        ensures { result ≡ fault_of self }
+    {
+        match self {
+            Access::Read | Access::Write => Fault::MemoryFault,
+            Access::Run => Fault::FetchFault,
+        }
+    }
+}

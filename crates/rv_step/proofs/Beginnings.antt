@@ -1,0 +1,119 @@
+-- A run stays a beginning of its call's chain.
+use Rattle.std.proofs.Common.{◌≡◌, ℕ, suc, ◌+◌, ◌*◌, ◌<◌, ◌≤◌, Bool, true, false, List, [], ◌∷◌, ◌++◌, Option, Some, None, Ok, refl, sym, ap, subst, ◌∙◌, arith, append_assoc, append-nil}
+use Rattle.std.proofs.lemmas.List.{map-append}
+use Rattle.read_set.specs.declared.Origin.{Origin}
+use Rattle.rv_ledger.specs.Call.{Invocation}
+use Rattle.rv_ledger.specs.declared.end.End.{End}
+use Rattle.rv_ledger.specs.declared.receipt.Receipt.{Receipt}
+use Rattle.rv_step.specs.declared.machine.Machine.{Machine}
+use Rattle.rv_step.specs.declared.answer.Answer.{Answer}
+use Rattle.rv_step.specs.declared.stage.Stage.{Stage}
+use Rattle.rv_step.specs.declared.stage.Stage.TheVariants.{Running, Asked, Ended}
+use Rattle.rv_step.specs.Step.{Outcome, Next, Asks, Ends, step, answered}
+use Rattle.rv_step.specs.Does.{Does, stage_of}
+use Rattle.rv_step.specs.declared.pace.Pace.{Pace}
+use Rattle.rv_step.specs.declared.pace.Pace.TheVariants as pace
+use Rattle.rv_step.specs.Chain.{Reply, borne, closed, receipt_of, replayed, start}
+use Rattle.rv_step.specs.Run.{IsSoFar, IsStage, Seen, is_running, left_for, left_over, seen_at_start}
+use Rattle.rv_step.specs.Replies.{replies_of, reply_of}
+use Rattle.rv_step.proofs.Falls.{IsFalling, step_falls, answered_falls, less_gas, end_gas, not_asked}
+use Rattle.rv_step.proofs.Chains.{comes, next_comes, end_comes, answer_next_comes, answer_end_comes}
+
+-- a run before its first instruction
+pub begins : (call : Invocation) → IsSoFar (seen_at_start call)
+unfolding start
+begins call = record { stands = omega arith; chain = λ rest. refl }
+
+-- what was left over at a running stage
+running_chain : (limit : ℕ) (s : Machine) (stage : Stage) (rest : List Reply) → is_running stage ≡ true → left_over limit s stage rest ≡ comes limit s rest
+running_chain limit s Running rest h = refl
+running_chain limit s (Asked key) rest h = cc
+running_chain limit s (Ended end out) rest h = cc
+
+running_gas : (limit : ℕ) (s : Machine) (stage : Stage) → is_running stage ≡ true → IsStage limit s stage → s.gas ≤ limit
+running_gas limit s Running h k = k
+running_gas limit s (Asked key) h k = cc
+running_gas limit s (Ended end out) h k = cc
+
+running_stage : (limit : ℕ) (s : Machine) (stage : Stage) → is_running stage ≡ true → s.gas ≤ limit → IsStage limit s stage
+running_stage limit s Running h k = k
+running_stage limit s (Asked key) h k = cc
+running_stage limit s (Ended end out) h k = cc
+
+module _ (call : Invocation) (s : Machine) (told : List Answer) (stage : Stage) (so_far : IsSoFar (record { call = call; machine = s; told = told; stage = stage })) (running : is_running stage ≡ true) where
+  -- a step that goes on
+  pub steps_on : (t : Machine) → step s ≡ Next t → IsSoFar (record { call = call; machine = t; told = told; stage = stage })
+  steps_on t e =
+      let gas : s.gas ≤ call.gas = running_gas call.gas s stage running so_far.stands in
+      let less : t.gas < s.gas = less_gas s.gas (step s) t (step_falls s) e in
+      record {
+        stands = running_stage call.gas t stage running (omega arith);
+        chain = λ rest. so_far.chain rest ∙ running_chain call.gas s stage rest running ∙ next_comes call.gas s t rest e ∙ sym (running_chain call.gas t stage rest running);
+      }
+
+  -- a step that asks
+  pub steps_to_ask : (key : List ℕ) → step s ≡ Asks key → IsSoFar (record { call = call; machine = s; told = told; stage = Asked key })
+  steps_to_ask key e = record {
+    stands = (running_gas call.gas s stage running so_far.stands, e);
+    chain = λ rest. so_far.chain rest ∙ running_chain call.gas s stage rest running;
+  }
+
+  -- a step that ends the call
+  pub steps_to_end : (end : End) (out : List ℕ) (t : Machine) → step s ≡ Ends end out t → IsSoFar (record { call = call; machine = t; told = told; stage = Ended end out })
+  steps_to_end end out t e =
+      let gas : s.gas ≤ call.gas = running_gas call.gas s stage running so_far.stands in
+      let less : t.gas ≤ s.gas = end_gas s.gas (step s) end out t (step_falls s) e in
+      record {
+        stands = omega arith;
+        chain = λ rest. so_far.chain rest ∙ running_chain call.gas s stage rest running ∙ end_comes call.gas s t end out rest e;
+      }
+
+-- the answers, one of them more
+one_more : (told : List Answer) (a : Answer) (rest : List Reply) → replies_of (told ++ a ∷ []) ++ rest ≡ replies_of told ++ reply_of a ∷ rest
+one_more told a rest = ap (λ (x : List Reply). x ++ rest) (map-append reply_of told (a ∷ [])) ∙ append_assoc (replies_of told) (reply_of a ∷ []) rest
+
+module _ (call : Invocation) (s : Machine) (told : List Answer) (key : List ℕ) (content : Option (List ℕ)) (origin : Origin) (so_far : IsSoFar (record { call = call; machine = s; told = told; stage = Asked key })) where
+  -- an answer with which the call goes on
+  pub answers_on : (t : Machine) → answered s content ≡ Next t → IsSoFar (record { call = call; machine = t; told = told ++ record { key = key; value = content; origin = origin } ∷ []; stage = Running })
+  answers_on t e =
+      let less : t.gas < s.gas = less_gas s.gas (answered s content) t (answered_falls s content) e in
+      let gas : s.gas ≤ call.gas = so_far.stands.0 in
+      record {
+        stands = omega arith;
+        chain = λ rest. ap (borne call) (one_more told (record { key = key; value = content; origin = origin }) rest) ∙ so_far.chain ((key, content) ∷ rest) ∙ answer_next_comes call.gas s t key content rest so_far.stands.1 e;
+      }
+
+  -- an answer that ends the call
+  pub answers_to_end : (end : End) (out : List ℕ) (t : Machine) → answered s content ≡ Ends end out t → IsSoFar (record { call = call; machine = t; told = told ++ record { key = key; value = content; origin = origin } ∷ []; stage = Ended end out })
+  answers_to_end end out t e =
+      let less : t.gas ≤ s.gas = end_gas s.gas (answered s content) end out t (answered_falls s content) e in
+      let gas : s.gas ≤ call.gas = so_far.stands.0 in
+      record {
+        stands = omega arith;
+        chain = λ rest. ap (borne call) (one_more told (record { key = key; value = content; origin = origin }) rest) ∙ so_far.chain ((key, content) ∷ rest) ∙ answer_end_comes call.gas s t key content end out rest so_far.stands.1 e;
+      }
+
+-- the receipt of a run that has ended
+pub is_borne : (call : Invocation) (s : Machine) (told : List Answer) (end : End) (out : List ℕ) → IsSoFar (record { call = call; machine = s; told = told; stage = Ended end out }) → borne call (replies_of told) ≡ Some (receipt_of call.gas end out s)
+is_borne call s told end out so_far = ap (borne call) (sym (append-nil (replies_of told))) ∙ so_far.chain []
+
+-- whatever an answer comes to
+pub answers : (call : Invocation) (s t : Machine) (told : List Answer) (key : List ℕ) (content : Option (List ℕ)) (origin : Origin) (came : Pace) → IsSoFar (record { call = call; machine = s; told = told; stage = Asked key }) → Does (Ok came) (answered s content) s t → IsSoFar (record { call = call; machine = t; told = told ++ record { key = key; value = content; origin = origin } ∷ []; stage = stage_of came })
+answers call s t told key content origin pace.Next so_far did = answers_on call s told key content origin so_far t did
+answers call s t told key content origin (pace.Ask other) so_far did = absurd (not_asked s content other did.0)
+answers call s t told key content origin (pace.End end out) so_far did = answers_to_end call s told key content origin so_far end out t did
+
+-- a step that goes on leaves fewer steps to come
+pub next_leaves_fewer : (s t : Machine) (stage : Stage) → is_running stage ≡ true → step s ≡ Next t → left_for t.gas stage < left_for s.gas stage
+next_leaves_fewer s t Running h e = let less : t.gas < s.gas = less_gas s.gas (step s) t (step_falls s) e in omega arith
+next_leaves_fewer s t (Asked key) h e = cc
+next_leaves_fewer s t (Ended end out) h e = cc
+
+came_falls : (s t : Machine) (content : Option (List ℕ)) (came : Pace) → Does (Ok came) (answered s content) s t → left_for t.gas (stage_of came) < 2 * s.gas + 1
+came_falls s t content pace.Next did = let less : t.gas < s.gas = less_gas s.gas (answered s content) t (answered_falls s content) did in omega arith
+came_falls s t content (pace.Ask other) did = absurd (not_asked s content other did.0)
+came_falls s t content (pace.End end out) did = omega arith
+
+-- so does an answer
+pub answer_leaves_fewer : (s t : Machine) (stage : Stage) (key : List ℕ) (content : Option (List ℕ)) (came : Pace) → stage ≡ Asked key → Does (Ok came) (answered s content) s t → left_for t.gas (stage_of came) < left_for s.gas stage
+answer_leaves_fewer s t stage key content came asked did = rw (ap (left_for s.gas) asked) (came_falls s t content came did)

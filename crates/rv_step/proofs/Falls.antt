@@ -1,0 +1,240 @@
+-- Each step takes gas, so that a chain ends.
+use Rattle.std.proofs.Common.{◌≡◌, ℕ, ◌-◌, ◌<◌, ◌≤◌, Bool, true, false, if◌then◌else◌, nat_le, nat_lt, List, [], length, Option, Some, None, Result, Ok, Err, refl, sym, ap, subst, arith, lit≤}
+use Rattle.std.specs.FinMap as map
+use Rattle.std.proofs.lemmas.Bool.Decides.{nat_tests}
+use Rattle.rv_isa.specs.Decoded.{decoded}
+use Rattle.rv_isa.specs.declared.instruction.Operation.{Operation}
+use Rattle.rv_isa.specs.declared.instruction.Operation.TheVariants.{Add, Sub, Sll, Slt, Sltu, Xor, Srl, Sra, Or, And, Mul, Mulh, Mulhsu, Mulhu, Div, Divu, Rem, Remu}
+use Rattle.rv_isa.specs.declared.instruction.Instr.{Instr}
+use Rattle.rv_isa.specs.declared.instruction.Instr.TheVariants.{Lui, Auipc, Jal, Jalr, Branch, Load, Store, ComputeImmediate, ShiftImmediate, Compute, Fence, Ecall, Ebreak}
+use Rattle.rv_isa.specs.declared.instruction.LoadKind.{LoadKind}
+use Rattle.rv_isa.specs.declared.register.Reg.{Reg}
+use Rattle.gas.specs.Costs.{cost_of, cost_of_operation}
+use Rattle.rv_isa.specs.Registers.{written}
+use Rattle.rv_alu.specs.Effects.{effect_of}
+use Rattle.rv_mem.specs.Space.{Space, loaded, copied}
+use Rattle.rv_mem.specs.declared.access.Access.TheVariants as access
+use Rattle.rv_mem.specs.declared.fault.Fault.{Fault}
+use Rattle.rv_ledger.specs.Key.{has_room}
+use Rattle.rv_ledger.specs.declared.end.End.{End}
+use Rattle.rv_ledger.specs.declared.end.End.TheVariants.{OutOfGas}
+use Rattle.rv_ledger.specs.declared.end.Trap.{Trap}
+use Rattle.rv_ledger.specs.declared.end.Trap.TheVariants as trap
+use Rattle.rv_ledger.specs.declared.writes.Write.{Write}
+use Rattle.ecalls.specs.StorageCalls.{a1, a2, asked, charge_of, charge_asked, ecall_charge, request_of}
+use Rattle.ecalls.specs.declared.storage_call.StorageCall.{StorageCall}
+use Rattle.ecalls.specs.declared.storage_call.StorageCall.TheVariants as call
+use Rattle.ecalls.specs.declared.request_kind.Request.{Request}
+use Rattle.ecalls.specs.declared.request_kind.Request.TheVariants as request
+use Rattle.rv_step.specs.declared.machine.Machine.{Machine}
+use Rattle.rv_step.specs.Step.{Outcome, Next, Asks, Ends, TakesGas, acted, answered, called, charged, computes, delivered, fetched, goes_on, is_ecall, leaves, obeyed, read_own, served, step, takes, trapped, wrote}
+
+-- a step leaves less gas where the call goes on, and no more where it ends
+unfoldable pub IsFalling : ℕ → Outcome → Type 0
+IsFalling gas (Next t) = t.gas < gas
+IsFalling gas (Asks key) = Unit {0}
+IsFalling gas (Ends end out t) = t.gas ≤ gas
+
+-- what comes after the charge leaves no more gas
+unfoldable pub IsWithin : ℕ → Outcome → Type 0
+IsWithin gas (Next t) = t.gas ≤ gas
+IsWithin gas (Asks key) = Unit {0}
+IsWithin gas (Ends end out t) = t.gas ≤ gas
+
+takes_within : (kind : LoadKind) (rd : Reg) (s : Machine) (r : Result ℕ Fault) → IsWithin s.gas (takes kind rd s r)
+unfolding IsWithin
+takes_within kind rd s (Ok n) = omega arith
+takes_within kind rd s (Err fault) = omega arith
+
+leaves_within : (s : Machine) (registers : List ℕ) (r : Result Space Fault) → IsWithin s.gas (leaves s registers r)
+unfolding IsWithin
+leaves_within s registers (Ok memory) = omega arith
+leaves_within s registers (Err fault) = omega arith
+
+computes_within : (s : Machine) (o : Option (List ℕ × ℕ)) → IsWithin s.gas (computes s o)
+unfolding IsWithin
+computes_within s (Some effect) = omega arith
+computes_within s None = omega arith
+
+acted_within : (i : Instr) (s : Machine) → IsWithin s.gas (acted i s)
+unfolding acted
+acted_within (Load kind rd base offset) s = takes_within kind rd s _
+acted_within (Store kind source base offset) s = leaves_within s _ _
+acted_within Ebreak s = unfold IsWithin in omega arith
+acted_within (Lui rd m) s = computes_within s (effect_of (Lui rd m) s.regs s.pc)
+acted_within (Auipc rd m) s = computes_within s (effect_of (Auipc rd m) s.regs s.pc)
+acted_within (Jal rd offset) s = computes_within s (effect_of (Jal rd offset) s.regs s.pc)
+acted_within (Jalr rd base offset) s = computes_within s (effect_of (Jalr rd base offset) s.regs s.pc)
+acted_within (Branch condition left right offset) s = computes_within s (effect_of (Branch condition left right offset) s.regs s.pc)
+acted_within (ComputeImmediate operation rd source m) s = computes_within s (effect_of (ComputeImmediate operation rd source m) s.regs s.pc)
+acted_within (ShiftImmediate shift rd source amount) s = computes_within s (effect_of (ShiftImmediate shift rd source amount) s.regs s.pc)
+acted_within (Compute operation rd left right) s = computes_within s (effect_of (Compute operation rd left right) s.regs s.pc)
+acted_within (Fence rd source m) s = computes_within s (effect_of (Fence rd source m) s.regs s.pc)
+acted_within Ecall s = computes_within s (effect_of Ecall s.regs s.pc)
+
+either_within : (gas : ℕ) (b : Bool) (o p : Outcome) → IsWithin gas o → IsWithin gas p → IsWithin gas (if b then o else p)
+either_within gas true o p h k = h
+either_within gas false o p h k = k
+
+delivered_within : (s : Machine) (content : Option (List ℕ)) → IsWithin s.gas (delivered s content)
+unfolding delivered
+delivered_within s None = unfold IsWithin in omega arith
+delivered_within s (Some value) =
+    either_within s.gas (nat_lt (a2 s.regs) (length value))
+    (goes_on (record s { regs = written s.regs 10 0xffff_fffe })) (leaves s (written s.regs 10 (length value)) (copied s.memory (a1 s.regs) value))
+    (unfold IsWithin in omega arith) (leaves_within s _ _)
+
+read_own_within : (s : Machine) (key : List ℕ) (content : Option (Option (List ℕ))) → IsWithin s.gas (read_own s key content)
+read_own_within s key (Some content) = delivered_within s content
+read_own_within s key None = unfold IsWithin in tt
+
+wrote_within : (s : Machine) (write : Write) → IsWithin s.gas (wrote s write)
+unfolding wrote
+wrote_within s write =
+    either_within s.gas (has_room s.own write.key)
+    (goes_on (record s { own = map.insert s.own write.key write.value })) (trapped trap.TooManyWrites s)
+    (unfold IsWithin in omega arith) (unfold IsWithin in omega arith)
+
+served_within : (s : Machine) (r : Result Request Trap) → IsWithin s.gas (served s r)
+unfolding served
+served_within s (Err cause) = unfold IsWithin in omega arith
+served_within s (Ok (request.Read key)) = read_own_within s key _
+served_within s (Ok (request.Write write)) = wrote_within s write
+served_within s (Ok (request.Return out)) = unfold IsWithin in omega arith
+served_within s (Ok (request.Revert out)) = unfold IsWithin in omega arith
+
+within_falls : (gas rest : ℕ) (o : Outcome) → rest < gas → IsWithin rest o → IsFalling gas o
+unfolding IsWithin IsFalling
+within_falls gas rest (Next t) h k = omega arith
+within_falls gas rest (Asks key) h k = tt
+within_falls gas rest (Ends end out t) h k = omega arith
+
+charged_cases : (cost : ℕ) (s : Machine) (act : Machine → Outcome) (b : Bool) → nat_le cost s.gas ≡ b → 1 ≤ cost → ((t : Machine) → IsWithin t.gas (act t)) → IsFalling s.gas (charged cost s act)
+charged_cases cost s act true e h k = rw e (within_falls s.gas (s.gas - cost) _ (let fits : cost ≤ s.gas = grind (arith, nat_tests) in omega arith) (k (record s { gas = s.gas - cost })))
+charged_cases cost s act false e h k = rw e (unfold IsFalling in omega arith)
+
+-- an instruction that costs takes gas
+charged_falls : (cost : ℕ) (s : Machine) (act : Machine → Outcome) → 1 ≤ cost → ((t : Machine) → IsWithin t.gas (act t)) → IsFalling s.gas (charged cost s act)
+charged_falls cost s act h k = charged_cases cost s act (nat_le cost s.gas) refl h k
+
+operation_costs : (o : Operation) → 1 ≤ cost_of_operation o
+operation_costs Add = lit≤ tt
+operation_costs Sub = lit≤ tt
+operation_costs Sll = lit≤ tt
+operation_costs Slt = lit≤ tt
+operation_costs Sltu = lit≤ tt
+operation_costs Xor = lit≤ tt
+operation_costs Srl = lit≤ tt
+operation_costs Sra = lit≤ tt
+operation_costs Or = lit≤ tt
+operation_costs And = lit≤ tt
+operation_costs Mul = lit≤ tt
+operation_costs Mulh = lit≤ tt
+operation_costs Mulhsu = lit≤ tt
+operation_costs Mulhu = lit≤ tt
+operation_costs Div = lit≤ tt
+operation_costs Divu = lit≤ tt
+operation_costs Rem = lit≤ tt
+operation_costs Remu = lit≤ tt
+
+instr_costs : (i : Instr) → is_ecall i ≡ false → 1 ≤ cost_of i
+instr_costs (Load kind rd base offset) h = lit≤ tt
+instr_costs (Store kind source base offset) h = lit≤ tt
+instr_costs Ebreak h = lit≤ tt
+instr_costs (Lui rd m) h = lit≤ tt
+instr_costs (Auipc rd m) h = lit≤ tt
+instr_costs (Jal rd offset) h = lit≤ tt
+instr_costs (Jalr rd base offset) h = lit≤ tt
+instr_costs (Branch condition left right offset) h = lit≤ tt
+instr_costs (ComputeImmediate operation rd source m) h = lit≤ tt
+instr_costs (ShiftImmediate shift rd source amount) h = lit≤ tt
+instr_costs (Compute operation rd left right) h = operation_costs operation
+instr_costs (Fence rd source m) h = lit≤ tt
+instr_costs Ecall h = cc
+
+call_costs : (c : StorageCall) (registers : List ℕ) → 1 ≤ charge_of c registers
+call_costs call.Read registers = lit≤ tt
+call_costs call.Write registers = omega arith
+call_costs call.Remove registers = lit≤ tt
+call_costs call.Return registers = omega arith
+call_costs call.Revert registers = omega arith
+
+called_falls : (s : Machine) (r : Result StorageCall Trap) → IsFalling s.gas (called s (charge_asked s.regs r))
+called_falls s (Err cause) = unfold IsFalling in omega arith
+called_falls s (Ok c) = charged_falls _ s (λ t. served t (request_of t.regs t.memory)) (call_costs c s.regs) (λ t. served_within t (request_of t.regs t.memory))
+
+obeyed_cases : (s : Machine) (i : Instr) (b : Bool) → is_ecall i ≡ b → IsFalling s.gas (obeyed s (Some i))
+obeyed_cases s i true e = rw e (called_falls s (asked s.regs))
+obeyed_cases s i false e = rw e (charged_falls _ s (λ t. acted i t) (instr_costs i e) (λ t. acted_within i t))
+
+obeyed_falls : (s : Machine) (o : Option Instr) → IsFalling s.gas (obeyed s o)
+obeyed_falls s None = unfold IsFalling in omega arith
+obeyed_falls s (Some i) = obeyed_cases s i (is_ecall i) refl
+
+fetched_falls : (s : Machine) (r : Result ℕ Fault) → IsFalling s.gas (fetched s r)
+fetched_falls s (Ok word) = obeyed_falls s (decoded word)
+fetched_falls s (Err fault) = unfold IsFalling in omega arith
+
+-- a step takes gas
+pub step_falls : (s : Machine) → IsFalling s.gas (step s)
+unfolding step
+step_falls s = fetched_falls s (loaded 4 access.Run s.memory s.pc)
+
+-- so does a step that is answered
+pub answered_falls : (s : Machine) (content : Option (List ℕ)) → IsFalling s.gas (answered s content)
+unfolding answered
+answered_falls s content = charged_falls 200 s (λ t. delivered t content) (lit≤ tt) (λ t. delivered_within t content)
+
+-- the gas after a step that goes on, and at an end
+pub less_gas : (gas : ℕ) (o : Outcome) (t : Machine) → IsFalling gas o → o ≡ Next t → t.gas < gas
+unfolding IsFalling
+less_gas gas o t h e = subst (λ p. IsFalling gas p) e h
+
+pub end_gas : (gas : ℕ) (o : Outcome) (end : End) (out : List ℕ) (t : Machine) → IsFalling gas o → o ≡ Ends end out t → t.gas ≤ gas
+unfolding IsFalling
+end_gas gas o end out t h e = subst (λ p. IsFalling gas p) e h
+
+-- an answer is not followed by another asking in one step
+unfoldable pub IsTold : Outcome → Type 0
+IsTold (Next t) = Unit {0}
+IsTold (Asks key) = ⊥
+IsTold (Ends end out t) = Unit {0}
+
+either_told : (b : Bool) (o p : Outcome) → IsTold o → IsTold p → IsTold (if b then o else p)
+either_told true o p h k = h
+either_told false o p h k = k
+
+leaves_told : (s : Machine) (registers : List ℕ) (r : Result Space Fault) → IsTold (leaves s registers r)
+unfolding IsTold
+leaves_told s registers (Ok memory) = tt
+leaves_told s registers (Err fault) = tt
+
+delivered_told : (s : Machine) (content : Option (List ℕ)) → IsTold (delivered s content)
+unfolding delivered
+delivered_told s None = unfold IsTold in tt
+delivered_told s (Some value) =
+    either_told (nat_lt (a2 s.regs) (length value))
+    (goes_on (record s { regs = written s.regs 10 0xffff_fffe })) (leaves s (written s.regs 10 (length value)) (copied s.memory (a1 s.regs) value))
+    (unfold IsTold in tt) (leaves_told s _ _)
+
+answered_told : (s : Machine) (content : Option (List ℕ)) → IsTold (answered s content)
+unfolding answered
+answered_told s content =
+    either_told (nat_le 200 s.gas) (delivered (record s { gas = s.gas - 200 }) content) (Ends OutOfGas [] (record s { gas = 0 }))
+    (delivered_told (record s { gas = s.gas - 200 }) content) (unfold IsTold in tt)
+
+pub not_asked : (s : Machine) (content : Option (List ℕ)) (key : List ℕ) → answered s content ≡ Asks key → ⊥
+unfolding IsTold
+not_asked s content key e = subst (λ o. IsTold o) e (answered_told s content)
+
+takes_gas : (s : Machine) (o : Outcome) → IsFalling s.gas o → TakesGas s o
+unfolding IsFalling
+takes_gas s (Next t) h = h
+takes_gas s (Asks key) h = tt
+takes_gas s (Ends end out t) h = h
+
+pub step_takes_gas : (s : Machine) → TakesGas s (step s)
+step_takes_gas s = takes_gas s (step s) (step_falls s)
+
+pub answer_takes_gas : (s : Machine) (content : Option (List ℕ)) → TakesGas s (answered s content)
+answer_takes_gas s content = takes_gas s (answered s content) (answered_falls s content)

@@ -1,0 +1,4 @@
+pub mod Falls
+pub mod Chains
+pub mod Beginnings
+pub mod Receipts

@@ -1,0 +1,101 @@
+-- The run of one call: the chain of its steps from the start to an end.
+use Rattle.std.specs.Prelude.{◌≡◌, ℕ, zero, suc, ◌-◌, Bool, true, false, if◌then◌else◌, List, [], ◌∷◌, length, bytes_eq, Option, Some, None}
+use Rattle.std.specs.FinMap as map
+use Rattle.rv_isa.specs.Registers.{zeros, written}
+use Rattle.rv_mem.specs.Start.{start_space}
+use Rattle.rv_ledger.specs.Key.{Storage, WriteMap}
+use Rattle.rv_ledger.specs.Call.{Invocation}
+use Rattle.rv_ledger.specs.declared.end.End.{End}
+use Rattle.rv_ledger.specs.declared.end.End.TheVariants.{Returned, OutOfGas}
+use Rattle.rv_ledger.specs.declared.receipt.Receipt.{Receipt}
+use Rattle.rv_step.specs.declared.machine.Machine.{Machine}
+use Rattle.rv_step.specs.Step.{Outcome, Next, Asks, Ends, step, answered}
+
+-- at the start sp is the end of memory, a0 the input's address and a1 its length
+abbrev pub start_registers : ℕ → List ℕ
+start_registers len = written (written (written zeros 2 0x0011_0000) 10 0x0010_0000) 11 len
+
+-- a call before its first instruction
+unfoldable pub start : Invocation → Machine
+start call = record {
+  regs = start_registers (length call.input);
+  pc = call.image.entry;
+  memory = start_space call.image call.input;
+  own = map.empty;
+  gas = call.gas;
+}
+
+-- only a call that returned keeps its writes
+abbrev pub kept : End → WriteMap → WriteMap
+kept Returned own = own
+kept _ own = map.empty
+
+-- the receipt of a call with a gas limit that ended so
+abbrev pub receipt_of : ℕ → End → List ℕ → Machine → Receipt
+receipt_of limit end out s = record { end = end; gas = limit - s.gas; pc = s.pc; out = out; regs = s.regs; writes = kept end s.own }
+
+-- an answer of the storage: the key, and its value or None
+abbrev pub Reply : Type 0
+Reply = List ℕ × Option (List ℕ)
+
+-- the receipt at the end where no answer is left over
+abbrev pub closed : List Reply → Receipt → Option Receipt
+closed [] receipt = Some receipt
+closed (reply ∷ replies) receipt = None
+
+-- what follows a step that did not ask, `rest` being the chain from the next machine on
+abbrev pub after_step : (Machine → List Reply → Option Receipt) → ℕ → Outcome → List Reply → Option Receipt
+after_step rest limit (Next t) replies = rest t replies
+after_step rest limit (Asks key) replies = None
+after_step rest limit (Ends end out t) replies = closed replies (receipt_of limit end out t)
+
+-- what follows an asking: the next answer has to be to that key
+abbrev pub after_ask : (Machine → List Reply → Option Receipt) → ℕ → Machine → List ℕ → List Reply → Option Receipt
+after_ask rest limit s key [] = None
+after_ask rest limit s key (reply ∷ replies) =
+    if bytes_eq reply.0 key then after_step rest limit (answered s reply.1) replies else None
+
+abbrev pub followed : (Machine → List Reply → Option Receipt) → ℕ → Machine → Outcome → List Reply → Option Receipt
+followed rest limit s (Asks key) replies = after_ask rest limit s key replies
+followed rest limit s outcome replies = after_step rest limit outcome replies
+
+-- the receipt that the chain comes to in at most so many steps with these answers, all of them used in order
+unfoldable pub replayed : ℕ → ℕ → Machine → List Reply → Option Receipt
+replayed limit zero s replies = None
+replayed limit (suc steps) s replies = followed (λ t rest. replayed limit steps t rest) limit s (step s) replies
+
+-- the answers bear the receipt out where this is Some receipt; each step takes gas, so that one step more than the
+-- gas suffices
+abbrev pub borne : Invocation → List Reply → Option Receipt
+borne call replies = replayed call.gas (suc call.gas) (start call) replies
+
+-- a step whose asking is answered by a storage
+abbrev pub answered_by : Storage → Machine → Outcome → Outcome
+answered_by store s (Asks key) = answered s (map.get store key)
+answered_by store s outcome = outcome
+
+-- what follows it; a storage has answered, so that nothing is asked
+abbrev pub settled : (Machine → Receipt) → ℕ → Machine → Outcome → Receipt
+settled rest limit s (Next t) = rest t
+settled rest limit s (Asks key) = receipt_of limit OutOfGas [] s
+settled rest limit s (Ends end out t) = receipt_of limit end out t
+
+-- the receipt that the same chain comes to over a storage
+unfoldable pub ran : ℕ → ℕ → Machine → Storage → Receipt
+ran limit zero s store = receipt_of limit OutOfGas [] s
+ran limit (suc steps) s store = settled (λ t. ran limit steps t store) limit s (answered_by store s (step s))
+
+-- the receipt of a call over a storage
+unfoldable pub ends : Invocation → Storage → Receipt
+ends call store = ran call.gas (suc call.gas) (start call) store
+
+-- answers are a storage's: each is what the storage has at its key
+abbrev pub AreFrom : Storage → List Reply → Type 0
+AreFrom store [] = Unit {0}
+AreFrom store (reply ∷ replies) = (reply.1 ≡ map.get store reply.0) × AreFrom store replies
+
+-- for each call and storage there is exactly one receipt: answers of the storage bear out `ends`, and answers of the
+-- storage bear out nothing else
+pub record HasOneReceipt (call : Invocation) (store : Storage) : Type 0 where
+  pub some_answers : (replies : List Reply) × AreFrom store replies × (borne call replies ≡ Some (ends call store))
+  pub no_other : (replies : List Reply) (receipt : Receipt) → AreFrom store replies → borne call replies ≡ Some receipt → receipt ≡ ends call store

@@ -1,0 +1,34 @@
+-- The calls of a block in order, over one storage.
+use Rattle.std.specs.Prelude.{ℕ, List, [], ◌∷◌, fold, take, Option, Some, None}
+use Rattle.std.specs.FinMap as map
+use Rattle.rv_ledger.specs.Key.{Storage, WriteMap}
+use Rattle.rv_ledger.specs.Call.{Invocation}
+use Rattle.rv_ledger.specs.declared.receipt.Receipt.{Receipt}
+use Rattle.rv_step.specs.Chain.{ends}
+
+-- one write over a storage: a removal takes the key out
+abbrev pub laid_at : Storage → List ℕ → Option (List ℕ) → Storage
+laid_at store key (Some value) = map.insert store key value
+laid_at store key None = map.remove store key
+
+-- the writes of a receipt over a storage
+unfoldable pub laid : Storage → WriteMap → Storage
+laid store writes = fold (λ before write. laid_at before write.0 write.1) store (map.entries writes)
+
+-- the storage after a call
+abbrev pub store_after_call : Invocation → Storage → Storage
+store_after_call call store = laid store (ends call store).writes
+
+-- the receipts of calls, each on the storage that the ones before it left
+unfoldable pub receipts_of : List Invocation → Storage → List Receipt
+receipts_of [] store = []
+receipts_of (call ∷ calls) store = ends call store ∷ receipts_of calls (store_after_call call store)
+
+-- the storage after the calls
+unfoldable pub store_after : List Invocation → Storage → Storage
+store_after [] store = store
+store_after (call ∷ calls) store = store_after calls (store_after_call call store)
+
+-- the storage before the call of an index
+abbrev pub store_before : List Invocation → ℕ → Storage → Storage
+store_before calls index store = store_after (take index calls) store

@@ -1,0 +1,87 @@
+-- A run of a call that is under way.
+use Rattle.std.specs.Prelude.{◌≡◌, ◌≤◌, ◌+◌, ◌*◌, ℕ, suc, Bool, true, false, List, [], ◌∷◌, ◌++◌, Option, Some, None}
+use Rattle.read_set.specs.declared.Origin.{Origin}
+use Rattle.rv_ledger.specs.Call.{Invocation}
+use Rattle.rv_ledger.specs.declared.receipt.Receipt.{Receipt}
+use Rattle.rv_step.specs.declared.machine.Machine.{Machine}
+use Rattle.rv_step.specs.declared.answer.Answer.{Answer}
+use Rattle.rv_step.specs.declared.stage.Stage.{Stage}
+use Rattle.rv_step.specs.declared.stage.Stage.TheVariants.{Running, Asked, Ended}
+use Rattle.rv_step.specs.declared.run.Pause.{Pause}
+use Rattle.rv_step.specs.declared.run.Pause.TheVariants as pause
+use Rattle.rv_step.specs.Replies.{replies_of}
+use Rattle.rv_step.specs.Step.{Outcome, Next, Asks, Ends, step, answered}
+use Rattle.rv_step.specs.Chain.{Reply, borne, replayed, closed, receipt_of, start}
+
+-- what callers see of a run: its call, where it stands, and the answers that it was given
+pub record Seen : Type 0 where
+  pub call : Invocation
+  pub machine : Machine
+  pub told : List Answer
+  pub stage : Stage
+
+abbrev pub seen_at_start : Invocation → Seen
+seen_at_start call = record { call = call; machine = start call; told = []; stage = Running }
+
+-- where a run stands after what a step came to
+abbrev pub moved : Outcome → Seen → Seen
+moved (Next t) r = record r { machine = t; stage = Running }
+moved (Asks key) r = record r { stage = Asked key }
+moved (Ends end out t) r = record r { machine = t; stage = Ended end out }
+
+abbrev pub is_running : Stage → Bool
+is_running Running = true
+is_running _ = false
+
+-- how many steps and answers may still come, at most: each instruction takes gas, so that a call ends
+abbrev pub left_for : ℕ → Stage → ℕ
+left_for gas Running = 2 * gas + 2
+left_for gas (Asked key) = 2 * gas + 1
+left_for gas (Ended end out) = 0
+
+abbrev pub steps_left : Seen → ℕ
+steps_left r = left_for r.machine.gas r.stage
+
+-- what the storage is asked for
+abbrev pub asked_key : Stage → Option (List ℕ)
+asked_key (Asked key) = Some key
+asked_key _ = None
+
+-- a run that asked for a key, after its answer
+abbrev pub after_answer : List ℕ → Option (List ℕ) → Origin → Seen → Seen
+after_answer key content origin r =
+    moved (answered r.machine content) (record r { told = r.told ++ record { key = key; value = content; origin = origin } ∷ [] })
+
+-- the receipt that is left to come with further answers
+abbrev pub left_over : ℕ → Machine → Stage → List Reply → Option Receipt
+left_over limit s (Ended end out) replies = closed replies (receipt_of limit end out s)
+left_over limit s _ replies = replayed limit (suc s.gas) s replies
+
+-- what a stage says of the machine
+abbrev pub IsStage : ℕ → Machine → Stage → Type 0
+IsStage limit s (Asked key) = (s.gas ≤ limit) × (step s ≡ Asks key)
+IsStage limit s _ = s.gas ≤ limit
+
+-- a run is so far a beginning of its call's chain: with whatever answers come, the whole chain comes to the
+-- receipt that is left to come
+pub record IsSoFar (r : Seen) : Type 0 where
+  pub stands : IsStage r.call.gas r.machine r.stage
+  pub chain : (rest : List Reply) → borne r.call (replies_of r.told ++ rest) ≡ left_over r.call.gas r.machine r.stage rest
+
+-- the call has ended
+abbrev pub IsEnded : Stage → Type 0
+IsEnded (Ended end out) = Unit {0}
+IsEnded _ = ⊥
+
+-- what a run that stands still tells of its stage
+abbrev pub IsPause : Pause → Stage → Type 0
+IsPause (pause.Ask key) stage = stage ≡ Asked key
+IsPause pause.Ended stage = IsEnded stage
+
+-- the receipt of a run that has ended
+abbrev pub IsReceiptFor : Receipt → ℕ → Machine → Stage → Type 0
+IsReceiptFor receipt limit s (Ended end out) = receipt ≡ receipt_of limit end out s
+IsReceiptFor receipt limit s _ = ⊥
+
+abbrev pub IsReceiptOf : Receipt → Seen → Type 0
+IsReceiptOf receipt r = IsReceiptFor receipt r.call.gas r.machine r.stage

@@ -1,0 +1,15 @@
+//! Answers of the storage.
+
+use read_set::Origin;
+use rv_ledger::{Key, Value};
+
+/// An answer that a run was given.
+#[derive(Debug, Drop)]
+pub struct Answer {
+    /// The key that it asked for.
+    pub key: Key,
+    /// The key's value, or None where it is absent.
+    pub value: Option<Value>,
+    /// Where the answer came from.
+    pub origin: Origin,
+}

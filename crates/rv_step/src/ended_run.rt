@@ -1,0 +1,21 @@
+//! A run that has ended.
+
+ghost use Rattle.std.specs.Prelude.{◌≡◌, Some};
+ghost use Rattle.std.specs.Coded.{Coded-set, coded_option};
+ghost use Rattle.rv_step.specs.Chain.{borne};
+ghost use Rattle.rv_step.specs.Replies.{replies_of};
+
+use crate::answer::Answer;
+use rv_ledger::{Call, Receipt};
+
+/// A run that has ended: its receipt is the one that its call comes to with these answers.
+#[derive(Drop)]
+pub struct EndedRun {
+    /// The call.
+    pub call: Call,
+    /// The storage's answers, in order.
+    pub answers: Vec<Answer>,
+    /// What the call did.
+    pub receipt: Receipt,
+    pub ghost borne: { borne call (replies_of answers.items) ≡ Some receipt } by { Coded-set (coded_option receipt-code) (borne call (replies_of answers.items)) (Some receipt) },
+}

@@ -1,0 +1,209 @@
+//! A run of one call, which stops where it needs an answer of the storage.
+
+ghost use Rattle.std.specs.Prelude.{◌≡◌, ◌≤◌};
+ghost use Rattle.std.specs.Option.{option_copied};
+ghost use Rattle.rv_step.specs.Chain.{receipt_of};
+ghost use Rattle.rv_step.specs.Does.{stage_of};
+
+use crate::answer::Answer;
+use crate::ended_run::EndedRun;
+use crate::machine::Machine;
+use crate::pace::Pace;
+use crate::stage::Stage;
+use read_set::Origin;
+use rv_ledger::{Call, End, Key, Output, Receipt, Value};
+use std::alloc::{AllocError, Global};
+use std::marker::Model;
+
+/// A run of one call that is under way.
+#[derive(Drop)]
+pub struct Run {
+    call: Call,
+    machine: Machine,
+    answers: Vec<Answer>,
+    stage: Stage,
+}
+
+impl Model for Run {
+    ghost use Rattle.std.specs.Coded.{codes};
+    ghost use Rattle.rv_step.specs.Run.{Seen, IsSoFar};
+    ghost use Rattle.rv_step.specs.contracts.machine.Machine.{the_row as machine_row};
+
+    ghost Value = { Seen };
+
+    ghost coded = { Prim.hlevel (codes, machine_row.coded) };
+
+    ghost view = { λ r. record { call = r.call; machine = r.machine; told = r.answers.items; stage = r.stage } };
+
+    ghost invariant = { λ r. IsSoFar (record { call = r.call; machine = r.machine; told = r.answers.items; stage = r.stage }) };
+}
+
+/// Why a run stands still.
+#[derive(Clone, Copy, Debug, PartialEq, Eq)]
+pub enum Pause {
+    /// It asks the storage for this key.
+    Ask(Key),
+    /// Its call has ended.
+    Ended,
+}
+
+impl Run {
+    ghost use Rattle.std.specs.Prelude.{◌≡◌, ◌<◌, ◌≤◌, false, IsTrue, IsSome, IfSome, IfOk, OnOk, OnErr};
+    ghost use Rattle.std.specs.Option.{option_copied};
+    ghost use Rattle.rv_step.specs.Step.{step};
+    ghost use Rattle.rv_step.specs.Run.{IsEnded, IsPause, IsReceiptOf, after_answer, asked_key, is_running, moved, seen_at_start, steps_left};
+
+    /// A run of a call before its first instruction; refused where memory ran out.
+    pub fn start(alloc: Global, call: &Call) -> Result<Run, AllocError>
+        ensures { IfOk result (λ r. r ≡ seen_at_start call.now) }
+    {
+        let machine = Machine::start(alloc, call)?;
+        Ok(Run {
+            call: call.copy()?,
+            machine,
+            answers: Vec::new(alloc),
+            stage: Stage::Running,
+        })
+    }
+
+    /// Whether it can make a step.
+    pub fn is_running(&self) -> bool
+        ensures { result ≡ is_running self.now.stage }
+    {
+        matches!(self.stage, Stage::Running)
+    }
+
+    /// Makes one instruction of a run that can. Refused where memory ran out, and then nothing changes.
+    pub fn step_one(&mut self) -> Result<(), AllocError>
+        requires { IsTrue (is_running self.old.stage) }
+        ensures ok { OnOk result (self.new ≡ moved (step self.old.machine) self.old) }
+        ensures fewer { OnOk result (steps_left self.new < steps_left self.old) }
+        ensures err { OnErr result (self.new ≡ self.old) }
+    {
+        match self.machine.step()? {
+            Pace::Next => {}
+            Pace::Ask(key) => self.stage = Stage::Asked(key),
+            Pace::End(end, out) => self.stage = Stage::Ended(end, out),
+        }
+        Ok(())
+    }
+
+    /// Makes instructions until the run asks the storage or has ended. Refused where memory ran out;
+    /// then the run stands before the instruction that was refused, and may go on.
+    pub fn go(&mut self) -> Result<Pause, AllocError>
+        ensures call { self.new.call ≡ self.old.call }
+        ensures told { self.new.told ≡ self.old.told }
+        ensures fewer { steps_left self.new ≤ steps_left self.old }
+        ensures pause { IfOk result (λ pause. IsPause pause self.new.stage) }
+        ensures stopped { IsTrue (is_running self.old.stage) → OnErr result (IsTrue (is_running self.new.stage)) }
+        ensures stays { is_running self.old.stage ≡ false → self.new ≡ self.old }
+    {
+        while self.is_running() {
+            self.step_one()?;
+        }
+        Ok(match &self.stage {
+            Stage::Asked(key) => Pause::Ask(*key),
+            _ => Pause::Ended,
+        })
+    }
+
+    /// Gives the storage's answer to the key that the run asks for: its value, or None for absence,
+    /// and where the answer came from. Refused where memory ran out, and then nothing changes.
+    pub fn answer(&mut self, content: Option<&Value>, origin: Origin) -> Result<(), AllocError>
+        requires { IsSome (asked_key self.old.stage) }
+        ensures ok { OnOk result (IfSome (asked_key self.old.stage) (λ key. self.new ≡ after_answer key (option_copied content.entry) origin self.old)) }
+        ensures fewer { OnOk result (steps_left self.new < steps_left self.old) }
+        ensures err { OnErr result (self.new ≡ self.old) }
+    {
+        let key = match &self.stage {
+            Stage::Asked(key) => *key,
+            _ => unreachable!(),
+        };
+        self.answers.push(Answer {
+            key,
+            value: copied(content),
+            origin,
+        })?;
+        let pace = match self.machine.answer(content) {
+            Ok(pace) => pace,
+            Err(refused) => {
+                let _ = self.answers.pop();
+                return Err(refused);
+            }
+        };
+        self.stage = stage_of(pace);
+        Ok(())
+    }
+
+    /// The ended run with its receipt; it takes no memory.
+    pub fn finish(self) -> EndedRun
+        requires { IsEnded self.stage }
+        ensures call { result.call ≡ self.call }
+        ensures answers { result.answers.items ≡ self.told }
+        ensures receipt { IsReceiptOf result.receipt self }
+    {
+        let Run {
+            call,
+            machine,
+            answers,
+            stage,
+        } = self;
+        match stage {
+            Stage::Ended(end, out) => {
+                let receipt = receipt(call.gas(), end, out, machine);
+                EndedRun {
+                    call,
+                    answers,
+                    receipt,
+                }
+            }
+            _ => unreachable!(),
+        }
+    }
+}
+
+/// The stage after a step.
+fn stage_of(pace: Pace) -> Stage
+    ensures { result ≡ stage_of pace }
+{
+    match pace {
+        Pace::Next => Stage::Running,
+        Pace::Ask(key) => Stage::Asked(key),
+        Pace::End(end, out) => Stage::Ended(end, out),
+    }
+}
+
+/// A copy of an answer's content.
+fn copied(content: Option<&Value>) -> Option<Value>
+    ensures { result ≡ option_copied content.entry }
+{
+    match content {
+        Some(value) => Some(value.copy()),
+        None => None,
+    }
+}
+
+/// The receipt of a call with this gas limit that ended so.
+fn receipt(limit: u32, end: End, out: Output, machine: Machine) -> Receipt
+    requires { machine.gas ≤ limit }
+    ensures { result ≡ receipt_of limit end out machine }
+{
+    let Machine {
+        regs,
+        pc,
+        memory: _,
+        mut own,
+        gas,
+    } = machine;
+    if end != End::Returned {
+        own.clear();
+    }
+    Receipt {
+        end,
+        gas: limit - gas.left(),
+        pc,
+        out,
+        regs,
+        writes: own,
+    }
+}

@@ -1,0 +1,46 @@
+//! Reading files to their ends.
+
+ghost use Rattle.std.specs.Prelude.{◌≡◌, ◌<◌, ◌≤◌, length, vec_len, IfOk, IfErr, IfSome, Option, Some};
+
+use std::alloc::Global;
+use std::io::Read;
+
+/// Why a file is not read.
+#[derive(Clone, Copy, Debug, PartialEq, Eq)]
+pub enum ReadFault {
+    /// A read failed.
+    Unreadable,
+    /// There are more bytes than allowed.
+    TooLong,
+    /// Memory ran out.
+    Memory,
+}
+
+/// All the bytes that a reader has left, at most `limit` of them.
+pub fn read_whole<R: Read>(
+    alloc: Global,
+    reader: &mut R,
+    limit: usize,
+) -> Result<Vec<u8>, ReadFault>
+    ensures ok { IfOk result (λ v. IfSome (R.remaining reader.old) (λ bytes. v.items ≡ bytes)) }
+    ensures short { IfOk result (λ v. vec_len v ≤ limit) }
+    ensures long { IfErr result (λ e. e ≡ ReadFault.TooLong → IfSome (R.remaining reader.old) (λ bytes. limit < length bytes)) }
+{
+    let mut all = Vec::new(alloc);
+    let mut part = [0u8; 1024];
+    for _ in 0..u64::MAX {
+        let Ok(count) = reader.read(&mut part) else {
+            return Err(ReadFault::Unreadable);
+        };
+        if count == 0 {
+            return Ok(all);
+        }
+        if count > limit - all.len() {
+            return Err(ReadFault::TooLong);
+        }
+        if all.extend_from_slice(&part[..count]).is_err() {
+            return Err(ReadFault::Memory);
+        }
+    }
+    Err(ReadFault::Unreadable)
+}

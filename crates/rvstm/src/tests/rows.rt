@@ -1,0 +1,257 @@
+//! Worked blocks, each with a piece of what it prints.
+
+/// A block: the words of its programs, its store and call lines, and pieces of the result's text in
+/// their order.
+pub struct Row {
+    /// What it shows.
+    pub name: &'static str,
+    /// The words of each program.
+    pub programs: &'static [&'static [u32]],
+    /// The lines behind the program lines.
+    pub lines: &'static str,
+    /// Pieces of the text.
+    pub pieces: &'static [&'static str],
+}
+
+/// Returns its input.
+pub const ECHO: &[u32] = &[0x0030_0893, 0x0000_0073];
+
+const ZERO: &[u32] = &[
+    0x0010_0893,
+    0x0000_0073,
+    0x0030_0893,
+    0x0000_0593,
+    0x0000_0073,
+];
+
+const LEN: &[u32] = &[
+    0xfc01_0593,
+    0x0400_0613,
+    0x0000_0073,
+    0x0030_0893,
+    0x0000_0593,
+    0x0000_0073,
+];
+
+const LEN_63: &[u32] = &[
+    0xfc01_0593,
+    0x03f0_0613,
+    0x0000_0073,
+    0x0030_0893,
+    0x0000_0593,
+    0x0000_0073,
+];
+
+const PUT: &[u32] = &[
+    0x0205_0593,
+    0x0010_0613,
+    0x0010_0893,
+    0x0000_0073,
+    0x0030_0893,
+    0x0000_0593,
+    0x0000_0073,
+];
+
+const GET: &[u32] = &[
+    0xfc01_0593,
+    0x0400_0613,
+    0x0000_0073,
+    0xfc01_0513,
+    0x0010_0593,
+    0x0030_0893,
+    0x0000_0073,
+];
+
+const SEEN: &[u32] = &[
+    0x0000_0073,
+    0x0030_0893,
+    0x0000_0593,
+    0xfff0_0293,
+    0x0055_1463,
+    0x0040_0893,
+    0x0000_0073,
+];
+
+const COND: &[u32] = &[
+    0x0205_0413,
+    0x0000_0073,
+    0xfff0_0293,
+    0x0055_1863,
+    0x0004_0513,
+    0x0010_0893,
+    0x0000_0073,
+    0x0030_0893,
+    0x0000_0593,
+    0x0000_0073,
+];
+/// Counts a key up by one.
+pub const COUNT: &[u32] = &[
+    0xfc01_0593,
+    0x0400_0613,
+    0x0005_0413,
+    0x0000_0073,
+    0xfc01_2283,
+    0x0012_8293,
+    0xfc51_2023,
+    0x0004_0513,
+    0x0040_0613,
+    0x0010_0893,
+    0x0000_0073,
+    0x0030_0893,
+    0x0000_0593,
+    0x0000_0073,
+];
+
+const MANY: &[u32] = &[
+    0x0010_0893,
+    0x0000_0613,
+    0x0055_2023,
+    0x0000_0073,
+    0x0012_8293,
+    0xff5f_f06f,
+];
+
+const SPIN: &[u32] = &[0x0000_006f];
+
+const FAR: &[u32] = &[0x0000_106f];
+
+const BELOW: &[u32] = &[0xfe00_0513, 0x0000_0073];
+
+const LONG_READ: &[u32] = &[0x0410_0613, 0x0000_0073];
+
+const BRANCHES: &[u32] = &[0x0000_1163, 0x0000_0163];
+
+const STORE_AT_END: &[u32] = &[0x0001_2023];
+
+const STORE_UNALIGNED: &[u32] = &[0xfe01_2f23];
+
+pub const ROWS: &[Row] = &[
+    Row {
+        name: "echo",
+        programs: &[ECHO],
+        lines: "call 0 100 0102\n",
+        pieces: &["call 0 returned gas 13 pc 00010004 out 0102\n"],
+    },
+    Row {
+        name: "misaligned_branch",
+        programs: &[BRANCHES],
+        lines: "call 0 1000 -\n",
+        pieces: &["call 0 misaligned gas 2 pc 00010004 out -\n"],
+    },
+    Row {
+        name: "store_faults: no right",
+        programs: &[STORE_AT_END],
+        lines: "call 0 1000 -\n",
+        pieces: &["call 0 memory-fault gas 2 pc 00010000 out -\n"],
+    },
+    Row {
+        name: "store_faults: not aligned",
+        programs: &[STORE_UNALIGNED],
+        lines: "call 0 1000 -\n",
+        pieces: &["call 0 misaligned gas 2 pc 00010000 out -\n"],
+    },
+    Row {
+        name: "length: absent",
+        programs: &[LEN],
+        lines: "call 0 1000 0000000000000000000000000000000000000000000000000000000000000001\n",
+        pieces: &["call 0 returned gas 214 pc 00010014 out -\n", " ffffffff "],
+    },
+    Row {
+        name: "length: empty",
+        programs: &[LEN],
+        lines: "store 0000000000000000000000000000000000000000000000000000000000000001 -\ncall 0 1000 0000000000000000000000000000000000000000000000000000000000000001\n",
+        pieces: &[
+            "call 0 returned gas 214 pc 00010014 out -\n",
+            "store 0000000000000000000000000000000000000000000000000000000000000001 -\n",
+        ],
+    },
+    Row {
+        name: "length: too long",
+        programs: &[LEN_63],
+        lines: "store 0000000000000000000000000000000000000000000000000000000000000001 11111111111111111111111111111111111111111111111111111111111111111111111111111111111111111111111111111111111111111111111111111111\ncall 0 1000 0000000000000000000000000000000000000000000000000000000000000001\n",
+        pieces: &["call 0 returned gas 214 pc 00010014 out -\n", " fffffffe "],
+    },
+    Row {
+        name: "zero: 400",
+        programs: &[ZERO],
+        lines: "call 0 400 0000000000000000000000000000000000000000000000000000000000000001\n",
+        pieces: &["call 0 out-of-gas gas 400 pc 00010004 out -\n", "\nend\n"],
+    },
+    Row {
+        name: "zero: 401",
+        programs: &[ZERO],
+        lines: "call 0 401 0000000000000000000000000000000000000000000000000000000000000001\n",
+        pieces: &[
+            "call 0 out-of-gas gas 401 pc 00010008 out -\n",
+            "00000000\nend\n",
+        ],
+    },
+    Row {
+        name: "zero: 413",
+        programs: &[ZERO],
+        lines: "call 0 413 0000000000000000000000000000000000000000000000000000000000000001\n",
+        pieces: &[
+            "call 0 returned gas 413 pc 00010010 out -\n",
+            "write 0 0000000000000000000000000000000000000000000000000000000000000001 -\nstore 0000000000000000000000000000000000000000000000000000000000000001 -\nend\n",
+        ],
+    },
+    Row {
+        name: "malicious_programs: a loop",
+        programs: &[SPIN],
+        lines: "call 0 1000 -\n",
+        pieces: &["call 0 out-of-gas gas 1000 pc 00010000 out -\n"],
+    },
+    Row {
+        name: "malicious_programs: a jump past the text",
+        programs: &[FAR],
+        lines: "call 0 1000 -\n",
+        pieces: &["call 0 fetch-fault gas 1 pc 00011000 out -\n"],
+    },
+    Row {
+        name: "malicious_programs: a key below memory",
+        programs: &[BELOW],
+        lines: "call 0 1000 -\n",
+        pieces: &["call 0 memory-fault gas 201 pc 00010004 out -\n"],
+    },
+    Row {
+        name: "malicious_programs: a long read",
+        programs: &[LONG_READ],
+        lines: "call 0 1000 -\n",
+        pieces: &["call 0 bad-length gas 1 pc 00010004 out -\n"],
+    },
+    Row {
+        name: "malicious_programs: many keys",
+        programs: &[MANY],
+        lines: "call 0 103828 0000000000000000000000000000000000000000000000000000000000000000\n",
+        pieces: &[
+            "call 0 too-many-writes gas 103828 pc 0001000c out -\n",
+            "00000000\nend\n",
+        ],
+    },
+    Row {
+        name: "late_writer",
+        programs: &[PUT, GET],
+        lines: "call 0 1000 000000000000000000000000000000000000000000000000000000000000000101\ncall 0 1000 000000000000000000000000000000000000000000000000000000000000000102\ncall 1 1000 0000000000000000000000000000000000000000000000000000000000000001\n",
+        pieces: &[
+            "call 0 returned gas 419 ",
+            "call 1 returned gas 419 ",
+            "call 2 returned gas 216 pc 00010018 out 02\n",
+            "store 0000000000000000000000000000000000000000000000000000000000000001 02\nend\n",
+        ],
+    },
+    Row {
+        name: "read_of_absence",
+        programs: &[PUT, SEEN],
+        lines: "call 0 1000 00000000000000000000000000000000000000000000000000000000000000aa01\ncall 1 1000 00000000000000000000000000000000000000000000000000000000000000aa\n",
+        pieces: &["call 1 returned gas 214 pc 00010018 out -\n", " fffffffe "],
+    },
+    Row {
+        name: "withdrawn_write",
+        programs: &[PUT, COND, SEEN],
+        lines: "call 0 1000 00000000000000000000000000000000000000000000000000000000000000aa01\ncall 1 1000 00000000000000000000000000000000000000000000000000000000000000aa00000000000000000000000000000000000000000000000000000000000000bb\ncall 2 1000 00000000000000000000000000000000000000000000000000000000000000bb\n",
+        pieces: &[
+            "call 1 returned gas 215 pc 00010024 out -\n",
+            "call 2 reverted gas 215 pc 00010018 out -\n",
+        ],
+    },
+];

@@ -1,0 +1,75 @@
+//! Calls run one after another in block order.
+#![tactic(auto)]
+
+ghost use Rattle.std.specs.Prelude.{◌≡◌, [], IfOk, OnOk};
+ghost use Rattle.rv_step.specs.Chain.{ends};
+ghost use Rattle.rv_step.specs.Fold.{laid, receipts_of, store_after};
+
+use read_set::Origin;
+use rv_ledger::{Call, Job, Outcome, Receipt, Store, Writes};
+use rv_step::{EndedRun, Pause, Run, one_receipt};
+use std::alloc::{AllocError, Global};
+
+/// Runs the calls of a job one after another on one storage. The outcome has no counts. Refused
+/// where memory ran out.
+pub fn run_in_order(alloc: Global, job: &Job) -> Result<Outcome, AllocError>
+    ensures job { IfOk result (λ o. o.job ≡ job.now) }
+    ensures receipts { IfOk result (λ o. o.receipts.items ≡ receipts_of job.now.block job.now.store) }
+    ensures store { IfOk result (λ o. o.store ≡ store_after job.now.block job.now.store) }
+    ensures counts { IfOk result (λ o. o.counts.items ≡ []) }
+{
+    let mut store = job.store.copy()?;
+    let receipts = run_all(alloc, job.block.calls(), &mut store)?;
+    Ok(Outcome {
+        job: job.copy()?,
+        receipts,
+        store,
+        counts: Vec::new(alloc),
+    })
+}
+
+/// Runs calls in order, each on the storage that the ones before it left.
+#[tactic(auto, unfolding(rv_step::specs::Fold::receipts_of, rv_step::specs::Fold::store_after))]
+fn run_all(alloc: Global, calls: &[Call], store: &mut Store) -> Result<Vec<Receipt>, AllocError>
+    ensures receipts { IfOk result (λ r. r.items ≡ receipts_of calls.now store.old) }
+    ensures store { OnOk result (store.new ≡ store_after calls.now store.old) }
+{
+    let mut receipts = Vec::with_capacity(alloc, calls.len())?;
+    for call in calls {
+        let receipt = run_one(alloc, call, store)?;
+        lay(store, &receipt.writes)?;
+        receipts.push(receipt)?;
+    }
+    Ok(receipts)
+}
+
+/// Runs a call on a storage.
+fn run_one(alloc: Global, call: &Call, store: &Store) -> Result<Receipt, AllocError>
+    ensures { IfOk result (λ r. r ≡ ends call.now store.now) }
+{
+    one_receipt();
+    let mut run = Run::start(alloc, call)?;
+    while let Pause::Ask(key) = run.go()? {
+        run.answer(store.get(&key), Origin::Base)?;
+    }
+    let EndedRun {
+        call: _,
+        answers: _,
+        receipt,
+    } = run.finish();
+    Ok(receipt)
+}
+
+/// Lays the writes of a call over the storage.
+#[tactic(auto, unfolding(rv_step::specs::Fold::laid))]
+fn lay(store: &mut Store, writes: &Writes) -> Result<(), AllocError>
+    ensures { OnOk result (store.new ≡ laid store.old writes.now) }
+{
+    for (key, value) in writes.iter() {
+        match value {
+            Some(value) => store.insert(*key, value.copy())?,
+            None => store.remove(key),
+        }
+    }
+    Ok(())
+}
