@@ -1,3 +1,4 @@
 pub mod FieldLemmas
 pub mod Lines
 pub mod Blocks
+pub mod OneReading

@@ -1,5 +1,6 @@
 -- What a function of this crate answers, beside what is wanted of it.
-use Rattle.std.specs.Prelude.{◌≡◌, ◌≤◌, ◌⊎◌, Result, Ok, Err, IfErr}
+use Rattle.std.specs.Prelude.{◌≡◌, ◌≢◌, ◌≤◌, ◌⊎◌, Result, Ok, Err, IfErr}
+use Rattle.std.specs.Result.{result_map_both}
 use Rattle.block_file.specs.declared.fault.Cause.{Cause}
 use Rattle.block_file.specs.declared.fault.Cause.TheVariants.{Memory}
 use Rattle.block_file.specs.declared.fault.BlockFault.{BlockFault}
@@ -13,3 +14,11 @@ Gives view (Err cause) wanted = (cause ≡ Memory) ⊎ (wanted ≡ Err cause)
 abbrev pub Reads : {X Y : Type 0} → (X → Y) → Result X BlockFault → Result Y BlockFault → Type 0
 Reads view (Ok x) wanted = wanted ≡ Ok (view x)
 Reads view (Err fault) wanted = (wanted ≡ Err fault) ⊎ ((fault.cause ≡ Memory) × IfErr wanted (λ first. fault.line ≤ first.line))
+
+-- what an answer says: a value, or the fault
+abbrev pub said : {X Y : Type 0} → (X → Y) → Result X BlockFault → Result Y BlockFault
+said view answer = result_map_both view (λ fault. fault) answer
+
+-- the call met no want of memory
+abbrev pub HadMemory : {X : Type 0} → Result X BlockFault → Type 0
+HadMemory answer = IfErr answer (λ fault. fault.cause ≢ Memory)

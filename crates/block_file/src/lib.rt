@@ -5,13 +5,12 @@ mod block;
 mod block_text;
 mod fault;
 mod fields;
+mod laws;
 mod reader;
 mod schedule;
 
 pub use block::parse;
 pub use block_text::{BlockText, CallLine};
 pub use fault::{BlockFault, Cause};
+pub use laws::one_reading;
 pub use schedule::parse_schedule;
-
-#[cfg(test)]
-mod tests;

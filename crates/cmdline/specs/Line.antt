@@ -8,7 +8,7 @@ use Rattle.clap.specs.declared.builder.ArgAction.TheVariants as action
 use Rattle.clap.specs.declared.error.Error.{Error}
 use Rattle.clap.specs.declared.error.ErrorKind.TheVariants as kind
 use Rattle.cmdline.specs.declared.Request.{Request}
-use Rattle.cmdline.specs.declared.Request.TheVariants.{Seq}
+use Rattle.cmdline.specs.declared.Request.TheVariants.{Seq, Asm, Dis}
 
 -- the argument FILE: one required word
 abbrev pub file_rule : Rule
@@ -22,6 +22,23 @@ file_rule = record (new_rule (codes "file")) {
 abbrev pub seq_app : App
 seq_app = with_rule (new_app (codes "seq")) file_rule
 
+-- the option `--out FILE`: it is required
+abbrev pub out_rule : Rule
+out_rule = record (new_rule (codes "out")) {
+  long = Some (codes "out");
+  action = Some action.Set;
+  value_names = 1;
+  required = true;
+}
+
+-- `asm FILE --out FILE`
+abbrev pub asm_app : App
+asm_app = with_rule (with_rule (new_app (codes "asm")) file_rule) out_rule
+
+-- `dis FILE`
+abbrev pub dis_app : App
+dis_app = with_rule (new_app (codes "dis")) file_rule
+
 -- `rvstm`, which has a version and wants a subcommand
 abbrev pub top_app : App
 top_app = record (new_app (codes "rvstm")) {
@@ -30,19 +47,31 @@ top_app = record (new_app (codes "rvstm")) {
 
 -- the whole command line
 abbrev pub rvstm_app : App
-rvstm_app = with_subcommand top_app seq_app.top
+rvstm_app = with_subcommand (with_subcommand (with_subcommand top_app seq_app.top) asm_app.top) dis_app.top
 
 -- a request with its words as texts
 pub data Asked : Type 0 where
   SeqOf : Text → Asked
+  AsmOf : Text → Text → Asked
+  DisOf : Text → Asked
 
 abbrev pub asked_by : Request → Asked
 asked_by (Seq file) = SeqOf file.now
+asked_by (Asm file out) = AsmOf file.now out.now
+asked_by (Dis file) = DisOf file.now
+
+-- what `asm` asks for, by what clap found
+abbrev pub asm_of : List Row → Option Asked
+asm_of rows = option_and_then (λ file. option_map (λ out. AsmOf file out) (first_of (codes "out") rows)) (first_of (codes "file") rows)
 
 -- what a subcommand asks for, by its name and what clap found for its arguments
 abbrev pub asked_in : Text × List Row → Option Asked
 asked_in found = if bytes_eq found.0 (codes "seq")
     then option_map SeqOf (first_of (codes "file") found.1)
+    else if bytes_eq found.0 (codes "asm")
+    then asm_of found.1
+    else if bytes_eq found.0 (codes "dis")
+    then option_map DisOf (first_of (codes "file") found.1)
     else None
 
 -- what a whole line, with the program's name first, asks for where clap takes it

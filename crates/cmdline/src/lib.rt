@@ -4,7 +4,7 @@
 ghost use Rattle.std.specs.Prelude.{◌≡◌, ◌∷◌, [], List, ℕ, IfOk, true, false, map, option_and_then, option_map, codes};
 ghost use Rattle.std.specs.String.{string_bytes};
 ghost use Rattle.clap.specs.Words.{FailsBy, app_of, fault_of, first_of, found_of, rows_of, rule_of, subcommand_rows_of};
-ghost use Rattle.cmdline.specs.Line.{AnswersUnlessMemory, SeqOf, asked, asked_by, asked_in, file_rule, is_operand, rvstm_app, seq_app};
+ghost use Rattle.cmdline.specs.Line.{AnswersUnlessMemory, AsmOf, DisOf, SeqOf, asked, asked_by, asked_in, asm_app, asm_of, dis_app, file_rule, is_operand, out_rule, rvstm_app, seq_app};
 
 use clap::{Arg, ArgAction, ArgMatches, Command, Error};
 use std::alloc::{AllocError, Global};
@@ -15,6 +15,18 @@ pub enum Request<'a> {
     /// Run the calls of a block file in order and print the result.
     Seq {
         /// The path of the block file.
+        file: &'a str,
+    },
+    /// Assemble a source and write its ELF file.
+    Asm {
+        /// The path of the source.
+        file: &'a str,
+        /// The path of the ELF file.
+        out: &'a str,
+    },
+    /// Print the instructions of an ELF file.
+    Dis {
+        /// The path of the ELF file.
         file: &'a str,
     },
 }
@@ -32,6 +44,14 @@ pub fn request_of<'a>(alloc: Global, words: &'a [String]) -> Result<Option<Reque
     ensures seq { (program file : List ℕ)
         → map string_bytes words.now ≡ program ∷ codes "seq" ∷ file ∷ [] → is_operand file ≡ true
         → AnswersUnlessMemory result (SeqOf file) }
+    // so is `asm FILE --out OUT`
+    ensures asm { (program file out : List ℕ)
+        → map string_bytes words.now ≡ program ∷ codes "asm" ∷ file ∷ codes "--out" ∷ out ∷ [] → is_operand file ≡ true → is_operand out ≡ true
+        → AnswersUnlessMemory result (AsmOf file out) }
+    // and `dis FILE`
+    ensures dis { (program file : List ℕ)
+        → map string_bytes words.now ≡ program ∷ codes "dis" ∷ file ∷ [] → is_operand file ≡ true
+        → AnswersUnlessMemory result (DisOf file) }
 {
     let matches = rvstm(alloc)?.try_get_matches_from(words)?;
     Ok(request_in(&matches))
@@ -45,7 +65,9 @@ fn rvstm<'a>(alloc: Global) -> Result<Command<'a>, AllocError>
         .about("Executes blocks of RV32IM contract calls")
         .version("0.1.0")
         .subcommand_required(true)
-        .subcommand(seq(alloc)?)
+        .subcommand(seq(alloc)?)?
+        .subcommand(asm(alloc)?)?
+        .subcommand(dis(alloc)?)
 }
 
 // `seq FILE`
@@ -54,17 +76,49 @@ fn seq<'a>(alloc: Global) -> Result<Command<'a>, AllocError>
 {
     Command::new(alloc, "seq")
         .about("Runs the calls of a block file in order and prints the result")
-        .arg(block_file(alloc))
+        .arg(file(alloc, "The block file"))
 }
 
-// The argument FILE of each subcommand that runs a block.
-fn block_file<'a>(alloc: Global) -> Arg<'a>
+// `asm FILE --out FILE`
+fn asm<'a>(alloc: Global) -> Result<Command<'a>, AllocError>
+    ensures { IfOk result (λ c. app_of c ≡ asm_app) }
+{
+    Command::new(alloc, "asm")
+        .about("Assembles a source and writes its ELF file")
+        .arg(file(alloc, "The source"))?
+        .arg(out(alloc))
+}
+
+// `dis FILE`
+fn dis<'a>(alloc: Global) -> Result<Command<'a>, AllocError>
+    ensures { IfOk result (λ c. app_of c ≡ dis_app) }
+{
+    Command::new(alloc, "dis")
+        .about("Prints the instructions of an ELF file")
+        .arg(file(alloc, "The ELF file"))
+}
+
+// The argument FILE of each subcommand.
+fn file<'a>(alloc: Global, help: &'a str) -> Arg<'a>
     ensures rule { rule_of result ≡ file_rule }
     ensures local { result.global ≡ false }
 {
     Arg::new(alloc, "file")
         .value_name("FILE")
-        .help("The block file")
+        .help(help)
+        .required(true)
+        .action(ArgAction::Set)
+}
+
+// The option `--out FILE`.
+fn out<'a>(alloc: Global) -> Arg<'a>
+    ensures rule { rule_of result ≡ out_rule }
+    ensures local { result.global ≡ false }
+{
+    Arg::new(alloc, "out")
+        .long("out")
+        .value_name("FILE")
+        .help("The ELF file that is written")
         .required(true)
         .action(ArgAction::Set)
 }
@@ -76,6 +130,8 @@ fn request_in<'a>(matches: &ArgMatches<'a>) -> Option<Request<'a>>
 {
     match matches.subcommand()? {
         ("seq", found) => seq_in(found),
+        ("asm", found) => asm_in(found),
+        ("dis", found) => dis_in(found),
         _ => None,
     }
 }
@@ -90,5 +146,22 @@ fn seq_in<'a>(found: &ArgMatches<'a>) -> Option<Request<'a>>
     Some(Request::Seq { file })
 }
 
-#[cfg(test)]
-mod tests;
+// The request of what clap found for `asm`.
+#[tactic(auto, using(crate::proofs::Lines::first_in_rows))]
+fn asm_in<'a>(found: &ArgMatches<'a>) -> Option<Request<'a>>
+    ensures { option_map asked_by result ≡ asm_of (rows_of (found_of found.now)) }
+{
+    let file = found.get_str("file")?;
+    let out = found.get_str("out")?;
+    Some(Request::Asm { file, out })
+}
+
+// The request of what clap found for `dis`.
+#[tactic(auto, using(crate::proofs::Lines::first_in_rows))]
+fn dis_in<'a>(found: &ArgMatches<'a>) -> Option<Request<'a>>
+    ensures { option_map asked_by result
+        ≡ option_map DisOf (first_of (codes "file") (rows_of (found_of found.now))) }
+{
+    let file = found.get_str("file")?;
+    Some(Request::Dis { file })
+}

@@ -10,6 +10,3 @@ pub use request_kind::Request;
 pub use requests::request;
 pub use rv_ledger::{Trap, Writes};
 pub use storage_call::{StorageCall, asked, ecall_charge};
-
-#[cfg(test)]
-mod tests;

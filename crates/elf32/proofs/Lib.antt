@@ -1,3 +1,4 @@
 pub mod Flags
 pub mod Sound
 pub mod Ascending
+pub mod Loads

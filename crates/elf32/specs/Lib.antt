@@ -4,3 +4,4 @@ pub mod Faults
 pub mod Readable
 pub mod Image
 pub mod Words
+pub mod Written

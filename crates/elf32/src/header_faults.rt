@@ -10,17 +10,17 @@ use crate::header::{
 };
 use crate::table::MAX_COUNT;
 
-const MAGIC: [u8; 4] = [0x7f, b'E', b'L', b'F'];
+pub(crate) const MAGIC: [u8; 4] = [0x7f, b'E', b'L', b'F'];
 
-const ELFCLASS32: u8 = 1;
+pub(crate) const ELFCLASS32: u8 = 1;
 
-const ELFDATA2LSB: u8 = 1;
+pub(crate) const ELFDATA2LSB: u8 = 1;
 
-const EV_CURRENT: u8 = 1;
+pub(crate) const EV_CURRENT: u8 = 1;
 
-const ET_EXEC: u16 = 2;
+pub(crate) const ET_EXEC: u16 = 2;
 
-const EM_RISCV: u16 = 243;
+pub(crate) const EM_RISCV: u16 = 243;
 
 #[tactic(auto, unfolding(crate::specs::Faults::is_truncated, crate::specs::Faults::has_bad_count))]
 pub(crate) fn is_truncated(bytes: &[u8]) -> bool

@@ -1,4 +1,5 @@
-//! Programs as ELF32 files: what a file stands for, or the least-numbered fault in it.
+//! Programs as ELF32 files: what a file stands for, or the least-numbered fault in it, and the file of an
+//! assembled program.
 #![tactic(auto)]
 
 pub mod error;
@@ -10,12 +11,11 @@ pub mod segment;
 mod segment_faults;
 mod table;
 pub mod words;
+pub mod writing;
 
 pub use error::ElfError;
 pub use image::Image;
 pub use reading::load;
 pub use segment::{Content, Rights, Segment};
 pub use words::PlacedWord;
-
-#[cfg(test)]
-mod tests;
+pub use writing::write;

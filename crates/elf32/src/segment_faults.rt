@@ -13,11 +13,11 @@ const INPUT_ADDRESS: u64 = 0x0010_0000;
 
 const PAGE_SIZE: u64 = 4096;
 
-const PF_X: u32 = 1;
+pub(crate) const PF_X: u32 = 1;
 
-const PF_W: u32 = 2;
+pub(crate) const PF_W: u32 = 2;
 
-const PF_R: u32 = 4;
+pub(crate) const PF_R: u32 = 4;
 
 impl ProgramHeader {
     pub(crate) fn has_execute(&self) -> bool

@@ -6,6 +6,3 @@ mod meter;
 
 pub use costs::cost;
 pub use meter::Meter;
-
-#[cfg(test)]
-mod tests;

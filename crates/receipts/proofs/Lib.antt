@@ -1,1 +1,4 @@
 pub mod Taken
+pub mod Cuts
+pub mod Fields
+pub mod OneText

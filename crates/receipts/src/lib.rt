@@ -1,13 +1,13 @@
 //! The text of a block's result, and writing it.
 #![tactic(auto)]
 
+mod laws;
 mod lines;
+mod ranges;
 mod text;
 mod write;
 
+pub use laws::{one_text, one_text_of};
 pub use lines::{bytes_text, end_name, regs_line, word_text};
 pub use text::result_text;
 pub use write::{WriteFault, write_outcome, write_whole};
-
-#[cfg(test)]
-mod tests;

@@ -12,6 +12,3 @@ mod products;
 
 pub use accesses::{address, extended};
 pub use execution::execute;
-
-#[cfg(test)]
-mod tests;

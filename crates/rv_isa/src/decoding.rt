@@ -12,6 +12,7 @@ use crate::fields::{
 use crate::tables::{condition, immediate_operation, load_kind, operation, shift, store_kind};
 
 /// The instruction whose word is `word`; `None` where there is none, which is an illegal word.
+#[inline(always)]
 #[tactic(auto, using(crate::proofs::Again::decoded_again), unfolding(crate::specs::Decoded::decoded))]
 pub fn decode(word: u32) -> Option<Instr>
     ensures word { (x : Instr) → (result ≡ Some x) ↔ (word_of x ≡ word) }
@@ -20,6 +21,7 @@ pub fn decode(word: u32) -> Option<Instr>
     decode_slots(word)
 }
 
+#[inline(always)]
 #[tactic(auto, unfolding(crate::specs::Decoding::instr_of))]
 fn decode_slots(word: u32) -> Option<Instr>
     ensures exact { result ≡ instr_of (slots_of word) }

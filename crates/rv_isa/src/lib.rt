@@ -19,6 +19,3 @@ pub use instruction::{
 pub use operands::{BranchOffset, Immediate, JumpOffset, ShiftAmount, Upper};
 pub use register::Reg;
 pub use registers::Regs;
-
-#[cfg(test)]
-mod tests;

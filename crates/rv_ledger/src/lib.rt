@@ -21,6 +21,3 @@ pub use receipt::Receipt;
 pub use short_bytes::{Output, ShortBytes, Value};
 pub use store::Store;
 pub use writes::{Write, Writes};
-
-#[cfg(test)]
-mod tests;

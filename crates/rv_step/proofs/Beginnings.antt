@@ -9,7 +9,8 @@ use Rattle.rv_step.specs.declared.machine.Machine.{Machine}
 use Rattle.rv_step.specs.declared.answer.Answer.{Answer}
 use Rattle.rv_step.specs.declared.stage.Stage.{Stage}
 use Rattle.rv_step.specs.declared.stage.Stage.TheVariants.{Running, Asked, Ended}
-use Rattle.rv_step.specs.Step.{Outcome, Next, Asks, Ends, step, answered}
+use Rattle.ecalls.specs.StorageCalls.{ecall_charge}
+use Rattle.rv_step.specs.Step.{Outcome, Next, Asks, Ends, step, answered, called}
 use Rattle.rv_step.specs.Does.{Does, stage_of}
 use Rattle.rv_step.specs.declared.pace.Pace.{Pace}
 use Rattle.rv_step.specs.declared.pace.Pace.TheVariants as pace
@@ -113,6 +114,26 @@ came_falls : (s t : Machine) (content : Option (List ℕ)) (came : Pace) → Doe
 came_falls s t content pace.Next did = let less : t.gas < s.gas = less_gas s.gas (answered s content) t (answered_falls s content) did in omega arith
 came_falls s t content (pace.Ask other) did = absurd (not_asked s content other did.0)
 came_falls s t content (pace.End end out) did = omega arith
+
+-- the storage call at which a machine stands is its step
+pub call_is_step : (s m t : Machine) (came : Pace) → (step s ≡ called s (ecall_charge s.regs)) × (m ≡ s) → Does (Ok came) (called m (ecall_charge m.regs)) m t → Does (Ok came) (step s) s t
+call_is_step s m t came found did = rw found.0 (subst (λ (x : Machine). Does (Ok came) (called x (ecall_charge x.regs)) x t) found.1 did)
+
+-- whatever a step comes to
+pub steps : (call : Invocation) (s t : Machine) (told : List Answer) (stage : Stage) (came : Pace) → IsSoFar (record { call = call; machine = s; told = told; stage = stage }) → is_running stage ≡ true → Does (Ok came) (step s) s t → IsSoFar (record { call = call; machine = t; told = told; stage = stage_of came })
+steps call s t told Running pace.Next so_far running did = steps_on call s told Running so_far running t did
+steps call s t told Running (pace.Ask key) so_far running did = rw did.1 (steps_to_ask call s told Running so_far running key did.0)
+steps call s t told Running (pace.End end out) so_far running did = steps_to_end call s told Running so_far running end out t did
+steps call s t told (Asked key) came so_far running did = cc
+steps call s t told (Ended end out) came so_far running did = cc
+
+-- it leaves fewer steps to come
+pub step_leaves_fewer : (s t : Machine) (stage : Stage) (came : Pace) → is_running stage ≡ true → Does (Ok came) (step s) s t → left_for t.gas (stage_of came) < left_for s.gas stage
+step_leaves_fewer s t Running pace.Next running did = next_leaves_fewer s t Running running did
+step_leaves_fewer s t Running (pace.Ask key) running did = let same : t.gas ≡ s.gas = ap (λ (m : Machine). m.gas) did.1 in omega arith
+step_leaves_fewer s t Running (pace.End end out) running did = omega arith
+step_leaves_fewer s t (Asked key) came running did = cc
+step_leaves_fewer s t (Ended end out) came running did = cc
 
 -- so does an answer
 pub answer_leaves_fewer : (s t : Machine) (stage : Stage) (key : List ℕ) (content : Option (List ℕ)) (came : Pace) → stage ≡ Asked key → Does (Ok came) (answered s content) s t → left_for t.gas (stage_of came) < left_for s.gas stage

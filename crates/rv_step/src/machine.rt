@@ -12,7 +12,7 @@ ghost use Rattle.ecalls.specs.StorageCalls.{ecall_charge, request_of};
 ghost use Rattle.rv_step.specs.declared.pace.Pace.TheVariants as pace;
 
 use crate::accesses::{number_at, store_number};
-use crate::pace::{Pace, is_asking, is_ecall, refusal, trap, trap_of};
+use crate::pace::{Beat, Pace, is_asking, is_ecall, refusal, trap, trap_of};
 use ecalls::requests::request;
 use ecalls::{Request, Trap, ecall_charge};
 use gas::{Meter, cost};
@@ -49,7 +49,7 @@ pub struct Machine {
 impl Machine {
     ghost use Rattle.rv_step.specs.Step.{Next, acted, address_of, answered, called, computes, delivered, goes_on, is_ecall, leaves, obeyed, read_own, served, step, takes, wrote};
     ghost use Rattle.rv_step.specs.Chain.{start};
-    ghost use Rattle.rv_step.specs.Does.{Does, is_asking};
+    ghost use Rattle.rv_step.specs.Does.{Acts, Beats, Does, is_asking};
 
     /// The machine of a call before its first instruction; refused where memory ran out.
     #[tactic(auto, unfolding(crate::specs::Chain::start))]
@@ -70,14 +70,15 @@ impl Machine {
         })
     }
 
-    /// One step: fetch, decode, charge, act. Refused where memory ran out, and then nothing changes.
+    /// One step: fetch, decode, charge, act; but an ECALL is only found. Refused where memory ran
+    /// out, and then nothing changes.
     #[tactic(auto, unfolding(crate::specs::Step::step))]
-    pub(crate) fn step(&mut self) -> Result<Pace, AllocError>
-        ensures { Does result (step self.old) self.old self.new }
+    pub(crate) fn beat(&mut self) -> Result<Beat, AllocError>
+        ensures { Beats result (step self.old) self.old self.new }
     {
         match self.memory.fetch(self.pc) {
             Ok(word) => self.obey(decode(word)),
-            Err(fault) => Ok(trap(trap_of(fault))),
+            Err(fault) => Ok(Beat::End(End::Trapped(trap_of(fault)))),
         }
     }
 
@@ -89,7 +90,7 @@ impl Machine {
     {
         let gas = self.gas;
         if !self.gas.charge(READ_CHARGE) {
-            return Ok(self.run_out());
+            return Ok(Pace::End(self.run_out(), Output::empty()));
         }
         match self.deliver(content) {
             Ok(pace) => Ok(self.unless_asked(gas, pace)),
@@ -112,30 +113,31 @@ impl Machine {
     }
 
     /// Ends the call for want of gas, all of which is spent.
-    fn run_out(&mut self) -> Pace
-        ensures pace { result ≡ pace.End OutOfGas [] }
+    fn run_out(&mut self) -> End
+        ensures end { result ≡ OutOfGas }
         ensures spent { self.new ≡ record self.old { gas = 0 } }
     {
         self.gas.spend_all();
-        Pace::End(End::OutOfGas, Output::empty())
+        End::OutOfGas
     }
 
-    /// Charges an instruction and does it; a word of none is a trap.
-    fn obey(&mut self, instr: Option<Instr>) -> Result<Pace, AllocError>
-        ensures { Does result (obeyed self.old instr) self.old self.new }
+    /// Charges an instruction and does it; a word of none is a trap, and an ECALL is only found.
+    fn obey(&mut self, instr: Option<Instr>) -> Result<Beat, AllocError>
+        ensures { Beats result (obeyed self.old instr) self.old self.new }
     {
         let Some(instr) = instr else {
-            return Ok(trap(Trap::Illegal));
+            return Ok(Beat::End(End::Trapped(Trap::Illegal)));
         };
         if is_ecall(&instr) {
-            return self.call();
+            return Ok(Beat::Call);
         }
         let gas = self.gas;
         if !self.gas.charge(cost(&instr)) {
-            return Ok(self.run_out());
+            return Ok(Beat::End(self.run_out()));
         }
         match self.act(&instr) {
-            Ok(pace) => Ok(self.unless_asked(gas, pace)),
+            Ok(None) => Ok(Beat::Next),
+            Ok(Some(end)) => Ok(Beat::End(end)),
             Err(refused) => {
                 self.gas = gas;
                 Err(refused)
@@ -143,8 +145,10 @@ impl Machine {
         }
     }
 
-    /// Charges a storage call and does it. An asking is not charged before its answer.
-    fn call(&mut self) -> Result<Pace, AllocError>
+    /// The storage call at which the machine stands: charges it and does it. An asking is not
+    /// charged before its answer. Refused where memory ran out, and then nothing changes.
+    #[inline(never)]
+    pub(crate) fn call(&mut self) -> Result<Pace, AllocError>
         ensures { Does result (called self.old (ecall_charge self.old.regs)) self.old self.new }
     {
         let cost = match ecall_charge(&self.regs) {
@@ -153,7 +157,7 @@ impl Machine {
         };
         let gas = self.gas;
         if !self.gas.charge(cost) {
-            return Ok(self.run_out());
+            return Ok(Pace::End(self.run_out(), Output::empty()));
         }
         match self.serve() {
             Ok(pace) => Ok(self.unless_asked(gas, pace)),
@@ -201,7 +205,8 @@ impl Machine {
             return Ok(trap(Trap::TooManyWrites));
         }
         self.own.insert(write)?;
-        Ok(self.go_on())
+        self.go_on();
+        Ok(Pace::Next)
     }
 
     /// Tells a READ's answer in a0 and copies the value into its buffer.
@@ -215,19 +220,20 @@ impl Machine {
             Some(value) => {
                 match self.memory.copy_in(self.regs.get(Reg::a1()), value.bytes()) {
                     Ok(()) => value.bytes().len() as u32,
-                    Err(fault) => return refusal(fault),
+                    Err(fault) => return Ok(Pace::End(refusal(fault)?, Output::empty())),
                 }
             }
         };
         self.regs.set(Reg::a0(), told);
-        Ok(self.go_on())
+        self.go_on();
+        Ok(Pace::Next)
     }
 
-    /// Does an instruction that is no ECALL.
+    /// Does an instruction that is no ECALL: None where the machine goes on, or how the call ends.
     #[tactic(auto, unfolding(crate::specs::Step::acted))]
-    fn act(&mut self, instr: &Instr) -> Result<Pace, AllocError>
+    fn act(&mut self, instr: &Instr) -> Result<Option<End>, AllocError>
         requires { is_ecall instr.now ≡ false }
-        ensures { Does result (acted instr.now self.old) self.old self.new }
+        ensures { Acts result (acted instr.now self.old) self.old self.new }
     {
         match *instr {
             Instr::Load {
@@ -242,36 +248,37 @@ impl Machine {
                 base,
                 offset,
             } => self.store(kind, source, base, offset),
-            Instr::Ebreak => Ok(trap(Trap::Breakpoint)),
+            Instr::Ebreak => Ok(Some(End::Trapped(Trap::Breakpoint))),
             _ => Ok(self.compute(instr)),
         }
     }
 
     /// Does an instruction that touches registers and the pc alone.
-    fn compute(&mut self, instr: &Instr) -> Pace
+    fn compute(&mut self, instr: &Instr) -> Option<End>
         requires { IsTrue (is_plain instr.now) }
-        ensures { Does (Ok result) (computes self.old (effect_of instr.now self.old.regs self.old.pc)) self.old self.new }
+        ensures { Acts (Ok result) (computes self.old (effect_of instr.now self.old.regs self.old.pc)) self.old self.new }
     {
         match execute(instr, &mut self.regs, self.pc) {
             Some(pc) => {
                 self.pc = pc;
-                Pace::Next
+                None
             }
-            None => trap(Trap::Misaligned),
+            None => Some(End::Trapped(Trap::Misaligned)),
         }
     }
 
     /// Does a load.
-    fn load(&mut self, kind: LoadKind, rd: Reg, base: Reg, offset: Immediate) -> Pace
-        ensures { Does (Ok result) (takes kind rd self.old (loaded (width_of kind) access.Read self.old.memory (address_of self.old base offset))) self.old self.new }
+    fn load(&mut self, kind: LoadKind, rd: Reg, base: Reg, offset: Immediate) -> Option<End>
+        ensures { Acts (Ok result) (takes kind rd self.old (loaded (width_of kind) access.Read self.old.memory (address_of self.old base offset))) self.old self.new }
     {
         let address = address(self.regs.get(base), offset);
         match number_at(&self.memory, kind, address) {
             Ok(number) => {
                 self.regs.set(rd, extended(kind, number));
-                self.go_on()
+                self.go_on();
+                None
             }
-            Err(fault) => trap(trap_of(fault)),
+            Err(fault) => Some(End::Trapped(trap_of(fault))),
         }
     }
 
@@ -282,23 +289,24 @@ impl Machine {
         source: Reg,
         base: Reg,
         offset: Immediate,
-    ) -> Result<Pace, AllocError>
-        ensures { Does result (leaves self.old self.old.regs (stored (store_width kind) self.old.memory (address_of self.old base offset) (held self.old.regs source))) self.old self.new }
+    ) -> Result<Option<End>, AllocError>
+        ensures { Acts result (leaves self.old self.old.regs (stored (store_width kind) self.old.memory (address_of self.old base offset) (held self.old.regs source))) self.old self.new }
     {
         let address = address(self.regs.get(base), offset);
         let value = self.regs.get(source);
         match store_number(&mut self.memory, kind, address, value) {
-            Ok(()) => Ok(self.go_on()),
-            Err(fault) => refusal(fault),
+            Ok(()) => {
+                self.go_on();
+                Ok(None)
+            }
+            Err(fault) => Ok(Some(refusal(fault)?)),
         }
     }
 
     /// Goes on to the next instruction.
-    fn go_on(&mut self) -> Pace
-        ensures pace { result ≡ pace.Next }
-        ensures after { goes_on self.old ≡ Next self.new }
+    fn go_on(&mut self)
+        ensures { goes_on self.old ≡ Next self.new }
     {
         self.pc = self.pc.wrapping_add(4);
-        Pace::Next
     }
 }

@@ -22,6 +22,18 @@ pub enum Pace {
     End(End, Output),
 }
 
+/// What one step comes to, but for the work of an ECALL, which is only found. It is small, since
+/// each instruction hands one up.
+#[derive(Clone, Copy, Debug, PartialEq, Eq)]
+pub enum Beat {
+    /// The machine goes on.
+    Next,
+    /// It stands at an ECALL.
+    Call,
+    /// The call ends, without an output.
+    End(End),
+}
+
 /// Whether the storage is asked.
 pub fn is_asking(pace: &Pace) -> bool
     ensures { result ≡ is_asking pace.now }
@@ -48,12 +60,12 @@ pub fn trap_of(fault: Fault) -> Trap
 }
 
 /// What a refused change of memory comes to: want of memory is no trap.
-pub fn refusal(fault: Fault) -> Result<Pace, AllocError>
+pub fn refusal(fault: Fault) -> Result<End, AllocError>
     ensures { result ≡ refusal_of fault }
 {
     match fault {
         Fault::Memory => Err(AllocError),
-        fault => Ok(trap(trap_of(fault))),
+        fault => Ok(End::Trapped(trap_of(fault))),
     }
 }
 

@@ -8,7 +8,7 @@ ghost use Rattle.rv_step.specs.Does.{stage_of};
 use crate::answer::Answer;
 use crate::ended_run::EndedRun;
 use crate::machine::Machine;
-use crate::pace::Pace;
+use crate::pace::{Beat, Pace};
 use crate::stage::Stage;
 use read_set::Origin;
 use rv_ledger::{Call, End, Key, Output, Receipt, Value};
@@ -80,10 +80,10 @@ impl Run {
         ensures fewer { OnOk result (steps_left self.new < steps_left self.old) }
         ensures err { OnErr result (self.new ≡ self.old) }
     {
-        match self.machine.step()? {
-            Pace::Next => {}
-            Pace::Ask(key) => self.stage = Stage::Asked(key),
-            Pace::End(end, out) => self.stage = Stage::Ended(end, out),
+        match self.machine.beat()? {
+            Beat::Next => {}
+            Beat::Call => self.stage = stage_of(self.machine.call()?),
+            Beat::End(end) => self.stage = Stage::Ended(end, Output::empty()),
         }
         Ok(())
     }

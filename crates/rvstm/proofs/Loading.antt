@@ -5,7 +5,7 @@ use Rattle.std.specs.Prelude.{Option, Some, None, Result, Ok, Err, IfSome}
 use Rattle.std.specs.Option.{option_map}
 use Rattle.elf32.specs.Layout.{Layout}
 use Rattle.rvstm.specs.declared.fault.Refusal.{Refusal}
-use Rattle.rvstm.specs.declared.fault.Refusal.TheVariants.{File, Block, Elf, Seq, Output}
+use Rattle.rvstm.specs.declared.fault.Refusal.TheVariants.{File, Block, Elf, Asm, Seq, Output}
 use Rattle.rvstm.specs.declared.fault.FileFault.TheVariants.{Unreadable, Unwritable, TooLong}
 use Rattle.rvstm.specs.Engine.{with_file, files_of, program_of, with_program, programs_of}
 use Rattle.rvstm.specs.Parts.{IsProgramFault}
@@ -40,6 +40,7 @@ met_fault all file more done (File Unreadable) h w = tt
 met_fault all file more done (File Unwritable) h w = w
 met_fault all file more done (File TooLong) h w = met all file more done (File TooLong) h w
 met_fault all file more done (Block fault) h w = w
+met_fault all file more done (Asm fault) h w = w
 met_fault all file more done (Seq fault) h w = w
 met_fault all file more done (Output fault) h w = w
 

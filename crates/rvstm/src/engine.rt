@@ -11,7 +11,7 @@ ghost use Rattle.rvstm.specs.Parts.{IsBlockFault, IsProgramFault};
 
 use crate::fault::{FileFault, Refusal, SeqFault};
 use crate::programs::Programs;
-use crate::reading::{ReadFault, read_whole};
+use crate::reading::{ReadFault, read_elf, read_whole};
 use block_file::{BlockFault, BlockText, CallLine, Cause, parse};
 use elf32::{ElfError, Image, load};
 use receipts::write_outcome;
@@ -21,9 +21,6 @@ use std::alloc::{AllocError, Global};
 use std::fmt::Display;
 use std::io::{Read, Write};
 use std::sync::Arc;
-
-/// The greatest length of a program file, in bytes.
-const PROGRAM_FILE_LIMIT: usize = 131_072;
 
 /// Reads a block file to its end and parses it, opens, reads and loads its programs in the order of
 /// their numbers, runs the calls in order and writes the result. The first refusal ends it.
@@ -148,12 +145,7 @@ fn read_program<P: Programs>(
     let Ok(mut file) = programs.open(path) else {
         return Err(Refusal::File(FileFault::Unreadable));
     };
-    match read_whole(alloc, &mut file, PROGRAM_FILE_LIMIT) {
-        Ok(bytes) => Ok(bytes),
-        Err(ReadFault::Memory) => Err(Refusal::Elf(ElfError::Memory)),
-        Err(ReadFault::TooLong) => Err(Refusal::File(FileFault::TooLong)),
-        Err(ReadFault::Unreadable) => Err(Refusal::File(FileFault::Unreadable)),
-    }
+    read_elf(alloc, &mut file)
 }
 
 /// Loads the program of a file of at most 131,072 bytes.

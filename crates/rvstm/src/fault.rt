@@ -3,6 +3,7 @@
 use block_file::BlockFault;
 use elf32::ElfError;
 use receipts::WriteFault;
+use rv_text::AsmError;
 use thiserror::Error;
 
 /// Why a file is refused.
@@ -27,8 +28,8 @@ pub enum SeqFault {
     Memory = 1,
 }
 
-/// Why a command is refused: the area, the refusal's name and its number; for a block file also the
-/// line.
+/// Why a command is refused: the area, the refusal's name and its number; for a block file and a
+/// source also the line.
 #[derive(Clone, Copy, Debug, PartialEq, Eq, Error)]
 pub enum Refusal {
     /// A file.
@@ -40,6 +41,9 @@ pub enum Refusal {
     /// A program's bytes.
     #[error("elf {0}")]
     Elf(ElfError),
+    /// The text of a source.
+    #[error("asm {0}")]
+    Asm(AsmError),
     /// The run in order.
     #[error("seq {0}")]
     Seq(SeqFault),

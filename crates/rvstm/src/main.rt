@@ -1,18 +1,23 @@
 //! The program `rvstm`: executes blocks of RV32IM contract calls.
 #![tactic(auto)]
 
+mod assembling;
 mod disk;
 mod engine;
 mod fault;
+mod listing;
 mod programs;
 mod reading;
 #[cfg(test)]
 mod tests;
 
+use crate::assembling::file_of_source;
 use crate::disk::Disk;
 use crate::engine::{report, seq_to};
 use crate::fault::{FileFault, Refusal};
+use crate::listing::dis_to;
 use cmdline::{Request, request_of};
+use receipts::write_whole;
 use std::io::Write;
 use std::process::ExitCode;
 use std::rt::{Env, Files};
@@ -57,6 +62,8 @@ where
 {
     let done = match request {
         Request::Seq { file } => seq(rt, file),
+        Request::Asm { file, out } => asm(rt, file, out),
+        Request::Dis { file } => dis(rt, file),
     };
     match done {
         Ok(()) => 0,
@@ -78,4 +85,33 @@ where
         &mut Disk { rt },
         &mut io::writer(rt),
     )
+}
+
+/// Assembles a source and writes its ELF file, which is made only where there is no fault.
+fn asm<R>(rt: &R, file: &str, out: &str) -> Result<(), Refusal>
+where
+    R: Files + AllocGlobal,
+{
+    let Ok(mut source) = fs::open(rt, file) else {
+        return Err(Refusal::File(FileFault::Unreadable));
+    };
+    let bytes = file_of_source(rt.alloc(), &mut source)?;
+    let Ok(mut out) = fs::create(rt, out) else {
+        return Err(Refusal::File(FileFault::Unwritable));
+    };
+    match write_whole(bytes.as_slice(), &mut out) {
+        Ok(()) => Ok(()),
+        Err(_) => Err(Refusal::File(FileFault::Unwritable)),
+    }
+}
+
+/// Prints the instructions of an ELF file.
+fn dis<R>(rt: &R, file: &str) -> Result<(), Refusal>
+where
+    R: Files + Print + AllocGlobal,
+{
+    let Ok(mut file) = fs::open(rt, file) else {
+        return Err(Refusal::File(FileFault::Unreadable));
+    };
+    dis_to(rt.alloc(), &mut file, &mut io::writer(rt))
 }

@@ -1,9 +1,17 @@
 //! Reading files to their ends.
 
 ghost use Rattle.std.specs.Prelude.{◌≡◌, ◌<◌, ◌≤◌, length, vec_len, IfOk, IfErr, IfSome, Option, Some};
+ghost use Rattle.std.specs.Option.{option_map};
+ghost use Rattle.rvstm.specs.Engine.{program_of};
+ghost use Rattle.rvstm.specs.Parts.{IsProgramFault};
 
+use crate::fault::{FileFault, Refusal};
+use elf32::ElfError;
 use std::alloc::Global;
 use std::io::Read;
+
+/// The greatest length of a program file, in bytes.
+const PROGRAM_FILE_LIMIT: usize = 131_072;
 
 /// Why a file is not read.
 #[derive(Clone, Copy, Debug, PartialEq, Eq)]
@@ -43,4 +51,18 @@ pub fn read_whole<R: Read>(
         }
     }
     Err(ReadFault::Unreadable)
+}
+
+/// All the bytes that a reader of a program file has left, at most 131,072.
+pub fn read_elf<R: Read>(alloc: Global, reader: &mut R) -> Result<Vec<u8>, Refusal>
+    ensures ok { IfOk result (λ v. IfSome (R.remaining reader.old) (λ bytes. v.items ≡ bytes)) }
+    ensures short { IfOk result (λ v. vec_len v ≤ 131072) }
+    ensures err { IfErr result (λ e. IsProgramFault (option_map program_of (R.remaining reader.old)) e) }
+{
+    match read_whole(alloc, reader, PROGRAM_FILE_LIMIT) {
+        Ok(bytes) => Ok(bytes),
+        Err(ReadFault::Memory) => Err(Refusal::Elf(ElfError::Memory)),
+        Err(ReadFault::TooLong) => Err(Refusal::File(FileFault::TooLong)),
+        Err(ReadFault::Unreadable) => Err(Refusal::File(FileFault::Unreadable)),
+    }
 }

@@ -3,7 +3,9 @@
 ghost use Rattle.std.specs.Prelude.{None};
 
 mod failing;
+mod outside;
 mod rows;
+mod sources;
 
 use crate::engine::{report, seq_to};
 use crate::fault::{FileFault, Refusal};

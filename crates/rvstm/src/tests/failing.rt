@@ -11,9 +11,11 @@ use std::test::Fail;
 
 /// A reader of which a read fails: it gives one byte a read.
 #[derive(Drop)]
-struct FailingReader<'a> {
-    bytes: &'a [u8],
-    reads: usize,
+pub struct FailingReader<'a> {
+    /// What it has left.
+    pub bytes: &'a [u8],
+    /// How many reads succeed.
+    pub reads: usize,
 }
 
 impl Read for FailingReader<'_> {
@@ -35,10 +37,13 @@ impl Read for FailingReader<'_> {
 
 /// A writer that takes one byte a write, so many times, and then fails or takes nothing.
 #[derive(Drop)]
-struct FailingWriter {
-    taken: Vec<u8>,
-    left: usize,
-    fails: bool,
+pub struct FailingWriter {
+    /// What it took.
+    pub taken: Vec<u8>,
+    /// How many bytes it takes yet.
+    pub left: usize,
+    /// Whether it fails then, or takes nothing.
+    pub fails: bool,
 }
 
 impl Write for FailingWriter {

@@ -1,0 +1,23 @@
+//! What the answers to one text have in common.
+
+ghost use Rattle.std.specs.Prelude.{◌≡◌, List, Result, Vec, ℕ};
+ghost use Rattle.std.specs.declared.alloc.Global.{Global};
+ghost use Rattle.block_file.specs.declared.block_text.BlockText.{BlockText};
+ghost use Rattle.block_file.specs.declared.fault.BlockFault.{BlockFault};
+ghost use Rattle.block_file.specs.Answer.{HadMemory, Reads, said};
+ghost use Rattle.block_file.specs.Block.{block_of, block_value};
+ghost use Rattle.block_file.specs.Schedule.{schedule_of};
+
+/// A law, and no code: a block file has one reading, and so has a schedule file. Any two answers to
+/// the same bytes that are not want of memory say the same: one value or one fault.
+pub fn one_reading()
+    ensures block { (bytes : List ℕ) (first second : Result BlockText BlockFault)
+        → Reads block_value first (block_of bytes) → Reads block_value second (block_of bytes)
+        → HadMemory first → HadMemory second
+        → said block_value first ≡ said block_value second }
+    ensures schedule { (bytes : List ℕ) (first second : Result (Vec ℕ Global) BlockFault)
+        → Reads (λ entries. entries.items) first (schedule_of bytes)
+        → Reads (λ entries. entries.items) second (schedule_of bytes)
+        → HadMemory first → HadMemory second
+        → said (λ entries. entries.items) first ≡ said (λ entries. entries.items) second }
+{}

@@ -1,0 +1,278 @@
+use elf32::*;
+use rv_program::Program;
+use std::alloc::{AllocError, Global};
+use std::test::Fail;
+
+// A program of two instructions, `li a7, 3` and `ecall`, in one segment.
+const ECHO: [u8; 92] = [
+    0x7f, 0x45, 0x4c, 0x46, 1, 1, 1, 0, 0, 0, 0, 0, 0, 0, 0, 0, // e_ident
+    2, 0, 0xf3, 0, 1, 0, 0, 0, 0, 0, 1, 0, 0x34, 0, 0, 0, // e_type to e_phoff
+    0, 0, 0, 0, 0, 0, 0, 0, 0x34, 0, 0x20, 0, 1, 0, 0, 0, // e_shoff to e_shentsize
+    0, 0, 0, 0, // e_shnum, e_shstrndx
+    1, 0, 0, 0, 0x54, 0, 0, 0, 0, 0, 1, 0, 0, 0, 1, 0, // p_type to p_paddr
+    8, 0, 0, 0, 8, 0, 0, 0, 5, 0, 0, 0, 4, 0, 0, 0, // p_filesz to p_align
+    0x93, 0x08, 0x30, 0, 0x73, 0, 0, 0, // text
+];
+
+// The same with a second segment: 4,096 readable and writable bytes at 0x000ff000, none in the file.
+const TWO_SEGMENTS: [u8; 124] = [
+    0x7f, 0x45, 0x4c, 0x46, 1, 1, 1, 0, 0, 0, 0, 0, 0, 0, 0, 0, // e_ident
+    2, 0, 0xf3, 0, 1, 0, 0, 0, 0, 0, 1, 0, 0x34, 0, 0, 0, // e_type to e_phoff
+    0, 0, 0, 0, 0, 0, 0, 0, 0x34, 0, 0x20, 0, 2, 0, 0, 0, // e_shoff to e_shentsize
+    0, 0, 0, 0, // e_shnum, e_shstrndx
+    1, 0, 0, 0, 0x74, 0, 0, 0, 0, 0, 1, 0, 0, 0, 1, 0, // text: p_type to p_paddr
+    8, 0, 0, 0, 8, 0, 0, 0, 5, 0, 0, 0, 4, 0, 0, 0, // p_filesz to p_align
+    1, 0, 0, 0, 0x74, 0, 0, 0, 0, 0xf0, 0x0f, 0, 0, 0, 0, 0, // memory: p_type to p_paddr
+    0, 0, 0, 0, 0, 0x10, 0, 0, 6, 0, 0, 0, 4, 0, 0, 0, // p_filesz to p_align
+    0x93, 0x08, 0x30, 0, 0x73, 0, 0, 0, // text
+];
+
+// What `load` refuses the bytes with, if it does.
+fn refusal(alloc: Global, bytes: &[u8]) -> Option<ElfError> {
+    match load(alloc, bytes) {
+        Ok(_) => None,
+        Err(error) => Some(error),
+    }
+}
+
+// The file with the byte at each of these places replaced.
+fn changed(alloc: Global, file: &[u8], changes: &[(usize, u8)]) -> Result<Vec<u8>, AllocError> {
+    let mut bytes = Vec::from_slice(alloc, file)?;
+    for (at, byte) in changes {
+        if *at < bytes.len() {
+            bytes[*at] = *byte;
+        }
+    }
+    Ok(bytes)
+}
+
+#[test]
+fn echo_loads(rt: HostRuntime) -> Result<(), Fail> {
+    let image = load(rt.alloc(), &ECHO)?;
+    assert_eq!(rt; image.entry(), 65536);
+    assert_eq!(rt; image.segments().len(), 1);
+    let segment = &image.segments()[0];
+    assert_eq!(rt; segment.address, 65536);
+    assert_eq!(rt; segment.size, 8);
+    let rights = Rights {
+        readable: true,
+        writable: false,
+        executable: true,
+    };
+    assert_eq!(rt; segment.rights, rights);
+    assert_eq!(rt; segment.content.bytes(), &ECHO[84..]);
+    let words = image.words(rt.alloc())?;
+    let expected = [
+        PlacedWord {
+            address: 65536,
+            word: 0x0030_0893,
+        },
+        PlacedWord {
+            address: 65540,
+            word: 0x0000_0073,
+        },
+    ];
+    assert_eq!(rt; words.as_slice(), expected.as_slice());
+    Ok(())
+}
+
+#[test]
+fn short_files(rt: HostRuntime) -> Result<(), Fail> {
+    for len in 0..84 {
+        assert_eq!(rt;
+            refusal(rt.alloc(), &ECHO[..len]),
+            Some(ElfError::Truncated),
+            "at {len}"
+        );
+    }
+    for len in 84..92 {
+        assert_eq!(rt;
+            refusal(rt.alloc(), &ECHO[..len]),
+            Some(ElfError::SegmentRange),
+            "at {len}"
+        );
+    }
+    let no_headers = changed(rt.alloc(), &ECHO[..52], &[(44, 0)])?;
+    assert_eq!(rt; refusal(rt.alloc(), &no_headers), Some(ElfError::BadCount));
+    let far_table = [(28, 0xff), (29, 0xff), (30, 0xff), (31, 0xff)];
+    let far_table = changed(rt.alloc(), &ECHO, &far_table)?;
+    assert_eq!(rt; refusal(rt.alloc(), &far_table), Some(ElfError::Truncated));
+    Ok(())
+}
+
+#[test]
+fn memory_only_segment(rt: HostRuntime) -> Result<(), Fail> {
+    let image = load(rt.alloc(), &TWO_SEGMENTS)?;
+    assert_eq!(rt; image.segments().len(), 2);
+    let segment = &image.segments()[1];
+    assert_eq!(rt; segment.address, 0x000f_f000);
+    assert_eq!(rt; segment.size, 4096);
+    assert_eq!(rt; segment.content.bytes().len(), 0);
+    assert_eq!(rt; image.words(rt.alloc())?.len(), 2);
+    let longer = changed(rt.alloc(), &TWO_SEGMENTS, &[(104, 1)])?;
+    assert_eq!(rt; refusal(rt.alloc(), &longer), Some(ElfError::SegmentRange));
+    Ok(())
+}
+
+#[test]
+fn one_field_changed(rt: HostRuntime) -> Result<(), Fail> {
+    let table = [
+        (0, 0x7e, Some(ElfError::BadMagic)),
+        (3, 0x47, Some(ElfError::BadMagic)),
+        (4, 2, Some(ElfError::BadClassOrData)),
+        (5, 2, Some(ElfError::BadClassOrData)),
+        (6, 0, Some(ElfError::BadVersion)),
+        (7, 9, None), // ignored
+        (16, 3, Some(ElfError::NotExec)),
+        (18, 0xf2, Some(ElfError::NotRiscv)),
+        (20, 2, Some(ElfError::BadVersion)),
+        (24, 4, None), // the last word
+        (24, 2, Some(ElfError::BadEntry)),
+        (24, 8, Some(ElfError::BadEntry)),
+        (25, 0x80, Some(ElfError::BadEntry)),
+        (32, 1, None), // e_shoff
+        (36, 1, Some(ElfError::BadFlags)),
+        (40, 51, Some(ElfError::BadHeaderSize)),
+        (42, 31, Some(ElfError::BadHeaderSize)),
+        (44, 0, Some(ElfError::BadCount)),
+        (44, 2, Some(ElfError::Truncated)),
+        (44, 9, Some(ElfError::BadCount)),
+        (52, 2, Some(ElfError::BadType)),
+        (52, 0, Some(ElfError::BadEntry)), // PT_NULL: no segment
+        (56, 0x55, Some(ElfError::SegmentRange)),
+        (62, 0, Some(ElfError::SegmentRange)),
+        (62, 0x10, Some(ElfError::SegmentRange)),
+        (64, 1, None), // p_paddr
+        (68, 9, Some(ElfError::SegmentRange)),
+        (72, 7, Some(ElfError::SegmentRange)),
+        (76, 1, None), // PF_X alone
+        (76, 4, Some(ElfError::BadEntry)),
+        (76, 13, None), // another bit
+        (76, 7, Some(ElfError::WriteExecute)),
+        (80, 1, None), // p_align
+    ];
+    for (at, byte, expected) in table {
+        let bytes = changed(rt.alloc(), &ECHO, &[(at, byte)])?;
+        assert_eq!(rt; refusal(rt.alloc(), &bytes), expected, "{byte} at {at}");
+    }
+    Ok(())
+}
+
+#[test]
+fn two_segments_changed(rt: HostRuntime) -> Result<(), Fail> {
+    let table = [
+        // the second segment at 0x00010000, 0x00010f00 and 0x00011000
+        (
+            [(93, 0x00), (94, 0x01), (95, 0)],
+            Some(ElfError::PageShared),
+        ),
+        (
+            [(93, 0x0f), (94, 0x01), (95, 0)],
+            Some(ElfError::PageShared),
+        ),
+        ([(93, 0x10), (94, 0x01), (95, 0)], None),
+        // the first at 0x000fff00
+        (
+            [(61, 0xff), (62, 0x0f), (63, 0)],
+            Some(ElfError::SegmentOrder),
+        ),
+        // the second with p_memsz 0, which has no address, and still a range, an order and rights
+        ([(93, 0x00), (94, 0x01), (105, 0)], None),
+        (
+            [(93, 0xff), (94, 0x00), (105, 0)],
+            Some(ElfError::SegmentRange),
+        ),
+        ([(88, 0x7c), (89, 0x00), (105, 0)], None),
+        (
+            [(88, 0x7d), (89, 0x00), (105, 0)],
+            Some(ElfError::SegmentRange),
+        ),
+        (
+            [(61, 0xff), (62, 0x0f), (105, 0)],
+            Some(ElfError::SegmentOrder),
+        ),
+        ([(108, 7), (109, 0), (105, 0)], Some(ElfError::WriteExecute)),
+    ];
+    for (changes, expected) in table {
+        let bytes = changed(rt.alloc(), &TWO_SEGMENTS, &changes)?;
+        assert_eq!(rt; refusal(rt.alloc(), &bytes), expected, "{changes:?}");
+    }
+    Ok(())
+}
+
+// The program of these sections, which fit.
+fn program(alloc: Global, text: &[u32], data: &[u8]) -> Result<Program, Fail> {
+    let text = Vec::from_slice(alloc, text)?;
+    match Program::new(text, Vec::from_slice(alloc, data)?) {
+        Some(program) => Ok(program),
+        None => Err(Fail::from("the sections are too large")),
+    }
+}
+
+#[test]
+fn writes_echo(rt: HostRuntime) -> Result<(), Fail> {
+    let echo = program(rt.alloc(), &[0x0030_0893, 0x0000_0073], &[])?;
+    let file = write(rt.alloc(), &echo)?;
+    assert_eq!(rt; file.as_slice(), ECHO.as_slice());
+    Ok(())
+}
+
+// The words of `li x1,buf` and `loop: bne x1,x0,loop` and the data of `buf: .word 7`.
+#[test]
+fn four_lines(rt: HostRuntime) -> Result<(), Fail> {
+    let words = [0x0002_00b7, 0x0000_8093, 0x0000_9063];
+    let bytes = [7, 0, 0, 0];
+    let file = write(rt.alloc(), &program(rt.alloc(), &words, &bytes)?)?;
+    assert_eq!(rt; file.len(), 132);
+    let image = load(rt.alloc(), file.as_slice())?;
+    assert_eq!(rt; image.entry(), 0x0001_0000);
+    let placed = image.words(rt.alloc())?;
+    assert_eq!(rt; placed.len(), 3);
+    for (n, word) in words.iter().enumerate() {
+        assert_eq!(rt; placed[n].word, *word);
+    }
+    assert_eq!(rt; image.segments().len(), 2);
+    let segment = &image.segments()[1];
+    assert_eq!(rt; segment.address, 0x0002_0000);
+    assert_eq!(rt; segment.content.bytes(), bytes.as_slice());
+    Ok(())
+}
+
+#[test]
+fn no_text(rt: HostRuntime) -> Result<(), Fail> {
+    let program = program(rt.alloc(), &[], &[1])?;
+    match write(rt.alloc(), &program) {
+        Ok(_) => Err(Fail::from("a program without text words is written")),
+        Err(error) => {
+            assert_eq!(rt; error, ElfError::BadEntry);
+            Ok(())
+        }
+    }
+}
+
+#[test]
+fn texts(rt: HostRuntime) -> Result<(), Fail> {
+    let table = [
+        (ElfError::Truncated, "Truncated 1"),
+        (ElfError::BadMagic, "BadMagic 2"),
+        (ElfError::BadClassOrData, "BadClassOrData 3"),
+        (ElfError::BadVersion, "BadVersion 4"),
+        (ElfError::NotExec, "NotExec 5"),
+        (ElfError::NotRiscv, "NotRiscv 6"),
+        (ElfError::BadFlags, "BadFlags 7"),
+        (ElfError::BadHeaderSize, "BadHeaderSize 8"),
+        (ElfError::BadCount, "BadCount 9"),
+        (ElfError::BadType, "BadType 10"),
+        (ElfError::SegmentRange, "SegmentRange 11"),
+        (ElfError::SegmentOrder, "SegmentOrder 12"),
+        (ElfError::PageShared, "PageShared 13"),
+        (ElfError::WriteExecute, "WriteExecute 14"),
+        (ElfError::BadEntry, "BadEntry 15"),
+        (ElfError::Memory, "Memory 16"),
+    ];
+    for (error, expected) in table {
+        let text = format!(in rt.alloc(); "{error}")?;
+        assert_eq!(rt; text.as_str(), expected);
+    }
+    Ok(())
+}

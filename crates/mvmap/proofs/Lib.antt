@@ -1,0 +1,7 @@
+pub mod Readings
+pub mod Places
+pub mod Changes
+pub mod Fills
+pub mod Seeks
+pub mod Storages
+pub mod Layings

@@ -1,0 +1,6 @@
+pub mod Versions
+pub mod Reading
+pub mod Laws
+pub mod Table
+pub mod Answers
+pub mod Slots

@@ -1,0 +1,55 @@
+-- How a map of slots tells the versions; for `MvMap`'s view and private functions alone.
+use Rattle.std.specs.Prelude.{◌≡◌, ◌<◌, ◌⊎◌, ℕ, List, [], ◌∷◌, length, Option, None, Some, slice_get, if◌then◌else◌}
+use Rattle.std.specs.Option.{option_map}
+use Rattle.std.specs.Map.{lookup, keys_of}
+use Rattle.std.specs.BTreeMap.{is_at}
+use Rattle.std.specs.FinMap.{empty}
+use Rattle.std.specs.Ordering.{eq_by_cmp}
+use Rattle.rv_ledger.specs.Key.{key_cmp}
+use Rattle.std.specs.FinSet.{FinSet, from_list}
+use Rattle.version_arena.specs.Shelf.{Record}
+use Rattle.mvmap.specs.Versions.{Entry, Stands, Estimate, Place, Versions, changed, place_cmp}
+use Rattle.mvmap.specs.declared.slot.Slot.{Slot}
+use Rattle.mvmap.specs.declared.slot.Slot.TheVariants as slot
+
+-- slots, by their places in order
+abbrev pub Slots : Type 0
+Slots = List (Place × Slot)
+
+-- the slot at a place
+abbrev pub slot_at : Slots → Place → Option Slot
+slot_at slots place = lookup (is_at (place_cmp place)) slots
+
+-- the entry that a slot stands for among the records
+abbrev pub entry_of : List Record → Slot → Option Entry
+entry_of records slot.Vacant = None
+entry_of records slot.Estimate = Some Estimate
+entry_of records (slot.Placed id) = option_map (λ r. Stands r.incarnation r.content) (slice_get records id)
+
+-- the versions that slots stand for
+abbrev pub versions_of : List Record → Slots → Versions
+versions_of records [] = empty
+versions_of records (s ∷ slots) = changed (versions_of records slots) s.0 (entry_of records s.1)
+
+-- the places that have a slot
+abbrev pub places_of : Slots → FinSet place_cmp
+places_of slots = from_list (keys_of slots)
+
+-- each slot that names a record names one of these
+abbrev pub ArePlaced : List Record → Slots → Type 0
+ArePlaced records slots = (place : Place) (id : ℕ) → slot_at slots place ≡ Some (slot.Placed id) → id < length records
+
+-- where a slot is there before, the same one is there after; elsewhere there is none or a vacant one
+abbrev pub IsOpened : Slots → Slots → Type 0
+IsOpened old new = (place : Place) → (slot_at new place ≡ slot_at old place) ⊎ ((slot_at old place ≡ None) × (slot_at new place ≡ Some slot.Vacant))
+
+-- what a key holds once an entry is laid over it
+abbrev pub over : Option (List ℕ) → Option Entry → Option (List ℕ)
+over base None = base
+over base (Some (Stands incarnation content)) = content
+over base (Some Estimate) = base
+
+-- what a key holds once the slots at it are laid over it in turn
+abbrev pub laid : List Record → Slots → List ℕ → Option (List ℕ) → Option (List ℕ)
+laid records [] key base = base
+laid records (s ∷ slots) key base = laid records slots key (if eq_by_cmp key_cmp key s.0.0 then over base (entry_of records s.1) else base)

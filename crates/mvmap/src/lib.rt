@@ -1,0 +1,19 @@
+//! The multi-version map of one block: for each key what each call's run wrote to it, so that a
+//! call sees what the calls before it wrote.
+#![tactic(auto)]
+
+pub mod answer;
+mod laws;
+pub mod map;
+mod seek;
+mod slot;
+mod snapshot;
+
+pub use answer::{Answer, Version};
+pub use laws::{
+    blocks_on_lower_writers, changes_no_standing_read, depends_on_lower_writers, names_what_stands,
+};
+pub use map::MvMap;
+
+#[cfg(test)]
+mod tests;

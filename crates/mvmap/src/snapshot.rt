@@ -1,0 +1,58 @@
+//! The storage after a block.
+
+ghost use Rattle.std.specs.Prelude.{◌≡◌, ◌≤◌, ℕ, IfSome, List, OnOk, cond, length};
+ghost use Rattle.std.specs.FinMap as map;
+ghost use Rattle.std.specs.Option.{option_copied};
+ghost use Rattle.std.specs.List.Sorted.{IsStrictlySortedBy};
+ghost use Rattle.std.specs.Map.{keys_of};
+ghost use Rattle.std.specs.Ordering.{eq_by_cmp};
+ghost use Rattle.rv_ledger.specs.Key.{key_cmp};
+ghost use Rattle.mvmap.specs.Versions.{place_cmp};
+ghost use Rattle.mvmap.specs.Slots.{entry_of, laid, over};
+
+use crate::slot::{Slot, Slots};
+use rv_ledger::short_bytes::VALUE_LIMIT;
+use rv_ledger::{Key, Store, Value};
+use std::alloc::AllocError;
+use version_arena::Arena;
+
+/// Lays the versions over a storage in the order of keys and writers; where memory ran out the
+/// storage is to be dropped.
+pub(crate) fn lay_all(slots: &Slots, arena: &Arena, store: &mut Store) -> Result<(), AllocError>
+    ensures laid { OnOk result ((key : List ℕ) → map.get store.new key ≡ laid arena.now.records slots.now.entries key (map.get store.old key)) }
+    ensures ordered { OnOk result (IsStrictlySortedBy place_cmp (keys_of slots.now.entries)) }
+{
+    for ((key, _), slot) in slots {
+        lay(slot, arena, key, store)?;
+    }
+    Ok(())
+}
+
+/// Lays what a slot holds over a storage; where memory ran out the storage is to be dropped.
+fn lay(slot: &Slot, arena: &Arena, key: &Key, store: &mut Store) -> Result<(), AllocError>
+    ensures { OnOk result ((k : List ℕ) → map.get store.new k ≡ cond (eq_by_cmp key_cmp k key.now) (over (map.get store.old k) (entry_of arena.now.records slot.now)) (map.get store.old k)) }
+{
+    let Slot::Placed(id) = slot else {
+        return Ok(());
+    };
+    let Some(record) = arena.get(*id) else {
+        return Ok(());
+    };
+    write(key, record.content, store)
+}
+
+/// Sets the value of a key, or takes the key out where there is none; where memory ran out the
+/// storage is to be dropped.
+fn write(key: &Key, content: Option<&[u8]>, store: &mut Store) -> Result<(), AllocError>
+    requires { IfSome content (λ bytes. length bytes.now ≤ VALUE_LIMIT) }
+    ensures { OnOk result ((k : List ℕ) → map.get store.new k ≡ cond (eq_by_cmp key_cmp k key.now) (option_copied content.entry) (map.get store.old k)) }
+{
+    let Some(bytes) = content else {
+        store.remove(key);
+        return Ok(());
+    };
+    if let Some(value) = Value::of(bytes) {
+        store.insert(*key, value)?;
+    }
+    Ok(())
+}

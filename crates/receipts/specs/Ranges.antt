@@ -1,0 +1,36 @@
+-- The ranges of the numbers in what a result says: of 32 bits, and bytes.
+use Rattle.std.specs.Prelude.{ℕ, ◌<◌, ◌^◌, List, All, IfSome, Option}
+use Rattle.std.specs.FinMap.{entries}
+use Rattle.rv_ledger.specs.Key.{Storage}
+use Rattle.rv_ledger.specs.declared.receipt.Receipt.{Receipt}
+
+-- every number is a byte
+abbrev pub AreBytes : List ℕ → Type 0
+AreBytes numbers = All (λ n. n < 256) numbers
+
+-- every number has 32 bits
+abbrev pub AreWords : List ℕ → Type 0
+AreWords numbers = All (λ n. n < 2 ^ 32) numbers
+
+-- a key of bytes, and a value of bytes or a removal
+pub record IsWriteInRange (write : List ℕ × Option (List ℕ)) : Type 0 where
+  pub key : AreBytes write.0
+  pub content : IfSome write.1 AreBytes
+
+-- a key and a value of bytes
+pub record IsEntryInRange (entry : List ℕ × List ℕ) : Type 0 where
+  pub key : AreBytes entry.0
+  pub value : AreBytes entry.1
+
+-- gas, pc and registers have 32 bits, and output, keys and values are bytes
+pub record IsInRange (receipt : Receipt) : Type 0 where
+  pub gas : receipt.gas < 2 ^ 32
+  pub pc : receipt.pc < 2 ^ 32
+  pub out : AreBytes receipt.out
+  pub regs : AreWords receipt.regs
+  pub writes : All IsWriteInRange (entries receipt.writes)
+
+-- the ranges of some receipts and of a storage
+pub record AreInRange (receipts : List Receipt) (store : Storage) : Type 0 where
+  pub each_receipt : All IsInRange receipts
+  pub each_entry : All IsEntryInRange (entries store)

@@ -1,0 +1,81 @@
+//! The ranges of the numbers in a result, which its types keep.
+
+ghost use Rattle.std.specs.Prelude.{All, IfSome};
+ghost use Rattle.std.specs.FinMap.{entries};
+ghost use Rattle.receipts.specs.Ranges.{AreBytes, AreInRange, AreWords, IsEntryInRange, IsInRange, IsWriteInRange};
+
+use rv_ledger::{Key, Receipt, Store, Value, Writes};
+
+// The numbers of a byte slice are bytes.
+fn are_bytes(_bytes: &[u8])
+    ensures { AreBytes _bytes.now }
+{}
+
+// The numbers of a slice of words have 32 bits.
+fn are_words(_words: &[u32])
+    ensures { AreWords _words.now }
+{}
+
+// A write's key and value are bytes.
+fn is_write_in_range(key: &Key, content: &Option<Value>)
+    ensures { IsWriteInRange (key.now, content.now) }
+{
+    are_bytes(key.bytes().as_slice());
+    if let Some(value) = content {
+        are_bytes(value.bytes());
+    }
+}
+
+// So are those of all writes of a call.
+fn are_writes_in_range(writes: &Writes)
+    ensures { All IsWriteInRange (entries writes.now) }
+{
+    for (key, content) in writes.iter() {
+        is_write_in_range(key, content);
+    }
+}
+
+// The numbers of a receipt have their ranges.
+fn is_in_range(receipt: &Receipt)
+    ensures { IsInRange receipt.now }
+{
+    let _gas = receipt.gas;
+    let _pc = receipt.pc;
+    are_bytes(receipt.out.bytes());
+    are_words(receipt.regs.values().as_slice());
+    are_writes_in_range(&receipt.writes);
+}
+
+// A key and a value of the storage are bytes.
+fn is_entry_in_range(key: &Key, value: &Value)
+    ensures { IsEntryInRange (key.now, value.now) }
+{
+    are_bytes(key.bytes().as_slice());
+    are_bytes(value.bytes());
+}
+
+// So are all of the storage.
+fn is_store_in_range(store: &Store)
+    ensures { All IsEntryInRange (entries store.now) }
+{
+    for (key, value) in store.iter() {
+        is_entry_in_range(key, value);
+    }
+}
+
+// The numbers of all receipts have their ranges.
+fn all_in_range(receipts: &[Receipt])
+    ensures { All IsInRange receipts.now }
+{
+    for receipt in receipts {
+        is_in_range(receipt);
+    }
+}
+
+// The numbers of a result have their ranges.
+pub(crate) fn are_in_range(receipts: &[Receipt], store: &Store)
+    ensures { AreInRange receipts.now store.now }
+{
+    all_in_range(receipts);
+    is_store_in_range(store);
+}

@@ -1,0 +1,60 @@
+-- What a line of source says.
+use Rattle.std.specs.Prelude.{ℕ, ◌==◌, Bool, List, length, Option, Some, None, Result, Ok, Err, if◌then◌else◌}
+use Rattle.std.specs.List.{list_any, before_first, after_first}
+use Rattle.std.specs.Option.{ok_or, option_map}
+use Rattle.rv_names.specs.Operands.{◌>>=◌, is_blank, trimmed, is_name}
+use Rattle.rv_names.specs.Mnemonics.{shape_of}
+use Rattle.rv_names.specs.Statements.{Said, saying, statement_of}
+use Rattle.rv_names.specs.declared.shapes.Shape.{Shape}
+use Rattle.rv_names.specs.declared.lines.Section.{Section}
+use Rattle.rv_names.specs.declared.lines.Cause.{Cause}
+use Rattle.rv_names.specs.declared.lines.Cause.TheVariants.{UnknownMnemonic, BadOperand}
+use Rattle.rv_names.specs.declared.lines.Line.{Line}
+use Rattle.rv_names.specs.declared.lines.Statement.TheVariants.{Empty}
+
+-- `#` begins a comment
+unfoldable pub content_of : List ℕ → List ℕ
+content_of text = trimmed (before_first (λ b. b == 35) text)
+
+-- whether a text has a `:`
+abbrev pub has_label : List ℕ → Bool
+has_label content = list_any (λ b. b == 58) content
+
+-- what stands before the first `:` is the label
+unfoldable pub label_of : List ℕ → Result (Option (List ℕ)) Cause
+label_of content =
+    if has_label content then
+    (let label = before_first (λ b. b == 58) content in
+    if is_name label then Ok (Some label) else Err BadOperand)
+    else Ok None
+
+-- and the rest is the statement
+unfoldable pub body_of : List ℕ → List ℕ
+body_of content = if has_label content then trimmed (after_first (λ b. b == 58) content) else content
+
+-- the first word of a statement, and what follows it
+abbrev pub word_of_body : List ℕ → List ℕ
+word_of_body body = before_first is_blank body
+
+abbrev pub rest_of_body : List ℕ → List ℕ
+rest_of_body body = trimmed (after_first is_blank body)
+
+-- the shape of a statement, where there is one
+unfoldable pub command_of : List ℕ → Result (Option Shape) Cause
+command_of body =
+    if length body == 0 then Ok None else ok_or (option_map Some (shape_of (word_of_body body))) UnknownMnemonic
+
+abbrev pub said_by : Section → List ℕ → Option Shape → Result Said Cause
+said_by section body None = Ok (saying Empty)
+said_by section body (Some shape) = statement_of section shape (rest_of_body body)
+
+-- what a line says; the causes come in their order
+unfoldable pub line_of : Section → List ℕ → Result (Line (List ℕ)) Cause
+line_of section text =
+    let content = content_of text in
+    let body = body_of content in
+    do
+      command ← command_of body
+      label ← label_of content
+      said ← said_by section body command
+      Ok (record said { label = label })

@@ -1,0 +1,65 @@
+-- The text of a word.
+use Rattle.std.specs.Prelude.{ℕ, ◌==◌, false, List, [], ◌∷◌, ◌++◌, codes, Option, Some, None, if◌then◌else◌}
+use Rattle.std.specs.List.{join_with_byte}
+use Rattle.std.specs.Fmt.{digits, signed_decimal, decimal}
+use Rattle.std.specs.Int.{to_be_bytes, w32}
+use Rattle.hex.specs.Hex.{encode_lower}
+use Rattle.rv_isa.specs.declared.register.Reg.{Reg}
+use Rattle.rv_isa.specs.declared.operands.Immediate.{Immediate}
+use Rattle.rv_isa.specs.declared.operands.Upper.{Upper}
+use Rattle.rv_isa.specs.declared.instruction.Instr.{Instr}
+use Rattle.rv_isa.specs.declared.instruction.Instr.TheVariants.{Lui, Auipc, Jal, Jalr, Branch, Load, Store, ComputeImmediate, ShiftImmediate, Compute, Fence, Ecall, Ebreak}
+use Rattle.rv_isa.specs.Word.{word_of}
+use Rattle.rv_isa.specs.Decoded.{decoded}
+use Rattle.rv_names.specs.Registers.{x_name}
+use Rattle.rv_names.specs.Mnemonics.{mnemonic}
+use Rattle.rv_names.specs.declared.shapes.Shape.{Shape}
+use Rattle.rv_names.specs.declared.shapes.Shape.TheVariants.{LoadUpper, AddUpper, JumpAndLink, JumpRegister, Branching, Loading, Storing, OnImmediate, OnAmount, OnRegisters, Barrier, Call, Break, WordDirective}
+
+-- a mnemonic, one blank, and the operands with a comma between two
+abbrev pub command : Shape → List (List ℕ) → List ℕ
+command shape operands = mnemonic shape ++ 32 ∷ join_with_byte 44 operands
+
+-- imm[31:12] in hex, without leading zeros
+abbrev pub upper_text : Upper → List ℕ
+upper_text immediate = codes "0x" ++ digits 16 false immediate.value
+
+-- the place at an offset from a register
+abbrev pub place_text : Immediate → Reg → List ℕ
+place_text offset base = signed_decimal offset.value ++ 40 ∷ (x_name base ++ 41 ∷ [])
+
+-- a word as a number of eight hex digits
+abbrev pub word_directive : ℕ → List ℕ
+word_directive word = command WordDirective ((codes "0x" ++ encode_lower (to_be_bytes w32 word)) ∷ [])
+
+-- the word of `fence` is one alone
+abbrev pub fence_text : ℕ → List ℕ
+fence_text word = if word == 0x0ff0000f then mnemonic Barrier else word_directive word
+
+-- the text of an instruction
+unfoldable pub text_of : Instr → List ℕ
+text_of (Lui rd immediate) = command LoadUpper (x_name rd ∷ upper_text immediate ∷ [])
+text_of (Auipc rd immediate) = command AddUpper (x_name rd ∷ upper_text immediate ∷ [])
+text_of (Jal rd offset) = command JumpAndLink (x_name rd ∷ signed_decimal offset.value ∷ [])
+text_of (Jalr rd base offset) = command JumpRegister (x_name rd ∷ place_text offset base ∷ [])
+text_of (Branch condition left right offset) =
+    command (Branching condition) (x_name left ∷ x_name right ∷ signed_decimal offset.value ∷ [])
+text_of (Load kind rd base offset) = command (Loading kind) (x_name rd ∷ place_text offset base ∷ [])
+text_of (Store kind source base offset) = command (Storing kind) (x_name source ∷ place_text offset base ∷ [])
+text_of (ComputeImmediate operation rd source immediate) =
+    command (OnImmediate operation) (x_name rd ∷ x_name source ∷ signed_decimal immediate.value ∷ [])
+text_of (ShiftImmediate shift rd source amount) =
+    command (OnAmount shift) (x_name rd ∷ x_name source ∷ decimal amount.value ∷ [])
+text_of (Compute operation rd left right) =
+    command (OnRegisters operation) (x_name rd ∷ x_name left ∷ x_name right ∷ [])
+text_of (Fence rd source immediate) = fence_text (word_of (Fence rd source immediate))
+text_of Ecall = mnemonic Call
+text_of Ebreak = mnemonic Break
+
+-- the text of a word: of its instruction, where it has one
+abbrev pub text_or_word : ℕ → Option Instr → List ℕ
+text_or_word word None = word_directive word
+text_or_word word (Some instr) = text_of instr
+
+unfoldable pub word_text : ℕ → List ℕ
+word_text word = text_or_word word (decoded word)

@@ -1,0 +1,164 @@
+//! The ranges of numbers.
+
+ghost use Rattle.std.specs.Prelude.{◌≡◌, ◌<◌, ◌≤◌, ◌/◌, ◌^◌, IfOk};
+ghost use Rattle.rv_isa.specs.Number.{residue};
+ghost use Rattle.rv_isa.specs.Ranges.{IsImmediate, IsBranchOffset, IsJumpOffset};
+ghost use Rattle.rv_isa.specs.Decoding.{immediate_at, branch_at, jump_at, upper_at, amount_at};
+ghost use Rattle.rv_names.specs.Operands.{immediate_of, branch_offset_of, jump_offset_of, upper_of, amount_of, word_value_of, count_of};
+ghost use Rattle.rv_names.specs.Statements.{high_of, load_number};
+
+use crate::Cause;
+use rv_isa::{
+    BranchOffset, Immediate, ImmediateOperation, Instr, JumpOffset, Reg, ShiftAmount, Upper,
+};
+
+fn held_immediate(z: i64) -> Immediate
+    requires { IsImmediate z }
+    ensures { result ≡ immediate_at (residue 12 z) }
+{
+    Immediate { value: z as i32 }
+}
+
+/// An immediate, -2048 to 2047, else ImmediateRange.
+#[tactic(auto, unfolding(crate::specs::Operands::immediate_of))]
+pub(crate) fn immediate(z: i64) -> Result<Immediate, Cause>
+    ensures { result ≡ immediate_of z }
+{
+    if z < -2048 || 2047 < z {
+        return Err(Cause::ImmediateRange);
+    }
+    Ok(held_immediate(z))
+}
+
+fn held_branch(z: i64) -> BranchOffset
+    requires { IsBranchOffset z }
+    ensures { result ≡ branch_at (residue 13 z / 2) }
+{
+    BranchOffset { value: z as i32 }
+}
+
+/// The offset of a branch, -4096 to 4094 and even; `None` for any other number.
+#[tactic(auto, unfolding(crate::specs::Operands::branch_offset_of))]
+pub fn branch_offset(z: i64) -> Option<BranchOffset>
+    ensures { result ≡ branch_offset_of z }
+{
+    if z < -4096 || 4094 < z || z.rem_euclid(2) != 0 {
+        return None;
+    }
+    Some(held_branch(z))
+}
+
+fn held_jump(z: i64) -> JumpOffset
+    requires { IsJumpOffset z }
+    ensures { result ≡ jump_at (residue 21 z / 2) }
+{
+    JumpOffset { value: z as i32 }
+}
+
+/// The offset of JAL, -1048576 to 1048574 and even; `None` for any other number.
+#[tactic(auto, unfolding(crate::specs::Operands::jump_offset_of))]
+pub fn jump_offset(z: i64) -> Option<JumpOffset>
+    ensures { result ≡ jump_offset_of z }
+{
+    if z < -1048576 || 1048574 < z || z.rem_euclid(2) != 0 {
+        return None;
+    }
+    Some(held_jump(z))
+}
+
+fn held_upper(n: u32) -> Upper
+    requires { n < 2 ^ 20 }
+    ensures { result ≡ upper_at n }
+{
+    Upper { value: n }
+}
+
+/// The upper 20 bits of LUI and AUIPC, 0 to 1048575, else ImmediateRange.
+#[tactic(auto, unfolding(crate::specs::Operands::upper_of))]
+pub(crate) fn upper(z: i64) -> Result<Upper, Cause>
+    ensures { result ≡ upper_of z }
+{
+    if z < 0 || 1048575 < z {
+        return Err(Cause::ImmediateRange);
+    }
+    Ok(held_upper(z as u32))
+}
+
+fn held_amount(n: u8) -> ShiftAmount
+    requires { n < 32 }
+    ensures { result ≡ amount_at n }
+{
+    ShiftAmount { value: n }
+}
+
+/// The places of a shift, 0 to 31, else ImmediateRange.
+#[tactic(auto, unfolding(crate::specs::Operands::amount_of))]
+pub(crate) fn amount(z: i64) -> Result<ShiftAmount, Cause>
+    ensures { result ≡ amount_of z }
+{
+    if z < 0 || 31 < z {
+        return Err(Cause::ImmediateRange);
+    }
+    Ok(held_amount(z as u8))
+}
+
+/// A word, -2147483648 to 4294967295 and then modulo 2^32, else ImmediateRange.
+#[tactic(auto, unfolding(crate::specs::Operands::word_value_of))]
+pub(crate) fn word_value(z: i64) -> Result<u32, Cause>
+    ensures { result ≡ word_value_of z }
+{
+    if z < -2147483648 || 4294967295 < z {
+        return Err(Cause::ImmediateRange);
+    }
+    Ok(z.rem_euclid(4294967296) as u32)
+}
+
+/// A number of 0 to `most`, else ImmediateRange.
+#[tactic(auto, unfolding(crate::specs::Operands::count_of))]
+pub(crate) fn count(most: u32, z: i64) -> Result<u32, Cause>
+    ensures count { result ≡ count_of most z }
+    ensures within { IfOk result (λ n. n ≤ most) }
+{
+    if z < 0 || i64::from(most) < z {
+        return Err(Cause::ImmediateRange);
+    }
+    Ok(z as u32)
+}
+
+/// The low 12 bits of a number as a signed number.
+fn low_part(v: u32) -> Immediate
+    ensures { result ≡ immediate_at v }
+{
+    let low = (v & 0xfff) as i32;
+    Immediate {
+        value: if low < 2048 { low } else { low - 4096 },
+    }
+}
+
+/// What LUI takes beside that.
+fn high_part(v: u32) -> Upper
+    ensures { result ≡ upper_at (high_of v) }
+{
+    let high = (v >> 12) + (v >> 11 & 1);
+    Upper {
+        value: high & 0xfffff,
+    }
+}
+
+/// LUI and then ADDI, the two instructions that load a number into a register.
+#[tactic(auto, unfolding(crate::specs::Statements::load_number))]
+pub fn load_number(rd: Reg, v: u32) -> (Instr, Instr)
+    ensures { result ≡ load_number rd v }
+{
+    let high = Instr::Lui {
+        rd,
+        immediate: high_part(v),
+    };
+    let low = Instr::ComputeImmediate {
+        operation: ImmediateOperation::Addi,
+        rd,
+        source: rd,
+        immediate: low_part(v),
+    };
+    (high, low)
+}

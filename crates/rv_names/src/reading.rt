@@ -1,0 +1,114 @@
+//! Reading a line of source.
+
+ghost use Rattle.std.specs.Prelude.{◌≡◌, ◌==◌};
+ghost use Rattle.std.specs.Option.{option_map};
+ghost use Rattle.std.specs.Result.{result_map_both};
+ghost use Rattle.std.specs.List.{position, after_first};
+ghost use Rattle.rv_names.specs.Operands.{is_blank};
+ghost use Rattle.rv_names.specs.Shown.{line_map};
+ghost use Rattle.rv_names.specs.Line.{content_of, label_of, body_of, word_of_body, rest_of_body, command_of, said_by, line_of};
+
+use crate::mnemonics::shape;
+use crate::operands::{before, behind, has, is_blank, is_name, trimmed};
+use crate::statements::statement;
+use crate::{Cause, Line, Section, Shape, Statement};
+
+/// A line without its comment and the blanks at its ends.
+#[tactic(auto, unfolding(crate::specs::Line::content_of))]
+fn content(text: &[u8]) -> &[u8]
+    ensures { result.now ≡ content_of text.now }
+{
+    trimmed(before(text, b'#'))
+}
+
+/// The label, where there is one; BadOperand where it is no name.
+#[tactic(auto, unfolding(crate::specs::Line::label_of))]
+fn label(content: &[u8]) -> Result<Option<&[u8]>, Cause>
+    ensures { result_map_both (option_map (λ label. label.now)) (λ cause. cause) result ≡ label_of content.now }
+{
+    if !has(content, b':') {
+        return Ok(None);
+    }
+    let label = before(content, b':');
+    if !is_name(label) {
+        return Err(Cause::BadOperand);
+    }
+    Ok(Some(label))
+}
+
+/// What stands beside the label.
+#[tactic(auto, unfolding(crate::specs::Line::body_of))]
+fn body(content: &[u8]) -> &[u8]
+    ensures { result.now ≡ body_of content.now }
+{
+    if !has(content, b':') {
+        return content;
+    }
+    trimmed(behind(content, b':'))
+}
+
+/// The place of the first blank.
+fn first_blank(body: &[u8]) -> Option<usize>
+    ensures { result ≡ position is_blank body.now }
+{
+    body.iter().position(|byte| is_blank(*byte))
+}
+
+/// The first word of a statement.
+fn first_word(body: &[u8]) -> &[u8]
+    ensures { result.now ≡ word_of_body body.now }
+{
+    match first_blank(body) {
+        Some(place) => &body[..place],
+        None => body,
+    }
+}
+
+/// What stands behind the first blank.
+fn behind_word(body: &[u8]) -> &[u8]
+    ensures { result.now ≡ after_first is_blank body.now }
+{
+    match first_blank(body) {
+        Some(place) => &body[place + 1..],
+        None => &body[body.len()..],
+    }
+}
+
+/// The shape of a statement, where there is one; UnknownMnemonic where its word has none.
+#[tactic(auto, unfolding(crate::specs::Line::command_of))]
+fn command(body: &[u8]) -> Result<Option<Shape>, Cause>
+    ensures { result ≡ command_of body.now }
+{
+    if body.is_empty() {
+        return Ok(None);
+    }
+    match shape(first_word(body)) {
+        Some(shape) => Ok(Some(shape)),
+        None => Err(Cause::UnknownMnemonic),
+    }
+}
+
+/// The statement of a shape, or the empty one.
+fn said(section: Section, body: &[u8], command: Option<Shape>) -> Result<Line<&[u8]>, Cause>
+    ensures { result_map_both (line_map (λ label. label.now)) (λ cause. cause) result ≡ said_by section body.now command }
+{
+    match command {
+        Some(shape) => statement(section, shape, trimmed(behind_word(body))),
+        None => Ok(Line::saying(Statement::Empty)),
+    }
+}
+
+/// What a line of source says, in a section; without its end. Names are borrowed from it.
+/// Refused with the least cause that holds of the line by itself: UnknownMnemonic where the first
+/// word is no mnemonic or directive, else BadOperand, else ImmediateRange.
+#[tactic(auto, unfolding(crate::specs::Line::line_of))]
+pub fn read_line(section: Section, text: &[u8]) -> Result<Line<&[u8]>, Cause>
+    ensures { result_map_both (line_map (λ label. label.now)) (λ cause. cause) result ≡ line_of section text.now }
+{
+    let content = content(text);
+    let body = body(content);
+    let command = command(body)?;
+    let label = label(content)?;
+    let said = said(section, body, command)?;
+    Ok(Line { label, ..said })
+}

@@ -1,0 +1,427 @@
+//! The statements, each by the shape of its mnemonic or directive.
+
+ghost use Rattle.std.specs.Prelude.{◌≡◌, ◌<◌};
+ghost use Rattle.std.specs.Result.{result_map_both};
+ghost use Rattle.rv_names.specs.Shown.{line_map, target_map};
+ghost use Rattle.rv_names.specs.Statements.{load_upper, add_upper, jump_to, jump_and_link, jump_register, branch_to, branching, loading, storing, on_immediate, on_amount, on_registers, alone, move_register, jump, load_target, load_constant, only_number, word_statement, byte_statement, zero_statement, full_fence, no_operation, return_jump, shaped, is_data, may_stand_in, statement_of};
+ghost use Rattle.rv_names.specs.declared.lines.Statement.TheVariants.{Plain, Enter};
+ghost use Rattle.rv_isa.specs.Decoding.{register_at, immediate_at};
+
+use crate::operands::{
+    no_operand, number_operand, one_operand, place_operand, register_operand, target_operand,
+    three_operands, two_operands,
+};
+use crate::ranges::{
+    amount, branch_offset, count, immediate, jump_offset, load_number, upper, word_value,
+};
+use crate::target::Target;
+use crate::{Cause, Line, Section, Shape, Statement};
+use rv_isa::{
+    Condition, Immediate, ImmediateOperation, Instr, LoadKind, Operation, Reg, Shift, StoreKind,
+};
+
+/// x0.
+#[tactic(auto, using(crate::proofs::Same::same_register))]
+fn zero() -> Reg
+    ensures { result ≡ register_at 0 }
+{
+    Reg { number: 0 }
+}
+
+/// x1, the return address.
+#[tactic(auto, using(crate::proofs::Same::same_register))]
+fn return_address() -> Reg
+    ensures { result ≡ register_at 1 }
+{
+    Reg { number: 1 }
+}
+
+/// The immediate of a number below 2048.
+#[tactic(auto, using(crate::proofs::Same::same_immediate))]
+fn small(n: u16) -> Immediate
+    requires { n < 2048 }
+    ensures { result ≡ immediate_at n }
+{
+    Immediate {
+        value: i32::from(n),
+    }
+}
+
+/// `lui rd,N`
+#[tactic(auto, unfolding(crate::specs::Statements::load_upper))]
+fn load_upper(rest: &[u8]) -> Result<Line<&[u8]>, Cause>
+    ensures { result_map_both (line_map (λ label. label.now)) (λ cause. cause) result ≡ load_upper rest.now }
+{
+    let (rd, n) = two_operands(rest)?;
+    let rd = register_operand(rd)?;
+    let immediate = upper(number_operand(n)?)?;
+    Ok(Line::saying(Statement::Plain(Instr::Lui { rd, immediate })))
+}
+
+/// `auipc rd,N`
+#[tactic(auto, unfolding(crate::specs::Statements::add_upper))]
+fn add_upper(rest: &[u8]) -> Result<Line<&[u8]>, Cause>
+    ensures { result_map_both (line_map (λ label. label.now)) (λ cause. cause) result ≡ add_upper rest.now }
+{
+    let (rd, n) = two_operands(rest)?;
+    let rd = register_operand(rd)?;
+    let immediate = upper(number_operand(n)?)?;
+    Ok(Line::saying(Statement::Plain(Instr::Auipc { rd, immediate })))
+}
+
+/// JAL to a target.
+fn jump_to(rd: Reg, target: Target<&[u8]>) -> Result<Line<&[u8]>, Cause>
+    ensures { result_map_both (line_map (λ label. label.now)) (λ cause. cause) result ≡ jump_to rd (target_map (λ label. label.now) target.entry) }
+{
+    match target {
+        Target::Number(n) => {
+            let offset = jump_offset(n).ok_or(Cause::ImmediateRange)?;
+            Ok(Line::saying(Statement::Plain(Instr::Jal { rd, offset })))
+        }
+        Target::Label(label) => Ok(Line::naming(label, Statement::JumpTo { rd })),
+    }
+}
+
+/// `jal rd,TARGET`
+#[tactic(auto, unfolding(crate::specs::Statements::jump_and_link))]
+fn jump_and_link(rest: &[u8]) -> Result<Line<&[u8]>, Cause>
+    ensures { result_map_both (line_map (λ label. label.now)) (λ cause. cause) result ≡ jump_and_link rest.now }
+{
+    let (rd, target) = two_operands(rest)?;
+    let rd = register_operand(rd)?;
+    jump_to(rd, target_operand(target)?)
+}
+
+/// `jalr rd,N(rs1)`
+#[tactic(auto, unfolding(crate::specs::Statements::jump_register))]
+fn jump_register(rest: &[u8]) -> Result<Line<&[u8]>, Cause>
+    ensures { result_map_both (line_map (λ label. label.now)) (λ cause. cause) result ≡ jump_register rest.now }
+{
+    let (rd, place) = two_operands(rest)?;
+    let rd = register_operand(rd)?;
+    let (n, base) = place_operand(place)?;
+    let offset = immediate(n)?;
+    Ok(Line::saying(Statement::Plain(Instr::Jalr { rd, base, offset })))
+}
+
+/// A branch to a target.
+fn branch_to(
+    condition: Condition,
+    left: Reg,
+    right: Reg,
+    target: Target<&[u8]>,
+) -> Result<Line<&[u8]>, Cause>
+    ensures { result_map_both (line_map (λ label. label.now)) (λ cause. cause) result ≡ branch_to condition left right (target_map (λ label. label.now) target.entry) }
+{
+    match target {
+        Target::Number(n) => {
+            let offset = branch_offset(n).ok_or(Cause::ImmediateRange)?;
+            Ok(Line::saying(Statement::Plain(Instr::Branch {
+                condition,
+                left,
+                right,
+                offset,
+            })))
+        }
+        Target::Label(label) => {
+            let statement = Statement::BranchTo {
+                condition,
+                left,
+                right,
+            };
+            Ok(Line::naming(label, statement))
+        }
+    }
+}
+
+/// `beq rs1,rs2,TARGET`
+#[tactic(auto, unfolding(crate::specs::Statements::branching))]
+fn branching(condition: Condition, rest: &[u8]) -> Result<Line<&[u8]>, Cause>
+    ensures { result_map_both (line_map (λ label. label.now)) (λ cause. cause) result ≡ branching condition rest.now }
+{
+    let (left, right, target) = three_operands(rest)?;
+    let left = register_operand(left)?;
+    let right = register_operand(right)?;
+    branch_to(condition, left, right, target_operand(target)?)
+}
+
+/// `lw rd,N(rs1)`
+#[tactic(auto, unfolding(crate::specs::Statements::loading))]
+fn loading(kind: LoadKind, rest: &[u8]) -> Result<Line<&[u8]>, Cause>
+    ensures { result_map_both (line_map (λ label. label.now)) (λ cause. cause) result ≡ loading kind rest.now }
+{
+    let (rd, place) = two_operands(rest)?;
+    let rd = register_operand(rd)?;
+    let (n, base) = place_operand(place)?;
+    let offset = immediate(n)?;
+    Ok(Line::saying(Statement::Plain(Instr::Load {
+        kind,
+        rd,
+        base,
+        offset,
+    })))
+}
+
+/// `sw rs2,N(rs1)`
+#[tactic(auto, unfolding(crate::specs::Statements::storing))]
+fn storing(kind: StoreKind, rest: &[u8]) -> Result<Line<&[u8]>, Cause>
+    ensures { result_map_both (line_map (λ label. label.now)) (λ cause. cause) result ≡ storing kind rest.now }
+{
+    let (source, place) = two_operands(rest)?;
+    let source = register_operand(source)?;
+    let (n, base) = place_operand(place)?;
+    let offset = immediate(n)?;
+    Ok(Line::saying(Statement::Plain(Instr::Store {
+        kind,
+        source,
+        base,
+        offset,
+    })))
+}
+
+/// `addi rd,rs1,N`
+#[tactic(auto, unfolding(crate::specs::Statements::on_immediate))]
+fn on_immediate(operation: ImmediateOperation, rest: &[u8]) -> Result<Line<&[u8]>, Cause>
+    ensures { result_map_both (line_map (λ label. label.now)) (λ cause. cause) result ≡ on_immediate operation rest.now }
+{
+    let (rd, source, n) = three_operands(rest)?;
+    let rd = register_operand(rd)?;
+    let source = register_operand(source)?;
+    let immediate = immediate(number_operand(n)?)?;
+    Ok(Line::saying(Statement::Plain(Instr::ComputeImmediate {
+        operation,
+        rd,
+        source,
+        immediate,
+    })))
+}
+
+/// `slli rd,rs1,N`
+#[tactic(auto, unfolding(crate::specs::Statements::on_amount))]
+fn on_amount(shift: Shift, rest: &[u8]) -> Result<Line<&[u8]>, Cause>
+    ensures { result_map_both (line_map (λ label. label.now)) (λ cause. cause) result ≡ on_amount shift rest.now }
+{
+    let (rd, source, n) = three_operands(rest)?;
+    let rd = register_operand(rd)?;
+    let source = register_operand(source)?;
+    let amount = amount(number_operand(n)?)?;
+    Ok(Line::saying(Statement::Plain(Instr::ShiftImmediate {
+        shift,
+        rd,
+        source,
+        amount,
+    })))
+}
+
+/// `add rd,rs1,rs2`
+#[tactic(auto, unfolding(crate::specs::Statements::on_registers))]
+fn on_registers(operation: Operation, rest: &[u8]) -> Result<Line<&[u8]>, Cause>
+    ensures { result_map_both (line_map (λ label. label.now)) (λ cause. cause) result ≡ on_registers operation rest.now }
+{
+    let (rd, left, right) = three_operands(rest)?;
+    let rd = register_operand(rd)?;
+    let left = register_operand(left)?;
+    let right = register_operand(right)?;
+    Ok(Line::saying(Statement::Plain(Instr::Compute {
+        operation,
+        rd,
+        left,
+        right,
+    })))
+}
+
+/// An instruction without operands.
+fn alone(instr: Instr, rest: &[u8]) -> Result<Line<&[u8]>, Cause>
+    ensures { result_map_both (line_map (λ label. label.now)) (λ cause. cause) result ≡ alone (Plain instr) rest.now }
+{
+    no_operand(rest)?;
+    Ok(Line::saying(Statement::Plain(instr)))
+}
+
+/// `.text` and `.data`
+fn enter(section: Section, rest: &[u8]) -> Result<Line<&[u8]>, Cause>
+    ensures { result_map_both (line_map (λ label. label.now)) (λ cause. cause) result ≡ alone (Enter section) rest.now }
+{
+    no_operand(rest)?;
+    Ok(Line::saying(Statement::Enter(section)))
+}
+
+/// `mv rd,rs`, which is `addi rd,rs,0`
+#[tactic(auto, unfolding(crate::specs::Statements::move_register))]
+fn move_register(rest: &[u8]) -> Result<Line<&[u8]>, Cause>
+    ensures { result_map_both (line_map (λ label. label.now)) (λ cause. cause) result ≡ move_register rest.now }
+{
+    let (rd, source) = two_operands(rest)?;
+    let rd = register_operand(rd)?;
+    let source = register_operand(source)?;
+    Ok(Line::saying(Statement::Plain(Instr::ComputeImmediate {
+        operation: ImmediateOperation::Addi,
+        rd,
+        source,
+        immediate: small(0),
+    })))
+}
+
+/// `j TARGET`, which is `jal x0,TARGET`
+#[tactic(auto, unfolding(crate::specs::Statements::jump))]
+fn jump(rest: &[u8]) -> Result<Line<&[u8]>, Cause>
+    ensures { result_map_both (line_map (λ label. label.now)) (λ cause. cause) result ≡ jump rest.now }
+{
+    let target = target_operand(one_operand(rest)?)?;
+    jump_to(zero(), target)
+}
+
+/// LUI and ADDI that load a target.
+fn load_target(rd: Reg, target: Target<&[u8]>) -> Result<Line<&[u8]>, Cause>
+    ensures { result_map_both (line_map (λ label. label.now)) (λ cause. cause) result ≡ load_target rd (target_map (λ label. label.now) target.entry) }
+{
+    match target {
+        Target::Number(n) => {
+            let (first, second) = load_number(rd, word_value(n)?);
+            Ok(Line::saying(Statement::Pair(first, second)))
+        }
+        Target::Label(label) => Ok(Line::naming(label, Statement::AddressOf { rd })),
+    }
+}
+
+/// `li rd,N` and `li rd,LABEL`
+#[tactic(auto, unfolding(crate::specs::Statements::load_constant))]
+fn load_constant(rest: &[u8]) -> Result<Line<&[u8]>, Cause>
+    ensures { result_map_both (line_map (λ label. label.now)) (λ cause. cause) result ≡ load_constant rest.now }
+{
+    let (rd, target) = two_operands(rest)?;
+    let rd = register_operand(rd)?;
+    load_target(rd, target_operand(target)?)
+}
+
+/// The number of a directive.
+fn only_number(rest: &[u8]) -> Result<i64, Cause>
+    ensures { result ≡ only_number rest.now }
+{
+    number_operand(one_operand(rest)?)
+}
+
+/// `.word N`
+#[tactic(auto, unfolding(crate::specs::Statements::word_statement))]
+fn word_statement(rest: &[u8]) -> Result<Line<&[u8]>, Cause>
+    ensures { result_map_both (line_map (λ label. label.now)) (λ cause. cause) result ≡ word_statement rest.now }
+{
+    let word = word_value(only_number(rest)?)?;
+    Ok(Line::saying(Statement::WordValue(word)))
+}
+
+/// `.byte N`
+#[tactic(auto, unfolding(crate::specs::Statements::byte_statement))]
+fn byte_statement(rest: &[u8]) -> Result<Line<&[u8]>, Cause>
+    ensures { result_map_both (line_map (λ label. label.now)) (λ cause. cause) result ≡ byte_statement rest.now }
+{
+    let byte = count(255, only_number(rest)?)?;
+    Ok(Line::saying(Statement::ByteValue(byte as u8)))
+}
+
+/// `.zero N`
+#[tactic(auto, unfolding(crate::specs::Statements::zero_statement))]
+fn zero_statement(rest: &[u8]) -> Result<Line<&[u8]>, Cause>
+    ensures { result_map_both (line_map (λ label. label.now)) (λ cause. cause) result ≡ zero_statement rest.now }
+{
+    let bytes = count(65536, only_number(rest)?)?;
+    Ok(Line::saying(Statement::ZeroBytes(bytes)))
+}
+
+/// `fence`, whose word is 0x0ff0000f.
+fn barrier() -> Instr
+    ensures { result ≡ full_fence }
+{
+    Instr::Fence {
+        rd: zero(),
+        source: zero(),
+        immediate: small(0xff),
+    }
+}
+
+/// `nop`, which is `addi x0,x0,0`.
+fn no_operation() -> Instr
+    ensures { result ≡ no_operation }
+{
+    Instr::ComputeImmediate {
+        operation: ImmediateOperation::Addi,
+        rd: zero(),
+        source: zero(),
+        immediate: small(0),
+    }
+}
+
+/// `ret`, which is `jalr x0,0(x1)`.
+fn return_jump() -> Instr
+    ensures { result ≡ return_jump }
+{
+    Instr::Jalr {
+        rd: zero(),
+        base: return_address(),
+        offset: small(0),
+    }
+}
+
+/// The statement of a shape.
+#[tactic(auto, unfolding(crate::specs::Statements::shaped))]
+fn shaped(shape: Shape, rest: &[u8]) -> Result<Line<&[u8]>, Cause>
+    ensures { result_map_both (line_map (λ label. label.now)) (λ cause. cause) result ≡ shaped shape rest.now }
+{
+    match shape {
+        Shape::LoadUpper => load_upper(rest),
+        Shape::AddUpper => add_upper(rest),
+        Shape::JumpAndLink => jump_and_link(rest),
+        Shape::JumpRegister => jump_register(rest),
+        Shape::Branching(condition) => branching(condition, rest),
+        Shape::Loading(kind) => loading(kind, rest),
+        Shape::Storing(kind) => storing(kind, rest),
+        Shape::OnImmediate(operation) => on_immediate(operation, rest),
+        Shape::OnAmount(shift) => on_amount(shift, rest),
+        Shape::OnRegisters(operation) => on_registers(operation, rest),
+        Shape::Barrier => alone(barrier(), rest),
+        Shape::Call => alone(Instr::Ecall, rest),
+        Shape::Break => alone(Instr::Ebreak, rest),
+        Shape::Nothing => alone(no_operation(), rest),
+        Shape::Move => move_register(rest),
+        Shape::Jump => jump(rest),
+        Shape::Return => alone(return_jump(), rest),
+        Shape::LoadConstant => load_constant(rest),
+        Shape::TextSection => enter(Section::Text, rest),
+        Shape::DataSection => enter(Section::Data, rest),
+        Shape::WordDirective => word_statement(rest),
+        Shape::ByteDirective => byte_statement(rest),
+        Shape::ZeroDirective => zero_statement(rest),
+    }
+}
+
+/// Whether a shape may stand in a section.
+#[tactic(auto, unfolding(crate::specs::Statements::may_stand_in))]
+fn may_stand_in(section: Section, shape: Shape) -> bool
+    ensures { result ≡ may_stand_in section shape }
+{
+    match shape {
+        Shape::TextSection | Shape::DataSection | Shape::WordDirective => true,
+        Shape::ByteDirective | Shape::ZeroDirective => is_data(section),
+        _ => !is_data(section),
+    }
+}
+
+fn is_data(section: Section) -> bool
+    ensures { result ≡ is_data section }
+{
+    match section {
+        Section::Text => false,
+        Section::Data => true,
+    }
+}
+
+/// The statement of a shape in a section: BadOperand where it may not stand there.
+#[tactic(auto, unfolding(crate::specs::Statements::statement_of))]
+pub(crate) fn statement(section: Section, shape: Shape, rest: &[u8]) -> Result<Line<&[u8]>, Cause>
+    ensures { result_map_both (line_map (λ label. label.now)) (λ cause. cause) result ≡ statement_of section shape rest.now }
+{
+    if !may_stand_in(section, shape) {
+        return Err(Cause::BadOperand);
+    }
+    shaped(shape, rest)
+}

@@ -1,0 +1,8 @@
+//! Where a branch or jump goes, and what `li` loads.
+
+/// A number, or the name of a label.
+#[derive(Clone, Copy, Debug, PartialEq, Eq)]
+pub enum Target<N> {
+    Number(i64),
+    Label(N),
+}

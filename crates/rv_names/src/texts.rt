@@ -1,0 +1,204 @@
+//! The text of an instruction, and of a word.
+
+ghost use Rattle.std.specs.Prelude.{◌≡◌, ◌∷◌, [], IfOk};
+ghost use Rattle.std.specs.Fmt.{decimal, signed_decimal};
+ghost use Rattle.rv_names.specs.Registers.{x_name};
+ghost use Rattle.rv_names.specs.Mnemonics.{mnemonic};
+ghost use Rattle.rv_names.specs.declared.shapes.Shape.TheVariants.{JumpAndLink};
+ghost use Rattle.std.specs.String.{string_bytes};
+ghost use Rattle.rv_names.specs.Text.{command, upper_text, place_text, word_directive, fence_text, text_of, word_text, text_or_word};
+
+use crate::Shape;
+use crate::mnemonics::mnemonic;
+use crate::registers::x_name;
+use rv_isa::{Immediate, Instr, Reg, Upper, decode, encode};
+use std::alloc::{AllocError, Global};
+
+/// A command with two operands.
+fn with_two(alloc: Global, shape: Shape, a: &str, b: &str) -> Result<String, AllocError>
+    ensures { IfOk result (λ t. string_bytes t ≡ command shape (a.now ∷ b.now ∷ [])) }
+{
+    let name = mnemonic(shape);
+    format!(in alloc; "{name} {a},{b}")
+}
+
+/// A command with three operands.
+fn with_three(alloc: Global, shape: Shape, a: &str, b: &str, c: &str) -> Result<String, AllocError>
+    ensures { IfOk result (λ t. string_bytes t ≡ command shape (a.now ∷ b.now ∷ c.now ∷ [])) }
+{
+    let name = mnemonic(shape);
+    format!(in alloc; "{name} {a},{b},{c}")
+}
+
+/// The text of a signed number.
+fn signed_text(alloc: Global, value: i32) -> Result<String, AllocError>
+    ensures { IfOk result (λ t. string_bytes t ≡ signed_decimal value) }
+{
+    format!(in alloc; "{value}")
+}
+
+/// A register and the upper 20 bits.
+fn upper_text(alloc: Global, shape: Shape, rd: Reg, immediate: Upper) -> Result<String, AllocError>
+    ensures { IfOk result (λ t. string_bytes t ≡ command shape (x_name rd ∷ upper_text immediate ∷ [])) }
+{
+    let value = immediate.value;
+    let operand = format!(in alloc; "0x{value:x}")?;
+    with_two(alloc, shape, x_name(rd), operand.as_str())
+}
+
+/// A register and a place.
+fn place_text(
+    alloc: Global,
+    shape: Shape,
+    register: Reg,
+    base: Reg,
+    offset: Immediate,
+) -> Result<String, AllocError>
+    ensures { IfOk result (λ t. string_bytes t ≡ command shape (x_name register ∷ place_text offset base ∷ [])) }
+{
+    let value = offset.value;
+    let base = x_name(base);
+    let operand = format!(in alloc; "{value}({base})")?;
+    with_two(alloc, shape, x_name(register), operand.as_str())
+}
+
+/// Two registers and a signed number.
+fn number_text(
+    alloc: Global,
+    shape: Shape,
+    a: Reg,
+    b: Reg,
+    value: i32,
+) -> Result<String, AllocError>
+    ensures { IfOk result (λ t. string_bytes t ≡ command shape (x_name a ∷ x_name b ∷ signed_decimal value ∷ [])) }
+{
+    let operand = signed_text(alloc, value)?;
+    with_three(alloc, shape, x_name(a), x_name(b), operand.as_str())
+}
+
+/// Two registers and the places of a shift.
+fn amount_text(alloc: Global, shape: Shape, a: Reg, b: Reg, value: u8) -> Result<String, AllocError>
+    ensures { IfOk result (λ t. string_bytes t ≡ command shape (x_name a ∷ x_name b ∷ decimal value ∷ [])) }
+{
+    let operand = format!(in alloc; "{value}")?;
+    with_three(alloc, shape, x_name(a), x_name(b), operand.as_str())
+}
+
+/// JAL and its distance.
+fn jump_text(alloc: Global, rd: Reg, value: i32) -> Result<String, AllocError>
+    ensures { IfOk result (λ t. string_bytes t ≡ command JumpAndLink (x_name rd ∷ signed_decimal value ∷ [])) }
+{
+    let operand = signed_text(alloc, value)?;
+    with_two(alloc, Shape::JumpAndLink, x_name(rd), operand.as_str())
+}
+
+/// `.word` and eight hex digits.
+fn word_directive(alloc: Global, word: u32) -> Result<String, AllocError>
+    ensures { IfOk result (λ t. string_bytes t ≡ word_directive word) }
+{
+    let name = mnemonic(Shape::WordDirective);
+    let digits = hex::encode(alloc, word.to_be_bytes().as_slice())?;
+    format!(in alloc; "{name} 0x{digits}")
+}
+
+/// A mnemonic alone.
+fn alone(alloc: Global, shape: Shape) -> Result<String, AllocError>
+    ensures { IfOk result (λ t. string_bytes t ≡ mnemonic shape) }
+{
+    String::from_str(alloc, mnemonic(shape))
+}
+
+/// `fence` for its one word, else the word.
+fn fence_text(alloc: Global, word: u32) -> Result<String, AllocError>
+    ensures { IfOk result (λ t. string_bytes t ≡ fence_text word) }
+{
+    if word == 0x0ff0000f {
+        return alone(alloc, Shape::Barrier);
+    }
+    word_directive(alloc, word)
+}
+
+/// The text of an instruction: registers by their x names, distances in bytes. A fence other than
+/// that of the word 0x0ff0000f is told as its word. Refused where memory ran out.
+#[tactic(auto, unfolding(crate::specs::Text::text_of))]
+pub fn instruction_text(alloc: Global, instr: &Instr) -> Result<String, AllocError>
+    ensures { IfOk result (λ t. string_bytes t ≡ text_of instr.now) }
+{
+    match *instr {
+        Instr::Lui { rd, immediate } => upper_text(alloc, Shape::LoadUpper, rd, immediate),
+        Instr::Auipc { rd, immediate } => upper_text(alloc, Shape::AddUpper, rd, immediate),
+        Instr::Jal { rd, offset } => jump_text(alloc, rd, offset.value),
+        Instr::Jalr { rd, base, offset } => {
+            place_text(alloc, Shape::JumpRegister, rd, base, offset)
+        }
+        Instr::Branch {
+            condition,
+            left,
+            right,
+            offset,
+        } => number_text(
+            alloc,
+            Shape::Branching(condition),
+            left,
+            right,
+            offset.value,
+        ),
+        Instr::Load {
+            kind,
+            rd,
+            base,
+            offset,
+        } => place_text(alloc, Shape::Loading(kind), rd, base, offset),
+        Instr::Store {
+            kind,
+            source,
+            base,
+            offset,
+        } => place_text(alloc, Shape::Storing(kind), source, base, offset),
+        Instr::ComputeImmediate {
+            operation,
+            rd,
+            source,
+            immediate,
+        } => number_text(
+            alloc,
+            Shape::OnImmediate(operation),
+            rd,
+            source,
+            immediate.value,
+        ),
+        Instr::ShiftImmediate {
+            shift,
+            rd,
+            source,
+            amount,
+        } => amount_text(alloc, Shape::OnAmount(shift), rd, source, amount.value),
+        Instr::Compute {
+            operation,
+            rd,
+            left,
+            right,
+        } => with_three(
+            alloc,
+            Shape::OnRegisters(operation),
+            x_name(rd),
+            x_name(left),
+            x_name(right),
+        ),
+        Instr::Fence { .. } => fence_text(alloc, encode(instr)),
+        Instr::Ecall => alone(alloc, Shape::Call),
+        Instr::Ebreak => alone(alloc, Shape::Break),
+    }
+}
+
+/// The text of a word: of its instruction, where it has one, else `.word` and its number in eight
+/// hex digits. Refused where memory ran out.
+#[tactic(auto, unfolding(crate::specs::Text::word_text))]
+pub fn word_text(alloc: Global, word: u32) -> Result<String, AllocError>
+    ensures { IfOk result (λ t. string_bytes t ≡ word_text word) }
+{
+    match decode(word) {
+        Some(instr) => instruction_text(alloc, &instr),
+        None => word_directive(alloc, word),
+    }
+}

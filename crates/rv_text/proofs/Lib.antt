@@ -1,0 +1,12 @@
+pub mod Appended
+pub mod Atoms
+pub mod Cuts
+pub mod Held
+pub mod Instructions
+pub mod Layouts
+pub mod LineFeeds
+pub mod Lines
+pub mod Mapped
+pub mod OneLine
+pub mod Places
+pub mod Sizes

@@ -1,0 +1,24 @@
+-- The way back from the text of a word.
+use Rattle.std.specs.Prelude.{◌≡◌, ℕ, None, Result, IsOkAnd}
+use Rattle.rv_isa.specs.Word.{word_of}
+use Rattle.rv_names.specs.Line.{line_of}
+use Rattle.rv_names.specs.Statements.{Said}
+use Rattle.rv_names.specs.Text.{word_text}
+use Rattle.rv_names.specs.declared.lines.Cause.{Cause}
+use Rattle.rv_names.specs.declared.lines.Section.TheVariants.{Text}
+use Rattle.rv_names.specs.declared.lines.Statement.{Statement}
+use Rattle.rv_names.specs.declared.lines.Statement.TheVariants.{Plain, WordValue}
+
+-- a statement that stands for one word alone
+abbrev pub IsWord : Statement → ℕ → Type 0
+IsWord (Plain instr) word = word_of instr ≡ word
+IsWord (WordValue n) word = n ≡ word
+IsWord _ word = ⊥
+
+-- a line without a label that does so
+abbrev pub IsLineOf : ℕ → Result Said Cause → Type 0
+IsLineOf word r = IsOkAnd r (λ line. (line.label ≡ None) × IsWord line.statement word)
+
+-- the text of a word is a line of source that stands for it
+abbrev pub IsReadBack : ℕ → Type 0
+IsReadBack word = IsLineOf word (line_of Text (word_text word))

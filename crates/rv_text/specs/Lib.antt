@@ -1,0 +1,6 @@
+pub mod Back
+pub mod Assembly
+pub mod Shown
+pub mod Fits
+pub mod Layout
+pub mod Answer

@@ -1,0 +1,64 @@
+//! The program that a source stands for.
+
+ghost use Rattle.std.specs.Prelude.{◌≡◌, ◌==◌, map, IfOk};
+ghost use Rattle.std.specs.List.{slice_split};
+ghost use Rattle.rv_text.specs.Assembly.{Gives, nothing_laid, laid_from, program_of, assembled};
+ghost use Rattle.rv_text.specs.Answer.{Reads};
+ghost use Rattle.rv_text.specs.Layout.{laid};
+
+use crate::fault::{AsmCause, AsmError};
+use crate::layout::Layout;
+use crate::words::words_of;
+use rv_program::Program;
+use std::alloc::{AllocError, Global};
+
+/// The lines of a source.
+fn lines(alloc: Global, source: &[u8]) -> Result<Vec<&[u8]>, AllocError>
+    ensures { IfOk result (λ v. map (λ line. line.now) v.items ≡ slice_split (λ b. b == 10) source.now) }
+{
+    source.split(|byte| *byte == b'\n').collect(alloc)
+}
+
+/// What some lines lay down.
+fn laid_down<'a>(alloc: Global, lines: &[&'a [u8]]) -> Result<Layout<'a>, AsmError>
+    ensures { Reads laid result (laid_from 1 (map (λ line. line.now) lines.now) nothing_laid) }
+{
+    let mut layout = Layout::new(alloc);
+    for (index, text) in lines.iter().enumerate() {
+        let number = index + 1;
+        if let Err(cause) = layout.read(number, *text) {
+            return Err(AsmError {
+                line: number,
+                cause,
+            });
+        }
+    }
+    Ok(layout)
+}
+
+/// The program of what was laid down.
+fn program(alloc: Global, layout: Layout<'_>) -> Result<Program, AsmError>
+    ensures { Gives result (program_of (laid layout.entry)) }
+{
+    let text = words_of(alloc, &layout.labels, layout.items.as_slice())?;
+    match Program::new(text, layout.data_bytes) {
+        Some(program) => Ok(program),
+        None => unreachable!(),
+    }
+}
+
+/// The program that a source stands for, or its first fault, with its line: of the causes 1, 2, 3, 5
+/// and 7 that of the least line, and on it the least number; where none of these holds, of 4 and 6 in
+/// the same way. Memory may come for any source.
+#[tactic(auto, unfolding(crate::specs::Assembly::assembled))]
+pub fn assemble(alloc: Global, source: &str) -> Result<Program, AsmError>
+    ensures { Gives result (assembled source.now) }
+{
+    match lines(alloc, source.as_bytes()) {
+        Ok(lines) => program(alloc, laid_down(alloc, lines.as_slice())?),
+        Err(_) => Err(AsmError {
+            line: 1,
+            cause: AsmCause::Memory,
+        }),
+    }
+}

@@ -1,0 +1,19 @@
+//! The text of a word.
+
+ghost use Rattle.std.specs.Prelude.{◌≡◌, ◌++◌, MatchResult};
+ghost use Rattle.std.specs.String.{string_bytes};
+ghost use Rattle.rv_names.specs.Text.{word_text};
+
+use rv_names::word_text;
+use std::alloc::{AllocError, Global};
+
+/// Appends the text of a word: of its instruction, with x names, signed decimals and distances in
+/// bytes, or `.word` and eight hex digits where it has none. Refused where memory ran out; the
+/// string is then as before.
+pub fn disassemble(alloc: Global, word: u32, text: &mut String) -> Result<(), AllocError>
+    ensures { MatchResult result
+        (λ _. string_bytes text.new ≡ string_bytes text.old ++ word_text word)
+        (λ _. string_bytes text.new ≡ string_bytes text.old) }
+{
+    text.push_str(word_text(alloc, word)?.as_str())
+}

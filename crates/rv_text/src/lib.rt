@@ -1,0 +1,18 @@
+//! The assembler and disassembler.
+#![tactic(auto)]
+
+mod again;
+mod assembler;
+mod disassembler;
+pub mod fault;
+mod item;
+mod laws;
+mod layout;
+mod words;
+
+pub use again::assembled_again;
+pub use assembler::assemble;
+pub use disassembler::disassemble;
+pub use fault::{AsmCause, AsmError};
+pub use laws::text_is_read_back;
+pub use rv_program::Program;

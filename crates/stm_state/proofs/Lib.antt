@@ -1,0 +1,15 @@
+pub mod Moves
+pub mod Rests
+pub mod Safes
+pub mod Tests
+pub mod Asks
+pub mod Runs
+pub mod Writes
+pub mod Wakes
+pub mod Records
+pub mod Aborts
+pub mod Whole
+pub mod Serials
+pub mod Orders
+pub mod Shadows
+pub mod Computed

@@ -1,0 +1,91 @@
+-- Changes of the indices, and workers that end a task that runs nothing.
+use Rattle.std.proofs.Common.{◌≡◌, ◌<◌, ◌≤◌, ◌⊎◌, ℕ, List, length, Option, None, Some, arith, sym, ap, subst, ◌∙◌, inl, inr}
+use Rattle.std.specs.List.{AllByRecursion}
+use Rattle.rv_step.specs.declared.answer.Answer.{Answer}
+use Rattle.stm_state.specs.declared.state.Status.TheVariants.{Ready, Executing, Executed, Aborting}
+use Rattle.stm_state.specs.declared.state.Task.{Task}
+use Rattle.stm_state.specs.declared.state.Task.TheVariants.{Idle, Running, Validating}
+use Rattle.stm_state.specs.Steps.{Block, reads_of}
+use Rattle.stm_state.specs.Invariant.{View, Facts, IsWaiting, IsRightAnswer, IsSafe, run_by, named_by}
+use Rattle.stm_state.proofs.Moves.{Grows, right_all, borne_still}
+
+-- a view with other tasks and other indices
+abbrev pub rested : View → (ℕ → Task) → ℕ → ℕ → View
+rested v tasks execution validation = record { calls = v.calls; tasks = tasks; entries = v.entries; execution = execution; validation = validation }
+
+module _ (block : Block) (v : View) (tasks : ℕ → Task) (execution validation : ℕ) (f : Facts block v) (rest : (x : ℕ) → (tasks x ≡ v.tasks x) ⊎ ((tasks x ≡ Idle) × (run_by (v.tasks x) ≡ None))) where
+  -- the view afterwards
+  abbrev now : View
+  now = rested v tasks execution validation
+
+  -- what holds of a task as it was and of none holds of it now
+  rested_tasks : (x : ℕ) (P : Task → Type 0) → P (v.tasks x) → P Idle → P (tasks x)
+  rested_tasks x P h k = elim (rest x) [ inl e ↦ subst P (sym e) h | inr q ↦ subst P (sym q.0) k ]
+
+  -- ---- each part of the invariant afterwards
+
+  -- EXECUTING calls are run
+  rested_executing : (i : ℕ) → (v.calls i).status ≡ Executing → (x : ℕ) × (run_by (tasks x) ≡ Some i)
+  rested_executing i h = let old = f.executing i h in (old.0, elim (rest old.0) [ inl e ↦ ap run_by e ∙ old.1 | inr q ↦ let some = old.1 in let none = q.1 in cc ])
+
+  -- tasks name calls of the block
+  rested_named : (x i : ℕ) → named_by (tasks x) ≡ Some i → i < block.count
+  rested_named x i = rested_tasks x (λ task. named_by task ≡ Some i → i < block.count) (f.named x i) (λ h. cc)
+
+  -- calls that are run are EXECUTING
+  rested_running : (x i : ℕ) → run_by (tasks x) ≡ Some i → (v.calls i).status ≡ Executing
+  rested_running x i = rested_tasks x (λ task. run_by task ≡ Some i → (v.calls i).status ≡ Executing) (f.running x i) (λ h. cc)
+
+  -- what is run was run
+  rested_run : (x i : ℕ) → run_by (tasks x) ≡ Some i → run_by (v.tasks x) ≡ Some i
+  rested_run x i = rested_tasks x (λ task. run_by task ≡ Some i → run_by (v.tasks x) ≡ Some i) (λ h. h) (λ h. cc)
+
+  -- runs are blocked on lower calls
+  rested_blocked : (x i b : ℕ) (answers : List Answer) → tasks x ≡ Running i answers (Some b) → b < i
+  rested_blocked x i b answers = rested_tasks x (λ task. task ≡ Running i answers (Some b) → b < i) (f.blocked x i b answers) (λ h. cc)
+
+  -- ABORTING calls wait
+  rested_waiting : (i : ℕ) → (v.calls i).status ≡ Aborting → IsWaiting now i
+  rested_waiting i h = let old = f.aborting i h in record { on = old.on; parked = old.parked; lower = old.lower; not_done = old.not_done }
+
+  -- incarnations and versions stay
+  rested_grows : Grows v now
+  rested_grows = record { incarnations = λ i. omega arith; versions = λ key i n c h. inr h }
+
+  -- answers of runs are right
+  rested_answered : (x i : ℕ) (answers : List Answer) (waits : Option ℕ) → tasks x ≡ Running i answers waits → AllByRecursion (IsRightAnswer block now i) answers
+  rested_answered x i answers waits = rested_tasks x (λ task. task ≡ Running i answers waits → AllByRecursion (IsRightAnswer block now i) answers)
+      (λ h. right_all block v now rested_grows i answers (f.answered x i answers waits h)) (λ h. cc)
+
+  -- validations are of incarnations that the calls had
+  rested_validating : (x i n left : ℕ) → tasks x ≡ Validating i n left → n ≤ (v.calls i).incarnation
+  rested_validating x i n left = rested_tasks x (λ task. task ≡ Validating i n left → n ≤ (v.calls i).incarnation) (f.validating x i n left) (λ h. cc)
+
+  -- validations of present incarnations are of EXECUTED calls, with all reads to check
+  rested_current : (x i left : ℕ) → tasks x ≡ Validating i (v.calls i).incarnation left → ((v.calls i).status ≡ Executed) × (left ≡ length (reads_of (v.calls i).last))
+  rested_current x i left = rested_tasks x (λ task. task ≡ Validating i (v.calls i).incarnation left → ((v.calls i).status ≡ Executed) × (left ≡ length (reads_of (v.calls i).last))) (f.current x i left) (λ h. cc)
+
+  -- the invariant is kept, where the indices stay in range and the reads are seen to
+  pub rested_facts : execution ≤ block.count → validation ≤ block.count → ((i : ℕ) → (v.calls i).status ≡ Ready → execution ≤ i)
+      → ((i : ℕ) → (v.calls i).status ≡ Executed → i < validation → AllByRecursion (IsSafe (rested v tasks execution validation) i) (reads_of (v.calls i).last)) → Facts block (rested v tasks execution validation)
+  rested_facts execution_within validation_within ready safe = record {
+    execution_within = execution_within;
+    validation_within = validation_within;
+    named = rested_named;
+    ready = ready;
+    executing = rested_executing;
+    running = rested_running;
+    alone = λ x y i h k. f.alone x y i (rested_run x i h) (rested_run y i k);
+    blocked = rested_blocked;
+    aborting = rested_waiting;
+    limit = f.limit;
+    executed_limit = f.executed_limit;
+    aborting_limit = f.aborting_limit;
+    entries = f.entries;
+    executed = f.executed;
+    recorded = λ i run h. borne_still block v now rested_grows i run (f.recorded i run h);
+    answered = rested_answered;
+    validating = rested_validating;
+    current = rested_current;
+    safe = safe;
+  }

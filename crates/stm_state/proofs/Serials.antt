@@ -1,0 +1,208 @@
+-- Where workers are done the result is that of the calls one after another.
+use Rattle.std.proofs.Common.{◌≡◌, ◌<◌, ◌≤◌, ◌≢◌, ◌&&◌, ◌==◌, ℕ, zero, suc, true, option_map, List, [], ◌∷◌, length, map, Option, None, Some, arith, refl, sym, ap, subst, ◌∙◌, inl, inr}
+use Rattle.std.specs.List.{AllByRecursion, list_all}
+use Rattle.std.specs.FinMap.{get, empty, get-empty}
+use Rattle.std.proofs.lemmas.Bool.{and_parts, cases_lt}
+use Rattle.std.proofs.lemmas.List.{get_or_past}
+use Rattle.version_arena.specs.Shelf.{Content}
+use Rattle.rv_ledger.specs.Key.{Storage, key_cmp}
+use Rattle.rv_ledger.specs.declared.end.End.TheVariants.{Returned}
+use Rattle.rv_ledger.specs.declared.receipt.Receipt.{Receipt}
+use Rattle.read_set.specs.declared.Origin.{Origin}
+use Rattle.read_set.specs.declared.Origin.TheVariants as origin
+use Rattle.read_set.specs.declared.Read.{Read}
+use Rattle.rv_step.specs.Chain.{Reply, AreFrom}
+use Rattle.rv_step.specs.Fold.{laid}
+use Rattle.rv_step.specs.Replies.{replies_of}
+use Rattle.rv_step.specs.declared.answer.Answer.{Answer}
+use Rattle.mvmap.specs.Versions.{Estimate, Stands, entry_at}
+use Rattle.mvmap.specs.Reading.{Seen, see, seen_below, reading, is_origin, stands_among, held}
+use Rattle.mvmap.proofs.Readings.{found_at, base_shown, version_shown}
+use Rattle.stm_state.specs.declared.state.Status.{Status}
+use Rattle.stm_state.specs.declared.state.Status.TheVariants.{Ready, Executing, Executed, Aborting}
+use Rattle.stm_state.specs.declared.state.Recorded.{Recorded}
+use Rattle.stm_state.specs.declared.state.Task.TheVariants.{Idle}
+use Rattle.stm_state.specs.State.{State, fresh, call_at, task_at, is_executed, is_idle, is_done}
+use Rattle.stm_state.specs.Steps.{Block, read_of, reads_of}
+use Rattle.stm_state.specs.Invariant.{view_of, Facts, IsRight, IsRightAnswer, validated, IsSafe, Invariant, write_of, entry_of, entry_by}
+use Rattle.stm_state.specs.Done.{HasVersionsAlone, Reached, IsSerial}
+use Rattle.stm_state.proofs.Tests.{equal_says, all_idle}
+use Rattle.stm_state.proofs.Writes.{over, laid_get}
+use Rattle.stm_state.proofs.Aborts.{version_is}
+use Rattle.stm_state.proofs.Whole.{invariant_kept}
+
+-- ---- what done says
+
+-- both indices are past the last call and nobody has a task
+pub record IsOver (block : Block) (s : State) : Type 0 where
+  pub execution : s.execution ≡ block.count
+  pub validation : s.validation ≡ block.count
+  pub idle : (w : ℕ) → task_at s w ≡ Idle
+
+-- so it is where workers are done
+pub over_at_done : (block : Block) (workers : ℕ) (s : State) → Invariant block workers s → is_done s ≡ true → IsOver block s
+unfolding is_done
+over_at_done block workers s h done =
+    let parts = and_parts (s.execution == length s.calls && s.validation == length s.calls) (list_all is_idle s.tasks) done in
+    let indices = and_parts (s.execution == length s.calls) (s.validation == length s.calls) parts.0 in
+    record {
+      execution = equal_says s.execution (length s.calls) indices.0 ∙ h.sized.calls;
+      validation = equal_says s.validation (length s.calls) indices.1 ∙ h.sized.calls;
+      idle = λ w. all_idle s.tasks w parts.1;
+    }
+
+-- ---- the receipts and the storage before each call
+
+-- a receipt where there is none
+abbrev no_receipt : Receipt
+no_receipt = record { end = Returned; gas = 0; pc = 0; out = []; regs = []; writes = empty }
+
+-- the receipt of a recorded run
+abbrev receipt_or : Option Recorded → Receipt
+receipt_or None = no_receipt
+receipt_or (Some run) = run.receipt
+
+-- the storage after some receipts
+abbrev pub store_after_receipts : Storage → (ℕ → Receipt) → ℕ → Storage
+store_after_receipts base receipt zero = base
+store_after_receipts base receipt (suc i) = laid (store_after_receipts base receipt i) (receipt i).writes
+
+-- what is seen of an EXECUTED call lies over what is seen below it
+held_see : (base : Option (List ℕ)) (i n : ℕ) (o : Option Content) (below : Seen) → held base (see i (option_map (λ c. Stands n c) o) below) ≡ over o (held base below)
+held_see base i n None below = refl
+held_see base i n (Some c) below = refl
+
+-- where nobody validates, what is safe stands
+safe_stands : (s : State) (i : ℕ) (reads : List Read) → ((w : ℕ) → task_at s w ≡ Idle) → AllByRecursion (IsSafe (view_of s) i) reads → AllByRecursion (λ read. stands_among (entry_at s.versions) i read ≡ true) reads
+safe_stands s i [] idle h = tt
+safe_stands s i (read ∷ reads) idle h = (one h.0, safe_stands s i reads idle h.1)
+  where
+    one : IsSafe (view_of s) i read → stands_among (entry_at s.versions) i read ≡ true
+    one (inl stand) = stand
+    one (inr (validated w left task)) = let none = idle w in cc
+
+module _ (block : Block) (s : State) (f : Facts block (view_of s)) (over_now : IsOver block s) where
+  -- the receipt of a call
+  abbrev receipt_at : ℕ → Receipt
+  receipt_at i = receipt_or (call_at s i).last
+
+  -- the storage before a call
+  abbrev before : ℕ → Storage
+  before i = store_after_receipts block.base receipt_at i
+
+  -- where all lower calls are EXECUTED, so is a call
+  status_below : (i : ℕ) → i < block.count → ((j : ℕ) → j < i → (call_at s j).status ≡ Executed) → (st : Status) → (call_at s i).status ≡ st → st ≡ Executed
+  status_below i l rest Ready h = let low = f.ready i h in let e = over_now.execution in absurd (omega (arith, low, e, l))
+  status_below i l rest Executing h = let run = f.executing i h in let runs = run.1 in let none = over_now.idle run.0 in cc
+  status_below i l rest Executed h = refl
+  status_below i l rest Aborting h = let wait = f.aborting i h in absurd (wait.not_done (rest wait.on wait.lower))
+
+  -- all calls below a number are EXECUTED
+  executed_below : (m i : ℕ) → i < m → i < block.count → (call_at s i).status ≡ Executed
+  executed_below zero i l within = absurd (omega arith)
+  executed_below (suc m) i l within = status_below i within (λ j low. executed_below m j (omega (arith, low, l)) (omega (arith, low, within))) (call_at s i).status refl
+
+  -- all calls are EXECUTED
+  all_executed : (i : ℕ) → i < block.count → (call_at s i).status ≡ Executed
+  all_executed i within = executed_below (suc i) i (omega arith) within
+
+  -- all reads stand
+  all_stand : (i : ℕ) → i < block.count → AllByRecursion (λ read. stands_among (entry_at s.versions) i read ≡ true) (reads_of (call_at s i).last)
+  all_stand i within = safe_stands s i (reads_of (call_at s i).last) over_now.idle (f.safe i (all_executed i within) (let e = over_now.validation in omega (arith, e, within)))
+
+  -- the entries of a call are its writes
+  entry_is : (i : ℕ) → i < block.count → (key : List ℕ) → entry_at s.versions key i ≡ option_map (λ c. Stands (call_at s i).incarnation c) (write_of (call_at s i).last key)
+  entry_is i within key = f.entries i key ∙ ap (λ st. entry_by (is_executed st) (call_at s i).incarnation (write_of (call_at s i).last key)) (all_executed i within)
+
+  -- the writes of a recorded run are those of its receipt
+  write_is : (last : Option Recorded) (key : List ℕ) → write_of last key ≡ get (receipt_or last).writes key
+  write_is None key = sym (get-empty key_cmp key)
+  write_is (Some run) key = refl
+
+  -- what call i sees is the storage before it
+  seen_is_store : (i : ℕ) → i ≤ block.count → (key : List ℕ) → held (get block.base key) (seen_below (entry_at s.versions key) i) ≡ get (before i) key
+  unfolding seen_below
+  seen_is_store zero l key = refl
+  seen_is_store (suc i) l key =
+      let o : Option Content = get (receipt_at i).writes key in
+      let below : Seen = seen_below (entry_at s.versions key) i in
+      let own : entry_at s.versions key i ≡ option_map (λ c. Stands (call_at s i).incarnation c) o = entry_is i (omega arith) key ∙ ap (option_map (λ c. Stands (call_at s i).incarnation c)) (write_is (call_at s i).last key) in
+      ap (λ e. held (get block.base key) (see i e below)) own
+      ∙ held_see (get block.base key) i (call_at s i).incarnation o below
+      ∙ ap (over o) (seen_is_store i (omega arith) key)
+      ∙ sym (laid_get (before i) (receipt_at i).writes key)
+
+  -- an answer whose read stands is that of the storage before the call
+  answer_is : (i : ℕ) → i ≤ block.count → (key : List ℕ) (value : Content) (o : Origin) → is_origin o (reading s.versions key i) ≡ true → IsRight block (view_of s) i key value o → value ≡ get (before i) key
+  answer_is i l key value origin.Base stand right =
+      right ∙ ap (held (get block.base key)) (sym (base_shown (reading s.versions key i) stand)) ∙ seen_is_store i l key
+  answer_is i l key value (origin.Version v n) stand right =
+      let shown = version_shown v n (reading s.versions key i) stand in
+      let at = found_at (entry_at s.versions key) i v n shown.0 shown.1 in
+      let there : entry_at s.versions key v ≡ Some (Stands n shown.0) = at.1 in
+      let content : shown.0 ≡ get (before i) key = ap (held (get block.base key)) (sym shown.1) ∙ seen_is_store i l key in
+      elim right.1 [
+        | inl old ↦
+            let low = at.0 in
+            let same : n ≡ (call_at s v).incarnation = version_is (write_of (call_at s v).last key) (call_at s v).incarnation n shown.0 (sym (entry_is v (omega (arith, low, l)) key) ∙ there) in
+            absurd (omega (arith, same, old))
+        | inr stands_there ↦ let is : value ≡ shown.0 = cc in is ∙ content
+      ]
+
+  -- the answers of a run whose reads stand are those of the storage before the call
+  answers_are : (i : ℕ) → i ≤ block.count → (answers : List Answer) → AllByRecursion (λ read. stands_among (entry_at s.versions) i read ≡ true) (map read_of answers) → AllByRecursion (IsRightAnswer block (view_of s) i) answers → AreFrom (before i) (replies_of answers)
+  answers_are i l [] stand right = tt
+  answers_are i l (x ∷ xs) stand right = (answer_is i l x.key x.value x.origin stand.0 right.0, answers_are i l xs stand.1 right.1)
+
+  -- each call has a recorded run
+  receipt_is : (i : ℕ) → i < block.count → (run : Recorded) × ((call_at s i).last ≡ Some run)
+  receipt_is i within = f.executed i (all_executed i within)
+
+  -- answers of the storage before a call bear its receipt out
+  ends_in : (i : ℕ) → i < block.count → (replies : List Reply) × AreFrom (before i) replies × (block.borne i replies ≡ Some (receipt_at i))
+  ends_in i within =
+      let run = receipt_is i within in
+      let b = f.recorded i run.0 run.1 in
+      let reads : reads_of (call_at s i).last ≡ map read_of b.answers = ap reads_of run.1 ∙ sym b.reads in (
+        replies_of b.answers,
+        answers_are i (omega (arith, within)) b.answers (subst (λ xs. AllByRecursion (λ read. stands_among (entry_at s.versions) i read ≡ true) xs) reads (all_stand i within)) b.right,
+        b.borne ∙ ap (λ o. Some (receipt_or o)) (sym run.1),
+      )
+
+  -- the result is that of the calls one after another
+  pub serial : IsSerial block s
+  serial = record {
+    before = before;
+    receipt = receipt_at;
+    first = refl;
+    has = λ i within. let run = receipt_is i within in ap (λ o. option_map (λ r. r.receipt) o) run.1 ∙ ap (λ o. Some (receipt_or o)) (sym run.1);
+    ends = ends_in;
+    next = λ i within. refl;
+    last = λ key. seen_is_store block.count (omega arith) key;
+  }
+
+  -- a version is no estimate
+  no_estimate : (o : Option Content) (n : ℕ) → option_map (λ c. Stands n c) o ≢ Some Estimate
+  no_estimate None n h = cc
+  no_estimate (Some c) n h = cc
+
+  -- the versions hold what the calls wrote and nothing else
+  pub versions_alone : length s.calls ≡ block.count → HasVersionsAlone block s
+  versions_alone size = (
+    past,
+    λ place h. elim (cases_lt place.1 block.count) [
+      | inl within ↦ no_estimate (write_of (call_at s place.1).last place.0) (call_at s place.1).incarnation (sym (entry_is place.1 within place.0) ∙ h)
+      | inr over ↦ let none : entry_at s.versions place.0 place.1 ≡ None = past place.0 place.1 over in cc
+    ],
+  )
+    where
+      past : (key : List ℕ) (w : ℕ) → block.count ≤ w → entry_at s.versions key w ≡ None
+      past key w over = f.entries w key ∙ ap (λ call. entry_of call key) (get_or_past s.calls w fresh (omega (arith, size, over)))
+
+-- where workers are done, the result is that of the calls one after another
+pub serial_at_done : (block : Block) (workers : ℕ) (s : State) → Reached block workers s → is_done s ≡ true → IsSerial block s
+serial_at_done block workers s reached done = let h = invariant_kept block workers s reached in serial block s h.facts (over_at_done block workers s h done)
+
+-- where workers are done, the versions hold what the calls wrote and nothing else
+pub versions_at_done : (block : Block) (workers : ℕ) (s : State) → Reached block workers s → is_done s ≡ true → HasVersionsAlone block s
+versions_at_done block workers s reached done = let h = invariant_kept block workers s reached in versions_alone block s h.facts (over_at_done block workers s h done) h.sized.calls

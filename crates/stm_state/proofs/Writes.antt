@@ -1,0 +1,262 @@
+-- What a map has after writes were published, withdrawn, made estimates or laid over a storage.
+use Rattle.std.proofs.Common.{◌≡◌, ◌≢◌, ◌&&◌, ◌||◌, ℕ, Bool, true, false, not, cond, T, is_some, option_map, fold, map, List, [], ◌∷◌, Option, None, Some, refl, sym, ap, ◌∙◌, inl, inr}
+use Rattle.std.specs.declared.cmp.Ordering.{Ordering}
+use Rattle.std.specs.declared.cmp.Ordering.TheVariants.{Less, Equal, Greater}
+use Rattle.std.specs.Ordering.{ordering_then, is_eq, is_lt, eq_by_cmp}
+use Rattle.std.specs.Cmp.{eq_by_cmp_equiv, nat_cmp_total, tied_itself}
+use Rattle.std.specs.Cmp.Lexicographic.{nat_list_cmp_total}
+use Rattle.std.specs.List.{AllByRecursion, list_any, filter}
+use Rattle.std.specs.FinMap.{FinMap, get, entries, entries_sorted, get-entries, get-insert, get-remove, contains_key, contains_key-keys, find, is_sorted}
+use Rattle.std.specs.FinMap.Entries.{below_all}
+use Rattle.std.proofs.lemmas.Bool.{or_parts}
+use Rattle.std.proofs.lemmas.Map.Lookups.{exact_bytes}
+use Rattle.std.proofs.lemmas.Map.Views.{tells_apart}
+use Rattle.version_arena.specs.Shelf.{Content}
+use Rattle.rv_ledger.specs.Key.{Storage, WriteMap, key_cmp}
+use Rattle.rv_step.specs.Fold.{laid, laid_at}
+use Rattle.mvmap.specs.Versions.{Entry, Stands, Estimate, Place, Versions, changed, place_cmp}
+use Rattle.mvmap.proofs.Places.{get_changed, get_other}
+use Rattle.stm_state.specs.declared.state.Recorded.{Recorded}
+use Rattle.stm_state.specs.Steps.{written_by, published, estimated, left_over, wrote, has_new_key, moved}
+use Rattle.stm_state.specs.Invariant.{write_of}
+
+-- ---- each entry of a map is what the map has at its key
+
+-- the first of two tests
+first_true : (a b : Bool) → T (a && b) → T a
+first_true true b h = tt
+first_true false b h = absurd h
+
+-- the second of two tests
+second_true : (a b : Bool) → T (a && b) → T b
+second_true true b h = h
+second_true false b h = absurd h
+
+-- what the test for less says
+is_less : (o : Ordering) → T (is_lt o) → o ≡ Less
+is_less Less h = refl
+is_less Equal h = absurd h
+is_less Greater h = absurd h
+
+-- an entry is found behind a lower key
+found_later : {X : Type 0} (e : List ℕ × X) (es xs : List (List ℕ × X)) → T (below_all key_cmp e.0 xs) → AllByRecursion (λ x. find key_cmp x.0 es ≡ Some x.1) xs → AllByRecursion (λ x. find key_cmp x.0 (e ∷ es) ≡ Some x.1) xs
+found_later e es [] h k = tt
+found_later e es (x ∷ xs) h k =
+    let below : key_cmp e.0 x.0 ≡ Less = is_less (key_cmp e.0 x.0) (first_true _ _ h) in
+    let other : eq_by_cmp key_cmp x.0 e.0 ≡ false = (eq_by_cmp_equiv nat_list_cmp_total).symm x.0 e.0 ∙ ap is_eq below in
+    (ap (λ b. cond b (Some e.1) (find key_cmp x.0 es)) other ∙ k.0, found_later e es xs (second_true _ _ h) k.1)
+
+-- each entry of a list in order is found at its key
+found_each : {X : Type 0} (es : List (List ℕ × X)) → T (is_sorted key_cmp es) → AllByRecursion (λ x. find key_cmp x.0 es ≡ Some x.1) es
+found_each [] h = tt
+found_each (e ∷ es) h = (
+  ap (λ o. cond (is_eq o) (Some e.1) (find key_cmp e.0 es)) (tied_itself nat_list_cmp_total e.0),
+  found_later e es es (first_true _ _ h) (found_each es (second_true _ _ h)),
+)
+
+-- what follows of one follows of all
+all_map : {X : Type 0} (P Q : X → Type 0) → ((x : X) → P x → Q x) → (xs : List X) → AllByRecursion P xs → AllByRecursion Q xs
+all_map P Q f [] h = tt
+all_map P Q f (x ∷ xs) h = (f x h.0, all_map P Q f xs h.1)
+
+-- a map has each of its entries at its key
+pub entries_found : {X : Type 0} (m : FinMap key_cmp X) → AllByRecursion (λ e. get m e.0 ≡ Some e.1) (entries m)
+entries_found m = all_map (λ e. find key_cmp e.0 (entries m) ≡ Some e.1) (λ e. get m e.0 ≡ Some e.1) (λ e h. get-entries m e.0 ∙ h) (entries m) (found_each (entries m) (entries_sorted m))
+
+-- ---- keys of writes
+
+-- some write is at a key
+abbrev pub at_key : {X : Type 0} → List ℕ → List (List ℕ × X) → Bool
+at_key key es = list_any (eq_by_cmp key_cmp key) (map (λ e. e.0) es)
+
+-- keys that compare alike are one
+same_key : (key k : List ℕ) → eq_by_cmp key_cmp key k ≡ true → key ≡ k
+same_key key k h = tells_apart exact_bytes key k h
+
+-- of writes whose keys pass a test some is at a key where the test passes it and some write is at it
+at_key_filter : {X : Type 0} (p : List ℕ → Bool) (key : List ℕ) (es : List (List ℕ × X)) → at_key key (filter (λ e. p e.0) es) ≡ (p key && at_key key es)
+at_key_filter p key [] = none (p key)
+  where
+    none : (b : Bool) → false ≡ (b && false)
+    none true = refl
+    none false = refl
+at_key_filter {X} p key (e ∷ es) = go (at_key_filter p key es) (p e.0) refl (eq_by_cmp key_cmp key e.0) refl (p key) refl
+  where
+    go : at_key key (filter (λ e. p e.0) es) ≡ (p key && at_key key es) → (a : Bool) → p e.0 ≡ a → (b : Bool) → eq_by_cmp key_cmp key e.0 ≡ b → (c : Bool) → p key ≡ c
+        → at_key key (cond a (e ∷ filter (λ e. p e.0) es) (filter (λ e. p e.0) es)) ≡ (c && (b || at_key key es))
+    go rest true ha true hb true hc = ap (λ t. t || at_key key (filter (λ e. p e.0) es)) hb
+    go rest true ha true hb false hc = let one : p key ≡ p e.0 = ap p (same_key key e.0 hb) in cc
+    go rest true ha false hb c hc = ap (λ t. t || at_key key (filter (λ e. p e.0) es)) hb ∙ rest ∙ ap (λ t. t && at_key key es) hc
+    go rest false ha true hb true hc = let one : p key ≡ p e.0 = ap p (same_key key e.0 hb) in cc
+    go rest false ha true hb false hc = rest ∙ ap (λ t. t && at_key key es) hc
+    go rest false ha false hb c hc = rest ∙ ap (λ t. t && at_key key es) hc
+
+-- where no write's key passes a test, no key of a write does
+at_key_none : {X : Type 0} (p : List ℕ → Bool) (key : List ℕ) (es : List (List ℕ × X)) → list_any (λ e. p e.0) es ≡ false → at_key key es ≡ true → p key ≡ false
+at_key_none p key [] h k = cc
+at_key_none p key (e ∷ es) h k =
+    let both = or_parts (p e.0) (list_any (λ x. p x.0) es) h in
+    go (at_key_none p key es both.1) (eq_by_cmp key_cmp key e.0) refl k both.0
+  where
+    go : (at_key key es ≡ true → p key ≡ false) → (b : Bool) → eq_by_cmp key_cmp key e.0 ≡ b → (b || at_key key es) ≡ true → p e.0 ≡ false → p key ≡ false
+    go rest true hb h2 h3 = ap p (same_key key e.0 hb) ∙ h3
+    go rest false hb h2 h3 = rest h2
+
+-- ---- the versions with one writer's entries changed
+
+-- the entries of a writer at the keys of some writes, changed to what each write says
+abbrev changed_all : ℕ → (List ℕ × Content → Option Entry) → Versions → List (List ℕ × Content) → Versions
+changed_all i h v es = fold (λ v write. changed v (write.0, i) (h write)) v es
+
+-- other writers keep theirs
+all_other : (i : ℕ) (h : List ℕ × Content → Option Entry) (es : List (List ℕ × Content)) (v : Versions) (key : List ℕ) (j : ℕ) → j ≢ i → get (changed_all i h v es) (key, j) ≡ get v (key, j)
+all_other i h [] v key j ne = refl
+all_other i h (e ∷ es) v key j ne = all_other i h es (changed v (e.0, i) (h e)) key j ne ∙ elim (get_other v (e.0, i) (h e) (key, j)) [
+  | inl p ↦ p
+  | inr q ↦ absurd (ne (ap (λ (p : Place). p.1) q))
+]
+
+-- a comparison that then finds nothing
+then_equal : (o : Ordering) → ordering_then o Equal ≡ o
+then_equal Less = refl
+then_equal Equal = refl
+then_equal Greater = refl
+
+-- places of one writer are alike where their keys are
+one_writer : (key k : List ℕ) (i : ℕ) → eq_by_cmp place_cmp (key, i) (k, i) ≡ eq_by_cmp key_cmp key k
+one_writer key k i = ap is_eq (ap (ordering_then (key_cmp key k)) (tied_itself nat_cmp_total i) ∙ then_equal (key_cmp key k))
+
+-- a choice made twice
+chosen : (a b : Bool) (x y o : Option Entry) → (b ≡ true → x ≡ y) → cond a y (cond b x o) ≡ cond (b || a) y o
+chosen true true x y o h = refl
+chosen true false x y o h = refl
+chosen false true x y o h = h refl
+chosen false false x y o h = refl
+
+-- the writer has at a key what the writes there say
+all_at : (i : ℕ) (h : List ℕ × Content → Option Entry) (es : List (List ℕ × Content)) (v : Versions) (key : List ℕ) (x : Option Entry) → AllByRecursion (λ e. key ≡ e.0 → h e ≡ x) es → get (changed_all i h v es) (key, i) ≡ cond (at_key key es) x (get v (key, i))
+all_at i h [] v key x all = refl
+all_at i h (e ∷ es) v key x all =
+    all_at i h es (changed v (e.0, i) (h e)) key x all.1
+    ∙ ap (cond (at_key key es) x) (get_changed v (e.0, i) (h e) (key, i) ∙ ap (λ b. cond b (h e) (get v (key, i))) (one_writer key e.0 i))
+    ∙ chosen (at_key key es) (eq_by_cmp key_cmp key e.0) (h e) x (get v (key, i)) (λ t. all.0 (same_key key e.0 t))
+
+-- ---- what a record does to the versions
+
+-- other writers keep their entries
+pub moved_other : (i n : ℕ) (last : Option Recorded) (writes : WriteMap) (v : Versions) (key : List ℕ) (j : ℕ) → j ≢ i → get (moved i n last writes v) (key, j) ≡ get v (key, j)
+moved_other i n last writes v key j ne =
+    all_other i (λ write. None) (left_over last writes) (published i n (entries writes) v) key j ne
+    ∙ all_other i (λ write. Some (Stands n write.1)) (entries writes) v key j ne
+
+-- the last run wrote at a key where it has a write there
+at_key_last : (key : List ℕ) (last : Option Recorded) → at_key key (written_by last) ≡ is_some (write_of last key)
+at_key_last key None = refl
+at_key_last key (Some run) = sym (contains_key-keys run.receipt.writes key)
+
+-- what holds of anything holds of all
+always : {X : Type 0} (P : X → Type 0) → ((x : X) → P x) → (xs : List X) → AllByRecursion P xs
+always P h [] = tt
+always P h (x ∷ xs) = (h x, always P h xs)
+
+-- publishing over and withdrawing the estimates leaves just the new versions
+moved_value : (n : ℕ) (o old : Option Content) → cond (not (is_some o) && is_some old) None (cond (is_some o) (option_map (λ c. Stands n c) o) (option_map (λ c. Estimate) old)) ≡ option_map (λ c. Stands n c) o
+moved_value n None None = refl
+moved_value n None (Some x) = refl
+moved_value n (Some c) None = refl
+moved_value n (Some c) (Some x) = refl
+
+-- a published run stands at the keys that it wrote
+published_at : (i n : ℕ) (writes : WriteMap) (v : Versions) (key : List ℕ) → get (published i n (entries writes) v) (key, i) ≡ cond (is_some (get writes key)) (option_map (λ c. Stands n c) (get writes key)) (get v (key, i))
+published_at i n writes v key =
+    all_at i (λ write. Some (Stands n write.1)) (entries writes) v key (option_map (λ c. Stands n c) (get writes key))
+    (all_map (λ e. get writes e.0 ≡ Some e.1) (λ e. key ≡ e.0 → Some (Stands n e.1) ≡ option_map (λ c. Stands n c) (get writes key))
+    (λ e found same. sym (ap (option_map (λ c. Stands n c)) (ap (get writes) same ∙ found))) (entries writes) (entries_found writes))
+    ∙ ap (λ b. cond b (option_map (λ c. Stands n c) (get writes key)) (get v (key, i))) (sym (contains_key-keys writes key))
+
+-- a key is withdrawn where the last run wrote it and this one did not
+left_at : (key : List ℕ) (last : Option Recorded) (writes : WriteMap) → at_key key (left_over last writes) ≡ (not (is_some (get writes key)) && is_some (write_of last key))
+left_at key last writes = at_key_filter (λ k. not (contains_key writes k)) key (written_by last) ∙ ap (λ b. not (is_some (get writes key)) && b) (at_key_last key last)
+
+-- where the writer had estimates at the keys of its last run, it has just the new versions
+pub moved_at : (i n : ℕ) (last : Option Recorded) (writes : WriteMap) (v : Versions) (key : List ℕ) → get v (key, i) ≡ option_map (λ c. Estimate) (write_of last key) → get (moved i n last writes v) (key, i) ≡ option_map (λ c. Stands n c) (get writes key)
+moved_at i n last writes v key old =
+    all_at i (λ write. None) (left_over last writes) (published i n (entries writes) v) key None (always (λ e. key ≡ e.0 → None ≡ None) (λ e same. refl) (left_over last writes))
+    ∙ ap (λ b. cond b None (get (published i n (entries writes) v) (key, i))) (left_at key last writes)
+    ∙ ap (cond (not (is_some (get writes key)) && is_some (write_of last key)) None) (published_at i n writes v key ∙ ap (cond (is_some (get writes key)) (option_map (λ c. Stands n c) (get writes key))) old)
+    ∙ moved_value n (get writes key) (write_of last key)
+
+-- what it says that a run wrote a key
+wrote_says : (last : Option Recorded) (key : List ℕ) → not (wrote last key) ≡ false → is_some (write_of last key) ≡ true
+wrote_says None key h = cc
+wrote_says (Some run) key h = go (is_some (get run.receipt.writes key)) h
+  where
+    go : (b : Bool) → not b ≡ false → b ≡ true
+    go true h = refl
+    go false h = cc
+
+-- a run without a new key wrote only at keys of the last run
+pub no_new_key : (last : Option Recorded) (writes : WriteMap) (key : List ℕ) → has_new_key last writes ≡ false → is_some (get writes key) ≡ true → is_some (write_of last key) ≡ true
+no_new_key last writes key none there =
+    wrote_says last key (at_key_none (λ k. not (wrote last k)) key (entries writes) none (sym (contains_key-keys writes key) ∙ there))
+
+-- ---- what an abort does to the versions
+
+-- other writers keep their entries
+pub estimated_other : (i : ℕ) (last : Option Recorded) (v : Versions) (key : List ℕ) (j : ℕ) → j ≢ i → get (estimated i (written_by last) v) (key, j) ≡ get v (key, j)
+estimated_other i last v key j ne = all_other i (λ write. Some Estimate) (written_by last) v key j ne
+
+-- an estimate stands where a version stood
+estimated_value : (n : ℕ) (o : Option Content) → cond (is_some o) (Some Estimate) (option_map (λ c. Stands n c) o) ≡ option_map (λ c. Estimate) o
+estimated_value n None = refl
+estimated_value n (Some c) = refl
+
+-- where the writer had its run's versions, it has estimates at their keys
+pub estimated_at : (i n : ℕ) (last : Option Recorded) (v : Versions) (key : List ℕ) → get v (key, i) ≡ option_map (λ c. Stands n c) (write_of last key) → get (estimated i (written_by last) v) (key, i) ≡ option_map (λ c. Estimate) (write_of last key)
+estimated_at i n last v key old =
+    all_at i (λ write. Some Estimate) (written_by last) v key (Some Estimate) (always (λ e. key ≡ e.0 → Some Estimate ≡ Some Estimate) (λ e same. refl) (written_by last))
+    ∙ ap (λ b. cond b (Some Estimate) (get v (key, i))) (at_key_last key last)
+    ∙ ap (cond (is_some (write_of last key)) (Some Estimate)) old
+    ∙ estimated_value n (write_of last key)
+
+-- ---- writes laid over a storage
+
+-- a content over what was there
+abbrev pub over : Option Content → Option (List ℕ) → Option (List ℕ)
+over None old = old
+over (Some content) old = content
+
+-- what a storage has after one write
+get_laid_at : (store : Storage) (k : List ℕ) (content : Content) (key : List ℕ) → get (laid_at store k content) key ≡ cond (eq_by_cmp key_cmp key k) content (get store key)
+get_laid_at store k None key = get-remove nat_list_cmp_total store k key
+get_laid_at store k (Some value) key = get-insert nat_list_cmp_total store k value key
+
+-- a choice made twice
+picked : (a b : Bool) (x y o : Option (List ℕ)) → (b ≡ true → x ≡ y) → cond a y (cond b x o) ≡ cond (b || a) y o
+picked true true x y o h = refl
+picked true false x y o h = refl
+picked false true x y o h = h refl
+picked false false x y o h = refl
+
+-- what a storage has after some writes
+laid_all : (es : List (List ℕ × Content)) (store : Storage) (key : List ℕ) (x : Option (List ℕ)) → AllByRecursion (λ e. key ≡ e.0 → e.1 ≡ x) es → get (fold (λ before write. laid_at before write.0 write.1) store es) key ≡ cond (at_key key es) x (get store key)
+laid_all [] store key x all = refl
+laid_all (e ∷ es) store key x all =
+    laid_all es (laid_at store e.0 e.1) key x all.1
+    ∙ ap (cond (at_key key es) x) (get_laid_at store e.0 e.1 key)
+    ∙ picked (at_key key es) (eq_by_cmp key_cmp key e.0) e.1 x (get store key) (λ t. all.0 (same_key key e.0 t))
+
+-- a choice by whether there is a content
+over_is : (o : Option Content) (old : Option (List ℕ)) → cond (is_some o) (over o None) old ≡ over o old
+over_is None old = refl
+over_is (Some c) old = refl
+
+-- a storage with writes laid over it has at a key what was written there, and else what it had
+pub laid_get : (store : Storage) (writes : WriteMap) (key : List ℕ) → get (laid store writes) key ≡ over (get writes key) (get store key)
+unfolding laid
+laid_get store writes key =
+    laid_all (entries writes) store key (over (get writes key) None)
+    (all_map (λ e. get writes e.0 ≡ Some e.1) (λ e. key ≡ e.0 → e.1 ≡ over (get writes key) None)
+    (λ e found same. sym (ap (λ o. over o None) (ap (get writes) same ∙ found))) (entries writes) (entries_found writes))
+    ∙ ap (λ b. cond b (over (get writes key) None) (get store key)) (sym (contains_key-keys writes key))
+    ∙ over_is (get writes key) (get store key)

@@ -1,0 +1,5 @@
+pub mod State
+pub mod Steps
+pub mod Invariant
+pub mod Done
+pub mod Rows

@@ -1,0 +1,229 @@
+-- The step that a worker owes, as a function of the state (Block-STM). A record publishes and withdraws all
+-- its keys at once, and a validation checks all its reads at once.
+use Rattle.std.specs.Prelude.{ℕ, ◌+◌, ◌==◌, nat_lt, nat_le, min, Bool, false, not, ◌&&◌, ◌||◌, if◌then◌else◌, List, [], ◌∷◌, ◌++◌, map, length, get_or, set, fold, Option, None, Some, Result, Ok, Err}
+use Rattle.std.specs.List.{list_all, list_any, filter}
+use Rattle.std.specs.FinMap.{get, insert, remove, entries, contains_key, len}
+use Rattle.rv_ledger.specs.Key.{Storage, WriteMap}
+use Rattle.rv_ledger.specs.declared.receipt.Receipt.{Receipt}
+use Rattle.rv_ledger.specs.declared.outcome.Counts.{Counts}
+use Rattle.read_set.specs.declared.Origin.TheVariants as origin
+use Rattle.read_set.specs.declared.Read.{Read}
+use Rattle.rv_step.specs.Chain.{Reply}
+use Rattle.rv_step.specs.Replies.{replies_of}
+use Rattle.rv_step.specs.declared.answer.Answer.{Answer}
+use Rattle.mvmap.specs.Versions.{Versions, Stands, Estimate}
+use Rattle.mvmap.specs.Reading.{Seen, Base, Found, Blocked, reading, stands}
+use Rattle.stm_state.specs.declared.state.Status.TheVariants.{Ready, Executing, Executed, Aborting}
+use Rattle.stm_state.specs.declared.state.CallState.{CallState}
+use Rattle.stm_state.specs.declared.state.Recorded.{Recorded}
+use Rattle.stm_state.specs.declared.state.Task.{Task}
+use Rattle.stm_state.specs.declared.state.Task.TheVariants.{Idle, Running, Validating}
+use Rattle.stm_state.specs.State.{State, call_at, task_at, with_call, with_task, no_counts, is_ready, is_executed, is_aborting, is_done}
+
+-- a block as the workers see it: how many calls it has, the storage before it, and the receipt that answers bear out of
+-- the call of an index
+pub record Block : Type 0 where
+  pub count : ℕ
+  pub base : Storage
+  pub borne : ℕ → List Reply → Option Receipt
+
+-- what a step adds to a worker's counts
+abbrev pub counted : (Counts → Counts) → ℕ → State → State
+counted add w s = record s { counts = set s.counts w (add (get_or s.counts w no_counts)) }
+
+abbrev pub one_step : Counts → Counts
+one_step c = record c { steps = c.steps + 1 }
+
+abbrev pub one_asking : Counts → Counts
+one_asking c = record c { steps = c.steps + 1; asks = c.asks + 1 }
+
+abbrev pub one_execution : Counts → Counts
+one_execution c = record c { steps = c.steps + 1; executions = c.executions + 1 }
+
+abbrev pub one_validation : Counts → Counts
+one_validation c = record c { steps = c.steps + 1; validations = c.validations + 1 }
+
+-- the reads of a recorded run, and the writes of its receipt; none where there is none
+abbrev pub reads_of : Option Recorded → List Read
+reads_of None = []
+reads_of (Some run) = run.reads
+
+abbrev pub written_by : Option Recorded → List (List ℕ × Option (List ℕ))
+written_by None = []
+written_by (Some run) = entries run.receipt.writes
+
+-- to ready a call: incarnation plus one
+abbrev pub readied : CallState → CallState
+readied call = record call { status = Ready; incarnation = call.incarnation + 1; parked = None }
+
+-- ask: told that all is done
+abbrev pub told_done : ℕ → State → State
+told_done w s = record s { dones = set s.dones w (get_or s.dones w 0 + 1) }
+
+-- ask: the validation index goes on, and its call is validated if it is EXECUTED
+unfoldable pub ask_validation : ℕ → State → State
+ask_validation w s =
+    let i = s.validation in
+    let call = call_at s i in
+    let t = record s { validation = i + 1 } in
+    if is_executed call.status then with_task w (Validating i call.incarnation (length (reads_of call.last))) t else t
+
+-- ask: the execution index goes on, and its call is run if it is READY
+unfoldable pub ask_execution : ℕ → State → State
+ask_execution w s =
+    let i = s.execution in
+    let call = call_at s i in
+    let t = record s { execution = i + 1 } in
+    if is_ready call.status then with_task w (Running i [] None) (with_call i (record call { status = Executing }) t) else t
+
+-- ask
+abbrev pub asked : ℕ → State → State
+asked w s =
+    if is_done s then told_done w s
+    else if nat_lt s.validation s.execution then ask_validation w s
+    else if nat_lt s.execution (length s.calls) then ask_execution w s
+    else s
+
+-- read: what the run is answered, or the call that it is blocked on
+abbrev pub answered_with : Storage → List ℕ → ℕ → List Answer → Seen → Task
+answered_with base key i answers Base = Running i (answers ++ record { key = key; value = get base key; origin = origin.Base } ∷ []) None
+answered_with base key i answers (Found w n content) = Running i (answers ++ record { key = key; value = content; origin = origin.Version w n } ∷ []) None
+answered_with base key i answers (Blocked b) = Running i answers (Some b)
+
+abbrev pub read_at : Storage → List ℕ → ℕ → ℕ → List Answer → State → State
+read_at base key w i answers s = with_task w (answered_with base key i answers (reading s.versions key i)) s
+
+-- park: where the call that it waits for is EXECUTED the run starts again, else it is parked on that call
+unfoldable pub parked : ℕ → ℕ → ℕ → State → State
+parked w i b s =
+    if is_executed (call_at s b).status then with_task w (Running i [] None) s
+    else with_task w Idle (with_call i (record (call_at s i) { status = Aborting; parked = Some b }) s)
+
+-- what a run read
+abbrev pub read_of : Answer → Read
+read_of answer = record { key = answer.key; origin = answer.origin }
+
+-- a run's writes published at an incarnation, some keys withdrawn, and some made estimates
+abbrev pub published : ℕ → ℕ → List (List ℕ × Option (List ℕ)) → Versions → Versions
+published i n writes versions = fold (λ v write. insert v (write.0, i) (Stands n write.1)) versions writes
+
+abbrev pub withdrawn : ℕ → List (List ℕ × Option (List ℕ)) → Versions → Versions
+withdrawn i writes versions = fold (λ v write. remove v (write.0, i)) versions writes
+
+abbrev pub estimated : ℕ → List (List ℕ × Option (List ℕ)) → Versions → Versions
+estimated i writes versions = fold (λ v write. insert v (write.0, i) Estimate) versions writes
+
+-- the writes of the last recorded run whose keys this run did not write
+abbrev pub left_over : Option Recorded → WriteMap → List (List ℕ × Option (List ℕ))
+left_over last writes = filter (λ write. not (contains_key writes write.0)) (written_by last)
+
+-- whether a run wrote a key that the last recorded one did not write; of a first run each written key is new
+abbrev pub wrote : Option Recorded → List ℕ → Bool
+wrote None key = false
+wrote (Some run) key = contains_key run.receipt.writes key
+
+abbrev pub has_new_key : Option Recorded → WriteMap → Bool
+has_new_key last writes = list_any (λ write. not (wrote last write.0)) (entries writes)
+
+-- parked on a call
+abbrev pub is_option : Option ℕ → ℕ → Bool
+is_option None i = false
+is_option (Some j) i = j == i
+
+abbrev pub is_parked_on : ℕ → CallState → Bool
+is_parked_on i call = is_aborting call.status && is_option call.parked i
+
+-- those that are parked on a call are readied
+abbrev pub readied_if : ℕ → CallState → CallState
+readied_if i call = if is_parked_on i call then readied call else call
+
+-- an index lowered to the least of the calls that are parked on call i, the first of these calls having number p
+abbrev pub lowered : ℕ → ℕ → ℕ → List CallState → ℕ
+lowered i x p [] = x
+lowered i x p (call ∷ calls) = lowered i (if is_parked_on i call then min x p else x) (p + 1) calls
+
+-- record: the versions
+abbrev pub moved : ℕ → ℕ → Option Recorded → WriteMap → Versions → Versions
+moved i n last writes versions = withdrawn i (left_over last writes) (published i n (entries writes) versions)
+
+-- record: all that are parked on call i are readied
+unfoldable pub woken : ℕ → State → State
+woken i s = record s { calls = map (readied_if i) s.calls; execution = lowered i s.execution 0 s.calls }
+
+-- record: what is validated again. Where V is past call i, all from i on if the run wrote a new key, else call i
+unfoldable pub to_validate : ℕ → ℕ → Bool → Task → State → State
+to_validate w i new task s =
+    if nat_lt i s.validation then (if new then with_task w Idle (record s { validation = i }) else with_task w task s)
+    else with_task w Idle s
+
+-- record: the run that is kept
+abbrev pub kept : List Answer → Receipt → Recorded
+kept answers receipt = record { receipt = receipt; reads = map read_of answers }
+
+-- record
+abbrev pub recorded : ℕ → ℕ → List Answer → Receipt → State → State
+recorded w i answers receipt s =
+    let call = call_at s i in
+    let t = record s { versions = moved i call.incarnation call.last receipt.writes s.versions; placed = s.placed + len receipt.writes } in
+    to_validate w i (has_new_key call.last receipt.writes) (Validating i call.incarnation (length answers))
+    (woken i (with_call i (record call { status = Executed; last = Some (kept answers receipt) }) t))
+
+-- validate: a call is EXECUTED at an incarnation
+abbrev pub is_executed_at : ℕ → CallState → Bool
+is_executed_at n call = is_executed call.status && call.incarnation == n
+
+-- validate: an abort makes the written keys estimates, readies the call, and lowers V to the call behind it; where
+-- the execution index is past the call, the worker runs it
+unfoldable pub aborted : ℕ → ℕ → State → State
+aborted w i s =
+    let call = call_at s i in
+    let t = record s { versions = estimated i (written_by call.last) s.versions; validation = min s.validation (i + 1) } in
+    if nat_lt i s.execution then with_task w (Running i [] None) (with_call i (record (readied call) { status = Executing }) t)
+    else with_task w Idle (with_call i (readied call) t)
+
+-- validate: whether all reads of a call stand
+abbrev pub all_stand : ℕ → State → Bool
+all_stand i s = list_all (stands s.versions i) (reads_of (call_at s i).last)
+
+unfoldable pub validated : ℕ → ℕ → ℕ → State → State
+validated w i n s = if is_executed_at n (call_at s i) && not (all_stand i s) then aborted w i s else with_task w Idle s
+
+-- validate: it is a decision unless the call is no more EXECUTED at that incarnation and there were reads to check
+abbrev pub decided : ℕ → ℕ → ℕ → State → Bool
+decided i n left s = is_executed_at n (call_at s i) || left == 0
+
+-- a step by its kind; a read names its key
+pub data Step : Type 0 where
+  Ask : Step
+  Read_key : List ℕ → Step
+  Park : Step
+  Record : Step
+  Validate : Step
+
+-- why a step is refused
+pub data Limit : Type 0 where
+  ArenaFull : Limit
+  IncarnationLimit : Limit
+
+-- a run may be handed in: the arena has room for its writes, and its incarnation is below the limit
+abbrev pub record_within : ℕ → List Answer → ℕ → Option Receipt → State → Option (Result State Limit)
+record_within i answers w None s = None
+record_within i answers w (Some receipt) s =
+    if nat_lt 1048576 (s.placed + len receipt.writes) then Some (Err ArenaFull)
+    else if nat_le 65535 (call_at s i).incarnation then Some (Err IncarnationLimit)
+    else Some (Ok (counted one_execution w (recorded w i answers receipt s)))
+
+-- the step of a worker with a task: None where it is not due
+abbrev pub step_with : Block → ℕ → Task → Step → State → Option (Result State Limit)
+step_with block w Idle Ask s = Some (Ok (counted one_asking w (asked w s)))
+step_with block w (Running i answers None) (Read_key key) s = Some (Ok (counted one_step w (read_at block.base key w i answers s)))
+step_with block w (Running i answers (Some b)) Park s =
+    if nat_le 65535 (call_at s i).incarnation then Some (Err IncarnationLimit) else Some (Ok (counted one_step w (parked w i b s)))
+step_with block w (Running i answers None) Record s = record_within i answers w (block.borne i (replies_of answers)) s
+step_with block w (Validating i n left) Validate s =
+    Some (Ok (counted (if decided i n left s then one_validation else one_step) w (validated w i n s)))
+step_with block w task step s = None
+
+-- worker step
+abbrev pub worker_step : Block → ℕ → Step → State → Option (Result State Limit)
+worker_step block w step s = step_with block w (task_at s w) step s

@@ -1,0 +1,11 @@
+//! The state of a speculative run of a block, the steps that workers make on it, and the theorem
+//! that where they are done the result is that of the calls in order (Block-STM).
+#![tactic(auto)]
+
+mod laws;
+mod schedules;
+mod state;
+
+pub use laws::{done_has_versions_alone, done_is_in_order, done_is_serial, invariant_holds};
+pub use schedules::schedules_come_to;
+pub use state::{Answers, CallState, Recorded, Status, Task};

@@ -1,0 +1,86 @@
+use cmdline::{Request, request_of};
+use std::alloc::{AllocError, Global};
+use std::test::Fail;
+
+// The words of a line, which one space parts.
+fn words_of(alloc: Global, line: &str) -> Result<Vec<String>, AllocError> {
+    let mut words = Vec::new(alloc);
+    for word in line.split(' ') {
+        words.push(String::from_str(alloc, word)?)?;
+    }
+    Ok(words)
+}
+
+#[test]
+fn reads_seq(rt: HostRuntime) -> Result<(), Fail> {
+    let alloc = rt.alloc();
+    for line in ["rvstm seq a.block", "rvstm seq -- a.block"] {
+        let words = words_of(alloc, line)?;
+        let request = request_of(alloc, words.as_slice())?;
+        assert!(rt; request == Some(Request::Seq { file: "a.block" }), "{line}");
+    }
+    Ok(())
+}
+
+#[test]
+fn reads_asm_and_dis(rt: HostRuntime) -> Result<(), Fail> {
+    let alloc = rt.alloc();
+    for line in ["rvstm asm a.s --out a.elf", "rvstm asm --out=a.elf a.s"] {
+        let words = words_of(alloc, line)?;
+        let request = request_of(alloc, words.as_slice())?;
+        let asked = Request::Asm {
+            file: "a.s",
+            out: "a.elf",
+        };
+        assert!(rt; request == Some(asked), "{line}");
+    }
+    let words = words_of(alloc, "rvstm dis a.elf")?;
+    let request = request_of(alloc, words.as_slice())?;
+    assert!(rt; request == Some(Request::Dis { file: "a.elf" }));
+    Ok(())
+}
+
+#[test]
+fn refuses_wrong_lines(rt: HostRuntime) -> Result<(), Fail> {
+    let alloc = rt.alloc();
+    for line in [
+        "rvstm",
+        "rvstm sec a.block",
+        "rvstm seq",
+        "rvstm seq a.block b.block",
+        "rvstm seq --fast a.block",
+        "rvstm asm a.s",
+        "rvstm asm --out a.elf",
+        "rvstm dis",
+        "rvstm dis a.elf --out b",
+    ] {
+        let words = words_of(alloc, line)?;
+        match request_of(alloc, words.as_slice()) {
+            Ok(_) => return Err(Fail::from(line)),
+            Err(error) => assert!(rt; error.use_stderr(), "{line}"),
+        }
+    }
+    Ok(())
+}
+
+#[test]
+fn answers_requests_for_help(rt: HostRuntime) -> Result<(), Fail> {
+    let alloc = rt.alloc();
+    for (line, part) in [
+        ("rvstm --help", "Executes blocks"),
+        ("rvstm help seq", "The block file"),
+        ("rvstm seq --help", "The block file"),
+        ("rvstm --version", "rvstm 0.1.0"),
+    ] {
+        let words = words_of(alloc, line)?;
+        match request_of(alloc, words.as_slice()) {
+            Ok(_) => return Err(Fail::from(line)),
+            Err(error) => {
+                assert!(rt; !error.use_stderr(), "{line}");
+                let text = format!(in alloc; "{error}")?;
+                assert!(rt; text.contains(part), "{line}");
+            }
+        }
+    }
+    Ok(())
+}

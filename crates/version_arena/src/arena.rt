@@ -1,0 +1,136 @@
+//! The list of a block's records.
+
+ghost use Rattle.std.specs.Prelude.{◌≡◌, ◌+◌, ◌<◌, ◌≤◌, ◌↔◌, [], Err, IfSome, OnOk, length, slice_get, take};
+ghost use Rattle.std.specs.Option.{option_copied, option_map};
+ghost use Rattle.version_arena.specs.Shelf.{bytes_of, placed};
+ghost use Rattle.version_arena.specs.Lent.{lent};
+ghost use Rattle.version_arena.specs.declared.fault.ReserveFault.TheVariants.{ArenaFull};
+
+use crate::fault::ReserveFault;
+use crate::record::{Record, VersionId};
+use crate::slot::Slot;
+use rv_ledger::Value;
+use rv_ledger::short_bytes::VALUE_LIMIT;
+use std::alloc::{AllocError, Global};
+use std::marker::Model;
+
+/// The greatest number of records of one block.
+pub const RECORD_LIMIT: usize = 1_048_576;
+
+/// The records of one block, in the order in which they were placed, at most 1,048,576; and room
+/// for more.
+#[derive(Drop)]
+pub struct Arena {
+    slots: Vec<Slot>,
+    len: usize,
+    bytes: usize,
+}
+
+impl Model for Arena {
+    ghost use Rattle.std.specs.Prelude.{◌≤◌, ◌-◌, length, take};
+    ghost use Rattle.version_arena.specs.Shelf.{Shelf};
+
+    ghost Value = { Shelf };
+
+    ghost view = { λ a. record { records = take a.len a.slots.items; room = length a.slots.items - a.len; bytes = a.bytes } };
+
+    ghost invariant = { λ a. (a.len ≤ length a.slots.items) × (length a.slots.items ≤ 1048576) };
+}
+
+impl Arena {
+    /// No records, and no room for any. Takes no memory.
+    pub fn new(alloc: Global) -> Arena
+        ensures { result ≡ record { records = []; room = 0; bytes = 0 } }
+    {
+        Arena {
+            slots: Vec::new(alloc),
+            len: 0,
+            bytes: 0,
+        }
+    }
+
+    /// Makes room for this many more records, whose values have together at most this many bytes.
+    /// Refused as ArenaFull exactly where there would be above 1,048,576 records, and as Memory
+    /// where memory ran out. The records stay, and no room is lost.
+    pub fn reserve(&mut self, records: usize, bytes: usize) -> Result<(), ReserveFault>
+        ensures full { (result ≡ Err ArenaFull) ↔ (RECORD_LIMIT < length self.old.records + records) }
+        ensures ok { OnOk result ((records ≤ self.new.room) × (bytes ≤ self.new.bytes)) }
+        ensures records { self.new.records ≡ self.old.records }
+        ensures room { self.old.room ≤ self.new.room }
+        ensures bytes { self.old.bytes ≤ self.new.bytes }
+        ensures unchanged { result ≡ Err ArenaFull → self.new ≡ self.old }
+    {
+        if records > RECORD_LIMIT - self.len {
+            return Err(ReserveFault::ArenaFull);
+        }
+        grow(&mut self.slots, self.len + records)?;
+        self.bytes = self.bytes.max(bytes);
+        Ok(())
+    }
+
+    /// Adds a record at the end, in room that is there, and gives its name. Takes no memory.
+    pub fn place(&mut self, writer: u16, incarnation: u16, value: Option<&Value>) -> VersionId
+        requires room { 1 ≤ self.old.room }
+        requires bytes { bytes_of (option_copied value) ≤ self.old.bytes }
+        ensures id { result ≡ length self.old.records }
+        ensures placed { self.new ≡ placed writer incarnation (option_copied value.entry) self.old }
+    {
+        let place = self.len;
+        self.slots[place] = Slot::of(writer, incarnation, value);
+        self.len += 1;
+        self.bytes -= len_of(value);
+        VersionId { place }
+    }
+
+    /// The record of a name, or None where no record has it.
+    pub fn get(&self, id: VersionId) -> Option<Record<'_>>
+        ensures record { option_map lent result ≡ slice_get self.now.records id }
+        ensures short { IfSome result (λ r. IfSome r.content (λ bytes. length bytes.now ≤ VALUE_LIMIT)) }
+    {
+        if id.place >= self.len {
+            return None;
+        }
+        let slot = &self.slots[id.place];
+        Some(slot.record())
+    }
+
+    /// How many records there are, at most 1,048,576.
+    pub fn len(&self) -> usize
+        ensures len { result ≡ length self.now.records }
+        ensures limit { result ≤ RECORD_LIMIT }
+    {
+        self.len
+    }
+
+    /// Takes all records away; names from before name none of them again. Takes no memory.
+    pub fn reset(&mut self)
+        ensures { self.new.records ≡ [] }
+    {
+        self.len = 0;
+    }
+}
+
+/// Adds vacant places until there are as many as asked for; where memory ran out fewer were added.
+fn grow(slots: &mut Vec<Slot>, count: usize) -> Result<(), AllocError>
+    requires { (count ≤ RECORD_LIMIT) × (length slots.old.items ≤ RECORD_LIMIT) }
+    ensures ok { OnOk result (count ≤ length slots.new.items) }
+    ensures grows { length slots.old.items ≤ length slots.new.items }
+    ensures limit { length slots.new.items ≤ RECORD_LIMIT }
+    ensures begins { take (length slots.old.items) slots.new.items ≡ slots.old.items }
+{
+    slots.reserve(count.saturating_sub(slots.len()))?;
+    while slots.len() < count {
+        slots.push(Slot::vacant())?;
+    }
+    Ok(())
+}
+
+/// How many bytes a value has, absence having none.
+fn len_of(value: Option<&Value>) -> usize
+    ensures { result ≡ bytes_of (option_copied value.entry) }
+{
+    match value {
+        Some(value) => value.bytes().len(),
+        None => 0,
+    }
+}

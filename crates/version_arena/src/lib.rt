@@ -1,0 +1,15 @@
+//! The arena of one block: a list of the versions that the runs of its calls have written, with
+//! room reserved ahead, so that writing one takes no memory.
+#![tactic(auto)]
+
+pub mod arena;
+pub mod fault;
+pub mod record;
+mod slot;
+
+pub use arena::{Arena, RECORD_LIMIT};
+pub use fault::ReserveFault;
+pub use record::{Record, VersionId};
+
+#[cfg(test)]
+mod tests;
