@@ -3,9 +3,10 @@
 
 #include "contract.h"
 
-START void start(const u32 *times, u32 length) {
+void contract(const u8 *input, u32 length) {
+    u32 times = *(const u32 *)input;
     u32 crc = 0xffffffff;
-    for (u32 round = 0; round < *times; round++) {
+    for (u32 round = 0; round < times; round++) {
         for (u32 at = 0, byte = 0; at < 4096; at++, byte = byte == 250 ? 0 : byte + 1) {
             crc ^= byte;
             for (u32 bit = 0; bit < 8; bit++) {
@@ -14,5 +15,5 @@ START void start(const u32 *times, u32 length) {
         }
     }
     crc = ~crc;
-    finish(RETURN, &crc, sizeof crc);
+    return_output(&crc, sizeof crc);
 }

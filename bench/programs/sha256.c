@@ -41,16 +41,17 @@ static void compress(u32 state[8], const u8 *block) {
 
 static u8 bytes[4096];
 
-START void start(const u32 *times, u32 length) {
+void contract(const u8 *input, u32 length) {
+    u32 times = *(const u32 *)input;
     u32 state[8] = {0x6a09e667, 0xbb67ae85, 0x3c6ef372, 0xa54ff53a,
                     0x510e527f, 0x9b05688c, 0x1f83d9ab, 0x5be0cd19};
     for (u32 at = 0; at < 4096; at++) {
         bytes[at] = at;
     }
-    for (u32 round = 0; round < *times; round++) {
+    for (u32 round = 0; round < times; round++) {
         for (u32 at = 0; at < 4096; at += 64) {
             compress(state, bytes + at);
         }
     }
-    finish(RETURN, state, sizeof state);
+    return_output(state, sizeof state);
 }

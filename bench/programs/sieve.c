@@ -6,9 +6,10 @@ enum { LIMIT = 60000 };
 
 static u8 struck[LIMIT];
 
-START void start(const u32 *times, u32 length) {
+void contract(const u8 *input, u32 length) {
+    u32 times = *(const u32 *)input;
     u32 primes = 0;
-    for (u32 round = 0; round < *times; round++) {
+    for (u32 round = 0; round < times; round++) {
         primes = 0;
         for (u32 n = 0; n < LIMIT; n++) {
             struck[n] = 0;
@@ -22,5 +23,5 @@ START void start(const u32 *times, u32 length) {
             }
         }
     }
-    finish(RETURN, &primes, sizeof primes);
+    return_output(&primes, sizeof primes);
 }

@@ -1,1 +1,4 @@
+pub mod Numbers
 pub mod Lines
+pub mod Operands
+pub mod DriveLine

@@ -1,14 +1,17 @@
 -- The command line of `rvstm`, in clap's words.
-use Rattle.std.specs.Prelude.{◌≡◌, Bool, true, not, ◌==◌, List, [], ◌∷◌, Option, Some, None, Result}
+use Rattle.std.specs.Prelude.{◌≡◌, ℕ, Bool, true, not, ◌==◌, List, [], ◌∷◌, Option, Some, None, Result}
 use Rattle.std.specs.Prelude.{MatchResult, codes, option_and_then, option_map, if◌then◌else◌}
 use Rattle.std.specs.Str.{bytes_eq}
-use Rattle.clap.specs.Words.{App, Row, Rule, Text, first_of, new_app, new_rule}
+use Rattle.std.specs.Str.Parse.{digits_value, without_leading_plus}
+use Rattle.clap.specs.Words.{App, Row, Rule, Text, first_of, new_app, new_rule, one_of}
 use Rattle.clap.specs.Words.{kind_of, subcommand_of, with_rule, with_subcommand}
+use Rattle.clap.specs.ValueTests.{is_unsigned_in}
 use Rattle.clap.specs.declared.builder.ArgAction.TheVariants as action
+use Rattle.clap.specs.declared.builder.value_parser.ValueParser.TheVariants as parser
 use Rattle.clap.specs.declared.error.Error.{Error}
 use Rattle.clap.specs.declared.error.ErrorKind.TheVariants as kind
 use Rattle.cmdline.specs.declared.Request.{Request}
-use Rattle.cmdline.specs.declared.Request.TheVariants.{Seq, Asm, Dis}
+use Rattle.cmdline.specs.declared.Request.TheVariants.{Seq, Drive, Asm, Dis}
 
 -- the argument FILE: one required word
 abbrev pub file_rule : Rule
@@ -21,6 +24,29 @@ file_rule = record (new_rule (codes "file")) {
 -- `seq FILE`
 abbrev pub seq_app : App
 seq_app = with_rule (new_app (codes "seq")) file_rule
+
+-- the option `--workers N`: it is required, and N is a whole number of 1 to 32
+abbrev pub workers_rule : Rule
+workers_rule = record (new_rule (codes "workers")) {
+  long = Some (codes "workers");
+  action = Some action.Set;
+  value_names = 1;
+  parser = Some (parser.Unsigned 1 32);
+  required = true;
+}
+
+-- the option `--schedule FILE`: it is required
+abbrev pub schedule_rule : Rule
+schedule_rule = record (new_rule (codes "schedule")) {
+  long = Some (codes "schedule");
+  action = Some action.Set;
+  value_names = 1;
+  required = true;
+}
+
+-- `drive FILE --workers N --schedule FILE`
+abbrev pub drive_app : App
+drive_app = with_rule (with_rule (with_rule (new_app (codes "drive")) file_rule) workers_rule) schedule_rule
 
 -- the option `--out FILE`: it is required
 abbrev pub out_rule : Rule
@@ -47,18 +73,34 @@ top_app = record (new_app (codes "rvstm")) {
 
 -- the whole command line
 abbrev pub rvstm_app : App
-rvstm_app = with_subcommand (with_subcommand (with_subcommand top_app seq_app.top) asm_app.top) dis_app.top
+rvstm_app =
+    with_subcommand (with_subcommand (with_subcommand (with_subcommand top_app seq_app.top) drive_app.top) asm_app.top) dis_app.top
 
 -- a request with its words as texts
 pub data Asked : Type 0 where
   SeqOf : Text → Asked
+  DriveOf : Text → ℕ → Text → Asked
   AsmOf : Text → Text → Asked
   DisOf : Text → Asked
 
 abbrev pub asked_by : Request → Asked
 asked_by (Seq file) = SeqOf file.now
+asked_by (Drive file workers schedule) = DriveOf file.now workers schedule.now
 asked_by (Asm file out) = AsmOf file.now out.now
 asked_by (Dis file) = DisOf file.now
+
+-- the number that a word says
+abbrev pub number_in : Text → ℕ
+number_in word = digits_value 10 (without_leading_plus word)
+
+-- the number that a word says, where it says one of 64 bits
+unfoldable pub number_of : Text → Option ℕ
+number_of word = if is_unsigned_in 0 0xffff_ffff_ffff_ffff word then Some (number_in word) else None
+
+-- what `drive` asks for, by what clap found
+abbrev pub drive_of : List Row → Option Asked
+drive_of rows = option_and_then (λ file. option_and_then (λ workers. option_map (λ schedule. DriveOf file workers schedule)
+    (first_of (codes "schedule") rows)) (option_and_then number_of (one_of (codes "workers") rows))) (first_of (codes "file") rows)
 
 -- what `asm` asks for, by what clap found
 abbrev pub asm_of : List Row → Option Asked
@@ -68,6 +110,8 @@ asm_of rows = option_and_then (λ file. option_map (λ out. AsmOf file out) (fir
 abbrev pub asked_in : Text × List Row → Option Asked
 asked_in found = if bytes_eq found.0 (codes "seq")
     then option_map SeqOf (first_of (codes "file") found.1)
+    else if bytes_eq found.0 (codes "drive")
+    then drive_of found.1
     else if bytes_eq found.0 (codes "asm")
     then asm_of found.1
     else if bytes_eq found.0 (codes "dis")
@@ -82,6 +126,10 @@ asked words = option_and_then asked_in (subcommand_of rvstm_app words)
 abbrev pub is_operand : Text → Bool
 is_operand [] = true
 is_operand (x ∷ rest) = not (x == 45)
+
+-- the word says a whole number of 1 to 32
+abbrev pub is_worker_number : Text → Bool
+is_worker_number word = is_unsigned_in 1 32 word
 
 -- the answer is this request, or memory ran out
 abbrev pub AnswersUnlessMemory : Result (Option Request) Error → Asked → Type 0

@@ -1,4 +1,4 @@
--- Private help of proofs; no public clause cites it. Words read backwards: the slots of a word, and the instruction of slots.
+-- Words read backwards: the slots of a word, and the instruction of slots; what the operands of a source stand for is told by these too.
 use Rattle.std.specs.Prelude.{ℕ, ◌+◌, ◌*◌, ◌/◌, ◌%◌, ◌^◌, ℤ, pos, ◌-ℤ◌, nat_lt, ◌==◌, ◌&&◌, if◌then◌else◌}
 use Rattle.std.specs.Option.{option_map}
 use Rattle.std.specs.Prelude.{Option, Some, None}

@@ -87,9 +87,6 @@ register_operand text = ok_or (register_of text) BadOperand
 abbrev pub number_operand : List ℕ → Result ℤ Cause
 number_operand text = ok_or (number_of text) BadOperand
 
-abbrev pub name_operand : List ℕ → Result (List ℕ) Cause
-name_operand text = if is_name text then Ok text else Err BadOperand
-
 -- `N(REGISTER)`, with nothing behind the closing parenthesis
 abbrev pub inside_parenthesis : List ℕ → Result (List ℕ) Cause
 inside_parenthesis rest = if slice_index rest (length rest - 1) == 41 then Ok (take (length rest - 1) rest) else Err BadOperand

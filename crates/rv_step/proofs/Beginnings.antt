@@ -1,23 +1,22 @@
 -- A run stays a beginning of its call's chain.
-use Rattle.std.proofs.Common.{◌≡◌, ℕ, suc, ◌+◌, ◌*◌, ◌<◌, ◌≤◌, Bool, true, false, List, [], ◌∷◌, ◌++◌, Option, Some, None, Ok, refl, sym, ap, subst, ◌∙◌, arith, append_assoc, append-nil}
+use Rattle.std.proofs.Common.{◌≡◌, ℕ, ◌+◌, ◌*◌, ◌<◌, ◌≤◌, true, List, [], ◌∷◌, ◌++◌, Option, Some, Ok, refl, sym, ap, subst, ◌∙◌, arith, append_assoc, append-nil}
 use Rattle.std.proofs.lemmas.List.{map-append}
 use Rattle.read_set.specs.declared.Origin.{Origin}
 use Rattle.rv_ledger.specs.Call.{Invocation}
 use Rattle.rv_ledger.specs.declared.end.End.{End}
-use Rattle.rv_ledger.specs.declared.receipt.Receipt.{Receipt}
 use Rattle.rv_step.specs.declared.machine.Machine.{Machine}
 use Rattle.rv_step.specs.declared.answer.Answer.{Answer}
 use Rattle.rv_step.specs.declared.stage.Stage.{Stage}
 use Rattle.rv_step.specs.declared.stage.Stage.TheVariants.{Running, Asked, Ended}
 use Rattle.ecalls.specs.StorageCalls.{ecall_charge}
-use Rattle.rv_step.specs.Step.{Outcome, Next, Asks, Ends, step, answered, called}
+use Rattle.rv_step.specs.Step.{Next, Asks, Ends, step, answered, called}
 use Rattle.rv_step.specs.Does.{Does, stage_of}
 use Rattle.rv_step.specs.declared.pace.Pace.{Pace}
 use Rattle.rv_step.specs.declared.pace.Pace.TheVariants as pace
-use Rattle.rv_step.specs.Chain.{Reply, borne, closed, receipt_of, replayed, start}
-use Rattle.rv_step.specs.Run.{IsSoFar, IsStage, Seen, is_running, left_for, left_over, seen_at_start}
+use Rattle.rv_step.specs.Chain.{Reply, borne, receipt_of, start}
+use Rattle.rv_step.specs.Run.{IsSoFar, IsStage, is_running, left_for, left_over, seen_at_start}
 use Rattle.rv_step.specs.Replies.{replies_of, reply_of}
-use Rattle.rv_step.proofs.Falls.{IsFalling, step_falls, answered_falls, less_gas, end_gas, not_asked}
+use Rattle.rv_step.proofs.Falls.{step_falls, answered_falls, less_gas, end_gas, not_asked}
 use Rattle.rv_step.proofs.Chains.{comes, next_comes, end_comes, answer_next_comes, answer_end_comes}
 
 -- a run before its first instruction

@@ -1,5 +1,5 @@
 -- Each step takes gas, so that a chain ends.
-use Rattle.std.proofs.Common.{◌≡◌, ℕ, ◌-◌, ◌<◌, ◌≤◌, Bool, true, false, if◌then◌else◌, nat_le, nat_lt, List, [], length, Option, Some, None, Result, Ok, Err, refl, sym, ap, subst, arith, lit≤}
+use Rattle.std.proofs.Common.{◌≡◌, ℕ, ◌-◌, ◌<◌, ◌≤◌, Bool, true, false, if◌then◌else◌, nat_le, nat_lt, List, [], length, Option, Some, None, Result, Ok, Err, refl, subst, arith, lit≤}
 use Rattle.std.specs.FinMap as map
 use Rattle.std.proofs.lemmas.Bool.Decides.{nat_tests}
 use Rattle.rv_isa.specs.Decoded.{decoded}
@@ -21,7 +21,7 @@ use Rattle.rv_ledger.specs.declared.end.End.TheVariants.{OutOfGas}
 use Rattle.rv_ledger.specs.declared.end.Trap.{Trap}
 use Rattle.rv_ledger.specs.declared.end.Trap.TheVariants as trap
 use Rattle.rv_ledger.specs.declared.writes.Write.{Write}
-use Rattle.ecalls.specs.StorageCalls.{a1, a2, asked, charge_of, charge_asked, ecall_charge, request_of}
+use Rattle.ecalls.specs.StorageCalls.{a1, a2, asked, charge_of, charge_asked, request_of}
 use Rattle.ecalls.specs.declared.storage_call.StorageCall.{StorageCall}
 use Rattle.ecalls.specs.declared.storage_call.StorageCall.TheVariants as call
 use Rattle.ecalls.specs.declared.request_kind.Request.{Request}

@@ -2,3 +2,4 @@ pub mod Falls
 pub mod Chains
 pub mod Beginnings
 pub mod Receipts
+pub mod Askings

@@ -1,16 +1,14 @@
 -- A call over a storage has exactly one receipt.
-use Rattle.std.proofs.Common.{◌≡◌, ℕ, zero, suc, ◌<◌, ◌≤◌, Bool, true, false, if◌then◌else◌, List, [], ◌∷◌, Option, Some, None, refl, sym, ap, subst, ◌∙◌, arith}
+use Rattle.std.proofs.Common.{◌≡◌, ℕ, zero, suc, ◌<◌, Bool, true, false, if◌then◌else◌, List, [], ◌∷◌, Option, Some, None, refl, sym, ap, ◌∙◌, arith}
 use Rattle.std.specs.FinMap as map
 use Rattle.std.specs.Str.{bytes_eq}
 use Rattle.std.proofs.lemmas.Slice.Eq.{bytes_eq-Decides}
 use Rattle.rv_ledger.specs.Call.{Invocation}
 use Rattle.rv_ledger.specs.Key.{Storage}
-use Rattle.rv_ledger.specs.declared.end.End.{End}
-use Rattle.rv_ledger.specs.declared.end.End.TheVariants.{OutOfGas}
 use Rattle.rv_ledger.specs.declared.receipt.Receipt.{Receipt}
 use Rattle.rv_step.specs.declared.machine.Machine.{Machine}
 use Rattle.rv_step.specs.Step.{Outcome, Next, Asks, Ends, step, answered}
-use Rattle.rv_step.specs.Chain.{AreFrom, HasOneReceipt, Reply, after_ask, after_step, answered_by, borne, closed, ends, followed, ran, receipt_of, replayed, settled, start}
+use Rattle.rv_step.specs.Chain.{AreFrom, HasOneReceipt, Reply, after_ask, after_step, answered_by, closed, ends, followed, ran, receipt_of, replayed, settled, start}
 use Rattle.rv_step.proofs.Falls.{IsFalling, step_falls, answered_falls, less_gas, not_asked}
 
 -- a receipt that is closed is the one
@@ -24,11 +22,11 @@ step_agrees f g limit s (Next t) replies r same e = same t e
 step_agrees f g limit s (Asks key) replies r same e = cc
 step_agrees f g limit s (Ends end out t) replies r same e = closed_is replies (receipt_of limit end out t) r e
 
-none_some : (r : Receipt) → None ≡ Some r → ⊥
+pub none_some : (r : Receipt) → None ≡ Some r → ⊥
 none_some r e = cc
 
 -- an answer to another key bears nothing out
-right_key : (b : Bool) (o : Option Receipt) (r : Receipt) → (if b then o else None) ≡ Some r → (b ≡ true) × (o ≡ Some r)
+pub right_key : (b : Bool) (o : Option Receipt) (r : Receipt) → (if b then o else None) ≡ Some r → (b ≡ true) × (o ≡ Some r)
 right_key true o r e = (refl, e)
 right_key false o r e = absurd (none_some r e)
 
@@ -75,7 +73,8 @@ outcome_reached f g limit s store (Asks key) h reach =
     )
 outcome_reached f g limit s store (Ends end out t) h reach = ([], tt, refl)
 
-reached : (limit n : ℕ) (s : Machine) (store : Storage) → s.gas < n → (replies : List Reply) × AreFrom store replies × (replayed limit n s replies ≡ Some (ran limit n s store))
+-- some answers of a storage come to a receipt
+pub reached : (limit n : ℕ) (s : Machine) (store : Storage) → s.gas < n → (replies : List Reply) × AreFrom store replies × (replayed limit n s replies ≡ Some (ran limit n s store))
 unfolding replayed ran
 reached limit zero s store h = absurd (omega arith)
 reached limit (suc n) s store h =

@@ -1,5 +1,5 @@
 -- The run of one call: the chain of its steps from the start to an end.
-use Rattle.std.specs.Prelude.{◌≡◌, ℕ, zero, suc, ◌-◌, Bool, true, false, if◌then◌else◌, List, [], ◌∷◌, length, bytes_eq, Option, Some, None}
+use Rattle.std.specs.Prelude.{◌≡◌, ℕ, zero, suc, ◌-◌, if◌then◌else◌, List, [], ◌∷◌, length, bytes_eq, Option, Some, None}
 use Rattle.std.specs.FinMap as map
 use Rattle.rv_isa.specs.Registers.{zeros, written}
 use Rattle.rv_mem.specs.Start.{start_space}

@@ -50,3 +50,7 @@ abbrev pub stage_of : Pace → Stage
 stage_of pace.Next = Running
 stage_of (pace.Ask key) = Asked key
 stage_of (pace.End end out) = Ended end out
+
+-- a storage call was done, and the stage is the one after what it came to
+abbrev pub HasCalled : Machine → Machine → Stage → Type 0
+HasCalled old new stage = (came : Pace) × Does (Ok came) (called old (ecall_charge old.regs)) old new × (stage ≡ stage_of came)

@@ -4,3 +4,4 @@ pub mod Fold
 pub mod Replies
 pub mod Run
 pub mod Does
+pub mod Asked

@@ -7,7 +7,6 @@ use Rattle.rv_isa.specs.Decoded.{decoded}
 use Rattle.rv_isa.specs.declared.instruction.Instr.{Instr}
 use Rattle.rv_isa.specs.declared.instruction.Instr.TheVariants.{Load, Store, Ecall, Ebreak}
 use Rattle.rv_isa.specs.declared.instruction.LoadKind.{LoadKind}
-use Rattle.rv_isa.specs.declared.instruction.StoreKind.{StoreKind}
 use Rattle.rv_isa.specs.declared.register.Reg.{Reg}
 use Rattle.rv_isa.specs.declared.operands.Immediate.{Immediate}
 use Rattle.gas.specs.Costs.{cost_of}

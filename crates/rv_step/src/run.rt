@@ -1,9 +1,10 @@
 //! A run of one call, which stops where it needs an answer of the storage.
 
-ghost use Rattle.std.specs.Prelude.{◌≡◌, ◌≤◌};
+ghost use Rattle.std.specs.Prelude.{◌≡◌, ◌≤◌, [], OnErr, OnOk};
 ghost use Rattle.std.specs.Option.{option_copied};
 ghost use Rattle.rv_step.specs.Chain.{receipt_of};
-ghost use Rattle.rv_step.specs.Does.{stage_of};
+ghost use Rattle.rv_step.specs.Does.{HasCalled, stage_of};
+ghost use Rattle.rv_step.specs.declared.stage.Stage.TheVariants.{Ended};
 
 use crate::answer::Answer;
 use crate::ended_run::EndedRun;
@@ -51,6 +52,8 @@ impl Run {
     ghost use Rattle.std.specs.Prelude.{◌≡◌, ◌<◌, ◌≤◌, false, IsTrue, IsSome, IfSome, IfOk, OnOk, OnErr};
     ghost use Rattle.std.specs.Option.{option_copied};
     ghost use Rattle.rv_step.specs.Step.{step};
+    ghost use Rattle.rv_step.specs.Asked.{asked_by, asked_of};
+    ghost use Rattle.rv_step.specs.Replies.{replies_of};
     ghost use Rattle.rv_step.specs.Run.{IsEnded, IsPause, IsReceiptOf, after_answer, asked_key, is_running, moved, seen_at_start, steps_left};
 
     /// A run of a call before its first instruction; refused where memory ran out.
@@ -82,8 +85,8 @@ impl Run {
     {
         match self.machine.beat()? {
             Beat::Next => {}
-            Beat::Call => self.stage = stage_of(self.machine.call()?),
-            Beat::End(end) => self.stage = Stage::Ended(end, Output::empty()),
+            Beat::Call => call(&mut self.machine, &mut self.stage)?,
+            Beat::End(end) => end_with(&mut self.stage, end),
         }
         Ok(())
     }
@@ -95,16 +98,27 @@ impl Run {
         ensures told { self.new.told ≡ self.old.told }
         ensures fewer { steps_left self.new ≤ steps_left self.old }
         ensures pause { IfOk result (λ pause. IsPause pause self.new.stage) }
+        ensures asks { IfOk result (λ pause. asked_of pause ≡ asked_by self.new.call (replies_of self.new.told)) }
         ensures stopped { IsTrue (is_running self.old.stage) → OnErr result (IsTrue (is_running self.new.stage)) }
         ensures stays { is_running self.old.stage ≡ false → self.new ≡ self.old }
     {
         while self.is_running() {
             self.step_one()?;
         }
-        Ok(match &self.stage {
+        Ok(self.pause())
+    }
+
+    /// Why a run that stands still does so.
+    fn pause(&self) -> Pause
+        requires { is_running self.now.stage ≡ false }
+        ensures pause { IsPause result self.now.stage }
+        ensures asks { asked_of result ≡ asked_by self.now.call (replies_of self.now.told) }
+    {
+        match &self.stage {
             Stage::Asked(key) => Pause::Ask(*key),
-            _ => Pause::Ended,
-        })
+            Stage::Ended(_, _) => Pause::Ended,
+            Stage::Running => unreachable!(),
+        }
     }
 
     /// Gives the storage's answer to the key that the run asks for: its value, or None for absence,
@@ -160,6 +174,26 @@ impl Run {
             _ => unreachable!(),
         }
     }
+}
+
+/// Does the storage call at which a machine stands. It is kept out of the loop over instructions,
+/// since a frame is cleared at each entry and an output takes much room in it.
+#[inline(never)]
+fn call(machine: &mut Machine, stage: &mut Stage) -> Result<(), AllocError>
+    ensures ok { OnOk result (HasCalled machine.old machine.new stage.new) }
+    ensures machine { OnErr result (machine.new ≡ machine.old) }
+    ensures stage { OnErr result (stage.new ≡ stage.old) }
+{
+    *stage = stage_of(machine.call()?);
+    Ok(())
+}
+
+/// Sets the stage of a call that ends without an output; kept out of the loop for the same reason.
+#[inline(never)]
+fn end_with(stage: &mut Stage, end: End)
+    ensures { stage.new ≡ Ended end [] }
+{
+    *stage = Stage::Ended(end, Output::empty());
 }
 
 /// The stage after a step.

@@ -5,7 +5,7 @@ use Rattle.std.specs.Prelude.{Option, Some, None, Result, Ok, Err, IfSome}
 use Rattle.std.specs.Option.{option_map}
 use Rattle.elf32.specs.Layout.{Layout}
 use Rattle.rvstm.specs.declared.fault.Refusal.{Refusal}
-use Rattle.rvstm.specs.declared.fault.Refusal.TheVariants.{File, Block, Elf, Asm, Seq, Output}
+use Rattle.rvstm.specs.declared.fault.Refusal.TheVariants.{File, Block, Elf, Asm, Seq, Schedule, Drive, Output}
 use Rattle.rvstm.specs.declared.fault.FileFault.TheVariants.{Unreadable, Unwritable, TooLong}
 use Rattle.rvstm.specs.Engine.{with_file, files_of, program_of, with_program, programs_of}
 use Rattle.rvstm.specs.Parts.{IsProgramFault}
@@ -42,6 +42,8 @@ met_fault all file more done (File TooLong) h w = met all file more done (File T
 met_fault all file more done (Block fault) h w = w
 met_fault all file more done (Asm fault) h w = w
 met_fault all file more done (Seq fault) h w = w
+met_fault all file more done (Schedule fault) h w = w
+met_fault all file more done (Drive fault) h w = w
 met_fault all file more done (Output fault) h w = w
 
 -- a refusal of the next program is the one of all programs

@@ -13,7 +13,7 @@ use Rattle.block_file.specs.Block.{BlockValue, CallValue}
 use Rattle.block_file.specs.declared.fault.BlockFault.{BlockFault}
 use Rattle.block_file.specs.declared.fault.Cause.TheVariants as cause
 use Rattle.rvstm.specs.declared.fault.Refusal.{Refusal}
-use Rattle.rvstm.specs.declared.fault.Refusal.TheVariants.{File, Block, Elf, Asm, Output}
+use Rattle.rvstm.specs.declared.fault.Refusal.TheVariants.{File, Block, Elf, Asm, Schedule, Drive, Output}
 use Rattle.rvstm.specs.declared.fault.FileFault.TheVariants.{TooLong}
 
 -- the bytes of the files at some paths, where all are known
@@ -63,4 +63,6 @@ IsFaultOf content block old new (Elf fault) = (fault ≡ elf.Memory) ⊎ IfSome 
 IsFaultOf content block old new (File TooLong) = IfSome (answer_of content block) (λ answer. answer ≡ Err (File TooLong))
 IsFaultOf content block old new (Output fault) = IfSome (answer_of content block) (λ answer. IsOkAnd answer (AppendsPart old new))
 IsFaultOf content block old new (Asm fault) = ⊥
+IsFaultOf content block old new (Schedule fault) = ⊥
+IsFaultOf content block old new (Drive fault) = ⊥
 IsFaultOf content block old new _ = ⊤

@@ -1,3 +1,4 @@
 pub mod Engine
 pub mod Listing
 pub mod Parts
+pub mod Driving

@@ -43,7 +43,7 @@ pub fn seq_to<R: Read, P: Programs, W: Write>(
 }
 
 /// Reads and parses a block file.
-fn read_block<R: Read>(alloc: Global, block: &mut R) -> Result<BlockText, Refusal>
+pub(crate) fn read_block<R: Read>(alloc: Global, block: &mut R) -> Result<BlockText, Refusal>
     ensures ok { IfOk result (λ text. IfSome (R.remaining block.old) (λ input. block_of input ≡ Ok (block_value text))) }
     ensures err { IfErr result (λ e. IfSome (R.remaining block.old) (λ input. IsBlockFault (block_of input) e)) }
 {
@@ -96,7 +96,7 @@ fn run_to<P: Programs, W: Write>(
 }
 
 /// Opens, reads and loads the programs in the order of their numbers.
-fn load_all<P: Programs>(
+pub(crate) fn load_all<P: Programs>(
     alloc: Global,
     programs: &mut P,
     paths: &[String],
@@ -165,7 +165,7 @@ fn load_program(alloc: Global, bytes: &[u8]) -> Result<Arc<Image>, Refusal>
 }
 
 /// The job of the calls over the loaded programs.
-fn job_of(
+pub(crate) fn job_of(
     alloc: Global,
     images: &[Arc<Image>],
     lines: Vec<CallLine>,

@@ -4,6 +4,7 @@ use block_file::BlockFault;
 use elf32::ElfError;
 use receipts::WriteFault;
 use rv_text::AsmError;
+use stm_core::DriveFault;
 use thiserror::Error;
 
 /// Why a file is refused.
@@ -28,8 +29,8 @@ pub enum SeqFault {
     Memory = 1,
 }
 
-/// Why a command is refused: the area, the refusal's name and its number; for a block file and a
-/// source also the line.
+/// Why a command is refused: the area, the refusal's name and its number; for a block file, a schedule
+/// file and a source also the line.
 #[derive(Clone, Copy, Debug, PartialEq, Eq, Error)]
 pub enum Refusal {
     /// A file.
@@ -47,6 +48,12 @@ pub enum Refusal {
     /// The run in order.
     #[error("seq {0}")]
     Seq(SeqFault),
+    /// The text of a schedule file.
+    #[error("schedule {0}")]
+    Schedule(BlockFault),
+    /// The run along a schedule.
+    #[error("drive {0}")]
+    Drive(DriveFault),
     /// The output.
     #[error("output {0}")]
     Output(WriteFault),

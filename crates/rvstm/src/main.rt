@@ -3,6 +3,7 @@
 
 mod assembling;
 mod disk;
+mod driving;
 mod engine;
 mod fault;
 mod listing;
@@ -13,6 +14,7 @@ mod tests;
 
 use crate::assembling::file_of_source;
 use crate::disk::Disk;
+use crate::driving::drive_to;
 use crate::engine::{report, seq_to};
 use crate::fault::{FileFault, Refusal};
 use crate::listing::dis_to;
@@ -62,6 +64,11 @@ where
 {
     let done = match request {
         Request::Seq { file } => seq(rt, file),
+        Request::Drive {
+            file,
+            workers,
+            schedule,
+        } => drive(rt, file, workers, schedule),
         Request::Asm { file, out } => asm(rt, file, out),
         Request::Dis { file } => dis(rt, file),
     };
@@ -83,6 +90,27 @@ where
         rt.alloc(),
         &mut block,
         &mut Disk { rt },
+        &mut io::writer(rt),
+    )
+}
+
+/// Runs the calls of a block file along a schedule and prints the result.
+fn drive<R>(rt: &R, file: &str, workers: usize, schedule: &str) -> Result<(), Refusal>
+where
+    R: Files + Print + AllocGlobal,
+{
+    let Ok(mut block) = fs::open(rt, file) else {
+        return Err(Refusal::File(FileFault::Unreadable));
+    };
+    let Ok(mut schedule) = fs::open(rt, schedule) else {
+        return Err(Refusal::File(FileFault::Unreadable));
+    };
+    drive_to(
+        rt.alloc(),
+        &mut block,
+        &mut Disk { rt },
+        &mut schedule,
+        workers,
         &mut io::writer(rt),
     )
 }

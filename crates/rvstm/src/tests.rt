@@ -2,9 +2,12 @@
 
 ghost use Rattle.std.specs.Prelude.{None};
 
+mod drives;
+mod edge_values;
 mod failing;
 mod outside;
 mod rows;
+mod schedules;
 mod sources;
 
 use crate::engine::{report, seq_to};

@@ -13,3 +13,11 @@ pub mod Serials
 pub mod Orders
 pub mod Shadows
 pub mod Computed
+pub mod Counted
+pub mod Parted
+pub mod Askings
+pub mod Rooms
+pub mod Paths
+pub mod Phases
+pub mod Turns
+pub mod Alone

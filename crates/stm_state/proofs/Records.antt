@@ -29,7 +29,7 @@ mapped_at g (x ∷ xs) zero d e = refl
 mapped_at g (x ∷ xs) (suc j) d e = mapped_at g xs j d e
 
 -- an estimate is no version
-no_version : (o : Option Content) (n : ℕ) (x : Content) → option_map (λ c. Estimate) o ≡ Some (Stands n x) → ⊥
+pub no_version : (o : Option Content) (n : ℕ) (x : Content) → option_map (λ c. Estimate) o ≡ Some (Stands n x) → ⊥
 no_version None n x h = cc
 no_version (Some c) n x h = cc
 

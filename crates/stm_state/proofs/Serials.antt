@@ -68,7 +68,7 @@ store_after_receipts base receipt zero = base
 store_after_receipts base receipt (suc i) = laid (store_after_receipts base receipt i) (receipt i).writes
 
 -- what is seen of an EXECUTED call lies over what is seen below it
-held_see : (base : Option (List ℕ)) (i n : ℕ) (o : Option Content) (below : Seen) → held base (see i (option_map (λ c. Stands n c) o) below) ≡ over o (held base below)
+pub held_see : (base : Option (List ℕ)) (i n : ℕ) (o : Option Content) (below : Seen) → held base (see i (option_map (λ c. Stands n c) o) below) ≡ over o (held base below)
 held_see base i n None below = refl
 held_see base i n (Some c) below = refl
 

@@ -45,6 +45,15 @@ not_lt_says a b h = grind (arith, nat_tests)
 pub not_le_says : (a b : ℕ) → nat_le a b ≡ false → b < a
 not_le_says a b h = grind (arith, nat_tests)
 
+pub lt_is : (a b : ℕ) → a < b → nat_lt a b ≡ true
+lt_is a b h = grind (arith, nat_tests)
+
+pub not_lt_is : (a b : ℕ) → b ≤ a → nat_lt a b ≡ false
+not_lt_is a b h = grind (arith, nat_tests)
+
+pub not_le_is : (a b : ℕ) → b < a → nat_le a b ≡ false
+not_le_is a b h = grind (arith, nat_tests)
+
 pub equal_says : (a b : ℕ) → (a == b) ≡ true → a ≡ b
 equal_says a b h = grind (arith, nat_tests)
 

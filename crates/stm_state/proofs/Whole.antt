@@ -24,7 +24,7 @@ use Rattle.stm_state.proofs.Aborts.{validate_kept}
 -- ---- the start
 
 -- a list of one thing at an index, also past the end
-replicated : {X : Type 0} (n i : ℕ) (d : X) → get_or (replicate n d) i d ≡ d
+pub replicated : {X : Type 0} (n i : ℕ) (d : X) → get_or (replicate n d) i d ≡ d
 replicated zero i d = refl
 replicated (suc n) zero d = refl
 replicated (suc n) (suc i) d = replicated n i d
@@ -80,15 +80,15 @@ counted_kept : (block : Block) (workers w : ℕ) (add : Counts → Counts) (s : 
 counted_kept block workers w add s h = record { sized = resized block.count workers s _ refl refl (length-set s.counts w _) refl h.sized; facts = h.facts }
 
 -- a step has one result
-same_state : (s t : State) → ◌≡◌ {A = Option (Result State Limit)} (Some (Ok s)) (Some (Ok t)) → s ≡ t
+pub same_state : (s t : State) → ◌≡◌ {A = Option (Result State Limit)} (Some (Ok s)) (Some (Ok t)) → s ≡ t
 same_state s t h = cc
 
 -- a step that is not due has none
-none_ok : (t : State) → ◌≡◌ {A = Option (Result State Limit)} None (Some (Ok t)) → ⊥
+pub none_ok : (t : State) → ◌≡◌ {A = Option (Result State Limit)} None (Some (Ok t)) → ⊥
 none_ok t h = cc
 
 -- nor has one that is refused
-err_ok : (e : Limit) (t : State) → ◌≡◌ {A = Option (Result State Limit)} (Some (Err e)) (Some (Ok t)) → ⊥
+pub err_ok : (e : Limit) (t : State) → ◌≡◌ {A = Option (Result State Limit)} (Some (Err e)) (Some (Ok t)) → ⊥
 err_ok e t h = cc
 
 module _ (block : Block) (workers w : ℕ) (s t : State) (h : Invariant block workers s) (w_in : w < workers) where

@@ -2,6 +2,10 @@
 
 ghost use Rattle.stm_state.specs.Done.{DoneHasVersionsAlone, DoneIsInOrder, DoneIsSerial};
 ghost use Rattle.stm_state.specs.Invariant.{InvariantHolds};
+ghost use Rattle.stm_state.specs.OneWorker.{HasOneWorkerCounts};
+ghost use Rattle.stm_state.specs.Parts.{CallsAreAttended, HoldsWhereReached, OthersHaveEstimates, ReadsAreWatched, RunsAreBorneOut};
+
+use rv_ledger::Job;
 
 /// Whatever list of steps leads to a state of a block's run, the invariant holds there.
 pub fn invariant_holds()
@@ -25,3 +29,23 @@ pub fn done_is_serial()
 pub fn done_is_in_order()
     ensures { DoneIsInOrder }
 {}
+
+/// Whatever list of steps leads to a state of a block's run, the four parts of the scheduler's invariant
+/// hold there: READY calls are at or above the execution index, EXECUTING ones are run and ABORTING ones
+/// wait; only EXECUTED calls have versions; reads that do not stand are yet to be validated; and runs are
+/// borne out by true answers.
+pub fn the_parts_hold()
+    ensures part_1 { HoldsWhereReached CallsAreAttended }
+    ensures part_2 { HoldsWhereReached OthersHaveEstimates }
+    ensures part_3 { HoldsWhereReached ReadsAreWatched }
+    ensures part_4 { HoldsWhereReached RunsAreBorneOut }
+{}
+
+/// With one worker a job of n calls is done after the rounds of its calls and not before: each round is
+/// two askings, the call's reads, a record and a validation. Each step after that is an asking that is
+/// told so.
+pub fn one_worker_counts(job: &Job)
+    ensures { HasOneWorkerCounts job.now.block job.now.store }
+{
+    job.block.calls();
+}

@@ -76,6 +76,6 @@ pub enum Task {
         /// The incarnation whose reads it checks.
         incarnation: u16,
         /// The number of reads that it has to check.
-        left: u32,
+        left: usize,
     },
 }

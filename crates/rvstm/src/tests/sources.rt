@@ -1,6 +1,8 @@
 //! The engines of `rvstm asm` and `rvstm dis` over sources and files in memory.
 
+use super::edge_values::SOURCE;
 use super::failing::{FailingReader, FailingWriter};
+use super::outside::TORTURE;
 use crate::assembling::file_of_source;
 use crate::engine::report;
 use crate::fault::{FileFault, Refusal};
@@ -28,6 +30,15 @@ fn echo_is_assembled_and_listed(rt: HostRuntime) -> Result<(), Fail> {
     let mut listing = Vec::new(rt.alloc());
     dis_to(rt.alloc(), &mut wanted.as_slice(), &mut listing)?;
     assert_eq!(rt; listing.as_slice(), ECHO_LISTING.as_bytes());
+    Ok(())
+}
+
+// The file is the one that was made beside the source, byte for byte.
+#[test]
+fn a_source_of_other_tools(rt: HostRuntime) -> Result<(), Fail> {
+    let file = file_of_source(rt.alloc(), &mut SOURCE.as_bytes())?;
+    let wanted = hex::decode(rt.alloc(), TORTURE)?;
+    assert_eq!(rt; file.as_slice(), wanted.as_slice());
     Ok(())
 }
 

@@ -1,0 +1,74 @@
+-- What each step comes to, by its tests.
+use Rattle.std.proofs.Common.{◌≡◌, ◌+◌, nat_lt, min, ℕ, Bool, true, false, [], length, map, Some, None, refl, sym, ap, ◌∙◌}
+use Rattle.stm_state.specs.declared.state.Status.TheVariants.{Executing, Aborting}
+use Rattle.stm_state.specs.declared.state.Task.{Task}
+use Rattle.stm_state.specs.declared.state.Task.TheVariants.{Idle, Running, Validating}
+use Rattle.stm_state.specs.State.{State, call_at, with_call, with_task, is_executed, is_ready, is_done}
+use Rattle.stm_state.specs.Steps.{asked, ask_execution, ask_validation, lowered, parked, readied, readied_if, reads_of, to_validate, told_done, woken}
+use Rattle.scheduler.specs.Parts.{abort_finished}
+
+module _ (w : ℕ) (s : State) where
+  -- ask
+  pub asked_done : is_done s ≡ true → told_done w s ≡ asked w s
+  asked_done e = rw e refl
+
+  pub asked_validation : is_done s ≡ false → nat_lt s.validation s.execution ≡ true → ask_validation w s ≡ asked w s
+  asked_validation e f = rw (e, f) refl
+
+  pub asked_execution : is_done s ≡ false → nat_lt s.validation s.execution ≡ false → nat_lt s.execution (length s.calls) ≡ true → ask_execution w s ≡ asked w s
+  asked_execution e f g = rw (e, f, g) refl
+
+  pub asked_nothing : is_done s ≡ false → nat_lt s.validation s.execution ≡ false → nat_lt s.execution (length s.calls) ≡ false → s ≡ asked w s
+  asked_nothing e f g = rw (e, f, g) refl
+
+  validated_at : is_executed (call_at s s.validation).status ≡ true → with_task w (Validating s.validation (call_at s s.validation).incarnation (length (reads_of (call_at s s.validation).last))) (record s { validation = s.validation + 1 }) ≡ ask_validation w s
+  unfolding ask_validation
+  validated_at e = rw e refl
+
+  pub validated : (i : ℕ) → i ≡ s.validation → is_executed (call_at s i).status ≡ true → with_task w (Validating i (call_at s i).incarnation (length (reads_of (call_at s i).last))) (record s { validation = s.validation + 1 }) ≡ ask_validation w s
+  validated i e test =
+      ap (λ (j : ℕ). with_task w (Validating j (call_at s j).incarnation (length (reads_of (call_at s j).last))) (record s { validation = s.validation + 1 })) e
+      ∙ validated_at (ap (λ (j : ℕ). is_executed (call_at s j).status) (sym e) ∙ test)
+
+  run_at : is_ready (call_at s s.execution).status ≡ true → with_task w (Running s.execution [] None) (with_call s.execution (record (call_at s s.execution) { status = Executing }) (record s { execution = s.execution + 1 })) ≡ ask_execution w s
+  unfolding ask_execution
+  run_at e = rw e refl
+
+  pub run : (i : ℕ) → i ≡ s.execution → is_ready (call_at s i).status ≡ true → with_task w (Running i [] None) (with_call i (record (call_at s i) { status = Executing }) (record s { execution = s.execution + 1 })) ≡ ask_execution w s
+  run i e test =
+      ap (λ (j : ℕ). with_task w (Running j [] None) (with_call j (record (call_at s j) { status = Executing }) (record s { execution = s.execution + 1 }))) e
+      ∙ run_at (ap (λ (j : ℕ). is_ready (call_at s j).status) (sym e) ∙ test)
+
+  -- park
+  pub parked_again : (i b : ℕ) → is_executed (call_at s b).status ≡ true → with_task w (Running i [] None) s ≡ parked w i b s
+  unfolding parked
+  parked_again i b e = rw e refl
+
+  pub parked_there : (i b : ℕ) → is_executed (call_at s b).status ≡ false → with_task w Idle (with_call i (record (call_at s i) { status = Aborting; parked = Some b }) s) ≡ parked w i b s
+  unfolding parked
+  parked_there i b e = rw e refl
+
+  -- record
+  pub nothing_again : (i : ℕ) (new : Bool) (task : Task) → nat_lt i s.validation ≡ false → with_task w Idle s ≡ to_validate w i new task s
+  unfolding to_validate
+  nothing_again i new task e = rw e refl
+
+  pub all_again : (i : ℕ) (new : Bool) (task : Task) → nat_lt i s.validation ≡ true → new ≡ true → with_task w Idle (record s { validation = i }) ≡ to_validate w i new task s
+  unfolding to_validate
+  all_again i new task e f = rw (e, f) refl
+
+  pub one_again : (i : ℕ) (new : Bool) (task : Task) → nat_lt i s.validation ≡ true → new ≡ false → with_task w task s ≡ to_validate w i new task s
+  unfolding to_validate
+  one_again i new task e f = rw (e, f) refl
+
+  -- abort
+  pub abort_runs : (i : ℕ) → nat_lt i s.execution ≡ true → with_task w (Running i [] None) (with_call i (record (readied (call_at s i)) { status = Executing }) (record s { validation = min s.validation (i + 1) })) ≡ abort_finished w i s
+  abort_runs i e = rw e refl
+
+  pub abort_rests : (i : ℕ) → nat_lt i s.execution ≡ false → with_task w Idle (with_call i (readied (call_at s i)) (record s { validation = min s.validation (i + 1) })) ≡ abort_finished w i s
+  abort_rests i e = rw e refl
+
+-- those that were parked are readied
+pub woken_is : (i : ℕ) (s : State) → record s { calls = map (readied_if i) s.calls; execution = lowered i s.execution 0 s.calls } ≡ woken i s
+unfolding woken
+woken_is i s = refl

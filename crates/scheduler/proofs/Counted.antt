@@ -1,0 +1,55 @@
+-- What is counted for a worker and what its step does go in any order.
+use Rattle.std.proofs.Common.{◌≡◌, nat_lt, ℕ, Bool, true, false, cond, length, Some, refl, sym, ap, ◌∙◌}
+use Rattle.rv_ledger.specs.declared.outcome.Counts.{Counts}
+use Rattle.stm_state.specs.declared.state.Status.TheVariants.{Executed}
+use Rattle.stm_state.specs.declared.state.Recorded.{Recorded}
+use Rattle.stm_state.specs.declared.state.Task.{Task}
+use Rattle.stm_state.specs.declared.state.Task.TheVariants.{Validating}
+use Rattle.stm_state.specs.State.{State, call_at, with_call, is_executed, is_ready, is_done}
+use Rattle.stm_state.specs.Steps.{counted, ask_validation, ask_execution, has_new_key, to_validate, woken}
+use Rattle.scheduler.specs.Parts.{execution_finished}
+
+module _ (add : Counts → Counts) (w : ℕ) where
+  over_cond : (b : Bool) (x y : State) → counted add w (cond b x y) ≡ cond b (counted add w x) (counted add w y)
+  over_cond true x y = refl
+  over_cond false x y = refl
+
+  over_two : (b b2 : Bool) (x y z : State) → counted add w (cond b (cond b2 x y) z) ≡ cond b (cond b2 (counted add w x) (counted add w y)) (counted add w z)
+  over_two true true x y z = refl
+  over_two true false x y z = refl
+  over_two false b2 x y z = refl
+
+  -- asking
+  pub done_counted : (s : State) → is_done (counted add w s) ≡ is_done s
+  unfolding is_done
+  done_counted s = refl
+
+  pub counted_validation : (s : State) → ask_validation w (counted add w s) ≡ counted add w (ask_validation w s)
+  unfolding ask_validation
+  counted_validation s = sym (over_cond (is_executed (call_at s s.validation).status) _ _)
+
+  pub counted_execution : (s : State) → ask_execution w (counted add w s) ≡ counted add w (ask_execution w s)
+  unfolding ask_execution
+  counted_execution s = sym (over_cond (is_ready (call_at s s.execution).status) _ _)
+
+  -- recording
+  counted_again : (i : ℕ) (new : Bool) (task : Task) (s : State) → to_validate w i new task (counted add w s) ≡ counted add w (to_validate w i new task s)
+  unfolding to_validate
+  counted_again i new task s = sym (over_two (nat_lt i s.validation) new _ _ _)
+
+  counted_waking : (i : ℕ) (s : State) → woken i (counted add w s) ≡ counted add w (woken i s)
+  unfolding woken
+  counted_waking i s = refl
+
+  -- the run that is kept, in a state
+  abbrev kept_in : ℕ → Recorded → State → State
+  kept_in i run s = with_call i (record (call_at s i) { status = Executed; last = Some run }) s
+
+  pub counted_finish : (i : ℕ) (run : Recorded) (new : Bool) (n left : ℕ) (s : State) → new ≡ has_new_key (call_at s i).last run.receipt.writes → n ≡ (call_at s i).incarnation → left ≡ length run.reads →
+      to_validate w i new (Validating i n left) (woken i (with_call i (record (call_at s i) { status = Executed; last = Some run }) (counted add w s))) ≡ counted add w (execution_finished w i run s)
+  counted_finish i run new n left s e f g =
+      ap (to_validate w i new (Validating i n left)) (counted_waking i (kept_in i run s))
+      ∙ counted_again i new (Validating i n left) (woken i (kept_in i run s))
+      ∙ ap (λ (b : Bool). counted add w (to_validate w i b (Validating i n left) (woken i (kept_in i run s)))) e
+      ∙ ap (λ (m : ℕ). counted add w (to_validate w i (has_new_key (call_at s i).last run.receipt.writes) (Validating i m left) (woken i (kept_in i run s)))) f
+      ∙ ap (λ (m : ℕ). counted add w (to_validate w i (has_new_key (call_at s i).last run.receipt.writes) (Validating i (call_at s i).incarnation m) (woken i (kept_in i run s)))) g

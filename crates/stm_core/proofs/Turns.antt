@@ -1,0 +1,205 @@
+-- What a worker's step changes: the worker's own task, and its own counts by one step.
+use Rattle.std.proofs.Common.{◌≡◌, ◌≢◌, ◌<◌, ◌≤◌, ◌+◌, nat_lt, nat_le, ℕ, zero, suc, Bool, true, false, not, ◌&&◌, cond, if◌then◌else◌, List, [], ◌∷◌, length, get_or, set, Option, None, Some, Ok, Err, arith, refl, sym, ap, subst, ◌∙◌, length-set}
+use Rattle.std.specs.FinMap.{len}
+use Rattle.std.proofs.lemmas.List.{set-get_or, get_or-set_same, get_or-set_other}
+use Rattle.rv_ledger.specs.declared.receipt.Receipt.{Receipt}
+use Rattle.rv_ledger.specs.declared.outcome.Counts.{Counts}
+use Rattle.rv_step.specs.Replies.{replies_of}
+use Rattle.rv_step.specs.declared.answer.Answer.{Answer}
+use Rattle.stm_state.specs.declared.state.Task.{Task}
+use Rattle.stm_state.specs.declared.state.Task.TheVariants.{Idle, Running, Validating}
+use Rattle.stm_state.specs.State.{State, call_at, task_at, with_task, no_counts, is_ready, is_executed, is_done}
+use Rattle.stm_state.specs.Steps.{Block, Step, Ask, Read_key, Park, Record, Validate, ArenaFull, IncarnationLimit, counted, one_step, one_asking, one_execution, one_validation, decided, asked, ask_validation, ask_execution, told_done, parked, recorded, to_validate, woken, validated, aborted, is_executed_at, all_stand, record_within, step_with, worker_step}
+use Rattle.stm_state.proofs.Whole.{same_state, none_ok, err_ok}
+use Rattle.stm_core.specs.Driving.{HasNoAnswers}
+
+-- worker w's task becomes one of which P holds, and no other task changes; and no counts
+record TaskTurn (w : ℕ) (P : Task → Type 0) (s t : State) : Type 0 where
+  task : Task
+  fits : P task
+  tasks : t.tasks ≡ set s.tasks w task
+  counts : t.counts ≡ s.counts
+
+-- and worker w has made one step more
+record Turn (w : ℕ) (P : Task → Type 0) (s t : State) : Type 0 where
+  task : Task
+  fits : P task
+  tasks : t.tasks ≡ set s.tasks w task
+  count : Counts
+  one_more : count.steps ≡ (get_or s.counts w no_counts).steps + 1
+  counts : t.counts ≡ set s.counts w count
+
+-- what a step leaves of a task: where it is no read there are no answers
+abbrev pub Leaves : Step → Task → Type 0
+Leaves Ask task = HasNoAnswers task
+Leaves (Read_key key) task = Unit {0}
+Leaves Park task = HasNoAnswers task
+Leaves Record task = HasNoAnswers task
+Leaves Validate task = HasNoAnswers task
+
+module _ (w : ℕ) (s : State) where
+  -- a task is given
+  given : (P : Task → Type 0) (task : Task) (t : State) → P task → t.tasks ≡ set s.tasks w task → t.counts ≡ s.counts → TaskTurn w P s t
+  given P task t p e c = record { task = task; fits = p; tasks = e; counts = c }
+
+  -- nothing changes
+  same : (t : State) → task_at s w ≡ Idle → t.tasks ≡ s.tasks → t.counts ≡ s.counts → TaskTurn w HasNoAnswers s t
+  same t at e c = given HasNoAnswers Idle t tt (e ∙ sym (ap (set s.tasks w) (sym at) ∙ set-get_or s.tasks w Idle)) c
+
+  -- a step is counted
+  counts_one : (P : Task → Type 0) (add : Counts → Counts) (t : State) → ((c : Counts) → (add c).steps ≡ c.steps + 1) → TaskTurn w P s t → Turn w P s (counted add w t)
+  counts_one P add t more h = record {
+    task = h.task;
+    fits = h.fits;
+    tasks = h.tasks;
+    count = add (get_or s.counts w no_counts);
+    one_more = more (get_or s.counts w no_counts);
+    counts = ap (λ c. set c w (add (get_or c w no_counts))) h.counts;
+  }
+
+  -- ---- ask
+
+  validation_asked : task_at s w ≡ Idle → TaskTurn w HasNoAnswers s (ask_validation w s)
+  unfolding ask_validation
+  validation_asked at = go (is_executed (call_at s s.validation).status) refl
+    where
+      go : (b : Bool) → is_executed (call_at s s.validation).status ≡ b → TaskTurn w HasNoAnswers s (ask_validation w s)
+      go true e = rw e (given HasNoAnswers _ _ tt refl refl)
+      go false e = rw e (same _ at refl refl)
+
+  execution_asked : task_at s w ≡ Idle → TaskTurn w HasNoAnswers s (ask_execution w s)
+  unfolding ask_execution
+  execution_asked at = go (is_ready (call_at s s.execution).status) refl
+    where
+      go : (b : Bool) → is_ready (call_at s s.execution).status ≡ b → TaskTurn w HasNoAnswers s (ask_execution w s)
+      go true e = rw e (given HasNoAnswers _ _ refl refl refl)
+      go false e = rw e (same _ at refl refl)
+
+  -- what an asking comes to by its tests
+  asked_by_tests : (done late more : Bool) → task_at s w ≡ Idle
+      → TaskTurn w HasNoAnswers s (cond done (told_done w s) (cond late (ask_validation w s) (cond more (ask_execution w s) s)))
+  asked_by_tests true late more at = same _ at refl refl
+  asked_by_tests false true more at = validation_asked at
+  asked_by_tests false false true at = execution_asked at
+  asked_by_tests false false false at = same _ at refl refl
+
+  has_asked : task_at s w ≡ Idle → TaskTurn w HasNoAnswers s (asked w s)
+  has_asked at = asked_by_tests (is_done s) (nat_lt s.validation s.execution) (nat_lt s.execution (length s.calls)) at
+
+  -- ---- park
+
+  has_parked : (i b : ℕ) → TaskTurn w HasNoAnswers s (parked w i b s)
+  unfolding parked
+  has_parked i b = go (is_executed (call_at s b).status) refl
+    where
+      go : (d : Bool) → is_executed (call_at s b).status ≡ d → TaskTurn w HasNoAnswers s (parked w i b s)
+      go true e = rw e (given HasNoAnswers _ _ refl refl refl)
+      go false e = rw e (given HasNoAnswers _ _ tt refl refl)
+
+  -- ---- record
+
+  -- all that are parked on it are woken, and no task changes
+  woken_tasks : (i : ℕ) (t : State) → (woken i t).tasks ≡ t.tasks
+  unfolding woken
+  woken_tasks i t = refl
+
+  woken_counts : (i : ℕ) (t : State) → (woken i t).counts ≡ t.counts
+  unfolding woken
+  woken_counts i t = refl
+
+  -- what a record leaves to validate
+  left_to_validate : (i n left : ℕ) (new : Bool) (t : State) → t.tasks ≡ s.tasks → t.counts ≡ s.counts → TaskTurn w HasNoAnswers s (to_validate w i new (Validating i n left) t)
+  unfolding to_validate
+  left_to_validate i n left new t e c = go (nat_lt i t.validation) new
+    where
+      go : (past fresh : Bool) → TaskTurn w HasNoAnswers s (cond past (cond fresh (with_task w Idle (record t { validation = i })) (with_task w (Validating i n left) t)) (with_task w Idle t))
+      go true true = given HasNoAnswers Idle _ tt (ap (λ l. set l w Idle) e) c
+      go true false = given HasNoAnswers (Validating i n left) _ tt (ap (λ l. set l w (Validating i n left)) e) c
+      go false fresh = given HasNoAnswers Idle _ tt (ap (λ l. set l w Idle) e) c
+
+  has_recorded : (i : ℕ) (answers : List Answer) (receipt : Receipt) → TaskTurn w HasNoAnswers s (recorded w i answers receipt s)
+  has_recorded i answers receipt = left_to_validate i _ _ _ _ (woken_tasks i _) (woken_counts i _)
+
+  -- ---- validate
+
+  has_aborted : (i : ℕ) → TaskTurn w HasNoAnswers s (aborted w i s)
+  unfolding aborted
+  has_aborted i = go (nat_lt i s.execution) refl
+    where
+      go : (d : Bool) → nat_lt i s.execution ≡ d → TaskTurn w HasNoAnswers s (aborted w i s)
+      go true e = rw e (given HasNoAnswers _ _ refl refl refl)
+      go false e = rw e (given HasNoAnswers _ _ tt refl refl)
+
+  has_validated : (i n : ℕ) → TaskTurn w HasNoAnswers s (validated w i n s)
+  unfolding validated
+  has_validated i n = go (is_executed_at n (call_at s i) && not (all_stand i s)) refl
+    where
+      go : (d : Bool) → (is_executed_at n (call_at s i) && not (all_stand i s)) ≡ d → TaskTurn w HasNoAnswers s (validated w i n s)
+      go true e = rw e (has_aborted i)
+      go false e = rw e (given HasNoAnswers _ _ tt refl refl)
+
+-- ---- each step
+
+module _ (block : Block) (w : ℕ) (s t : State) where
+  -- a record within the limits
+  recorded_within : (i : ℕ) (answers : List Answer) (o : Option Receipt) → record_within i answers w o s ≡ Some (Ok t) → Turn w HasNoAnswers s t
+  recorded_within i answers None k = absurd (none_ok t k)
+  recorded_within i answers (Some receipt) k = go (nat_lt 1048576 (s.placed + len receipt.writes)) (nat_le 65535 (call_at s i).incarnation) k
+    where
+      go : (full spent : Bool) → cond full (Some (Err ArenaFull)) (cond spent (Some (Err IncarnationLimit)) (Some (Ok (counted one_execution w (recorded w i answers receipt s))))) ≡ Some (Ok t) → Turn w HasNoAnswers s t
+      go true spent k = absurd (err_ok ArenaFull t k)
+      go false true k = absurd (err_ok IncarnationLimit t k)
+      go false false k = subst (λ x. Turn w HasNoAnswers s x) (same_state _ t k) (counts_one w s HasNoAnswers one_execution _ (λ c. refl) (has_recorded w s i answers receipt))
+
+  -- parking within the limit
+  parked_within : (i b : ℕ) (spent : Bool) → cond spent (Some (Err IncarnationLimit)) (Some (Ok (counted one_step w (parked w i b s)))) ≡ Some (Ok t) → Turn w HasNoAnswers s t
+  parked_within i b true k = absurd (err_ok IncarnationLimit t k)
+  parked_within i b false k = subst (λ x. Turn w HasNoAnswers s x) (same_state _ t k) (counts_one w s HasNoAnswers one_step _ (λ c. refl) (has_parked w s i b))
+
+  -- a validation that counts as a decision or as a step alone
+  validated_once : (i n : ℕ) (decides : Bool) → Turn w HasNoAnswers s (counted (if decides then one_validation else one_step) w (validated w i n s))
+  validated_once i n true = counts_one w s HasNoAnswers one_validation _ (λ c. refl) (has_validated w s i n)
+  validated_once i n false = counts_one w s HasNoAnswers one_step _ (λ c. refl) (has_validated w s i n)
+
+  -- each step, by the task
+  step_turn : (task : Task) → task_at s w ≡ task → (step : Step) → step_with block w task step s ≡ Some (Ok t) → Turn w (Leaves step) s t
+  step_turn Idle at Ask k = subst (λ x. Turn w HasNoAnswers s x) (same_state _ t k) (counts_one w s HasNoAnswers one_asking _ (λ c. refl) (has_asked w s at))
+  step_turn (Running i answers None) at (Read_key key) k =
+      subst (λ x. Turn w (Leaves (Read_key key)) s x) (same_state _ t k) (counts_one w s (Leaves (Read_key key)) one_step _ (λ c. refl) (given w s (Leaves (Read_key key)) _ _ tt refl refl))
+  step_turn (Running i answers (Some b)) at Park k = parked_within i b (nat_le 65535 (call_at s i).incarnation) k
+  step_turn (Running i answers None) at Record k = recorded_within i answers (block.borne i (replies_of answers)) k
+  step_turn (Validating i n left) at Validate k = subst (λ x. Turn w HasNoAnswers s x) (same_state _ t k) (validated_once i n (decided i n left s))
+  step_turn task at step k = absurd (none_ok t k)
+
+  -- each step
+  turn : (step : Step) → worker_step block w step s ≡ Some (Ok t) → Turn w (Leaves step) s t
+  turn step k = step_turn (task_at s w) refl step k
+
+-- ---- what a turn says
+
+-- one worker's step more is at most one step more of each
+one_more_at : (counts : List Counts) (w u : ℕ) (c : Counts) → c.steps ≡ (get_or counts w no_counts).steps + 1 → (get_or (set counts w c) u no_counts).steps ≤ (get_or counts u no_counts).steps + 1
+one_more_at [] w u c e = omega arith
+one_more_at (x ∷ xs) zero zero c e = omega (arith, e)
+one_more_at (x ∷ xs) zero (suc u) c e = omega arith
+one_more_at (x ∷ xs) (suc w) zero c e = omega arith
+one_more_at (x ∷ xs) (suc w) (suc u) c e = one_more_at xs w u c e
+
+module _ (block : Block) (w : ℕ) (step : Step) (s t : State) (k : worker_step block w step s ≡ Some (Ok t)) where
+  -- how many workers there are stays
+  pub turn_workers : length t.tasks ≡ length s.tasks
+  turn_workers = let h = turn block w s t step k in ap length h.tasks ∙ length-set s.tasks w h.task
+
+  -- the other tasks stay
+  pub turn_others : (u : ℕ) → u ≢ w → task_at t u ≡ task_at s u
+  turn_others u ne = let h = turn block w s t step k in ap (λ l. get_or l u Idle) h.tasks ∙ get_or-set_other s.tasks w u h.task Idle ne
+
+  -- the worker's task is as the step leaves it
+  pub turn_own : w < length s.tasks → Leaves step (task_at t w)
+  turn_own lt = let h = turn block w s t step k in subst (Leaves step) (sym (ap (λ l. get_or l w Idle) h.tasks ∙ get_or-set_same s.tasks w h.task Idle lt)) h.fits
+
+  -- each worker has made at most one step more
+  pub turn_steps : (u : ℕ) → (get_or t.counts u no_counts).steps ≤ (get_or s.counts u no_counts).steps + 1
+  turn_steps u =
+      let h = turn block w s t step k in
+      subst (λ l. (get_or l u no_counts).steps ≤ (get_or s.counts u no_counts).steps + 1) (sym h.counts) (one_more_at s.counts w u h.count h.one_more)

@@ -1,0 +1,231 @@
+//! The engine: a job's run along a list of worker numbers.
+
+ghost use Rattle.std.specs.Prelude.{◌≡◌, ◌<◌, None, Ok, Some, [], length, get_or, replicate, IfErr, IfOk, OnOk};
+ghost use Rattle.rv_step.specs.Fold.{receipts_of, store_after};
+ghost use Rattle.rv_step.specs.Run.{IsEnded};
+ghost use Rattle.rv_step.specs.declared.stage.Stage.TheVariants.{Asked};
+ghost use Rattle.stm_state.specs.State.{State, no_counts, start, task_at};
+ghost use Rattle.stm_state.specs.Steps.{IncarnationLimit, Park, Read_key, Record, worker_step};
+ghost use Rattle.stm_state.specs.Drive.{drive_of, driven, due};
+ghost use Rattle.stm_state.specs.declared.state.Task.TheVariants.{Running};
+ghost use Rattle.stm_core.specs.Board.{IsDue, IsRefused, Makes, answers_of, block_in};
+ghost use Rattle.stm_core.specs.Driving.{FitsTask, IsRefusal, IsStepRefusal};
+ghost use Rattle.stm_core.specs.declared.engine.DriveFault.TheVariants.{Memory};
+
+use crate::doing::{Doing, Told};
+use crate::fault::RecordFault;
+use crate::state::Core;
+use rv_ledger::{Job, Key, Outcome};
+use rv_step::{Pause, Run};
+use std::alloc::{AllocError, AllocFailed, Global};
+use thiserror::Error;
+
+/// The greatest number of workers.
+pub const WORKER_LIMIT: usize = 32;
+
+/// Why a list of worker numbers comes to no outcome.
+#[derive(Clone, Copy, Debug, PartialEq, Eq, Error)]
+pub enum DriveFault {
+    /// The list is used up, and workers are not done.
+    #[error("NotDone 1")]
+    NotDone = 1,
+    /// An entry is no worker, or the number of workers is not 1 to 32.
+    #[error("BadWorker 2")]
+    BadWorker = 2,
+    /// There would be above 1,048,576 versions.
+    #[error("ArenaFull 3")]
+    ArenaFull = 3,
+    /// A call is at incarnation 65,535.
+    #[error("IncarnationLimit 4")]
+    IncarnationLimit = 4,
+    /// Memory ran out.
+    #[error("Memory 5")]
+    Memory = 5,
+}
+
+impl From<AllocError> for DriveFault {
+    ghost from_gives = { λ _ e. e ≡ Memory };
+
+    fn from(_e: AllocError) -> DriveFault {
+        DriveFault::Memory
+    }
+}
+
+impl<T: Drop> From<AllocFailed<T>> for DriveFault {
+    ghost from_gives = { λ _ e. e ≡ Memory };
+
+    fn from(_e: AllocFailed<T>) -> DriveFault {
+        DriveFault::Memory
+    }
+}
+
+/// Runs a job on 1 to 32 workers along a list of worker numbers; each entry makes the one step that
+/// this worker owes. Refused as BadWorker first where the number of workers is not 1 to 32; else with
+/// the first fault that a step meets: BadWorker (an entry that is no worker), ArenaFull,
+/// IncarnationLimit or Memory; else as NotDone where the list is used up and workers are not done.
+pub fn drive(
+    alloc: Global,
+    job: &Job,
+    workers: usize,
+    schedule: &[u16],
+) -> Result<Outcome, DriveFault>
+    ensures counts { IfOk result (λ o. (s : State) × (drive_of job.now.block job.now.store workers schedule.now ≡ Ok s) × (o.counts.items ≡ s.counts)) }
+    ensures job { IfOk result (λ o. o.job ≡ job.now) }
+    ensures receipts { IfOk result (λ o. o.receipts.items ≡ receipts_of job.now.block job.now.store) }
+    ensures store { IfOk result (λ o. o.store ≡ store_after job.now.block job.now.store) }
+    ensures refused { IfErr result (λ e. IsRefusal e (drive_of job.now.block job.now.store workers schedule.now)) }
+{
+    if workers == 0 || workers > WORKER_LIMIT {
+        return Err(DriveFault::BadWorker);
+    }
+    let mut core = Core::new(alloc, job.copy()?, workers)?;
+    let mut runs = no_runs(alloc, workers)?;
+    follow(alloc, &mut core, &mut runs, workers, schedule)?;
+    if !core.done() {
+        return Err(DriveFault::NotDone);
+    }
+    Ok(core.outcome(alloc)?)
+}
+
+/// No run under way, of so many workers.
+fn no_runs(alloc: Global, workers: usize) -> Result<Vec<Option<Run>>, AllocError>
+    ensures { IfOk result (λ v. v.items ≡ replicate workers None) }
+{
+    let mut runs = Vec::with_capacity(alloc, workers)?;
+    for _ in 0..workers {
+        runs.push(None)?;
+    }
+    Ok(runs)
+}
+
+/// Makes the steps of a list of worker numbers from the start on. `runs` are the workers' runs under
+/// way.
+fn follow(
+    alloc: Global,
+    core: &mut Core,
+    runs: &mut Vec<Option<Run>>,
+    workers: usize,
+    schedule: &[u16],
+) -> Result<(), DriveFault>
+    requires start { core.old.state ≡ start (length core.old.job.block) workers }
+    requires runs { runs.old.items ≡ replicate workers None }
+    ensures job { OnOk result (core.new.job ≡ core.old.job) }
+    ensures driven { OnOk result (driven core.old.job.block core.old.job.store workers schedule.now core.old.state ≡ driven core.old.job.block core.old.job.store workers [] core.new.state) }
+    ensures refused { IfErr result (λ e. IsRefusal e (driven core.old.job.block core.old.job.store workers schedule.now core.old.state)) }
+{
+    for entry in schedule {
+        let worker = usize::from(*entry);
+        if worker >= workers {
+            return Err(DriveFault::BadWorker);
+        }
+        step(alloc, core, worker, &mut runs[worker])?;
+    }
+    Ok(())
+}
+
+/// Makes the step that a worker owes. `run` is its run under way.
+fn step(
+    alloc: Global,
+    core: &mut Core,
+    worker: usize,
+    run: &mut Option<Run>,
+) -> Result<(), DriveFault>
+    requires worker { worker < length core.old.state.tasks }
+    requires steps { (get_or core.old.state.counts worker no_counts).steps < 18446744073709551615 }
+    requires fits { FitsTask core.old.job.block run.old (task_at core.old.state worker) }
+    ensures job { OnOk result (core.new.job ≡ core.old.job) }
+    ensures due { OnOk result (due core.old.job.block core.old.job.store worker core.old.state ≡ Some (Ok core.new.state)) }
+    ensures fits { OnOk result (FitsTask core.old.job.block run.new (task_at core.new.state worker)) }
+    ensures refused { IfErr result (λ e. IsStepRefusal e (due core.old.job.block core.old.job.store worker core.old.state)) }
+{
+    match core.doing(worker) {
+        Doing::Ask => core.ask(worker),
+        Doing::Run { call, .. } => *run = run_on(alloc, core, worker, call, run.take())?,
+        Doing::Park { .. } => park(core, worker)?,
+        Doing::Validate { .. } => core.validate(worker),
+    }
+    Ok(())
+}
+
+/// Parks a worker's call, or starts its run again.
+fn park(core: &mut Core, worker: usize) -> Result<(), DriveFault>
+    requires { IsDue worker Park core.old }
+    ensures makes { OnOk result (Makes worker Park core.old core.new) }
+    ensures refused { IfErr result (λ e. (e ≡ DriveFault.IncarnationLimit) × IsRefused worker Park IncarnationLimit core.old) }
+{
+    match core.park(worker) {
+        Ok(()) => Ok(()),
+        Err(_) => Err(DriveFault::IncarnationLimit),
+    }
+}
+
+/// Lets a worker's run go on to its next read or its end, and makes that step. The run that is then
+/// under way is handed back.
+fn run_on(
+    alloc: Global,
+    core: &mut Core,
+    worker: usize,
+    call: u16,
+    run: Option<Run>,
+) -> Result<Option<Run>, DriveFault>
+    requires worker { worker < length core.old.state.tasks }
+    requires within { call < length core.old.job.block }
+    requires steps { (get_or core.old.state.counts worker no_counts).steps < 18446744073709551615 }
+    requires running { task_at core.old.state worker ≡ Running call (answers_of (task_at core.old.state worker)) None }
+    requires fits { FitsTask core.old.job.block run (task_at core.old.state worker) }
+    ensures job { OnOk result (core.new.job ≡ core.old.job) }
+    ensures due { OnOk result (due core.old.job.block core.old.job.store worker core.old.state ≡ Some (Ok core.new.state)) }
+    ensures fits { IfOk result (λ next. FitsTask core.old.job.block next (task_at core.new.state worker)) }
+    ensures refused { IfErr result (λ e. IsStepRefusal e (due core.old.job.block core.old.job.store worker core.old.state)) }
+{
+    let mut run = match run {
+        Some(run) => run,
+        None => Run::start(alloc, &core.job().block.calls()[usize::from(call)])?,
+    };
+    match run.go()? {
+        Pause::Ask(key) => read(core, worker, run, &key),
+        Pause::Ended => {
+            hand_in(alloc, core, worker, run)?;
+            Ok(None)
+        }
+    }
+}
+
+/// Reads the key that a worker's run asks for. The run is handed back with its answer, unless it met
+/// an estimate.
+fn read(core: &mut Core, worker: usize, mut run: Run, key: &Key) -> Result<Option<Run>, DriveFault>
+    requires due { IsDue worker (Read_key key.now) core.old }
+    requires asked { run.stage ≡ Asked key.now }
+    requires fits { FitsTask core.old.job.block (Some run) (task_at core.old.state worker) }
+    ensures makes { OnOk result (Makes worker (Read_key key.now) core.old core.new) }
+    ensures fits { IfOk result (λ next. FitsTask core.old.job.block next (task_at core.new.state worker)) }
+    ensures memory { IfErr result (λ e. e ≡ Memory) }
+{
+    core.room_for_read(worker)?;
+    match core.read(worker, key) {
+        Told::Given(value, origin) => {
+            run.answer(value.as_ref(), origin)?;
+            Ok(Some(run))
+        }
+        Told::Blocked => Ok(None),
+    }
+}
+
+/// Hands a worker's ended run in.
+fn hand_in(alloc: Global, core: &mut Core, worker: usize, run: Run) -> Result<(), DriveFault>
+    requires due { IsDue worker Record core.old }
+    requires ended { IsEnded run.stage }
+    requires fits { FitsTask core.old.job.block (Some run) (task_at core.old.state worker) }
+    ensures makes { OnOk result (Makes worker Record core.old core.new) }
+    ensures refused { IfErr result (λ e. IsStepRefusal e (worker_step (block_in core.old) worker Record core.old.state)) }
+{
+    match core.record(alloc, worker, run.finish()) {
+        Ok(()) => Ok(()),
+        Err(refused) => Err(match refused.fault {
+            RecordFault::ArenaFull => DriveFault::ArenaFull,
+            RecordFault::IncarnationLimit => DriveFault::IncarnationLimit,
+            RecordFault::Memory => DriveFault::Memory,
+            RecordFault::Foreign => unreachable!(),
+        }),
+    }
+}

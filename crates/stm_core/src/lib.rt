@@ -1,0 +1,20 @@
+//! The state of a job's speculative run (Block-STM), the steps that workers make on it, and the engine
+//! that makes them along a list of worker numbers.
+#![tactic(auto)]
+
+pub mod doing;
+pub mod engine;
+pub mod fault;
+mod outcome;
+mod reading;
+mod reads;
+mod recording;
+mod same;
+pub mod state;
+mod validating;
+mod versions;
+
+pub use doing::{Doing, Told};
+pub use engine::{DriveFault, WORKER_LIMIT, drive};
+pub use fault::{IncarnationLimit, RecordFault, Refused};
+pub use state::Core;

@@ -1,0 +1,64 @@
+//! What the run of a job leaves.
+
+ghost use Rattle.std.specs.Prelude.{◌≡◌, ◌≤◌, ℕ, List, None, length, IfOk};
+ghost use Rattle.std.specs.List.{filter_map};
+ghost use Rattle.std.specs.FinMap.{get};
+ghost use Rattle.mvmap.specs.Versions.{HasNoEstimate, entry_at};
+ghost use Rattle.mvmap.specs.Reading.{held, reading};
+ghost use Rattle.stm_state.specs.Done.{last_receipt};
+
+use mvmap::MvMap;
+use rv_ledger::{Counts, Job, Outcome, Receipt};
+use scheduler::Scheduler;
+use std::alloc::{AllocError, Global};
+use stm_state::CallState;
+
+/// What the run of a job leaves, where no entry is an estimate; refused where memory ran out.
+pub(crate) fn outcome_of(
+    alloc: Global,
+    job: &Job,
+    map: &MvMap,
+    scheduler: &Scheduler,
+) -> Result<Outcome, AllocError>
+    requires versions { HasNoEstimate map.now.versions }
+    requires counts { length scheduler.now.counts ≡ length scheduler.now.tasks }
+    ensures job { IfOk result (λ o. o.job ≡ job.now) }
+    ensures receipts { IfOk result (λ o. o.receipts.items ≡ filter_map last_receipt scheduler.now.calls) }
+    ensures store { IfOk result (λ o. (key : List ℕ) (i : ℕ) → ((w : ℕ) → i ≤ w → entry_at map.now.versions key w ≡ None) → get o.store key ≡ held (get job.now.store key) (reading map.now.versions key i)) }
+    ensures counts { IfOk result (λ o. o.counts.items ≡ scheduler.now.counts) }
+{
+    let mut store = job.store.copy()?;
+    map.snapshot_into(&mut store)?;
+    Ok(Outcome {
+        job: job.copy()?,
+        receipts: receipts_in(alloc, scheduler.calls())?,
+        store,
+        counts: counts_in(alloc, scheduler)?,
+    })
+}
+
+/// The receipts of the calls' last recorded runs; refused where memory ran out.
+fn receipts_in(alloc: Global, calls: &[CallState]) -> Result<Vec<Receipt>, AllocError>
+    ensures { IfOk result (λ receipts. receipts.items ≡ filter_map last_receipt calls.now) }
+{
+    let mut receipts = Vec::with_capacity(alloc, calls.len())?;
+    for call in calls {
+        if let Some(run) = &call.last {
+            receipts.push(run.receipt.copy()?)?;
+        }
+    }
+    Ok(receipts)
+}
+
+/// What each worker did; refused where memory ran out.
+fn counts_in(alloc: Global, scheduler: &Scheduler) -> Result<Vec<Counts>, AllocError>
+    requires { length scheduler.now.counts ≡ length scheduler.now.tasks }
+    ensures { IfOk result (λ counts. counts.items ≡ scheduler.now.counts) }
+{
+    let workers = scheduler.workers();
+    let mut counts = Vec::with_capacity(alloc, workers)?;
+    for worker in 0..workers {
+        counts.push(scheduler.counts(worker))?;
+    }
+    Ok(counts)
+}

@@ -1,0 +1,131 @@
+//! What a worker is about, and a read of its run.
+
+ghost use Rattle.std.specs.Prelude.{◌≡◌, ◌<◌, ◌≤◌, ◌++◌, ◌∷◌, [], ℕ, List, length, get_or, IfSome, None, Some};
+ghost use Rattle.std.specs.Option.{option_copied};
+ghost use Rattle.rv_step.specs.declared.answer.Answer.{Answer};
+ghost use Rattle.mvmap.specs.Versions.{Versions};
+ghost use Rattle.mvmap.specs.Reading.{reading};
+ghost use Rattle.stm_state.specs.declared.state.Task.TheVariants as task;
+ghost use Rattle.stm_state.specs.State.{with_task};
+ghost use Rattle.stm_state.specs.Steps.{answered_with, counted, one_step};
+ghost use Rattle.stm_state.specs.Invariant.{named_by};
+ghost use Rattle.scheduler.specs.Schedule.{MayCount, state_of};
+ghost use Rattle.stm_core.specs.declared.doing.Told.TheVariants as told;
+ghost use Rattle.stm_core.specs.Board.{doing_of, told_of};
+
+use crate::doing::{Doing, Told};
+use mvmap::MvMap;
+use read_set::Origin;
+use rv_ledger::short_bytes::VALUE_LIMIT;
+use rv_ledger::{Key, Store, Value};
+use rv_step::Answer;
+use scheduler::{Duty, Scheduler};
+
+/// The step that a worker owes.
+pub(crate) fn doing_of(scheduler: &Scheduler, worker: usize) -> Doing
+    requires worker { worker < length scheduler.now.tasks }
+    requires named { (i : ℕ) → named_by (get_or scheduler.now.tasks worker task.Idle) ≡ Some i → i < length scheduler.now.calls }
+    ensures { (v : Versions) (p : ℕ) → result ≡ doing_of (state_of v p scheduler.now) (get_or scheduler.now.tasks worker task.Idle) }
+{
+    match scheduler.duty(worker) {
+        Duty::Idle => Doing::Ask,
+        Duty::Running {
+            call,
+            blocked: None,
+        } => Doing::Run {
+            call,
+            incarnation: scheduler.call(call).incarnation,
+        },
+        Duty::Running {
+            call,
+            blocked: Some(_),
+        } => Doing::Park {
+            call,
+            incarnation: scheduler.call(call).incarnation,
+        },
+        Duty::Validating {
+            call,
+            incarnation,
+            ..
+        } => Doing::Validate { call, incarnation },
+    }
+}
+
+/// A worker's run reads a key for its call, in room that was made: it is given what the highest call
+/// below has, or is blocked on it. Takes no memory.
+pub(crate) fn read_at(
+    store: &Store,
+    map: &MvMap,
+    scheduler: &mut Scheduler,
+    worker: usize,
+    call: u16,
+    key: &Key,
+) -> Told
+    requires counts { MayCount worker scheduler.old }
+    requires room { 1 ≤ get_or scheduler.old.rooms worker 0 }
+    ensures told { result ≡ told_of store.now key.now (reading map.now.versions key.now call) }
+    ensures state { (answers : List Answer) → get_or scheduler.old.tasks worker task.Idle ≡ task.Running call answers None → (v : Versions) (p : ℕ) →
+        state_of v p scheduler.new ≡ counted one_step worker (with_task worker (answered_with store.now key.now call answers (reading map.now.versions key.now call)) (state_of v p scheduler.old)) }
+{
+    match map.read(key, call) {
+        mvmap::Answer::Base => give(scheduler, worker, key, copied(store.get(key)), Origin::Base),
+        mvmap::Answer::Found(version, content) => give(
+            scheduler,
+            worker,
+            key,
+            value_of(content),
+            Origin::Version {
+                writer: version.writer,
+                incarnation: version.incarnation,
+            },
+        ),
+        mvmap::Answer::Estimate(writer) => {
+            scheduler.block(worker, writer);
+            Told::Blocked
+        }
+    }
+}
+
+/// Keeps an answer to a worker's run, in room that was made, and gives it.
+fn give(
+    scheduler: &mut Scheduler,
+    worker: usize,
+    key: &Key,
+    value: Option<Value>,
+    origin: Origin,
+) -> Told
+    requires counts { MayCount worker scheduler.old }
+    requires room { 1 ≤ get_or scheduler.old.rooms worker 0 }
+    ensures told { result ≡ told.Given value origin }
+    ensures state { (i : ℕ) (answers : List Answer) → get_or scheduler.old.tasks worker task.Idle ≡ task.Running i answers None → (v : Versions) (p : ℕ) →
+        state_of v p scheduler.new ≡ counted one_step worker (with_task worker (task.Running i (answers ++ record { key = key.now; value = value; origin = origin } ∷ []) None) (state_of v p scheduler.old)) }
+{
+    let answer = Answer {
+        key: *key,
+        value: copied(value.as_ref()),
+        origin,
+    };
+    scheduler.answer(worker, answer);
+    Told::Given(value, origin)
+}
+
+/// An equal value.
+fn copied(value: Option<&Value>) -> Option<Value>
+    ensures { result ≡ option_copied value.entry }
+{
+    match value {
+        Some(value) => Some(value.copy()),
+        None => None,
+    }
+}
+
+/// The value of bytes that a version has.
+fn value_of(content: Option<&[u8]>) -> Option<Value>
+    requires { IfSome content (λ bytes. length bytes.now ≤ VALUE_LIMIT) }
+    ensures { result ≡ option_copied content.entry }
+{
+    match content {
+        Some(bytes) => Value::of(bytes),
+        None => None,
+    }
+}

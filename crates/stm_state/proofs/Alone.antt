@@ -1,0 +1,279 @@
+-- One worker goes through the rounds of all calls, and is then told that all is done.
+use Rattle.std.proofs.Common.{◌≡◌, ◌<◌, ◌≤◌, ◌+◌, ◌-◌, ◌*◌, ◌&&◌, ◌==◌, ℕ, zero, suc, true, if◌then◌else◌, List, [], ◌∷◌, length, get_or, slice_get, Some, Ok, Err, arith, refl, sym, ap, subst, ◌∙◌, inl, inr}
+use Rattle.std.specs.Cmp.Derive.{both_true}
+use Rattle.std.specs.List.{list_all}
+use Rattle.std.proofs.lemmas.Bool.{cases_eq, cases_lt, cond-true}
+use Rattle.std.proofs.lemmas.Grind.{get_or-set_at}
+use Rattle.rv_ledger.specs.Key.{Storage}
+use Rattle.rv_ledger.specs.Call.{Invocation}
+use Rattle.rv_step.specs.Fold.{store_after, store_after_call, store_before}
+use Rattle.rv_step.proofs.Receipts.{one_receipt_lem}
+use Rattle.stm_state.specs.declared.state.CallState.{CallState}
+use Rattle.stm_state.specs.declared.state.Task.{Task}
+use Rattle.stm_state.specs.declared.state.Task.TheVariants.{Idle}
+use Rattle.stm_state.specs.State.{State, fresh, no_counts, start, call_at, task_at, is_idle, is_done}
+use Rattle.stm_state.specs.Steps.{counted, one_asking, told_done, step_with, reads_of}
+use Rattle.stm_state.specs.Done.{block_of}
+use Rattle.stm_state.specs.Drive.{NotDone, owed, due}
+use Rattle.stm_state.specs.Invariant.{Invariant}
+use Rattle.stm_state.specs.OneWorker.{IsReads, rounds, MeetsNoEstimate, OneWorkerDid, HasOneWorkerCounts}
+use Rattle.stm_state.proofs.Tests.{equal_itself}
+use Rattle.stm_state.proofs.Whole.{replicated, start_kept}
+use Rattle.stm_state.proofs.Paths.{alone, Leads, Free, free_now, free_on, used_up, one_step_on, leads_none, leads_next, leads_join}
+use Rattle.stm_state.proofs.Phases.{call_there, did, Now, unblocked, still, one_more, run_begins}
+use Rattle.stm_state.proofs.Turns.{read_all, record_one, check_begins, check_one}
+
+-- ---- each call has a number of reads
+
+-- the numbers of all calls
+abbrev reads_in_order : List Invocation → Storage → List ℕ
+reads_in_order [] store = []
+reads_in_order (call ∷ calls) store = length (one_receipt_lem call store).some_answers.0 ∷ reads_in_order calls (store_after_call call store)
+
+sized_reads : (calls : List Invocation) (store : Storage) → length (reads_in_order calls store) ≡ length calls
+sized_reads [] store = refl
+sized_reads (call ∷ calls) store = ap suc (sized_reads calls (store_after_call call store))
+
+each_reads : (calls : List Invocation) (store : Storage) (i : ℕ) (call : Invocation) → slice_get calls i ≡ Some call → IsReads call (store_before calls i store) (get_or (reads_in_order calls store) i 0)
+unfolding store_after
+each_reads [] store i call h = cc
+each_reads (c ∷ calls) store zero call h =
+    let some = (one_receipt_lem c store).some_answers in
+    let same : c ≡ call = cc in
+    subst (λ x. IsReads x store (length some.0)) same (record { replies = some.0; size = refl; from = some.1; borne = some.2 })
+each_reads (c ∷ calls) store (suc i) call h = each_reads calls (store_after_call c store) i call h
+
+-- ---- the rounds
+
+-- lists of one element
+one_idle : (tasks : List Task) → length tasks ≡ 1 → get_or tasks 0 Idle ≡ Idle → list_all is_idle tasks ≡ true
+one_idle [] size h = refl
+one_idle (task ∷ []) size h = ap (λ x. is_idle x && true) h
+one_idle (task ∷ other ∷ tasks) size h = absurd (omega (arith, size))
+
+one_element : {X : Type 0} (xs : List X) (d x : X) → length xs ≡ 1 → get_or xs 0 d ≡ x → xs ≡ x ∷ []
+one_element [] d x size h = absurd (omega (arith, size))
+one_element (y ∷ []) d x size h = ap (λ z. z ∷ []) h
+one_element (y ∷ other ∷ xs) d x size h = absurd (omega (arith, size))
+
+module _ (calls : List Invocation) (store : Storage) (short : length calls ≤ 1024) where
+  -- the calls below d are through, after so many steps
+  abbrev At : ℕ → ℕ → ℕ → State → Type 0
+  At d steps asks s = Now calls store d fresh d d Idle (did steps asks d d) s
+
+  -- the round of call d
+  round : (d steps asks r : ℕ) (s : State) (call : Invocation) → slice_get calls d ≡ Some call → d < length calls → IsReads call (store_before calls d store) r → At d steps asks s
+      → (t : State) × Leads calls store s (4 + r) t × At (d + 1) (steps + (4 + r)) (asks + 2) t
+  round d steps asks r s call there within reads now =
+      let a = run_begins calls store d s (did steps asks d d) now within in
+      let b = read_all calls store d call there within reads.replies [] (steps + 1) (asks + 1) d d a.0 (record { now = a.2; bears = reads.borne; from = reads.from; stand = refl }) in
+      let c = record_one calls store d call there within b.1 (did (steps + 1 + length reads.replies) (asks + 1) d d) b.0 short b.3 in
+      let e = check_begins calls store d call there within (did (steps + 1 + length reads.replies + 1) (asks + 1) (d + 1) d) c.0 c.2 c.3 in
+      let g = check_one calls store d call there within (did (steps + 1 + length reads.replies + 1 + 1) (asks + 1 + 1) (d + 1) d) e.0 (length (reads_of (call_at c.0 d).last)) e.2 e.3 in
+      let last = leads_next calls store e.0 g.0 g.0 0 g.1.before g.1.step g.1.free (leads_none calls store g.0) in
+      let end = leads_next calls store b.0 c.0 g.0 (0 + 1 + 1) c.1.before c.1.step c.1.free (leads_next calls store c.0 e.0 g.0 (0 + 1) e.1.before e.1.step e.1.free last) in
+      let all = leads_next calls store s a.0 g.0 (length reads.replies + (0 + 1 + 1 + 1)) a.1.before a.1.step a.1.free (leads_join calls store a.0 b.0 g.0 (length reads.replies) (0 + 1 + 1 + 1) b.2 end) in
+      let size = reads.size in
+      let length_is : length reads.replies + (0 + 1 + 1 + 1) + 1 ≡ 4 + r = omega (arith, size) in
+      let steps_are : steps + 1 + length reads.replies + 1 + 1 + 1 ≡ steps + (4 + r) = omega (arith, size) in
+      let asks_are : asks + 1 + 1 ≡ asks + 2 = omega arith in (
+        g.0,
+        subst (λ n. Leads calls store s n g.0) length_is all,
+        subst (λ n. At (d + 1) n (asks + 2) g.0) steps_are (subst (λ n. At (d + 1) (steps + 1 + length reads.replies + 1 + 1 + 1) n g.0) asks_are g.2),
+      )
+
+  -- the number of reads of the call of an index
+  abbrev IsReadsAt : ℕ → ℕ → Type 0
+  IsReadsAt i r = (call : Invocation) → slice_get calls i ≡ Some call → IsReads call (store_before calls i store) r
+
+  -- the rounds from call d on
+  walk : (reads : List ℕ) (d steps asks : ℕ) (s : State) → d + length reads ≡ length calls → ((i : ℕ) → i < length reads → IsReadsAt (d + i) (get_or reads i 0)) → At d steps asks s
+      → (t : State) × Leads calls store s (rounds reads) t × At (length calls) (steps + rounds reads) (asks + 2 * length reads) t
+  walk [] d steps asks s size each now =
+      let d_is : d ≡ length calls = omega (arith, size) in
+      let steps_are : steps ≡ steps + 0 = omega arith in
+      let asks_are : asks ≡ asks + 2 * 0 = omega arith in
+      (s, leads_none calls store s, subst (λ n. At (length calls) n (asks + 2 * 0) s) steps_are (subst (λ n. At (length calls) steps n s) asks_are (subst (λ n. At n steps asks s) d_is now)))
+  walk (r ∷ reads) d steps asks s size each now =
+      let within : d < length calls = omega (arith, size) in
+      let there = call_there calls d within in
+      let d_is : d + 0 ≡ d = omega arith in
+      let one = round d steps asks r s there.0 there.1 within (subst (λ n. IsReadsAt n r) d_is (each 0 (omega arith)) there.0 there.1) now in
+      let more = walk reads (d + 1) (steps + (4 + r)) (asks + 2) one.0 (omega (arith, size))
+      (λ i l. let next : d + suc i ≡ d + 1 + i = omega arith in subst (λ n. IsReadsAt n (get_or reads i 0)) next (each (suc i) (omega (arith, l)))) one.2 in
+      let steps_are : steps + (4 + r) + rounds reads ≡ steps + (4 + r + rounds reads) = omega arith in
+      let asks_are : asks + 2 + 2 * length reads ≡ asks + 2 * suc (length reads) = omega arith in (
+        more.0,
+        leads_join calls store s one.0 more.0 (4 + r) (rounds reads) one.1 more.1,
+        subst (λ n. At (length calls) n (asks + 2 * suc (length reads)) more.0) steps_are (subst (λ n. At (length calls) (steps + (4 + r) + rounds reads) n more.0) asks_are more.2),
+      )
+
+  -- ---- the end
+
+  -- all calls are through, after so many steps, of which so many were askings that were told so
+  record Ended (steps asks told : ℕ) (s : State) : Type 0 where
+    inv : Invariant (block_of calls store) 1 s
+    runs_from : s.execution ≡ length calls
+    checks_from : s.validation ≡ length calls
+    does : task_at s 0 ≡ Idle
+    incarnations : (i : ℕ) → (call_at s i).incarnation ≡ 0
+    worked : get_or s.counts 0 no_counts ≡ did steps asks (length calls) (length calls)
+    told_so : get_or s.dones 0 0 ≡ told
+
+  -- so it is after all rounds
+  at_end : (steps asks : ℕ) (s : State) → At (length calls) steps asks s → Ended steps asks 0 s
+  at_end steps asks s now = record {
+    inv = now.inv;
+    runs_from = now.runs_from;
+    checks_from = now.checks_from;
+    does = now.does;
+    incarnations = λ i. elim (cases_lt i (length calls)) [
+      | inl low ↦ (now.below i low).incarnation
+      | inr high ↦ elim (cases_eq i (length calls)) [
+        | inl e ↦ ap (λ (x : CallState). x.incarnation) (ap (call_at s) e ∙ now.here)
+        | inr ne ↦ ap (λ (x : CallState). x.incarnation) (now.above i (omega (arith, high, ne)))
+      ]
+    ];
+    worked = now.worked;
+    told_so = now.untold;
+  }
+
+  -- workers are done
+  is_over : (steps asks told : ℕ) (s : State) → Ended steps asks told s → is_done s ≡ true
+  unfolding is_done
+  is_over steps asks told s now =
+      let n = now.inv.sized.calls in
+      both_true (both_true (ap (λ x. x == length s.calls) (now.runs_from ∙ sym n) ∙ equal_itself (length s.calls)) (ap (λ x. x == length s.calls) (now.checks_from ∙ sym n) ∙ equal_itself (length s.calls)))
+      (one_idle s.tasks now.inv.sized.tasks now.does)
+
+  module _ (steps asks told : ℕ) (s : State) (now : Ended steps asks told s) where
+    -- one more asking
+    abbrev asked_again : State
+    asked_again = counted one_asking 0 (told_done 0 s)
+
+    again_due : due calls store 0 s ≡ Some (Ok asked_again)
+    again_due =
+        ap (λ task. step_with (block_of calls store) 0 task (owed calls task) s) now.does
+        ∙ ap (λ u. Some (Ok (counted one_asking 0 u))) (cond-true (is_done s) _ _ (is_over steps asks told s now))
+
+    -- is told so too
+    again : Ended (steps + 1) (asks + 1) (told + 1) asked_again
+    again = record {
+      inv = still calls store (length calls) s asked_again now.inv again_due;
+      runs_from = now.runs_from;
+      checks_from = now.checks_from;
+      does = now.does;
+      incarnations = now.incarnations;
+      worked = one_more calls store (length calls) s now.inv one_asking (did steps asks (length calls) (length calls)) now.worked;
+      told_so = get_or-set_at s.dones 0 0 (get_or s.dones 0 0 + 1) 0 refl (let one = now.inv.sized.dones in omega (arith, one)) ∙ ap (λ n. n + 1) now.told_so;
+    }
+
+    -- no run is blocked
+    nobody : MeetsNoEstimate s
+    nobody = unblocked s Idle now.inv.sized.tasks now.does (λ i b answers h. cc)
+
+    -- what the worker did
+    did_all : OneWorkerDid (length calls) steps asks told s
+    did_all = record {
+      counts = one_element s.counts no_counts (did steps asks (length calls) (length calls)) now.inv.sized.counts now.worked;
+      dones = one_element s.dones 0 told now.inv.sized.dones now.told_so;
+      incarnations = now.incarnations;
+    }
+
+  -- each further asking is told so
+  told_all : (k steps asks told : ℕ) (s : State) → Ended steps asks told s → (t : State) × (alone calls store k s ≡ Ok t) × Ended (steps + k) (asks + k) (told + k) t × Free calls store k s
+  told_all zero steps asks told s now =
+      let same : (n : ℕ) → n ≡ n + 0 = λ n. omega arith in (
+        s,
+        used_up calls store s ∙ ap (λ b. if b then Ok s else Err NotDone) (is_over steps asks told s now),
+        subst (λ n. Ended n (asks + 0) (told + 0) s) (same steps) (subst (λ n. Ended steps n (told + 0) s) (same asks) (subst (λ n. Ended steps asks n s) (same told) now)),
+        free_now calls store s (nobody steps asks told s now),
+      )
+  told_all (suc k) steps asks told s now =
+      let next : State = asked_again steps asks told s now in
+      let owed_next = again_due steps asks told s now in
+      let more = told_all k (steps + 1) (asks + 1) (told + 1) next (again steps asks told s now) in
+      let same : (n : ℕ) → n + 1 + k ≡ n + suc k = λ n. omega arith in (
+        more.0,
+        one_step_on calls store s next k owed_next ∙ more.1,
+        subst (λ n. Ended n (asks + suc k) (told + suc k) more.0) (same steps)
+            (subst (λ n. Ended (steps + 1 + k) n (told + suc k) more.0) (same asks) (subst (λ n. Ended (steps + 1 + k) (asks + 1 + k) n more.0) (same told) more.2)),
+        free_on calls store s next k (nobody steps asks told s now) owed_next more.3,
+      )
+
+  -- the start
+  first : At 0 0 0 (start (length calls) 1)
+  first = record {
+    inv = start_kept (block_of calls store) 1;
+    runs_from = refl;
+    checks_from = refl;
+    does = replicated 1 0 Idle;
+    below = λ j l. absurd (omega (arith, l));
+    here = replicated (length calls) 0 fresh;
+    above = λ j l. replicated (length calls) j fresh;
+    room = omega arith;
+    worked = replicated 1 0 no_counts;
+    untold = replicated 1 0 0;
+  }
+
+  -- the numbers of reads
+  abbrev all_reads : List ℕ
+  all_reads = reads_in_order calls store
+
+  -- the steps of all rounds
+  abbrev all_rounds : ℕ
+  all_rounds = rounds all_reads
+
+  -- all rounds from the start
+  way : (t : State) × Leads calls store (start (length calls) 1) all_rounds t × At (length calls) all_rounds (2 * length calls) t
+  way =
+      let size = sized_reads calls store in
+      let rest = walk all_reads 0 0 0 (start (length calls) 1) (omega (arith, size)) (λ i l. let e : i ≡ 0 + i = omega arith in subst (λ n. IsReadsAt n (get_or all_reads i 0)) e (each_reads calls store i)) first in
+      let steps_are : 0 + all_rounds ≡ all_rounds = omega arith in
+      let asks_are : 0 + 2 * length all_reads ≡ 2 * length calls = omega (arith, size) in
+      (rest.0, rest.1, subst (λ n. At (length calls) n (2 * length calls) rest.0) steps_are (subst (λ n. At (length calls) (0 + all_rounds) n rest.0) asks_are rest.2))
+
+  -- further askings
+  later : (k : ℕ) → (t : State) × (alone calls store k way.0 ≡ Ok t) × Ended (all_rounds + k) (2 * length calls + k) (0 + k) t × Free calls store k way.0
+  later k = told_all k all_rounds (2 * length calls) 0 way.0 (at_end all_rounds (2 * length calls) way.0 way.2)
+
+  -- what so many steps after all rounds come to
+  after_rounds : (k : ℕ) → (t : State) × (alone calls store (all_rounds + k) (start (length calls) 1) ≡ Ok t) × OneWorkerDid (length calls) (all_rounds + k) (2 * length calls + k) k t
+  after_rounds k =
+      let rest = later k in
+      let told_are : 0 + k ≡ k = omega arith in (
+        rest.0,
+        way.1.late k ∙ rest.1,
+        did_all (all_rounds + k) (2 * length calls + k) k rest.0 (subst (λ n. Ended (all_rounds + k) (2 * length calls + k) n rest.0) told_are rest.2),
+      )
+
+  -- what so many steps come to
+  after_all : (k : ℕ) → all_rounds ≤ k → (t : State) × (alone calls store k (start (length calls) 1) ≡ Ok t) × OneWorkerDid (length calls) k (2 * length calls + k - all_rounds) (k - all_rounds) t
+  after_all k l =
+      let rest = after_rounds (k - all_rounds) in
+      let split : all_rounds + (k - all_rounds) ≡ k = omega (arith, l) in
+      let asks_are : 2 * length calls + (k - all_rounds) ≡ 2 * length calls + k - all_rounds = omega (arith, l) in (
+        rest.0,
+        subst (λ n. alone calls store n (start (length calls) 1) ≡ Ok rest.0) split rest.1,
+        subst (λ n. OneWorkerDid (length calls) n (2 * length calls + k - all_rounds) (k - all_rounds) rest.0) split
+            (subst (λ n. OneWorkerDid (length calls) (all_rounds + (k - all_rounds)) n (k - all_rounds) rest.0) asks_are rest.2),
+      )
+
+  -- no run is blocked on the way
+  free_way : (k : ℕ) → Free calls store k (start (length calls) 1)
+  free_way k = elim (cases_lt k all_rounds) [
+    | inl low ↦ way.1.free_early k low
+    | inr high ↦
+        let split : all_rounds + (k - all_rounds) ≡ k = omega (arith, high) in
+        subst (λ n. Free calls store n (start (length calls) 1)) split (way.1.free_late (k - all_rounds) (later (k - all_rounds)).3)
+  ]
+
+  -- one worker's counts
+  pub counts_alone : HasOneWorkerCounts calls store
+  counts_alone = record {
+    reads = all_reads;
+    are_reads = record { size = sized_reads calls store; each = each_reads calls store };
+    before = way.1.early;
+    after = after_all;
+    free = free_way;
+  }

@@ -1,0 +1,153 @@
+-- What a worker's counts say of each other.
+use Rattle.std.proofs.Common.{◌≡◌, ◌<◌, ◌≤◌, ◌+◌, ◌&&◌, not, nat_lt, nat_le, ℕ, Bool, true, false, cond, if◌then◌else◌, List, length, replicate, get_or, set, Option, None, Some, Ok, Err, arith, refl, sym, subst, inl, inr}
+use Rattle.std.specs.FinMap.{len}
+use Rattle.std.proofs.lemmas.Bool.{cases_eq, cond_both}
+use Rattle.std.proofs.lemmas.List.{get_or-set_same, get_or-set_other}
+use Rattle.rv_ledger.specs.declared.receipt.Receipt.{Receipt}
+use Rattle.rv_ledger.specs.declared.outcome.Counts.{Counts}
+use Rattle.rv_step.specs.Replies.{replies_of}
+use Rattle.rv_step.specs.declared.answer.Answer.{Answer}
+use Rattle.stm_state.specs.declared.state.Task.{Task}
+use Rattle.stm_state.specs.declared.state.Task.TheVariants.{Idle, Running, Validating}
+use Rattle.stm_state.specs.State.{State, no_counts, start, call_at, task_at, is_executed, is_ready, is_done}
+use Rattle.stm_state.specs.Steps.{Block, Step, Ask, Read_key, Park, Record, Validate, ArenaFull, IncarnationLimit, counted, one_step, one_asking, one_execution, one_validation, ask_validation, ask_execution, asked, told_done, read_at, decided, parked, has_new_key, woken, to_validate, recorded, aborted, validated, is_executed_at, all_stand, record_within, step_with}
+use Rattle.stm_state.specs.Done.{Reached, started, stepped}
+use Rattle.stm_state.proofs.Whole.{replicated, none_ok, err_ok, same_state, invariant_kept}
+
+-- each asking, execution and decision is a step, and only an asking is told that all is done
+pub record Within (c : Counts) (told : ℕ) : Type 0 where
+  pub asks : c.asks ≤ c.steps
+  pub executions : c.executions ≤ c.steps
+  pub validations : c.validations ≤ c.steps
+  pub dones : told ≤ c.asks
+
+-- what each worker was told, too
+abbrev CountsWithin : State → Type 0
+CountsWithin s = (x : ℕ) → Within (get_or s.counts x no_counts) (get_or s.dones x 0)
+
+-- a step leaves what the workers did as it was
+abbrev IsSilent : State → State → Type 0
+IsSilent s t = (t.counts ≡ s.counts) × (t.dones ≡ s.dones)
+
+-- ---- steps that are silent before they are counted
+
+ask_validation_silent : (w : ℕ) (s : State) → IsSilent s (ask_validation w s)
+unfolding ask_validation
+ask_validation_silent w s = cond_both (is_executed (call_at s s.validation).status) _ _ (λ t. IsSilent s t) (λ _. (refl, refl)) (λ _. (refl, refl))
+
+ask_execution_silent : (w : ℕ) (s : State) → IsSilent s (ask_execution w s)
+unfolding ask_execution
+ask_execution_silent w s = cond_both (is_ready (call_at s s.execution).status) _ _ (λ t. IsSilent s t) (λ _. (refl, refl)) (λ _. (refl, refl))
+
+parked_silent : (w i b : ℕ) (s : State) → IsSilent s (parked w i b s)
+unfolding parked
+parked_silent w i b s = cond_both (is_executed (call_at s b).status) _ _ (λ t. IsSilent s t) (λ _. (refl, refl)) (λ _. (refl, refl))
+
+to_validate_silent : (w i : ℕ) (new : Bool) (task : Task) (s : State) → IsSilent s (to_validate w i new task s)
+unfolding to_validate
+to_validate_silent w i new task s = cond_both (nat_lt i s.validation) _ _ (λ t. IsSilent s t) (λ _. cond_both new _ _ (λ t. IsSilent s t) (λ _. (refl, refl)) (λ _. (refl, refl))) (λ _. (refl, refl))
+
+recorded_silent : (w i : ℕ) (answers : List Answer) (receipt : Receipt) (s : State) → IsSilent s (recorded w i answers receipt s)
+unfolding woken
+recorded_silent w i answers receipt s = to_validate_silent w i (has_new_key (call_at s i).last receipt.writes) _ _
+
+aborted_silent : (w i : ℕ) (s : State) → IsSilent s (aborted w i s)
+unfolding aborted
+aborted_silent w i s = cond_both (nat_lt i s.execution) _ _ (λ t. IsSilent s t) (λ _. (refl, refl)) (λ _. (refl, refl))
+
+validated_silent : (w i n : ℕ) (s : State) → IsSilent s (validated w i n s)
+unfolding validated
+validated_silent w i n s = cond_both (is_executed_at n (call_at s i) && not (all_stand i s)) _ _ (λ t. IsSilent s t) (λ _. aborted_silent w i s) (λ _. (refl, refl))
+
+-- ---- counting
+
+-- what a step adds keeps the counts
+abbrev Keeps : (Counts → Counts) → Type 0
+Keeps add = (c : Counts) (d : ℕ) → Within c d → Within (add c) d
+
+step_keeps : Keeps one_step
+step_keeps c d h = record { asks = omega (arith, h.asks); executions = omega (arith, h.executions); validations = omega (arith, h.validations); dones = h.dones }
+
+asking_keeps : Keeps one_asking
+asking_keeps c d h = record { asks = omega (arith, h.asks); executions = omega (arith, h.executions); validations = omega (arith, h.validations); dones = omega (arith, h.dones) }
+
+execution_keeps : Keeps one_execution
+execution_keeps c d h = record { asks = omega (arith, h.asks); executions = omega (arith, h.executions); validations = omega (arith, h.validations); dones = h.dones }
+
+validation_keeps : Keeps one_validation
+validation_keeps c d h = record { asks = omega (arith, h.asks); executions = omega (arith, h.executions); validations = omega (arith, h.validations); dones = h.dones }
+
+decision_keeps : (b : Bool) → Keeps (if b then one_validation else one_step)
+decision_keeps true = validation_keeps
+decision_keeps false = step_keeps
+
+module _ (s : State) (w : ℕ) (h : CountsWithin s) (w_in : w < length s.counts) where
+  -- a silent step that is counted
+  silent_kept : (add : Counts → Counts) (t : State) → Keeps add → IsSilent s t → CountsWithin (counted add w t)
+  silent_kept add t keeps silent x = subst (λ c. Within (get_or (set c w (add (get_or c w no_counts))) x no_counts) (get_or t.dones x 0)) (sym silent.0)
+      (subst (λ d. Within (get_or (set s.counts w (add (get_or s.counts w no_counts))) x no_counts) (get_or d x 0)) (sym silent.1) (elim (cases_eq x w) [
+        | inl e ↦ subst (λ y. Within (get_or (set s.counts w (add (get_or s.counts w no_counts))) y no_counts) (get_or s.dones y 0)) (sym e)
+            (subst (λ c. Within c (get_or s.dones w 0)) (sym (get_or-set_same s.counts w (add (get_or s.counts w no_counts)) no_counts w_in)) (keeps _ _ (h w)))
+        | inr ne ↦ subst (λ c. Within c (get_or s.dones x 0)) (sym (get_or-set_other s.counts w x (add (get_or s.counts w no_counts)) no_counts ne)) (h x)
+      ]))
+
+  -- an asking that is told that all is done
+  told_kept : w < length s.dones → CountsWithin (counted one_asking w (told_done w s))
+  told_kept w_told x = elim (cases_eq x w) [
+    | inl e ↦ subst (λ y. Within (get_or (set s.counts w (one_asking (get_or s.counts w no_counts))) y no_counts) (get_or (set s.dones w (get_or s.dones w 0 + 1)) y 0)) (sym e)
+        (subst (λ c. Within c (get_or (set s.dones w (get_or s.dones w 0 + 1)) w 0)) (sym (get_or-set_same s.counts w (one_asking (get_or s.counts w no_counts)) no_counts w_in))
+        (subst (λ d. Within (one_asking (get_or s.counts w no_counts)) d) (sym (get_or-set_same s.dones w (get_or s.dones w 0 + 1) 0 w_told))
+        (let old = h w in record { asks = omega (arith, old.asks); executions = omega (arith, old.executions); validations = omega (arith, old.validations); dones = omega (arith, old.dones) })))
+    | inr ne ↦ subst (λ c. Within c (get_or (set s.dones w (get_or s.dones w 0 + 1)) x 0)) (sym (get_or-set_other s.counts w x (one_asking (get_or s.counts w no_counts)) no_counts ne))
+        (subst (λ d. Within (get_or s.counts x no_counts) d) (sym (get_or-set_other s.dones w x (get_or s.dones w 0 + 1) 0 ne)) (h x))
+  ]
+
+  -- an asking
+  asked_kept : w < length s.dones → CountsWithin (counted one_asking w (asked w s))
+  asked_kept w_told = cond_both (is_done s) _ _ (λ t. CountsWithin (counted one_asking w t))
+      (λ _. told_kept w_told)
+      (λ _. cond_both (nat_lt s.validation s.execution) _ _ (λ t. CountsWithin (counted one_asking w t))
+      (λ _. silent_kept one_asking (ask_validation w s) asking_keeps (ask_validation_silent w s))
+      (λ _. cond_both (nat_lt s.execution (length s.calls)) _ _ (λ t. CountsWithin (counted one_asking w t))
+      (λ _. silent_kept one_asking (ask_execution w s) asking_keeps (ask_execution_silent w s))
+      (λ _. silent_kept one_asking s asking_keeps (refl, refl))))
+
+-- ---- one step
+
+module _ (block : Block) (w : ℕ) (s t : State) (h : CountsWithin s) (w_in : w < length s.counts) (w_told : w < length s.dones) where
+  record_keeps : (i : ℕ) (answers : List Answer) (o : Option Receipt) → record_within i answers w o s ≡ Some (Ok t) → CountsWithin t
+  record_keeps i answers None k = absurd (none_ok t k)
+  record_keeps i answers (Some receipt) k = go (nat_lt 1048576 (s.placed + len receipt.writes)) (nat_le 65535 (call_at s i).incarnation) k
+    where
+      go : (full spent : Bool) → cond full (Some (Err ArenaFull)) (cond spent (Some (Err IncarnationLimit)) (Some (Ok (counted one_execution w (recorded w i answers receipt s))))) ≡ Some (Ok t) → CountsWithin t
+      go true spent k = absurd (err_ok ArenaFull t k)
+      go false true k = absurd (err_ok IncarnationLimit t k)
+      go false false k = subst (λ x. CountsWithin x) (same_state _ t k) (silent_kept s w h w_in one_execution (recorded w i answers receipt s) execution_keeps (recorded_silent w i answers receipt s))
+
+  park_keeps : (i b : ℕ) (spent : Bool) → cond spent (Some (Err IncarnationLimit)) (Some (Ok (counted one_step w (parked w i b s)))) ≡ Some (Ok t) → CountsWithin t
+  park_keeps i b true k = absurd (err_ok IncarnationLimit t k)
+  park_keeps i b false k = subst (λ x. CountsWithin x) (same_state _ t k) (silent_kept s w h w_in one_step (parked w i b s) step_keeps (parked_silent w i b s))
+
+  -- each step, by the task
+  task_keeps : (task : Task) (step : Step) → step_with block w task step s ≡ Some (Ok t) → CountsWithin t
+  task_keeps Idle Ask k = subst (λ x. CountsWithin x) (same_state _ t k) (asked_kept s w h w_in w_told)
+  task_keeps (Running i answers None) (Read_key key) k = subst (λ x. CountsWithin x) (same_state _ t k) (silent_kept s w h w_in one_step (read_at block.base key w i answers s) step_keeps (refl, refl))
+  task_keeps (Running i answers (Some b)) Park k = park_keeps i b (nat_le 65535 (call_at s i).incarnation) k
+  task_keeps (Running i answers None) Record k = record_keeps i answers (block.borne i (replies_of answers)) k
+  task_keeps (Validating i n left) Validate k = subst (λ x. CountsWithin x) (same_state _ t k)
+      (silent_kept s w h w_in (if decided i n left s then one_validation else one_step) (validated w i n s) (decision_keeps (decided i n left s)) (validated_silent w i n s))
+  task_keeps task step k = absurd (none_ok t k)
+
+-- ---- all states
+
+-- at the start nobody did anything
+first_within : (block : Block) (workers : ℕ) → CountsWithin (start block.count workers)
+first_within block workers x = subst (λ c. Within c (get_or (replicate workers 0) x 0)) (sym (replicated workers x no_counts))
+    (subst (λ d. Within no_counts d) (sym (replicated workers x 0)) (record { asks = omega arith; executions = omega arith; validations = omega arith; dones = omega arith }))
+
+-- in each state that is reached a worker's counts are within its steps, and its askings told Done within its askings
+pub counts_within : (block : Block) (workers : ℕ) (s : State) → Reached block workers s → (w : ℕ) → Within (get_or s.counts w no_counts) (get_or s.dones w 0)
+counts_within block workers s started = first_within block workers
+counts_within block workers t (stepped {s} w step before w_in k) =
+    let sized = (invariant_kept block workers s before).sized in
+    task_keeps block w s t (counts_within block workers s before) (let e = sized.counts in omega (arith, e, w_in)) (let e = sized.dones in omega (arith, e, w_in)) (task_at s w) step k

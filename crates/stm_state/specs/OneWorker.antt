@@ -1,0 +1,58 @@
+-- What one worker does on a job, in worker steps.
+use Rattle.std.specs.Prelude.{◌≡◌, ◌≢◌, ◌<◌, ◌≤◌, ◌+◌, ◌-◌, ◌*◌, ℕ, List, [], ◌∷◌, length, get_or, replicate, Option, Some, slice_get, Result, Ok, Err}
+use Rattle.rv_ledger.specs.Key.{Storage}
+use Rattle.rv_ledger.specs.Call.{Invocation}
+use Rattle.rv_step.specs.Chain.{Reply, AreFrom, borne, ends}
+use Rattle.rv_step.specs.Fold.{store_before}
+use Rattle.rv_step.specs.declared.answer.Answer.{Answer}
+use Rattle.stm_state.specs.declared.state.Task.TheVariants.{Running}
+use Rattle.stm_state.specs.State.{State, start, call_at, task_at}
+use Rattle.stm_state.specs.Steps.{Limit}
+use Rattle.stm_state.specs.Drive.{NotDone, due, drive_of}
+
+-- so many answers of a storage bear a call's receipt out
+pub record IsReads (call : Invocation) (store : Storage) (reads : ℕ) : Type 0 where
+  pub replies : List Reply
+  pub size : length replies ≡ reads
+  pub from : AreFrom store replies
+  pub borne : borne call replies ≡ Some (ends call store)
+
+-- of each call the number of its storage answers, on the storage that the calls before it left
+pub record AreReads (calls : List Invocation) (store : Storage) (reads : List ℕ) : Type 0 where
+  pub size : length reads ≡ length calls
+  pub each : (i : ℕ) (call : Invocation) → slice_get calls i ≡ Some call → IsReads call (store_before calls i store) (get_or reads i 0)
+
+-- the steps for all calls: two askings, a record and a validation of each, and its reads
+abbrev pub rounds : List ℕ → ℕ
+rounds [] = 0
+rounds (r ∷ reads) = 4 + r + rounds reads
+
+-- no run is blocked on an estimate
+abbrev pub MeetsNoEstimate : State → Type 0
+MeetsNoEstimate s = (w i b : ℕ) (answers : List Answer) → task_at s w ≢ Running i answers (Some b)
+
+-- what is to hold of a state holds after a step that is not refused
+abbrev pub HoldsAfter : (State → Type 0) → Option (Result State Limit) → Type 0
+HoldsAfter P (Some (Ok s)) = P s
+HoldsAfter P _ = Unit {0}
+
+-- no run is blocked on an estimate in any state that a list of worker numbers leads through from a state on
+unfoldable pub NeverMeetsEstimate : List Invocation → Storage → List ℕ → State → Type 0
+NeverMeetsEstimate calls store [] s = MeetsNoEstimate s
+NeverMeetsEstimate calls store (w ∷ ws) s = MeetsNoEstimate s × HoldsAfter (λ t. NeverMeetsEstimate calls store ws t) (due calls store w s)
+
+-- what the one worker did: steps, askings, and an execution and a decision of each call, each at its incarnation 0; and
+-- so many askings were told that all is done
+pub record OneWorkerDid (calls steps asks told : ℕ) (s : State) : Type 0 where
+  pub counts : s.counts ≡ record { steps = steps; asks = asks; executions = calls; validations = calls } ∷ []
+  pub dones : s.dones ≡ told ∷ []
+  pub incarnations : (i : ℕ) → (call_at s i).incarnation ≡ 0
+
+-- one worker is done after the rounds of all calls and not before, each further step is an asking that is told so, and no
+-- read meets an estimate
+pub record HasOneWorkerCounts (calls : List Invocation) (store : Storage) : Type 0 where
+  pub reads : List ℕ
+  pub are_reads : AreReads calls store reads
+  pub before : (k : ℕ) → k < rounds reads → drive_of calls store 1 (replicate k 0) ≡ Err NotDone
+  pub after : (k : ℕ) → rounds reads ≤ k → (s : State) × (drive_of calls store 1 (replicate k 0) ≡ Ok s) × OneWorkerDid (length calls) k (2 * length calls + k - rounds reads) (k - rounds reads) s
+  pub free : (k : ℕ) → NeverMeetsEstimate calls store (replicate k 0) (start (length calls) 1)

@@ -1,0 +1,97 @@
+-- The four parts of the scheduler's invariant (Block-STM), in the words of states: what holds of each state that worker
+-- steps lead to. A call past the last one is as at the start, and a worker past the last one has no task.
+use Rattle.std.specs.Prelude.{◌≡◌, ◌<◌, ◌≤◌, ◌≢◌, ◌⊎◌, ℕ, true, List, map, Option, Some}
+use Rattle.std.specs.List.{AllByRecursion}
+use Rattle.std.specs.Option.{option_map}
+use Rattle.std.specs.FinMap.{get}
+use Rattle.version_arena.specs.Shelf.{Content}
+use Rattle.read_set.specs.declared.Origin.{Origin}
+use Rattle.read_set.specs.declared.Origin.TheVariants as origin
+use Rattle.rv_step.specs.Replies.{replies_of}
+use Rattle.rv_step.specs.declared.answer.Answer.{Answer}
+use Rattle.mvmap.specs.Versions.{Stands, entry_at}
+use Rattle.mvmap.specs.Reading.{stands}
+use Rattle.stm_state.specs.declared.state.Status.TheVariants.{Ready, Executing, Executed, Aborting}
+use Rattle.stm_state.specs.declared.state.Recorded.{Recorded}
+use Rattle.stm_state.specs.declared.state.Task.TheVariants.{Running, Validating}
+use Rattle.stm_state.specs.State.{State, call_at, task_at}
+use Rattle.stm_state.specs.Steps.{Block, read_of, reads_of}
+use Rattle.stm_state.specs.Done.{Reached}
+
+-- it holds of each state that some list of worker steps leads to
+abbrev pub HoldsWhereReached : (Block → State → Type 0) → Type 0
+HoldsWhereReached P = (block : Block) (workers : ℕ) (s : State) → Reached block workers s → P block s
+
+-- some worker runs a call
+pub record IsRun (s : State) (i : ℕ) : Type 0 where
+  pub worker : ℕ
+  pub answers : List Answer
+  pub waits : Option ℕ
+  pub task : task_at s worker ≡ Running i answers waits
+
+-- a call is parked on a lower call that is not EXECUTED
+pub record IsParked (s : State) (i : ℕ) : Type 0 where
+  pub on : ℕ
+  pub parked : (call_at s i).parked ≡ Some on
+  pub lower : on < i
+  pub not_done : (call_at s on).status ≢ Executed
+
+-- part 1: a READY call is at or above the execution index, some worker runs an EXECUTING call, and an ABORTING call is
+-- parked on a lower call that is not EXECUTED
+pub record CallsAreAttended (block : Block) (s : State) : Type 0 where
+  pub ready : (i : ℕ) → (call_at s i).status ≡ Ready → s.execution ≤ i
+  pub executing : (i : ℕ) → (call_at s i).status ≡ Executing → IsRun s i
+  pub aborting : (i : ℕ) → (call_at s i).status ≡ Aborting → IsParked s i
+
+-- part 2: a call that is not EXECUTED has only estimates
+abbrev pub OthersHaveEstimates : Block → State → Type 0
+OthersHaveEstimates block s = (i : ℕ) → (call_at s i).status ≢ Executed → (key : List ℕ) (n : ℕ) (content : Content) → entry_at s.versions key i ≢ Some (Stands n content)
+
+-- some worker validates a call at its incarnation
+pub record IsValidated (s : State) (i : ℕ) : Type 0 where
+  pub worker : ℕ
+  pub left : ℕ
+  pub task : task_at s worker ≡ Validating i (call_at s i).incarnation left
+
+-- each read that was recorded of a call stands
+abbrev pub ReadsStand : State → ℕ → Type 0
+ReadsStand s i = AllByRecursion (λ read. stands s.versions i read ≡ true) (reads_of (call_at s i).last)
+
+-- part 3: of an EXECUTED call each recorded read stands, or it is at or above the validation index, or some worker
+-- validates it at its incarnation
+abbrev pub ReadsAreWatched : Block → State → Type 0
+ReadsAreWatched block s = (i : ℕ) → (call_at s i).status ≡ Executed → ReadsStand s i ⊎ ((s.validation ≤ i) ⊎ IsValidated s i)
+
+-- a value is the starting storage's, or its version's content where that version stands
+abbrev pub IsContent : Block → State → List ℕ → Content → Origin → Type 0
+IsContent block s key value origin.Base = value ≡ get block.base key
+IsContent block s key value (origin.Version w n) = (content : Content) → entry_at s.versions key w ≡ Some (Stands n content) → value ≡ content
+
+-- a version that call i was answered with is a lower call's: it stands, or its incarnation is below its writer's
+abbrev pub IsKnown : State → ℕ → List ℕ → Origin → Type 0
+IsKnown s i key origin.Base = Unit {0}
+IsKnown s i key (origin.Version w n) = (w < i) × (((content : Content) × (entry_at s.versions key w ≡ Some (Stands n content))) ⊎ (n < (call_at s w).incarnation))
+
+-- what call i was answered
+abbrev pub IsTrueAnswer : Block → State → ℕ → Answer → Type 0
+IsTrueAnswer block s i answer = IsContent block s answer.key answer.value answer.origin × IsKnown s i answer.key answer.origin
+
+-- a recorded run is borne out by answers with its recorded keys and origins
+pub record IsBorne (block : Block) (s : State) (i : ℕ) (run : Recorded) : Type 0 where
+  pub answers : List Answer
+  pub reads : map read_of answers ≡ run.reads
+  pub borne : block.borne i (replies_of answers) ≡ Some run.receipt
+  pub true_answers : AllByRecursion (IsTrueAnswer block s i) answers
+
+-- an EXECUTED call has a recorded run, whose writes are just its versions, each at its incarnation
+pub record IsPublished (s : State) (i : ℕ) : Type 0 where
+  pub run : Recorded
+  pub last : (call_at s i).last ≡ Some run
+  pub entries : (key : List ℕ) → entry_at s.versions key i ≡ option_map (λ content. Stands (call_at s i).incarnation content) (get run.receipt.writes key)
+
+-- part 4: a recorded run is borne out, a run that goes on was answered so too, and the entries of an EXECUTED call are
+-- versions at its incarnation and just the writes of its receipt
+pub record RunsAreBorneOut (block : Block) (s : State) : Type 0 where
+  pub recorded : (i : ℕ) (run : Recorded) → (call_at s i).last ≡ Some run → IsBorne block s i run
+  pub going_on : (w i : ℕ) (answers : List Answer) (waits : Option ℕ) → task_at s w ≡ Running i answers waits → AllByRecursion (IsTrueAnswer block s i) answers
+  pub published : (i : ℕ) → (call_at s i).status ≡ Executed → IsPublished s i

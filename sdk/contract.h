@@ -1,0 +1,73 @@
+/* What a contract in C needs: the storage calls and the limits. */
+
+#ifndef CONTRACT_H
+#define CONTRACT_H
+
+typedef unsigned char u8;
+typedef unsigned int u32;
+typedef unsigned long long u64;
+
+enum {
+    KEY_LENGTH = 32,    /* of every key */
+    VALUE_LIMIT = 64,   /* the most bytes of a value */
+    OUTPUT_LIMIT = 256, /* the most bytes of an output */
+    INPUT_LIMIT = 4096, /* the most bytes of an input */
+    KEYS_LIMIT = 256    /* the most keys that one call writes or removes */
+};
+
+/* What a call runs; each contract defines it. Where it comes back, the call returns with an empty
+   output. The input stands at a multiple of 4. */
+void contract(const u8 *input, u32 length);
+
+/* What storage_read answers in place of a length. */
+#define ABSENT 0xffffffffu
+#define LONGER 0xfffffffeu
+
+static inline u32 storage_call(u32 number, const void *key, const void *bytes, u32 length) {
+    register u32 a0 __asm__("a0") = (u32)key;
+    register u32 a1 __asm__("a1") = (u32)bytes;
+    register u32 a2 __asm__("a2") = length;
+    register u32 a7 __asm__("a7") = number;
+    __asm__ volatile("ecall" : "+r"(a0) : "r"(a1), "r"(a2), "r"(a7) : "memory");
+    return a0;
+}
+
+static inline _Noreturn void end_call(u32 number, const void *bytes, u32 length) {
+    register u32 a0 __asm__("a0") = (u32)bytes;
+    register u32 a1 __asm__("a1") = length;
+    register u32 a7 __asm__("a7") = number;
+    __asm__ volatile("ecall" : : "r"(a0), "r"(a1), "r"(a7) : "memory");
+    __builtin_unreachable();
+}
+
+/* Copies the key's value into the buffer and answers its length; ABSENT where there is none, LONGER
+   where it is longer than the capacity, and then nothing is copied. The capacity is at most
+   VALUE_LIMIT. */
+static inline u32 storage_read(const void *key, void *buffer, u32 capacity) {
+    return storage_call(0, key, buffer, capacity);
+}
+
+/* Gives the key a value of at most VALUE_LIMIT bytes. An empty value is not absence. */
+static inline void storage_write(const void *key, const void *value, u32 length) {
+    storage_call(1, key, value, length);
+}
+
+/* Removes the key, which may be absent. */
+static inline void storage_remove(const void *key) {
+    storage_call(2, key, 0, 0);
+}
+
+/* Ends the call: its writes are kept, its output is these bytes, at most OUTPUT_LIMIT. */
+static inline _Noreturn void return_output(const void *bytes, u32 length) {
+    end_call(3, bytes, length);
+}
+
+/* Ends the call: its writes are dropped, its output is these bytes, at most OUTPUT_LIMIT. */
+static inline _Noreturn void revert(const void *bytes, u32 length) {
+    end_call(4, bytes, length);
+}
+
+/* Reverts with a literal text as the output. */
+#define REVERT(text) revert(text, sizeof(text) - 1)
+
+#endif
