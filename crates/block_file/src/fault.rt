@@ -57,7 +57,7 @@ impl<T: Drop> From<AllocFailed<T>> for Cause {
 /// The first faulty line, counted from 1, and the least cause on it.
 #[derive(Clone, Copy, Debug, PartialEq, Eq)]
 pub struct BlockFault {
-    /// The number of the line, counted from 1; where memory ran out, the line that was being read.
+    /// The number of the line, counted from 1; where memory ran out, a line with no faulty one before it.
     pub line: usize,
     /// What is wrong with it.
     pub cause: Cause,

@@ -42,8 +42,9 @@ pub enum Request<'a> {
 }
 
 /// Reads a command line, whose first word is the program's name. Refuses one with no subcommand, an
-/// unknown one, a missing or a surplus word; help and the version are such errors too, for which
-/// `use_stderr` is false. `None` is a line for which clap gives no value that it demands.
+/// unknown one, a missing or a surplus word, an unknown or a repeated option, a number of workers that is
+/// not 1 to 32, and where memory ran out; help and the version are such errors too, for which `use_stderr`
+/// is false. `None` is a line for which clap gives no value that it demands.
 pub fn request_of<'a>(alloc: Global, words: &'a [String]) -> Result<Option<Request<'a>>, Error>
     // an accepted line asks for just this
     ensures answer { IfOk result (λ r.

@@ -1,9 +1,9 @@
 -- The storage calls: an ECALL whose number is in a7, on the key at a0 (this project's own profile).
-use Rattle.std.specs.Prelude.{ℕ, ◌+◌, ◌-◌, ◌*◌, ◌==◌, nat_lt, Bool, ◌&&◌, if◌then◌else◌, List, take, drop, slice_index, Option, Some, None, Result, Ok, Err}
+use Rattle.std.specs.Prelude.{ℕ, ◌+◌, ◌*◌, ◌==◌, nat_lt, Bool, ◌&&◌, if◌then◌else◌, List, slice_index, Option, Some, None, Result, Ok, Err}
 use Rattle.rv_ledger.specs.declared.end.Trap.{Trap}
 use Rattle.rv_ledger.specs.declared.end.Trap.TheVariants.{MemoryFault, UnknownCall, BadLength}
 use Rattle.rv_mem.specs.declared.access.Access.TheVariants as access
-use Rattle.rv_mem.specs.Space.{Space, each}
+use Rattle.rv_mem.specs.Space.{Space, bytes_at, each}
 use Rattle.ecalls.specs.declared.storage_call.StorageCall.{StorageCall}
 use Rattle.ecalls.specs.declared.storage_call.StorageCall.TheVariants as call
 use Rattle.ecalls.specs.declared.request_kind.Request.{Request}
@@ -74,10 +74,6 @@ charge_asked registers (Ok call) = Ok (charge_of call registers)
 abbrev pub ecall_charge : List ℕ → Result ℕ Trap
 ecall_charge registers = charge_asked registers (asked registers)
 
--- the n bytes of memory from an address on
-abbrev pub bytes_at : Space → ℕ → ℕ → List ℕ
-bytes_at memory address n = take n (drop (address - 65536) memory.bytes)
-
 -- whether n bytes may be read
 abbrev pub is_readable : Space → ℕ → ℕ → Bool
 is_readable memory address n = each access.Read memory.rights address n
@@ -101,10 +97,6 @@ request_with call.Write r memory = request.Write (record { key = bytes_at memory
 request_with call.Remove r memory = request.Write (record { key = bytes_at memory (a0 r) 32; value = None })
 request_with call.Return r memory = request.Return (bytes_at memory (a0 r) (a1 r))
 request_with call.Revert r memory = request.Revert (bytes_at memory (a0 r) (a1 r))
-
--- the output that a call names, or its trap
-abbrev pub output_of : List ℕ → Space → Result (List ℕ) Trap
-output_of r memory = if is_readable memory (a0 r) (a1 r) then Ok (bytes_at memory (a0 r) (a1 r)) else Err MemoryFault
 
 -- what a call with its rights asks for
 abbrev pub request_by : StorageCall → List ℕ → Space → Result Request Trap

@@ -1,7 +1,8 @@
 //! Bytes copied out of memory.
 
 ghost use Rattle.std.specs.Prelude.{◌≡◌, ◌≤◌, Some, None, if◌then◌else◌};
-ghost use Rattle.ecalls.specs.StorageCalls.{bytes_at, is_readable};
+ghost use Rattle.rv_mem.specs.Space.{bytes_at};
+ghost use Rattle.ecalls.specs.StorageCalls.{is_readable};
 
 use rv_ledger::{Key, ShortBytes};
 use rv_mem::Memory;

@@ -9,4 +9,4 @@ pub mod storage_call;
 pub use request_kind::Request;
 pub use requests::request;
 pub use rv_ledger::{Trap, Writes};
-pub use storage_call::{StorageCall, asked, ecall_charge};
+pub use storage_call::{READ_CHARGE, StorageCall, asked, ecall_charge};

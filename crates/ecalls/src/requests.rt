@@ -1,7 +1,9 @@
 //! What an ECALL asks for.
 
-ghost use Rattle.std.specs.Prelude.{◌≡◌, ◌≤◌};
-ghost use Rattle.ecalls.specs.StorageCalls.{a1, a2, output_of, request_by, request_of};
+ghost use Rattle.std.specs.Prelude.{◌≡◌, ◌≤◌, Err, Ok, if◌then◌else◌};
+ghost use Rattle.rv_ledger.specs.declared.end.Trap.TheVariants.{MemoryFault};
+ghost use Rattle.rv_mem.specs.Space.{bytes_at};
+ghost use Rattle.ecalls.specs.StorageCalls.{a0, a1, a2, is_readable, request_by, request_of};
 ghost use Rattle.ecalls.specs.declared.storage_call.StorageCall.TheVariants as call;
 
 use crate::copies::{bytes_at, key_at};
@@ -69,7 +71,7 @@ fn remove(registers: &Regs, memory: &Memory) -> Result<Request, Trap>
 /// An output, each byte of which may be read.
 fn output(registers: &Regs, memory: &Memory) -> Result<Output, Trap>
     requires { a1 registers.now ≤ 256 }
-    ensures { result ≡ output_of registers.now memory.now }
+    ensures { result ≡ (if is_readable memory.now (a0 registers.now) (a1 registers.now) then Ok (bytes_at memory.now (a0 registers.now) (a1 registers.now)) else Err MemoryFault) }
 {
     bytes_at(memory, registers.get(Reg::a0()), registers.get(Reg::a1())).ok_or(Trap::MemoryFault)
 }

@@ -4,7 +4,10 @@ ghost use Rattle.std.specs.Prelude.{◌≡◌, ◌≤◌, IfOk, IfSome};
 ghost use Rattle.ecalls.specs.StorageCalls.{asked, call_of, charge_of, ecall_charge, length_of, longest};
 
 use rv_isa::{Reg, Regs};
-use rv_ledger::Trap;
+use rv_ledger::{OUTPUT_LIMIT, Trap, VALUE_LIMIT};
+
+/// The gas of a READ.
+pub const READ_CHARGE: u32 = 200;
 
 /// A storage call, by its number in a7.
 #[derive(Clone, Copy, Debug, PartialEq, Eq)]
@@ -53,9 +56,9 @@ impl StorageCall {
         ensures small { result ≤ 256 }
     {
         match self {
-            StorageCall::Read | StorageCall::Write => 64,
+            StorageCall::Read | StorageCall::Write => VALUE_LIMIT as u32,
             StorageCall::Remove => 0,
-            StorageCall::Return | StorageCall::Revert => 256,
+            StorageCall::Return | StorageCall::Revert => OUTPUT_LIMIT as u32,
         }
     }
 
@@ -65,7 +68,7 @@ impl StorageCall {
         ensures { result ≡ charge_of self registers.now }
     {
         match self {
-            StorageCall::Read => 200,
+            StorageCall::Read => READ_CHARGE,
             StorageCall::Write => 400 + 4 * registers.get(Reg::a2()),
             StorageCall::Remove => 300,
             StorageCall::Return | StorageCall::Revert => 10 + registers.get(Reg::a1()),

@@ -128,6 +128,17 @@ unfoldable pub has_bad_entry : List ℕ → Bool
 has_bad_entry bytes =
     not (e_entry bytes % 4 == 0) || not (list_any (may_execute_at (e_entry bytes)) (loads bytes))
 
+-- the least-numbered fault from 10 on
+abbrev pub segment_fault : List ℕ → Option ElfError
+segment_fault bytes =
+    if has_bad_type bytes then Some BadType
+    else if has_bad_range bytes then Some SegmentRange
+    else if is_out_of_order bytes then Some SegmentOrder
+    else if shares_page bytes then Some PageShared
+    else if is_write_execute bytes then Some WriteExecute
+    else if has_bad_entry bytes then Some BadEntry
+    else None
+
 -- the least-numbered fault that holds
 unfoldable pub fault_of : List ℕ → Option ElfError
 fault_of bytes =
@@ -140,10 +151,4 @@ fault_of bytes =
     else if has_bad_flags bytes then Some BadFlags
     else if has_bad_header_size bytes then Some BadHeaderSize
     else if has_bad_count bytes then Some BadCount
-    else if has_bad_type bytes then Some BadType
-    else if has_bad_range bytes then Some SegmentRange
-    else if is_out_of_order bytes then Some SegmentOrder
-    else if shares_page bytes then Some PageShared
-    else if is_write_execute bytes then Some WriteExecute
-    else if has_bad_entry bytes then Some BadEntry
-    else None
+    else segment_fault bytes

@@ -5,7 +5,7 @@ use thiserror::Error;
 /// The least-numbered fault of a file, or want of memory. The text is the name and the number.
 #[derive(Clone, Copy, Debug, PartialEq, Eq, Error)]
 pub enum ElfError {
-    /// Fewer than 52 bytes, or the program header table passes the end.
+    /// Fewer than 52 bytes, or a table of 1 to 8 program headers passes the end.
     #[error("Truncated 1")]
     Truncated = 1,
     /// Bytes 0 to 3 are not 7f 45 4c 46.
@@ -35,7 +35,8 @@ pub enum ElfError {
     /// An entry is neither PT_LOAD nor PT_NULL.
     #[error("BadType 10")]
     BadType = 10,
-    /// A PT_LOAD passes the end of the file, of its memory or of the addresses.
+    /// A PT_LOAD passes the end of the file or of its memory, or has addresses below 0x00010000 or from
+    /// 0x00100000 on.
     #[error("SegmentRange 11")]
     SegmentRange = 11,
     /// A PT_LOAD has a p_vaddr below that of one before it.
@@ -50,7 +51,7 @@ pub enum ElfError {
     /// e_entry is no multiple of 4, or in no PT_LOAD with PF_X.
     #[error("BadEntry 15")]
     BadEntry = 15,
-    /// The file has no fault, and memory ran out.
+    /// Memory ran out; a file that was to be loaded has no fault.
     #[error("Memory 16")]
     Memory = 16,
 }

@@ -2,10 +2,10 @@
 
 ghost use Rattle.std.specs.Prelude.{◌≡◌, ◌≢◌, false, All, length, map, IfNone, IfOk, IfSome};
 ghost use Rattle.elf32.specs.declared.error.ElfError.TheVariants.{Memory};
-ghost use Rattle.elf32.specs.Faults.{fault_of, has_bad_range, loads};
+ghost use Rattle.elf32.specs.Faults.{fault_of, has_bad_range, loads, segment_fault};
 ghost use Rattle.elf32.specs.Image.{Gives, image_of, layout_of, segment_of};
 ghost use Rattle.elf32.specs.Layout.{IsPlaced};
-ghost use Rattle.elf32.specs.Readable.{IsInRange, IsReadable, segment_fault};
+ghost use Rattle.elf32.specs.Readable.{IsInRange, IsReadable};
 
 use crate::error::ElfError;
 use crate::header::{E_ENTRY, ProgramHeader, word_at};
@@ -22,7 +22,7 @@ use crate::table::{loads, program_headers};
 use std::alloc::{AllocError, Global};
 
 // The least-numbered fault from BadType on.
-#[tactic(auto, unfolding(crate::specs::Readable::segment_fault, crate::specs::Faults::has_bad_type, crate::specs::Faults::has_bad_range, crate::specs::Faults::is_out_of_order, crate::specs::Faults::shares_page, crate::specs::Faults::is_write_execute, crate::specs::Faults::has_bad_entry))]
+#[tactic(auto, unfolding(crate::specs::Faults::has_bad_type, crate::specs::Faults::has_bad_range, crate::specs::Faults::is_out_of_order, crate::specs::Faults::shares_page, crate::specs::Faults::is_write_execute, crate::specs::Faults::has_bad_entry))]
 fn segment_fault(bytes: &[u8]) -> Option<ElfError>
     requires { IsReadable bytes.now }
     ensures value { result ≡ segment_fault bytes.now }
@@ -49,7 +49,7 @@ fn segment_fault(bytes: &[u8]) -> Option<ElfError>
 }
 
 // The least-numbered fault.
-#[tactic(auto, unfolding(crate::specs::Faults::fault_of, crate::specs::Readable::segment_fault))]
+#[tactic(auto, unfolding(crate::specs::Faults::fault_of))]
 fn fault(bytes: &[u8]) -> Option<ElfError>
     ensures value { result ≡ fault_of bytes.now }
     ensures fault { IfSome result (λ e. e ≢ Memory) }

@@ -67,7 +67,8 @@ impl Segment {
 
 impl Image {
     /// The words at multiples of 4 whose four bytes are file bytes of segments with PF_X, each with its
-    /// address, in the order of the segments. Those of a file that loads ascend: `words_ascend`.
+    /// address, in the order of the segments; refused where memory ran out. Those of a file that loads
+    /// ascend: `words_ascend`.
     pub fn words(&self, alloc: Global) -> Result<Vec<PlacedWord>, AllocError>
         ensures { IfOk result (λ v. v.items ≡ words_of self.now) }
     {

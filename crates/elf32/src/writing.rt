@@ -172,8 +172,8 @@ fn file(alloc: Global, program: &Program) -> Result<Vec<u8>, AllocError>
     Ok(file)
 }
 
-/// The ELF32 file of an assembled program, which begins with its first text word: `BadEntry` where it has
-/// no text words, and else the file, or `Memory` where memory ran out. The file loads as the program:
+/// The ELF32 file of an assembled program, whose entry is its first text word: `BadEntry` where it has no
+/// text words, and else the file, or `Memory` where memory ran out. The file loads as the program:
 /// `file_loads`.
 pub fn write(alloc: Global, program: &Program) -> Result<Vec<u8>, ElfError>
     ensures file { IfOk result (λ file. file.items ≡ file_of program.now) }

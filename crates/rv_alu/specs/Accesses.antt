@@ -1,9 +1,15 @@
 -- Loads and stores without their memory: RISC-V Unprivileged ISA, 2.6 "Load and Store Instructions"
-use Rattle.std.specs.Prelude.{ℕ, ◌+◌, ◌-◌, ◌^◌, nat_lt, if◌then◌else◌}
+use Rattle.std.specs.Prelude.{ℕ, pos, ◌+ℤ◌, ◌+◌, ◌-◌, ◌^◌, nat_lt, if◌then◌else◌}
+use Rattle.rv_isa.specs.Number.{wrapped}
+use Rattle.rv_isa.specs.declared.operands.Immediate.{Immediate}
 use Rattle.rv_isa.specs.declared.instruction.LoadKind.{LoadKind}
 use Rattle.rv_isa.specs.declared.instruction.LoadKind.TheVariants.{Lb, Lh, Lw, Lbu, Lhu}
 use Rattle.rv_isa.specs.declared.instruction.StoreKind.{StoreKind}
 use Rattle.rv_isa.specs.declared.instruction.StoreKind.TheVariants.{Sb, Sh, Sw}
+
+-- the address of a load or a store: rs1 and the offset
+abbrev pub address_from : ℕ → Immediate → ℕ
+address_from base offset = wrapped (pos base +ℤ offset.value)
 
 -- how many bytes a load reads
 abbrev pub width_of : LoadKind → ℕ

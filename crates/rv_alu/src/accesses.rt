@@ -1,12 +1,11 @@
-ghost use Rattle.std.specs.Prelude.{◌≡◌, pos, ◌+ℤ◌, ◌*◌, ◌^◌, ◌<◌};
-ghost use Rattle.rv_isa.specs.Number.{wrapped};
-ghost use Rattle.rv_alu.specs.Accesses.{width_of, extended_of};
+ghost use Rattle.std.specs.Prelude.{◌≡◌, ◌*◌, ◌^◌, ◌<◌};
+ghost use Rattle.rv_alu.specs.Accesses.{address_from, extended_of, width_of};
 
 use rv_isa::{Immediate, LoadKind};
 
 /// The address of a load or a store at `base`, rs1, plus `offset`, modulo 2^32.
 pub fn address(base: u32, offset: Immediate) -> u32
-    ensures { result ≡ wrapped (pos base +ℤ offset.value) }
+    ensures { result ≡ address_from base offset }
 {
     base.wrapping_add_signed(offset.value)
 }

@@ -9,7 +9,8 @@ use crate::operations::compute;
 use rv_isa::{Instr, Reg, Regs};
 
 /// Makes `instr`, which stands at `pc`, and gives the pc after it. None where it jumps or branches
-/// to an address that is no multiple of 4; then nothing changes.
+/// to an address that is no multiple of 4; then nothing changes. `instr` is no load, store, ECALL or
+/// EBREAK.
 pub fn execute(instr: &Instr, registers: &mut Regs, pc: u32) -> Option<u32>
     requires { IsTrue (is_plain instr.now) }
     ensures done { IfSome result (λ next. effect_of instr.now registers.old pc ≡ Some (registers.new, next)) }

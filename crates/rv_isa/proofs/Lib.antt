@@ -1,3 +1,3 @@
-mod Same
+pub mod Same
 mod Slots
 mod Again

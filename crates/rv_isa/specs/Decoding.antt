@@ -1,4 +1,5 @@
--- Words read backwards: the slots of a word, and the instruction of slots; what the operands of a source stand for is told by these too.
+-- Words read backwards: the slots of a word, and the instruction of slots. What the operands of a source stand for is
+-- said by the definitions whose names end in `_at`.
 use Rattle.std.specs.Prelude.{ℕ, ◌+◌, ◌*◌, ◌/◌, ◌%◌, ◌^◌, ℤ, pos, ◌-ℤ◌, nat_lt, ◌==◌, ◌&&◌, if◌then◌else◌}
 use Rattle.std.specs.Option.{option_map}
 use Rattle.std.specs.Prelude.{Option, Some, None}

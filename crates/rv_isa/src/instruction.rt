@@ -130,7 +130,8 @@ pub enum Instr {
         left: Reg,
         right: Reg,
     },
-    /// A fence with the bits that its ordering leaves free: fm, pred and succ are `immediate`.
+    /// A fence with all its fields: `immediate` is fm, pred and succ; `rd` and `source`, which is rs1,
+    /// have no meaning.
     Fence {
         rd: Reg,
         source: Reg,

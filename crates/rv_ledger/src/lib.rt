@@ -18,6 +18,6 @@ pub use job::{Block, Job, JobFault};
 pub use key::Key;
 pub use outcome::{Counts, Outcome};
 pub use receipt::Receipt;
-pub use short_bytes::{Output, ShortBytes, Value};
+pub use short_bytes::{OUTPUT_LIMIT, Output, ShortBytes, VALUE_LIMIT, Value};
 pub use store::Store;
 pub use writes::{Write, Writes};

@@ -1,4 +1,4 @@
-//! What one call did.
+//! The receipt of a call.
 
 use crate::end::End;
 use crate::short_bytes::Output;
@@ -6,7 +6,7 @@ use crate::writes::Writes;
 use rv_isa::Regs;
 use std::alloc::AllocError;
 
-/// What one call did, as the validators compare it.
+/// What one call did.
 #[derive(Drop)]
 pub struct Receipt {
     /// How it ended.

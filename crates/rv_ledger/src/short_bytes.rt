@@ -2,6 +2,7 @@
 //! no memory.
 
 ghost use Rattle.std.specs.Prelude.{◌≡◌, ◌≤◌, ◌↔◌, ◌++◌, ◌==◌, [], drop, IsSome, IfSome, IsTrue, length};
+ghost use Rattle.std.specs.Option.{option_copied};
 ghost use Rattle.std.proofs.Common.{rules};
 ghost use Rattle.std.specs.Cmp.Rules.{comparing};
 ghost use Rattle.std.specs.Cmp.Lexicographic.{pointwise};
@@ -81,6 +82,16 @@ impl<const LIMIT: usize> ShortBytes<LIMIT> {
         ShortBytes {
             len: self.len,
             room: self.room,
+        }
+    }
+
+    /// An equal byte string, where there is one.
+    pub fn copied(bytes: Option<&ShortBytes<LIMIT>>) -> Option<ShortBytes<LIMIT>>
+        ensures { result ≡ option_copied bytes.entry }
+    {
+        match bytes {
+            Some(bytes) => Some(bytes.copy()),
+            None => None,
         }
     }
 }

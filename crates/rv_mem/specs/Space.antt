@@ -3,7 +3,7 @@ use Rattle.std.specs.Prelude.{◌≡◌, ℕ, zero, suc, ◌+◌, ◌-◌, ◌/�
 use Rattle.byteorder.specs.Endian.{little_number, little_bytes}
 use Rattle.elf32.specs.declared.segment.Rights.{Rights}
 use Rattle.rv_mem.specs.declared.access.Access.{Access}
-use Rattle.rv_mem.specs.declared.access.Access.TheVariants.{Read, Write, Run}
+use Rattle.rv_mem.specs.declared.access.Access.TheVariants.{Read, Write, Execute}
 use Rattle.rv_mem.specs.declared.fault.Fault.{Fault}
 use Rattle.rv_mem.specs.declared.fault.Fault.TheVariants.{Misaligned, MemoryFault, FetchFault, Memory}
 
@@ -13,6 +13,10 @@ pub record Space : Type 0 where
   pub bytes : List ℕ
   pub rights : List Rights
 
+-- the n bytes from an address on
+abbrev pub bytes_at : Space → ℕ → ℕ → List ℕ
+bytes_at memory a n = take n (drop (a - 0x1_0000) memory.bytes)
+
 -- the addresses of memory
 abbrev pub is_address : ℕ → Bool
 is_address a = nat_le 0x1_0000 a && nat_lt a 0x11_0000
@@ -21,7 +25,7 @@ is_address a = nat_le 0x1_0000 a && nat_lt a 0x11_0000
 abbrev pub allows : Access → Rights → Bool
 allows Read rights = rights.readable
 allows Write rights = rights.writable
-allows Run rights = rights.executable
+allows Execute rights = rights.executable
 
 -- the rights where there is no page
 abbrev pub no_rights : Rights
@@ -40,7 +44,7 @@ each access rights a (suc n) = may access rights a && each access rights (a + 1)
 abbrev pub fault_of : Access → Fault
 fault_of Read = MemoryFault
 fault_of Write = MemoryFault
-fault_of Run = FetchFault
+fault_of Execute = FetchFault
 
 -- where in the bytes an access to n bytes at an address begins, or its fault: alignment comes first
 abbrev pub place_of : ℕ → Access → List Rights → ℕ → Result ℕ Fault

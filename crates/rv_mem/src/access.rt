@@ -14,7 +14,7 @@ pub enum Access {
     /// A store.
     Write,
     /// A fetch of an instruction.
-    Run,
+    Execute,
 }
 
 impl Access {
@@ -25,7 +25,7 @@ impl Access {
         match self {
             Access::Read => rights.readable,
             Access::Write => rights.writable,
-            Access::Run => rights.executable,
+            Access::Execute => rights.executable,
         }
     }
 
@@ -35,7 +35,7 @@ impl Access {
     {
         match self {
             Access::Read | Access::Write => Fault::MemoryFault,
-            Access::Run => Fault::FetchFault,
+            Access::Execute => Fault::FetchFault,
         }
     }
 }

@@ -1,10 +1,10 @@
 //! The memory of one call.
 
-ghost use Rattle.std.specs.Prelude.{◌≡◌, ◌-◌, ◌<◌, ◌≤◌, ◌^◌, ◌↔◌, true, length, take, drop, IfOk, OnOk, IsOk, IfErr, All};
+ghost use Rattle.std.specs.Prelude.{◌≡◌, ◌<◌, ◌≤◌, ◌^◌, ◌↔◌, true, length, IfOk, OnOk, IsOk, IfErr, All};
 ghost use Rattle.elf32.specs.Layout.{IsPlaced};
-ghost use Rattle.rv_mem.specs.Space.{each, loaded, stored, copied, Leaves};
+ghost use Rattle.rv_mem.specs.Space.{bytes_at, each, loaded, stored, copied, Leaves};
 ghost use Rattle.rv_mem.specs.Start.{start_space};
-ghost use Rattle.rv_mem.specs.declared.access.Access.TheVariants.{Read, Write, Run};
+ghost use Rattle.rv_mem.specs.declared.access.Access.TheVariants.{Read, Write, Execute};
 ghost use Rattle.rv_mem.specs.declared.fault.Fault.TheVariants.{MemoryFault};
 
 use crate::access::Access;
@@ -43,7 +43,7 @@ impl Model for Memory {
 
 impl Memory {
     /// The memory of a call before its first instruction: the image's segments, and from
-    /// 0x00100000 on the input, of at most 4,096 bytes.
+    /// 0x00100000 on the input, of at most 4,096 bytes; refused where memory ran out.
     pub fn of(alloc: Global, image: &Image, input: &[u8]) -> Result<Memory, AllocError>
         requires { length input.now ≤ 4096 }
         ensures { IfOk result (λ m. m ≡ start_space image.now input.now) }
@@ -51,7 +51,8 @@ impl Memory {
         Memory::with_segments(alloc, image.segments(), input)
     }
 
-    /// The memory of a call before its first instruction, by the segments of its program.
+    /// The memory of a call before its first instruction, by the segments of its program; refused where
+    /// memory ran out.
     pub(crate) fn with_segments(
         alloc: Global,
         segments: &[Segment],
@@ -71,9 +72,9 @@ impl Memory {
     /// The instruction word at the address, or Misaligned, or FetchFault where one of its bytes may
     /// not be executed.
     pub fn fetch(&self, address: u32) -> Result<u32, Fault>
-        ensures { result ≡ loaded 4 Run self.now address }
+        ensures { result ≡ loaded 4 Execute self.now address }
     {
-        let at = place(&self.rights, Access::Run, address, 4)?;
+        let at = place(&self.rights, Access::Execute, address, 4)?;
         Ok(LittleEndian::read_u32(&self.bytes[at..]))
     }
 
@@ -152,7 +153,7 @@ impl Memory {
     /// answers MemoryFault and leaves it where one may not be loaded.
     pub fn copy_out(&self, address: u32, out: &mut [u8]) -> Result<(), Fault>
         requires { length out.old < 2 ^ 32 }
-        ensures copied { OnOk result (out.new ≡ take (length out.old) (drop (address - 0x1_0000) self.now.bytes)) }
+        ensures copied { OnOk result (out.new ≡ bytes_at self.now address (length out.old)) }
         ensures ok { IsOk result ↔ (each Read self.now.rights address (length out.old) ≡ true) }
         ensures err { IfErr result (λ e. (e ≡ MemoryFault) × (out.new ≡ out.old)) }
     {

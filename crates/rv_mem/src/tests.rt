@@ -75,9 +75,9 @@ fn tests_rights(rt: HostRuntime) {
     assert_eq!(rt; range_has(&rights, Access::Write, 0x0001_0fff, 2), false);
     assert_eq!(rt; range_has(&rights, Access::Write, 0x0001_1fff, 2), false);
     assert_eq!(rt; range_has(&rights, Access::Read, 0x0001_0fff, 0x2000), true);
-    assert_eq!(rt; place(&rights, Access::Run, 0x0001_1ffc, 4), Ok(0x1ffc));
+    assert_eq!(rt; place(&rights, Access::Execute, 0x0001_1ffc, 4), Ok(0x1ffc));
     assert_eq!(rt;
-        place(&rights, Access::Run, 0x0001_2000, 4),
+        place(&rights, Access::Execute, 0x0001_2000, 4),
         Err(Fault::FetchFault)
     );
     assert_eq!(rt;

@@ -1,3 +1,3 @@
-pub mod Same
+pub mod InRange
 pub mod Names
 pub mod Digits

@@ -12,58 +12,64 @@ use rv_isa::{
     BranchOffset, Immediate, ImmediateOperation, Instr, JumpOffset, Reg, ShiftAmount, Upper,
 };
 
-fn held_immediate(z: i64) -> Immediate
-    requires { IsImmediate z }
-    ensures { result ≡ immediate_at (residue 12 z) }
+fn held_immediate(number: i64) -> Immediate
+    requires { IsImmediate number }
+    ensures { result ≡ immediate_at (residue 12 number) }
 {
-    Immediate { value: z as i32 }
+    Immediate {
+        value: number as i32,
+    }
 }
 
 /// An immediate, -2048 to 2047, else ImmediateRange.
 #[tactic(auto, unfolding(crate::specs::Operands::immediate_of))]
-pub(crate) fn immediate(z: i64) -> Result<Immediate, Cause>
-    ensures { result ≡ immediate_of z }
+pub(crate) fn immediate(number: i64) -> Result<Immediate, Cause>
+    ensures { result ≡ immediate_of number }
 {
-    if z < -2048 || 2047 < z {
+    if number < -2048 || 2047 < number {
         return Err(Cause::ImmediateRange);
     }
-    Ok(held_immediate(z))
+    Ok(held_immediate(number))
 }
 
-fn held_branch(z: i64) -> BranchOffset
-    requires { IsBranchOffset z }
-    ensures { result ≡ branch_at (residue 13 z / 2) }
+fn held_branch(number: i64) -> BranchOffset
+    requires { IsBranchOffset number }
+    ensures { result ≡ branch_at (residue 13 number / 2) }
 {
-    BranchOffset { value: z as i32 }
+    BranchOffset {
+        value: number as i32,
+    }
 }
 
 /// The offset of a branch, -4096 to 4094 and even; `None` for any other number.
 #[tactic(auto, unfolding(crate::specs::Operands::branch_offset_of))]
-pub fn branch_offset(z: i64) -> Option<BranchOffset>
-    ensures { result ≡ branch_offset_of z }
+pub fn branch_offset(number: i64) -> Option<BranchOffset>
+    ensures { result ≡ branch_offset_of number }
 {
-    if z < -4096 || 4094 < z || z.rem_euclid(2) != 0 {
+    if number < -4096 || 4094 < number || number.rem_euclid(2) != 0 {
         return None;
     }
-    Some(held_branch(z))
+    Some(held_branch(number))
 }
 
-fn held_jump(z: i64) -> JumpOffset
-    requires { IsJumpOffset z }
-    ensures { result ≡ jump_at (residue 21 z / 2) }
+fn held_jump(number: i64) -> JumpOffset
+    requires { IsJumpOffset number }
+    ensures { result ≡ jump_at (residue 21 number / 2) }
 {
-    JumpOffset { value: z as i32 }
+    JumpOffset {
+        value: number as i32,
+    }
 }
 
 /// The offset of JAL, -1048576 to 1048574 and even; `None` for any other number.
 #[tactic(auto, unfolding(crate::specs::Operands::jump_offset_of))]
-pub fn jump_offset(z: i64) -> Option<JumpOffset>
-    ensures { result ≡ jump_offset_of z }
+pub fn jump_offset(number: i64) -> Option<JumpOffset>
+    ensures { result ≡ jump_offset_of number }
 {
-    if z < -1048576 || 1048574 < z || z.rem_euclid(2) != 0 {
+    if number < -1048576 || 1048574 < number || number.rem_euclid(2) != 0 {
         return None;
     }
-    Some(held_jump(z))
+    Some(held_jump(number))
 }
 
 fn held_upper(n: u32) -> Upper
@@ -75,13 +81,13 @@ fn held_upper(n: u32) -> Upper
 
 /// The upper 20 bits of LUI and AUIPC, 0 to 1048575, else ImmediateRange.
 #[tactic(auto, unfolding(crate::specs::Operands::upper_of))]
-pub(crate) fn upper(z: i64) -> Result<Upper, Cause>
-    ensures { result ≡ upper_of z }
+pub(crate) fn upper(number: i64) -> Result<Upper, Cause>
+    ensures { result ≡ upper_of number }
 {
-    if z < 0 || 1048575 < z {
+    if number < 0 || 1048575 < number {
         return Err(Cause::ImmediateRange);
     }
-    Ok(held_upper(z as u32))
+    Ok(held_upper(number as u32))
 }
 
 fn held_amount(n: u8) -> ShiftAmount
@@ -93,53 +99,53 @@ fn held_amount(n: u8) -> ShiftAmount
 
 /// The places of a shift, 0 to 31, else ImmediateRange.
 #[tactic(auto, unfolding(crate::specs::Operands::amount_of))]
-pub(crate) fn amount(z: i64) -> Result<ShiftAmount, Cause>
-    ensures { result ≡ amount_of z }
+pub(crate) fn amount(number: i64) -> Result<ShiftAmount, Cause>
+    ensures { result ≡ amount_of number }
 {
-    if z < 0 || 31 < z {
+    if number < 0 || 31 < number {
         return Err(Cause::ImmediateRange);
     }
-    Ok(held_amount(z as u8))
+    Ok(held_amount(number as u8))
 }
 
 /// A word, -2147483648 to 4294967295 and then modulo 2^32, else ImmediateRange.
 #[tactic(auto, unfolding(crate::specs::Operands::word_value_of))]
-pub(crate) fn word_value(z: i64) -> Result<u32, Cause>
-    ensures { result ≡ word_value_of z }
+pub(crate) fn word_value(number: i64) -> Result<u32, Cause>
+    ensures { result ≡ word_value_of number }
 {
-    if z < -2147483648 || 4294967295 < z {
+    if number < -2147483648 || 4294967295 < number {
         return Err(Cause::ImmediateRange);
     }
-    Ok(z.rem_euclid(4294967296) as u32)
+    Ok(number.rem_euclid(4294967296) as u32)
 }
 
 /// A number of 0 to `most`, else ImmediateRange.
 #[tactic(auto, unfolding(crate::specs::Operands::count_of))]
-pub(crate) fn count(most: u32, z: i64) -> Result<u32, Cause>
-    ensures count { result ≡ count_of most z }
+pub(crate) fn count(most: u32, number: i64) -> Result<u32, Cause>
+    ensures count { result ≡ count_of most number }
     ensures within { IfOk result (λ n. n ≤ most) }
 {
-    if z < 0 || i64::from(most) < z {
+    if number < 0 || i64::from(most) < number {
         return Err(Cause::ImmediateRange);
     }
-    Ok(z as u32)
+    Ok(number as u32)
 }
 
 /// The low 12 bits of a number as a signed number.
-fn low_part(v: u32) -> Immediate
-    ensures { result ≡ immediate_at v }
+fn low_part(number: u32) -> Immediate
+    ensures { result ≡ immediate_at number }
 {
-    let low = (v & 0xfff) as i32;
+    let low = (number & 0xfff) as i32;
     Immediate {
         value: if low < 2048 { low } else { low - 4096 },
     }
 }
 
 /// What LUI takes beside that.
-fn high_part(v: u32) -> Upper
-    ensures { result ≡ upper_at (high_of v) }
+fn high_part(number: u32) -> Upper
+    ensures { result ≡ upper_at (high_of number) }
 {
-    let high = (v >> 12) + (v >> 11 & 1);
+    let high = (number >> 12) + (number >> 11 & 1);
     Upper {
         value: high & 0xfffff,
     }
@@ -147,18 +153,18 @@ fn high_part(v: u32) -> Upper
 
 /// LUI and then ADDI, the two instructions that load a number into a register.
 #[tactic(auto, unfolding(crate::specs::Statements::load_number))]
-pub fn load_number(rd: Reg, v: u32) -> (Instr, Instr)
-    ensures { result ≡ load_number rd v }
+pub fn load_number(rd: Reg, number: u32) -> (Instr, Instr)
+    ensures { result ≡ load_number rd number }
 {
     let high = Instr::Lui {
         rd,
-        immediate: high_part(v),
+        immediate: high_part(number),
     };
     let low = Instr::ComputeImmediate {
         operation: ImmediateOperation::Addi,
         rd,
         source: rd,
-        immediate: low_part(v),
+        immediate: low_part(number),
     };
     (high, low)
 }

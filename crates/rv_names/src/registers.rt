@@ -45,7 +45,7 @@ fn register_number(text: &[u8]) -> Option<usize>
 }
 
 /// The register of a number below 32.
-#[tactic(auto, using(crate::proofs::Same::same_register))]
+#[tactic(auto, using(rv_isa::proofs::Same::same_register))]
 fn numbered(number: usize) -> Reg
     requires { number < 32 }
     ensures { result ≡ register_at number }

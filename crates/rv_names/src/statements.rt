@@ -21,7 +21,7 @@ use rv_isa::{
 };
 
 /// x0.
-#[tactic(auto, using(crate::proofs::Same::same_register))]
+#[tactic(auto, using(rv_isa::proofs::Same::same_register))]
 fn zero() -> Reg
     ensures { result ≡ register_at 0 }
 {
@@ -29,7 +29,7 @@ fn zero() -> Reg
 }
 
 /// x1, the return address.
-#[tactic(auto, using(crate::proofs::Same::same_register))]
+#[tactic(auto, using(rv_isa::proofs::Same::same_register))]
 fn return_address() -> Reg
     ensures { result ≡ register_at 1 }
 {
@@ -37,7 +37,7 @@ fn return_address() -> Reg
 }
 
 /// The immediate of a number below 2048.
-#[tactic(auto, using(crate::proofs::Same::same_immediate))]
+#[tactic(auto, using(rv_isa::proofs::Same::same_immediate))]
 fn small(n: u16) -> Immediate
     requires { n < 2048 }
     ensures { result ≡ immediate_at n }

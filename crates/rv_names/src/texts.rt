@@ -15,19 +15,25 @@ use rv_isa::{Immediate, Instr, Reg, Upper, decode, encode};
 use std::alloc::{AllocError, Global};
 
 /// A command with two operands.
-fn with_two(alloc: Global, shape: Shape, a: &str, b: &str) -> Result<String, AllocError>
-    ensures { IfOk result (λ t. string_bytes t ≡ command shape (a.now ∷ b.now ∷ [])) }
+fn with_two(alloc: Global, shape: Shape, first: &str, second: &str) -> Result<String, AllocError>
+    ensures { IfOk result (λ t. string_bytes t ≡ command shape (first.now ∷ second.now ∷ [])) }
 {
     let name = mnemonic(shape);
-    format!(in alloc; "{name} {a},{b}")
+    format!(in alloc; "{name} {first},{second}")
 }
 
 /// A command with three operands.
-fn with_three(alloc: Global, shape: Shape, a: &str, b: &str, c: &str) -> Result<String, AllocError>
-    ensures { IfOk result (λ t. string_bytes t ≡ command shape (a.now ∷ b.now ∷ c.now ∷ [])) }
+fn with_three(
+    alloc: Global,
+    shape: Shape,
+    first: &str,
+    second: &str,
+    third: &str,
+) -> Result<String, AllocError>
+    ensures { IfOk result (λ t. string_bytes t ≡ command shape (first.now ∷ second.now ∷ third.now ∷ [])) }
 {
     let name = mnemonic(shape);
-    format!(in alloc; "{name} {a},{b},{c}")
+    format!(in alloc; "{name} {first},{second},{third}")
 }
 
 /// The text of a signed number.
@@ -66,22 +72,40 @@ fn place_text(
 fn number_text(
     alloc: Global,
     shape: Shape,
-    a: Reg,
-    b: Reg,
+    first: Reg,
+    second: Reg,
     value: i32,
 ) -> Result<String, AllocError>
-    ensures { IfOk result (λ t. string_bytes t ≡ command shape (x_name a ∷ x_name b ∷ signed_decimal value ∷ [])) }
+    ensures { IfOk result (λ t. string_bytes t ≡ command shape (x_name first ∷ x_name second ∷ signed_decimal value ∷ [])) }
 {
     let operand = signed_text(alloc, value)?;
-    with_three(alloc, shape, x_name(a), x_name(b), operand.as_str())
+    with_three(
+        alloc,
+        shape,
+        x_name(first),
+        x_name(second),
+        operand.as_str(),
+    )
 }
 
 /// Two registers and the places of a shift.
-fn amount_text(alloc: Global, shape: Shape, a: Reg, b: Reg, value: u8) -> Result<String, AllocError>
-    ensures { IfOk result (λ t. string_bytes t ≡ command shape (x_name a ∷ x_name b ∷ decimal value ∷ [])) }
+fn amount_text(
+    alloc: Global,
+    shape: Shape,
+    first: Reg,
+    second: Reg,
+    value: u8,
+) -> Result<String, AllocError>
+    ensures { IfOk result (λ t. string_bytes t ≡ command shape (x_name first ∷ x_name second ∷ decimal value ∷ [])) }
 {
     let operand = format!(in alloc; "{value}")?;
-    with_three(alloc, shape, x_name(a), x_name(b), operand.as_str())
+    with_three(
+        alloc,
+        shape,
+        x_name(first),
+        x_name(second),
+        operand.as_str(),
+    )
 }
 
 /// JAL and its distance.

@@ -9,7 +9,7 @@ use Rattle.rv_ledger.specs.declared.receipt.Receipt.{Receipt}
 use Rattle.rv_step.specs.declared.machine.Machine.{Machine}
 use Rattle.rv_step.specs.declared.answer.Answer.{Answer}
 use Rattle.rv_step.specs.declared.stage.Stage.TheVariants.{Asked, Ended}
-use Rattle.rv_step.specs.Step.{Outcome, Next, Asks, Ends, step, answered}
+use Rattle.rv_step.specs.Step.{StepResult, Next, Asks, Ends, step, answered}
 use Rattle.rv_step.specs.Chain.{Reply, after_ask, after_step, closed, followed, receipt_of, replayed}
 use Rattle.rv_step.specs.Asked.{asked_after, asked_by, asked_in, asked_on}
 use Rattle.rv_step.specs.Run.{IsSoFar}
@@ -27,7 +27,7 @@ closed_asks [] [] receipt r e = refl
 closed_asks [] (reply ∷ rest) receipt r e = absurd (none_some r e)
 closed_asks (first ∷ replies) rest receipt r e = absurd (none_some r e)
 
-step_asks : (f : Machine → List Reply → Option Receipt) (g : Machine → List Reply → Option (List ℕ)) (limit : ℕ) (o : Outcome) (replies rest : List Reply) (r : Receipt) → ((t : Machine) (l : List Reply) → f t (l ++ rest) ≡ Some r → g t l ≡ next_key rest) → after_step f limit o (replies ++ rest) ≡ Some r → asked_after g o replies ≡ next_key rest
+step_asks : (f : Machine → List Reply → Option Receipt) (g : Machine → List Reply → Option (List ℕ)) (limit : ℕ) (o : StepResult) (replies rest : List Reply) (r : Receipt) → ((t : Machine) (l : List Reply) → f t (l ++ rest) ≡ Some r → g t l ≡ next_key rest) → after_step f limit o (replies ++ rest) ≡ Some r → asked_after g o replies ≡ next_key rest
 step_asks f g limit (Next t) replies rest r same e = same t replies e
 step_asks f g limit (Asks key) replies rest r same e = absurd (none_some r e)
 step_asks f g limit (Ends end out t) replies rest r same e = closed_asks replies rest (receipt_of limit end out t) r e
@@ -39,7 +39,7 @@ next_asks f limit s key (reply ∷ rest) r e =
     let found = right_key (bytes_eq reply.0 key) (after_step f limit (answered s reply.1) rest) r e in
     ap Some (sym ((bytes_eq-Decides reply.0 key).0 found.0))
 
-outcome_asks : (f : Machine → List Reply → Option Receipt) (g : Machine → List Reply → Option (List ℕ)) (limit : ℕ) (s : Machine) (o : Outcome) (replies rest : List Reply) (r : Receipt) → ((t : Machine) (l : List Reply) → f t (l ++ rest) ≡ Some r → g t l ≡ next_key rest) → followed f limit s o (replies ++ rest) ≡ Some r → asked_on g s o replies ≡ next_key rest
+outcome_asks : (f : Machine → List Reply → Option Receipt) (g : Machine → List Reply → Option (List ℕ)) (limit : ℕ) (s : Machine) (o : StepResult) (replies rest : List Reply) (r : Receipt) → ((t : Machine) (l : List Reply) → f t (l ++ rest) ≡ Some r → g t l ≡ next_key rest) → followed f limit s o (replies ++ rest) ≡ Some r → asked_on g s o replies ≡ next_key rest
 outcome_asks f g limit s (Next t) replies rest r same e = same t replies e
 outcome_asks f g limit s (Asks key) [] rest r same e = next_asks f limit s key rest r e
 outcome_asks f g limit s (Asks key) (reply ∷ replies) rest r same e =
@@ -58,7 +58,7 @@ chain_asks limit (suc n) s replies rest r e =
 
 asks_key : (n : ℕ) (s : Machine) (key : List ℕ) → step s ≡ Asks key → asked_in (suc n) s [] ≡ Some key
 unfolding asked_in
-asks_key n s key e = ap (λ (o : Outcome). asked_on (λ t l. asked_in n t l) s o []) e
+asks_key n s key e = ap (λ (o : StepResult). asked_on (λ t l. asked_in n t l) s o []) e
 
 -- a run that asked for a key: any answers that follow begin with that key
 pub asked_asks : (call : Invocation) (s : Machine) (told : List Answer) (key : List ℕ) → IsSoFar (record { call = call; machine = s; told = told; stage = Asked key }) → Some key ≡ asked_by call (replies_of told)

@@ -27,16 +27,16 @@ use Rattle.ecalls.specs.declared.storage_call.StorageCall.TheVariants as call
 use Rattle.ecalls.specs.declared.request_kind.Request.{Request}
 use Rattle.ecalls.specs.declared.request_kind.Request.TheVariants as request
 use Rattle.rv_step.specs.declared.machine.Machine.{Machine}
-use Rattle.rv_step.specs.Step.{Outcome, Next, Asks, Ends, TakesGas, acted, answered, called, charged, computes, delivered, fetched, goes_on, is_ecall, leaves, obeyed, read_own, served, step, takes, trapped, wrote}
+use Rattle.rv_step.specs.Step.{StepResult, Next, Asks, Ends, TakesGas, acted, answered, called, charged, computes, delivered, fetched, goes_on, is_ecall, leaves, obeyed, read_own, served, step, takes, trapped, wrote}
 
 -- a step leaves less gas where the call goes on, and no more where it ends
-unfoldable pub IsFalling : ℕ → Outcome → Type 0
+unfoldable pub IsFalling : ℕ → StepResult → Type 0
 IsFalling gas (Next t) = t.gas < gas
 IsFalling gas (Asks key) = Unit {0}
 IsFalling gas (Ends end out t) = t.gas ≤ gas
 
 -- what comes after the charge leaves no more gas
-unfoldable pub IsWithin : ℕ → Outcome → Type 0
+unfoldable pub IsWithin : ℕ → StepResult → Type 0
 IsWithin gas (Next t) = t.gas ≤ gas
 IsWithin gas (Asks key) = Unit {0}
 IsWithin gas (Ends end out t) = t.gas ≤ gas
@@ -72,7 +72,7 @@ acted_within (Compute operation rd left right) s = computes_within s (effect_of 
 acted_within (Fence rd source m) s = computes_within s (effect_of (Fence rd source m) s.regs s.pc)
 acted_within Ecall s = computes_within s (effect_of Ecall s.regs s.pc)
 
-either_within : (gas : ℕ) (b : Bool) (o p : Outcome) → IsWithin gas o → IsWithin gas p → IsWithin gas (if b then o else p)
+either_within : (gas : ℕ) (b : Bool) (o p : StepResult) → IsWithin gas o → IsWithin gas p → IsWithin gas (if b then o else p)
 either_within gas true o p h k = h
 either_within gas false o p h k = k
 
@@ -103,18 +103,18 @@ served_within s (Ok (request.Write write)) = wrote_within s write
 served_within s (Ok (request.Return out)) = unfold IsWithin in omega arith
 served_within s (Ok (request.Revert out)) = unfold IsWithin in omega arith
 
-within_falls : (gas rest : ℕ) (o : Outcome) → rest < gas → IsWithin rest o → IsFalling gas o
+within_falls : (gas rest : ℕ) (o : StepResult) → rest < gas → IsWithin rest o → IsFalling gas o
 unfolding IsWithin IsFalling
 within_falls gas rest (Next t) h k = omega arith
 within_falls gas rest (Asks key) h k = tt
 within_falls gas rest (Ends end out t) h k = omega arith
 
-charged_cases : (cost : ℕ) (s : Machine) (act : Machine → Outcome) (b : Bool) → nat_le cost s.gas ≡ b → 1 ≤ cost → ((t : Machine) → IsWithin t.gas (act t)) → IsFalling s.gas (charged cost s act)
+charged_cases : (cost : ℕ) (s : Machine) (act : Machine → StepResult) (b : Bool) → nat_le cost s.gas ≡ b → 1 ≤ cost → ((t : Machine) → IsWithin t.gas (act t)) → IsFalling s.gas (charged cost s act)
 charged_cases cost s act true e h k = rw e (within_falls s.gas (s.gas - cost) _ (let fits : cost ≤ s.gas = grind (arith, nat_tests) in omega arith) (k (record s { gas = s.gas - cost })))
 charged_cases cost s act false e h k = rw e (unfold IsFalling in omega arith)
 
 -- an instruction that costs takes gas
-charged_falls : (cost : ℕ) (s : Machine) (act : Machine → Outcome) → 1 ≤ cost → ((t : Machine) → IsWithin t.gas (act t)) → IsFalling s.gas (charged cost s act)
+charged_falls : (cost : ℕ) (s : Machine) (act : Machine → StepResult) → 1 ≤ cost → ((t : Machine) → IsWithin t.gas (act t)) → IsFalling s.gas (charged cost s act)
 charged_falls cost s act h k = charged_cases cost s act (nat_le cost s.gas) refl h k
 
 operation_costs : (o : Operation) → 1 ≤ cost_of_operation o
@@ -178,7 +178,7 @@ fetched_falls s (Err fault) = unfold IsFalling in omega arith
 -- a step takes gas
 pub step_falls : (s : Machine) → IsFalling s.gas (step s)
 unfolding step
-step_falls s = fetched_falls s (loaded 4 access.Run s.memory s.pc)
+step_falls s = fetched_falls s (loaded 4 access.Execute s.memory s.pc)
 
 -- so does a step that is answered
 pub answered_falls : (s : Machine) (content : Option (List ℕ)) → IsFalling s.gas (answered s content)
@@ -186,21 +186,21 @@ unfolding answered
 answered_falls s content = charged_falls 200 s (λ t. delivered t content) (lit≤ tt) (λ t. delivered_within t content)
 
 -- the gas after a step that goes on, and at an end
-pub less_gas : (gas : ℕ) (o : Outcome) (t : Machine) → IsFalling gas o → o ≡ Next t → t.gas < gas
+pub less_gas : (gas : ℕ) (o : StepResult) (t : Machine) → IsFalling gas o → o ≡ Next t → t.gas < gas
 unfolding IsFalling
 less_gas gas o t h e = subst (λ p. IsFalling gas p) e h
 
-pub end_gas : (gas : ℕ) (o : Outcome) (end : End) (out : List ℕ) (t : Machine) → IsFalling gas o → o ≡ Ends end out t → t.gas ≤ gas
+pub end_gas : (gas : ℕ) (o : StepResult) (end : End) (out : List ℕ) (t : Machine) → IsFalling gas o → o ≡ Ends end out t → t.gas ≤ gas
 unfolding IsFalling
 end_gas gas o end out t h e = subst (λ p. IsFalling gas p) e h
 
 -- an answer is not followed by another asking in one step
-unfoldable pub IsTold : Outcome → Type 0
+unfoldable pub IsTold : StepResult → Type 0
 IsTold (Next t) = Unit {0}
 IsTold (Asks key) = ⊥
 IsTold (Ends end out t) = Unit {0}
 
-either_told : (b : Bool) (o p : Outcome) → IsTold o → IsTold p → IsTold (if b then o else p)
+either_told : (b : Bool) (o p : StepResult) → IsTold o → IsTold p → IsTold (if b then o else p)
 either_told true o p h k = h
 either_told false o p h k = k
 
@@ -227,7 +227,7 @@ pub not_asked : (s : Machine) (content : Option (List ℕ)) (key : List ℕ) →
 unfolding IsTold
 not_asked s content key e = subst (λ o. IsTold o) e (answered_told s content)
 
-takes_gas : (s : Machine) (o : Outcome) → IsFalling s.gas o → TakesGas s o
+takes_gas : (s : Machine) (o : StepResult) → IsFalling s.gas o → TakesGas s o
 unfolding IsFalling
 takes_gas s (Next t) h = h
 takes_gas s (Asks key) h = tt

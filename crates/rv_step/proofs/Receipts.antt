@@ -7,7 +7,7 @@ use Rattle.rv_ledger.specs.Call.{Invocation}
 use Rattle.rv_ledger.specs.Key.{Storage}
 use Rattle.rv_ledger.specs.declared.receipt.Receipt.{Receipt}
 use Rattle.rv_step.specs.declared.machine.Machine.{Machine}
-use Rattle.rv_step.specs.Step.{Outcome, Next, Asks, Ends, step, answered}
+use Rattle.rv_step.specs.Step.{StepResult, Next, Asks, Ends, step, answered}
 use Rattle.rv_step.specs.Chain.{AreFrom, HasOneReceipt, Reply, after_ask, after_step, answered_by, closed, ends, followed, ran, receipt_of, replayed, settled, start}
 use Rattle.rv_step.proofs.Falls.{IsFalling, step_falls, answered_falls, less_gas, not_asked}
 
@@ -17,7 +17,7 @@ closed_is [] receipt r e = cc
 closed_is (reply ∷ replies) receipt r e = cc
 
 -- what both ways of going on make of a step that was answered
-step_agrees : (f : Machine → List Reply → Option Receipt) (g : Machine → Receipt) (limit : ℕ) (s : Machine) (o : Outcome) (replies : List Reply) (r : Receipt) → ((t : Machine) → f t replies ≡ Some r → r ≡ g t) → after_step f limit o replies ≡ Some r → r ≡ settled g limit s o
+step_agrees : (f : Machine → List Reply → Option Receipt) (g : Machine → Receipt) (limit : ℕ) (s : Machine) (o : StepResult) (replies : List Reply) (r : Receipt) → ((t : Machine) → f t replies ≡ Some r → r ≡ g t) → after_step f limit o replies ≡ Some r → r ≡ settled g limit s o
 step_agrees f g limit s (Next t) replies r same e = same t e
 step_agrees f g limit s (Asks key) replies r same e = cc
 step_agrees f g limit s (Ends end out t) replies r same e = closed_is replies (receipt_of limit end out t) r e
@@ -39,7 +39,7 @@ ask_agrees f g limit s store key (reply ∷ replies) r same from e =
     step_agrees f g limit s (answered s (map.get store key)) replies r (λ t h. same t replies from.1 h)
     (ap (λ (c : Option (List ℕ)). after_step f limit (answered s c) replies) (sym content) ∙ found.1)
 
-outcome_agrees : (f : Machine → List Reply → Option Receipt) (g : Machine → Receipt) (limit : ℕ) (s : Machine) (store : Storage) (o : Outcome) (replies : List Reply) (r : Receipt) → ((t : Machine) (rest : List Reply) → AreFrom store rest → f t rest ≡ Some r → r ≡ g t) → AreFrom store replies → followed f limit s o replies ≡ Some r → r ≡ settled g limit s (answered_by store s o)
+outcome_agrees : (f : Machine → List Reply → Option Receipt) (g : Machine → Receipt) (limit : ℕ) (s : Machine) (store : Storage) (o : StepResult) (replies : List Reply) (r : Receipt) → ((t : Machine) (rest : List Reply) → AreFrom store rest → f t rest ≡ Some r → r ≡ g t) → AreFrom store replies → followed f limit s o replies ≡ Some r → r ≡ settled g limit s (answered_by store s o)
 outcome_agrees f g limit s store (Next t) replies r same from e = same t replies from e
 outcome_agrees f g limit s store (Asks key) replies r same from e = ask_agrees f g limit s store key replies r same from e
 outcome_agrees f g limit s store (Ends end out t) replies r same from e = closed_is replies (receipt_of limit end out t) r e
@@ -55,7 +55,7 @@ agrees limit (suc n) s store replies r from e =
 abbrev IsReached : (Machine → List Reply → Option Receipt) → Storage → Machine → Receipt → Type 0
 IsReached f store s r = (replies : List Reply) × AreFrom store replies × (f s replies ≡ Some r)
 
-step_reached : (f : Machine → List Reply → Option Receipt) (g : Machine → Receipt) (limit gas : ℕ) (s : Machine) (store : Storage) (o : Outcome) → IsFalling gas o → ((key : List ℕ) → o ≡ Asks key → ⊥) → ((t : Machine) → t.gas < gas → IsReached f store t (g t)) → (replies : List Reply) × AreFrom store replies × (after_step f limit o replies ≡ Some (settled g limit s o))
+step_reached : (f : Machine → List Reply → Option Receipt) (g : Machine → Receipt) (limit gas : ℕ) (s : Machine) (store : Storage) (o : StepResult) → IsFalling gas o → ((key : List ℕ) → o ≡ Asks key → ⊥) → ((t : Machine) → t.gas < gas → IsReached f store t (g t)) → (replies : List Reply) × AreFrom store replies × (after_step f limit o replies ≡ Some (settled g limit s o))
 step_reached f g limit gas s store (Next t) h never reach = reach t (less_gas gas (Next t) t h refl)
 step_reached f g limit gas s store (Asks key) h never reach = absurd (never key refl)
 step_reached f g limit gas s store (Ends end out t) h never reach = ([], tt, refl)
@@ -63,7 +63,7 @@ step_reached f g limit gas s store (Ends end out t) h never reach = ([], tt, ref
 same_key : (key : List ℕ) → bytes_eq key key ≡ true
 same_key key = (bytes_eq-Decides key key).1 refl
 
-outcome_reached : (f : Machine → List Reply → Option Receipt) (g : Machine → Receipt) (limit : ℕ) (s : Machine) (store : Storage) (o : Outcome) → IsFalling s.gas o → ((t : Machine) → t.gas < s.gas → IsReached f store t (g t)) → (replies : List Reply) × AreFrom store replies × (followed f limit s o replies ≡ Some (settled g limit s (answered_by store s o)))
+outcome_reached : (f : Machine → List Reply → Option Receipt) (g : Machine → Receipt) (limit : ℕ) (s : Machine) (store : Storage) (o : StepResult) → IsFalling s.gas o → ((t : Machine) → t.gas < s.gas → IsReached f store t (g t)) → (replies : List Reply) × AreFrom store replies × (followed f limit s o replies ≡ Some (settled g limit s (answered_by store s o)))
 outcome_reached f g limit s store (Next t) h reach = reach t (less_gas s.gas (Next t) t h refl)
 outcome_reached f g limit s store (Asks key) h reach =
     let rest = step_reached f g limit s.gas s store (answered s (map.get store key)) (answered_falls s (map.get store key)) (not_asked s (map.get store key)) reach in (

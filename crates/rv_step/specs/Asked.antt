@@ -4,17 +4,17 @@ use Rattle.rv_ledger.specs.Call.{Invocation}
 use Rattle.rv_step.specs.declared.machine.Machine.{Machine}
 use Rattle.rv_step.specs.declared.run.Pause.{Pause}
 use Rattle.rv_step.specs.declared.run.Pause.TheVariants as pause
-use Rattle.rv_step.specs.Step.{Outcome, Next, Asks, Ends, step, answered}
+use Rattle.rv_step.specs.Step.{StepResult, Next, Asks, Ends, step, answered}
 use Rattle.rv_step.specs.Chain.{Reply, start}
 
 -- what follows a step that did not ask, `rest` being the chain from the next machine on
-abbrev pub asked_after : (Machine → List Reply → Option (List ℕ)) → Outcome → List Reply → Option (List ℕ)
+abbrev pub asked_after : (Machine → List Reply → Option (List ℕ)) → StepResult → List Reply → Option (List ℕ)
 asked_after rest (Next t) replies = rest t replies
 asked_after rest (Asks key) replies = None
 asked_after rest (Ends end out t) replies = None
 
 -- what follows a step: where it asks and no reply is left, its key is what is asked for
-abbrev pub asked_on : (Machine → List Reply → Option (List ℕ)) → Machine → Outcome → List Reply → Option (List ℕ)
+abbrev pub asked_on : (Machine → List Reply → Option (List ℕ)) → Machine → StepResult → List Reply → Option (List ℕ)
 asked_on rest s (Next t) replies = rest t replies
 asked_on rest s (Asks key) [] = Some key
 asked_on rest s (Asks key) (reply ∷ replies) = if bytes_eq reply.0 key then asked_after rest (answered s reply.1) replies else None

@@ -9,7 +9,7 @@ use Rattle.rv_ledger.specs.declared.end.End.{End}
 use Rattle.rv_ledger.specs.declared.end.End.TheVariants.{Returned, OutOfGas}
 use Rattle.rv_ledger.specs.declared.receipt.Receipt.{Receipt}
 use Rattle.rv_step.specs.declared.machine.Machine.{Machine}
-use Rattle.rv_step.specs.Step.{Outcome, Next, Asks, Ends, step, answered}
+use Rattle.rv_step.specs.Step.{StepResult, Next, Asks, Ends, step, answered}
 
 -- at the start sp is the end of memory, a0 the input's address and a1 its length
 abbrev pub start_registers : ℕ → List ℕ
@@ -44,7 +44,7 @@ closed [] receipt = Some receipt
 closed (reply ∷ replies) receipt = None
 
 -- what follows a step that did not ask, `rest` being the chain from the next machine on
-abbrev pub after_step : (Machine → List Reply → Option Receipt) → ℕ → Outcome → List Reply → Option Receipt
+abbrev pub after_step : (Machine → List Reply → Option Receipt) → ℕ → StepResult → List Reply → Option Receipt
 after_step rest limit (Next t) replies = rest t replies
 after_step rest limit (Asks key) replies = None
 after_step rest limit (Ends end out t) replies = closed replies (receipt_of limit end out t)
@@ -55,7 +55,7 @@ after_ask rest limit s key [] = None
 after_ask rest limit s key (reply ∷ replies) =
     if bytes_eq reply.0 key then after_step rest limit (answered s reply.1) replies else None
 
-abbrev pub followed : (Machine → List Reply → Option Receipt) → ℕ → Machine → Outcome → List Reply → Option Receipt
+abbrev pub followed : (Machine → List Reply → Option Receipt) → ℕ → Machine → StepResult → List Reply → Option Receipt
 followed rest limit s (Asks key) replies = after_ask rest limit s key replies
 followed rest limit s outcome replies = after_step rest limit outcome replies
 
@@ -64,18 +64,18 @@ unfoldable pub replayed : ℕ → ℕ → Machine → List Reply → Option Rece
 replayed limit zero s replies = None
 replayed limit (suc steps) s replies = followed (λ t rest. replayed limit steps t rest) limit s (step s) replies
 
--- the answers bear the receipt out where this is Some receipt; each step takes gas, so that one step more than the
--- gas suffices
+-- the answers bear the receipt out where this is Some receipt; a step after which the call goes on takes gas, so that
+-- one step more than the gas suffices
 abbrev pub borne : Invocation → List Reply → Option Receipt
 borne call replies = replayed call.gas (suc call.gas) (start call) replies
 
 -- a step whose asking is answered by a storage
-abbrev pub answered_by : Storage → Machine → Outcome → Outcome
+abbrev pub answered_by : Storage → Machine → StepResult → StepResult
 answered_by store s (Asks key) = answered s (map.get store key)
 answered_by store s outcome = outcome
 
 -- what follows it; a storage has answered, so that nothing is asked
-abbrev pub settled : (Machine → Receipt) → ℕ → Machine → Outcome → Receipt
+abbrev pub settled : (Machine → Receipt) → ℕ → Machine → StepResult → Receipt
 settled rest limit s (Next t) = rest t
 settled rest limit s (Asks key) = receipt_of limit OutOfGas [] s
 settled rest limit s (Ends end out t) = receipt_of limit end out t

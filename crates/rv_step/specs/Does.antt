@@ -13,24 +13,24 @@ use Rattle.rv_step.specs.declared.pace.Beat.{Beat}
 use Rattle.rv_step.specs.declared.pace.Beat.TheVariants as beat
 use Rattle.rv_step.specs.declared.stage.Stage.{Stage}
 use Rattle.rv_step.specs.declared.stage.Stage.TheVariants.{Running, Asked, Ended}
-use Rattle.rv_step.specs.Step.{Outcome, Next, Asks, Ends, called, trap_of}
+use Rattle.rv_step.specs.Step.{StepResult, Next, Asks, Ends, called, trap_of}
 
 -- a method did what was wanted; an asking, and a refusal for want of memory, change nothing
-abbrev pub Does : Result Pace AllocError → Outcome → Machine → Machine → Type 0
+abbrev pub Does : Result Pace AllocError → StepResult → Machine → Machine → Type 0
 Does (Ok pace.Next) want old new = want ≡ Next new
 Does (Ok (pace.Ask key)) want old new = (want ≡ Asks key) × (new ≡ old)
 Does (Ok (pace.End end out)) want old new = want ≡ Ends end out new
 Does (Err refused) want old new = new ≡ old
 
 -- the same of a method that leaves an ECALL to be done, on a machine that it has not changed
-abbrev pub Beats : Result Beat AllocError → Outcome → Machine → Machine → Type 0
+abbrev pub Beats : Result Beat AllocError → StepResult → Machine → Machine → Type 0
 Beats (Ok beat.Next) want old new = want ≡ Next new
 Beats (Ok beat.Call) want old new = (want ≡ called old (ecall_charge old.regs)) × (new ≡ old)
 Beats (Ok (beat.End end)) want old new = want ≡ Ends end [] new
 Beats (Err refused) want old new = new ≡ old
 
 -- the same of a method that does an instruction other than an ECALL: none where the machine goes on, or the end
-abbrev pub Acts : Result (Option End) AllocError → Outcome → Machine → Machine → Type 0
+abbrev pub Acts : Result (Option End) AllocError → StepResult → Machine → Machine → Type 0
 Acts (Ok None) want old new = want ≡ Next new
 Acts (Ok (Some end)) want old new = want ≡ Ends end [] new
 Acts (Err refused) want old new = new ≡ old

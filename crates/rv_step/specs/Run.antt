@@ -10,7 +10,7 @@ use Rattle.rv_step.specs.declared.stage.Stage.TheVariants.{Running, Asked, Ended
 use Rattle.rv_step.specs.declared.run.Pause.{Pause}
 use Rattle.rv_step.specs.declared.run.Pause.TheVariants as pause
 use Rattle.rv_step.specs.Replies.{replies_of}
-use Rattle.rv_step.specs.Step.{Outcome, Next, Asks, Ends, step, answered}
+use Rattle.rv_step.specs.Step.{StepResult, Next, Asks, Ends, step, answered}
 use Rattle.rv_step.specs.Chain.{Reply, borne, replayed, closed, receipt_of, start}
 
 -- what callers see of a run: its call, where it stands, and the answers that it was given
@@ -24,7 +24,7 @@ abbrev pub seen_at_start : Invocation → Seen
 seen_at_start call = record { call = call; machine = start call; told = []; stage = Running }
 
 -- where a run stands after what a step came to
-abbrev pub moved : Outcome → Seen → Seen
+abbrev pub moved : StepResult → Seen → Seen
 moved (Next t) r = record r { machine = t; stage = Running }
 moved (Asks key) r = record r { stage = Asked key }
 moved (Ends end out t) r = record r { machine = t; stage = Ended end out }

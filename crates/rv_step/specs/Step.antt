@@ -11,7 +11,7 @@ use Rattle.rv_isa.specs.declared.register.Reg.{Reg}
 use Rattle.rv_isa.specs.declared.operands.Immediate.{Immediate}
 use Rattle.gas.specs.Costs.{cost_of}
 use Rattle.rv_alu.specs.Effects.{effect_of, held}
-use Rattle.rv_alu.specs.Accesses.{extended_of, width_of, store_width}
+use Rattle.rv_alu.specs.Accesses.{address_from, extended_of, width_of, store_width}
 use Rattle.rv_mem.specs.Space.{Space, loaded, stored, copied}
 use Rattle.rv_mem.specs.declared.access.Access.TheVariants as access
 use Rattle.rv_mem.specs.declared.fault.Fault.{Fault}
@@ -22,20 +22,21 @@ use Rattle.rv_ledger.specs.declared.end.End.TheVariants.{Returned, Reverted, Out
 use Rattle.rv_ledger.specs.declared.end.Trap.{Trap}
 use Rattle.rv_ledger.specs.declared.end.Trap.TheVariants as trap
 use Rattle.rv_ledger.specs.declared.writes.Write.{Write}
-use Rattle.ecalls.specs.StorageCalls.{a1, a2, ecall_charge, request_of}
+use Rattle.ecalls.specs.StorageCalls.{a1, a2, charge_of, ecall_charge, request_of}
+use Rattle.ecalls.specs.declared.storage_call.StorageCall.TheVariants as call
 use Rattle.ecalls.specs.declared.request_kind.Request.{Request}
 use Rattle.ecalls.specs.declared.request_kind.Request.TheVariants as request
 use Rattle.rv_step.specs.declared.machine.Machine.{Machine}
 
 -- what a step comes to: the machine goes on; or it asks the storage for a key, and stands before the READ,
 -- uncharged; or the call ends with an output, the machine being left so
-pub data Outcome : Type 0 where
-  Next : Machine → Outcome
-  Asks : List ℕ → Outcome
-  Ends : End → List ℕ → Machine → Outcome
+pub data StepResult : Type 0 where
+  Next : Machine → StepResult
+  Asks : List ℕ → StepResult
+  Ends : End → List ℕ → Machine → StepResult
 
 -- a trap changes no register and no byte, and keeps the charge
-abbrev pub trapped : Trap → Machine → Outcome
+abbrev pub trapped : Trap → Machine → StepResult
 trapped cause s = Ends (Trapped cause) [] s
 
 -- the trap of a fault of memory
@@ -46,34 +47,34 @@ trap_of fault.FetchFault = trap.FetchFault
 trap_of fault.Memory = trap.MemoryFault
 
 -- the charge is taken before the instruction acts; where the rest is less, all of it is spent and nothing is done
-abbrev pub charged : ℕ → Machine → (Machine → Outcome) → Outcome
+abbrev pub charged : ℕ → Machine → (Machine → StepResult) → StepResult
 charged cost s act = if nat_le cost s.gas then act (record s { gas = s.gas - cost }) else Ends OutOfGas [] (record s { gas = 0 })
 
 -- on to the next instruction
-abbrev pub goes_on : Machine → Outcome
+abbrev pub goes_on : Machine → StepResult
 goes_on s = Next (record s { pc = wrapped (pos s.pc +ℤ pos 4) })
 
 -- the address of a load or a store (RISC-V Unprivileged ISA, 2.6)
 abbrev pub address_of : Machine → Reg → Immediate → ℕ
-address_of s base offset = wrapped (pos (held s.regs base) +ℤ offset.value)
+address_of s base offset = address_from (held s.regs base) offset
 
 -- a load: rd takes the number that is read, extended
-abbrev pub takes : LoadKind → Reg → Machine → Result ℕ Fault → Outcome
+abbrev pub takes : LoadKind → Reg → Machine → Result ℕ Fault → StepResult
 takes kind rd s (Ok number) = goes_on (record s { regs = written s.regs rd.number (extended_of kind number) })
 takes kind rd s (Err fault) = trapped (trap_of fault) s
 
--- a change of memory, with a number for a register
-abbrev pub leaves : Machine → List ℕ → Result Space Fault → Outcome
+-- a change of memory, and the registers after it
+abbrev pub leaves : Machine → List ℕ → Result Space Fault → StepResult
 leaves s registers (Ok memory) = goes_on (record s { memory = memory; regs = registers })
 leaves s registers (Err fault) = trapped (trap_of fault) s
 
 -- an instruction without memory
-abbrev pub computes : Machine → Option (List ℕ × ℕ) → Outcome
+abbrev pub computes : Machine → Option (List ℕ × ℕ) → StepResult
 computes s (Some (registers, pc)) = Next (record s { regs = registers; pc = pc })
 computes s None = trapped trap.Misaligned s
 
 -- what an instruction that was charged does
-unfoldable pub acted : Instr → Machine → Outcome
+unfoldable pub acted : Instr → Machine → StepResult
 acted (Load kind rd base offset) s = takes kind rd s (loaded (width_of kind) access.Read s.memory (address_of s base offset))
 acted (Store kind source base offset) s = leaves s s.regs (stored (store_width kind) s.memory (address_of s base offset) (held s.regs source))
 acted Ebreak s = trapped trap.Breakpoint s
@@ -81,30 +82,30 @@ acted instr s = computes s (effect_of instr s.regs s.pc)
 
 -- a0 tells how a READ went: 2^32 - 1 for absence, 2^32 - 2 for a value longer than the buffer, else the length;
 -- and then the value is copied
-unfoldable pub delivered : Machine → Option (List ℕ) → Outcome
+unfoldable pub delivered : Machine → Option (List ℕ) → StepResult
 delivered s None = goes_on (record s { regs = written s.regs 10 0xffff_ffff })
 delivered s (Some value) =
     if nat_lt (a2 s.regs) (length value) then goes_on (record s { regs = written s.regs 10 0xffff_fffe })
     else leaves s (written s.regs 10 (length value)) (copied s.memory (a1 s.regs) value)
 
 -- a READ of a key that the call has written is answered by its own writes
-abbrev pub read_own : Machine → List ℕ → Option (Option (List ℕ)) → Outcome
+abbrev pub read_own : Machine → List ℕ → Option (Option (List ℕ)) → StepResult
 read_own s key (Some content) = delivered s content
 read_own s key None = Asks key
 
 -- a write or a removal, of at most 256 keys
-unfoldable pub wrote : Machine → Write → Outcome
+unfoldable pub wrote : Machine → Write → StepResult
 wrote s write = if has_room s.own write.key then goes_on (record s { own = map.insert s.own write.key write.value }) else trapped trap.TooManyWrites s
 
 -- what a storage call that was charged does
-unfoldable pub served : Machine → Result Request Trap → Outcome
+unfoldable pub served : Machine → Result Request Trap → StepResult
 served s (Err cause) = trapped cause s
 served s (Ok (request.Read key)) = read_own s key (map.get s.own key)
 served s (Ok (request.Write write)) = wrote s write
 served s (Ok (request.Return out)) = Ends Returned out s
 served s (Ok (request.Revert out)) = Ends Reverted out s
 
-abbrev pub called : Machine → Result ℕ Trap → Outcome
+abbrev pub called : Machine → Result ℕ Trap → StepResult
 called s (Err cause) = trapped cause s
 called s (Ok cost) = charged cost s (λ t. served t (request_of t.regs t.memory))
 
@@ -112,25 +113,25 @@ abbrev pub is_ecall : Instr → Bool
 is_ecall Ecall = true
 is_ecall _ = false
 
-abbrev pub obeyed : Machine → Option Instr → Outcome
+abbrev pub obeyed : Machine → Option Instr → StepResult
 obeyed s None = trapped trap.Illegal s
 obeyed s (Some instr) = if is_ecall instr then called s (ecall_charge s.regs) else charged (cost_of instr) s (λ t. acted instr t)
 
-abbrev pub fetched : Machine → Result ℕ Fault → Outcome
+abbrev pub fetched : Machine → Result ℕ Fault → StepResult
 fetched s (Ok word) = obeyed s (decoded word)
 fetched s (Err fault) = trapped (trap_of fault) s
 
 -- one step
-unfoldable pub step : Machine → Outcome
-step s = fetched s (loaded 4 access.Run s.memory s.pc)
+unfoldable pub step : Machine → StepResult
+step s = fetched s (loaded 4 access.Execute s.memory s.pc)
 
 -- the step that asked the storage, with its answer: a value, or None for absence
-unfoldable pub answered : Machine → Option (List ℕ) → Outcome
-answered s content = charged 200 s (λ t. delivered t content)
+unfoldable pub answered : Machine → Option (List ℕ) → StepResult
+answered s content = charged (charge_of call.Read s.regs) s (λ t. delivered t content)
 
 -- gas falls where the call goes on, and does not rise where it ends, so that a call makes at most as many
 -- instructions as its gas limit, whatever it is answered
-abbrev pub TakesGas : Machine → Outcome → Type 0
+abbrev pub TakesGas : Machine → StepResult → Type 0
 TakesGas s (Next t) = t.gas < s.gas
 TakesGas s (Asks key) = Unit {0}
 TakesGas s (Ends end out t) = t.gas ≤ s.gas

@@ -12,8 +12,8 @@ pub fn one_receipt()
     ensures { (call : Invocation) (store : Storage) → HasOneReceipt call store }
 {}
 
-/// Each step of a call takes gas, and so does each answer: a call makes at most as many
-/// instructions as its gas limit, whatever it is answered.
+/// Each step and each answer after which the call goes on takes gas, and no end gives any back: a call
+/// makes at most as many instructions as its gas limit, whatever it is answered.
 pub fn each_step_takes_gas()
     ensures step { (s : Machine) → TakesGas s (step s) }
     ensures answer { (s : Machine) (content : Option (List ℕ)) → TakesGas s (answered s content) }

@@ -7,7 +7,7 @@ pub mod answer;
 pub mod ended_run;
 mod laws;
 pub mod machine;
-pub mod pace;
+mod pace;
 pub mod run;
 pub mod stage;
 

@@ -14,16 +14,13 @@ ghost use Rattle.rv_step.specs.declared.pace.Pace.TheVariants as pace;
 use crate::accesses::{number_at, store_number};
 use crate::pace::{Beat, Pace, is_asking, is_ecall, refusal, trap, trap_of};
 use ecalls::requests::request;
-use ecalls::{Request, Trap, ecall_charge};
+use ecalls::{READ_CHARGE, Request, Trap, ecall_charge};
 use gas::{Meter, cost};
 use rv_alu::{address, execute, extended};
 use rv_isa::{Immediate, Instr, LoadKind, Reg, Regs, StoreKind, decode};
 use rv_ledger::{Call, End, Key, Output, Value, Write, Writes};
 use rv_mem::Memory;
 use std::alloc::{AllocError, Global};
-
-/// The gas of a READ.
-const READ_CHARGE: u32 = 200;
 
 /// What a0 tells of an absent key.
 const ABSENT: u32 = 0xffff_ffff;

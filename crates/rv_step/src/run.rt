@@ -1,7 +1,6 @@
 //! A run of one call, which stops where it needs an answer of the storage.
 
 ghost use Rattle.std.specs.Prelude.{◌≡◌, ◌≤◌, [], OnErr, OnOk};
-ghost use Rattle.std.specs.Option.{option_copied};
 ghost use Rattle.rv_step.specs.Chain.{receipt_of};
 ghost use Rattle.rv_step.specs.Does.{HasCalled, stage_of};
 ghost use Rattle.rv_step.specs.declared.stage.Stage.TheVariants.{Ended};
@@ -135,7 +134,7 @@ impl Run {
         };
         self.answers.push(Answer {
             key,
-            value: copied(content),
+            value: Value::copied(content),
             origin,
         })?;
         let pace = match self.machine.answer(content) {
@@ -149,7 +148,7 @@ impl Run {
         Ok(())
     }
 
-    /// The ended run with its receipt; it takes no memory.
+    /// The ended run with its receipt, of a run whose call has ended. Takes no memory.
     pub fn finish(self) -> EndedRun
         requires { IsEnded self.stage }
         ensures call { result.call ≡ self.call }
@@ -204,16 +203,6 @@ fn stage_of(pace: Pace) -> Stage
         Pace::Next => Stage::Running,
         Pace::Ask(key) => Stage::Asked(key),
         Pace::End(end, out) => Stage::Ended(end, out),
-    }
-}
-
-/// A copy of an answer's content.
-fn copied(content: Option<&Value>) -> Option<Value>
-    ensures { result ≡ option_copied content.entry }
-{
-    match content {
-        Some(value) => Some(value.copy()),
-        None => None,
     }
 }
 

@@ -17,7 +17,7 @@ use Rattle.rv_isa.specs.Decoding.{register_at}
 use Rattle.rv_names.specs.Registers.{x_names, x_name, register_number, register_of}
 use Rattle.rv_names.specs.Numbers.{numeral_of, number_of}
 use Rattle.rv_names.specs.Operands.{is_comma}
-use Rattle.rv_names.proofs.Same.{same_register}
+use Rattle.rv_isa.proofs.Same.{same_register}
 use Rattle.rv_text.proofs.Cuts.{neither, none_of_stronger}
 use Rattle.rv_text.proofs.Lines.{is_mark}
 

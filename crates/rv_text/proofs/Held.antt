@@ -26,7 +26,8 @@ use Rattle.rv_names.specs.Mnemonics.{mnemonic, shape_of}
 use Rattle.rv_names.specs.Operands.{is_between, immediate_of, branch_offset_of, jump_offset_of, upper_of, amount_of, word_value_of}
 use Rattle.rv_names.specs.declared.shapes.Shape.{Shape}
 use Rattle.rv_names.specs.declared.shapes.Shape.TheVariants.{LoadUpper, AddUpper, JumpAndLink, JumpRegister, Branching, Loading, Storing, OnImmediate, OnAmount, OnRegisters, Barrier, Call, Break, WordDirective}
-use Rattle.rv_names.proofs.Same.{held_immediate_at, held_branch_at, held_jump_at, same_upper, same_amount}
+use Rattle.rv_isa.proofs.Same.{same_amount, same_upper}
+use Rattle.rv_names.proofs.InRange.{held_branch_at, held_immediate_at, held_jump_at}
 use Rattle.rv_text.proofs.Lines.{is_mark}
 
 -- ---- operands

@@ -71,7 +71,7 @@ impl From<Cause> for AsmCause {
 /// least number; where none of these holds, of 4 and 6 in the same way.
 #[derive(Clone, Copy, Debug, PartialEq, Eq)]
 pub struct AsmError {
-    /// The number of the line, counted from 1; where memory ran out, the line that was being read.
+    /// The number of the line, counted from 1; any line where memory ran out.
     pub line: usize,
     /// What is wrong with it.
     pub cause: AsmCause,

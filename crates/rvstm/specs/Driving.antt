@@ -1,5 +1,5 @@
 -- What the engine of `rvstm drive` writes, and what it refuses.
-use Rattle.std.specs.Prelude.{ℕ, List, ◌≡◌, ◌⊎◌, ⊤, map, Option, Some, None, IfSome, Result, Ok, Err, IsOkAnd, option_and_then}
+use Rattle.std.specs.Prelude.{ℕ, List, ◌≡◌, ◌⊎◌, ⊤, map, Option, Some, IfSome, Result, Ok, Err, IsOkAnd, option_and_then}
 use Rattle.std.specs.Option.{option_map}
 use Rattle.std.specs.Result.{result_map_both}
 use Rattle.elf32.specs.Layout.{Layout}

@@ -9,12 +9,13 @@ use Rattle.rv_ledger.specs.Call.{Invocation}
 use Rattle.rv_step.specs.Fold.{receipts_of, store_after}
 use Rattle.receipts.specs.Text.{result_text}
 use Rattle.receipts.specs.Written.{AppendsPart}
+use Rattle.receipts.specs.declared.write.WriteFault.TheVariants as output
 use Rattle.block_file.specs.Block.{BlockValue, CallValue}
 use Rattle.block_file.specs.declared.fault.BlockFault.{BlockFault}
 use Rattle.block_file.specs.declared.fault.Cause.TheVariants as cause
 use Rattle.rvstm.specs.declared.fault.Refusal.{Refusal}
-use Rattle.rvstm.specs.declared.fault.Refusal.TheVariants.{File, Block, Elf, Asm, Schedule, Drive, Output}
-use Rattle.rvstm.specs.declared.fault.FileFault.TheVariants.{TooLong}
+use Rattle.rvstm.specs.declared.fault.Refusal.TheVariants.{File, Block, Elf, Seq, Output}
+use Rattle.rvstm.specs.declared.fault.FileFault.TheVariants.{TooLong, Unreadable}
 
 -- the bytes of the files at some paths, where all are known
 abbrev pub with_file : Option (List ℕ) → Option (List (List ℕ)) → Option (List (List ℕ))
@@ -62,7 +63,12 @@ IsFaultOf content block old new (Block fault) = (fault.cause ≡ cause.Memory) �
 IsFaultOf content block old new (Elf fault) = (fault ≡ elf.Memory) ⊎ IfSome (answer_of content block) (λ answer. answer ≡ Err (Elf fault))
 IsFaultOf content block old new (File TooLong) = IfSome (answer_of content block) (λ answer. answer ≡ Err (File TooLong))
 IsFaultOf content block old new (Output fault) = IfSome (answer_of content block) (λ answer. IsOkAnd answer (AppendsPart old new))
-IsFaultOf content block old new (Asm fault) = ⊥
-IsFaultOf content block old new (Schedule fault) = ⊥
-IsFaultOf content block old new (Drive fault) = ⊥
-IsFaultOf content block old new _ = ⊤
+IsFaultOf content block old new (File Unreadable) = ⊤
+IsFaultOf content block old new (Seq fault) = ⊤
+IsFaultOf content block old new _ = ⊥
+
+-- where a command is refused nothing was written, unless a write failed
+abbrev pub IsUnwritten : Option (List ℕ) → Option (List ℕ) → Refusal → Type 0
+IsUnwritten old new (Output output.Io) = ⊤
+IsUnwritten old new (Output output.WroteNothing) = ⊤
+IsUnwritten old new _ = new ≡ old

@@ -1,5 +1,5 @@
 -- What `rvstm dis` prints and `rvstm asm` writes, and what they refuse.
-use Rattle.std.specs.Prelude.{◌≡◌, ◌⊎◌, ⊤, ℕ, List, [], ◌∷◌, ◌++◌, codes, flat_map, Option, IfSome, Result, Ok, Err, IsOkAnd, if◌then◌else◌, length, ◌==◌, IsUtf8}
+use Rattle.std.specs.Prelude.{◌≡◌, ◌⊎◌, ⊤, ℕ, List, [], ◌∷◌, ◌++◌, flat_map, Option, Result, Ok, Err, IsOkAnd, if◌then◌else◌, length, ◌==◌, IsUtf8}
 use Rattle.std.specs.Result.{result_map_both}
 use Rattle.elf32.specs.Layout.{Layout}
 use Rattle.elf32.specs.Words.{words_of}

@@ -7,6 +7,7 @@ ghost use Rattle.std.specs.Option.{option_map};
 ghost use Rattle.block_file.specs.Block.{block_of, block_value};
 ghost use Rattle.block_file.specs.Schedule.{schedule_of};
 ghost use Rattle.rvstm.specs.Driving.{IsFaultIn, driven_answer, text_along};
+ghost use Rattle.rvstm.specs.Engine.{IsUnwritten};
 ghost use Rattle.rvstm.specs.Parts.{IsScheduleFault};
 
 use crate::engine::{job_of, load_all, read_block};
@@ -22,7 +23,8 @@ use stm_core::{DriveFault, drive};
 
 /// Reads a block file to its end and parses it, opens, reads and loads its programs in the order of
 /// their numbers, reads a schedule file to its end and parses it, runs the calls by so many workers
-/// along it and writes the result, which is that of the calls in order. The first refusal ends it.
+/// along it and writes the result, which is that of the calls in order. The first refusal ends it; where
+/// that is one of the output, a beginning of the result was written, and else nothing.
 pub fn drive_to<R: Read, P: Programs, S: Read, W: Write>(
     alloc: Global,
     block: &mut R,
@@ -37,6 +39,7 @@ pub fn drive_to<R: Read, P: Programs, S: Read, W: Write>(
     ensures refused { IfErr result (λ e. IfSome (R.remaining block.old) (λ input.
         IsFaultIn (driven_answer (P.content programs.old) (block_of input) workers (option_map schedule_of (S.remaining schedule.old)))
         (W.contents out.old) (W.contents out.new) e)) }
+    ensures unwritten { IfErr result (λ e. IsUnwritten (W.contents out.old) (W.contents out.new) e) }
 {
     match read_block(alloc, block) {
         Ok(text) => drive_block(alloc, text, programs, schedule, workers, out),
@@ -58,6 +61,7 @@ fn drive_block<P: Programs, S: Read, W: Write>(
         IsOkAnd answer (Appends (W.contents out.old) (W.contents out.new)))) }
     ensures refused { IfErr result (λ e. IsFaultIn (driven_answer (P.content programs.old) (Ok (block_value text)) workers (option_map schedule_of (S.remaining schedule.old)))
         (W.contents out.old) (W.contents out.new) e) }
+    ensures unwritten { IfErr result (λ e. IsUnwritten (W.contents out.old) (W.contents out.new) e) }
 {
     let BlockText {
         programs: paths,
@@ -109,6 +113,7 @@ fn drive_job<W: Write>(
 ) -> Result<(), Refusal>
     ensures written { OnOk result (IsOkAnd (text_along job.now.block job.now.store workers entries.now) (Appends (W.contents out.old) (W.contents out.new))) }
     ensures refused { IfErr result (λ e. IsFaultIn (Some (text_along job.now.block job.now.store workers entries.now)) (W.contents out.old) (W.contents out.new) e) }
+    ensures unwritten { IfErr result (λ e. IsUnwritten (W.contents out.old) (W.contents out.new) e) }
 {
     let outcome = match drive(alloc, job, workers, entries) {
         Ok(outcome) => outcome,

@@ -6,7 +6,7 @@ ghost use Rattle.std.specs.Io.KnownBytes.{Appends};
 ghost use Rattle.std.specs.Option.{option_map};
 ghost use Rattle.std.specs.String.{string_bytes};
 ghost use Rattle.block_file.specs.Block.{block_of, block_value, call_value};
-ghost use Rattle.rvstm.specs.Engine.{answer_of, call_over, files_of, program_of, programs_of, IsFaultOf};
+ghost use Rattle.rvstm.specs.Engine.{answer_of, call_over, files_of, program_of, programs_of, IsFaultOf, IsUnwritten};
 ghost use Rattle.rvstm.specs.Parts.{IsBlockFault, IsProgramFault};
 
 use crate::fault::{FileFault, Refusal, SeqFault};
@@ -23,7 +23,8 @@ use std::io::{Read, Write};
 use std::sync::Arc;
 
 /// Reads a block file to its end and parses it, opens, reads and loads its programs in the order of
-/// their numbers, runs the calls in order and writes the result. The first refusal ends it.
+/// their numbers, runs the calls in order and writes the result. The first refusal ends it; where that is
+/// one of the output, a beginning of the result was written, and else nothing.
 pub fn seq_to<R: Read, P: Programs, W: Write>(
     alloc: Global,
     block: &mut R,
@@ -35,6 +36,7 @@ pub fn seq_to<R: Read, P: Programs, W: Write>(
         IsOkAnd answer (Appends (W.contents out.old) (W.contents out.new))))) }
     ensures refused { IfErr result (λ e. IfSome (R.remaining block.old) (λ input.
         IsFaultOf (P.content programs.old) (block_of input) (W.contents out.old) (W.contents out.new) e)) }
+    ensures unwritten { IfErr result (λ e. IsUnwritten (W.contents out.old) (W.contents out.new) e) }
 {
     match read_block(alloc, block) {
         Ok(text) => run_to(alloc, text, programs, out),
@@ -73,6 +75,7 @@ fn run_to<P: Programs, W: Write>(
     ensures written { OnOk result (IfSome (answer_of (P.content programs.old) (Ok (block_value text))) (λ answer.
         IsOkAnd answer (Appends (W.contents out.old) (W.contents out.new)))) }
     ensures refused { IfErr result (λ e. IsFaultOf (P.content programs.old) (Ok (block_value text)) (W.contents out.old) (W.contents out.new) e) }
+    ensures unwritten { IfErr result (λ e. IsUnwritten (W.contents out.old) (W.contents out.new) e) }
 {
     let BlockText {
         programs: paths,

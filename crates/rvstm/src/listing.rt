@@ -4,7 +4,7 @@ ghost use Rattle.std.specs.Prelude.{◌≡◌, ◌++◌, flat_map, Ok, IfErr, If
 ghost use Rattle.std.specs.Io.KnownBytes.{Appends};
 ghost use Rattle.std.specs.Option.{option_map};
 ghost use Rattle.std.specs.String.{string_bytes};
-ghost use Rattle.rvstm.specs.Engine.{program_of};
+ghost use Rattle.rvstm.specs.Engine.{IsUnwritten, program_of};
 ghost use Rattle.rvstm.specs.Listing.{IsListingFault, listing_line, listing_of, listing_of_file};
 ghost use Rattle.rvstm.specs.Parts.{IsProgramFault};
 
@@ -24,6 +24,7 @@ pub fn dis_to<R: Read, W: Write>(alloc: Global, file: &mut R, out: &mut W) -> Re
         IsOkAnd (listing_of_file bytes) (Appends (W.contents out.old) (W.contents out.new)))) }
     ensures refused { IfErr result (λ e. IfSome (R.remaining file.old) (λ bytes.
         IsListingFault (listing_of_file bytes) (W.contents out.old) (W.contents out.new) e)) }
+    ensures unwritten { IfErr result (λ e. IsUnwritten (W.contents out.old) (W.contents out.new) e) }
 {
     let listing = match listing(alloc, file) {
         Ok(listing) => listing,

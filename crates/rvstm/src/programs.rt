@@ -13,7 +13,7 @@ pub trait Programs {
     /// The bytes of the program at a path, where they are known.
     ghost content: { Self → List ℕ → Option (List ℕ) };
 
-    /// Opens the program at a path.
+    /// Opens the program at a path; refused where it can't be opened.
     fn open(&mut self, path: &str) -> io::Result<Self::File>
         ensures opened { IfOk result (λ f. IfSome (content self.old path.now) (λ bytes. Self.File.remaining f ≡ Some bytes)) }
         ensures same { content self.new ≡ content self.old };

@@ -24,8 +24,9 @@ pub enum ReadFault {
     Memory,
 }
 
-/// All the bytes that a reader has left, at most `limit` of them.
-pub fn read_whole<R: Read>(
+/// All the bytes that a reader has left. Refused as TooLong where there are more than `limit`, as
+/// Unreadable where a read failed, or where memory ran out.
+pub(crate) fn read_whole<R: Read>(
     alloc: Global,
     reader: &mut R,
     limit: usize,
@@ -53,8 +54,9 @@ pub fn read_whole<R: Read>(
     Err(ReadFault::Unreadable)
 }
 
-/// All the bytes that a reader of a program file has left, at most 131,072.
-pub fn read_elf<R: Read>(alloc: Global, reader: &mut R) -> Result<Vec<u8>, Refusal>
+/// All the bytes that a reader of a program file has left. Refused as TooLong where there are more than
+/// 131,072, as Unreadable where a read failed, or where memory ran out.
+pub(crate) fn read_elf<R: Read>(alloc: Global, reader: &mut R) -> Result<Vec<u8>, Refusal>
     ensures ok { IfOk result (λ v. IfSome (R.remaining reader.old) (λ bytes. v.items ≡ bytes)) }
     ensures short { IfOk result (λ v. vec_len v ≤ 131072) }
     ensures err { IfErr result (λ e. IsProgramFault (option_map program_of (R.remaining reader.old)) e) }

@@ -89,6 +89,18 @@ fn printed(alloc: Global, programs: &[&[u32]], lines: &str) -> Result<Vec<u8>, F
     Ok(text)
 }
 
+/// Whether a text has these pieces in their order.
+fn has_all(text: &[u8], pieces: &[&str]) -> Result<bool, Fail> {
+    let mut rest = str::from_utf8(text)?;
+    for piece in pieces {
+        match rest.split_once(*piece) {
+            Some((_, behind)) => rest = behind,
+            None => return Ok(false),
+        }
+    }
+    Ok(true)
+}
+
 #[test]
 fn rows_print_what_they_say(rt: HostRuntime) -> Result<(), Fail> {
     for row in ROWS {
@@ -99,30 +111,49 @@ fn rows_print_what_they_say(rt: HostRuntime) -> Result<(), Fail> {
             pieces,
         } = row;
         let text = printed(rt.alloc(), programs, lines)?;
-        let text = str::from_utf8(text.as_slice())?;
-        let mut rest = text;
-        for piece in *pieces {
-            let Some((_, behind)) = rest.split_once(*piece) else {
-                panic!(rt; "{name} lacks {piece:?} in {text}");
-            };
-            rest = behind;
-        }
+        let shown = str::from_utf8(text.as_slice())?;
+        assert!(rt;
+            has_all(text.as_slice(), pieces)?,
+            "{name} lacks a piece of {pieces:?} in {shown}"
+        );
     }
     Ok(())
 }
 
+/// The call lines of forty counts of a key.
+fn forty_count_lines(alloc: Global) -> Result<String, AllocError> {
+    let mut lines = String::new(alloc);
+    for _ in 0..40 {
+        lines.push_str(
+            "call 0 1000 0000000000000000000000000000000000000000000000000000000000000001\n",
+        )?;
+    }
+    Ok(lines)
+}
+
+/// Whether a text is that of forty counts: call i ends with x5 = i + 1, and the key holds 40.
+fn shows_forty_counts(alloc: Global, text: &[u8]) -> Result<bool, Fail> {
+    let mut rest = str::from_utf8(text)?;
+    for call in 0..40_u32 {
+        let count = call.wrapping_add(1);
+        let end = format!(in alloc;
+            "call {call} returned gas 639 pc 00010034 out -\n\
+            regs 00000000 00000000 00110000 00000000 00000000 {count:08x} "
+        )?;
+        match rest.split_once(end.as_str()) {
+            Some((_, behind)) => rest = behind,
+            None => return Ok(false),
+        }
+    }
+    Ok(rest.ends_with(
+        "\nstore 0000000000000000000000000000000000000000000000000000000000000001 28000000\nend\n",
+    ))
+}
+
 #[test]
 fn forty_counts(rt: HostRuntime) -> Result<(), Fail> {
-    let key = "0000000000000000000000000000000000000000000000000000000000000001";
-    let mut lines = String::new(rt.alloc());
-    for _ in 0..40 {
-        lines.push_str(format!(in rt.alloc(); "call 0 1000 {key}\n")?.as_str())?;
-    }
+    let lines = forty_count_lines(rt.alloc())?;
     let text = printed(rt.alloc(), &[COUNT], lines.as_str())?;
-    let text = str::from_utf8(text.as_slice())?;
-    assert!(rt; text.contains("call 39 returned gas 639 pc 00010034 out -\n"));
-    assert!(rt; text.contains("regs 00000000 00000000 00110000 00000000 00000000 00000028 "));
-    let last = format!(in rt.alloc(); "store {key} 28000000\nend\n")?;
-    assert!(rt; text.ends_with(last.as_str()));
+    assert!(rt; shows_forty_counts(rt.alloc(), text.as_slice())?);
     Ok(())
 }

@@ -1,6 +1,6 @@
 -- What is seen of the workers where one of them is replaced.
-use Rattle.std.proofs.Common.{◌≡◌, ◌<◌, ℕ, List, length, map, set, get_or, sym, subst, ap, ◌∙◌, length-set}
-use Rattle.std.proofs.lemmas.List.{map-set, get_or-map, get_or-set_same}
+use Rattle.std.proofs.Common.{◌≡◌, ◌≢◌, ◌<◌, ℕ, List, length, map, set, get_or, sym, subst, ap, ◌∙◌, length-set}
+use Rattle.std.proofs.lemmas.List.{map-set, get_or-map, get_or-set_same, get_or-set_other}
 use Rattle.std.proofs.Math.Seq.{map-set_same}
 use Rattle.scheduler.specs.declared.worker.Worker.{Worker}
 
@@ -24,3 +24,7 @@ module _ {X : Type 0} (f : Worker → X) (workers : List Worker) (w : ℕ) where
   -- what is seen of the new one
   pub seen_new : (new : Worker) (d : X) → w < length workers → get_or (map f (set workers w new)) w d ≡ f new
   seen_new new d l = get_or-map f (set workers w new) w new d (subst (λ n. w < n) (sym (length-set workers w new)) l) ∙ ap f (get_or-set_same workers w new new l)
+
+  -- what is seen of the others stays
+  pub seen_other : (new : Worker) (d : X) (u : ℕ) → u ≢ w → get_or (map f (set workers w new)) u d ≡ get_or (map f workers) u d
+  seen_other new d u ne = ap (λ xs. get_or xs u d) (map-set f workers w new) ∙ get_or-set_other (map f workers) w u (f new) d ne

@@ -1,5 +1,5 @@
 -- What the scheduler keeps of a block's run.
-use Rattle.std.specs.Prelude.{◌<◌, ℕ, List, length, get_or}
+use Rattle.std.specs.Prelude.{◌≡◌, ◌≢◌, ◌<◌, ℕ, List, length, get_or}
 use Rattle.rv_ledger.specs.declared.outcome.Counts.{Counts}
 use Rattle.mvmap.specs.Versions.{Versions}
 use Rattle.stm_state.specs.declared.state.CallState.{CallState}
@@ -28,6 +28,10 @@ state_of versions placed s = record {
   dones = s.dones;
   placed = placed;
 }
+
+-- for the answers of every other worker there is as much room as before
+abbrev pub KeepsRooms : ℕ → List ℕ → List ℕ → Type 0
+KeepsRooms w old new = (u : ℕ) → u ≢ w → get_or new u 0 ≡ get_or old u 0
 
 -- a worker's counts may grow by one: each is below the greatest number that is kept
 pub record MayCount (worker : ℕ) (s : Schedule) : Type 0 where

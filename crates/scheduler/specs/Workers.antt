@@ -38,6 +38,12 @@ blocked_on on task.Idle = task.Idle
 blocked_on on (task.Running call answers blocked) = task.Running call answers (Some on)
 blocked_on on (task.Validating call incarnation left) = task.Validating call incarnation left
 
+-- a task runs a call
+abbrev pub IsRunning : Task → Type 0
+IsRunning task.Idle = ⊥
+IsRunning (task.Running call answers blocked) = Unit {0}
+IsRunning (task.Validating call incarnation left) = ⊥
+
 -- a task without the answers
 abbrev pub duty_of : Task → Duty
 duty_of task.Idle = duty.Idle

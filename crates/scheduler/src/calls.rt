@@ -143,7 +143,7 @@ pub(crate) fn is_executed(call: &CallState) -> bool
 }
 
 /// Whether a call is EXECUTED at an incarnation.
-pub(crate) fn is_executed_at(call: &CallState, incarnation: u16) -> bool
+pub fn is_executed_at(call: &CallState, incarnation: u16) -> bool
     ensures { result ≡ is_executed_at incarnation call.now }
 {
     is_executed(call) && call.incarnation == incarnation

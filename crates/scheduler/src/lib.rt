@@ -8,5 +8,6 @@ pub mod scheduler;
 pub mod worker;
 mod workers;
 
+pub use calls::is_executed_at;
 pub use scheduler::Scheduler;
 pub use worker::Duty;

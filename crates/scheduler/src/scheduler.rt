@@ -35,7 +35,7 @@ impl Model for Scheduler {
 }
 
 impl Scheduler {
-    ghost use Rattle.std.specs.Prelude.{◌≡◌, ◌≤◌, ◌<◌, ◌+◌, ◌++◌, ◌∷◌, ℕ, [], List, Option, Some, None, IfOk, OnOk, nat_lt, min, map, set, get_or, length, if◌then◌else◌, ◌==◌, ◌&&◌};
+    ghost use Rattle.std.specs.Prelude.{◌≡◌, ◌≤◌, ◌<◌, ◌+◌, ℕ, [], List, Option, Some, None, IfOk, OnOk, nat_lt, min, map, set, get_or, length, if◌then◌else◌, ◌==◌, ◌&&◌};
     ghost use Rattle.std.specs.List.{list_all};
     ghost use Rattle.mvmap.specs.Versions.{Versions};
     ghost use Rattle.rv_step.specs.declared.answer.Answer.{Answer};
@@ -44,8 +44,8 @@ impl Scheduler {
     ghost use Rattle.stm_state.specs.declared.state.Status.TheVariants as Status;
     ghost use Rattle.stm_state.specs.declared.state.Task.TheVariants as Task;
     ghost use Rattle.scheduler.specs.Parts.{abort_finished, abort_tried, execution_finished};
-    ghost use Rattle.scheduler.specs.Schedule.{MayCount, state_of};
-    ghost use Rattle.scheduler.specs.Workers.{IsDutyOf, answered, blocked_on, task_with};
+    ghost use Rattle.scheduler.specs.Schedule.{KeepsRooms, MayCount, state_of};
+    ghost use Rattle.scheduler.specs.Workers.{IsDutyOf, IsRunning, answered, blocked_on, task_with};
 
     /// The scheduler of this many calls at the start, each READY at incarnation 0, and of this many
     /// workers without a task. Refused where memory ran out.
@@ -66,7 +66,8 @@ impl Scheduler {
         requires counts { MayCount worker self.old }
         requires idle { get_or self.old.tasks worker Task.Idle ≡ Task.Idle }
         requires execution { self.old.execution ≤ length self.old.calls }
-        ensures { (v : Versions) (p : ℕ) → state_of v p self.new ≡ counted one_asking worker (asked worker (state_of v p self.old)) }
+        ensures state { (v : Versions) (p : ℕ) → state_of v p self.new ≡ counted one_asking worker (asked worker (state_of v p self.old)) }
+        ensures rooms { KeepsRooms worker self.old.rooms self.new.rooms }
     {
         self.count_asking(worker);
         if self.done() {
@@ -82,7 +83,9 @@ impl Scheduler {
     pub fn room_for_read(&mut self, worker: usize) -> Result<(), AllocError>
         requires { worker < length self.old.tasks }
         ensures room { OnOk result (1 ≤ get_or self.new.rooms worker 0) }
+        ensures kept { get_or self.old.rooms worker 0 ≤ get_or self.new.rooms worker 0 }
         ensures same { (v : Versions) (p : ℕ) → state_of v p self.new ≡ state_of v p self.old }
+        ensures rooms { KeepsRooms worker self.old.rooms self.new.rooms }
     {
         workers::reserve(&mut self.workers, worker)
     }
@@ -91,8 +94,8 @@ impl Scheduler {
     pub fn answer(&mut self, worker: usize, answer: Answer)
         requires counts { MayCount worker self.old }
         requires room { 1 ≤ get_or self.old.rooms worker 0 }
-        ensures { (i : ℕ) (answers : List Answer) → get_or self.old.tasks worker Task.Idle ≡ Task.Running i answers None → (v : Versions) (p : ℕ) →
-            state_of v p self.new ≡ counted one_step worker (with_task worker (Task.Running i (answers ++ answer ∷ []) None) (state_of v p self.old)) }
+        ensures state { (v : Versions) (p : ℕ) → state_of v p self.new ≡ counted one_step worker (with_task worker (answered answer (get_or self.old.tasks worker Task.Idle)) (state_of v p self.old)) }
+        ensures rooms { KeepsRooms worker self.old.rooms self.new.rooms }
     {
         self.count_step(worker);
         self.push(worker, answer);
@@ -101,8 +104,8 @@ impl Scheduler {
     /// Blocks a worker's run on the call whose estimate it met. Takes no memory.
     pub fn block(&mut self, worker: usize, on: u16)
         requires counts { MayCount worker self.old }
-        ensures { (i : ℕ) (answers : List Answer) → get_or self.old.tasks worker Task.Idle ≡ Task.Running i answers None → (v : Versions) (p : ℕ) →
-            state_of v p self.new ≡ counted one_step worker (with_task worker (Task.Running i answers (Some on)) (state_of v p self.old)) }
+        ensures state { (v : Versions) (p : ℕ) → state_of v p self.new ≡ counted one_step worker (with_task worker (blocked_on on (get_or self.old.tasks worker Task.Idle)) (state_of v p self.old)) }
+        ensures rooms { KeepsRooms worker self.old.rooms self.new.rooms }
     {
         self.count_step(worker);
         self.set_blocked(worker, on);
@@ -113,7 +116,8 @@ impl Scheduler {
     pub fn add_dependency(&mut self, worker: usize, call: u16, on: u16)
         requires counts { MayCount worker self.old }
         requires within { (call < length self.old.calls) × (on < length self.old.calls) }
-        ensures { (v : Versions) (p : ℕ) → state_of v p self.new ≡ counted one_step worker (parked worker call on (state_of v p self.old)) }
+        ensures state { (v : Versions) (p : ℕ) → state_of v p self.new ≡ counted one_step worker (parked worker call on (state_of v p self.old)) }
+        ensures rooms { KeepsRooms worker self.old.rooms self.new.rooms }
     {
         self.count_step(worker);
         if calls::is_executed(self.call(on)) {
@@ -129,7 +133,8 @@ impl Scheduler {
         requires counts { MayCount worker self.old }
         requires within { call < length self.old.calls }
         requires incarnations { (i : ℕ) → (get_or self.old.calls i fresh).status ≡ Status.Aborting → (get_or self.old.calls i fresh).incarnation ≤ 65534 }
-        ensures { (v : Versions) (p : ℕ) → state_of v p self.new ≡ counted one_execution worker (execution_finished worker call run (state_of v p self.old)) }
+        ensures state { (v : Versions) (p : ℕ) → state_of v p self.new ≡ counted one_execution worker (execution_finished worker call run (state_of v p self.old)) }
+        ensures rooms { KeepsRooms worker self.old.rooms self.new.rooms }
     {
         self.count_execution(worker);
         let left = run.reads.reads().len();
@@ -150,6 +155,7 @@ impl Scheduler {
         requires within { call < length self.old.calls }
         ensures tells { result ≡ is_executed_at incarnation (get_or self.old.calls call fresh) }
         ensures state { (v : Versions) (p : ℕ) → state_of v p self.new ≡ abort_tried call incarnation (state_of v p self.old) }
+        ensures rooms { self.new.rooms ≡ self.old.rooms }
     {
         let taken = calls::is_executed_at(self.call(call), incarnation);
         if taken {
@@ -164,7 +170,8 @@ impl Scheduler {
         requires counts { MayCount worker self.old }
         requires within { call < length self.old.calls }
         requires incarnation { (get_or self.old.calls call fresh).incarnation < 65535 }
-        ensures { (v : Versions) (p : ℕ) → state_of v p self.new ≡ counted one_validation worker (abort_finished worker call (state_of v p self.old)) }
+        ensures state { (v : Versions) (p : ℕ) → state_of v p self.new ≡ counted one_validation worker (abort_finished worker call (state_of v p self.old)) }
+        ensures rooms { KeepsRooms worker self.old.rooms self.new.rooms }
     {
         self.count_validation(worker);
         self.lower_validation(call);
@@ -181,7 +188,8 @@ impl Scheduler {
     /// (Block-STM, `finish_validation`). Takes no memory.
     pub fn finish_validation(&mut self, worker: usize, decided: bool)
         requires counts { MayCount worker self.old }
-        ensures { (v : Versions) (p : ℕ) → state_of v p self.new ≡ counted (if decided then one_validation else one_step) worker (with_task worker Task.Idle (state_of v p self.old)) }
+        ensures state { (v : Versions) (p : ℕ) → state_of v p self.new ≡ counted (if decided then one_validation else one_step) worker (with_task worker Task.Idle (state_of v p self.old)) }
+        ensures rooms { KeepsRooms worker self.old.rooms self.new.rooms }
     {
         self.count_decision(worker, decided);
         self.begin(worker, Duty::Idle);
@@ -203,9 +211,10 @@ impl Scheduler {
         self.workers[worker].duty
     }
 
-    /// The answers that a worker's run was given, in order; none where it runs nothing.
+    /// The answers that a worker's run was given, in order.
     pub fn answers(&self, worker: usize) -> &[Answer]
-        requires { worker < length self.now.tasks }
+        requires within { worker < length self.now.tasks }
+        requires running { IsRunning (get_or self.now.tasks worker Task.Idle) }
         ensures { (i : ℕ) (answers : List Answer) (blocked : Option ℕ) → get_or self.now.tasks worker Task.Idle ≡ Task.Running i answers blocked → result.now ≡ answers }
     {
         self.workers[worker].answers.as_slice()
@@ -290,7 +299,8 @@ impl Scheduler {
         requires idle { worker < length self.old.tasks }
         requires behind { self.old.validation < self.old.execution }
         requires within { self.old.execution ≤ length self.old.calls }
-        ensures { (v : Versions) (p : ℕ) → state_of v p self.new ≡ ask_validation worker (state_of v p self.old) }
+        ensures state { (v : Versions) (p : ℕ) → state_of v p self.new ≡ ask_validation worker (state_of v p self.old) }
+        ensures rooms { KeepsRooms worker self.old.rooms self.new.rooms }
     {
         let index = self.next_validation();
         if calls::is_executed(self.call(index)) {
@@ -304,7 +314,8 @@ impl Scheduler {
     fn ask_execution(&mut self, worker: usize)
         requires idle { worker < length self.old.tasks }
         requires behind { self.old.execution < length self.old.calls }
-        ensures { (v : Versions) (p : ℕ) → state_of v p self.new ≡ ask_execution worker (state_of v p self.old) }
+        ensures state { (v : Versions) (p : ℕ) → state_of v p self.new ≡ ask_execution worker (state_of v p self.old) }
+        ensures rooms { KeepsRooms worker self.old.rooms self.new.rooms }
     {
         let index = self.next_execution();
         if calls::is_ready(self.call(index)) {
@@ -357,7 +368,8 @@ impl Scheduler {
     #[tactic(auto, unfolding(stm_state::specs::Steps::to_validate))]
     fn to_validate(&mut self, worker: usize, call: u16, new_key: bool, duty: Duty)
         requires { worker < length self.old.tasks }
-        ensures { (v : Versions) (p : ℕ) → state_of v p self.new ≡ to_validate worker call new_key (task_with duty []) (state_of v p self.old) }
+        ensures state { (v : Versions) (p : ℕ) → state_of v p self.new ≡ to_validate worker call new_key (task_with duty []) (state_of v p self.old) }
+        ensures rooms { KeepsRooms worker self.old.rooms self.new.rooms }
     {
         if !self.is_validation_past(call) {
             self.begin(worker, Duty::Idle);
@@ -430,7 +442,8 @@ impl Scheduler {
     /// Gives a worker a duty, and no answers.
     fn begin(&mut self, worker: usize, duty: Duty)
         requires { worker < length self.old.tasks }
-        ensures { (v : Versions) (p : ℕ) → state_of v p self.new ≡ with_task worker (task_with duty []) (state_of v p self.old) }
+        ensures state { (v : Versions) (p : ℕ) → state_of v p self.new ≡ with_task worker (task_with duty []) (state_of v p self.old) }
+        ensures rooms { KeepsRooms worker self.old.rooms self.new.rooms }
     {
         workers::begin(&mut self.workers, worker, duty);
     }
@@ -438,7 +451,8 @@ impl Scheduler {
     /// Gives a worker a call to run, without answers.
     fn run_again(&mut self, worker: usize, call: u16)
         requires { worker < length self.old.tasks }
-        ensures { (v : Versions) (p : ℕ) → state_of v p self.new ≡ with_task worker (Task.Running call [] None) (state_of v p self.old) }
+        ensures state { (v : Versions) (p : ℕ) → state_of v p self.new ≡ with_task worker (Task.Running call [] None) (state_of v p self.old) }
+        ensures rooms { KeepsRooms worker self.old.rooms self.new.rooms }
     {
         let duty = Duty::Running {
             call,
@@ -451,7 +465,8 @@ impl Scheduler {
     fn push(&mut self, worker: usize, answer: Answer)
         requires within { worker < length self.old.tasks }
         requires room { 1 ≤ get_or self.old.rooms worker 0 }
-        ensures { (v : Versions) (p : ℕ) → state_of v p self.new ≡ with_task worker (answered answer (get_or self.old.tasks worker Task.Idle)) (state_of v p self.old) }
+        ensures state { (v : Versions) (p : ℕ) → state_of v p self.new ≡ with_task worker (answered answer (get_or self.old.tasks worker Task.Idle)) (state_of v p self.old) }
+        ensures rooms { KeepsRooms worker self.old.rooms self.new.rooms }
     {
         workers::push(&mut self.workers, worker, answer);
     }
@@ -459,7 +474,8 @@ impl Scheduler {
     /// Blocks a worker's run on a call.
     fn set_blocked(&mut self, worker: usize, on: u16)
         requires { worker < length self.old.tasks }
-        ensures { (v : Versions) (p : ℕ) → state_of v p self.new ≡ with_task worker (blocked_on on (get_or self.old.tasks worker Task.Idle)) (state_of v p self.old) }
+        ensures state { (v : Versions) (p : ℕ) → state_of v p self.new ≡ with_task worker (blocked_on on (get_or self.old.tasks worker Task.Idle)) (state_of v p self.old) }
+        ensures rooms { KeepsRooms worker self.old.rooms self.new.rooms }
     {
         workers::block(&mut self.workers, worker, on);
     }

@@ -82,6 +82,7 @@ impl Worker {
     /// Makes room for one more answer; refused where memory ran out.
     pub(crate) fn reserve(&mut self) -> Result<(), AllocError>
         ensures room { OnOk result (1 ≤ room_of self.new) }
+        ensures kept { room_of self.old ≤ room_of self.new }
         ensures task { task_of self.new ≡ task_of self.old }
         ensures counts { self.new.counts ≡ self.old.counts }
         ensures dones { self.new.dones ≡ self.old.dones }

@@ -4,6 +4,7 @@ ghost use Rattle.std.specs.Prelude.{◌≡◌, ◌≤◌, ◌<◌, [], IfOk, OnO
 ghost use Rattle.std.specs.List.{list_all};
 ghost use Rattle.stm_state.specs.State.{is_idle, no_counts};
 ghost use Rattle.stm_state.specs.declared.state.Task.TheVariants as task;
+ghost use Rattle.scheduler.specs.Schedule.{KeepsRooms};
 ghost use Rattle.scheduler.specs.Workers.{answered, blocked_on, counts_of, dones_of, room_of, task_of, task_with};
 
 use crate::worker::{Duty, Worker};
@@ -30,6 +31,7 @@ pub(crate) fn begin(workers: &mut Vec<Worker>, worker: usize, duty: Duty)
     ensures tasks { map task_of workers.new.items ≡ set (map task_of workers.old.items) worker (task_with duty []) }
     ensures counts { map counts_of workers.new.items ≡ map counts_of workers.old.items }
     ensures dones { map dones_of workers.new.items ≡ map dones_of workers.old.items }
+    ensures rooms { KeepsRooms worker (map room_of workers.old.items) (map room_of workers.new.items) }
 {
     workers[worker].begin(duty);
 }
@@ -38,9 +40,11 @@ pub(crate) fn begin(workers: &mut Vec<Worker>, worker: usize, duty: Duty)
 pub(crate) fn reserve(workers: &mut Vec<Worker>, worker: usize) -> Result<(), AllocError>
     requires { worker < length workers.old.items }
     ensures room { OnOk result (1 ≤ get_or (map room_of workers.new.items) worker 0) }
+    ensures kept { get_or (map room_of workers.old.items) worker 0 ≤ get_or (map room_of workers.new.items) worker 0 }
     ensures tasks { map task_of workers.new.items ≡ map task_of workers.old.items }
     ensures counts { map counts_of workers.new.items ≡ map counts_of workers.old.items }
     ensures dones { map dones_of workers.new.items ≡ map dones_of workers.old.items }
+    ensures rooms { KeepsRooms worker (map room_of workers.old.items) (map room_of workers.new.items) }
 {
     workers[worker].reserve()
 }
@@ -52,6 +56,7 @@ pub(crate) fn push(workers: &mut Vec<Worker>, worker: usize, answer: Answer)
     ensures tasks { map task_of workers.new.items ≡ set (map task_of workers.old.items) worker (answered answer (get_or (map task_of workers.old.items) worker task.Idle)) }
     ensures counts { map counts_of workers.new.items ≡ map counts_of workers.old.items }
     ensures dones { map dones_of workers.new.items ≡ map dones_of workers.old.items }
+    ensures rooms { KeepsRooms worker (map room_of workers.old.items) (map room_of workers.new.items) }
 {
     workers[worker].push(answer);
 }
@@ -62,6 +67,7 @@ pub(crate) fn block(workers: &mut Vec<Worker>, worker: usize, on: u16)
     ensures tasks { map task_of workers.new.items ≡ set (map task_of workers.old.items) worker (blocked_on on (get_or (map task_of workers.old.items) worker task.Idle)) }
     ensures counts { map counts_of workers.new.items ≡ map counts_of workers.old.items }
     ensures dones { map dones_of workers.new.items ≡ map dones_of workers.old.items }
+    ensures rooms { KeepsRooms worker (map room_of workers.old.items) (map room_of workers.new.items) }
 {
     workers[worker].block(on);
 }

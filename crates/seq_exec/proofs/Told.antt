@@ -7,18 +7,18 @@ use Rattle.rv_ledger.specs.Key.{Storage}
 use Rattle.rv_step.specs.declared.answer.Answer.{Answer}
 use Rattle.rv_step.specs.declared.stage.Stage.{Stage}
 use Rattle.rv_step.specs.declared.stage.Stage.TheVariants.{Running, Asked, Ended}
-use Rattle.rv_step.specs.Step.{Outcome, Next, Asks, Ends, answered}
+use Rattle.rv_step.specs.Step.{StepResult, Next, Asks, Ends, answered}
 use Rattle.rv_step.specs.Chain.{AreFrom, Reply}
 use Rattle.rv_step.specs.Replies.{replies_of, reply_of}
 use Rattle.rv_step.specs.Run.{Seen, after_answer, asked_key, moved}
 
 -- a step keeps the call and the answers
-moved_call : (o : Outcome) (r : Seen) → (moved o r).call ≡ r.call
+moved_call : (o : StepResult) (r : Seen) → (moved o r).call ≡ r.call
 moved_call (Next t) r = refl
 moved_call (Asks key) r = refl
 moved_call (Ends end out t) r = refl
 
-moved_told : (o : Outcome) (r : Seen) → (moved o r).told ≡ r.told
+moved_told : (o : StepResult) (r : Seen) → (moved o r).told ≡ r.told
 moved_told (Next t) r = refl
 moved_told (Asks key) r = refl
 moved_told (Ends end out t) r = refl

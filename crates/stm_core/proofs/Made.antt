@@ -20,7 +20,7 @@ use Rattle.stm_state.specs.Done.{Reached, started, stepped, block_of, borne_by}
 use Rattle.stm_state.specs.Invariant.{Invariant, named_by}
 use Rattle.stm_state.proofs.Whole.{invariant_kept}
 use Rattle.stm_state.proofs.Counted.{counts_within}
-use Rattle.scheduler.specs.Schedule.{Schedule, MayCount, state_of}
+use Rattle.scheduler.specs.Schedule.{KeepsRooms, Schedule, MayCount, state_of}
 use Rattle.stm_core.specs.Board.{Board, IsDue, Makes}
 use Rattle.stm_core.specs.Inner.{AreOpen, HasPlaces, IsHanded, IsReached, board_of, state_in}
 use Rattle.stm_core.proofs.Open.{open_last}
@@ -96,8 +96,8 @@ module _ (job : Job) (table : Table) (schedule : Schedule) (h : IsReached job ta
           }
 
       -- the step is made
-      pub makes : Makes w step b (board_of job moved after)
-      makes = subst (λ x. Makes w step x (board_of job moved after)) is (made, refl)
+      pub makes : KeepsRooms w schedule.rooms after.rooms → Makes w step b (board_of job moved after)
+      makes rooms = subst (λ x. Makes w step x (board_of job moved after)) is (made, refl, rooms)
 
 -- ---- the start
 

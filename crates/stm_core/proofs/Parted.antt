@@ -19,7 +19,7 @@ use Rattle.stm_state.proofs.Tests.{equal_says, is_executed_says}
 use Rattle.scheduler.specs.declared.worker.Duty.TheVariants as duty
 use Rattle.scheduler.specs.Schedule.{Schedule, state_of, MayCount}
 use Rattle.scheduler.specs.Parts.{execution_finished, abort_tried, abort_finished}
-use Rattle.scheduler.specs.Workers.{duty_of}
+use Rattle.scheduler.specs.Workers.{IsRunning, duty_of}
 use Rattle.mvmap.specs.Table.{Table}
 use Rattle.stm_core.specs.Board.{IsWithin, doing_of, owes}
 use Rattle.stm_core.specs.Inner.{state_in}
@@ -59,6 +59,12 @@ pub names_running : (task : Task) (i : ℕ) (blocked : Option ℕ) → duty.Runn
 names_running Idle i blocked d = cc
 names_running (Running j answers b) i blocked d = cc
 names_running (Validating j n left) i blocked d = cc
+
+-- a task runs a call where its duty does
+pub runs_one : (task : Task) (i : ℕ) (blocked : Option ℕ) → duty.Running i blocked ≡ duty_of task → IsRunning task
+runs_one Idle i blocked d = cc
+runs_one (Running j answers b) i blocked d = tt
+runs_one (Validating j n left) i blocked d = cc
 
 -- what a worker is about is within the calls where its task is
 pub within_doing : (count : ℕ) (s : State) (task : Task) → ((i : ℕ) → named_by task ≡ Some i → i < count) → IsWithin count (doing_of s task)

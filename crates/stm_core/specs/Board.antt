@@ -12,6 +12,7 @@ use Rattle.stm_state.specs.declared.state.Task.TheVariants.{Idle, Running, Valid
 use Rattle.stm_state.specs.State.{State, call_at, task_at, no_counts}
 use Rattle.stm_state.specs.Steps.{Block, Step, Ask, Read_key, Park, Record, Validate, Limit, worker_step}
 use Rattle.stm_state.specs.Done.{block_of}
+use Rattle.scheduler.specs.Schedule.{KeepsRooms}
 use Rattle.stm_core.specs.declared.doing.Doing.{Doing}
 use Rattle.stm_core.specs.declared.doing.Doing.TheVariants as doing
 use Rattle.stm_core.specs.declared.doing.Told.{Told}
@@ -41,13 +42,17 @@ pub record IsDue (w : ℕ) (step : Step) (b : Board) : Type 0 where
   pub owed : owes step (task_at b.state w) ≡ true
   pub steps : (get_or b.state.counts w no_counts).steps < 18446744073709551615
 
--- a worker's step was made
+-- a worker's step was made; for the answers of the other workers there is as much room as before
 abbrev pub Makes : ℕ → Step → Board → Board → Type 0
-Makes w step old new = (worker_step (block_in old) w step old.state ≡ Some (Ok new.state)) × (new.job ≡ old.job)
+Makes w step old new = (worker_step (block_in old) w step old.state ≡ Some (Ok new.state)) × (new.job ≡ old.job) × KeepsRooms w old.rooms new.rooms
 
 -- a worker's step is refused
 abbrev pub IsRefused : ℕ → Step → Limit → Board → Type 0
 IsRefused w step limit b = worker_step (block_in b) w step b.state ≡ Some (Err limit)
+
+-- a worker's step is not refused
+abbrev pub IsTaken : ℕ → Step → Board → Type 0
+IsTaken w step b = (s : State) × (worker_step (block_in b) w step b.state ≡ Some (Ok s))
 
 -- what a worker is about, with the call and its incarnation
 abbrev pub doing_of : State → Task → Doing

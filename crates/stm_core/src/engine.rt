@@ -1,6 +1,6 @@
 //! The engine: a job's run along a list of worker numbers.
 
-ghost use Rattle.std.specs.Prelude.{◌≡◌, ◌<◌, None, Ok, Some, [], length, get_or, replicate, IfErr, IfOk, OnOk};
+ghost use Rattle.std.specs.Prelude.{◌≡◌, ◌<◌, ◌≤◌, None, Ok, Some, [], length, get_or, replicate, IfErr, IfOk, OnOk};
 ghost use Rattle.rv_step.specs.Fold.{receipts_of, store_after};
 ghost use Rattle.rv_step.specs.Run.{IsEnded};
 ghost use Rattle.rv_step.specs.declared.stage.Stage.TheVariants.{Asked};
@@ -32,10 +32,10 @@ pub enum DriveFault {
     /// An entry is no worker, or the number of workers is not 1 to 32.
     #[error("BadWorker 2")]
     BadWorker = 2,
-    /// There would be above 1,048,576 versions.
+    /// There would be above 1,048,576 records of versions.
     #[error("ArenaFull 3")]
     ArenaFull = 3,
-    /// A call is at incarnation 65,535.
+    /// A run at incarnation 65,535 was to be parked or recorded.
     #[error("IncarnationLimit 4")]
     IncarnationLimit = 4,
     /// Memory ran out.
@@ -61,8 +61,9 @@ impl<T: Drop> From<AllocFailed<T>> for DriveFault {
 
 /// Runs a job on 1 to 32 workers along a list of worker numbers; each entry makes the one step that
 /// this worker owes. Refused as BadWorker first where the number of workers is not 1 to 32; else with
-/// the first fault that a step meets: BadWorker (an entry that is no worker), ArenaFull,
-/// IncarnationLimit or Memory; else as NotDone where the list is used up and workers are not done.
+/// the first fault that a step meets: BadWorker (an entry that is no worker), ArenaFull or
+/// IncarnationLimit; else as NotDone where the list is used up and workers are not done. Refused as
+/// Memory wherever memory ran out before that.
 pub fn drive(
     alloc: Global,
     job: &Job,
@@ -74,6 +75,7 @@ pub fn drive(
     ensures receipts { IfOk result (λ o. o.receipts.items ≡ receipts_of job.now.block job.now.store) }
     ensures store { IfOk result (λ o. o.store ≡ store_after job.now.block job.now.store) }
     ensures refused { IfErr result (λ e. IsRefusal e (drive_of job.now.block job.now.store workers schedule.now)) }
+    ensures memory { IfErr result (λ e. e ≡ Memory → (1 ≤ workers) × (workers ≤ 32)) }
 {
     if workers == 0 || workers > WORKER_LIMIT {
         return Err(DriveFault::BadWorker);

@@ -9,7 +9,7 @@ pub enum RecordFault {
     /// Its call is not the job's call at that index, or its answers are not those that were given.
     #[error("Foreign 1")]
     Foreign = 1,
-    /// There would be above 1,048,576 versions.
+    /// There would be above 1,048,576 records of versions.
     #[error("ArenaFull 2")]
     ArenaFull = 2,
     /// Memory ran out.

@@ -1,6 +1,6 @@
 //! What a worker is about, and a read of its run.
 
-ghost use Rattle.std.specs.Prelude.{◌≡◌, ◌<◌, ◌≤◌, ◌++◌, ◌∷◌, [], ℕ, List, length, get_or, IfSome, None, Some};
+ghost use Rattle.std.specs.Prelude.{◌≡◌, ◌<◌, ◌≤◌, ℕ, List, length, get_or, IfSome, None, Some};
 ghost use Rattle.std.specs.Option.{option_copied};
 ghost use Rattle.rv_step.specs.declared.answer.Answer.{Answer};
 ghost use Rattle.mvmap.specs.Versions.{Versions};
@@ -9,7 +9,8 @@ ghost use Rattle.stm_state.specs.declared.state.Task.TheVariants as task;
 ghost use Rattle.stm_state.specs.State.{with_task};
 ghost use Rattle.stm_state.specs.Steps.{answered_with, counted, one_step};
 ghost use Rattle.stm_state.specs.Invariant.{named_by};
-ghost use Rattle.scheduler.specs.Schedule.{MayCount, state_of};
+ghost use Rattle.scheduler.specs.Schedule.{KeepsRooms, MayCount, state_of};
+ghost use Rattle.scheduler.specs.Workers.{answered};
 ghost use Rattle.stm_core.specs.declared.doing.Told.TheVariants as told;
 ghost use Rattle.stm_core.specs.Board.{doing_of, told_of};
 
@@ -66,9 +67,16 @@ pub(crate) fn read_at(
     ensures told { result ≡ told_of store.now key.now (reading map.now.versions key.now call) }
     ensures state { (answers : List Answer) → get_or scheduler.old.tasks worker task.Idle ≡ task.Running call answers None → (v : Versions) (p : ℕ) →
         state_of v p scheduler.new ≡ counted one_step worker (with_task worker (answered_with store.now key.now call answers (reading map.now.versions key.now call)) (state_of v p scheduler.old)) }
+    ensures rooms { KeepsRooms worker scheduler.old.rooms scheduler.new.rooms }
 {
     match map.read(key, call) {
-        mvmap::Answer::Base => give(scheduler, worker, key, copied(store.get(key)), Origin::Base),
+        mvmap::Answer::Base => give(
+            scheduler,
+            worker,
+            key,
+            Value::copied(store.get(key)),
+            Origin::Base,
+        ),
         mvmap::Answer::Found(version, content) => give(
             scheduler,
             worker,
@@ -97,26 +105,16 @@ fn give(
     requires counts { MayCount worker scheduler.old }
     requires room { 1 ≤ get_or scheduler.old.rooms worker 0 }
     ensures told { result ≡ told.Given value origin }
-    ensures state { (i : ℕ) (answers : List Answer) → get_or scheduler.old.tasks worker task.Idle ≡ task.Running i answers None → (v : Versions) (p : ℕ) →
-        state_of v p scheduler.new ≡ counted one_step worker (with_task worker (task.Running i (answers ++ record { key = key.now; value = value; origin = origin } ∷ []) None) (state_of v p scheduler.old)) }
+    ensures state { (v : Versions) (p : ℕ) → state_of v p scheduler.new ≡ counted one_step worker (with_task worker (answered (record { key = key.now; value = value; origin = origin }) (get_or scheduler.old.tasks worker task.Idle)) (state_of v p scheduler.old)) }
+    ensures rooms { KeepsRooms worker scheduler.old.rooms scheduler.new.rooms }
 {
     let answer = Answer {
         key: *key,
-        value: copied(value.as_ref()),
+        value: Value::copied(value.as_ref()),
         origin,
     };
     scheduler.answer(worker, answer);
     Told::Given(value, origin)
-}
-
-/// An equal value.
-fn copied(value: Option<&Value>) -> Option<Value>
-    ensures { result ≡ option_copied value.entry }
-{
-    match value {
-        Some(value) => Some(value.copy()),
-        None => None,
-    }
 }
 
 /// The value of bytes that a version has.

@@ -9,7 +9,8 @@ ghost use Rattle.stm_state.specs.declared.state.Status.TheVariants as status;
 ghost use Rattle.stm_state.specs.declared.state.Task.TheVariants as task;
 ghost use Rattle.stm_state.specs.State.{fresh};
 ghost use Rattle.stm_state.specs.Steps.{counted, one_execution, recorded};
-ghost use Rattle.scheduler.specs.Schedule.{MayCount};
+ghost use Rattle.scheduler.specs.Schedule.{KeepsRooms, MayCount};
+ghost use Rattle.scheduler.specs.Workers.{IsRunning};
 ghost use Rattle.stm_core.specs.declared.fault.RecordFault.TheVariants as fault;
 ghost use Rattle.stm_core.specs.Inner.{AreOpen, HasPlaces, IsHanded, reads_in, size_of, state_in};
 
@@ -35,7 +36,8 @@ pub(crate) fn is_own(
     call: u16,
     run: &EndedRun,
 ) -> bool
-    requires { worker < length scheduler.now.tasks }
+    requires worker { worker < length scheduler.now.tasks }
+    requires running { IsRunning (get_or scheduler.now.tasks worker task.Idle) }
     ensures { (answers : List Answer) → get_or scheduler.now.tasks worker task.Idle ≡ task.Running call answers None → (result ≡ true) ↔ IsHanded job.now.block call answers run.now }
 {
     match job.block.calls().get(usize::from(call)) {
@@ -64,9 +66,11 @@ pub(crate) fn record_run(
     ensures within { OnOk result ((length map.old.shelf.records + len run.receipt.writes ≤ 1048576) × ((get_or scheduler.old.calls call fresh).incarnation < 65535)) }
     ensures full { IfErr result (λ e. e.fault ≡ fault.ArenaFull → 1048576 < length map.old.shelf.records + len run.receipt.writes) }
     ensures limit { IfErr result (λ e. e.fault ≡ fault.IncarnationLimit → (length map.old.shelf.records + len run.receipt.writes ≤ 1048576) × (65535 ≤ (get_or scheduler.old.calls call fresh).incarnation)) }
+    ensures memory { IfErr result (λ e. e.fault ≡ fault.Memory → (length map.old.shelf.records + len run.receipt.writes ≤ 1048576) × ((get_or scheduler.old.calls call fresh).incarnation < 65535)) }
     ensures own { IfErr result (λ e. e.fault ≢ fault.Foreign) }
     ensures back { IfErr result (λ e. (e.run ≡ run) × (state_in map.new scheduler.new ≡ state_in map.old scheduler.old) × (scheduler.new ≡ scheduler.old)) }
     ensures places { HasPlaces map.old → HasPlaces map.new }
+    ensures rooms { KeepsRooms worker scheduler.old.rooms scheduler.new.rooms }
 {
     let count = written_count(&run.receipt.writes);
     if count > RECORD_LIMIT - map.placed() {

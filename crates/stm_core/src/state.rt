@@ -51,8 +51,9 @@ impl Core {
     ghost use Rattle.stm_state.specs.Steps as steps;
     ghost use Rattle.stm_state.specs.Done.{Reached};
     ghost use Rattle.stm_state.specs.Invariant.{Invariant};
+    ghost use Rattle.scheduler.specs.Schedule.{KeepsRooms};
     ghost use Rattle.stm_core.specs.declared.fault.RecordFault.TheVariants as fault;
-    ghost use Rattle.stm_core.specs.Board.{IsDue, IsOwn, IsRefused, IsWithin, Makes, block_in, doing_of, runs, told_of};
+    ghost use Rattle.stm_core.specs.Board.{IsDue, IsOwn, IsRefused, IsTaken, IsWithin, Makes, block_in, doing_of, runs, told_of};
 
     /// The state at the start of a job; refused where memory ran out.
     pub fn new(alloc: Global, job: Job, workers: usize) -> Result<Core, AllocError>
@@ -136,6 +137,8 @@ impl Core {
     pub fn room_for_read(&mut self, worker: usize) -> Result<(), AllocError>
         requires { worker < length self.old.state.tasks }
         ensures room { OnOk result (1 ≤ get_or self.new.rooms worker 0) }
+        ensures kept { get_or self.old.rooms worker 0 ≤ get_or self.new.rooms worker 0 }
+        ensures rooms { KeepsRooms worker self.old.rooms self.new.rooms }
         ensures job { self.new.job ≡ self.old.job }
         ensures state { self.new.state ≡ self.old.state }
     {
@@ -200,6 +203,7 @@ impl Core {
         ensures own { (IfErr result (λ e. e.fault ≢ fault.Foreign)) ↔ IsOwn worker run self.old }
         ensures full { IfErr result (λ e. e.fault ≡ fault.ArenaFull → IsRefused worker steps.Record steps.ArenaFull self.old) }
         ensures limit { IfErr result (λ e. e.fault ≡ fault.IncarnationLimit → IsRefused worker steps.Record steps.IncarnationLimit self.old) }
+        ensures memory { IfErr result (λ e. e.fault ≡ fault.Memory → IsTaken worker steps.Record self.old) }
         ensures back { IfErr result (λ e. (e.run ≡ run) × (self.new ≡ self.old)) }
     {
         let Duty::Running { call, .. } = self.scheduler.duty(worker) else {

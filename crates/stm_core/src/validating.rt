@@ -3,14 +3,13 @@
 ghost use Rattle.std.specs.Prelude.{◌≡◌, ◌<◌, ◌≤◌, length, get_or, true, if◌then◌else◌};
 ghost use Rattle.stm_state.specs.State.{fresh};
 ghost use Rattle.stm_state.specs.Steps.{aborted, counted, decided, is_executed_at, one_step, one_validation, validated, written_by};
-ghost use Rattle.scheduler.specs.Schedule.{MayCount};
+ghost use Rattle.scheduler.specs.Schedule.{KeepsRooms, MayCount};
 ghost use Rattle.stm_core.specs.Inner.{AreOpen, HasPlaces, state_in};
 
 use crate::reads::all_stand;
 use crate::versions::estimate_all;
 use mvmap::MvMap;
-use scheduler::Scheduler;
-use stm_state::{CallState, Status};
+use scheduler::{Scheduler, is_executed_at};
 
 /// Checks all reads of a call that a worker validates at an incarnation, and takes the call's run back
 /// where one does not stand. Takes no memory.
@@ -28,20 +27,14 @@ pub(crate) fn validate_call(
     requires places { AreOpen map.old.places call (written_by (get_or scheduler.old.calls call fresh).last) }
     ensures state { state_in map.new scheduler.new ≡ counted (if decided call incarnation left (state_in map.old scheduler.old) then one_validation else one_step) worker (validated worker call incarnation (state_in map.old scheduler.old)) }
     ensures places { HasPlaces map.old → HasPlaces map.new }
+    ensures rooms { KeepsRooms worker scheduler.old.rooms scheduler.new.rooms }
 {
-    let current = is_current(scheduler.call(call), incarnation);
+    let current = is_executed_at(scheduler.call(call), incarnation);
     if current && !all_stand(map, call, &scheduler.call(call).last) {
         abort(map, scheduler, worker, call, incarnation);
     } else {
         scheduler.finish_validation(worker, current || left == 0);
     }
-}
-
-/// Whether a call is EXECUTED at an incarnation.
-fn is_current(call: &CallState, incarnation: u16) -> bool
-    ensures { result ≡ is_executed_at incarnation call.now }
-{
-    call.status == Status::Executed && call.incarnation == incarnation
 }
 
 /// Takes the run of a call that is EXECUTED at an incarnation back: what it wrote turns to estimates,
@@ -54,6 +47,7 @@ fn abort(map: &mut MvMap, scheduler: &mut Scheduler, worker: usize, call: u16, i
     requires places { AreOpen map.old.places call (written_by (get_or scheduler.old.calls call fresh).last) }
     ensures state { state_in map.new scheduler.new ≡ counted one_validation worker (aborted worker call (state_in map.old scheduler.old)) }
     ensures places { HasPlaces map.old → HasPlaces map.new }
+    ensures rooms { KeepsRooms worker scheduler.old.rooms scheduler.new.rooms }
 {
     if scheduler.try_abort(call, incarnation) {
         estimate_all(map, call, &scheduler.call(call).last);

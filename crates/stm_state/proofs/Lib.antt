@@ -21,3 +21,5 @@ pub mod Paths
 pub mod Phases
 pub mod Turns
 pub mod Alone
+pub mod Goings
+pub mod Dues

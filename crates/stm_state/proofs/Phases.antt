@@ -23,7 +23,7 @@ use Rattle.stm_state.specs.declared.state.Recorded.{Recorded}
 use Rattle.stm_state.specs.declared.state.Task.{Task}
 use Rattle.stm_state.specs.declared.state.Task.TheVariants.{Idle, Running}
 use Rattle.stm_state.specs.State.{State, fresh, no_counts, call_at, task_at, with_call, with_task, is_ready, is_executed, is_aborting, is_done}
-use Rattle.stm_state.specs.Steps.{Block, counted, one_asking, ask_execution, asked, is_option, is_parked_on, readied_if, lowered, woken, step_with}
+use Rattle.stm_state.specs.Steps.{Block, counted, one_asking, ask_execution, asked, is_some_of, is_parked_on, readied_if, lowered, woken, step_with}
 use Rattle.stm_state.specs.Invariant.{view_of, Facts, Invariant, write_of, entry_by}
 use Rattle.stm_state.specs.Done.{last_receipt, block_of}
 use Rattle.stm_state.specs.Drive.{owed, due}
@@ -102,7 +102,7 @@ not_done block workers s inv never = go (is_done s) refl
 
 -- a call that isn't ABORTING is parked on none
 pub calm : (i : ℕ) (c : CallState) (st : Status) → c.status ≡ st → is_aborting st ≡ false → is_parked_on i c ≡ false
-calm i c st h k = ap (λ x. is_aborting x && is_option c.parked i) h ∙ ap (λ b. b && is_option c.parked i) k
+calm i c st h k = ap (λ x. is_aborting x && is_some_of c.parked i) h ∙ ap (λ b. b && is_some_of c.parked i) k
 
 -- where no call is parked on call i, all stay
 none_readied : (i : ℕ) (calls : List CallState) → ((j : ℕ) → is_parked_on i (get_or calls j fresh) ≡ false) → map (readied_if i) calls ≡ calls

@@ -26,7 +26,7 @@ use Rattle.ecalls.specs.StorageCalls.{a1, a2, ecall_charge, request_of}
 use Rattle.ecalls.specs.declared.request_kind.Request.{Request}
 use Rattle.ecalls.specs.declared.request_kind.Request.TheVariants as request
 use Rattle.rv_step.specs.declared.machine.Machine.{Machine}
-use Rattle.rv_step.specs.Step.{Outcome, Next, Asks, Ends, acted, answered, called, charged, computes, delivered, fetched, is_ecall, leaves, obeyed, read_own, served, step, takes, wrote}
+use Rattle.rv_step.specs.Step.{StepResult, Next, Asks, Ends, acted, answered, called, charged, computes, delivered, fetched, is_ecall, leaves, obeyed, read_own, served, step, takes, wrote}
 use Rattle.rv_step.specs.Chain.{start, kept, answered_by, settled, ran, ends}
 
 -- a machine's own writes are at most 256 keys
@@ -34,7 +34,7 @@ abbrev HasFew : Machine → Type 0
 HasFew s = len s.own ≤ 256
 
 -- so are those of the machine that a step leaves
-unfoldable pub LeavesFew : Outcome → Type 0
+unfoldable pub LeavesFew : StepResult → Type 0
 LeavesFew (Next t) = len t.own ≤ 256
 LeavesFew (Asks key) = Unit {0}
 LeavesFew (Ends end out t) = len t.own ≤ 256
@@ -103,7 +103,7 @@ served_few s (Ok (request.Write write)) h = wrote_few s write h
 served_few s (Ok (request.Return out)) h = unfold LeavesFew in h
 served_few s (Ok (request.Revert out)) h = unfold LeavesFew in h
 
-charged_few : (cost : ℕ) (s : Machine) (act : Machine → Outcome) → HasFew s → ((t : Machine) → HasFew t → LeavesFew (act t)) → LeavesFew (charged cost s act)
+charged_few : (cost : ℕ) (s : Machine) (act : Machine → StepResult) → HasFew s → ((t : Machine) → HasFew t → LeavesFew (act t)) → LeavesFew (charged cost s act)
 charged_few cost s act h k = cond_both (nat_le cost s.gas) _ _ (λ o. LeavesFew o) (λ _. k (record s { gas = s.gas - cost }) h) (λ _. unfold LeavesFew in h)
 
 called_few : (s : Machine) (r : Result ℕ Trap) → HasFew s → LeavesFew (called s r)
@@ -120,13 +120,13 @@ fetched_few s (Err fault) h = unfold LeavesFew in h
 
 step_few : (s : Machine) → HasFew s → LeavesFew (step s)
 unfolding step
-step_few s h = fetched_few s (loaded 4 access.Run s.memory s.pc) h
+step_few s h = fetched_few s (loaded 4 access.Execute s.memory s.pc) h
 
 answered_few : (s : Machine) (content : Option (List ℕ)) → HasFew s → LeavesFew (answered s content)
 unfolding answered
 answered_few s content h = charged_few 200 s (λ t. delivered t content) h (λ t k. delivered_few t content k)
 
-answered_by_few : (store : Storage) (s : Machine) (o : Outcome) → HasFew s → LeavesFew o → LeavesFew (answered_by store s o)
+answered_by_few : (store : Storage) (s : Machine) (o : StepResult) → HasFew s → LeavesFew o → LeavesFew (answered_by store s o)
 answered_by_few store s (Next t) h k = k
 answered_by_few store s (Asks key) h k = answered_few s (get store key) h
 answered_by_few store s (Ends end out t) h k = k
@@ -136,7 +136,7 @@ kept_few : (end : End) (own : WriteMap) → len own ≤ 256 → len (kept end ow
 kept_few Returned own h = h
 kept_few end own h = subst (λ n. n ≤ 256) (sym (len-empty key_cmp (Option (List ℕ)))) (lit≤ tt)
 
-settled_few : (rest : Machine → Receipt) (limit : ℕ) (s : Machine) (o : Outcome) → HasFew s → LeavesFew o → ((t : Machine) → HasFew t → len (rest t).writes ≤ 256) → len (settled rest limit s o).writes ≤ 256
+settled_few : (rest : Machine → Receipt) (limit : ℕ) (s : Machine) (o : StepResult) → HasFew s → LeavesFew o → ((t : Machine) → HasFew t → len (rest t).writes ≤ 256) → len (settled rest limit s o).writes ≤ 256
 unfolding LeavesFew
 settled_few rest limit s (Next t) h k next = next t k
 settled_few rest limit s (Asks key) h k next = kept_few OutOfGas s.own h

@@ -7,7 +7,7 @@ use Rattle.stm_state.specs.declared.state.CallState.{CallState}
 use Rattle.stm_state.specs.declared.state.Recorded.{Recorded}
 use Rattle.stm_state.specs.declared.state.Task.TheVariants.{Validating}
 use Rattle.stm_state.specs.State.{fresh, is_aborting}
-use Rattle.stm_state.specs.Steps.{Block, reads_of, readied, is_parked_on, is_option, readied_if, lowered}
+use Rattle.stm_state.specs.Steps.{Block, reads_of, readied, is_parked_on, is_some_of, readied_if, lowered}
 use Rattle.stm_state.specs.Invariant.{View, Facts, IsWaiting, IsBorneOut, IsSafe, entry_of, run_by}
 use Rattle.stm_state.proofs.Moves.{Grows, right_all, borne_still}
 use Rattle.stm_state.proofs.Safes.{safe_all}
@@ -24,7 +24,7 @@ readied_cases i call = go (is_parked_on i call) refl
 
 -- a call that is parked is ABORTING
 pub parked_aborting : (i : ℕ) (call : CallState) → is_parked_on i call ≡ true → call.status ≡ Aborting
-parked_aborting i call h = is_aborting_says call.status (and_parts (is_aborting call.status) (is_option call.parked i) h).0
+parked_aborting i call h = is_aborting_says call.status (and_parts (is_aborting call.status) (is_some_of call.parked i) h).0
 
 -- a call that isn't ABORTING stays
 pub not_parked : (i : ℕ) (call : CallState) → call.status ≢ Aborting → readied_if i call ≡ call
@@ -32,7 +32,7 @@ not_parked i call ne = elim (readied_cases i call) [ inl same ↦ same | inr q �
 
 -- an ABORTING call that names call i is parked on it
 parked_on : (i : ℕ) (call : CallState) → call.status ≡ Aborting → call.parked ≡ Some i → is_parked_on i call ≡ true
-parked_on i call h k = ap (λ st. is_aborting st && is_option call.parked i) h ∙ ap (λ o. is_option o i) k ∙ equal_itself i
+parked_on i call h k = ap (λ st. is_aborting st && is_some_of call.parked i) h ∙ ap (λ o. is_some_of o i) k ∙ equal_itself i
 
 -- afterwards no call is parked on call i
 pub none_parked : (i : ℕ) (call : CallState) → (readied_if i call).status ≡ Aborting → (readied_if i call).parked ≢ Some i

@@ -33,11 +33,11 @@ pub record IsSerial (block : Block) (s : State) : Type 0 where
   pub next : (i : ℕ) → i < block.count → before (suc i) ≡ laid (before i) (receipt i).writes
   pub last : (key : List ℕ) → held (get block.base key) (reading s.versions key block.count) ≡ get (before block.count) key
 
--- only calls of the block have entries, and none of them is an estimate
+-- no call past the last has an entry, and no entry is an estimate
 abbrev pub HasVersionsAlone : Block → State → Type 0
 HasVersionsAlone block s = ((key : List ℕ) (w : ℕ) → block.count ≤ w → entry_at s.versions key w ≡ None) × HasNoEstimate s.versions
 
--- where workers are done, the versions hold what the calls wrote and nothing else
+-- where workers are done, only calls of the block have entries, and none of them is an estimate
 abbrev pub DoneHasVersionsAlone : Type 0
 DoneHasVersionsAlone = (block : Block) (workers : ℕ) (s : State) → Reached block workers s → is_done s ≡ true → HasVersionsAlone block s
 
@@ -45,11 +45,12 @@ DoneHasVersionsAlone = (block : Block) (workers : ℕ) (s : State) → Reached b
 abbrev pub DoneIsSerial : Type 0
 DoneIsSerial = (block : Block) (workers : ℕ) (s : State) → Reached block workers s → is_done s ≡ true → IsSerial block s
 
--- the calls of a job as a block
+-- the receipt that replies bear out of a call
 abbrev pub borne_by : Option Invocation → List Reply → Option Receipt
 borne_by None replies = None
 borne_by (Some call) replies = borne call replies
 
+-- the calls of a job as a block
 abbrev pub block_of : List Invocation → Storage → Block
 block_of calls store = record { count = length calls; base = store; borne = λ i replies. borne_by (slice_get calls i) replies }
 

@@ -1,6 +1,6 @@
 -- A list of worker numbers on a job: each entry makes the one step that this worker owes, and a run reads the keys that
 -- its own call asks for.
-use Rattle.std.specs.Prelude.{ℕ, nat_lt, nat_le, ◌&&◌, if◌then◌else◌, List, [], ◌∷◌, length, Option, None, Some, slice_get, Result, Ok, Err}
+use Rattle.std.specs.Prelude.{◌≡◌, ◌<◌, ℕ, nat_lt, nat_le, ◌&&◌, if◌then◌else◌, List, [], ◌∷◌, length, Option, None, Some, IsSome, slice_get, Result, Ok, Err}
 use Rattle.rv_ledger.specs.Key.{Storage}
 use Rattle.rv_ledger.specs.Call.{Invocation}
 use Rattle.rv_step.specs.Asked.{asked_by}
@@ -33,6 +33,15 @@ owed calls (Validating i n left) = Validate
 abbrev pub due : List Invocation → Storage → ℕ → State → Option (Result State Limit)
 due calls store w s = worker_step (block_of calls store) w (owed calls (task_at s w)) s
 
+-- the states that lists of worker numbers lead through, from the start of a job
+pub data Led (calls : List Invocation) (store : Storage) (workers : ℕ) : State → Type 0 where
+  at_start : Led calls store workers (start (length calls) workers)
+  went : {s t : State} (w : ℕ) → Led calls store workers s → w < workers → due calls store w s ≡ Some (Ok t) → Led calls store workers t
+
+-- in each of them the step that a worker owes is due
+abbrev pub OwedIsDue : Type 0
+OwedIsDue = (calls : List Invocation) (store : Storage) (workers : ℕ) (s : State) (w : ℕ) → Led calls store workers s → w < workers → IsSome (due calls store w s)
+
 -- why a list is refused: it is used up and workers are not done; an entry is no worker, or their number is not 1 to 32; or
 -- a step is refused
 pub data Refusal : Type 0 where
@@ -40,7 +49,7 @@ pub data Refusal : Type 0 where
   BadWorker : Refusal
   Limited : Limit → Refusal
 
--- what follows a step; the step that is owed is always due, so that the first case is none
+-- what follows a step; the first case does not occur (`owed_is_due`)
 abbrev pub went_on : (State → Result State Refusal) → Option (Result State Limit) → Result State Refusal
 went_on rest None = Err NotDone
 went_on rest (Some (Ok s)) = rest s

@@ -11,7 +11,7 @@ use Rattle.stm_state.specs.declared.state.Task.{Task}
 use Rattle.stm_state.specs.declared.state.Task.TheVariants.{Idle, Running, Validating}
 
 -- the calls and what they wrote; the execution index and the validation index; each worker's task, what it did, and
--- how often it was told that all is done; and how many versions were placed
+-- how often it was told that all is done; and how many records were placed
 pub record State : Type 0 where
   pub calls : List CallState
   pub versions : Versions

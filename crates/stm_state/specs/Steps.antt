@@ -125,13 +125,14 @@ wrote (Some run) key = contains_key run.receipt.writes key
 abbrev pub has_new_key : Option Recorded → WriteMap → Bool
 has_new_key last writes = list_any (λ write. not (wrote last write.0)) (entries writes)
 
--- parked on a call
-abbrev pub is_option : Option ℕ → ℕ → Bool
-is_option None i = false
-is_option (Some j) i = j == i
+-- is there, and is this number
+abbrev pub is_some_of : Option ℕ → ℕ → Bool
+is_some_of None i = false
+is_some_of (Some j) i = j == i
 
+-- parked on a call
 abbrev pub is_parked_on : ℕ → CallState → Bool
-is_parked_on i call = is_aborting call.status && is_option call.parked i
+is_parked_on i call = is_aborting call.status && is_some_of call.parked i
 
 -- those that are parked on a call are readied
 abbrev pub readied_if : ℕ → CallState → CallState

@@ -1,6 +1,7 @@
 //! Laws of the steps.
 
 ghost use Rattle.stm_state.specs.Done.{DoneHasVersionsAlone, DoneIsInOrder, DoneIsSerial};
+ghost use Rattle.stm_state.specs.Drive.{OwedIsDue};
 ghost use Rattle.stm_state.specs.Invariant.{InvariantHolds};
 ghost use Rattle.stm_state.specs.OneWorker.{HasOneWorkerCounts};
 ghost use Rattle.stm_state.specs.Parts.{CallsAreAttended, HoldsWhereReached, OthersHaveEstimates, ReadsAreWatched, RunsAreBorneOut};
@@ -12,8 +13,8 @@ pub fn invariant_holds()
     ensures { InvariantHolds }
 {}
 
-/// Where workers are done with a block, whatever list of steps led there, the versions hold what the
-/// calls wrote and nothing else: no estimate is left, and no entry of a call past the last one.
+/// Where workers are done with a block, whatever list of steps led there, no estimate is left in the
+/// versions, and no entry of a call past the last one.
 pub fn done_has_versions_alone()
     ensures { DoneHasVersionsAlone }
 {}
@@ -49,3 +50,10 @@ pub fn one_worker_counts(job: &Job)
 {
     job.block.calls();
 }
+
+/// In each state that a list of worker numbers leads through from the start of a job, the step that a
+/// worker owes is due: it is made, or refused for a limit. So a list is refused as NotDone exactly where it
+/// is used up and workers are not done.
+pub fn owed_is_due()
+    ensures { OwedIsDue }
+{}

@@ -8,7 +8,7 @@ mod state;
 
 pub use laws::{
     done_has_versions_alone, done_is_in_order, done_is_serial, invariant_holds, one_worker_counts,
-    the_parts_hold,
+    owed_is_due, the_parts_hold,
 };
 pub use schedules::schedules_come_to;
 pub use state::{Answers, CallState, Recorded, Status, Task};

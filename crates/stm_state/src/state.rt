@@ -32,7 +32,7 @@ pub struct Recorded {
 pub struct CallState {
     /// How far it is.
     pub status: Status,
-    /// How often its run was taken back, 0 to 65,535.
+    /// How often it was readied again, 0 to 65,535.
     pub incarnation: u16,
     /// The index of the call that it is parked on.
     pub parked: Option<u16>,

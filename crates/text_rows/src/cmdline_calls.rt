@@ -41,6 +41,26 @@ fn reads_asm_and_dis(rt: HostRuntime) -> Result<(), Fail> {
 }
 
 #[test]
+fn reads_drive(rt: HostRuntime) -> Result<(), Fail> {
+    let alloc = rt.alloc();
+    for (line, workers) in [
+        ("rvstm drive a.block --workers 1 --schedule b.schedule", 1),
+        ("rvstm drive --schedule=b.schedule --workers=32 a.block", 32),
+        ("rvstm drive --workers 007 a.block --schedule b.schedule", 7),
+    ] {
+        let words = words_of(alloc, line)?;
+        let request = request_of(alloc, words.as_slice())?;
+        let asked = Request::Drive {
+            file: "a.block",
+            workers,
+            schedule: "b.schedule",
+        };
+        assert!(rt; request == Some(asked), "{line}");
+    }
+    Ok(())
+}
+
+#[test]
 fn refuses_wrong_lines(rt: HostRuntime) -> Result<(), Fail> {
     let alloc = rt.alloc();
     for line in [
@@ -53,6 +73,14 @@ fn refuses_wrong_lines(rt: HostRuntime) -> Result<(), Fail> {
         "rvstm asm --out a.elf",
         "rvstm dis",
         "rvstm dis a.elf --out b",
+        "rvstm drive a.block --workers 2",
+        "rvstm drive a.block --schedule b.schedule",
+        "rvstm drive --workers 2 --schedule b.schedule",
+        "rvstm drive a.block --workers 0 --schedule b.schedule",
+        "rvstm drive a.block --workers 33 --schedule b.schedule",
+        "rvstm drive a.block --workers -1 --schedule b.schedule",
+        "rvstm drive a.block --workers two --schedule b.schedule",
+        "rvstm drive a.block --workers 2 --workers 2 --schedule b.schedule",
     ] {
         let words = words_of(alloc, line)?;
         match request_of(alloc, words.as_slice()) {
@@ -70,6 +98,7 @@ fn answers_requests_for_help(rt: HostRuntime) -> Result<(), Fail> {
         ("rvstm --help", "Executes blocks"),
         ("rvstm help seq", "The block file"),
         ("rvstm seq --help", "The block file"),
+        ("rvstm drive --help", "--workers <N>"),
         ("rvstm --version", "rvstm 0.1.0"),
     ] {
         let words = words_of(alloc, line)?;

@@ -33,7 +33,7 @@ impl Slot {
         Slot {
             writer,
             incarnation,
-            content: copied(value),
+            content: Value::copied(value),
         }
     }
 
@@ -56,16 +56,6 @@ impl Slot {
             incarnation: self.incarnation,
             content: bytes(&self.content),
         }
-    }
-}
-
-/// An equal value, where there is one.
-fn copied(value: Option<&Value>) -> Option<Value>
-    ensures { result ≡ option_copied value.entry }
-{
-    match value {
-        Some(value) => Some(value.copy()),
-        None => None,
     }
 }
 

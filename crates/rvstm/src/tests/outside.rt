@@ -1,10 +1,9 @@
 //! Programs that other tools made, as other tools say that they end: their files hold the segments
 //! alone, one behind the other, in hex.
 
-use super::InMemory;
+use super::{InMemory, has_all};
 use crate::engine::seq_to;
 use std::alloc::Global;
-use std::str;
 use std::test::Fail;
 
 /// CRC-32 of the input in C, compiled by GNU gcc.
@@ -115,18 +114,6 @@ fn printed(alloc: Global, files: &[&str], lines: &str) -> Result<Vec<u8>, Fail> 
     };
     seq_to(alloc, &mut block.as_bytes(), &mut programs, &mut text)?;
     Ok(text)
-}
-
-/// Whether a text has these pieces in their order.
-fn has_all(text: &[u8], pieces: &[&str]) -> Result<bool, Fail> {
-    let mut rest = str::from_utf8(text)?;
-    for piece in pieces {
-        match rest.split_once(*piece) {
-            Some((_, behind)) => rest = behind,
-            None => return Ok(false),
-        }
-    }
-    Ok(true)
 }
 
 // The sums are those of zlib.

@@ -42,7 +42,8 @@ const LEN_63: &[u32] = &[
     0x0000_0073,
 ];
 
-pub const PUT: &[u32] = &[
+/// Writes the byte behind the key of its input at that key.
+const PUT: &[u32] = &[
     0x0205_0593,
     0x0010_0613,
     0x0010_0893,
@@ -52,7 +53,8 @@ pub const PUT: &[u32] = &[
     0x0000_0073,
 ];
 
-pub const GET: &[u32] = &[
+/// Returns the first byte of the value at a key.
+const GET: &[u32] = &[
     0xfc01_0593,
     0x0400_0613,
     0x0000_0073,
@@ -62,7 +64,8 @@ pub const GET: &[u32] = &[
     0x0000_0073,
 ];
 
-pub const SEEN: &[u32] = &[
+/// Returns where a key has a value, and reverts where it is absent.
+const SEEN: &[u32] = &[
     0x0000_0073,
     0x0030_0893,
     0x0000_0593,
@@ -72,7 +75,8 @@ pub const SEEN: &[u32] = &[
     0x0000_0073,
 ];
 
-pub const COND: &[u32] = &[
+/// Writes an empty value at the second key of its input where the first is absent.
+const COND: &[u32] = &[
     0x0205_0413,
     0x0000_0073,
     0xfff0_0293,
@@ -84,6 +88,7 @@ pub const COND: &[u32] = &[
     0x0000_0593,
     0x0000_0073,
 ];
+
 /// Counts a key up by one.
 pub const COUNT: &[u32] = &[
     0xfc01_0593,
@@ -125,6 +130,39 @@ const STORE_AT_END: &[u32] = &[0x0001_2023];
 
 const STORE_UNALIGNED: &[u32] = &[0xfe01_2f23];
 
+/// Two writers of a key and a reader of it.
+pub const LATE_WRITER: Row = Row {
+    name: "late_writer",
+    programs: &[PUT, GET],
+    lines: "call 0 1000 000000000000000000000000000000000000000000000000000000000000000101\ncall 0 1000 000000000000000000000000000000000000000000000000000000000000000102\ncall 1 1000 0000000000000000000000000000000000000000000000000000000000000001\n",
+    pieces: &[
+        "call 0 returned gas 419 ",
+        "call 1 returned gas 419 ",
+        "call 2 returned gas 216 pc 00010018 out 02\n",
+        "store 0000000000000000000000000000000000000000000000000000000000000001 02\nend\n",
+    ],
+};
+
+/// A writer of a key and a call that asks whether it has a value.
+pub const READ_OF_ABSENCE: Row = Row {
+    name: "read_of_absence",
+    programs: &[PUT, SEEN],
+    lines: "call 0 1000 00000000000000000000000000000000000000000000000000000000000000aa01\ncall 1 1000 00000000000000000000000000000000000000000000000000000000000000aa\n",
+    pieces: &["call 1 returned gas 214 pc 00010018 out -\n", " fffffffe "],
+};
+
+/// A writer of a key, a call that writes another key where the first is absent, and one that asks for it.
+pub const WITHDRAWN_WRITE: Row = Row {
+    name: "withdrawn_write",
+    programs: &[PUT, COND, SEEN],
+    lines: "call 0 1000 00000000000000000000000000000000000000000000000000000000000000aa01\ncall 1 1000 00000000000000000000000000000000000000000000000000000000000000aa00000000000000000000000000000000000000000000000000000000000000bb\ncall 2 1000 00000000000000000000000000000000000000000000000000000000000000bb\n",
+    pieces: &[
+        "call 1 returned gas 215 pc 00010024 out -\n",
+        "call 2 reverted gas 215 pc 00010018 out -\n",
+    ],
+};
+
+/// The worked blocks.
 pub const ROWS: &[Row] = &[
     Row {
         name: "echo",
@@ -162,6 +200,7 @@ pub const ROWS: &[Row] = &[
         lines: "store 0000000000000000000000000000000000000000000000000000000000000001 -\ncall 0 1000 0000000000000000000000000000000000000000000000000000000000000001\n",
         pieces: &[
             "call 0 returned gas 214 pc 00010014 out -\n",
+            "regs 00000000 00000000 00110000 00000000 00000000 00000000 00000000 00000000 00000000 00000000 00000000 ",
             "store 0000000000000000000000000000000000000000000000000000000000000001 -\n",
         ],
     },
@@ -175,7 +214,10 @@ pub const ROWS: &[Row] = &[
         name: "zero: 400",
         programs: &[ZERO],
         lines: "call 0 400 0000000000000000000000000000000000000000000000000000000000000001\n",
-        pieces: &["call 0 out-of-gas gas 400 pc 00010004 out -\n", "\nend\n"],
+        pieces: &[
+            "call 0 out-of-gas gas 400 pc 00010004 out -\n",
+            "00000000\nend\n",
+        ],
     },
     Row {
         name: "zero: 401",
@@ -228,30 +270,7 @@ pub const ROWS: &[Row] = &[
             "00000000\nend\n",
         ],
     },
-    Row {
-        name: "late_writer",
-        programs: &[PUT, GET],
-        lines: "call 0 1000 000000000000000000000000000000000000000000000000000000000000000101\ncall 0 1000 000000000000000000000000000000000000000000000000000000000000000102\ncall 1 1000 0000000000000000000000000000000000000000000000000000000000000001\n",
-        pieces: &[
-            "call 0 returned gas 419 ",
-            "call 1 returned gas 419 ",
-            "call 2 returned gas 216 pc 00010018 out 02\n",
-            "store 0000000000000000000000000000000000000000000000000000000000000001 02\nend\n",
-        ],
-    },
-    Row {
-        name: "read_of_absence",
-        programs: &[PUT, SEEN],
-        lines: "call 0 1000 00000000000000000000000000000000000000000000000000000000000000aa01\ncall 1 1000 00000000000000000000000000000000000000000000000000000000000000aa\n",
-        pieces: &["call 1 returned gas 214 pc 00010018 out -\n", " fffffffe "],
-    },
-    Row {
-        name: "withdrawn_write",
-        programs: &[PUT, COND, SEEN],
-        lines: "call 0 1000 00000000000000000000000000000000000000000000000000000000000000aa01\ncall 1 1000 00000000000000000000000000000000000000000000000000000000000000aa00000000000000000000000000000000000000000000000000000000000000bb\ncall 2 1000 00000000000000000000000000000000000000000000000000000000000000bb\n",
-        pieces: &[
-            "call 1 returned gas 215 pc 00010024 out -\n",
-            "call 2 reverted gas 215 pc 00010018 out -\n",
-        ],
-    },
+    LATE_WRITER,
+    READ_OF_ABSENCE,
+    WITHDRAWN_WRITE,
 ];

@@ -2,8 +2,8 @@
 //! running the calls in order prints.
 
 use super::drives::driven;
-use super::rows::{COND, COUNT, ECHO, GET, PUT, SEEN};
-use super::{elf_of, printed};
+use super::rows::{COUNT, ECHO, LATE_WRITER, READ_OF_ABSENCE, Row, WITHDRAWN_WRITE};
+use super::{elf_of, forty_count_lines, has_all, printed, shows_forty_counts};
 use crate::fault::Refusal;
 use elf32::load;
 use rv_ledger::{Call, Job, Store};
@@ -12,140 +12,122 @@ use std::sync::Arc;
 use std::test::Fail;
 use stm_core::{DriveFault, drive};
 
-/// A block: the words of its programs, and its lines behind the program lines.
-struct Work {
-    programs: &'static [&'static [u32]],
-    lines: &'static str,
-}
-
-const LATE: Work = Work {
-    programs: &[PUT, GET],
-    lines: "\
-        call 0 1000 000000000000000000000000000000000000000000000000000000000000000101\n\
-        call 0 1000 000000000000000000000000000000000000000000000000000000000000000102\n\
-        call 1 1000 0000000000000000000000000000000000000000000000000000000000000001\n",
-};
-
-const ECHOES: Work = Work {
+const THREE_ECHOES: Row = Row {
+    name: "three_echoes",
     programs: &[ECHO],
-    lines: "\
-        call 0 1000 0102\n\
-        call 0 1000 0102\n\
-        call 0 1000 0102\n",
+    lines: "call 0 1000 0102\ncall 0 1000 0102\ncall 0 1000 0102\n",
+    pieces: &[
+        "call 0 returned gas 13 pc 00010004 out 0102\n",
+        "call 1 returned gas 13 pc 00010004 out 0102\n",
+        "call 2 returned gas 13 pc 00010004 out 0102\n",
+        "00000000\nend\n",
+    ],
 };
 
-const ABSENCE: Work = Work {
-    programs: &[PUT, SEEN],
-    lines: "\
-        call 0 1000 000000000000000000000000000000000000000000000000000000000000000a01\n\
-        call 1 1000 000000000000000000000000000000000000000000000000000000000000000a\n",
-};
-
-const WITHDRAWN: Work = Work {
-    programs: &[PUT, COND, SEEN],
-    lines: "\
-        call 0 1000 000000000000000000000000000000000000000000000000000000000000000a01\n\
-        call 1 1000 000000000000000000000000000000000000000000000000000000000000000a000000000000000000000000000000000000000000000000000000000000000b\n\
-        call 2 1000 000000000000000000000000000000000000000000000000000000000000000b\n",
-};
-
-const COUNTS: Work = Work {
+const TWO_COUNTS: Row = Row {
+    name: "two counts",
     programs: &[COUNT],
     lines: "\
         call 0 1000 0000000000000000000000000000000000000000000000000000000000000001\n\
         call 0 1000 0000000000000000000000000000000000000000000000000000000000000001\n",
+    pieces: &[
+        "call 0 returned gas 639 pc 00010034 out -\n",
+        "call 1 returned gas 639 pc 00010034 out -\n",
+        "\nstore 0000000000000000000000000000000000000000000000000000000000000001 02000000\nend\n",
+    ],
 };
 
-/// A list of worker numbers, each so many times, and whether workers are done after it.
-struct Row {
+/// A list of worker numbers, each so many times, over the block of a row, and whether workers are done
+/// after it.
+struct Schedule {
     name: &'static str,
-    work: Work,
+    row: Row,
     workers: usize,
     turns: &'static [(u16, usize)],
     is_done: bool,
 }
 
-const ROWS: &[Row] = &[
-    Row {
+const SCHEDULES: &[Schedule] = &[
+    Schedule {
         name: "coarse_late_writer",
-        work: LATE,
+        row: LATE_WRITER,
         workers: 3,
         turns: &[(0, 2), (1, 3), (2, 6), (1, 8)],
         is_done: true,
     },
-    Row {
+    Schedule {
         name: "coarse_late_writer without its last step",
-        work: LATE,
+        row: LATE_WRITER,
         workers: 3,
         turns: &[(0, 2), (1, 3), (2, 6), (1, 7)],
         is_done: false,
     },
-    Row {
+    Schedule {
         name: "the newest in block order is read",
-        work: LATE,
+        row: LATE_WRITER,
         workers: 2,
         turns: &[(0, 1), (1, 3), (0, 10)],
         is_done: true,
     },
-    Row {
+    Schedule {
         name: "coarse_three_echoes",
-        work: ECHOES,
+        row: THREE_ECHOES,
         workers: 1,
         turns: &[(0, 12)],
         is_done: true,
     },
-    Row {
+    Schedule {
         name: "coarse_three_echoes without its last step",
-        work: ECHOES,
+        row: THREE_ECHOES,
         workers: 1,
         turns: &[(0, 11)],
         is_done: false,
     },
-    Row {
+    Schedule {
         name: "coarse_three_echoes and an asking",
-        work: ECHOES,
+        row: THREE_ECHOES,
         workers: 1,
         turns: &[(0, 13)],
         is_done: true,
     },
-    Row {
+    Schedule {
         name: "coarse_read_of_absence",
-        work: ABSENCE,
+        row: READ_OF_ABSENCE,
         workers: 2,
         turns: &[(0, 1), (1, 4), (0, 8)],
         is_done: true,
     },
-    Row {
+    Schedule {
         name: "coarse_read_of_absence without its last step",
-        work: ABSENCE,
+        row: READ_OF_ABSENCE,
         workers: 2,
         turns: &[(0, 1), (1, 4), (0, 7)],
         is_done: false,
     },
-    Row {
+    Schedule {
         name: "coarse_withdrawn_write",
-        work: WITHDRAWN,
+        row: WITHDRAWN_WRITE,
         workers: 2,
         turns: &[(0, 1), (1, 11), (0, 13)],
         is_done: true,
     },
-    Row {
+    Schedule {
         name: "estimate_met: parked",
-        work: WITHDRAWN,
+        row: WITHDRAWN_WRITE,
         workers: 2,
         turns: &[(0, 1), (1, 4), (0, 5), (1, 4), (0, 7)],
         is_done: true,
     },
-    Row {
+    Schedule {
         name: "estimate_met: the run starts again",
-        work: WITHDRAWN,
+        row: WITHDRAWN_WRITE,
         workers: 2,
         turns: &[(0, 1), (1, 3), (0, 2), (1, 3), (0, 3), (1, 3), (0, 5)],
         is_done: true,
     },
-    Row {
+    Schedule {
         name: "own entries are not read",
-        work: COUNTS,
+        row: TWO_COUNTS,
         workers: 1,
         turns: &[(0, 10)],
         is_done: true,
@@ -165,25 +147,24 @@ fn schedule_of(alloc: Global, turns: &[(u16, usize)]) -> Result<String, AllocErr
 
 #[test]
 fn schedules_print_what_in_order_prints(rt: HostRuntime) -> Result<(), Fail> {
-    for row in ROWS {
-        let Row {
+    let alloc = rt.alloc();
+    for case in SCHEDULES {
+        let Schedule {
             name,
-            work,
+            row,
             workers,
             turns,
             is_done,
-        } = row;
-        let schedule = schedule_of(rt.alloc(), turns)?;
-        let answer = driven(
-            rt.alloc(),
-            work.programs,
-            work.lines,
-            *workers,
-            schedule.as_str(),
-        )?;
-        let wanted = printed(rt.alloc(), work.programs, work.lines)?;
+        } = case;
+        let schedule = schedule_of(alloc, turns)?;
+        let answer = driven(alloc, row.programs, row.lines, *workers, schedule.as_str())?;
+        let wanted = printed(alloc, row.programs, row.lines)?;
         match answer {
-            Ok(text) => assert!(rt; *is_done && text.as_slice() == wanted.as_slice(), "{name}"),
+            Ok(text) => {
+                assert!(rt; *is_done, "{name}");
+                assert_eq!(rt; text.as_slice(), wanted.as_slice(), "{name}");
+                assert!(rt; has_all(text.as_slice(), row.pieces)?, "{name}");
+            }
             Err(refusal) => {
                 assert!(rt;
                     !*is_done && refusal == Refusal::Drive(DriveFault::NotDone),
@@ -210,12 +191,7 @@ fn mixed(alloc: Global, workers: u32, count: usize) -> Result<String, AllocError
 /// Whether a mixed list of so many entries leads so many workers to what forty calls of COUNT come to
 /// in order.
 fn is_in_order(alloc: Global, workers: u32, entries: usize) -> Result<bool, Fail> {
-    let mut lines = String::new(alloc);
-    for _ in 0..40 {
-        lines.push_str(
-            "call 0 1000 0000000000000000000000000000000000000000000000000000000000000001\n",
-        )?;
-    }
+    let lines = forty_count_lines(alloc)?;
     let wanted = printed(alloc, &[COUNT], lines.as_str())?;
     let schedule = mixed(alloc, workers, entries)?;
     let answer = driven(
@@ -225,9 +201,15 @@ fn is_in_order(alloc: Global, workers: u32, entries: usize) -> Result<bool, Fail
         workers as usize,
         schedule.as_str(),
     )?;
-    Ok(matches!(&answer, Ok(text) if text.as_slice() == wanted.as_slice()))
+    match answer {
+        Ok(text) => Ok(
+            text.as_slice() == wanted.as_slice() && shows_forty_counts(alloc, text.as_slice())?,
+        ),
+        Err(_) => Ok(false),
+    }
 }
 
+// 200 is 40 calls of five steps; 270, 780 and 2720 are entries after which a mixed list was seen done.
 #[test]
 fn forty_counts_by_1_worker(rt: HostRuntime) -> Result<(), Fail> {
     assert!(rt; is_in_order(rt.alloc(), 1, 200)?);
@@ -266,12 +248,13 @@ fn echoes(alloc: Global, count: usize) -> Result<Job, Fail> {
 #[test]
 fn counts_of_three_echoes(rt: HostRuntime) -> Result<(), Fail> {
     let job = echoes(rt.alloc(), 3)?;
-    let rows: [(&[u16], u64); 2] = [(&[0; 12], 6), (&[0; 13], 7)];
-    for (schedule, asks) in rows {
+    let rows: [(&[u16], u64, u64); 2] = [(&[0; 12], 12, 6), (&[0; 13], 13, 7)];
+    for (schedule, steps, asks) in rows {
         let outcome = drive(rt.alloc(), &job, 1, schedule)?;
         let Some(counts) = outcome.counts.as_slice().first() else {
             panic!(rt; "there are no counts");
         };
+        assert_eq!(rt; counts.steps, steps);
         assert_eq!(rt; counts.asks, asks);
         assert_eq!(rt; counts.executions, 3);
         assert_eq!(rt; counts.validations, 3);

@@ -1,5 +1,5 @@
 use Rattle.std.proofs.Common.{arith}
-use Rattle.rv_names.proofs.Same.{same_upper}
+use Rattle.rv_isa.proofs.Same.{same_upper}
 use Rattle.rv_names.proofs.ranges.held_upper.Goals as goal
 
 pub returns : goal.returns

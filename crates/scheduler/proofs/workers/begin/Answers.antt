@@ -1,5 +1,5 @@
-use Rattle.scheduler.specs.Workers.{counts_of, dones_of, task_of}
-use Rattle.scheduler.proofs.Seen.{seen_set, seen_same}
+use Rattle.scheduler.specs.Workers.{counts_of, dones_of, room_of, task_of}
+use Rattle.scheduler.proofs.Seen.{seen_set, seen_same, seen_other}
 use Rattle.scheduler.proofs.workers.begin.Goals as goal
 
 pub returns-clause-tasks : goal.returns-clause-tasks
@@ -10,3 +10,6 @@ returns-clause-counts c = seen_same counts_of c.args.workers.now.items c.args.wo
 
 pub returns-clause-dones : goal.returns-clause-dones
 returns-clause-dones c = seen_same dones_of c.args.workers.now.items c.args.worker c.index_mut.result.now c.begin.new.self c.index_mut.ensures.value c.begin.ensures.dones
+
+pub returns-clause-rooms : goal.returns-clause-rooms
+returns-clause-rooms c = seen_other room_of c.args.workers.now.items c.args.worker c.begin.new.self 0

@@ -1,6 +1,6 @@
 use Rattle.stm_state.specs.declared.state.Task.TheVariants.{Idle}
-use Rattle.scheduler.specs.Workers.{blocked_on, counts_of, dones_of, task_of}
-use Rattle.scheduler.proofs.Seen.{seen_step, seen_same}
+use Rattle.scheduler.specs.Workers.{blocked_on, counts_of, dones_of, room_of, task_of}
+use Rattle.scheduler.proofs.Seen.{seen_step, seen_same, seen_other}
 use Rattle.scheduler.proofs.workers.block.Goals as goal
 
 pub returns-clause-tasks : goal.returns-clause-tasks
@@ -11,3 +11,6 @@ returns-clause-counts c = seen_same counts_of c.args.workers.now.items c.args.wo
 
 pub returns-clause-dones : goal.returns-clause-dones
 returns-clause-dones c = seen_same dones_of c.args.workers.now.items c.args.worker c.index_mut.result.now c.block.new.self c.index_mut.ensures.value c.block.ensures.dones
+
+pub returns-clause-rooms : goal.returns-clause-rooms
+returns-clause-rooms c = seen_other room_of c.args.workers.now.items c.args.worker c.block.new.self 0

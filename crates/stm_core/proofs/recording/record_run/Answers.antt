@@ -31,12 +31,17 @@ returns-in-Ok-clause-state c =
     let placed : length c.move_all.new.map.shelf.records ≡ length c.args.map.now.shelf.records + len writes =
     c.move_all.ensures.records ∙ ap (λ (rs : List Record). length rs + length (entries writes)) c.make_room.ensures.records
     ∙ ap (λ n. length c.args.map.now.shelf.records + n) (sym (len-entries writes)) in
-    c.finish_execution.ensures c.move_all.new.map.versions (length c.move_all.new.map.shelf.records)
+    c.finish_execution.ensures.state c.move_all.new.map.versions (length c.move_all.new.map.shelf.records)
     ∙ ap (counted one_execution c.args.worker)
     (recorded_is c.args.worker c.args.call c.args.run.answers.items c.args.run.receipt (state_in c.args.map.now c.args.scheduler.now) c.move_all.new.map.versions (length c.move_all.new.map.shelf.records) c.in-Ok.reads versions placed c.in-Ok.ensures.reads)
 
 pub returns-in-Ok-clause-within : goal.returns-in-Ok-clause-within
 returns-in-Ok-clause-within c =
+    let same = ap (λ (call : CallState). call.incarnation) c.call.ensures in
+    (omega (arith, len-entries c.args.run.receipt.writes), omega (arith, same))
+
+pub returns-in-Err-clause-memory : goal.returns-in-Err-clause-memory
+returns-in-Err-clause-memory c = λ _.
     let same = ap (λ (call : CallState). call.incarnation) c.call.ensures in
     (omega (arith, len-entries c.args.run.receipt.writes), omega (arith, same))
 

@@ -32,7 +32,7 @@ pub returns-then-try_abort-clause-state : goal.returns-then-try_abort-clause-sta
 returns-then-try_abort-clause-state c =
     let same = c.call.ensures ∙ taken_at c.args.call c.args.incarnation c.args.scheduler.now c.try_abort.new.self c.try_abort.ensures.state c.requires.current c.requires.within in
     abort_is c.args.worker c.args.call c.args.incarnation c.args.map.now c.estimate_all.new.map c.args.scheduler.now c.try_abort.new.self c.finish_abort.new.self c.call.result.now.last
-    c.requires.within c.requires.current c.try_abort.ensures.state (ap (λ (call : CallState). call.last) same) c.estimate_all.ensures c.finish_abort.ensures
+    c.requires.within c.requires.current c.try_abort.ensures.state (ap (λ (call : CallState). call.last) same) c.estimate_all.ensures c.finish_abort.ensures.state
 
 pub returns-then-try_abort-clause-places : goal.returns-then-try_abort-clause-places
 returns-then-try_abort-clause-places c = λ within.

@@ -9,13 +9,13 @@ use Rattle.scheduler.specs.Schedule.{Schedule, state_of}
 use Rattle.scheduler.proofs.Cases.{validated}
 use Rattle.scheduler.proofs.scheduler.Scheduler.ask_validation.Goals as goal
 
-pub returns-then-is_executed : goal.returns-then-is_executed
-returns-then-is_executed c =
+pub returns-then-is_executed-clause-state : goal.returns-then-is_executed-clause-state
+returns-then-is_executed-clause-state c =
     let i = c.next_validation-index.result in
     let test : is_executed (get_or c.args.self.now.calls i fresh).status ≡ true =
     ap (λ (t : Schedule). is_executed (get_or t.calls i fresh).status) (sym c.next_validation-index.ensures.state)
     ∙ ap (λ (k : CallState). is_executed k.status) (sym c.call.ensures) ∙ sym c.is_executed.ensures ∙ c.if-is_executed.true in
-    λ v p. c.begin.ensures v p
+    λ v p. c.begin.ensures.state v p
     ∙ ap (λ (d : Duty). with_task c.args.worker (task_with d []) (state_of v p c.next_validation-index.new.self)) c.validation_of-duty.ensures
     ∙ ap (λ (k : CallState). with_task c.args.worker (Validating i k.incarnation (length (reads_of k.last))) (state_of v p c.next_validation-index.new.self)) c.call-then-is_executed.ensures
     ∙ ap (λ (t : Schedule). with_task c.args.worker (Validating i (get_or t.calls i fresh).incarnation (length (reads_of (get_or t.calls i fresh).last))) (state_of v p t)) c.next_validation-index.ensures.state

@@ -1,14 +1,11 @@
 use Rattle.std.proofs.Common.{get_or, ap, ◌∙◌}
-use Rattle.stm_state.specs.declared.state.Task.{Task}
 use Rattle.stm_state.specs.declared.state.Task.TheVariants.{Idle}
 use Rattle.stm_state.specs.State.{with_task}
-use Rattle.stm_state.specs.Steps.{counted, one_step}
 use Rattle.scheduler.specs.Schedule.{Schedule, state_of}
 use Rattle.scheduler.specs.Workers.{blocked_on}
 use Rattle.scheduler.proofs.scheduler.Scheduler.block.Goals as goal
 
-pub returns : goal.returns
-returns c = λ i answers h v p.
-    c.set_blocked.ensures v p
+pub returns-clause-state : goal.returns-clause-state
+returns-clause-state c = λ v p.
+    c.set_blocked.ensures.state v p
     ∙ ap (λ (t : Schedule). with_task c.args.worker (blocked_on c.args.on (get_or t.tasks c.args.worker Idle)) (state_of v p t)) c.count_step.ensures
-    ∙ ap (λ (t : Task). with_task c.args.worker (blocked_on c.args.on t) (counted one_step c.args.worker (state_of v p c.args.self.now))) h

@@ -7,25 +7,25 @@ use Rattle.scheduler.specs.Schedule.{Schedule, state_of}
 use Rattle.scheduler.proofs.Cases.{abort_runs, abort_rests}
 use Rattle.scheduler.proofs.scheduler.Scheduler.finish_abort.Goals as goal
 
-pub returns-then-is_execution_past : goal.returns-then-is_execution_past
-returns-then-is_execution_past c =
+pub returns-then-is_execution_past-clause-state : goal.returns-then-is_execution_past-clause-state
+returns-then-is_execution_past-clause-state c =
     let i = c.args.call in
     let test : nat_lt i c.args.self.now.execution ≡ true =
     ap (λ (t : Schedule). nat_lt i t.execution) (sym c.count_validation.ensures)
     ∙ ap (λ (t : Schedule). nat_lt i t.execution) (sym c.lower_validation.ensures) ∙ sym c.is_execution_past.ensures ∙ c.if-is_execution_past.true in
-    λ v p. c.run_again.ensures v p
+    λ v p. c.run_again.ensures.state v p
     ∙ ap (λ (t : Schedule). with_task c.args.worker (Running i [] None) (state_of v p t)) c.restart.ensures
     ∙ ap (λ (t : Schedule). with_task c.args.worker (Running i [] None) (state_of v p (record t { calls = set t.calls i (record (readied (get_or t.calls i fresh)) { status = Executing }) }))) c.lower_validation.ensures
     ∙ ap (λ (t : Schedule). with_task c.args.worker (Running i [] None) (state_of v p (record t { calls = set t.calls i (record (readied (get_or t.calls i fresh)) { status = Executing }); validation = min t.validation (i + 1) }))) c.count_validation.ensures
     ∙ ap (counted one_validation c.args.worker) (abort_runs c.args.worker (state_of v p c.args.self.now) i test)
 
-pub returns-else-is_execution_past : goal.returns-else-is_execution_past
-returns-else-is_execution_past c =
+pub returns-else-is_execution_past-clause-state : goal.returns-else-is_execution_past-clause-state
+returns-else-is_execution_past-clause-state c =
     let i = c.args.call in
     let test : nat_lt i c.args.self.now.execution ≡ false =
     ap (λ (t : Schedule). nat_lt i t.execution) (sym c.count_validation.ensures)
     ∙ ap (λ (t : Schedule). nat_lt i t.execution) (sym c.lower_validation.ensures) ∙ sym c.is_execution_past.ensures ∙ c.if-is_execution_past.false in
-    λ v p. c.begin.ensures v p
+    λ v p. c.begin.ensures.state v p
     ∙ ap (λ (t : Schedule). with_task c.args.worker Idle (state_of v p t)) c.ready.ensures
     ∙ ap (λ (t : Schedule). with_task c.args.worker Idle (state_of v p (record t { calls = set t.calls i (readied (get_or t.calls i fresh)) }))) c.lower_validation.ensures
     ∙ ap (λ (t : Schedule). with_task c.args.worker Idle (state_of v p (record t { calls = set t.calls i (readied (get_or t.calls i fresh)); validation = min t.validation (i + 1) }))) c.count_validation.ensures

@@ -10,8 +10,8 @@ use Rattle.scheduler.proofs.Cases.{woken_is}
 use Rattle.scheduler.proofs.Counted.{counted_finish}
 use Rattle.scheduler.proofs.scheduler.Scheduler.finish_execution.Goals as goal
 
-pub returns : goal.returns
-returns c =
+pub returns-clause-state : goal.returns-clause-state
+returns-clause-state c =
     let w = c.args.worker in
     let i = c.args.call in
     let new = c.has_new_key-new_key.result in
@@ -22,7 +22,7 @@ returns c =
     c.has_new_key-new_key.ensures ∙ ap (λ (k : CallState). has_new_key k.last c.args.run.receipt.writes) (c.call.ensures ∙ was) in
     let is_n : n ≡ (get_or c.args.self.now.calls i fresh).incarnation = ap (λ (k : CallState). k.incarnation) (c.call-2.ensures ∙ was) in
     let is_left : left ≡ length c.args.run.reads = ap (λ (reads : List Read). length reads) c.reads-left.ensures in
-    λ v p. c.to_validate.ensures v p
+    λ v p. c.to_validate.ensures.state v p
     ∙ ap (λ (t : Schedule). to_validate w i new (Validating i n left) (state_of v p t)) c.wake.ensures
     ∙ ap (λ (t : Schedule). to_validate w i new (Validating i n left) (state_of v p (record t { calls = map (readied_if i) t.calls; execution = lowered i t.execution 0 t.calls }))) c.keep.ensures
     ∙ ap (λ (t : Schedule). to_validate w i new (Validating i n left) (state_of v p (record t { calls = map (readied_if i) (set t.calls i (record (get_or t.calls i fresh) { status = Executed; last = Some c.args.run })); execution = lowered i t.execution 0 (set t.calls i (record (get_or t.calls i fresh) { status = Executed; last = Some c.args.run })) }))) c.count_execution.ensures

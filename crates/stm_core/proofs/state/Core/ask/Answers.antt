@@ -18,5 +18,5 @@ invariant_of-self c =
     let due = due_at c.self.inside.job c.self.inside.map c.self.inside.scheduler c.self.invariant c.args.self.now c.self.view_is c.args.worker Ask c.requires in
     let idle : (get_or c.self.inside.scheduler.tasks c.args.worker Idle) ≡ Idle = asks_idle (get_or c.self.inside.scheduler.tasks c.args.worker Idle) due.owed in
     goes_on c.self.inside.job c.self.inside.map c.self.inside.scheduler c.self.invariant c.args.self.now c.self.view_is c.args.worker Ask c.requires c.self.inside.map c.ask.new.self
-    (ask_made (block_of c.self.inside.job.block c.self.inside.job.store) c.args.worker (state_in c.self.inside.map c.self.inside.scheduler) idle ∙ ap (λ s. Some (Ok s)) (sym (c.ask.ensures c.self.inside.map.versions (length c.self.inside.map.shelf.records))))
+    (ask_made (block_of c.self.inside.job.block c.self.inside.job.store) c.args.worker (state_in c.self.inside.map c.self.inside.scheduler) idle ∙ ap (λ s. Some (Ok s)) (sym (c.ask.ensures.state c.self.inside.map.versions (length c.self.inside.map.shelf.records))))
     c.self.invariant.places

@@ -31,5 +31,5 @@ invariant_of-self c =
     let low : (get_or c.self.inside.scheduler.calls c.in-Running-default-Some.call fresh).incarnation < 65535 = let same = ap (λ (call : CallState). call.incarnation) c.call.ensures in omega (arith, most, same) in
     goes_on c.self.inside.job c.self.inside.map c.self.inside.scheduler c.self.invariant c.args.self.now c.self.view_is c.args.worker Park c.requires c.self.inside.map c.add_dependency.new.self
     (park_made (block_of c.self.inside.job.block c.self.inside.job.store) c.args.worker (state_in c.self.inside.map c.self.inside.scheduler) c.in-Running-default-Some.call c.in-Running-default-Some.on runs.0 runs.1 low
-    ∙ ap (λ s. Some (Ok s)) (sym (c.add_dependency.ensures c.self.inside.map.versions (length c.self.inside.map.shelf.records))))
+    ∙ ap (λ s. Some (Ok s)) (sym (c.add_dependency.ensures.state c.self.inside.map.versions (length c.self.inside.map.shelf.records))))
     c.self.invariant.places

@@ -26,3 +26,4 @@ returns-clause-makes c =
     makes c.self.inside.job c.self.inside.map c.self.inside.scheduler c.self.invariant c.args.self.now c.self.view_is c.args.worker (Read_key c.args.key.now) c.requires.due c.self.inside.map c.read_at.new.scheduler
     (read_made (block_of c.self.inside.job.block c.self.inside.job.store) c.args.worker (state_in c.self.inside.map c.self.inside.scheduler) c.args.key.now c.in-Running.call runs.0 runs.1
     ∙ ap (λ s. Some (Ok s)) (sym (c.read_at.ensures.state runs.0 runs.1 c.self.inside.map.versions (length c.self.inside.map.shelf.records))))
+    c.read_at.ensures.rooms

@@ -1,48 +1,15 @@
--- Operands are told apart by their numbers: the proofs of their ranges are all alike.
+-- The operands that hold numbers of their ranges.
 use Rattle.std.proofs.Common.{◌≡◌, ℕ, ◌+◌, ◌*◌, ◌/◌, ◌%◌, ◌^◌, ◌<◌, ℤ, pos, negsuc, arith, ◌∙◌}
-use mathlib.Core.HLevel.{is_prop→PathP}
-use Rattle.std.proofs.Props.{props}
 use Rattle.std.proofs.lemmas.Int.{ints}
 use Rattle.rv_isa.specs.Number.{residue}
-use Rattle.rv_isa.specs.Ranges.{IsRegister, IsImmediate, IsBranchOffset, IsJumpOffset, IsUpper, IsShiftAmount}
+use Rattle.rv_isa.specs.Ranges.{IsImmediate, IsBranchOffset, IsJumpOffset}
 use Rattle.rv_isa.specs.Decoding.{extended, immediate_at, branch_at, jump_at, upper_at}
-use Rattle.rv_isa.specs.declared.register.Reg.{Reg}
 use Rattle.rv_isa.specs.declared.operands.Immediate.{Immediate}
 use Rattle.rv_isa.specs.declared.operands.BranchOffset.{BranchOffset}
 use Rattle.rv_isa.specs.declared.operands.JumpOffset.{JumpOffset}
 use Rattle.rv_isa.specs.declared.operands.Upper.{Upper}
-use Rattle.rv_isa.specs.declared.operands.ShiftAmount.{ShiftAmount}
+use Rattle.rv_isa.proofs.Same.{same_immediate, same_branch, same_jump, same_upper}
 use Rattle.rv_names.specs.Statements.{high_of}
-
-pub same_register : (a b : Reg) → a.number ≡ b.number → a ≡ b
-same_register a b e =
-    let one : (n : ℕ) → IsProp (IsRegister n) = λ n. hlevel props in
-    λ i. record { number = e i; in_range = is_prop→PathP (λ j. IsRegister (e j)) (λ j. one (e j)) a.in_range b.in_range i }
-
-pub same_immediate : (a b : Immediate) → a.value ≡ b.value → a ≡ b
-same_immediate a b e =
-    let one : (z : ℤ) → IsProp (IsImmediate z) = λ z. hlevel props in
-    λ i. record { value = e i; in_range = is_prop→PathP (λ j. IsImmediate (e j)) (λ j. one (e j)) a.in_range b.in_range i }
-
-pub same_branch : (a b : BranchOffset) → a.value ≡ b.value → a ≡ b
-same_branch a b e =
-    let one : (z : ℤ) → IsProp (IsBranchOffset z) = λ z. hlevel props in
-    λ i. record { value = e i; in_range = is_prop→PathP (λ j. IsBranchOffset (e j)) (λ j. one (e j)) a.in_range b.in_range i }
-
-pub same_jump : (a b : JumpOffset) → a.value ≡ b.value → a ≡ b
-same_jump a b e =
-    let one : (z : ℤ) → IsProp (IsJumpOffset z) = λ z. hlevel props in
-    λ i. record { value = e i; in_range = is_prop→PathP (λ j. IsJumpOffset (e j)) (λ j. one (e j)) a.in_range b.in_range i }
-
-pub same_upper : (a b : Upper) → a.value ≡ b.value → a ≡ b
-same_upper a b e =
-    let one : (n : ℕ) → IsProp (IsUpper n) = λ n. hlevel props in
-    λ i. record { value = e i; in_range = is_prop→PathP (λ j. IsUpper (e j)) (λ j. one (e j)) a.in_range b.in_range i }
-
-pub same_amount : (a b : ShiftAmount) → a.value ≡ b.value → a ≡ b
-same_amount a b e =
-    let one : (n : ℕ) → IsProp (IsShiftAmount n) = λ n. hlevel props in
-    λ i. record { value = e i; in_range = is_prop→PathP (λ j. IsShiftAmount (e j)) (λ j. one (e j)) a.in_range b.in_range i }
 
 -- a number in the range is its low bits with their sign
 immediate_value : (z : ℤ) → IsImmediate z → z ≡ extended 12 (residue 12 z % 2 ^ 12)
