@@ -5,10 +5,10 @@ use Rattle.std.specs.Result.{result_map_both}
 use Rattle.std.specs.Str.{bytes_eq}
 use Rattle.block_file.specs.declared.fault.Cause.TheVariants.{BadHeader, BadLine}
 use Rattle.block_file.specs.declared.fault.BlockFault.{BlockFault}
-use Rattle.block_file.specs.Block.{Seen, start, with_line, body_of, block_of_parts}
+use Rattle.block_file.specs.Block.{Parsed, start, with_line, body_of, block_of_parts}
 use Rattle.block_file.proofs.Lines.{later}
 
-header_line : (other none : Bool) (body : Result Seen BlockFault) → IfErr body (λ first. 2 ≤ first.line)
+header_line : (other none : Bool) (body : Result Parsed BlockFault) → IfErr body (λ first. 2 ≤ first.line)
     → IfErr (if other then Err (record { line = 1; cause = BadHeader }) else if none then Err (record { line = 1; cause = BadLine }) else result_map_both (λ s. s.block) (λ fault. fault) body) (λ (first : BlockFault). 1 ≤ first.line)
 header_line true none body h = lit≤ tt
 header_line false true body h = lit≤ tt

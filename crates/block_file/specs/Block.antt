@@ -35,12 +35,12 @@ abbrev pub block_value : BlockText → BlockValue
 block_value text = record { programs = map string_bytes text.programs.items; store = text.store; calls = map call_value text.calls.items }
 
 -- what the lines so far say, and the KEY of the last `store` line
-pub record Seen : Type 0 where
+pub record Parsed : Type 0 where
   pub block : BlockValue
   pub last : Option (List ℕ)
 
 -- no line so far
-abbrev pub start : Seen
+abbrev pub start : Parsed
 start = record { block = record { programs = []; store = finite.empty; calls = [] }; last = None }
 
 -- the PATH of a line `program N PATH` behind n others
@@ -75,23 +75,23 @@ call_of programs calls program gas input = do
       Ok (record { program = p; gas = g; input = bytes })
 
 -- what each kind of line adds
-abbrev pub with_program : Seen → List ℕ → List ℕ → Result Seen Cause
+abbrev pub with_program : Parsed → List ℕ → List ℕ → Result Parsed Cause
 with_program s number path = do
   p ← program_of (length s.block.programs) number path
   Ok (record s { block = record s.block { programs = s.block.programs ++ p ∷ [] } })
 
-abbrev pub with_stored : Seen → List ℕ → List ℕ → Result Seen Cause
+abbrev pub with_stored : Parsed → List ℕ → List ℕ → Result Parsed Cause
 with_stored s key value = do
   entry ← stored_of s.last key value
   Ok (record { block = record s.block { store = finite.insert s.block.store entry.0 entry.1 }; last = Some entry.0 })
 
-abbrev pub with_call : Seen → List ℕ → List ℕ → List ℕ → Result Seen Cause
+abbrev pub with_call : Parsed → List ℕ → List ℕ → List ℕ → Result Parsed Cause
 with_call s program gas input = do
   call ← call_of (length s.block.programs) (length s.block.calls) program gas input
   Ok (record s { block = record s.block { calls = s.block.calls ++ call ∷ [] } })
 
 -- what a line of three or four fields adds, the first of them its kind; the kinds come in their order
-abbrev pub with_kind : Seen → List (List ℕ) → Result Seen Cause
+abbrev pub with_kind : Parsed → List (List ℕ) → Result Parsed Cause
 with_kind s (kind ∷ a ∷ b ∷ []) =
     if bytes_eq kind (codes "program") && is_none s.last && length s.block.calls == 0 then with_program s a b else
     if bytes_eq kind (codes "store") && length s.block.calls == 0 then with_stored s a b else Err BadLine
@@ -99,14 +99,14 @@ with_kind s (kind ∷ a ∷ b ∷ c ∷ []) = if bytes_eq kind (codes "call") th
 with_kind s _ = Err BadLine
 
 -- what a line adds: no field is empty, and the fields are parted by one space
-abbrev pub with_fields : Seen → List (List ℕ) → Result Seen Cause
+abbrev pub with_fields : Parsed → List (List ℕ) → Result Parsed Cause
 with_fields s fields = if list_all (λ field. not (length field == 0)) fields then with_kind s fields else Err BadLine
 
-abbrev pub with_line : Seen → List ℕ → Result Seen Cause
+abbrev pub with_line : Parsed → List ℕ → Result Parsed Cause
 with_line s line = with_fields s (cut 32 line)
 
 -- what the lines behind the header add
-abbrev pub body_of : List (List ℕ) → Result Seen BlockFault
+abbrev pub body_of : List (List ℕ) → Result Parsed BlockFault
 body_of parts = read_parts with_line BadLine 2 start parts
 
 -- what the parts between the LFs say

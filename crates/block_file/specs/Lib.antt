@@ -3,3 +3,4 @@ pub mod Line
 pub mod Block
 pub mod Reader
 pub mod Schedule
+pub mod Faults

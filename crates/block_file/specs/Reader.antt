@@ -1,7 +1,7 @@
 -- Private help of proofs: no public clause cites it.
 use Rattle.block_file.specs.declared.reader.Reader.{Reader}
-use Rattle.block_file.specs.Block.{Seen, block_value}
+use Rattle.block_file.specs.Block.{Parsed, block_value}
 
 -- what a `Reader` has seen
-abbrev pub seen : Reader → Seen
-seen reader = record { block = block_value reader.text; last = reader.last }
+abbrev pub parsed : Reader → Parsed
+parsed reader = record { block = block_value reader.text; last = reader.last }

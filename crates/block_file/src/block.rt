@@ -3,7 +3,7 @@
 ghost use Rattle.std.specs.Prelude.{◌≡◌, map};
 ghost use Rattle.block_file.specs.Answer.{Reads};
 ghost use Rattle.block_file.specs.Block.{block_value, block_of, block_of_parts, body_of};
-ghost use Rattle.block_file.specs.Reader.{seen};
+ghost use Rattle.block_file.specs.Reader.{parsed};
 
 use crate::block_text::BlockText;
 use crate::fault::{BlockFault, Cause};
@@ -42,7 +42,7 @@ fn block_of(alloc: Global, parts: &[&[u8]]) -> Result<BlockText, BlockFault>
 
 /// What the lines behind the header say.
 fn body_of(alloc: Global, parts: &[&[u8]]) -> Result<Reader, BlockFault>
-    ensures { Reads seen result (body_of (map (λ part. part.now) parts.now)) }
+    ensures { Reads parsed result (body_of (map (λ part. part.now) parts.now)) }
 {
     let mut reader = Reader::new(alloc);
     for (index, part) in parts.iter().enumerate() {

@@ -11,31 +11,44 @@ use thiserror::Error;
 #[derive(Clone, Copy, Debug, PartialEq, Eq, Error)]
 pub enum Cause {
     /// Line 1 is not the header.
-    #[error("BadHeader 1")]
     BadHeader = 1,
     /// An unknown kind, a kind out of order, a wrong number of fields, a field of no bytes, a path
     /// with other bytes than 0x21 to 0x7e, or no line feed at the end.
-    #[error("BadLine 2")]
     BadLine = 2,
     /// No decimal, a program's number that is not the next, or a schedule's entry above 65,535.
-    #[error("BadNumber 3")]
     BadNumber = 3,
     /// No lower-case hex of even length, or a key of another length than 64 digits.
-    #[error("BadHex 4")]
     BadHex = 4,
     /// A key that is not above the one of the `store` line before.
-    #[error("KeyOrder 5")]
     KeyOrder = 5,
     /// A program's number that is not below the number of programs.
-    #[error("UnknownProgram 6")]
     UnknownProgram = 6,
     /// A 65th program, a 1,025th call, a gas limit that is not 1 to 10,000,000, a value above 64
     /// bytes, or an input above 4,096.
-    #[error("Limit 7")]
     Limit = 7,
     /// Memory ran out.
-    #[error("Memory 8")]
     Memory = 8,
+}
+
+impl fmt::Display for Cause {
+    ghost use Rattle.std.specs.Prelude.{Some};
+    ghost use Rattle.block_file.specs.Faults.{cause_text};
+
+    ghost output = { λ cause. Some (cause_text cause) };
+
+    /// The name and the number.
+    fn fmt<W: fmt::Write>(&self, f: &mut fmt::Formatter<W>) -> fmt::Result {
+        match self {
+            Cause::BadHeader => f.write_str("BadHeader 1"),
+            Cause::BadLine => f.write_str("BadLine 2"),
+            Cause::BadNumber => f.write_str("BadNumber 3"),
+            Cause::BadHex => f.write_str("BadHex 4"),
+            Cause::KeyOrder => f.write_str("KeyOrder 5"),
+            Cause::UnknownProgram => f.write_str("UnknownProgram 6"),
+            Cause::Limit => f.write_str("Limit 7"),
+            Cause::Memory => f.write_str("Memory 8"),
+        }
+    }
 }
 
 impl From<AllocError> for Cause {
@@ -64,6 +77,11 @@ pub struct BlockFault {
 }
 
 impl fmt::Display for BlockFault {
+    ghost use Rattle.std.specs.Prelude.{Some};
+    ghost use Rattle.block_file.specs.Faults.{fault_text};
+
+    ghost output = { λ fault. Some (fault_text fault) };
+
     /// The line, the cause's name and its number; want of memory has no line.
     fn fmt<W: fmt::Write>(&self, f: &mut fmt::Formatter<W>) -> fmt::Result {
         match self.cause {

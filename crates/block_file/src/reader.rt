@@ -5,7 +5,7 @@ ghost use Rattle.std.specs.List.{list_all};
 ghost use Rattle.std.specs.String.{string_bytes};
 ghost use Rattle.block_file.specs.Answer.{Gives};
 ghost use Rattle.block_file.specs.Block.{call_value, program_of, stored_of, call_of, is_above, with_program, with_stored, with_call, with_kind, with_fields, with_line, start};
-ghost use Rattle.block_file.specs.Reader.{seen};
+ghost use Rattle.block_file.specs.Reader.{parsed};
 
 use crate::block_text::{BlockText, CallLine, PROGRAM_LIMIT};
 use crate::fault::Cause;
@@ -27,7 +27,7 @@ pub struct Reader {
 impl Reader {
     /// No line so far.
     pub fn new(alloc: Global) -> Reader
-        ensures { seen result ≡ start }
+        ensures { parsed result ≡ start }
     {
         Reader {
             text: BlockText {
@@ -41,7 +41,7 @@ impl Reader {
 
     /// Takes the next line.
     pub fn read(&mut self, alloc: Global, line: &[u8]) -> Result<(), Cause>
-        ensures { Gives (λ _. seen self.new) result (with_line (seen self.old) line.now) }
+        ensures { Gives (λ _. parsed self.new) result (with_line (parsed self.old) line.now) }
     {
         let fields = fields::parts(alloc, line, b' ')?;
         self.take(alloc, fields.as_slice())
@@ -49,7 +49,7 @@ impl Reader {
 
     /// Takes the fields of the next line.
     fn take(&mut self, alloc: Global, fields: &[&[u8]]) -> Result<(), Cause>
-        ensures { Gives (λ _. seen self.new) result (with_fields (seen self.old) (map (λ field. field.now) fields.now)) }
+        ensures { Gives (λ _. parsed self.new) result (with_fields (parsed self.old) (map (λ field. field.now) fields.now)) }
     {
         if !are_filled(fields) {
             return Err(Cause::BadLine);
@@ -69,7 +69,7 @@ impl Reader {
         first: &[u8],
         second: &[u8],
     ) -> Result<(), Cause>
-        ensures { Gives (λ _. seen self.new) result (with_kind (seen self.old) (kind.now ∷ first.now ∷ second.now ∷ [])) }
+        ensures { Gives (λ _. parsed self.new) result (with_kind (parsed self.old) (kind.now ∷ first.now ∷ second.now ∷ [])) }
     {
         let has_call = !self.text.calls.is_empty();
         if kind == b"program".as_slice() && self.last.is_none() && !has_call {
@@ -90,7 +90,7 @@ impl Reader {
         second: &[u8],
         third: &[u8],
     ) -> Result<(), Cause>
-        ensures { Gives (λ _. seen self.new) result (with_kind (seen self.old) (kind.now ∷ first.now ∷ second.now ∷ third.now ∷ [])) }
+        ensures { Gives (λ _. parsed self.new) result (with_kind (parsed self.old) (kind.now ∷ first.now ∷ second.now ∷ third.now ∷ [])) }
     {
         if kind != b"call".as_slice() {
             return Err(Cause::BadLine);
@@ -100,7 +100,7 @@ impl Reader {
 
     /// Takes the fields of a `program` line.
     fn program(&mut self, alloc: Global, number: &[u8], path: &[u8]) -> Result<(), Cause>
-        ensures { Gives (λ _. seen self.new) result (with_program (seen self.old) number.now path.now) }
+        ensures { Gives (λ _. parsed self.new) result (with_program (parsed self.old) number.now path.now) }
     {
         let path = program_of(alloc, self.text.programs.len(), number, path)?;
         self.text.programs.push(path)?;
@@ -109,7 +109,7 @@ impl Reader {
 
     /// Takes the fields of a `store` line.
     fn store(&mut self, alloc: Global, key: &[u8], value: &[u8]) -> Result<(), Cause>
-        ensures { Gives (λ _. seen self.new) result (with_stored (seen self.old) key.now value.now) }
+        ensures { Gives (λ _. parsed self.new) result (with_stored (parsed self.old) key.now value.now) }
     {
         let (key, value) = stored_of(alloc, self.last, key, value)?;
         self.text.store.insert(key, value)?;
@@ -119,7 +119,7 @@ impl Reader {
 
     /// Takes the fields of a `call` line.
     fn call(&mut self, alloc: Global, program: &[u8], gas: &[u8], input: &[u8]) -> Result<(), Cause>
-        ensures { Gives (λ _. seen self.new) result (with_call (seen self.old) program.now gas.now input.now) }
+        ensures { Gives (λ _. parsed self.new) result (with_call (parsed self.old) program.now gas.now input.now) }
     {
         let programs = self.text.programs.len();
         let calls = self.text.calls.len();

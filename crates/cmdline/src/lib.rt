@@ -73,7 +73,7 @@ pub fn request_of<'a>(alloc: Global, words: &'a [String]) -> Result<Option<Reque
     Ok(request_in(&matches))
 }
 
-// The whole command, with a subcommand for each request.
+/// The whole command, with a subcommand for each request.
 fn rvstm<'a>(alloc: Global) -> Result<Command<'a>, AllocError>
     ensures { IfOk result (λ c. app_of c ≡ rvstm_app) }
 {
@@ -87,7 +87,7 @@ fn rvstm<'a>(alloc: Global) -> Result<Command<'a>, AllocError>
         .subcommand(dis(alloc)?)
 }
 
-// `seq FILE`
+/// `seq FILE`
 fn seq<'a>(alloc: Global) -> Result<Command<'a>, AllocError>
     ensures { IfOk result (λ c. app_of c ≡ seq_app) }
 {
@@ -96,7 +96,7 @@ fn seq<'a>(alloc: Global) -> Result<Command<'a>, AllocError>
         .arg(file(alloc, "The block file"))
 }
 
-// `drive FILE --workers N --schedule FILE`
+/// `drive FILE --workers N --schedule FILE`
 fn drive<'a>(alloc: Global) -> Result<Command<'a>, AllocError>
     ensures { IfOk result (λ c. app_of c ≡ drive_app) }
 {
@@ -107,7 +107,7 @@ fn drive<'a>(alloc: Global) -> Result<Command<'a>, AllocError>
         .arg(schedule(alloc))
 }
 
-// `asm FILE --out FILE`
+/// `asm FILE --out FILE`
 fn asm<'a>(alloc: Global) -> Result<Command<'a>, AllocError>
     ensures { IfOk result (λ c. app_of c ≡ asm_app) }
 {
@@ -117,7 +117,7 @@ fn asm<'a>(alloc: Global) -> Result<Command<'a>, AllocError>
         .arg(out(alloc))
 }
 
-// `dis FILE`
+/// `dis FILE`
 fn dis<'a>(alloc: Global) -> Result<Command<'a>, AllocError>
     ensures { IfOk result (λ c. app_of c ≡ dis_app) }
 {
@@ -126,7 +126,7 @@ fn dis<'a>(alloc: Global) -> Result<Command<'a>, AllocError>
         .arg(file(alloc, "The ELF file"))
 }
 
-// The argument FILE of each subcommand.
+/// The argument FILE of each subcommand.
 fn file<'a>(alloc: Global, help: &'a str) -> Arg<'a>
     ensures rule { rule_of result ≡ file_rule }
     ensures local { result.global ≡ false }
@@ -138,7 +138,7 @@ fn file<'a>(alloc: Global, help: &'a str) -> Arg<'a>
         .action(ArgAction::Set)
 }
 
-// The option `--workers N`.
+/// The option `--workers N`.
 fn workers<'a>(alloc: Global) -> Arg<'a>
     ensures rule { rule_of result ≡ workers_rule }
     ensures local { result.global ≡ false }
@@ -152,7 +152,7 @@ fn workers<'a>(alloc: Global) -> Arg<'a>
         .value_parser(value_parser!(usize).range(1..=32))
 }
 
-// The option `--schedule FILE`.
+/// The option `--schedule FILE`.
 fn schedule<'a>(alloc: Global) -> Arg<'a>
     ensures rule { rule_of result ≡ schedule_rule }
     ensures local { result.global ≡ false }
@@ -165,7 +165,7 @@ fn schedule<'a>(alloc: Global) -> Arg<'a>
         .action(ArgAction::Set)
 }
 
-// The option `--out FILE`.
+/// The option `--out FILE`.
 fn out<'a>(alloc: Global) -> Arg<'a>
     ensures rule { rule_of result ≡ out_rule }
     ensures local { result.global ≡ false }
@@ -178,7 +178,7 @@ fn out<'a>(alloc: Global) -> Arg<'a>
         .action(ArgAction::Set)
 }
 
-// The request of a line that clap took.
+/// The request of a line that clap took.
 fn request_in<'a>(matches: &ArgMatches<'a>) -> Option<Request<'a>>
     ensures { option_map asked_by result
         ≡ option_and_then asked_in (subcommand_rows_of matches.now) }
@@ -192,7 +192,7 @@ fn request_in<'a>(matches: &ArgMatches<'a>) -> Option<Request<'a>>
     }
 }
 
-// The request of what clap found for `seq`.
+/// The request of what clap found for `seq`.
 #[tactic(auto, using(crate::proofs::Lines::first_in_rows))]
 fn seq_in<'a>(found: &ArgMatches<'a>) -> Option<Request<'a>>
     ensures { option_map asked_by result
@@ -202,7 +202,7 @@ fn seq_in<'a>(found: &ArgMatches<'a>) -> Option<Request<'a>>
     Some(Request::Seq { file })
 }
 
-// The request of what clap found for `drive`.
+/// The request of what clap found for `drive`.
 #[tactic(auto, using(crate::proofs::Lines::first_in_rows))]
 fn drive_in<'a>(found: &ArgMatches<'a>) -> Option<Request<'a>>
     ensures { option_map asked_by result ≡ drive_of (rows_of (found_of found.now)) }
@@ -217,14 +217,14 @@ fn drive_in<'a>(found: &ArgMatches<'a>) -> Option<Request<'a>>
     })
 }
 
-// The number of workers that clap found.
+/// The number of workers that clap found.
 fn workers_in(found: &ArgMatches<'_>) -> Option<usize>
     ensures { result ≡ option_and_then number_of (one_of (codes "workers") (rows_of (found_of found.now))) }
 {
     found.get_one::<usize>("workers")
 }
 
-// The request of what clap found for `asm`.
+/// The request of what clap found for `asm`.
 #[tactic(auto, using(crate::proofs::Lines::first_in_rows))]
 fn asm_in<'a>(found: &ArgMatches<'a>) -> Option<Request<'a>>
     ensures { option_map asked_by result ≡ asm_of (rows_of (found_of found.now)) }
@@ -234,7 +234,7 @@ fn asm_in<'a>(found: &ArgMatches<'a>) -> Option<Request<'a>>
     Some(Request::Asm { file, out })
 }
 
-// The request of what clap found for `dis`.
+/// The request of what clap found for `dis`.
 #[tactic(auto, using(crate::proofs::Lines::first_in_rows))]
 fn dis_in<'a>(found: &ArgMatches<'a>) -> Option<Request<'a>>
     ensures { option_map asked_by result

@@ -4,7 +4,7 @@ ghost use Rattle.std.specs.Prelude.{◌≡◌, ◌≤◌, Some, None, if◌then�
 ghost use Rattle.rv_mem.specs.Space.{bytes_at};
 ghost use Rattle.ecalls.specs.StorageCalls.{is_readable};
 
-use rv_ledger::{Key, ShortBytes};
+use rv_ledger::{InlineBytes, Key};
 use rv_mem::Memory;
 
 /// The key at an address, or None where a byte of it may not be read.
@@ -21,12 +21,12 @@ pub fn bytes_at<const LIMIT: usize>(
     memory: &Memory,
     address: u32,
     len: u32,
-) -> Option<ShortBytes<LIMIT>>
+) -> Option<InlineBytes<LIMIT>>
     requires { len ≤ LIMIT }
     ensures { result ≡ (if is_readable memory.now address len then Some (bytes_at memory.now address len) else None) }
 {
     let mut room = [0; LIMIT];
     let bytes = &mut room[..len as usize];
     memory.copy_out(address, bytes).ok()?;
-    ShortBytes::of(bytes)
+    InlineBytes::of(bytes)
 }

@@ -7,6 +7,6 @@ pub mod requests;
 pub mod storage_call;
 
 pub use request_kind::Request;
-pub use requests::request;
+pub use requests::{request, request_by};
 pub use rv_ledger::{Trap, Writes};
 pub use storage_call::{READ_CHARGE, StorageCall, asked, ecall_charge};

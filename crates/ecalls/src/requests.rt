@@ -3,7 +3,7 @@
 ghost use Rattle.std.specs.Prelude.{◌≡◌, ◌≤◌, Err, Ok, if◌then◌else◌};
 ghost use Rattle.rv_ledger.specs.declared.end.Trap.TheVariants.{MemoryFault};
 ghost use Rattle.rv_mem.specs.Space.{bytes_at};
-ghost use Rattle.ecalls.specs.StorageCalls.{a0, a1, a2, is_readable, request_by, request_of};
+ghost use Rattle.ecalls.specs.StorageCalls.{a0, a1, a2, is_readable, length_of, longest, request_by, request_of};
 ghost use Rattle.ecalls.specs.declared.storage_call.StorageCall.TheVariants as call;
 
 use crate::copies::{bytes_at, key_at};
@@ -19,7 +19,16 @@ use rv_mem::Memory;
 pub fn request(registers: &Regs, memory: &Memory) -> Result<Request, Trap>
     ensures { result ≡ request_of registers.now memory.now }
 {
-    match asked(registers)? {
+    request_by(asked(registers)?, registers, memory)
+}
+
+/// What a storage call asks for, whose length is within its limit; or MemoryFault where a byte of its
+/// key, buffer, value or output lacks the right that it needs.
+pub fn request_by(call: StorageCall, registers: &Regs, memory: &Memory) -> Result<Request, Trap>
+    requires { length_of call registers.now ≤ longest call }
+    ensures { result ≡ request_by call registers.now memory.now }
+{
+    match call {
         StorageCall::Read => read(registers, memory),
         StorageCall::Write => write(registers, memory),
         StorageCall::Remove => remove(registers, memory),

@@ -62,8 +62,8 @@ impl StorageCall {
         }
     }
 
-    /// The gas of the call, for a length within its limit.
-    fn charge(self, registers: &Regs) -> u32
+    /// The gas of the call, 10 to 656, for a length within its limit.
+    pub fn charge(self, registers: &Regs) -> u32
         requires { length_of self registers.now ≤ longest self }
         ensures { result ≡ charge_of self registers.now }
     {

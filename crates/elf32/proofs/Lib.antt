@@ -2,3 +2,4 @@ pub mod Flags
 pub mod Sound
 pub mod Ascending
 pub mod Loads
+pub mod Standing

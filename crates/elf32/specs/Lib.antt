@@ -5,3 +5,4 @@ pub mod Readable
 pub mod Image
 pub mod Words
 pub mod Written
+pub mod Refusals

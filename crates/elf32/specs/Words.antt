@@ -1,6 +1,6 @@
 -- The words of a program's text.
-use Rattle.std.specs.Prelude.{ℕ, ◌+◌, ◌-◌, ◌*◌, ◌/◌, ◌%◌, List, [], length, map, flat_map, if◌then◌else◌}
-use Rattle.std.specs.List.{range_with_len}
+use Rattle.std.specs.Prelude.{◌≡◌, ◌≤◌, ◌↔◌, ℕ, ◌+◌, ◌-◌, ◌*◌, ◌/◌, ◌%◌, true, List, [], length, map, flat_map, if◌then◌else◌}
+use Rattle.std.specs.List.{range_with_len, Any, Contains}
 use Rattle.elf32.specs.declared.segment.Segment.{Segment}
 use Rattle.elf32.specs.declared.words.PlacedWord.{PlacedWord}
 use Rattle.elf32.specs.Header.{word}
@@ -24,3 +24,15 @@ words_of_segment s = if s.rights.executable then map (word_of_segment s) (range_
 -- the words of the segments that may be executed, in the order of the segments
 abbrev pub words_of : Layout → List PlacedWord
 words_of layout = flat_map words_of_segment layout.segments
+
+-- a segment that may be executed has this word in four of its file bytes, at a multiple of 4
+pub record StandsIn (w : PlacedWord) (s : Segment) : Type 0 where
+  pub executable : s.rights.executable ≡ true
+  pub aligned : w.address % 4 ≡ 0
+  pub first : s.address ≤ w.address
+  pub last : w.address + 4 ≤ s.address + length s.content
+  pub bytes : w.word ≡ word s.content (w.address - s.address)
+
+-- the words of a program are those that stand in one of its segments
+abbrev pub StandInSegments : Layout → Type 0
+StandInSegments layout = (w : PlacedWord) → Contains (words_of layout) w ↔ Any (StandsIn w) layout.segments

@@ -10,36 +10,49 @@ pub(crate) const HEADER_SIZE: usize = 52;
 /// How many bytes a program header has.
 pub(crate) const PROGRAM_HEADER_SIZE: usize = 32;
 
-// Where the fields of the ELF header stand.
+/// Where the fields of the ELF header stand.
 pub(crate) const E_TYPE: usize = 16;
 
+/// Where the machine stands.
 pub(crate) const E_MACHINE: usize = 18;
 
+/// Where the version stands.
 pub(crate) const E_VERSION: usize = 20;
 
+/// Where the entry stands.
 pub(crate) const E_ENTRY: usize = 24;
 
+/// Where the offset of the program headers stands.
 pub(crate) const E_PHOFF: usize = 28;
 
+/// Where the flags stand.
 pub(crate) const E_FLAGS: usize = 36;
 
+/// Where the size of the file header stands.
 pub(crate) const E_EHSIZE: usize = 40;
 
+/// Where the size of a program header stands.
 pub(crate) const E_PHENTSIZE: usize = 42;
 
+/// Where the number of program headers stands.
 pub(crate) const E_PHNUM: usize = 44;
 
-// Where the fields of a program header stand in it.
+/// Where the fields of a program header stand in it.
 const P_TYPE: usize = 0;
 
+/// Where a segment's offset in the file stands.
 const P_OFFSET: usize = 4;
 
+/// Where a segment's address stands.
 const P_VADDR: usize = 8;
 
+/// Where a segment's size in the file stands.
 const P_FILESZ: usize = 16;
 
+/// Where a segment's size in memory stands.
 const P_MEMSZ: usize = 20;
 
+/// Where a segment's flags stand.
 const P_FLAGS: usize = 24;
 
 /// A program header, without p_paddr and p_align.
@@ -59,7 +72,7 @@ pub struct ProgramHeader {
     pub p_flags: u32,
 }
 
-// The number in the two bytes at a place.
+/// The number in the two bytes at a place.
 #[tactic(auto, unfolding(crate::specs::Header::half))]
 pub(crate) fn half_at(bytes: &[u8], at: usize) -> u16
     requires { at + 2 ≤ length bytes.now }
@@ -68,7 +81,7 @@ pub(crate) fn half_at(bytes: &[u8], at: usize) -> u16
     LittleEndian::read_u16(&bytes[at..])
 }
 
-// The number in the four bytes at a place.
+/// The number in the four bytes at a place.
 #[tactic(auto, unfolding(crate::specs::Header::word))]
 pub(crate) fn word_at(bytes: &[u8], at: usize) -> u32
     requires { at + 4 ≤ length bytes.now }
@@ -77,7 +90,7 @@ pub(crate) fn word_at(bytes: &[u8], at: usize) -> u32
     LittleEndian::read_u32(&bytes[at..])
 }
 
-// The program header at a place.
+/// The program header at a place.
 #[tactic(auto, unfolding(crate::specs::Header::header_from))]
 pub(crate) fn header_from(bytes: &[u8], at: usize) -> ProgramHeader
     requires { at + 32 ≤ length bytes.now }

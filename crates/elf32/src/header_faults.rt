@@ -10,18 +10,25 @@ use crate::header::{
 };
 use crate::table::MAX_COUNT;
 
+/// The first bytes of an ELF file.
 pub(crate) const MAGIC: [u8; 4] = [0x7f, b'E', b'L', b'F'];
 
+/// Objects of 32 bits.
 pub(crate) const ELFCLASS32: u8 = 1;
 
+/// The lowest byte stands first.
 pub(crate) const ELFDATA2LSB: u8 = 1;
 
+/// The one version of the format.
 pub(crate) const EV_CURRENT: u8 = 1;
 
+/// An executable file.
 pub(crate) const ET_EXEC: u16 = 2;
 
+/// The machine RISC-V.
 pub(crate) const EM_RISCV: u16 = 243;
 
+/// Whether the file ends in its header or in its program headers.
 #[tactic(auto, unfolding(crate::specs::Faults::is_truncated, crate::specs::Faults::has_bad_count))]
 pub(crate) fn is_truncated(bytes: &[u8]) -> bool
     ensures value { result ≡ is_truncated bytes.now }
@@ -36,6 +43,7 @@ pub(crate) fn is_truncated(bytes: &[u8]) -> bool
     !has_bad_count(bytes) && bytes.len() < start + PROGRAM_HEADER_SIZE * count
 }
 
+/// Whether the first bytes are others.
 #[tactic(auto, unfolding(crate::specs::Faults::has_bad_magic))]
 pub(crate) fn has_bad_magic(bytes: &[u8]) -> bool
     requires { 52 ≤ length bytes.now }
@@ -44,6 +52,7 @@ pub(crate) fn has_bad_magic(bytes: &[u8]) -> bool
     !bytes.starts_with(&MAGIC)
 }
 
+/// Whether it is not of 32 bits, or its bytes are in another order.
 #[tactic(auto, unfolding(crate::specs::Faults::has_bad_class_or_data))]
 pub(crate) fn has_bad_class_or_data(bytes: &[u8]) -> bool
     requires { 52 ≤ length bytes.now }
@@ -52,6 +61,7 @@ pub(crate) fn has_bad_class_or_data(bytes: &[u8]) -> bool
     bytes[4] != ELFCLASS32 || bytes[5] != ELFDATA2LSB
 }
 
+/// Whether its version is another.
 #[tactic(auto, unfolding(crate::specs::Faults::has_bad_version))]
 pub(crate) fn has_bad_version(bytes: &[u8]) -> bool
     requires { 52 ≤ length bytes.now }
@@ -60,6 +70,7 @@ pub(crate) fn has_bad_version(bytes: &[u8]) -> bool
     bytes[6] != EV_CURRENT || word_at(bytes, E_VERSION) != u32::from(EV_CURRENT)
 }
 
+/// Whether it is no executable file.
 #[tactic(auto, unfolding(crate::specs::Faults::is_not_exec))]
 pub(crate) fn is_not_exec(bytes: &[u8]) -> bool
     requires { 52 ≤ length bytes.now }
@@ -68,6 +79,7 @@ pub(crate) fn is_not_exec(bytes: &[u8]) -> bool
     half_at(bytes, E_TYPE) != ET_EXEC
 }
 
+/// Whether it is for another machine.
 #[tactic(auto, unfolding(crate::specs::Faults::is_not_riscv))]
 pub(crate) fn is_not_riscv(bytes: &[u8]) -> bool
     requires { 52 ≤ length bytes.now }
@@ -76,6 +88,7 @@ pub(crate) fn is_not_riscv(bytes: &[u8]) -> bool
     half_at(bytes, E_MACHINE) != EM_RISCV
 }
 
+/// Whether it has flags.
 #[tactic(auto, unfolding(crate::specs::Faults::has_bad_flags))]
 pub(crate) fn has_bad_flags(bytes: &[u8]) -> bool
     requires { 52 ≤ length bytes.now }
@@ -84,6 +97,7 @@ pub(crate) fn has_bad_flags(bytes: &[u8]) -> bool
     word_at(bytes, E_FLAGS) != 0
 }
 
+/// Whether a header has another size.
 #[tactic(auto, unfolding(crate::specs::Faults::has_bad_header_size))]
 pub(crate) fn has_bad_header_size(bytes: &[u8]) -> bool
     requires { 52 ≤ length bytes.now }
@@ -93,6 +107,7 @@ pub(crate) fn has_bad_header_size(bytes: &[u8]) -> bool
         || half_at(bytes, E_PHENTSIZE) as usize != PROGRAM_HEADER_SIZE
 }
 
+/// Whether the number of program headers is not 1 to 8.
 #[tactic(auto, unfolding(crate::specs::Faults::has_bad_count))]
 pub(crate) fn has_bad_count(bytes: &[u8]) -> bool
     requires { 52 ≤ length bytes.now }

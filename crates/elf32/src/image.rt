@@ -25,7 +25,7 @@ impl Image {
     ghost use Rattle.std.specs.Prelude.{◌≡◌, All};
     ghost use Rattle.elf32.specs.Layout.{IsPlaced};
 
-    // An entry and segments in order.
+    /// An entry and segments in order.
     pub(crate) fn new(entry: u32, segments: Vec<Segment>) -> Self
         requires { All IsPlaced segments.items }
         ensures { result ≡ record { entry = entry; segments = segments.items } }

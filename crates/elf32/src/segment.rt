@@ -29,7 +29,7 @@ impl Model for Content {
 }
 
 impl Content {
-    // A copy of the bytes.
+    /// A copy of the bytes.
     pub(crate) fn from_slice(alloc: Global, bytes: &[u8]) -> Result<Self, AllocError>
         ensures { IfOk result (λ c. c ≡ bytes.now) }
     {

@@ -7,25 +7,33 @@ ghost use Rattle.elf32.specs.Faults.{has_execute, has_read, has_write, is_below,
 use crate::header::ProgramHeader;
 use crate::table::{PT_LOAD, PT_NULL};
 
+/// The first address of memory.
 const FIRST_ADDRESS: u32 = 0x0001_0000;
 
+/// Where the input stands; segments end before it.
 const INPUT_ADDRESS: u64 = 0x0010_0000;
 
+/// The size of a page, in bytes.
 const PAGE_SIZE: u64 = 4096;
 
+/// The flag of an executable segment.
 pub(crate) const PF_X: u32 = 1;
 
+/// The flag of a writable segment.
 pub(crate) const PF_W: u32 = 2;
 
+/// The flag of a readable segment.
 pub(crate) const PF_R: u32 = 4;
 
 impl ProgramHeader {
+    /// Whether it may be executed.
     pub(crate) fn has_execute(&self) -> bool
         ensures { result ≡ has_execute self.now }
     {
         self.p_flags & PF_X != 0
     }
 
+    /// Whether it may be written.
     #[tactic(auto, using(crate::proofs::Flags::second_bit))]
     pub(crate) fn has_write(&self) -> bool
         ensures { result ≡ has_write self.now }
@@ -33,6 +41,7 @@ impl ProgramHeader {
         self.p_flags & PF_W != 0
     }
 
+    /// Whether it may be read.
     #[tactic(auto, using(crate::proofs::Flags::third_bit))]
     pub(crate) fn has_read(&self) -> bool
         ensures { result ≡ has_read self.now }
@@ -40,13 +49,14 @@ impl ProgramHeader {
         self.p_flags & PF_R != 0
     }
 
-    // One past the last address.
+    /// One past the last address.
     fn end(&self) -> u64
         ensures { result ≡ self.now.p_vaddr + self.now.p_memsz }
     {
         u64::from(self.p_vaddr) + u64::from(self.p_memsz)
     }
 
+    /// Whether it passes the end of the file or of its memory.
     fn is_out_of_range(&self, len: usize) -> bool
         ensures { result ≡ is_out_of_range len self.now }
     {
@@ -56,6 +66,7 @@ impl ProgramHeader {
             || INPUT_ADDRESS < self.end()
     }
 
+    /// Whether two segments have addresses in one page.
     fn shares_page(&self, other: &ProgramHeader) -> bool
         ensures { result ≡ share_a_page self.now other.now }
     {
@@ -65,6 +76,7 @@ impl ProgramHeader {
             && u64::from(other.p_vaddr) / PAGE_SIZE <= (self.end() - 1) / PAGE_SIZE
     }
 
+    /// Whether an address is in an executable segment.
     fn may_execute_at(&self, address: u32) -> bool
         ensures { result ≡ may_execute_at address self.now }
     {
@@ -72,6 +84,7 @@ impl ProgramHeader {
     }
 }
 
+/// Whether an entry is neither loaded nor unused.
 pub(crate) fn has_bad_type(headers: &[ProgramHeader]) -> bool
     ensures { result ≡ list_any (λ p. not (is_load p || is_null p)) headers.now }
 {
@@ -80,18 +93,21 @@ pub(crate) fn has_bad_type(headers: &[ProgramHeader]) -> bool
         .any(|p| p.p_type != PT_LOAD && p.p_type != PT_NULL)
 }
 
+/// Whether a segment is out of its range.
 pub(crate) fn has_bad_range(loads: &[ProgramHeader], len: usize) -> bool
     ensures { result ≡ list_any (is_out_of_range len) loads.now }
 {
     loads.iter().any(|p| p.is_out_of_range(len))
 }
 
+/// Whether a later segment is below one.
 fn any_is_below(later: &[ProgramHeader], before: &ProgramHeader) -> bool
     ensures { result ≡ list_any (is_below before.now) later.now }
 {
     later.iter().any(|p| p.p_vaddr < before.p_vaddr)
 }
 
+/// Whether the segments do not ascend.
 pub(crate) fn is_out_of_order(loads: &[ProgramHeader]) -> bool
     ensures { result ≡ some_pair is_below loads.now }
 {
@@ -101,12 +117,14 @@ pub(crate) fn is_out_of_order(loads: &[ProgramHeader]) -> bool
     }
 }
 
+/// Whether a later segment shares a page with one.
 fn any_shares_page(later: &[ProgramHeader], before: &ProgramHeader) -> bool
     ensures { result ≡ list_any (share_a_page before.now) later.now }
 {
     later.iter().any(|p| before.shares_page(p))
 }
 
+/// Whether two segments have addresses in one page.
 pub(crate) fn shares_page(loads: &[ProgramHeader]) -> bool
     ensures { result ≡ some_pair share_a_page loads.now }
 {
@@ -116,18 +134,21 @@ pub(crate) fn shares_page(loads: &[ProgramHeader]) -> bool
     }
 }
 
+/// Whether a segment may be written and executed.
 pub(crate) fn is_write_execute(loads: &[ProgramHeader]) -> bool
     ensures { result ≡ list_any (λ p. has_write p && has_execute p) loads.now }
 {
     loads.iter().any(|p| p.has_write() && p.has_execute())
 }
 
+/// Whether an address is in some executable segment.
 fn is_executable(loads: &[ProgramHeader], address: u32) -> bool
     ensures { result ≡ list_any (may_execute_at address) loads.now }
 {
     loads.iter().any(|p| p.may_execute_at(address))
 }
 
+/// Whether the entry is no multiple of 4, or in no executable segment.
 pub(crate) fn has_bad_entry(loads: &[ProgramHeader], entry: u32) -> bool
     ensures { result ≡ (not (entry % 4 == 0) || not (list_any (may_execute_at entry) loads.now)) }
 {

@@ -17,7 +17,7 @@ pub(crate) const PT_LOAD: u32 = 1;
 /// How many program headers a file may have.
 pub(crate) const MAX_COUNT: usize = 8;
 
-// At most eight program headers, in order.
+/// At most eight program headers, in order.
 #[derive(Drop)]
 pub(crate) struct Table {
     items: [ProgramHeader; MAX_COUNT],
@@ -36,6 +36,7 @@ impl Model for Table {
 }
 
 impl Table {
+    /// No program headers.
     fn new() -> Self
         ensures { result ≡ [] }
     {
@@ -53,6 +54,7 @@ impl Table {
         }
     }
 
+    /// Adds one behind the others.
     fn push(&mut self, header: ProgramHeader)
         requires { length self.old < 8 }
         ensures { self.new ≡ self.old ++ header ∷ [] }
@@ -61,6 +63,7 @@ impl Table {
         self.count += 1;
     }
 
+    /// The program headers in order.
     pub(crate) fn as_slice(&self) -> &[ProgramHeader]
         ensures { result.now ≡ self.now }
     {
@@ -68,7 +71,7 @@ impl Table {
     }
 }
 
-// All of the file's, e_phnum of them from e_phoff on.
+/// All of the file's, e_phnum of them from e_phoff on.
 #[tactic(auto, unfolding(crate::specs::Header::program_headers))]
 pub(crate) fn program_headers(bytes: &[u8]) -> Table
     requires { IsReadable bytes.now }
@@ -83,7 +86,7 @@ pub(crate) fn program_headers(bytes: &[u8]) -> Table
     table
 }
 
-// The PT_LOADs of the file.
+/// The PT_LOADs of the file.
 #[tactic(auto, unfolding(crate::specs::Faults::loads))]
 pub(crate) fn loads(bytes: &[u8]) -> Table
     requires { IsReadable bytes.now }

@@ -3,7 +3,7 @@
 ghost use Rattle.std.specs.Prelude.{◌≡◌, ◌+◌, ◌*◌, ◌/◌, ◌-◌, ◌<◌, ◌++◌, length, IfOk, OnOk, AllPairs, List, ℕ};
 ghost use Rattle.elf32.specs.Image.{image_of};
 ghost use Rattle.elf32.specs.Layout.{IsPlaced, Layout};
-ghost use Rattle.elf32.specs.Words.{lead, word_count, word_of_segment, words_of, words_of_segment};
+ghost use Rattle.elf32.specs.Words.{StandInSegments, lead, word_count, word_of_segment, words_of, words_of_segment};
 
 use crate::header::word_at;
 use crate::image::Image;
@@ -20,7 +20,7 @@ pub struct PlacedWord {
 }
 
 impl Segment {
-    // How far the first multiple of 4 lies behind the address.
+    /// How far the first multiple of 4 lies behind the address.
     fn lead(&self) -> u32
         ensures value { result ≡ lead self.now }
         ensures small { result < 4 }
@@ -28,6 +28,7 @@ impl Segment {
         (4 - self.address % 4) % 4
     }
 
+    /// How many whole words stand from there on.
     fn word_count(&self) -> usize
         ensures { result ≡ word_count self.now }
     {
@@ -38,6 +39,7 @@ impl Segment {
             / 4
     }
 
+    /// The k-th of these words, with its address.
     fn word(&self, k: usize) -> PlacedWord
         requires placed { IsPlaced self.now }
         requires below { k < word_count self.now }
@@ -50,6 +52,7 @@ impl Segment {
         }
     }
 
+    /// Adds its words, where it may be executed; refused where memory ran out.
     #[tactic(auto, unfolding(crate::specs::Words::words_of_segment))]
     fn put_words(&self, words: &mut Vec<PlacedWord>) -> Result<(), AllocError>
         requires { IsPlaced self.now }
@@ -67,8 +70,8 @@ impl Segment {
 
 impl Image {
     /// The words at multiples of 4 whose four bytes are file bytes of segments with PF_X, each with its
-    /// address, in the order of the segments; refused where memory ran out. Those of a file that loads
-    /// ascend: `words_ascend`.
+    /// address, in the order of the segments; refused where memory ran out. Which words these are:
+    /// `words_stand_in_segments`. Those of a file that loads ascend: `words_ascend`.
     pub fn words(&self, alloc: Global) -> Result<Vec<PlacedWord>, AllocError>
         ensures { IfOk result (λ v. v.items ≡ words_of self.now) }
     {
@@ -85,4 +88,10 @@ pub fn words_ascend()
     ensures { (bytes : List ℕ) (layout : Layout)
         → image_of bytes ≡ Ok layout
         → AllPairs (λ v w. v.address < w.address) (words_of layout) }
+{}
+
+/// A law, and no code: a word is among a program's words just where a segment that may be executed has
+/// it in four of its file bytes at a multiple of 4.
+pub fn words_stand_in_segments()
+    ensures { (layout : Layout) → StandInSegments layout }
 {}

@@ -14,9 +14,10 @@ use crate::table::PT_LOAD;
 use rv_program::{DATA_START, Program, TEXT_START};
 use std::alloc::{AllocError, Global};
 
+/// The alignment of a segment, in bytes.
 const P_ALIGN: u32 = 4;
 
-// Appends a number of two bytes.
+/// Appends a number of two bytes.
 #[tactic(auto, unfolding(crate::specs::Written::half_bytes))]
 fn put_half(file: &mut Vec<u8>, half: u16) -> Result<(), AllocError>
     ensures { OnOk result (file.new.items ≡ file.old.items ++ half_bytes half) }
@@ -24,7 +25,7 @@ fn put_half(file: &mut Vec<u8>, half: u16) -> Result<(), AllocError>
     file.extend_from_slice(&half.to_le_bytes())
 }
 
-// Appends a number of four bytes.
+/// Appends a number of four bytes.
 #[tactic(auto, unfolding(crate::specs::Written::word_bytes))]
 fn put_word(file: &mut Vec<u8>, word: u32) -> Result<(), AllocError>
     ensures { OnOk result (file.new.items ≡ file.old.items ++ word_bytes word) }
@@ -32,7 +33,7 @@ fn put_word(file: &mut Vec<u8>, word: u32) -> Result<(), AllocError>
     file.extend_from_slice(&word.to_le_bytes())
 }
 
-// Appends magic, class, data, version and padding.
+/// Appends magic, class, data, version and padding.
 fn put_ident(file: &mut Vec<u8>) -> Result<(), AllocError>
     ensures { OnOk result (file.new.items ≡ file.old.items ++ e_ident) }
 {
@@ -41,7 +42,7 @@ fn put_ident(file: &mut Vec<u8>) -> Result<(), AllocError>
     file.extend_from_slice(&[0; 9])
 }
 
-// Appends e_type to e_entry.
+/// Appends e_type to e_entry.
 fn put_kind(file: &mut Vec<u8>) -> Result<(), AllocError>
     ensures { OnOk result (file.new.items ≡ file.old.items ++ kind_fields) }
 {
@@ -51,7 +52,7 @@ fn put_kind(file: &mut Vec<u8>) -> Result<(), AllocError>
     put_word(file, TEXT_START)
 }
 
-// Appends e_phoff to e_shstrndx for so many program headers.
+/// Appends e_phoff to e_shstrndx for so many program headers.
 fn put_table(file: &mut Vec<u8>, count: u16) -> Result<(), AllocError>
     ensures { OnOk result (file.new.items ≡ file.old.items ++ table_fields count) }
 {
@@ -66,7 +67,7 @@ fn put_table(file: &mut Vec<u8>, count: u16) -> Result<(), AllocError>
     put_half(file, 0)
 }
 
-// Appends the ELF header of a file with so many program headers.
+/// Appends the ELF header of a file with so many program headers.
 #[tactic(auto, unfolding(crate::specs::Written::elf_header))]
 fn put_header(file: &mut Vec<u8>, count: u16) -> Result<(), AllocError>
     ensures { OnOk result (file.new.items ≡ file.old.items ++ elf_header count) }
@@ -76,7 +77,7 @@ fn put_header(file: &mut Vec<u8>, count: u16) -> Result<(), AllocError>
     put_table(file, count)
 }
 
-// Appends a program header; p_paddr is p_vaddr.
+/// Appends a program header; p_paddr is p_vaddr.
 #[tactic(auto, unfolding(crate::specs::Written::program_header_bytes))]
 fn put_program_header(file: &mut Vec<u8>, header: &ProgramHeader) -> Result<(), AllocError>
     ensures { OnOk result (file.new.items ≡ file.old.items ++ program_header_bytes header.now) }
@@ -91,7 +92,7 @@ fn put_program_header(file: &mut Vec<u8>, header: &ProgramHeader) -> Result<(), 
     put_word(file, P_ALIGN)
 }
 
-// Appends text, each word's low byte first.
+/// Appends text, each word's low byte first.
 #[tactic(auto, unfolding(crate::specs::Written::text_bytes))]
 fn put_text(file: &mut Vec<u8>, text: &[u32]) -> Result<(), AllocError>
     ensures { OnOk result (file.new.items ≡ file.old.items ++ text_bytes text.now) }
@@ -102,7 +103,7 @@ fn put_text(file: &mut Vec<u8>, text: &[u32]) -> Result<(), AllocError>
     Ok(())
 }
 
-// One program header for text, and one for data where there are any.
+/// One program header for text, and one for data where there are any.
 fn header_count(program: &Program) -> u16
     ensures value { result ≡ header_count program.now }
     ensures few { result ≤ 2 }
@@ -110,7 +111,7 @@ fn header_count(program: &Program) -> u16
     if program.data().is_empty() { 1 } else { 2 }
 }
 
-// Where the sections begin in the file.
+/// Where the sections begin in the file.
 fn sections_offset(program: &Program) -> u32
     ensures value { result ≡ sections_offset (header_count program.now) }
     ensures few { result ≤ 116 }
@@ -118,7 +119,7 @@ fn sections_offset(program: &Program) -> u32
     HEADER_SIZE as u32 + PROGRAM_HEADER_SIZE as u32 * u32::from(header_count(program))
 }
 
-// The program header of text.
+/// The program header of text.
 fn text_header(program: &Program) -> ProgramHeader
     ensures { result ≡ text_header program.now }
 {
@@ -133,7 +134,7 @@ fn text_header(program: &Program) -> ProgramHeader
     }
 }
 
-// The program header of data.
+/// The program header of data.
 fn data_header(program: &Program) -> ProgramHeader
     ensures { result ≡ data_header program.now }
 {
@@ -148,7 +149,7 @@ fn data_header(program: &Program) -> ProgramHeader
     }
 }
 
-// Appends the program headers.
+/// Appends the program headers.
 fn put_program_headers(file: &mut Vec<u8>, program: &Program) -> Result<(), AllocError>
     ensures { OnOk result (file.new.items ≡ file.old.items ++ flat_map program_header_bytes (headers_of program.now)) }
 {
@@ -159,7 +160,7 @@ fn put_program_headers(file: &mut Vec<u8>, program: &Program) -> Result<(), Allo
     put_program_header(file, &data_header(program))
 }
 
-// The file of a program.
+/// The file of a program.
 #[tactic(auto, unfolding(crate::specs::Written::file_of))]
 fn file(alloc: Global, program: &Program) -> Result<Vec<u8>, AllocError>
     ensures { IfOk result (λ file. file.items ≡ file_of program.now) }

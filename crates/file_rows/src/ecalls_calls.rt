@@ -1,3 +1,5 @@
+//! The calls of ecalls.
+
 use ecalls::*;
 use rv_isa::{Reg, Regs};
 use rv_ledger::{Output, Value};

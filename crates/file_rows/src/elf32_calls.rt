@@ -1,3 +1,5 @@
+//! The calls of elf32.
+
 use elf32::*;
 use rv_program::Program;
 use std::alloc::{AllocError, Global};

@@ -1,3 +1,5 @@
+//! The calls of rv_ledger.
+
 use rv_isa::Regs;
 use rv_ledger::*;
 use std::sync::Arc;

@@ -1,3 +1,5 @@
+//! The calls of rv_program.
+
 use rv_program::*;
 use std::test::Fail;
 

@@ -1,3 +1,5 @@
+//! The gas that each instruction costs.
+
 ghost use Rattle.std.specs.Prelude.{◌≡◌};
 ghost use Rattle.gas.specs.Costs.{cost_of, cost_of_operation};
 
@@ -15,6 +17,7 @@ pub fn cost(instr: &Instr) -> u32
     }
 }
 
+/// The gas that an operation on two registers costs.
 fn operation_cost(operation: Operation) -> u32
     ensures { result ≡ cost_of_operation operation }
 {

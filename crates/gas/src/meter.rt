@@ -1,3 +1,5 @@
+//! The gas that a call has left.
+
 ghost use Rattle.std.specs.Prelude.{◌≡◌, ◌-◌, ℕ, nat_le};
 ghost use Rattle.std.specs.Bool.{OnTrue, OnFalse};
 

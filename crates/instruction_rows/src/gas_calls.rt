@@ -1,3 +1,5 @@
+//! The calls of gas.
+
 use gas::{Meter, cost};
 use rv_isa::{Immediate, Instr, LoadKind, Operation, Reg, StoreKind};
 

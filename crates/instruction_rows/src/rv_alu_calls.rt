@@ -1,3 +1,5 @@
+//! The calls of rv_alu.
+
 ghost use Rattle.std.specs.Prelude.{IsTrue};
 ghost use Rattle.rv_alu.specs.Effects.{is_plain};
 

@@ -1,3 +1,5 @@
+//! The calls of rv_isa.
+
 ghost use Rattle.std.specs.Prelude.{◌<◌, ◌^◌};
 ghost use Rattle.rv_isa.specs.Ranges.{IsImmediate, IsBranchOffset, IsJumpOffset};
 

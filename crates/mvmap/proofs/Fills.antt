@@ -1,11 +1,12 @@
 -- What the versions and the places are when slots are made and written into.
-use Rattle.std.proofs.Common.{◌≡◌, ◌<◌, ◌≤◌, ◌⊎◌, ◌++◌, ℕ, suc, zero, Bool, true, false, cond, List, [], ◌∷◌, length, Option, None, Some, is_some, IsSome, arith, refl, sym, ap, subst, ◌∙◌, inl, inr, slice_get}
+use Rattle.std.proofs.Common.{◌≡◌, ◌≢◌, ◌<◌, ◌≤◌, ◌⊎◌, ◌++◌, ℕ, suc, zero, Bool, true, false, cond, List, [], ◌∷◌, length, Option, None, Some, is_some, IsSome, arith, refl, sym, ap, subst, ◌∙◌, inl, inr, slice_get, get_or, Result, Ok, Err, OnErr}
+use Rattle.std.specs.List.{All}
 use Rattle.std.specs.BTreeMap.{is_at}
 use Rattle.std.specs.FinMap.{get, same_map}
 use Rattle.std.specs.FinSet.{contains}
 use Rattle.std.specs.Cmp.{eq_by_cmp_equiv}
 use Rattle.std.specs.Option.{option_map, option_and_then}
-use Rattle.version_arena.specs.Shelf.{Record}
+use Rattle.version_arena.specs.ArenaState.{Record}
 use Rattle.mvmap.specs.Versions.{Entry, Stands, Place, changed, place_cmp}
 use Rattle.mvmap.specs.Table.{Table}
 use Rattle.mvmap.specs.Slots.{Slots, slot_at, entry_of, versions_of, places_of, ArePlaced, IsOpened}
@@ -22,6 +23,22 @@ opened_at es fs p q false same none h = inl h
 -- a vacant slot at a place without one
 pub opened_one : (es fs : Slots) (p : Place) → slot_at es p ≡ None → ((q : Place) → slot_at fs q ≡ cond (is_at (place_cmp p) q) (Some slot.Vacant) (slot_at es q)) → IsOpened es fs
 opened_one es fs p none h = λ q. opened_at es fs p q (is_at (place_cmp p) q) (same_place p q) none (h q)
+
+opened_apart_at : (es fs : Slots) (q : Place) (b : Bool) → (b ≡ true → ⊥) → slot_at fs q ≡ cond b (Some slot.Vacant) (slot_at es q) → slot_at fs q ≡ slot_at es q
+opened_apart_at es fs q true ne h = absurd (ne refl)
+opened_apart_at es fs q false ne h = h
+
+-- at another place there is what was there
+pub opened_apart : (es fs : Slots) (p : Place) → ((q : Place) → slot_at fs q ≡ cond (is_at (place_cmp p) q) (Some slot.Vacant) (slot_at es q)) → (q : Place) → p ≢ q → slot_at fs q ≡ slot_at es q
+opened_apart es fs p h q ne = opened_apart_at es fs q (is_at (place_cmp p) q) (λ t. ne (same_place p q t)) (h q)
+
+-- what holds of all keys holds of one of them
+pub all_at : (P : List ℕ → Type 0) (keys : List (List ℕ)) (k : ℕ) (key : List ℕ) → All P keys → k < length keys → key ≡ get_or keys k key → P key
+all_at P keys k key all l is = subst P (sym is) (all k key l)
+
+-- where slots were made, there is room at no other place
+pub opened_places : (es fs : Slots) (q : Place) → slot_at fs q ≡ slot_at es q → contains (places_of fs) q ≡ contains (places_of es) q
+opened_places es fs q same = has_place fs q ∙ ap is_some same ∙ sym (has_place es q)
 
 -- nothing made
 pub opened_none : (es fs : Slots) → fs ≡ es → IsOpened es fs
@@ -152,8 +169,8 @@ pub kept_entries : (rs : List Record) (r : Record) (es : Slots) → ArePlaced rs
 kept_entries rs r es old q = kept_entry rs r (slot_at es q) (λ i e. old q i e)
 
 -- a table by its parts
-pub table_is : (s t : Table) → s.versions ≡ t.versions → s.places ≡ t.places → s.shelf ≡ t.shelf → s ≡ t
-table_is s t v p h = λ i. record { versions = v i; places = p i; shelf = h i }
+pub table_is : (s t : Table) → s.versions ≡ t.versions → s.places ≡ t.places → s.arena ≡ t.arena → s ≡ t
+table_is s t v p h = λ i. record { versions = v i; places = p i; arena = h i }
 
 -- a slot that is there isn't missing
 pub there_not_none : {X Y : Type 0} (o : Option X) (x : Option Y) → IsSome o → o ≡ None → x ≡ None
@@ -176,3 +193,8 @@ some_if_mapped f (Some x) h = refl
 -- what is lent of a record that is there is something
 pub lent_within : {X : Type 0} (f : X → Record) (rs : List Record) (o : Option X) (i : ℕ) → option_map f o ≡ slice_get rs i → i < length rs → IsSome o
 lent_within f rs o i h l = some_if_mapped f o (subst (λ (x : Option Record). IsSome x) (sym h) (some_within rs i l))
+
+-- what stands whatever was refused
+pub on_err : {X E : Type 0} (r : Result X E) (P : Type 0) → P → OnErr r P
+on_err (Ok x) P p = tt
+on_err (Err e) P p = p

@@ -4,4 +4,4 @@ pub mod Changes
 pub mod Fills
 pub mod Seeks
 pub mod Storages
-pub mod Layings
+pub mod Snapshots

@@ -12,7 +12,7 @@ use Rattle.std.proofs.lemmas.Cmp.{on_total, then_total}
 use Rattle.std.proofs.lemmas.Map.Lookups.{CmpEqualImpliesEq, exact_pairs, exact_bytes, exact_unsigned}
 use Rattle.std.proofs.lemmas.Map.Views.{tells_apart}
 use Rattle.rv_ledger.specs.Key.{key_cmp}
-use Rattle.version_arena.specs.Shelf.{Record}
+use Rattle.version_arena.specs.ArenaState.{Record}
 use Rattle.mvmap.specs.Versions.{Entry, Place, Versions, changed, place_cmp}
 use Rattle.mvmap.specs.Slots.{Slots, slot_at, entry_of, versions_of, places_of}
 

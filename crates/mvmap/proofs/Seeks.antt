@@ -15,8 +15,8 @@ use Rattle.mvmap.specs.Versions.{Place, entry_at, place_cmp}
 use Rattle.mvmap.specs.Slots.{Slots, entry_of, slot_at, versions_of}
 use Rattle.mvmap.specs.declared.slot.Slot.{Slot}
 use Rattle.std.specs.Option.{option_and_then}
-use Rattle.version_arena.specs.Shelf.{Record}
-use Rattle.mvmap.specs.Reading.{Base, see, reading}
+use Rattle.version_arena.specs.ArenaState.{Record}
+use Rattle.mvmap.specs.Reading.{Base, visible_over, reading}
 use Rattle.mvmap.proofs.Readings.{seen_at, seen_none}
 use Rattle.mvmap.proofs.Places.{by_writer, get_versions}
 
@@ -74,10 +74,10 @@ none_below m key i r h e w l = h.5 e (key, w) (starts key w, ends key w i l)
 
 -- with no slot above a writer's and below a call, the call sees what that slot stands for, and else what is below
 pub seen_slot : (rs : List Record) (es : Slots) (key : List ℕ) (i w : ℕ) (s : Slot) → w < i → slot_at es (key, w) ≡ Some s → ((x : ℕ) → w < x → x < i → slot_at es (key, x) ≡ None)
-    → reading (versions_of rs es) key i ≡ see w (entry_of rs s) (reading (versions_of rs es) key w)
+    → reading (versions_of rs es) key i ≡ visible_over w (entry_of rs s) (reading (versions_of rs es) key w)
 seen_slot rs es key i w s l there none =
     seen_at (entry_at (versions_of rs es) key) i w l (λ x a b. get_versions rs es (key, x) ∙ ap (option_and_then (entry_of rs)) (none x a b))
-    ∙ ap (λ o. see w o (reading (versions_of rs es) key w)) (get_versions rs es (key, w) ∙ ap (option_and_then (entry_of rs)) there)
+    ∙ ap (λ o. visible_over w o (reading (versions_of rs es) key w)) (get_versions rs es (key, w) ∙ ap (option_and_then (entry_of rs)) there)
 
 -- with no slot below it a call sees the storage before the block
 pub seen_nothing : (rs : List Record) (es : Slots) (key : List ℕ) (i : ℕ) → ((x : ℕ) → x < i → slot_at es (key, x) ≡ None) → reading (versions_of rs es) key i ≡ Base

@@ -1,15 +1,15 @@
 -- What the answer to a read says.
 use Rattle.std.specs.Prelude.{ℕ, ◌≤◌, IfSome, length}
 use Rattle.std.specs.Option.{option_copied}
-use Rattle.mvmap.specs.Reading.{Seen, Base, Found, Blocked}
+use Rattle.mvmap.specs.Reading.{Visible, Base, Found, Blocked}
 use Rattle.mvmap.specs.declared.answer.Answer.{Answer}
 use Rattle.mvmap.specs.declared.answer.Answer.TheVariants as answer
 
 -- what an answer says is seen
-abbrev pub seen_of : Answer → Seen
-seen_of answer.Base = Base
-seen_of (answer.Found version content) = Found version.writer version.incarnation (option_copied content)
-seen_of (answer.Estimate writer) = Blocked writer
+abbrev pub visible_of : Answer → Visible
+visible_of answer.Base = Base
+visible_of (answer.Found version content) = Found version.writer version.incarnation (option_copied content)
+visible_of (answer.Estimate writer) = Blocked writer
 
 -- the bytes of a version that is found are at most so many
 abbrev pub IsShort : ℕ → Answer → Type 0

@@ -1,6 +1,6 @@
 -- Laws of what a call sees.
 use Rattle.std.specs.Prelude.{◌≡◌, ◌<◌, ℕ, List, Option, Some, true}
-use Rattle.version_arena.specs.Shelf.{Content}
+use Rattle.version_arena.specs.ArenaState.{Content}
 use Rattle.read_set.specs.declared.Origin.TheVariants as origin
 use Rattle.read_set.specs.declared.Read.{Read}
 use Rattle.mvmap.specs.Versions.{Entry, Stands, Estimate, Versions, changed, entry_at}

@@ -7,7 +7,7 @@ use Rattle.std.specs.FinMap.{empty}
 use Rattle.std.specs.Ordering.{eq_by_cmp}
 use Rattle.rv_ledger.specs.Key.{key_cmp}
 use Rattle.std.specs.FinSet.{FinSet, from_list}
-use Rattle.version_arena.specs.Shelf.{Record}
+use Rattle.version_arena.specs.ArenaState.{Record}
 use Rattle.mvmap.specs.Versions.{Entry, Stands, Estimate, Place, Versions, changed, place_cmp}
 use Rattle.mvmap.specs.declared.slot.Slot.{Slot}
 use Rattle.mvmap.specs.declared.slot.Slot.TheVariants as slot
@@ -43,13 +43,13 @@ ArePlaced records slots = (place : Place) (id : ℕ) → slot_at slots place ≡
 abbrev pub IsOpened : Slots → Slots → Type 0
 IsOpened old new = (place : Place) → (slot_at new place ≡ slot_at old place) ⊎ ((slot_at old place ≡ None) × (slot_at new place ≡ Some slot.Vacant))
 
--- what a key holds once an entry is laid over it
-abbrev pub over : Option (List ℕ) → Option Entry → Option (List ℕ)
-over base None = base
-over base (Some (Stands incarnation content)) = content
-over base (Some Estimate) = base
+-- what a key holds once an entry is applied to what it held
+abbrev pub value_over : Option (List ℕ) → Option Entry → Option (List ℕ)
+value_over base None = base
+value_over base (Some (Stands incarnation content)) = content
+value_over base (Some Estimate) = base
 
--- what a key holds once the slots at it are laid over it in turn
-abbrev pub laid : List Record → Slots → List ℕ → Option (List ℕ) → Option (List ℕ)
-laid records [] key base = base
-laid records (s ∷ slots) key base = laid records slots key (if eq_by_cmp key_cmp key s.0.0 then over base (entry_of records s.1) else base)
+-- what a key holds once the slots at it are applied in turn to what it held
+abbrev pub value_over_slots : List Record → Slots → List ℕ → Option (List ℕ) → Option (List ℕ)
+value_over_slots records [] key base = base
+value_over_slots records (s ∷ slots) key base = value_over_slots records slots key (if eq_by_cmp key_cmp key s.0.0 then value_over base (entry_of records s.1) else base)

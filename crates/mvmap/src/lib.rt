@@ -14,6 +14,3 @@ pub use laws::{
     blocks_on_lower_writers, changes_no_standing_read, depends_on_lower_writers, names_what_stands,
 };
 pub use map::MvMap;
-
-#[cfg(test)]
-mod tests;

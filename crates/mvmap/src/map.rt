@@ -3,8 +3,8 @@
 use crate::answer::Answer;
 use crate::seek::seek;
 use crate::slot::{Slot, open_all, put};
-use crate::snapshot::lay_all;
-use rv_ledger::short_bytes::VALUE_LIMIT;
+use crate::snapshot::apply_slots;
+use rv_ledger::inline_bytes::VALUE_LIMIT;
 use rv_ledger::{Key, Store, Value};
 use std::alloc::{AllocError, Global};
 use std::collections::BTreeMap;
@@ -31,28 +31,30 @@ impl Model for MvMap {
 
     ghost coded = { Prim.hlevel (codes, map.code {R = place_cmp} coded_place coded_entry, set.code {R = place_cmp} coded_place) };
 
-    ghost view = { λ m. record { versions = versions_of m.arena.records m.slots.entries; places = places_of m.slots.entries; shelf = m.arena } };
+    ghost view = { λ m. record { versions = versions_of m.arena.records m.slots.entries; places = places_of m.slots.entries; arena = m.arena } };
 
     ghost invariant = { λ m. ArePlaced m.arena.records m.slots.entries };
 }
 
 impl MvMap {
-    ghost use Rattle.std.specs.Prelude.{◌≡◌, ◌≤◌, ◌+◌, ◌<◌, ◌↔◌, ℕ, [], Err, IsTrue, List, None, OnOk, length};
+    ghost use Rattle.std.specs.Prelude.{◌≡◌, ◌≢◌, ◌≤◌, ◌+◌, ◌<◌, ◌↔◌, ℕ, [], Err, IsTrue, List, None, Ok, OnErr, OnOk, length};
     ghost use Rattle.std.specs.Option.{option_copied};
     ghost use Rattle.std.specs.List.{All};
     ghost use Rattle.std.specs.FinMap as map;
     ghost use Rattle.std.specs.FinSet as set;
-    ghost use Rattle.version_arena.specs.Shelf.{bytes_of, placed};
+    ghost use Rattle.version_arena.specs.ArenaState.{bytes_of, emptied, placed};
     ghost use Rattle.version_arena.specs.declared.fault.ReserveFault.TheVariants.{ArenaFull};
     ghost use Rattle.mvmap.specs.Versions.{Estimate, HasNoEstimate, Place, Stands, entry_at};
-    ghost use Rattle.mvmap.specs.Reading.{held, reading};
-    ghost use Rattle.mvmap.specs.Answers.{IsShort, seen_of};
+    ghost use Rattle.mvmap.specs.Reading.{value_seen, reading};
+    ghost use Rattle.mvmap.specs.Answers.{IsShort, visible_of};
 
-    /// A map without versions over an arena, whose records are taken away. Takes no memory.
+    /// A map without versions over an arena, whose records are taken away and whose room stays.
+    /// Takes no memory.
     pub fn over(alloc: Global, arena: Arena) -> MvMap
         ensures versions { result.versions ≡ map.empty }
         ensures places { result.places ≡ set.empty }
-        ensures records { result.shelf.records ≡ [] }
+        ensures records { result.arena.records ≡ [] }
+        ensures arena { result.arena ≡ emptied arena }
     {
         let mut empty = arena;
         empty.reset();
@@ -62,9 +64,9 @@ impl MvMap {
         }
     }
 
-    /// The map's arena, without records. Takes no memory.
+    /// The map's arena, without records and with their room. Takes no memory.
     pub fn into_arena(self) -> Arena
-        ensures { result.records ≡ [] }
+        ensures { result ≡ emptied self.arena }
     {
         let MvMap {
             slots: _,
@@ -78,7 +80,7 @@ impl MvMap {
     /// yet where an estimate of that call stands there, or the storage before the block. Takes no
     /// memory.
     pub fn read(&self, key: &Key, i: u16) -> Answer<'_>
-        ensures seen { seen_of result ≡ reading self.now.versions key.now i }
+        ensures seen { visible_of result ≡ reading self.now.versions key.now i }
         ensures short { IsShort VALUE_LIMIT result }
     {
         seek(&self.slots, &self.arena, key, i)
@@ -86,8 +88,8 @@ impl MvMap {
 
     /// Makes room for an entry of call `i` at each of these keys, beside the room that was made
     /// before, and for this many more records and bytes of values. Refused as ArenaFull exactly
-    /// where there would be above 1,048,576 records, which is tested first, and as Memory where
-    /// memory ran out. The versions and the records stay, and no room is lost.
+    /// where there would be above 1,048,576 records, which is tested first and changes nothing, and
+    /// as Memory where memory ran out: then all is as before but for entries that have room by then.
     pub fn reserve_for(
         &mut self,
         keys: &[Key],
@@ -95,29 +97,34 @@ impl MvMap {
         records: usize,
         bytes: usize,
     ) -> Result<(), ReserveFault>
-        ensures full { (result ≡ Err ArenaFull) ↔ (RECORD_LIMIT < length self.old.shelf.records + records) }
-        ensures ok { OnOk result (All (λ key. IsTrue (set.contains self.new.places (key, i))) keys.now × (records ≤ self.new.shelf.room) × (bytes ≤ self.new.shelf.bytes)) }
+        ensures full { (result ≡ Err ArenaFull) ↔ (RECORD_LIMIT < length self.old.arena.records + records) }
+        ensures ok { OnOk result (All (λ key. IsTrue (set.contains self.new.places (key, i))) keys.now × (records ≤ self.new.arena.room) × (bytes ≤ self.new.arena.bytes)) }
         ensures versions { self.new.versions ≡ self.old.versions }
-        ensures records { self.new.shelf.records ≡ self.old.shelf.records }
+        ensures records { self.new.arena.records ≡ self.old.arena.records }
         ensures places { (place : Place) → IsTrue (set.contains self.old.places place) → IsTrue (set.contains self.new.places place) }
-        ensures room { self.old.shelf.room ≤ self.new.shelf.room }
-        ensures bytes { self.old.shelf.bytes ≤ self.new.shelf.bytes }
+        ensures room { self.old.arena.room ≤ self.new.arena.room }
+        ensures bytes { self.old.arena.bytes ≤ self.new.arena.bytes }
+        ensures elsewhere { (place : Place) → All (λ key. (key, i) ≢ place) keys.now → set.contains self.new.places place ≡ set.contains self.old.places place }
         ensures unchanged { result ≡ Err ArenaFull → self.new ≡ self.old }
+        ensures refused { OnErr result (self.new ≡ record self.old { places = self.new.places }) }
+        ensures succeeds { All (λ key. IsTrue (set.contains self.old.places (key, i))) keys.now → records ≤ self.old.arena.room → result ≡ Ok tt }
     {
-        self.arena.reserve(records, bytes)?;
+        if self.arena.is_full_for(records) {
+            return Err(ReserveFault::ArenaFull);
+        }
         open_all(&mut self.slots, keys, i)?;
-        Ok(())
+        self.arena.reserve(records, bytes)
     }
 
     /// Sets what a call's run wrote to a key, None where it removed the key, in room that was made.
     /// Takes no memory.
     pub fn publish(&mut self, key: &Key, writer: u16, incarnation: u16, value: Option<&Value>)
         requires place { IsTrue (set.contains self.old.places (key.now, writer)) }
-        requires room { 1 ≤ self.old.shelf.room }
-        requires bytes { bytes_of (option_copied value) ≤ self.old.shelf.bytes }
+        requires room { 1 ≤ self.old.arena.room }
+        requires bytes { bytes_of (option_copied value) ≤ self.old.arena.bytes }
         ensures versions { self.new.versions ≡ map.insert self.old.versions (key.now, writer) (Stands incarnation (option_copied value.entry)) }
         ensures places { self.new.places ≡ self.old.places }
-        ensures shelf { self.new.shelf ≡ placed writer incarnation (option_copied value.entry) self.old.shelf }
+        ensures arena { self.new.arena ≡ placed writer incarnation (option_copied value.entry) self.old.arena }
     {
         let id = self.arena.place(writer, incarnation, value);
         put(&mut self.slots, key, writer, Slot::Placed(id));
@@ -140,26 +147,28 @@ impl MvMap {
 
     /// How many records the arena has, at most 1,048,576.
     pub fn placed(&self) -> usize
-        ensures placed { result ≡ length self.now.shelf.records }
+        ensures placed { result ≡ length self.now.arena.records }
         ensures limit { result ≤ RECORD_LIMIT }
     {
         self.arena.len()
     }
 
-    /// Lays over a storage, for each key, what a call above all writers sees of it, where no entry
-    /// is an estimate. Where memory ran out the storage is to be dropped.
+    /// Sets in a storage, for each key, what a call above all writers sees of it, where no entry is
+    /// an estimate. Where memory ran out the storage is to be dropped.
     pub fn snapshot_into(&self, store: &mut Store) -> Result<(), AllocError>
         requires { HasNoEstimate self.now.versions }
-        ensures { OnOk result ((key : List ℕ) (i : ℕ) → ((w : ℕ) → i ≤ w → entry_at self.now.versions key w ≡ None) → map.get store.new key ≡ held (map.get store.old key) (reading self.now.versions key i)) }
+        ensures { OnOk result ((key : List ℕ) (i : ℕ) → ((w : ℕ) → i ≤ w → entry_at self.now.versions key w ≡ None) → map.get store.new key ≡ value_seen (map.get store.old key) (reading self.now.versions key i)) }
     {
-        lay_all(&self.slots, &self.arena, store)
+        apply_slots(&self.slots, &self.arena, store)
     }
 
-    /// Takes all versions, all room for entries and all records away. Takes no memory.
+    /// Takes all versions, all room for entries and all records away; the room of the records stays.
+    /// Takes no memory.
     pub fn clear(&mut self)
         ensures versions { self.new.versions ≡ map.empty }
         ensures places { self.new.places ≡ set.empty }
-        ensures records { self.new.shelf.records ≡ [] }
+        ensures records { self.new.arena.records ≡ [] }
+        ensures arena { self.new.arena ≡ emptied self.old.arena }
     {
         self.slots.clear();
         self.arena.reset();

@@ -2,21 +2,21 @@
 
 ghost use Rattle.std.specs.Prelude.{◌≡◌, ◌<◌, ◌≤◌, ℕ, IfSome, MatchOption, Some, None, length};
 ghost use Rattle.std.specs.Option.{option_copied};
-ghost use Rattle.mvmap.specs.Answers.{IsShort, seen_of};
+ghost use Rattle.mvmap.specs.Answers.{IsShort, visible_of};
 ghost use Rattle.mvmap.specs.Reading.{Found, reading};
 ghost use Rattle.mvmap.specs.Slots.{ArePlaced, slot_at, versions_of};
 
 use crate::answer::{Answer, Version};
 use crate::slot::{Slot, Slots};
 use rv_ledger::Key;
-use rv_ledger::short_bytes::VALUE_LIMIT;
+use rv_ledger::inline_bytes::VALUE_LIMIT;
 use version_arena::{Arena, Record};
 
 /// What the call of index `i` sees of a key: of the slots of lower calls the highest that isn't
 /// vacant.
 pub(crate) fn seek<'a>(slots: &'a Slots, arena: &'a Arena, key: &Key, i: u16) -> Answer<'a>
     requires { ArePlaced arena.now.records slots.now.entries }
-    ensures seen { seen_of result ≡ reading (versions_of arena.now.records slots.now.entries) key.now i }
+    ensures seen { visible_of result ≡ reading (versions_of arena.now.records slots.now.entries) key.now i }
     ensures short { IsShort VALUE_LIMIT result }
 {
     let mut end = i;
@@ -33,7 +33,7 @@ pub(crate) fn seek<'a>(slots: &'a Slots, arena: &'a Arena, key: &Key, i: u16) ->
 /// The answer that a record of a call gives.
 fn found<'a>(writer: u16, told: Record<'a>) -> Answer<'a>
     requires { IfSome told.content (λ bytes. length bytes.now ≤ VALUE_LIMIT) }
-    ensures seen { seen_of result ≡ Found writer told.entry.incarnation (option_copied told.entry.content) }
+    ensures seen { visible_of result ≡ Found writer told.entry.incarnation (option_copied told.entry.content) }
     ensures short { IsShort VALUE_LIMIT result }
 {
     let version = Version {

@@ -1,6 +1,6 @@
 //! The slots of a map, which are made ahead, so that writing into one takes no memory.
 
-ghost use Rattle.std.specs.Prelude.{◌≡◌, ℕ, IsSome, OnOk, OnErr, Option, Some, None, cond};
+ghost use Rattle.std.specs.Prelude.{◌≡◌, ◌≢◌, ℕ, IsSome, Ok, OnOk, OnErr, Option, Some, None, cond};
 ghost use Rattle.std.specs.Option.{option_map};
 ghost use Rattle.std.specs.List.{All};
 ghost use Rattle.std.specs.BTreeMap.{is_at};
@@ -27,10 +27,12 @@ pub(crate) enum Slot {
 pub(crate) type Slots = BTreeMap<(Key, u16), Slot>;
 
 /// Makes a slot of a call at each of these keys, beside those that are there; where memory ran out
-/// some were made.
+/// some of these were made.
 pub(crate) fn open_all(slots: &mut Slots, keys: &[Key], writer: u16) -> Result<(), AllocError>
     ensures opened { IsOpened slots.old.entries slots.new.entries }
     ensures ok { OnOk result (All (λ key. IsSome (slot_at slots.new.entries (key, writer))) keys.now) }
+    ensures elsewhere { (place : Place) → All (λ key. (key, writer) ≢ place) keys.now → slot_at slots.new.entries place ≡ slot_at slots.old.entries place }
+    ensures succeeds { All (λ key. IsSome (slot_at slots.old.entries (key, writer))) keys.now → result ≡ Ok tt }
 {
     for key in keys {
         open(slots, *key, writer)?;
@@ -42,6 +44,8 @@ pub(crate) fn open_all(slots: &mut Slots, keys: &[Key], writer: u16) -> Result<(
 fn open(slots: &mut Slots, key: Key, writer: u16) -> Result<(), AllocError>
     ensures opened { IsOpened slots.old.entries slots.new.entries }
     ensures ok { OnOk result (IsSome (slot_at slots.new.entries (key, writer))) }
+    ensures elsewhere { (place : Place) → (key, writer) ≢ place → slot_at slots.new.entries place ≡ slot_at slots.old.entries place }
+    ensures succeeds { IsSome (slot_at slots.old.entries (key, writer)) → result ≡ Ok tt }
 {
     if !slots.contains_key(&(key, writer)) {
         slots.insert((key, writer), Slot::Vacant)?;

@@ -8,29 +8,29 @@ ghost use Rattle.std.specs.Map.{keys_of};
 ghost use Rattle.std.specs.Ordering.{eq_by_cmp};
 ghost use Rattle.rv_ledger.specs.Key.{key_cmp};
 ghost use Rattle.mvmap.specs.Versions.{place_cmp};
-ghost use Rattle.mvmap.specs.Slots.{entry_of, laid, over};
+ghost use Rattle.mvmap.specs.Slots.{entry_of, value_over, value_over_slots};
 
 use crate::slot::{Slot, Slots};
-use rv_ledger::short_bytes::VALUE_LIMIT;
+use rv_ledger::inline_bytes::VALUE_LIMIT;
 use rv_ledger::{Key, Store, Value};
 use std::alloc::AllocError;
 use version_arena::Arena;
 
-/// Lays the versions over a storage in the order of keys and writers; where memory ran out the
+/// Applies the versions to a storage in the order of keys and writers; where memory ran out the
 /// storage is to be dropped.
-pub(crate) fn lay_all(slots: &Slots, arena: &Arena, store: &mut Store) -> Result<(), AllocError>
-    ensures laid { OnOk result ((key : List ℕ) → map.get store.new key ≡ laid arena.now.records slots.now.entries key (map.get store.old key)) }
+pub(crate) fn apply_slots(slots: &Slots, arena: &Arena, store: &mut Store) -> Result<(), AllocError>
+    ensures values { OnOk result ((key : List ℕ) → map.get store.new key ≡ value_over_slots arena.now.records slots.now.entries key (map.get store.old key)) }
     ensures ordered { OnOk result (IsStrictlySortedBy place_cmp (keys_of slots.now.entries)) }
 {
     for ((key, _), slot) in slots {
-        lay(slot, arena, key, store)?;
+        apply_slot(slot, arena, key, store)?;
     }
     Ok(())
 }
 
-/// Lays what a slot holds over a storage; where memory ran out the storage is to be dropped.
-fn lay(slot: &Slot, arena: &Arena, key: &Key, store: &mut Store) -> Result<(), AllocError>
-    ensures { OnOk result ((k : List ℕ) → map.get store.new k ≡ cond (eq_by_cmp key_cmp k key.now) (over (map.get store.old k) (entry_of arena.now.records slot.now)) (map.get store.old k)) }
+/// Applies what a slot holds to a storage; where memory ran out the storage is to be dropped.
+fn apply_slot(slot: &Slot, arena: &Arena, key: &Key, store: &mut Store) -> Result<(), AllocError>
+    ensures { OnOk result ((k : List ℕ) → map.get store.new k ≡ cond (eq_by_cmp key_cmp k key.now) (value_over (map.get store.old k) (entry_of arena.now.records slot.now)) (map.get store.old k)) }
 {
     let Slot::Placed(id) = slot else {
         return Ok(());

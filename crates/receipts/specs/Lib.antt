@@ -1,3 +1,4 @@
 pub mod Text
 pub mod Written
 pub mod Ranges
+pub mod Faults

@@ -6,17 +6,17 @@ ghost use Rattle.receipts.specs.Ranges.{AreBytes, AreInRange, AreWords, IsEntryI
 
 use rv_ledger::{Key, Receipt, Store, Value, Writes};
 
-// The numbers of a byte slice are bytes.
+/// The numbers of a byte slice are bytes.
 fn are_bytes(_bytes: &[u8])
     ensures { AreBytes _bytes.now }
 {}
 
-// The numbers of a slice of words have 32 bits.
+/// The numbers of a slice of words have 32 bits.
 fn are_words(_words: &[u32])
     ensures { AreWords _words.now }
 {}
 
-// A write's key and value are bytes.
+/// A write's key and value are bytes.
 fn is_write_in_range(key: &Key, content: &Option<Value>)
     ensures { IsWriteInRange (key.now, content.now) }
 {
@@ -26,7 +26,7 @@ fn is_write_in_range(key: &Key, content: &Option<Value>)
     }
 }
 
-// So are those of all writes of a call.
+/// So are those of all writes of a call.
 fn are_writes_in_range(writes: &Writes)
     ensures { All IsWriteInRange (entries writes.now) }
 {
@@ -35,7 +35,7 @@ fn are_writes_in_range(writes: &Writes)
     }
 }
 
-// The numbers of a receipt have their ranges.
+/// The numbers of a receipt have their ranges.
 fn is_in_range(receipt: &Receipt)
     ensures { IsInRange receipt.now }
 {
@@ -46,7 +46,7 @@ fn is_in_range(receipt: &Receipt)
     are_writes_in_range(&receipt.writes);
 }
 
-// A key and a value of the storage are bytes.
+/// A key and a value of the storage are bytes.
 fn is_entry_in_range(key: &Key, value: &Value)
     ensures { IsEntryInRange (key.now, value.now) }
 {
@@ -54,7 +54,7 @@ fn is_entry_in_range(key: &Key, value: &Value)
     are_bytes(value.bytes());
 }
 
-// So are all of the storage.
+/// So are all of the storage.
 fn is_store_in_range(store: &Store)
     ensures { All IsEntryInRange (entries store.now) }
 {
@@ -63,7 +63,7 @@ fn is_store_in_range(store: &Store)
     }
 }
 
-// The numbers of all receipts have their ranges.
+/// The numbers of all receipts have their ranges.
 fn all_in_range(receipts: &[Receipt])
     ensures { All IsInRange receipts.now }
 {
@@ -72,7 +72,7 @@ fn all_in_range(receipts: &[Receipt])
     }
 }
 
-// The numbers of a result have their ranges.
+/// The numbers of a result have their ranges.
 pub(crate) fn are_in_range(receipts: &[Receipt], store: &Store)
     ensures { AreInRange receipts.now store.now }
 {

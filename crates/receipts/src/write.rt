@@ -8,22 +8,35 @@ ghost use Rattle.std.specs.Io.KnownBytes.{Appends, Keeps};
 use crate::text::result_text;
 use rv_ledger::Outcome;
 use std::alloc::Global;
-use std::io;
 use std::io::Write;
+use std::{fmt, io};
 use thiserror::Error;
 
 /// Why an output is refused.
 #[derive(Clone, Copy, Debug, PartialEq, Eq, Error)]
 pub enum WriteFault {
     /// A write failed.
-    #[error("Io 1")]
     Io = 1,
     /// A write took no bytes.
-    #[error("WroteNothing 2")]
     WroteNothing = 2,
     /// Memory for the text ran out, and nothing was written.
-    #[error("Memory 3")]
     Memory = 3,
+}
+
+impl fmt::Display for WriteFault {
+    ghost use Rattle.std.specs.Prelude.{Some};
+    ghost use Rattle.receipts.specs.Faults.{fault_text};
+
+    ghost output = { λ fault. Some (fault_text fault) };
+
+    /// The name and the number.
+    fn fmt<W: fmt::Write>(&self, f: &mut fmt::Formatter<W>) -> fmt::Result {
+        match self {
+            WriteFault::Io => f.write_str("Io 1"),
+            WriteFault::WroteNothing => f.write_str("WroteNothing 2"),
+            WriteFault::Memory => f.write_str("Memory 3"),
+        }
+    }
 }
 
 /// Writes the text of an outcome's receipts and storage. Refused with Memory before anything is

@@ -10,8 +10,8 @@ use Rattle.rv_alu.specs.Operations.{value_of, immediate_value, shift_value}
 use Rattle.rv_alu.specs.Branches.{is_taken}
 
 -- what a register holds
-abbrev pub held : List ℕ → Reg → ℕ
-held registers register = slice_index registers register.number
+abbrev pub register_value : List ℕ → Reg → ℕ
+register_value registers register = slice_index registers register.number
 
 -- the registers after z, modulo 2^32, is written to rd
 abbrev pub put : List ℕ → Reg → ℤ → List ℕ
@@ -34,17 +34,17 @@ effect_of (Auipc rd immediate) registers pc =
 effect_of (Jal rd offset) registers pc =
     jumped (put registers rd (pos pc +ℤ pos 4)) (wrapped (pos pc +ℤ offset.value))
 effect_of (Jalr rd base offset) registers pc =
-    jumped (put registers rd (pos pc +ℤ pos 4)) (wrapped (pos (held registers base) +ℤ offset.value) / 2 * 2)
+    jumped (put registers rd (pos pc +ℤ pos 4)) (wrapped (pos (register_value registers base) +ℤ offset.value) / 2 * 2)
 effect_of (Branch condition left right offset) registers pc =
-    if is_taken condition (held registers left) (held registers right)
+    if is_taken condition (register_value registers left) (register_value registers right)
     then jumped registers (wrapped (pos pc +ℤ offset.value))
     else onward registers pc
 effect_of (ComputeImmediate operation rd source immediate) registers pc =
-    onward (put registers rd (immediate_value operation (held registers source) immediate.value)) pc
+    onward (put registers rd (immediate_value operation (register_value registers source) immediate.value)) pc
 effect_of (ShiftImmediate shift rd source amount) registers pc =
-    onward (put registers rd (shift_value shift (held registers source) amount.value)) pc
+    onward (put registers rd (shift_value shift (register_value registers source) amount.value)) pc
 effect_of (Compute operation rd left right) registers pc =
-    onward (put registers rd (value_of operation (held registers left) (held registers right))) pc
+    onward (put registers rd (value_of operation (register_value registers left) (register_value registers right))) pc
 effect_of (Fence rd source immediate) registers pc = onward registers pc
 effect_of (Load kind rd base offset) registers pc = onward registers pc
 effect_of (Store kind source base offset) registers pc = onward registers pc

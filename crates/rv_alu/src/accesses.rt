@@ -1,3 +1,5 @@
+//! The addresses of loads and stores, and the extension of what is loaded.
+
 ghost use Rattle.std.specs.Prelude.{◌≡◌, ◌*◌, ◌^◌, ◌<◌};
 ghost use Rattle.rv_alu.specs.Accesses.{address_from, extended_of, width_of};
 

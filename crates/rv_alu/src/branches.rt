@@ -1,3 +1,5 @@
+//! The conditions of branches.
+
 ghost use Rattle.std.specs.Prelude.{◌≡◌};
 ghost use Rattle.rv_alu.specs.Branches.{is_taken};
 

@@ -1,3 +1,5 @@
+//! Quotients and remainders.
+
 ghost use Rattle.std.specs.Prelude.{◌≡◌, ◌≢◌, pos, ◌-ℤ◌, ◌*ℤ◌, int_div};
 ghost use Rattle.rv_isa.specs.Number.{wrapped};
 ghost use Rattle.rv_alu.specs.Operations.{value_of};
@@ -48,6 +50,7 @@ pub(crate) fn unsigned_remainder(left: u32, right: u32) -> u32
     if right == 0 { left } else { left % right }
 }
 
+/// What a division leaves.
 #[tactic(auto, using(crate::proofs::Rest::rem_is_rest))]
 fn rest(dividend: i32, divisor: i32) -> i32
     requires { divisor ≢ pos 0 }

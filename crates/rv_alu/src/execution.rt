@@ -1,3 +1,5 @@
+//! The effect of an instruction without memory.
+
 ghost use Rattle.std.specs.Prelude.{◌≡◌, pos, ◌+ℤ◌, IsTrue, IfSome, IfNone};
 ghost use Rattle.rv_alu.specs.Effects.{effect_of, is_plain, put, onward, jumped};
 ghost use Rattle.rv_alu.specs.Computations.{is_computation};

@@ -1,3 +1,5 @@
+//! Computations with an immediate.
+
 ghost use Rattle.std.specs.Prelude.{◌≡◌};
 ghost use Rattle.rv_isa.specs.Number.{wrapped};
 ghost use Rattle.rv_alu.specs.Operations.{immediate_value, shift_value};

@@ -1,3 +1,5 @@
+//! Computations of two registers.
+
 ghost use Rattle.std.specs.Prelude.{◌≡◌};
 ghost use Rattle.rv_isa.specs.Number.{wrapped};
 ghost use Rattle.rv_alu.specs.Operations.{value_of};

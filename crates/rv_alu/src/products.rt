@@ -1,3 +1,5 @@
+//! Products of 64 bits.
+
 ghost use Rattle.std.specs.Prelude.{◌≡◌, pos, ◌*ℤ◌, ◌*◌, ◌/◌, ◌^◌};
 ghost use Rattle.rv_isa.specs.Number.{signed, wrapped};
 ghost use Rattle.rv_alu.specs.Operations.{value_of, floor};
@@ -24,6 +26,7 @@ pub(crate) fn high_unsigned(left: u32, right: u32) -> u32
     (u64::from(left) * u64::from(right) >> 32) as u32
 }
 
+/// The upper 32 bits of a product.
 fn high(product: i64) -> u32
     ensures { result ≡ wrapped (floor product (2 ^ 32)) }
 {

@@ -1,3 +1,5 @@
+//! The instruction of a word.
+
 ghost use Rattle.std.specs.Prelude.{◌≡◌, ◌↔◌, ◌%◌, ◌^◌, IfSome};
 ghost use Rattle.rv_isa.specs.Word.{word_of};
 ghost use Rattle.rv_isa.specs.Decoded.{decoded};
@@ -21,6 +23,7 @@ pub fn decode(word: u32) -> Option<Instr>
     decode_slots(word)
 }
 
+/// The instruction of a word by its opcode.
 #[inline(always)]
 #[tactic(auto, unfolding(crate::specs::Decoding::instr_of))]
 fn decode_slots(word: u32) -> Option<Instr>
@@ -52,6 +55,7 @@ fn decode_slots(word: u32) -> Option<Instr>
     }
 }
 
+/// JALR.
 fn decode_jalr(word: u32) -> Option<Instr>
     requires { word % 2 ^ 7 ≡ 0b1100111 }
     ensures exact { result ≡ jalr_of (slots_of word) }
@@ -67,6 +71,7 @@ fn decode_jalr(word: u32) -> Option<Instr>
     })
 }
 
+/// A branch.
 fn decode_branch(word: u32) -> Option<Instr>
     requires { word % 2 ^ 7 ≡ 0b1100011 }
     ensures exact { result ≡ branch_of (slots_of word) }
@@ -80,6 +85,7 @@ fn decode_branch(word: u32) -> Option<Instr>
     })
 }
 
+/// A load.
 fn decode_load(word: u32) -> Option<Instr>
     requires { word % 2 ^ 7 ≡ 0b0000011 }
     ensures exact { result ≡ load_of (slots_of word) }
@@ -93,6 +99,7 @@ fn decode_load(word: u32) -> Option<Instr>
     })
 }
 
+/// A store.
 fn decode_store(word: u32) -> Option<Instr>
     requires { word % 2 ^ 7 ≡ 0b0100011 }
     ensures exact { result ≡ store_of (slots_of word) }
@@ -106,7 +113,7 @@ fn decode_store(word: u32) -> Option<Instr>
     })
 }
 
-// funct3 001 and 101 are the shifts.
+/// funct3 001 and 101 are the shifts.
 fn decode_immediate(word: u32) -> Option<Instr>
     requires { word % 2 ^ 7 ≡ 0b0010011 }
     ensures exact { result ≡ immediate_of (slots_of word) }
@@ -118,6 +125,7 @@ fn decode_immediate(word: u32) -> Option<Instr>
     }
 }
 
+/// A shift by an amount.
 fn decode_shift(word: u32) -> Option<Instr>
     requires { word % 2 ^ 7 ≡ 0b0010011 }
     ensures exact { result ≡ shift_of (slots_of word) }
@@ -131,6 +139,7 @@ fn decode_shift(word: u32) -> Option<Instr>
     })
 }
 
+/// A computation with an immediate.
 fn decode_compute_immediate(word: u32) -> Option<Instr>
     requires { word % 2 ^ 7 ≡ 0b0010011 }
     ensures exact { result ≡ compute_immediate_of (slots_of word) }
@@ -144,6 +153,7 @@ fn decode_compute_immediate(word: u32) -> Option<Instr>
     })
 }
 
+/// A computation of two registers.
 fn decode_compute(word: u32) -> Option<Instr>
     requires { word % 2 ^ 7 ≡ 0b0110011 }
     ensures exact { result ≡ compute_of (slots_of word) }
@@ -157,6 +167,7 @@ fn decode_compute(word: u32) -> Option<Instr>
     })
 }
 
+/// FENCE.
 fn decode_fence(word: u32) -> Option<Instr>
     requires { word % 2 ^ 7 ≡ 0b0001111 }
     ensures exact { result ≡ fence_of (slots_of word) }
@@ -172,6 +183,7 @@ fn decode_fence(word: u32) -> Option<Instr>
     })
 }
 
+/// ECALL or EBREAK.
 fn decode_system(word: u32) -> Option<Instr>
     requires { word % 2 ^ 7 ≡ 0b1110011 }
     ensures exact { result ≡ system_of (slots_of word) }

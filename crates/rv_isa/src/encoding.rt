@@ -1,3 +1,5 @@
+//! The word of an instruction.
+
 ghost use Rattle.std.specs.Prelude.{◌≡◌};
 ghost use Rattle.rv_isa.specs.Word.{word_of};
 ghost use Rattle.rv_isa.specs.declared.instruction.Instr.{Instr};
@@ -67,6 +69,7 @@ pub fn encode(instr: &Instr) -> u32
     }
 }
 
+/// The word of a shift.
 fn shift_word(shift: Shift, rd: Reg, source: Reg, amount: ShiftAmount) -> u32
     ensures { result ≡ word_of (ShiftImmediate shift rd source amount) }
 {
@@ -81,6 +84,7 @@ fn shift_word(shift: Shift, rd: Reg, source: Reg, amount: ShiftAmount) -> u32
     )
 }
 
+/// The word of a computation of two registers.
 fn compute_word(operation: Operation, rd: Reg, left: Reg, right: Reg) -> u32
     ensures { result ≡ word_of (Compute operation rd left right) }
 {

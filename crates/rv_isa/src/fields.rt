@@ -1,9 +1,11 @@
-// The operands that stand in a word.
+//! The fields of a word.
+
 ghost use Rattle.std.specs.Prelude.{◌≡◌, ℕ, ◌*◌, ◌/◌, ◌%◌, ◌^◌, ◌<◌};
 ghost use Rattle.rv_isa.specs.Decoding.{slots_of, register_at, immediate_at, amount_at, upper_at, branch_at, jump_at, i_immediate, s_immediate, b_offset, u_immediate, j_offset};
 
 use crate::{BranchOffset, Immediate, JumpOffset, Reg, ShiftAmount, Upper};
 
+/// The register of a number below 32.
 #[tactic(auto, using(crate::proofs::Same::same_register))]
 fn register(number: u32) -> Reg
     requires { number < 2 ^ 5 }
@@ -14,24 +16,28 @@ fn register(number: u32) -> Reg
     }
 }
 
+/// The destination.
 pub fn rd(word: u32) -> Reg
     ensures { result ≡ register_at (slots_of word).rd }
 {
     register(word >> 7 & 0x1f)
 }
 
+/// The first source.
 pub fn rs1(word: u32) -> Reg
     ensures { result ≡ register_at (slots_of word).rs1 }
 {
     register(word >> 15 & 0x1f)
 }
 
+/// The second source.
 pub fn rs2(word: u32) -> Reg
     ensures { result ≡ register_at (slots_of word).rs2 }
 {
     register(word >> 20 & 0x1f)
 }
 
+/// The field funct3.
 pub fn funct3(word: u32) -> u32
     ensures value { result ≡ (slots_of word).funct3 }
     ensures small { result < 2 ^ 3 }
@@ -39,6 +45,7 @@ pub fn funct3(word: u32) -> u32
     word >> 12 & 0x7
 }
 
+/// The field funct7.
 pub fn funct7(word: u32) -> u32
     ensures value { result ≡ (slots_of word).funct7 }
     ensures small { result < 2 ^ 7 }
@@ -46,6 +53,7 @@ pub fn funct7(word: u32) -> u32
     word >> 25
 }
 
+/// The shift amount of a number below 32.
 #[tactic(auto, using(crate::proofs::Same::same_amount))]
 fn amount(number: u32) -> ShiftAmount
     requires { number < 2 ^ 5 }
@@ -56,13 +64,14 @@ fn amount(number: u32) -> ShiftAmount
     }
 }
 
+/// The shift amount.
 pub fn shift_amount(word: u32) -> ShiftAmount
     ensures { result ≡ amount_at (slots_of word).rs2 }
 {
     amount(word >> 20 & 0x1f)
 }
 
-// The signed number whose 12 bits are `number`.
+/// The signed number whose 12 bits are `number`.
 #[tactic(auto, using(crate::proofs::Same::same_immediate))]
 fn extend_12(number: u32) -> Immediate
     requires { number < 2 ^ 12 }
@@ -73,19 +82,21 @@ fn extend_12(number: u32) -> Immediate
     }
 }
 
+/// The immediate of the I format.
 pub fn immediate_of_i(word: u32) -> Immediate
     ensures { result ≡ i_immediate (slots_of word) }
 {
     extend_12(word >> 20)
 }
 
+/// The immediate of the S format.
 pub fn immediate_of_s(word: u32) -> Immediate
     ensures { result ≡ s_immediate (slots_of word) }
 {
     extend_12((word >> 25 << 5) + (word >> 7 & 0x1f))
 }
 
-// The even signed number whose bits 12 to 1 are `half`.
+/// The even signed number whose bits 12 to 1 are `half`.
 #[tactic(auto, using(crate::proofs::Same::same_branch))]
 fn extend_13(half: u32) -> BranchOffset
     requires { half < 2 ^ 12 }
@@ -96,6 +107,7 @@ fn extend_13(half: u32) -> BranchOffset
     }
 }
 
+/// The offset of the B format.
 pub fn branch_offset(word: u32) -> BranchOffset
     ensures { result ≡ b_offset (slots_of word) }
 {
@@ -107,6 +119,7 @@ pub fn branch_offset(word: u32) -> BranchOffset
     )
 }
 
+/// The immediate of the U format.
 #[tactic(auto, using(crate::proofs::Same::same_upper))]
 pub fn upper(word: u32) -> Upper
     ensures { result ≡ u_immediate (slots_of word) }
@@ -114,7 +127,7 @@ pub fn upper(word: u32) -> Upper
     Upper { value: word >> 12 }
 }
 
-// The even signed number whose bits 20 to 1 are `half`.
+/// The even signed number whose bits 20 to 1 are `half`.
 #[tactic(auto, using(crate::proofs::Same::same_jump))]
 fn extend_21(half: u32) -> JumpOffset
     requires { half < 2 ^ 20 }
@@ -125,6 +138,7 @@ fn extend_21(half: u32) -> JumpOffset
     }
 }
 
+/// The offset of the J format.
 pub fn jump_offset(word: u32) -> JumpOffset
     ensures { result ≡ j_offset (slots_of word) }
 {

@@ -1,3 +1,5 @@
+//! The instructions of RV32IM.
+
 use crate::{BranchOffset, Immediate, JumpOffset, Reg, ShiftAmount, Upper};
 
 /// When a branch is taken, by its mnemonic.

@@ -1,3 +1,5 @@
+//! Operands, each in its range.
+
 ghost use Rattle.rv_isa.specs.Ranges.{IsImmediate, IsBranchOffset, IsJumpOffset, IsUpper, IsShiftAmount};
 
 /// The signed immediate of the I and S formats, -2048 to 2047.

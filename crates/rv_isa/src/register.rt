@@ -1,3 +1,5 @@
+//! The numbers of registers.
+
 ghost use Rattle.std.specs.Prelude.{◌≡◌};
 ghost use Rattle.rv_isa.specs.Ranges.{IsRegister};
 

@@ -1,3 +1,5 @@
+//! The register file.
+
 ghost use Rattle.std.specs.Prelude.{◌≡◌, ℕ, List, length, slice_index};
 ghost use Rattle.rv_isa.specs.Registers.{zeros, written};
 

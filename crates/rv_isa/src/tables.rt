@@ -1,10 +1,12 @@
-// The tables of funct3 and funct7, in both directions.
+//! The tables of funct3 and funct7, in both directions.
+
 ghost use Rattle.std.specs.Prelude.{◌≡◌, ◌<◌, ◌^◌};
 ghost use Rattle.rv_isa.specs.Word.{condition_funct3, load_funct3, store_funct3, immediate_funct3, shift_funct3, shift_funct7, operation_funct3, operation_funct7};
 ghost use Rattle.rv_isa.specs.Decoding.{condition_at, load_at, store_at, immediate_operation_at, shift_at, operation_at};
 
 use crate::{Condition, ImmediateOperation, LoadKind, Operation, Shift, StoreKind};
 
+/// The condition of a branch by funct3.
 pub fn condition(funct3: u32) -> Option<Condition>
     ensures { result ≡ condition_at funct3 }
 {
@@ -19,6 +21,7 @@ pub fn condition(funct3: u32) -> Option<Condition>
     }
 }
 
+/// The kind of a load by funct3.
 pub fn load_kind(funct3: u32) -> Option<LoadKind>
     ensures { result ≡ load_at funct3 }
 {
@@ -32,6 +35,7 @@ pub fn load_kind(funct3: u32) -> Option<LoadKind>
     }
 }
 
+/// The kind of a store by funct3.
 pub fn store_kind(funct3: u32) -> Option<StoreKind>
     ensures { result ≡ store_at funct3 }
 {
@@ -43,6 +47,7 @@ pub fn store_kind(funct3: u32) -> Option<StoreKind>
     }
 }
 
+/// The computation with an immediate by funct3.
 pub fn immediate_operation(funct3: u32) -> Option<ImmediateOperation>
     ensures { result ≡ immediate_operation_at funct3 }
 {
@@ -57,6 +62,7 @@ pub fn immediate_operation(funct3: u32) -> Option<ImmediateOperation>
     }
 }
 
+/// The shift by funct7 and funct3.
 pub fn shift(funct7: u32, funct3: u32) -> Option<Shift>
     ensures { result ≡ shift_at funct7 funct3 }
 {
@@ -68,6 +74,7 @@ pub fn shift(funct7: u32, funct3: u32) -> Option<Shift>
     }
 }
 
+/// The computation of two registers by funct7 and funct3.
 pub fn operation(funct7: u32, funct3: u32) -> Option<Operation>
     ensures { result ≡ operation_at funct7 funct3 }
 {
@@ -94,6 +101,7 @@ pub fn operation(funct7: u32, funct3: u32) -> Option<Operation>
     }
 }
 
+/// A branch's funct3.
 pub fn condition_funct3(condition: Condition) -> u32
     ensures value { result ≡ condition_funct3 condition }
     ensures small { result < 2 ^ 3 }
@@ -108,6 +116,7 @@ pub fn condition_funct3(condition: Condition) -> u32
     }
 }
 
+/// A load's funct3.
 pub fn load_funct3(kind: LoadKind) -> u32
     ensures value { result ≡ load_funct3 kind }
     ensures small { result < 2 ^ 3 }
@@ -121,6 +130,7 @@ pub fn load_funct3(kind: LoadKind) -> u32
     }
 }
 
+/// A store's funct3.
 pub fn store_funct3(kind: StoreKind) -> u32
     ensures value { result ≡ store_funct3 kind }
     ensures small { result < 2 ^ 3 }
@@ -132,6 +142,7 @@ pub fn store_funct3(kind: StoreKind) -> u32
     }
 }
 
+/// The funct3 of a computation with an immediate.
 pub fn immediate_funct3(operation: ImmediateOperation) -> u32
     ensures value { result ≡ immediate_funct3 operation }
     ensures small { result < 2 ^ 3 }
@@ -146,7 +157,7 @@ pub fn immediate_funct3(operation: ImmediateOperation) -> u32
     }
 }
 
-// funct7 and funct3.
+/// funct7 and funct3.
 pub fn shift_functs(shift: Shift) -> (u32, u32)
     ensures funct7 { result.0 ≡ shift_funct7 shift }
     ensures funct3 { result.1 ≡ shift_funct3 shift }
@@ -160,7 +171,7 @@ pub fn shift_functs(shift: Shift) -> (u32, u32)
     }
 }
 
-// funct7 and funct3.
+/// funct7 and funct3.
 pub fn operation_functs(operation: Operation) -> (u32, u32)
     ensures funct7 { result.0 ≡ operation_funct7 operation }
     ensures funct3 { result.1 ≡ operation_funct3 operation }

@@ -4,20 +4,22 @@
 
 pub mod call;
 pub mod end;
+pub mod inline_bytes;
 pub mod job;
 pub mod key;
 pub mod outcome;
 pub mod receipt;
-pub mod short_bytes;
+pub mod same;
 pub mod store;
 pub mod writes;
 
 pub use call::{Call, CallFault};
 pub use end::{End, Trap};
+pub use inline_bytes::{InlineBytes, OUTPUT_LIMIT, Output, VALUE_LIMIT, Value};
 pub use job::{Block, Job, JobFault};
 pub use key::Key;
 pub use outcome::{Counts, Outcome};
 pub use receipt::Receipt;
-pub use short_bytes::{OUTPUT_LIMIT, Output, ShortBytes, VALUE_LIMIT, Value};
+pub use same::{same_call, same_content, same_job, same_store};
 pub use store::Store;
 pub use writes::{Write, Writes};

@@ -1,7 +1,7 @@
 //! The receipt of a call.
 
 use crate::end::End;
-use crate::short_bytes::Output;
+use crate::inline_bytes::Output;
 use crate::writes::Writes;
 use rv_isa::Regs;
 use std::alloc::AllocError;

@@ -1,7 +1,7 @@
 //! The storage of a block.
 
+use crate::inline_bytes::Value;
 use crate::key::Key;
-use crate::short_bytes::Value;
 use std::alloc::{AllocError, Global};
 use std::collections::BTreeMap;
 use std::collections::btree_map::Iter;

@@ -1,7 +1,7 @@
 //! What a call has written: the last write to each key, for at most 256 keys.
 
+use crate::inline_bytes::Value;
 use crate::key::Key;
-use crate::short_bytes::Value;
 use std::alloc::{AllocError, Global};
 use std::collections::BTreeMap;
 use std::collections::btree_map::Iter;

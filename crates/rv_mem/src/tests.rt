@@ -1,3 +1,5 @@
+//! The calls of the crate.
+
 use crate::access::Access;
 use crate::fault::Fault;
 use crate::memory::Memory;

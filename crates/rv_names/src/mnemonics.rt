@@ -70,6 +70,7 @@ const SHAPES: [Shape; 58] = [
     Shape::ZeroDirective,
 ];
 
+/// A branch's mnemonic.
 fn condition_name(condition: Condition) -> &'static str
     ensures { result.now ≡ condition_name condition }
 {
@@ -83,6 +84,7 @@ fn condition_name(condition: Condition) -> &'static str
     }
 }
 
+/// A load's mnemonic.
 fn load_name(kind: LoadKind) -> &'static str
     ensures { result.now ≡ load_name kind }
 {
@@ -95,6 +97,7 @@ fn load_name(kind: LoadKind) -> &'static str
     }
 }
 
+/// A store's mnemonic.
 fn store_name(kind: StoreKind) -> &'static str
     ensures { result.now ≡ store_name kind }
 {
@@ -105,6 +108,7 @@ fn store_name(kind: StoreKind) -> &'static str
     }
 }
 
+/// The mnemonic of a computation with an immediate.
 fn immediate_name(operation: ImmediateOperation) -> &'static str
     ensures { result.now ≡ immediate_name operation }
 {
@@ -118,6 +122,7 @@ fn immediate_name(operation: ImmediateOperation) -> &'static str
     }
 }
 
+/// The mnemonic of a shift by an amount.
 fn shift_name(shift: Shift) -> &'static str
     ensures { result.now ≡ shift_name shift }
 {
@@ -128,6 +133,7 @@ fn shift_name(shift: Shift) -> &'static str
     }
 }
 
+/// The mnemonic of a computation of two registers.
 fn operation_name(operation: Operation) -> &'static str
     ensures { result.now ≡ operation_name operation }
 {

@@ -38,12 +38,14 @@ fn blanks_behind(text: &[u8]) -> usize
         .count()
 }
 
+/// The text from its first byte that is no blank on.
 fn without_blanks_before(text: &[u8]) -> &[u8]
     ensures { result.now ≡ without_blanks_before text.now }
 {
     &text[blanks_before(text)..]
 }
 
+/// The text to its last byte that is no blank.
 fn without_blanks_behind(text: &[u8]) -> &[u8]
     ensures { result.now ≡ without_blanks_behind text.now }
 {
@@ -162,6 +164,7 @@ fn is_name_byte(byte: u8) -> bool
     byte.is_ascii_alphanumeric() || byte == b'_'
 }
 
+/// Whether all bytes may stand in a name.
 fn are_name_bytes(text: &[u8]) -> bool
     ensures { result ≡ list_all is_name_byte text.now }
 {

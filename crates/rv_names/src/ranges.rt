@@ -12,7 +12,8 @@ use rv_isa::{
     BranchOffset, Immediate, ImmediateOperation, Instr, JumpOffset, Reg, ShiftAmount, Upper,
 };
 
-fn held_immediate(number: i64) -> Immediate
+/// The immediate of a number in range.
+fn immediate_in_range(number: i64) -> Immediate
     requires { IsImmediate number }
     ensures { result ≡ immediate_at (residue 12 number) }
 {
@@ -29,10 +30,11 @@ pub(crate) fn immediate(number: i64) -> Result<Immediate, Cause>
     if number < -2048 || 2047 < number {
         return Err(Cause::ImmediateRange);
     }
-    Ok(held_immediate(number))
+    Ok(immediate_in_range(number))
 }
 
-fn held_branch(number: i64) -> BranchOffset
+/// The branch offset of a number in range.
+fn branch_in_range(number: i64) -> BranchOffset
     requires { IsBranchOffset number }
     ensures { result ≡ branch_at (residue 13 number / 2) }
 {
@@ -49,10 +51,11 @@ pub fn branch_offset(number: i64) -> Option<BranchOffset>
     if number < -4096 || 4094 < number || number.rem_euclid(2) != 0 {
         return None;
     }
-    Some(held_branch(number))
+    Some(branch_in_range(number))
 }
 
-fn held_jump(number: i64) -> JumpOffset
+/// The jump offset of a number in range.
+fn jump_in_range(number: i64) -> JumpOffset
     requires { IsJumpOffset number }
     ensures { result ≡ jump_at (residue 21 number / 2) }
 {
@@ -69,10 +72,11 @@ pub fn jump_offset(number: i64) -> Option<JumpOffset>
     if number < -1048576 || 1048574 < number || number.rem_euclid(2) != 0 {
         return None;
     }
-    Some(held_jump(number))
+    Some(jump_in_range(number))
 }
 
-fn held_upper(n: u32) -> Upper
+/// The upper immediate of a number in range.
+fn upper_in_range(n: u32) -> Upper
     requires { n < 2 ^ 20 }
     ensures { result ≡ upper_at n }
 {
@@ -87,10 +91,11 @@ pub(crate) fn upper(number: i64) -> Result<Upper, Cause>
     if number < 0 || 1048575 < number {
         return Err(Cause::ImmediateRange);
     }
-    Ok(held_upper(number as u32))
+    Ok(upper_in_range(number as u32))
 }
 
-fn held_amount(n: u8) -> ShiftAmount
+/// The shift amount of a number in range.
+fn amount_in_range(n: u8) -> ShiftAmount
     requires { n < 32 }
     ensures { result ≡ amount_at n }
 {
@@ -105,7 +110,7 @@ pub(crate) fn amount(number: i64) -> Result<ShiftAmount, Cause>
     if number < 0 || 31 < number {
         return Err(Cause::ImmediateRange);
     }
-    Ok(held_amount(number as u8))
+    Ok(amount_in_range(number as u8))
 }
 
 /// A word, -2147483648 to 4294967295 and then modulo 2^32, else ImmediateRange.

@@ -406,6 +406,7 @@ fn may_stand_in(section: Section, shape: Shape) -> bool
     }
 }
 
+/// Whether it is the section of data.
 fn is_data(section: Section) -> bool
     ensures { result ≡ is_data section }
 {

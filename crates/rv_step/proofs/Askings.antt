@@ -7,7 +7,7 @@ use Rattle.rv_ledger.specs.Call.{Invocation}
 use Rattle.rv_ledger.specs.declared.end.End.{End}
 use Rattle.rv_ledger.specs.declared.receipt.Receipt.{Receipt}
 use Rattle.rv_step.specs.declared.machine.Machine.{Machine}
-use Rattle.rv_step.specs.declared.answer.Answer.{Answer}
+use Rattle.rv_step.specs.declared.answer.StorageAnswer.{StorageAnswer}
 use Rattle.rv_step.specs.declared.stage.Stage.TheVariants.{Asked, Ended}
 use Rattle.rv_step.specs.Step.{StepResult, Next, Asks, Ends, step, answered}
 use Rattle.rv_step.specs.Chain.{Reply, after_ask, after_step, closed, followed, receipt_of, replayed}
@@ -61,14 +61,14 @@ unfolding asked_in
 asks_key n s key e = ap (λ (o : StepResult). asked_on (λ t l. asked_in n t l) s o []) e
 
 -- a run that asked for a key: any answers that follow begin with that key
-pub asked_asks : (call : Invocation) (s : Machine) (told : List Answer) (key : List ℕ) → IsSoFar (record { call = call; machine = s; told = told; stage = Asked key }) → Some key ≡ asked_by call (replies_of told)
-asked_asks call s told key so_far =
+pub asked_asks : (call : Invocation) (s : Machine) (answers : List StorageAnswer) (key : List ℕ) → IsSoFar (record { call = call; machine = s; answers = answers; stage = Asked key }) → Some key ≡ asked_by call (replies_of answers)
+asked_asks call s answers key so_far =
     let found = reached call.gas (suc s.gas) s map.empty (omega arith) in
     sym (asks_key s.gas s key so_far.stands.1)
     ∙ chain_asks call.gas (suc s.gas) s [] found.0 _ found.2
-    ∙ sym (chain_asks call.gas (suc call.gas) _ (replies_of told) found.0 _ (so_far.chain found.0 ∙ found.2))
+    ∙ sym (chain_asks call.gas (suc call.gas) _ (replies_of answers) found.0 _ (so_far.chain found.0 ∙ found.2))
 
 -- a run that has ended asks for nothing
-pub ended_asks : (call : Invocation) (s : Machine) (told : List Answer) (end : End) (out : List ℕ) → IsSoFar (record { call = call; machine = s; told = told; stage = Ended end out }) → None ≡ asked_by call (replies_of told)
-ended_asks call s told end out so_far =
-    sym (chain_asks call.gas (suc call.gas) _ (replies_of told) [] _ (so_far.chain []))
+pub ended_asks : (call : Invocation) (s : Machine) (answers : List StorageAnswer) (end : End) (out : List ℕ) → IsSoFar (record { call = call; machine = s; answers = answers; stage = Ended end out }) → None ≡ asked_by call (replies_of answers)
+ended_asks call s answers end out so_far =
+    sym (chain_asks call.gas (suc call.gas) _ (replies_of answers) [] _ (so_far.chain []))

@@ -27,7 +27,7 @@ use Rattle.ecalls.specs.declared.storage_call.StorageCall.TheVariants as call
 use Rattle.ecalls.specs.declared.request_kind.Request.{Request}
 use Rattle.ecalls.specs.declared.request_kind.Request.TheVariants as request
 use Rattle.rv_step.specs.declared.machine.Machine.{Machine}
-use Rattle.rv_step.specs.Step.{StepResult, Next, Asks, Ends, TakesGas, acted, answered, called, charged, computes, delivered, fetched, goes_on, is_ecall, leaves, obeyed, read_own, served, step, takes, trapped, wrote}
+use Rattle.rv_step.specs.Step.{StepResult, Next, Asks, Ends, TakesGas, instruction_result, answered, ecall_result, charged, compute_result, delivery_result, fetch_result, next_instruction, is_ecall, memory_result, decode_result, read_result, storage_call_result, step, load_result, trapped, write_result}
 
 -- a step leaves less gas where the call goes on, and no more where it ends
 unfoldable pub IsFalling : ℕ → StepResult → Type 0
@@ -41,23 +41,23 @@ IsWithin gas (Next t) = t.gas ≤ gas
 IsWithin gas (Asks key) = Unit {0}
 IsWithin gas (Ends end out t) = t.gas ≤ gas
 
-takes_within : (kind : LoadKind) (rd : Reg) (s : Machine) (r : Result ℕ Fault) → IsWithin s.gas (takes kind rd s r)
+takes_within : (kind : LoadKind) (rd : Reg) (s : Machine) (r : Result ℕ Fault) → IsWithin s.gas (load_result kind rd s r)
 unfolding IsWithin
 takes_within kind rd s (Ok n) = omega arith
 takes_within kind rd s (Err fault) = omega arith
 
-leaves_within : (s : Machine) (registers : List ℕ) (r : Result Space Fault) → IsWithin s.gas (leaves s registers r)
+leaves_within : (s : Machine) (registers : List ℕ) (r : Result Space Fault) → IsWithin s.gas (memory_result s registers r)
 unfolding IsWithin
 leaves_within s registers (Ok memory) = omega arith
 leaves_within s registers (Err fault) = omega arith
 
-computes_within : (s : Machine) (o : Option (List ℕ × ℕ)) → IsWithin s.gas (computes s o)
+computes_within : (s : Machine) (o : Option (List ℕ × ℕ)) → IsWithin s.gas (compute_result s o)
 unfolding IsWithin
 computes_within s (Some effect) = omega arith
 computes_within s None = omega arith
 
-acted_within : (i : Instr) (s : Machine) → IsWithin s.gas (acted i s)
-unfolding acted
+acted_within : (i : Instr) (s : Machine) → IsWithin s.gas (instruction_result i s)
+unfolding instruction_result
 acted_within (Load kind rd base offset) s = takes_within kind rd s _
 acted_within (Store kind source base offset) s = leaves_within s _ _
 acted_within Ebreak s = unfold IsWithin in omega arith
@@ -76,27 +76,27 @@ either_within : (gas : ℕ) (b : Bool) (o p : StepResult) → IsWithin gas o →
 either_within gas true o p h k = h
 either_within gas false o p h k = k
 
-delivered_within : (s : Machine) (content : Option (List ℕ)) → IsWithin s.gas (delivered s content)
-unfolding delivered
+delivered_within : (s : Machine) (content : Option (List ℕ)) → IsWithin s.gas (delivery_result s content)
+unfolding delivery_result
 delivered_within s None = unfold IsWithin in omega arith
 delivered_within s (Some value) =
     either_within s.gas (nat_lt (a2 s.regs) (length value))
-    (goes_on (record s { regs = written s.regs 10 0xffff_fffe })) (leaves s (written s.regs 10 (length value)) (copied s.memory (a1 s.regs) value))
+    (next_instruction (record s { regs = written s.regs 10 0xffff_fffe })) (memory_result s (written s.regs 10 (length value)) (copied s.memory (a1 s.regs) value))
     (unfold IsWithin in omega arith) (leaves_within s _ _)
 
-read_own_within : (s : Machine) (key : List ℕ) (content : Option (Option (List ℕ))) → IsWithin s.gas (read_own s key content)
+read_own_within : (s : Machine) (key : List ℕ) (content : Option (Option (List ℕ))) → IsWithin s.gas (read_result s key content)
 read_own_within s key (Some content) = delivered_within s content
 read_own_within s key None = unfold IsWithin in tt
 
-wrote_within : (s : Machine) (write : Write) → IsWithin s.gas (wrote s write)
-unfolding wrote
+wrote_within : (s : Machine) (write : Write) → IsWithin s.gas (write_result s write)
+unfolding write_result
 wrote_within s write =
     either_within s.gas (has_room s.own write.key)
-    (goes_on (record s { own = map.insert s.own write.key write.value })) (trapped trap.TooManyWrites s)
+    (next_instruction (record s { own = map.insert s.own write.key write.value })) (trapped trap.TooManyWrites s)
     (unfold IsWithin in omega arith) (unfold IsWithin in omega arith)
 
-served_within : (s : Machine) (r : Result Request Trap) → IsWithin s.gas (served s r)
-unfolding served
+served_within : (s : Machine) (r : Result Request Trap) → IsWithin s.gas (storage_call_result s r)
+unfolding storage_call_result
 served_within s (Err cause) = unfold IsWithin in omega arith
 served_within s (Ok (request.Read key)) = read_own_within s key _
 served_within s (Ok (request.Write write)) = wrote_within s write
@@ -137,7 +137,8 @@ operation_costs Divu = lit≤ tt
 operation_costs Rem = lit≤ tt
 operation_costs Remu = lit≤ tt
 
-instr_costs : (i : Instr) → is_ecall i ≡ false → 1 ≤ cost_of i
+-- an instruction has a charge above 0
+pub instr_costs : (i : Instr) → is_ecall i ≡ false → 1 ≤ cost_of i
 instr_costs (Load kind rd base offset) h = lit≤ tt
 instr_costs (Store kind source base offset) h = lit≤ tt
 instr_costs Ebreak h = lit≤ tt
@@ -152,26 +153,27 @@ instr_costs (Compute operation rd left right) h = operation_costs operation
 instr_costs (Fence rd source m) h = lit≤ tt
 instr_costs Ecall h = cc
 
-call_costs : (c : StorageCall) (registers : List ℕ) → 1 ≤ charge_of c registers
+-- so has a storage call
+pub call_costs : (c : StorageCall) (registers : List ℕ) → 1 ≤ charge_of c registers
 call_costs call.Read registers = lit≤ tt
 call_costs call.Write registers = omega arith
 call_costs call.Remove registers = lit≤ tt
 call_costs call.Return registers = omega arith
 call_costs call.Revert registers = omega arith
 
-called_falls : (s : Machine) (r : Result StorageCall Trap) → IsFalling s.gas (called s (charge_asked s.regs r))
+called_falls : (s : Machine) (r : Result StorageCall Trap) → IsFalling s.gas (ecall_result s (charge_asked s.regs r))
 called_falls s (Err cause) = unfold IsFalling in omega arith
-called_falls s (Ok c) = charged_falls _ s (λ t. served t (request_of t.regs t.memory)) (call_costs c s.regs) (λ t. served_within t (request_of t.regs t.memory))
+called_falls s (Ok c) = charged_falls _ s (λ t. storage_call_result t (request_of t.regs t.memory)) (call_costs c s.regs) (λ t. served_within t (request_of t.regs t.memory))
 
-obeyed_cases : (s : Machine) (i : Instr) (b : Bool) → is_ecall i ≡ b → IsFalling s.gas (obeyed s (Some i))
+obeyed_cases : (s : Machine) (i : Instr) (b : Bool) → is_ecall i ≡ b → IsFalling s.gas (decode_result s (Some i))
 obeyed_cases s i true e = rw e (called_falls s (asked s.regs))
-obeyed_cases s i false e = rw e (charged_falls _ s (λ t. acted i t) (instr_costs i e) (λ t. acted_within i t))
+obeyed_cases s i false e = rw e (charged_falls _ s (λ t. instruction_result i t) (instr_costs i e) (λ t. acted_within i t))
 
-obeyed_falls : (s : Machine) (o : Option Instr) → IsFalling s.gas (obeyed s o)
+obeyed_falls : (s : Machine) (o : Option Instr) → IsFalling s.gas (decode_result s o)
 obeyed_falls s None = unfold IsFalling in omega arith
 obeyed_falls s (Some i) = obeyed_cases s i (is_ecall i) refl
 
-fetched_falls : (s : Machine) (r : Result ℕ Fault) → IsFalling s.gas (fetched s r)
+fetched_falls : (s : Machine) (r : Result ℕ Fault) → IsFalling s.gas (fetch_result s r)
 fetched_falls s (Ok word) = obeyed_falls s (decoded word)
 fetched_falls s (Err fault) = unfold IsFalling in omega arith
 
@@ -183,7 +185,7 @@ step_falls s = fetched_falls s (loaded 4 access.Execute s.memory s.pc)
 -- so does a step that is answered
 pub answered_falls : (s : Machine) (content : Option (List ℕ)) → IsFalling s.gas (answered s content)
 unfolding answered
-answered_falls s content = charged_falls 200 s (λ t. delivered t content) (lit≤ tt) (λ t. delivered_within t content)
+answered_falls s content = charged_falls 200 s (λ t. delivery_result t content) (lit≤ tt) (λ t. delivered_within t content)
 
 -- the gas after a step that goes on, and at an end
 pub less_gas : (gas : ℕ) (o : StepResult) (t : Machine) → IsFalling gas o → o ≡ Next t → t.gas < gas
@@ -204,23 +206,23 @@ either_told : (b : Bool) (o p : StepResult) → IsTold o → IsTold p → IsTold
 either_told true o p h k = h
 either_told false o p h k = k
 
-leaves_told : (s : Machine) (registers : List ℕ) (r : Result Space Fault) → IsTold (leaves s registers r)
+leaves_told : (s : Machine) (registers : List ℕ) (r : Result Space Fault) → IsTold (memory_result s registers r)
 unfolding IsTold
 leaves_told s registers (Ok memory) = tt
 leaves_told s registers (Err fault) = tt
 
-delivered_told : (s : Machine) (content : Option (List ℕ)) → IsTold (delivered s content)
-unfolding delivered
+delivered_told : (s : Machine) (content : Option (List ℕ)) → IsTold (delivery_result s content)
+unfolding delivery_result
 delivered_told s None = unfold IsTold in tt
 delivered_told s (Some value) =
     either_told (nat_lt (a2 s.regs) (length value))
-    (goes_on (record s { regs = written s.regs 10 0xffff_fffe })) (leaves s (written s.regs 10 (length value)) (copied s.memory (a1 s.regs) value))
+    (next_instruction (record s { regs = written s.regs 10 0xffff_fffe })) (memory_result s (written s.regs 10 (length value)) (copied s.memory (a1 s.regs) value))
     (unfold IsTold in tt) (leaves_told s _ _)
 
 answered_told : (s : Machine) (content : Option (List ℕ)) → IsTold (answered s content)
 unfolding answered
 answered_told s content =
-    either_told (nat_le 200 s.gas) (delivered (record s { gas = s.gas - 200 }) content) (Ends OutOfGas [] (record s { gas = 0 }))
+    either_told (nat_le 200 s.gas) (delivery_result (record s { gas = s.gas - 200 }) content) (Ends OutOfGas [] (record s { gas = 0 }))
     (delivered_told (record s { gas = s.gas - 200 }) content) (unfold IsTold in tt)
 
 pub not_asked : (s : Machine) (content : Option (List ℕ)) (key : List ℕ) → answered s content ≡ Asks key → ⊥

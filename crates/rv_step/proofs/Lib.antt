@@ -3,3 +3,4 @@ pub mod Chains
 pub mod Beginnings
 pub mod Receipts
 pub mod Askings
+pub mod Steps

@@ -20,12 +20,14 @@ asked_on rest s (Asks key) [] = Some key
 asked_on rest s (Asks key) (reply ∷ replies) = if bytes_eq reply.0 key then asked_after rest (answered s reply.1) replies else None
 asked_on rest s (Ends end out t) replies = None
 
--- the key that the chain of at most so many steps asks for once these replies are used, in order; None where it ends
+-- the key that the chain of at most so many steps asks for once these replies are used, in order; None where it ends,
+-- or a reply is to another key than the one asked for
 unfoldable pub asked_in : ℕ → Machine → List Reply → Option (List ℕ)
 asked_in zero s replies = None
 asked_in (suc steps) s replies = asked_on (λ t rest. asked_in steps t rest) s (step s) replies
 
--- the key that a call asks for after these replies; None where it has ended
+-- the key that a call asks for after these replies; None where it has ended with them or before them, and where they do
+-- not fit it: one of them is to another key than the one that it asks for then
 abbrev pub asked_by : Invocation → List Reply → Option (List ℕ)
 asked_by call replies = asked_in (suc call.gas) (start call) replies
 

@@ -26,13 +26,13 @@ start call = record {
 }
 
 -- only a call that returned keeps its writes
-abbrev pub kept : End → WriteMap → WriteMap
-kept Returned own = own
-kept _ own = map.empty
+abbrev pub kept_writes : End → WriteMap → WriteMap
+kept_writes Returned own = own
+kept_writes _ own = map.empty
 
 -- the receipt of a call with a gas limit that ended so
 abbrev pub receipt_of : ℕ → End → List ℕ → Machine → Receipt
-receipt_of limit end out s = record { end = end; gas = limit - s.gas; pc = s.pc; out = out; regs = s.regs; writes = kept end s.own }
+receipt_of limit end out s = record { end = end; gas = limit - s.gas; pc = s.pc; out = out; regs = s.regs; writes = kept_writes end s.own }
 
 -- an answer of the storage: the key, and its value or None
 abbrev pub Reply : Type 0
@@ -66,8 +66,8 @@ replayed limit (suc steps) s replies = followed (λ t rest. replayed limit steps
 
 -- the answers bear the receipt out where this is Some receipt; a step after which the call goes on takes gas, so that
 -- one step more than the gas suffices
-abbrev pub borne : Invocation → List Reply → Option Receipt
-borne call replies = replayed call.gas (suc call.gas) (start call) replies
+abbrev pub borne_out : Invocation → List Reply → Option Receipt
+borne_out call replies = replayed call.gas (suc call.gas) (start call) replies
 
 -- a step whose asking is answered by a storage
 abbrev pub answered_by : Storage → Machine → StepResult → StepResult
@@ -97,5 +97,5 @@ AreFrom store (reply ∷ replies) = (reply.1 ≡ map.get store reply.0) × AreFr
 -- for each call and storage there is exactly one receipt: answers of the storage bear out `ends`, and answers of the
 -- storage bear out nothing else
 pub record HasOneReceipt (call : Invocation) (store : Storage) : Type 0 where
-  pub some_answers : (replies : List Reply) × AreFrom store replies × (borne call replies ≡ Some (ends call store))
-  pub no_other : (replies : List Reply) (receipt : Receipt) → AreFrom store replies → borne call replies ≡ Some receipt → receipt ≡ ends call store
+  pub some_answers : (replies : List Reply) × AreFrom store replies × (borne_out call replies ≡ Some (ends call store))
+  pub no_other : (replies : List Reply) (receipt : Receipt) → AreFrom store replies → borne_out call replies ≡ Some receipt → receipt ≡ ends call store

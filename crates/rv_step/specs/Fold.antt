@@ -7,17 +7,17 @@ use Rattle.rv_ledger.specs.declared.receipt.Receipt.{Receipt}
 use Rattle.rv_step.specs.Chain.{ends}
 
 -- one write over a storage: a removal takes the key out
-abbrev pub laid_at : Storage → List ℕ → Option (List ℕ) → Storage
-laid_at store key (Some value) = map.insert store key value
-laid_at store key None = map.remove store key
+abbrev pub apply_write : Storage → List ℕ → Option (List ℕ) → Storage
+apply_write store key (Some value) = map.insert store key value
+apply_write store key None = map.remove store key
 
 -- the writes of a receipt over a storage
-unfoldable pub laid : Storage → WriteMap → Storage
-laid store writes = fold (λ before write. laid_at before write.0 write.1) store (map.entries writes)
+unfoldable pub apply_writes : Storage → WriteMap → Storage
+apply_writes store writes = fold (λ before write. apply_write before write.0 write.1) store (map.entries writes)
 
 -- the storage after a call
 abbrev pub store_after_call : Invocation → Storage → Storage
-store_after_call call store = laid store (ends call store).writes
+store_after_call call store = apply_writes store (ends call store).writes
 
 -- the receipts of calls, each on the storage that the ones before it left
 unfoldable pub receipts_of : List Invocation → Storage → List Receipt

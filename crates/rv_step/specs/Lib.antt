@@ -3,5 +3,6 @@ pub mod Chain
 pub mod Fold
 pub mod Replies
 pub mod Run
-pub mod Does
+pub mod Growth
+pub mod Meets
 pub mod Asked

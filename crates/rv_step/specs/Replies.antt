@@ -1,10 +1,10 @@
 -- Answers of the storage without where they came from.
 use Rattle.std.specs.Prelude.{List, map}
-use Rattle.rv_step.specs.declared.answer.Answer.{Answer}
+use Rattle.rv_step.specs.declared.answer.StorageAnswer.{StorageAnswer}
 use Rattle.rv_step.specs.Chain.{Reply}
 
-abbrev pub reply_of : Answer → Reply
+abbrev pub reply_of : StorageAnswer → Reply
 reply_of answer = (answer.key, answer.value)
 
-abbrev pub replies_of : List Answer → List Reply
+abbrev pub replies_of : List StorageAnswer → List Reply
 replies_of answers = map reply_of answers

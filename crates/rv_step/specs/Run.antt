@@ -1,37 +1,46 @@
 -- A run of a call that is under way.
-use Rattle.std.specs.Prelude.{◌≡◌, ◌≤◌, ◌+◌, ◌*◌, ℕ, suc, Bool, true, false, List, [], ◌∷◌, ◌++◌, Option, Some, None}
+use Rattle.std.specs.Prelude.{◌≡◌, ◌≤◌, ◌+◌, ◌*◌, ℕ, zero, suc, Bool, true, false, if◌then◌else◌, List, [], ◌∷◌, ◌++◌, Option, Some, None}
 use Rattle.read_set.specs.declared.Origin.{Origin}
 use Rattle.rv_ledger.specs.Call.{Invocation}
 use Rattle.rv_ledger.specs.declared.receipt.Receipt.{Receipt}
 use Rattle.rv_step.specs.declared.machine.Machine.{Machine}
-use Rattle.rv_step.specs.declared.answer.Answer.{Answer}
+use Rattle.rv_step.specs.declared.answer.StorageAnswer.{StorageAnswer}
 use Rattle.rv_step.specs.declared.stage.Stage.{Stage}
 use Rattle.rv_step.specs.declared.stage.Stage.TheVariants.{Running, Asked, Ended}
 use Rattle.rv_step.specs.declared.run.Pause.{Pause}
 use Rattle.rv_step.specs.declared.run.Pause.TheVariants as pause
 use Rattle.rv_step.specs.Replies.{replies_of}
 use Rattle.rv_step.specs.Step.{StepResult, Next, Asks, Ends, step, answered}
-use Rattle.rv_step.specs.Chain.{Reply, borne, replayed, closed, receipt_of, start}
+use Rattle.rv_step.specs.Chain.{Reply, borne_out, replayed, closed, receipt_of, start}
 
 -- what callers see of a run: its call, where it stands, and the answers that it was given
-pub record Seen : Type 0 where
+pub record RunView : Type 0 where
   pub call : Invocation
   pub machine : Machine
-  pub told : List Answer
+  pub answers : List StorageAnswer
   pub stage : Stage
 
-abbrev pub seen_at_start : Invocation → Seen
-seen_at_start call = record { call = call; machine = start call; told = []; stage = Running }
+abbrev pub run_at_start : Invocation → RunView
+run_at_start call = record { call = call; machine = start call; answers = []; stage = Running }
 
 -- where a run stands after what a step came to
-abbrev pub moved : StepResult → Seen → Seen
-moved (Next t) r = record r { machine = t; stage = Running }
-moved (Asks key) r = record r { stage = Asked key }
-moved (Ends end out t) r = record r { machine = t; stage = Ended end out }
+abbrev pub after_result : StepResult → RunView → RunView
+after_result (Next t) r = record r { machine = t; stage = Running }
+after_result (Asks key) r = record r { stage = Asked key }
+after_result (Ends end out t) r = record r { machine = t; stage = Ended end out }
 
 abbrev pub is_running : Stage → Bool
 is_running Running = true
 is_running _ = false
+
+-- a run after a step, if it can make one
+abbrev pub after_one : RunView → RunView
+after_one r = if is_running r.stage then after_result (step r.machine) r else r
+
+-- a run after a number of steps; one that asks or has ended stays
+unfoldable pub after_steps : ℕ → RunView → RunView
+after_steps zero r = r
+after_steps (suc n) r = after_one (after_steps n r)
 
 -- how many steps and answers may still come, at most: each instruction takes gas, so that a call ends
 abbrev pub left_for : ℕ → Stage → ℕ
@@ -39,7 +48,7 @@ left_for gas Running = 2 * gas + 2
 left_for gas (Asked key) = 2 * gas + 1
 left_for gas (Ended end out) = 0
 
-abbrev pub steps_left : Seen → ℕ
+abbrev pub steps_left : RunView → ℕ
 steps_left r = left_for r.machine.gas r.stage
 
 -- what the storage is asked for
@@ -48,9 +57,9 @@ asked_key (Asked key) = Some key
 asked_key _ = None
 
 -- a run that asked for a key, after its answer
-abbrev pub after_answer : List ℕ → Option (List ℕ) → Origin → Seen → Seen
+abbrev pub after_answer : List ℕ → Option (List ℕ) → Origin → RunView → RunView
 after_answer key content origin r =
-    moved (answered r.machine content) (record r { told = r.told ++ record { key = key; value = content; origin = origin } ∷ [] })
+    after_result (answered r.machine content) (record r { answers = r.answers ++ record { key = key; value = content; origin = origin } ∷ [] })
 
 -- the receipt that is left to come with further answers
 abbrev pub left_over : ℕ → Machine → Stage → List Reply → Option Receipt
@@ -64,9 +73,9 @@ IsStage limit s _ = s.gas ≤ limit
 
 -- a run is so far a beginning of its call's chain: with whatever answers come, the whole chain comes to the
 -- receipt that is left to come
-pub record IsSoFar (r : Seen) : Type 0 where
+pub record IsSoFar (r : RunView) : Type 0 where
   pub stands : IsStage r.call.gas r.machine r.stage
-  pub chain : (rest : List Reply) → borne r.call (replies_of r.told ++ rest) ≡ left_over r.call.gas r.machine r.stage rest
+  pub chain : (rest : List Reply) → borne_out r.call (replies_of r.answers ++ rest) ≡ left_over r.call.gas r.machine r.stage rest
 
 -- the call has ended
 abbrev pub IsEnded : Stage → Type 0
@@ -83,5 +92,5 @@ abbrev pub IsReceiptFor : Receipt → ℕ → Machine → Stage → Type 0
 IsReceiptFor receipt limit s (Ended end out) = receipt ≡ receipt_of limit end out s
 IsReceiptFor receipt limit s _ = ⊥
 
-abbrev pub IsReceiptOf : Receipt → Seen → Type 0
+abbrev pub IsReceiptOf : Receipt → RunView → Type 0
 IsReceiptOf receipt r = IsReceiptFor receipt r.call.gas r.machine r.stage

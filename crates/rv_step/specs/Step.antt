@@ -10,7 +10,7 @@ use Rattle.rv_isa.specs.declared.instruction.LoadKind.{LoadKind}
 use Rattle.rv_isa.specs.declared.register.Reg.{Reg}
 use Rattle.rv_isa.specs.declared.operands.Immediate.{Immediate}
 use Rattle.gas.specs.Costs.{cost_of}
-use Rattle.rv_alu.specs.Effects.{effect_of, held}
+use Rattle.rv_alu.specs.Effects.{effect_of, register_value}
 use Rattle.rv_alu.specs.Accesses.{address_from, extended_of, width_of, store_width}
 use Rattle.rv_mem.specs.Space.{Space, loaded, stored, copied}
 use Rattle.rv_mem.specs.declared.access.Access.TheVariants as access
@@ -51,86 +51,85 @@ abbrev pub charged : ℕ → Machine → (Machine → StepResult) → StepResult
 charged cost s act = if nat_le cost s.gas then act (record s { gas = s.gas - cost }) else Ends OutOfGas [] (record s { gas = 0 })
 
 -- on to the next instruction
-abbrev pub goes_on : Machine → StepResult
-goes_on s = Next (record s { pc = wrapped (pos s.pc +ℤ pos 4) })
+abbrev pub next_instruction : Machine → StepResult
+next_instruction s = Next (record s { pc = wrapped (pos s.pc +ℤ pos 4) })
 
 -- the address of a load or a store (RISC-V Unprivileged ISA, 2.6)
 abbrev pub address_of : Machine → Reg → Immediate → ℕ
-address_of s base offset = address_from (held s.regs base) offset
+address_of s base offset = address_from (register_value s.regs base) offset
 
 -- a load: rd takes the number that is read, extended
-abbrev pub takes : LoadKind → Reg → Machine → Result ℕ Fault → StepResult
-takes kind rd s (Ok number) = goes_on (record s { regs = written s.regs rd.number (extended_of kind number) })
-takes kind rd s (Err fault) = trapped (trap_of fault) s
+abbrev pub load_result : LoadKind → Reg → Machine → Result ℕ Fault → StepResult
+load_result kind rd s (Ok number) = next_instruction (record s { regs = written s.regs rd.number (extended_of kind number) })
+load_result kind rd s (Err fault) = trapped (trap_of fault) s
 
 -- a change of memory, and the registers after it
-abbrev pub leaves : Machine → List ℕ → Result Space Fault → StepResult
-leaves s registers (Ok memory) = goes_on (record s { memory = memory; regs = registers })
-leaves s registers (Err fault) = trapped (trap_of fault) s
+abbrev pub memory_result : Machine → List ℕ → Result Space Fault → StepResult
+memory_result s registers (Ok memory) = next_instruction (record s { memory = memory; regs = registers })
+memory_result s registers (Err fault) = trapped (trap_of fault) s
 
 -- an instruction without memory
-abbrev pub computes : Machine → Option (List ℕ × ℕ) → StepResult
-computes s (Some (registers, pc)) = Next (record s { regs = registers; pc = pc })
-computes s None = trapped trap.Misaligned s
+abbrev pub compute_result : Machine → Option (List ℕ × ℕ) → StepResult
+compute_result s (Some (registers, pc)) = Next (record s { regs = registers; pc = pc })
+compute_result s None = trapped trap.Misaligned s
 
 -- what an instruction that was charged does
-unfoldable pub acted : Instr → Machine → StepResult
-acted (Load kind rd base offset) s = takes kind rd s (loaded (width_of kind) access.Read s.memory (address_of s base offset))
-acted (Store kind source base offset) s = leaves s s.regs (stored (store_width kind) s.memory (address_of s base offset) (held s.regs source))
-acted Ebreak s = trapped trap.Breakpoint s
-acted instr s = computes s (effect_of instr s.regs s.pc)
+unfoldable pub instruction_result : Instr → Machine → StepResult
+instruction_result (Load kind rd base offset) s = load_result kind rd s (loaded (width_of kind) access.Read s.memory (address_of s base offset))
+instruction_result (Store kind source base offset) s = memory_result s s.regs (stored (store_width kind) s.memory (address_of s base offset) (register_value s.regs source))
+instruction_result Ebreak s = trapped trap.Breakpoint s
+instruction_result instr s = compute_result s (effect_of instr s.regs s.pc)
 
 -- a0 tells how a READ went: 2^32 - 1 for absence, 2^32 - 2 for a value longer than the buffer, else the length;
 -- and then the value is copied
-unfoldable pub delivered : Machine → Option (List ℕ) → StepResult
-delivered s None = goes_on (record s { regs = written s.regs 10 0xffff_ffff })
-delivered s (Some value) =
-    if nat_lt (a2 s.regs) (length value) then goes_on (record s { regs = written s.regs 10 0xffff_fffe })
-    else leaves s (written s.regs 10 (length value)) (copied s.memory (a1 s.regs) value)
+unfoldable pub delivery_result : Machine → Option (List ℕ) → StepResult
+delivery_result s None = next_instruction (record s { regs = written s.regs 10 0xffff_ffff })
+delivery_result s (Some value) =
+    if nat_lt (a2 s.regs) (length value) then next_instruction (record s { regs = written s.regs 10 0xffff_fffe })
+    else memory_result s (written s.regs 10 (length value)) (copied s.memory (a1 s.regs) value)
 
 -- a READ of a key that the call has written is answered by its own writes
-abbrev pub read_own : Machine → List ℕ → Option (Option (List ℕ)) → StepResult
-read_own s key (Some content) = delivered s content
-read_own s key None = Asks key
+abbrev pub read_result : Machine → List ℕ → Option (Option (List ℕ)) → StepResult
+read_result s key (Some content) = delivery_result s content
+read_result s key None = Asks key
 
 -- a write or a removal, of at most 256 keys
-unfoldable pub wrote : Machine → Write → StepResult
-wrote s write = if has_room s.own write.key then goes_on (record s { own = map.insert s.own write.key write.value }) else trapped trap.TooManyWrites s
+unfoldable pub write_result : Machine → Write → StepResult
+write_result s write = if has_room s.own write.key then next_instruction (record s { own = map.insert s.own write.key write.value }) else trapped trap.TooManyWrites s
 
 -- what a storage call that was charged does
-unfoldable pub served : Machine → Result Request Trap → StepResult
-served s (Err cause) = trapped cause s
-served s (Ok (request.Read key)) = read_own s key (map.get s.own key)
-served s (Ok (request.Write write)) = wrote s write
-served s (Ok (request.Return out)) = Ends Returned out s
-served s (Ok (request.Revert out)) = Ends Reverted out s
+unfoldable pub storage_call_result : Machine → Result Request Trap → StepResult
+storage_call_result s (Err cause) = trapped cause s
+storage_call_result s (Ok (request.Read key)) = read_result s key (map.get s.own key)
+storage_call_result s (Ok (request.Write write)) = write_result s write
+storage_call_result s (Ok (request.Return out)) = Ends Returned out s
+storage_call_result s (Ok (request.Revert out)) = Ends Reverted out s
 
-abbrev pub called : Machine → Result ℕ Trap → StepResult
-called s (Err cause) = trapped cause s
-called s (Ok cost) = charged cost s (λ t. served t (request_of t.regs t.memory))
+abbrev pub ecall_result : Machine → Result ℕ Trap → StepResult
+ecall_result s (Err cause) = trapped cause s
+ecall_result s (Ok cost) = charged cost s (λ t. storage_call_result t (request_of t.regs t.memory))
 
 abbrev pub is_ecall : Instr → Bool
 is_ecall Ecall = true
 is_ecall _ = false
 
-abbrev pub obeyed : Machine → Option Instr → StepResult
-obeyed s None = trapped trap.Illegal s
-obeyed s (Some instr) = if is_ecall instr then called s (ecall_charge s.regs) else charged (cost_of instr) s (λ t. acted instr t)
+abbrev pub decode_result : Machine → Option Instr → StepResult
+decode_result s None = trapped trap.Illegal s
+decode_result s (Some instr) = if is_ecall instr then ecall_result s (ecall_charge s.regs) else charged (cost_of instr) s (λ t. instruction_result instr t)
 
-abbrev pub fetched : Machine → Result ℕ Fault → StepResult
-fetched s (Ok word) = obeyed s (decoded word)
-fetched s (Err fault) = trapped (trap_of fault) s
+abbrev pub fetch_result : Machine → Result ℕ Fault → StepResult
+fetch_result s (Ok word) = decode_result s (decoded word)
+fetch_result s (Err fault) = trapped (trap_of fault) s
 
 -- one step
 unfoldable pub step : Machine → StepResult
-step s = fetched s (loaded 4 access.Execute s.memory s.pc)
+step s = fetch_result s (loaded 4 access.Execute s.memory s.pc)
 
 -- the step that asked the storage, with its answer: a value, or None for absence
 unfoldable pub answered : Machine → Option (List ℕ) → StepResult
-answered s content = charged (charge_of call.Read s.regs) s (λ t. delivered t content)
+answered s content = charged (charge_of call.Read s.regs) s (λ t. delivery_result t content)
 
--- gas falls where the call goes on, and does not rise where it ends, so that a call makes at most as many
--- instructions as its gas limit, whatever it is answered
+-- gas falls where the call goes on, and does not rise where it ends
 abbrev pub TakesGas : Machine → StepResult → Type 0
 TakesGas s (Next t) = t.gas < s.gas
 TakesGas s (Asks key) = Unit {0}

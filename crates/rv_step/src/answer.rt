@@ -5,7 +5,7 @@ use rv_ledger::{Key, Value};
 
 /// An answer that a run was given.
 #[derive(Debug, Drop)]
-pub struct Answer {
+pub struct StorageAnswer {
     /// The key that it asked for.
     pub key: Key,
     /// The key's value, or None where it is absent.

@@ -2,9 +2,13 @@
 
 ghost use Rattle.rv_ledger.specs.Call.{Invocation};
 ghost use Rattle.rv_ledger.specs.Key.{Storage};
-ghost use Rattle.std.specs.Prelude.{Option, List, ℕ};
+ghost use Rattle.ecalls.specs.StorageCalls.{charge_of};
+ghost use Rattle.ecalls.specs.declared.storage_call.StorageCall.{StorageCall};
+ghost use Rattle.gas.specs.Costs.{cost_of};
+ghost use Rattle.rv_isa.specs.declared.instruction.Instr.{Instr};
+ghost use Rattle.std.specs.Prelude.{◌≡◌, ◌<◌, Option, List, ℕ, false};
 ghost use Rattle.rv_step.specs.Chain.{HasOneReceipt};
-ghost use Rattle.rv_step.specs.Step.{TakesGas, answered, step};
+ghost use Rattle.rv_step.specs.Step.{TakesGas, answered, is_ecall, step};
 ghost use Rattle.rv_step.specs.declared.machine.Machine.{Machine};
 
 /// For each call and each storage there is exactly one receipt.
@@ -12,9 +16,13 @@ pub fn one_receipt()
     ensures { (call : Invocation) (store : Storage) → HasOneReceipt call store }
 {}
 
-/// Each step and each answer after which the call goes on takes gas, and no end gives any back: a call
-/// makes at most as many instructions as its gas limit, whatever it is answered.
+/// Each step and each answer after which the call goes on takes gas, and no end gives any back; each
+/// instruction has a charge above 0, and so has each storage call. So a call makes at most as many
+/// charged instructions as its gas limit, whatever it is answered; a last one that is not charged, as
+/// an illegal word, may come on top.
 pub fn each_step_takes_gas()
     ensures step { (s : Machine) → TakesGas s (step s) }
     ensures answer { (s : Machine) (content : Option (List ℕ)) → TakesGas s (answered s content) }
+    ensures instruction { (instr : Instr) → is_ecall instr ≡ false → 0 < cost_of instr }
+    ensures storage_call { (call : StorageCall) (registers : List ℕ) → 0 < charge_of call registers }
 {}

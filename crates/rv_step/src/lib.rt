@@ -5,13 +5,14 @@
 mod accesses;
 pub mod answer;
 pub mod ended_run;
+mod faults;
 mod laws;
 pub mod machine;
-mod pace;
+mod outcome;
 pub mod run;
 pub mod stage;
 
-pub use answer::Answer;
+pub use answer::StorageAnswer;
 pub use ended_run::EndedRun;
 pub use laws::{each_step_takes_gas, one_receipt};
 pub use machine::Machine;

@@ -1,20 +1,21 @@
 //! The machine of one call, and one step of it.
 
-ghost use Rattle.std.specs.Prelude.{◌≡◌, ◌<◌, ◌*◌, ◌^◌, if◌then◌else◌, [], false, IfOk, IsTrue, Ok};
+ghost use Rattle.std.specs.Prelude.{◌≡◌, ◌<◌, ◌≤◌, ◌*◌, ◌^◌, if◌then◌else◌, [], false, IfOk, IsTrue, Ok};
 ghost use Rattle.std.specs.Option.{option_copied};
 ghost use Rattle.std.specs.FinMap as map;
 ghost use Rattle.rv_alu.specs.Accesses.{store_width, width_of};
-ghost use Rattle.rv_alu.specs.Effects.{effect_of, held, is_plain};
+ghost use Rattle.rv_alu.specs.Effects.{effect_of, register_value, is_plain};
 ghost use Rattle.rv_ledger.specs.declared.end.End.TheVariants.{OutOfGas, Trapped};
+ghost use Rattle.rv_isa.specs.declared.instruction.Instr.TheVariants.{Load, Store};
 ghost use Rattle.rv_mem.specs.Space.{Leaves, loaded, stored};
 ghost use Rattle.rv_mem.specs.declared.access.Access.TheVariants as access;
-ghost use Rattle.ecalls.specs.StorageCalls.{ecall_charge, request_of};
-ghost use Rattle.rv_step.specs.declared.pace.Pace.TheVariants as pace;
+ghost use Rattle.ecalls.specs.StorageCalls.{ecall_charge, length_of, longest, request_by};
 
 use crate::accesses::{number_at, store_number};
-use crate::pace::{Beat, Pace, is_asking, is_ecall, refusal, trap, trap_of};
-use ecalls::requests::request;
-use ecalls::{READ_CHARGE, Request, Trap, ecall_charge};
+use crate::faults::{refusal, trap_of};
+use crate::outcome::{InstructionOutcome, is_ecall};
+use crate::stage::{Stage, is_asked, trapped};
+use ecalls::{READ_CHARGE, Request, StorageCall, Trap, asked, request_by};
 use gas::{Meter, cost};
 use rv_alu::{address, execute, extended};
 use rv_isa::{Immediate, Instr, LoadKind, Reg, Regs, StoreKind, decode};
@@ -44,9 +45,10 @@ pub struct Machine {
 }
 
 impl Machine {
-    ghost use Rattle.rv_step.specs.Step.{Next, acted, address_of, answered, called, computes, delivered, goes_on, is_ecall, leaves, obeyed, read_own, served, step, takes, wrote};
+    ghost use Rattle.rv_step.specs.Step.{Next, instruction_result, address_of, answered, ecall_result, compute_result, delivery_result, next_instruction, is_ecall, memory_result, decode_result, read_result, storage_call_result, step, load_result, write_result};
     ghost use Rattle.rv_step.specs.Chain.{start};
-    ghost use Rattle.rv_step.specs.Does.{Acts, Beats, Does, is_asking};
+    ghost use Rattle.rv_step.specs.Growth.{instruction_at};
+    ghost use Rattle.rv_step.specs.Meets.{MeetsEffect, MeetsInstruction, MeetsResult, is_asked};
 
     /// The machine of a call before its first instruction; refused where memory ran out.
     #[tactic(auto, unfolding(crate::specs::Chain::start))]
@@ -70,27 +72,27 @@ impl Machine {
     /// One step: fetch, decode, charge, act; but an ECALL is only found. Refused where memory ran
     /// out, and then nothing changes.
     #[tactic(auto, unfolding(crate::specs::Step::step))]
-    pub(crate) fn beat(&mut self) -> Result<Beat, AllocError>
-        ensures { Beats result (step self.old) self.old self.new }
+    pub(crate) fn execute_instruction(&mut self) -> Result<InstructionOutcome, AllocError>
+        ensures { MeetsInstruction result (instruction_at self.old) (step self.old) self.old self.new }
     {
         match self.memory.fetch(self.pc) {
-            Ok(word) => self.obey(decode(word)),
-            Err(fault) => Ok(Beat::End(End::Trapped(trap_of(fault)))),
+            Ok(word) => self.execute_decoded(decode(word)),
+            Err(fault) => Ok(InstructionOutcome::End(End::Trapped(trap_of(fault)))),
         }
     }
 
     /// The answer to the READ at which the machine stands: the value, or None for absence. Refused
     /// where memory ran out, and then nothing changes.
     #[tactic(auto, unfolding(crate::specs::Step::answered))]
-    pub(crate) fn answer(&mut self, content: Option<&Value>) -> Result<Pace, AllocError>
-        ensures { Does result (answered self.old (option_copied content.entry)) self.old self.new }
+    pub(crate) fn answer(&mut self, content: Option<&Value>) -> Result<Stage, AllocError>
+        ensures { MeetsResult result (answered self.old (option_copied content.entry)) self.old self.new }
     {
         let gas = self.gas;
         if !self.gas.charge(READ_CHARGE) {
-            return Ok(Pace::End(self.run_out(), Output::empty()));
+            return Ok(Stage::Ended(self.run_out(), Output::empty()));
         }
         match self.deliver(content) {
-            Ok(pace) => Ok(self.unless_asked(gas, pace)),
+            Ok(stage) => Ok(self.refund_if_asked(gas, stage)),
             Err(refused) => {
                 self.gas = gas;
                 Err(refused)
@@ -99,14 +101,14 @@ impl Machine {
     }
 
     /// Gives the gas back where the storage was asked, since an asking is not charged.
-    fn unless_asked(&mut self, gas: Meter, pace: Pace) -> Pace
-        ensures pace { result ≡ pace }
-        ensures gas { self.new ≡ (if is_asking pace then record self.old { gas = gas } else self.old) }
+    fn refund_if_asked(&mut self, gas: Meter, stage: Stage) -> Stage
+        ensures stage { result ≡ stage }
+        ensures gas { self.new ≡ (if is_asked stage then record self.old { gas = gas } else self.old) }
     {
-        if is_asking(&pace) {
+        if is_asked(&stage) {
             self.gas = gas;
         }
-        pace
+        stage
     }
 
     /// Ends the call for want of gas, all of which is spent.
@@ -119,22 +121,22 @@ impl Machine {
     }
 
     /// Charges an instruction and does it; a word of none is a trap, and an ECALL is only found.
-    fn obey(&mut self, instr: Option<Instr>) -> Result<Beat, AllocError>
-        ensures { Beats result (obeyed self.old instr) self.old self.new }
+    fn execute_decoded(&mut self, instr: Option<Instr>) -> Result<InstructionOutcome, AllocError>
+        ensures { MeetsInstruction result instr (decode_result self.old instr) self.old self.new }
     {
         let Some(instr) = instr else {
-            return Ok(Beat::End(End::Trapped(Trap::Illegal)));
+            return Ok(InstructionOutcome::End(End::Trapped(Trap::Illegal)));
         };
         if is_ecall(&instr) {
-            return Ok(Beat::Call);
+            return Ok(InstructionOutcome::StorageCall);
         }
         let gas = self.gas;
         if !self.gas.charge(cost(&instr)) {
-            return Ok(Beat::End(self.run_out()));
+            return Ok(InstructionOutcome::End(self.run_out()));
         }
-        match self.act(&instr) {
-            Ok(None) => Ok(Beat::Next),
-            Ok(Some(end)) => Ok(Beat::End(end)),
+        match self.execute_charged(&instr) {
+            Ok(None) => Ok(InstructionOutcome::Next),
+            Ok(Some(end)) => Ok(InstructionOutcome::End(end)),
             Err(refused) => {
                 self.gas = gas;
                 Err(refused)
@@ -145,19 +147,20 @@ impl Machine {
     /// The storage call at which the machine stands: charges it and does it. An asking is not
     /// charged before its answer. Refused where memory ran out, and then nothing changes.
     #[inline(never)]
-    pub(crate) fn call(&mut self) -> Result<Pace, AllocError>
-        ensures { Does result (called self.old (ecall_charge self.old.regs)) self.old self.new }
+    #[tactic(auto, unfolding(ecalls::specs::StorageCalls::request_of))]
+    pub(crate) fn execute_ecall(&mut self) -> Result<Stage, AllocError>
+        ensures { MeetsResult result (ecall_result self.old (ecall_charge self.old.regs)) self.old self.new }
     {
-        let cost = match ecall_charge(&self.regs) {
-            Ok(cost) => cost,
-            Err(cause) => return Ok(trap(cause)),
+        let call = match asked(&self.regs) {
+            Ok(call) => call,
+            Err(cause) => return Ok(trapped(cause)),
         };
         let gas = self.gas;
-        if !self.gas.charge(cost) {
-            return Ok(Pace::End(self.run_out(), Output::empty()));
+        if !self.gas.charge(call.charge(&self.regs)) {
+            return Ok(Stage::Ended(self.run_out(), Output::empty()));
         }
-        match self.serve() {
-            Ok(pace) => Ok(self.unless_asked(gas, pace)),
+        match self.serve_request(call) {
+            Ok(stage) => Ok(self.refund_if_asked(gas, stage)),
             Err(refused) => {
                 self.gas = gas;
                 Err(refused)
@@ -165,72 +168,73 @@ impl Machine {
         }
     }
 
-    /// Does the storage call that the registers ask for.
-    #[tactic(auto, unfolding(crate::specs::Step::served))]
-    fn serve(&mut self) -> Result<Pace, AllocError>
-        ensures { Does result (served self.old (request_of self.old.regs self.old.memory)) self.old self.new }
+    /// Does a storage call that was charged.
+    #[tactic(auto, unfolding(crate::specs::Step::storage_call_result))]
+    fn serve_request(&mut self, call: StorageCall) -> Result<Stage, AllocError>
+        requires { length_of call self.old.regs ≤ longest call }
+        ensures { MeetsResult result (storage_call_result self.old (request_by call self.old.regs self.old.memory)) self.old self.new }
     {
-        let request = match request(&self.regs, &self.memory) {
+        let request = match request_by(call, &self.regs, &self.memory) {
             Ok(request) => request,
-            Err(cause) => return Ok(trap(cause)),
+            Err(cause) => return Ok(trapped(cause)),
         };
         match request {
             Request::Read(key) => self.read(key),
             Request::Write(write) => self.write(write),
-            Request::Return(out) => Ok(Pace::End(End::Returned, out)),
-            Request::Revert(out) => Ok(Pace::End(End::Reverted, out)),
+            Request::Return(out) => Ok(Stage::Ended(End::Returned, out)),
+            Request::Revert(out) => Ok(Stage::Ended(End::Reverted, out)),
         }
     }
 
     /// Reads a key: from the call's own writes, or else by asking.
-    fn read(&mut self, key: Key) -> Result<Pace, AllocError>
-        ensures { Does result (read_own self.old key (map.get self.old.own key)) self.old self.new }
+    fn read(&mut self, key: Key) -> Result<Stage, AllocError>
+        ensures { MeetsResult result (read_result self.old key (map.get self.old.own key)) self.old self.new }
     {
         let content = match self.own.get(&key) {
             Some(content) => content.clone()?,
-            None => return Ok(Pace::Ask(key)),
+            None => return Ok(Stage::Asked(key)),
         };
         self.deliver(content.as_ref())
     }
 
     /// Writes or removes a key of which the call has room.
-    #[tactic(auto, unfolding(crate::specs::Step::wrote))]
-    fn write(&mut self, write: Write) -> Result<Pace, AllocError>
-        ensures { Does result (wrote self.old write) self.old self.new }
+    #[tactic(auto, unfolding(crate::specs::Step::write_result))]
+    fn write(&mut self, write: Write) -> Result<Stage, AllocError>
+        ensures { MeetsResult result (write_result self.old write) self.old self.new }
     {
         if !self.own.has_room(&write.key) {
-            return Ok(trap(Trap::TooManyWrites));
+            return Ok(trapped(Trap::TooManyWrites));
         }
         self.own.insert(write)?;
-        self.go_on();
-        Ok(Pace::Next)
+        self.advance_pc();
+        Ok(Stage::Running)
     }
 
     /// Tells a READ's answer in a0 and copies the value into its buffer.
-    #[tactic(auto, unfolding(crate::specs::Step::delivered))]
-    fn deliver(&mut self, content: Option<&Value>) -> Result<Pace, AllocError>
-        ensures { Does result (delivered self.old (option_copied content.entry)) self.old self.new }
+    #[tactic(auto, unfolding(crate::specs::Step::delivery_result))]
+    fn deliver(&mut self, content: Option<&Value>) -> Result<Stage, AllocError>
+        ensures { MeetsResult result (delivery_result self.old (option_copied content.entry)) self.old self.new }
     {
-        let told = match content {
+        let number = match content {
             None => ABSENT,
             Some(value) if value.bytes().len() > self.regs.get(Reg::a2()) as usize => TOO_LONG,
             Some(value) => {
                 match self.memory.copy_in(self.regs.get(Reg::a1()), value.bytes()) {
                     Ok(()) => value.bytes().len() as u32,
-                    Err(fault) => return Ok(Pace::End(refusal(fault)?, Output::empty())),
+                    Err(fault) => return Ok(Stage::Ended(refusal(fault)?, Output::empty())),
                 }
             }
         };
-        self.regs.set(Reg::a0(), told);
-        self.go_on();
-        Ok(Pace::Next)
+        self.regs.set(Reg::a0(), number);
+        self.advance_pc();
+        Ok(Stage::Running)
     }
 
     /// Does an instruction that is no ECALL: None where the machine goes on, or how the call ends.
-    #[tactic(auto, unfolding(crate::specs::Step::acted))]
-    fn act(&mut self, instr: &Instr) -> Result<Option<End>, AllocError>
+    #[tactic(auto, unfolding(crate::specs::Step::instruction_result))]
+    fn execute_charged(&mut self, instr: &Instr) -> Result<Option<End>, AllocError>
         requires { is_ecall instr.now ≡ false }
-        ensures { Acts result (acted instr.now self.old) self.old self.new }
+        ensures { MeetsEffect result instr.now (instruction_result instr.now self.old) self.old self.new }
     {
         match *instr {
             Instr::Load {
@@ -253,7 +257,7 @@ impl Machine {
     /// Does an instruction that touches registers and the pc alone.
     fn compute(&mut self, instr: &Instr) -> Option<End>
         requires { IsTrue (is_plain instr.now) }
-        ensures { Acts (Ok result) (computes self.old (effect_of instr.now self.old.regs self.old.pc)) self.old self.new }
+        ensures { MeetsEffect (Ok result) instr.now (compute_result self.old (effect_of instr.now self.old.regs self.old.pc)) self.old self.new }
     {
         match execute(instr, &mut self.regs, self.pc) {
             Some(pc) => {
@@ -266,13 +270,13 @@ impl Machine {
 
     /// Does a load.
     fn load(&mut self, kind: LoadKind, rd: Reg, base: Reg, offset: Immediate) -> Option<End>
-        ensures { Acts (Ok result) (takes kind rd self.old (loaded (width_of kind) access.Read self.old.memory (address_of self.old base offset))) self.old self.new }
+        ensures { MeetsEffect (Ok result) (Load kind rd base offset) (load_result kind rd self.old (loaded (width_of kind) access.Read self.old.memory (address_of self.old base offset))) self.old self.new }
     {
         let address = address(self.regs.get(base), offset);
         match number_at(&self.memory, kind, address) {
             Ok(number) => {
                 self.regs.set(rd, extended(kind, number));
-                self.go_on();
+                self.advance_pc();
                 None
             }
             Err(fault) => Some(End::Trapped(trap_of(fault))),
@@ -287,13 +291,13 @@ impl Machine {
         base: Reg,
         offset: Immediate,
     ) -> Result<Option<End>, AllocError>
-        ensures { Acts result (leaves self.old self.old.regs (stored (store_width kind) self.old.memory (address_of self.old base offset) (held self.old.regs source))) self.old self.new }
+        ensures { MeetsEffect result (Store kind source base offset) (memory_result self.old self.old.regs (stored (store_width kind) self.old.memory (address_of self.old base offset) (register_value self.old.regs source))) self.old self.new }
     {
         let address = address(self.regs.get(base), offset);
         let value = self.regs.get(source);
         match store_number(&mut self.memory, kind, address, value) {
             Ok(()) => {
-                self.go_on();
+                self.advance_pc();
                 Ok(None)
             }
             Err(fault) => Ok(Some(refusal(fault)?)),
@@ -301,8 +305,8 @@ impl Machine {
     }
 
     /// Goes on to the next instruction.
-    fn go_on(&mut self)
-        ensures { goes_on self.old ≡ Next self.new }
+    fn advance_pc(&mut self)
+        ensures { next_instruction self.old ≡ Next self.new }
     {
         self.pc = self.pc.wrapping_add(4);
     }

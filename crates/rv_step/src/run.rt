@@ -1,14 +1,17 @@
 //! A run of one call, which stops where it needs an answer of the storage.
 
-ghost use Rattle.std.specs.Prelude.{◌≡◌, ◌≤◌, [], OnErr, OnOk};
+ghost use Rattle.std.specs.Prelude.{◌≡◌, ◌≤◌, [], IsTrue, Ok, OnErr, OnOk};
 ghost use Rattle.rv_step.specs.Chain.{receipt_of};
-ghost use Rattle.rv_step.specs.Does.{HasCalled, stage_of};
+ghost use Rattle.rv_step.specs.Growth.{goes_on};
+ghost use Rattle.rv_step.specs.Meets.{MeetsResult};
+ghost use Rattle.rv_step.specs.Step.{ecall_result};
+ghost use Rattle.ecalls.specs.StorageCalls.{ecall_charge};
 ghost use Rattle.rv_step.specs.declared.stage.Stage.TheVariants.{Ended};
 
-use crate::answer::Answer;
+use crate::answer::StorageAnswer;
 use crate::ended_run::EndedRun;
 use crate::machine::Machine;
-use crate::pace::{Beat, Pace};
+use crate::outcome::InstructionOutcome;
 use crate::stage::Stage;
 use read_set::Origin;
 use rv_ledger::{Call, End, Key, Output, Receipt, Value};
@@ -20,22 +23,22 @@ use std::marker::Model;
 pub struct Run {
     call: Call,
     machine: Machine,
-    answers: Vec<Answer>,
+    answers: Vec<StorageAnswer>,
     stage: Stage,
 }
 
 impl Model for Run {
     ghost use Rattle.std.specs.Coded.{codes};
-    ghost use Rattle.rv_step.specs.Run.{Seen, IsSoFar};
+    ghost use Rattle.rv_step.specs.Run.{RunView, IsSoFar};
     ghost use Rattle.rv_step.specs.contracts.machine.Machine.{the_row as machine_row};
 
-    ghost Value = { Seen };
+    ghost Value = { RunView };
 
     ghost coded = { Prim.hlevel (codes, machine_row.coded) };
 
-    ghost view = { λ r. record { call = r.call; machine = r.machine; told = r.answers.items; stage = r.stage } };
+    ghost view = { λ r. record { call = r.call; machine = r.machine; answers = r.answers.items; stage = r.stage } };
 
-    ghost invariant = { λ r. IsSoFar (record { call = r.call; machine = r.machine; told = r.answers.items; stage = r.stage }) };
+    ghost invariant = { λ r. IsSoFar (record { call = r.call; machine = r.machine; answers = r.answers.items; stage = r.stage }) };
 }
 
 /// Why a run stands still.
@@ -48,16 +51,17 @@ pub enum Pause {
 }
 
 impl Run {
-    ghost use Rattle.std.specs.Prelude.{◌≡◌, ◌<◌, ◌≤◌, false, IsTrue, IsSome, IfSome, IfOk, OnOk, OnErr};
+    ghost use Rattle.std.specs.Prelude.{◌≡◌, ◌<◌, ◌≤◌, ℕ, false, IsTrue, IsSome, IfSome, IfOk, OnOk, OnErr};
     ghost use Rattle.std.specs.Option.{option_copied};
+    ghost use Rattle.rv_step.specs.Growth.{TakesMemory};
     ghost use Rattle.rv_step.specs.Step.{step};
     ghost use Rattle.rv_step.specs.Asked.{asked_by, asked_of};
     ghost use Rattle.rv_step.specs.Replies.{replies_of};
-    ghost use Rattle.rv_step.specs.Run.{IsEnded, IsPause, IsReceiptOf, after_answer, asked_key, is_running, moved, seen_at_start, steps_left};
+    ghost use Rattle.rv_step.specs.Run.{IsEnded, IsPause, IsReceiptOf, after_answer, after_result, after_steps, asked_key, is_running, run_at_start, steps_left};
 
     /// A run of a call before its first instruction; refused where memory ran out.
     pub fn start(alloc: Global, call: &Call) -> Result<Run, AllocError>
-        ensures { IfOk result (λ r. r ≡ seen_at_start call.now) }
+        ensures { IfOk result (λ r. r ≡ run_at_start call.now) }
     {
         let machine = Machine::start(alloc, call)?;
         Ok(Run {
@@ -75,30 +79,34 @@ impl Run {
         matches!(self.stage, Stage::Running)
     }
 
-    /// Makes one instruction of a run that can. Refused where memory ran out, and then nothing changes.
+    /// Makes one instruction of a run that can. Refused where memory ran out, at a step that takes
+    /// memory alone, and then nothing changes.
     pub fn step_one(&mut self) -> Result<(), AllocError>
         requires { IsTrue (is_running self.old.stage) }
-        ensures ok { OnOk result (self.new ≡ moved (step self.old.machine) self.old) }
+        ensures ok { OnOk result (self.new ≡ after_result (step self.old.machine) self.old) }
         ensures fewer { OnOk result (steps_left self.new < steps_left self.old) }
         ensures err { OnErr result (self.new ≡ self.old) }
+        ensures grows { OnErr result (TakesMemory self.old.machine) }
     {
-        match self.machine.beat()? {
-            Beat::Next => {}
-            Beat::Call => call(&mut self.machine, &mut self.stage)?,
-            Beat::End(end) => end_with(&mut self.stage, end),
+        match self.machine.execute_instruction()? {
+            InstructionOutcome::Next => {}
+            InstructionOutcome::StorageCall => execute_ecall(&mut self.machine, &mut self.stage)?,
+            InstructionOutcome::End(end) => end_with(&mut self.stage, end),
         }
         Ok(())
     }
 
-    /// Makes instructions until the run asks the storage or has ended. Refused where memory ran out;
-    /// then the run stands before the instruction that was refused, and may go on.
+    /// Makes instructions until the run asks the storage or has ended. Refused where memory ran out,
+    /// at a step that takes memory alone; then the run stands before that instruction, and may go on.
     pub fn go(&mut self) -> Result<Pause, AllocError>
         ensures call { self.new.call ≡ self.old.call }
-        ensures told { self.new.told ≡ self.old.told }
+        ensures answers { self.new.answers ≡ self.old.answers }
         ensures fewer { steps_left self.new ≤ steps_left self.old }
         ensures pause { IfOk result (λ pause. IsPause pause self.new.stage) }
-        ensures asks { IfOk result (λ pause. asked_of pause ≡ asked_by self.new.call (replies_of self.new.told)) }
-        ensures stopped { IsTrue (is_running self.old.stage) → OnErr result (IsTrue (is_running self.new.stage)) }
+        ensures asks { IfOk result (λ pause. asked_of pause ≡ asked_by self.new.call (replies_of self.new.answers)) }
+        ensures steps { (n : ℕ) × (self.new ≡ after_steps n self.old) }
+        ensures stopped { OnErr result (IsTrue (is_running self.new.stage)) }
+        ensures grows { OnErr result (TakesMemory self.new.machine) }
         ensures stays { is_running self.old.stage ≡ false → self.new ≡ self.old }
     {
         while self.is_running() {
@@ -111,7 +119,7 @@ impl Run {
     fn pause(&self) -> Pause
         requires { is_running self.now.stage ≡ false }
         ensures pause { IsPause result self.now.stage }
-        ensures asks { asked_of result ≡ asked_by self.now.call (replies_of self.now.told) }
+        ensures asks { asked_of result ≡ asked_by self.now.call (replies_of self.now.answers) }
     {
         match &self.stage {
             Stage::Asked(key) => Pause::Ask(*key),
@@ -132,19 +140,18 @@ impl Run {
             Stage::Asked(key) => *key,
             _ => unreachable!(),
         };
-        self.answers.push(Answer {
+        self.answers.push(StorageAnswer {
             key,
             value: Value::copied(content),
             origin,
         })?;
-        let pace = match self.machine.answer(content) {
-            Ok(pace) => pace,
+        self.stage = match self.machine.answer(content) {
+            Ok(stage) => stage,
             Err(refused) => {
                 let _ = self.answers.pop();
                 return Err(refused);
             }
         };
-        self.stage = stage_of(pace);
         Ok(())
     }
 
@@ -152,7 +159,7 @@ impl Run {
     pub fn finish(self) -> EndedRun
         requires { IsEnded self.stage }
         ensures call { result.call ≡ self.call }
-        ensures answers { result.answers.items ≡ self.told }
+        ensures answers { result.answers.items ≡ self.answers }
         ensures receipt { IsReceiptOf result.receipt self }
     {
         let Run {
@@ -178,12 +185,13 @@ impl Run {
 /// Does the storage call at which a machine stands. It is kept out of the loop over instructions,
 /// since a frame is cleared at each entry and an output takes much room in it.
 #[inline(never)]
-fn call(machine: &mut Machine, stage: &mut Stage) -> Result<(), AllocError>
-    ensures ok { OnOk result (HasCalled machine.old machine.new stage.new) }
+fn execute_ecall(machine: &mut Machine, stage: &mut Stage) -> Result<(), AllocError>
+    ensures ok { OnOk result (MeetsResult (Ok stage.new) (ecall_result machine.old (ecall_charge machine.old.regs)) machine.old machine.new) }
+    ensures grows { OnErr result (IsTrue (goes_on (ecall_result machine.old (ecall_charge machine.old.regs)))) }
     ensures machine { OnErr result (machine.new ≡ machine.old) }
     ensures stage { OnErr result (stage.new ≡ stage.old) }
 {
-    *stage = stage_of(machine.call()?);
+    *stage = machine.execute_ecall()?;
     Ok(())
 }
 
@@ -193,17 +201,6 @@ fn end_with(stage: &mut Stage, end: End)
     ensures { stage.new ≡ Ended end [] }
 {
     *stage = Stage::Ended(end, Output::empty());
-}
-
-/// The stage after a step.
-fn stage_of(pace: Pace) -> Stage
-    ensures { result ≡ stage_of pace }
-{
-    match pace {
-        Pace::Next => Stage::Running,
-        Pace::Ask(key) => Stage::Asked(key),
-        Pace::End(end, out) => Stage::Ended(end, out),
-    }
 }
 
 /// The receipt of a call with this gas limit that ended so.

@@ -6,6 +6,7 @@ pub mod Instructions
 pub mod Layouts
 pub mod LineFeeds
 pub mod Lines
+pub mod Listings
 pub mod Mapped
 pub mod OneLine
 pub mod Places

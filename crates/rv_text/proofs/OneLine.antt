@@ -10,7 +10,7 @@ use Rattle.rv_names.specs.declared.lines.Statement.{Statement}
 use Rattle.rv_names.specs.declared.lines.Statement.TheVariants.{Empty, Plain, Pair, BranchTo, JumpTo, AddressOf, WordValue, ByteValue, ZeroBytes, Enter}
 use Rattle.rv_program.specs.Sections.{Sections}
 use Rattle.rv_text.specs.declared.fault.AsmError.{AsmError}
-use Rattle.rv_text.specs.Assembly.{nothing_laid, on_line, with_label, with_text, with_statement, with_line, laid_from, words_of_item, words_of, program_from, assembled}
+use Rattle.rv_text.specs.Assembly.{empty_layout, on_line, with_label, with_text, with_statement, with_line, layout_from, words_of_item, words_of, program_from, assembled}
 use Rattle.rv_text.specs.Back.{IsWord, IsReadBack}
 use Rattle.rv_names.specs.Text.{word_text}
 use Rattle.rv_text.proofs.LineFeeds.{word_text_is_one_line}
@@ -30,8 +30,8 @@ single (b ∷ text) h = by (b == 10) h (single text)
 
 -- what the one line lays down
 stated : (label target : Option (List ℕ)) (statement : Statement) (word : ℕ) → IsWord statement word
-    → program_from (on_line 1 (with_statement 1 (record { label = label; statement = statement; target = target }) statement nothing_laid) (λ l. laid_from 2 [] l)) ≡ word_alone word
-unfolding with_text laid_from words_of_item words_of
+    → program_from (on_line 1 (with_statement 1 (record { label = label; statement = statement; target = target }) statement empty_layout) (λ l. layout_from 2 [] l)) ≡ word_alone word
+unfolding with_text layout_from words_of_item words_of
 stated label target (Plain instr) word e = ap word_alone e
 stated label target (WordValue n) word e = ap word_alone e
 stated label target Empty word h = absurd h
@@ -44,12 +44,12 @@ stated label target (ZeroBytes n) word h = absurd h
 stated label target (Enter section) word h = absurd h
 
 read : (text : List ℕ) (word : ℕ) (r : Result (Line (List ℕ)) Cause) → line_of Text text ≡ r → IsOkAnd r (λ line. (line.label ≡ None) × IsWord line.statement word)
-    → program_from (on_line 1 (with_line 1 text nothing_laid) (λ l. laid_from 2 [] l)) ≡ word_alone word
+    → program_from (on_line 1 (with_line 1 text empty_layout) (λ l. layout_from 2 [] l)) ≡ word_alone word
 unfolding with_line with_label
 read text word (Ok line) e h = rw (e, h.0) (stated None line.target line.statement word h.1)
 read text word (Err cause) e h = absurd h
 
 -- where the text of a word is a line that stands for it, it is a source that does
 pub assembled_word_text : (word : ℕ) → IsReadBack word → assembled (word_text word) ≡ word_alone word
-unfolding assembled laid_from
+unfolding assembled layout_from
 assembled_word_text word back = rw (single (word_text word) (word_text_is_one_line word)) (read (word_text word) word (line_of Text (word_text word)) refl back)

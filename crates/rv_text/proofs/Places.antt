@@ -8,7 +8,7 @@ use Rattle.std.specs.Map.{lookup}
 use Rattle.indexmap.specs.IndexMap.{IndexMap, get, insert_entry}
 use Rattle.indexmap.proofs.CallerLemmas.{insert_entry-new}
 use Rattle.rv_text.specs.declared.fault.AsmCause.TheVariants.{DuplicateLabel}
-use Rattle.rv_text.specs.Assembly.{Laid, place_in, place_of, with_label}
+use Rattle.rv_text.specs.Assembly.{SourceLayout, place_in, place_of, with_label}
 use Rattle.rv_text.specs.Shown.{shown_labels}
 
 -- the entry of a label is found by its name
@@ -24,16 +24,16 @@ place_shown (entry ∷ entries) name =
 abbrev pub same_name : Bor (List ℕ) → Bor (List ℕ) → Bool
 same_name a b = bytes_eq a.now b.now
 
-defined_label : (name : List ℕ) (l : Laid) (b : Bool) → is_some (place_of l.labels name) ≡ b → with_label (Some name) l ≡ (if b then Err DuplicateLabel else Ok (record l { labels = l.labels ++ (name, place_in l.section l) ∷ [] }))
+defined_label : (name : List ℕ) (l : SourceLayout) (b : Bool) → is_some (place_of l.labels name) ≡ b → with_label (Some name) l ≡ (if b then Err DuplicateLabel else Ok (record l { labels = l.labels ++ (name, place_in l.section l) ∷ [] }))
 unfolding with_label
 defined_label name l b e = ap (λ c. if c then Err DuplicateLabel else Ok (record l { labels = l.labels ++ (name, place_in l.section l) ∷ [] })) e
 
 -- a label that is there, and one that is new
 
-pub again : (name : List ℕ) (l : Laid) → is_some (place_of l.labels name) ≡ true → with_label (Some name) l ≡ Err DuplicateLabel
+pub again : (name : List ℕ) (l : SourceLayout) → is_some (place_of l.labels name) ≡ true → with_label (Some name) l ≡ Err DuplicateLabel
 again name l e = defined_label name l true e
 
-pub anew : (name : List ℕ) (l : Laid) → is_some (place_of l.labels name) ≡ false → with_label (Some name) l ≡ Ok (record l { labels = l.labels ++ (name, place_in l.section l) ∷ [] })
+pub anew : (name : List ℕ) (l : SourceLayout) → is_some (place_of l.labels name) ≡ false → with_label (Some name) l ≡ Ok (record l { labels = l.labels ++ (name, place_in l.section l) ∷ [] })
 anew name l e = defined_label name l false e
 
 -- a new label goes last

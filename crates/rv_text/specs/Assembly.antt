@@ -52,7 +52,7 @@ place_of labels name = option_map (λ label. label.1) (find (λ label. bytes_eq 
 
 -- what the lines so far lay down: the section in force, the statements of text and how many bytes they take, the data,
 -- and the labels
-pub record Laid : Type 0 where
+pub record SourceLayout : Type 0 where
   pub section : Section
   pub items : List Item
   pub text_size : ℕ
@@ -60,11 +60,11 @@ pub record Laid : Type 0 where
   pub labels : Labels
 
 -- no line so far
-abbrev pub nothing_laid : Laid
-nothing_laid = record { section = Text; items = []; text_size = 0; data_bytes = []; labels = [] }
+abbrev pub empty_layout : SourceLayout
+empty_layout = record { section = Text; items = []; text_size = 0; data_bytes = []; labels = [] }
 
 -- the place of the next byte of the section in force
-abbrev pub place_in : Section → Laid → ℕ
+abbrev pub place_in : Section → SourceLayout → ℕ
 place_in Text l = 0x10000 + l.text_size
 place_in Data l = 0x20000 + length l.data_bytes
 
@@ -76,7 +76,7 @@ cause_of alone.BadOperand = BadOperand
 cause_of alone.ImmediateRange = ImmediateRange
 
 -- a label is the place where its line begins
-unfoldable pub with_label : Option (List ℕ) → Laid → Result Laid AsmCause
+unfoldable pub with_label : Option (List ℕ) → SourceLayout → Result SourceLayout AsmCause
 with_label None l = Ok l
 with_label (Some name) l =
     if is_some (place_of l.labels name) then Err DuplicateLabel else Ok (record l { labels = l.labels ++ (name, place_in l.section l) ∷ [] })
@@ -95,7 +95,7 @@ data_bytes_of (ZeroBytes count) = replicate count 0
 data_bytes_of _ = []
 
 -- text has at most 65,536 bytes
-unfoldable pub with_text : ℕ → Line (List ℕ) → Laid → Result Laid AsmCause
+unfoldable pub with_text : ℕ → Line (List ℕ) → SourceLayout → Result SourceLayout AsmCause
 with_text n line l =
     if nat_lt 65536 (l.text_size + text_bytes_of line.statement) then Err TooLarge else
     Ok (record l {
@@ -104,32 +104,32 @@ with_text n line l =
     })
 
 -- data has at most 61,440
-unfoldable pub with_data : List ℕ → Laid → Result Laid AsmCause
+unfoldable pub with_data : List ℕ → SourceLayout → Result SourceLayout AsmCause
 with_data bytes l =
     if nat_lt 61440 (length l.data_bytes + length bytes) then Err TooLarge else
     Ok (record l { data_bytes = l.data_bytes ++ bytes })
 
-abbrev pub with_bytes : ℕ → Line (List ℕ) → Section → Laid → Result Laid AsmCause
+abbrev pub with_bytes : ℕ → Line (List ℕ) → Section → SourceLayout → Result SourceLayout AsmCause
 with_bytes n line Text l = with_text n line l
 with_bytes n line Data l = with_data (data_bytes_of line.statement) l
 
 -- a statement in the section in force
-abbrev pub with_statement : ℕ → Line (List ℕ) → Statement → Laid → Result Laid AsmCause
+abbrev pub with_statement : ℕ → Line (List ℕ) → Statement → SourceLayout → Result SourceLayout AsmCause
 with_statement n line Empty l = Ok l
 with_statement n line (Enter section) l = Ok (record l { section = section })
 with_statement n line _ l = with_bytes n line l.section l
 
 -- one line more
-unfoldable pub with_line : ℕ → List ℕ → Laid → Result Laid AsmCause
+unfoldable pub with_line : ℕ → List ℕ → SourceLayout → Result SourceLayout AsmCause
 with_line n text l = do
   line ← result_map_both (λ line. line) cause_of (line_of l.section text)
   labelled ← with_label line.label l
   with_statement n line line.statement labelled
 
 -- all lines, from line n on
-unfoldable pub laid_from : ℕ → List (List ℕ) → Laid → Result Laid AsmError
-laid_from n [] l = Ok l
-laid_from n (text ∷ texts) l = on_line n (with_line n text l) (λ m. laid_from (n + 1) texts m)
+unfoldable pub layout_from : ℕ → List (List ℕ) → SourceLayout → Result SourceLayout AsmError
+layout_from n [] l = Ok l
+layout_from n (text ∷ texts) l = on_line n (with_line n text l) (λ m. layout_from (n + 1) texts m)
 
 -- ---- the faults of labels, where there is none of lines: 4 and 6
 
@@ -175,16 +175,16 @@ words_of labels (item ∷ items) =
     on_line item.line (words_of_item labels item) (λ words. result_map_both (λ more. words ++ more) (λ fault. fault) (words_of labels items))
 
 -- the program of what was laid down
-abbrev pub program_of : Laid → Result Sections AsmError
+abbrev pub program_of : SourceLayout → Result Sections AsmError
 program_of l = result_map_both (λ text. record { text = text; data_bytes = l.data_bytes }) (λ fault. fault) (words_of l.labels l.items)
 
-abbrev pub program_from : Result Laid AsmError → Result Sections AsmError
+abbrev pub program_from : Result SourceLayout AsmError → Result Sections AsmError
 program_from (Ok l) = program_of l
 program_from (Err fault) = Err fault
 
 -- what a source stands for; its lines are parted by LF and counted from 1
 unfoldable pub assembled : List ℕ → Result Sections AsmError
-assembled source = program_from (laid_from 1 (slice_split (λ b. b == 10) source) nothing_laid)
+assembled source = program_from (layout_from 1 (slice_split (λ b. b == 10) source) empty_layout)
 
 -- a call answers what is wanted, or want of memory
 abbrev pub Gives : Result Sections AsmError → Result Sections AsmError → Type 0

@@ -1,5 +1,5 @@
--- The way back from the text of a word.
-use Rattle.std.specs.Prelude.{◌≡◌, ℕ, None, Result, IsOkAnd}
+-- The way back from the texts of words.
+use Rattle.std.specs.Prelude.{◌≡◌, ◌++◌, ℕ, List, [], None, Result, Ok, IsOkAnd, codes, flat_map}
 use Rattle.rv_isa.specs.Word.{word_of}
 use Rattle.rv_names.specs.Line.{line_of}
 use Rattle.rv_names.specs.Statements.{Said}
@@ -8,6 +8,7 @@ use Rattle.rv_names.specs.declared.lines.Cause.{Cause}
 use Rattle.rv_names.specs.declared.lines.Section.TheVariants.{Text}
 use Rattle.rv_names.specs.declared.lines.Statement.{Statement}
 use Rattle.rv_names.specs.declared.lines.Statement.TheVariants.{Plain, WordValue}
+use Rattle.rv_text.specs.Assembly.{assembled}
 
 -- a statement that stands for one word alone
 abbrev pub IsWord : Statement → ℕ → Type 0
@@ -22,3 +23,11 @@ IsLineOf word r = IsOkAnd r (λ line. (line.label ≡ None) × IsWord line.state
 -- the text of a word is a line of source that stands for it
 abbrev pub IsReadBack : ℕ → Type 0
 IsReadBack word = IsLineOf word (line_of Text (word_text word))
+
+-- the texts of some words, each on a line of its own
+abbrev pub listing : List ℕ → List ℕ
+listing words = flat_map (λ word. word_text word ++ codes "\n") words
+
+-- they are the source of the program of just these words and no data
+abbrev pub IsAssembledBack : List ℕ → Type 0
+IsAssembledBack words = assembled (listing words) ≡ Ok (record { text = words; data_bytes = [] })

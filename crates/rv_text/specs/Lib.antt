@@ -4,3 +4,4 @@ pub mod Shown
 pub mod Fits
 pub mod Layout
 pub mod Answer
+pub mod Faults

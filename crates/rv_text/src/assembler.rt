@@ -2,9 +2,9 @@
 
 ghost use Rattle.std.specs.Prelude.{◌≡◌, ◌==◌, map, IfOk};
 ghost use Rattle.std.specs.List.{slice_split};
-ghost use Rattle.rv_text.specs.Assembly.{Gives, nothing_laid, laid_from, program_of, assembled};
+ghost use Rattle.rv_text.specs.Assembly.{Gives, empty_layout, layout_from, program_of, assembled};
 ghost use Rattle.rv_text.specs.Answer.{Reads};
-ghost use Rattle.rv_text.specs.Layout.{laid};
+ghost use Rattle.rv_text.specs.Layout.{layout_of};
 
 use crate::fault::{AsmCause, AsmError};
 use crate::layout::Layout;
@@ -20,8 +20,8 @@ fn lines(alloc: Global, source: &[u8]) -> Result<Vec<&[u8]>, AllocError>
 }
 
 /// What some lines lay down.
-fn laid_down<'a>(alloc: Global, lines: &[&'a [u8]]) -> Result<Layout<'a>, AsmError>
-    ensures { Reads laid result (laid_from 1 (map (λ line. line.now) lines.now) nothing_laid) }
+fn lay_out<'a>(alloc: Global, lines: &[&'a [u8]]) -> Result<Layout<'a>, AsmError>
+    ensures { Reads layout_of result (layout_from 1 (map (λ line. line.now) lines.now) empty_layout) }
 {
     let mut layout = Layout::new(alloc);
     for (index, text) in lines.iter().enumerate() {
@@ -38,7 +38,7 @@ fn laid_down<'a>(alloc: Global, lines: &[&'a [u8]]) -> Result<Layout<'a>, AsmErr
 
 /// The program of what was laid down.
 fn program(alloc: Global, layout: Layout<'_>) -> Result<Program, AsmError>
-    ensures { Gives result (program_of (laid layout.entry)) }
+    ensures { Gives result (program_of (layout_of layout.entry)) }
 {
     let text = words_of(alloc, &layout.labels, layout.items.as_slice())?;
     match Program::new(text, layout.data_bytes) {
@@ -55,7 +55,7 @@ pub fn assemble(alloc: Global, source: &str) -> Result<Program, AsmError>
     ensures { Gives result (assembled source.now) }
 {
     match lines(alloc, source.as_bytes()) {
-        Ok(lines) => program(alloc, laid_down(alloc, lines.as_slice())?),
+        Ok(lines) => program(alloc, lay_out(alloc, lines.as_slice())?),
         Err(_) => Err(AsmError {
             line: 1,
             cause: AsmCause::Memory,

@@ -12,29 +12,42 @@ use thiserror::Error;
 #[derive(Clone, Copy, Debug, PartialEq, Eq, Error)]
 pub enum AsmCause {
     /// The first word of a line is no mnemonic and no directive.
-    #[error("UnknownMnemonic 1")]
     UnknownMnemonic = 1,
     /// A label that is no name, operands of a wrong number or form, or the wrong section.
-    #[error("BadOperand 2")]
     BadOperand = 2,
     /// A number that is out of its operand's range.
-    #[error("ImmediateRange 3")]
     ImmediateRange = 3,
     /// An operand is a label that no line defines.
-    #[error("UnknownLabel 4")]
     UnknownLabel = 4,
     /// A label that an earlier line defines is defined again.
-    #[error("DuplicateLabel 5")]
     DuplicateLabel = 5,
     /// A label is out of the range of a branch's or jump's distance, or at an odd distance.
-    #[error("LabelRange 6")]
     LabelRange = 6,
     /// The line's bytes pass the section's size.
-    #[error("TooLarge 7")]
     TooLarge = 7,
     /// Memory ran out.
-    #[error("Memory 8")]
     Memory = 8,
+}
+
+impl fmt::Display for AsmCause {
+    ghost use Rattle.std.specs.Prelude.{Some};
+    ghost use Rattle.rv_text.specs.Faults.{cause_text};
+
+    ghost output = { λ cause. Some (cause_text cause) };
+
+    /// The name and the number.
+    fn fmt<W: fmt::Write>(&self, f: &mut fmt::Formatter<W>) -> fmt::Result {
+        match self {
+            AsmCause::UnknownMnemonic => f.write_str("UnknownMnemonic 1"),
+            AsmCause::BadOperand => f.write_str("BadOperand 2"),
+            AsmCause::ImmediateRange => f.write_str("ImmediateRange 3"),
+            AsmCause::UnknownLabel => f.write_str("UnknownLabel 4"),
+            AsmCause::DuplicateLabel => f.write_str("DuplicateLabel 5"),
+            AsmCause::LabelRange => f.write_str("LabelRange 6"),
+            AsmCause::TooLarge => f.write_str("TooLarge 7"),
+            AsmCause::Memory => f.write_str("Memory 8"),
+        }
+    }
 }
 
 impl From<AllocError> for AsmCause {
@@ -78,6 +91,11 @@ pub struct AsmError {
 }
 
 impl fmt::Display for AsmError {
+    ghost use Rattle.std.specs.Prelude.{Some};
+    ghost use Rattle.rv_text.specs.Faults.{fault_text};
+
+    ghost output = { λ fault. Some (fault_text fault) };
+
     /// The line, the cause's name and its number; want of memory has no line.
     fn fmt<W: fmt::Write>(&self, f: &mut fmt::Formatter<W>) -> fmt::Result {
         match self.cause {

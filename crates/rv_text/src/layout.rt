@@ -34,12 +34,12 @@ impl<'a> Layout<'a> {
     ghost use Rattle.std.specs.Option.{option_map};
     ghost use Rattle.rv_names.specs.Shown.{line_map};
     ghost use Rattle.rv_text.specs.Answer.{Answers};
-    ghost use Rattle.rv_text.specs.Assembly.{nothing_laid, place_in, data_bytes_of, with_label, with_text, with_data, with_statement, with_line};
-    ghost use Rattle.rv_text.specs.Layout.{laid};
+    ghost use Rattle.rv_text.specs.Assembly.{empty_layout, place_in, data_bytes_of, with_label, with_text, with_data, with_statement, with_line};
+    ghost use Rattle.rv_text.specs.Layout.{layout_of};
 
     /// No line so far.
     pub fn new(alloc: Global) -> Layout<'a>
-        ensures { laid result ≡ nothing_laid }
+        ensures { layout_of result ≡ empty_layout }
     {
         Layout {
             section: Section::Text,
@@ -53,7 +53,7 @@ impl<'a> Layout<'a> {
     /// Lays down the next line.
     #[tactic(auto, unfolding(crate::specs::Assembly::with_line))]
     pub fn read(&mut self, number: usize, text: &'a [u8]) -> Result<(), AsmCause>
-        ensures { Answers (λ _. laid self.new) result (with_line number text.now (laid self.old)) }
+        ensures { Answers (λ _. layout_of self.new) result (with_line number text.now (layout_of self.old)) }
     {
         let line = read_line(self.section, text)?;
         self.define(line.label)?;
@@ -62,7 +62,7 @@ impl<'a> Layout<'a> {
 
     /// The place of the next byte of the section in force.
     fn place(&self) -> u32
-        ensures { result ≡ place_in self.now.section (laid self.now) }
+        ensures { result ≡ place_in self.now.section (layout_of self.now) }
     {
         match self.section {
             Section::Text => TEXT_START + self.text_size as u32,
@@ -73,7 +73,7 @@ impl<'a> Layout<'a> {
     /// Defines a line's label, where it has one.
     #[tactic(auto, unfolding(crate::specs::Assembly::with_label))]
     fn define(&mut self, label: Option<&'a [u8]>) -> Result<(), AsmCause>
-        ensures { Answers (λ _. laid self.new) result (with_label (option_map (λ name. name.now) label.entry) (laid self.old)) }
+        ensures { Answers (λ _. layout_of self.new) result (with_label (option_map (λ name. name.now) label.entry) (layout_of self.old)) }
     {
         let Some(name) = label else {
             return Ok(());
@@ -87,7 +87,7 @@ impl<'a> Layout<'a> {
 
     /// Lays down a line's statement in the section in force.
     fn add_statement(&mut self, number: usize, line: Line<&'a [u8]>) -> Result<(), AsmCause>
-        ensures { Answers (λ _. laid self.new) result (with_statement number (line_map (λ name. name.now) line.entry) line.entry.statement (laid self.old)) }
+        ensures { Answers (λ _. layout_of self.new) result (with_statement number (line_map (λ name. name.now) line.entry) line.entry.statement (layout_of self.old)) }
     {
         match line.statement {
             Statement::Empty => Ok(()),
@@ -105,7 +105,7 @@ impl<'a> Layout<'a> {
     /// Lays down a statement of text.
     #[tactic(auto, unfolding(crate::specs::Assembly::with_text))]
     fn add_item(&mut self, number: usize, line: Line<&'a [u8]>) -> Result<(), AsmCause>
-        ensures { Answers (λ _. laid self.new) result (with_text number (line_map (λ name. name.now) line.entry) (laid self.old)) }
+        ensures { Answers (λ _. layout_of self.new) result (with_text number (line_map (λ name. name.now) line.entry) (layout_of self.old)) }
     {
         let count = text_bytes(line.statement);
         if TEXT_LIMIT < self.text_size + count {
@@ -123,7 +123,7 @@ impl<'a> Layout<'a> {
 
     /// Lays down a statement of data.
     fn add_data(&mut self, statement: Statement) -> Result<(), AsmCause>
-        ensures { Answers (λ _. laid self.new) result (with_data (data_bytes_of statement) (laid self.old)) }
+        ensures { Answers (λ _. layout_of self.new) result (with_data (data_bytes_of statement) (layout_of self.old)) }
     {
         match statement {
             Statement::WordValue(word) => self.add_bytes(word.to_le_bytes().as_slice()),
@@ -136,7 +136,7 @@ impl<'a> Layout<'a> {
     /// Lays down bytes of data.
     #[tactic(auto, unfolding(crate::specs::Assembly::with_data))]
     fn add_bytes(&mut self, bytes: &[u8]) -> Result<(), AsmCause>
-        ensures { Answers (λ _. laid self.new) result (with_data bytes.now (laid self.old)) }
+        ensures { Answers (λ _. layout_of self.new) result (with_data bytes.now (layout_of self.old)) }
     {
         if DATA_LIMIT < self.data_bytes.len() + bytes.len() {
             return Err(AsmCause::TooLarge);
@@ -148,7 +148,7 @@ impl<'a> Layout<'a> {
     /// Lays down zeros of data.
     #[tactic(auto, unfolding(crate::specs::Assembly::with_data))]
     fn add_zeros(&mut self, count: u32) -> Result<(), AsmCause>
-        ensures { Answers (λ _. laid self.new) result (with_data (replicate count 0) (laid self.old)) }
+        ensures { Answers (λ _. layout_of self.new) result (with_data (replicate count 0) (layout_of self.old)) }
     {
         let len = self.data_bytes.len() + count as usize;
         if DATA_LIMIT < len {

@@ -10,7 +10,7 @@ mod laws;
 mod layout;
 mod words;
 
-pub use again::assembled_again;
+pub use again::{assembled_again, program_assembled_again, words_assembled_again};
 pub use assembler::assemble;
 pub use disassembler::disassemble;
 pub use fault::{AsmCause, AsmError};

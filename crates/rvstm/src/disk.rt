@@ -1,24 +1,67 @@
-//! Programs in files.
+//! The files of the system.
 
-ghost use Rattle.std.specs.Prelude.{None};
-
-use crate::programs::Programs;
+use engines::Disk;
+use std::alloc::Global;
+use std::fs::{File, OpenFile, OpenOptions};
 use std::rt::Files;
 use std::{fs, io};
 
-/// Programs in the files that their paths name, relative to the working directory.
+/// The files that a runtime opens, by paths relative to the working directory.
 #[derive(Drop)]
-pub struct Disk<'a, R: Files> {
-    /// The runtime that opens the files.
+pub struct SystemDisk<'a, R: Files> {
+    /// The runtime.
     pub rt: &'a R,
 }
 
-impl<'a, R: Files> Programs for Disk<'a, R> {
+impl<'a, R: Files + AllocGlobal> Disk for SystemDisk<'a, R> {
     type File = R::File;
 
-    ghost content = { λ _ _. None };
+    type NewFile = R::File;
 
-    fn open(&mut self, path: &str) -> io::Result<R::File> {
+    fn open(&self, path: &str) -> io::Result<R::File> {
         fs::open(self.rt, path)
+    }
+
+    fn create_new(&self, path: &str) -> io::Result<R::File> {
+        File::create_new(self.rt, path)
+    }
+
+    fn create(&self, path: &str) -> io::Result<R::File> {
+        fs::create(self.rt, path)
+    }
+
+    fn file_path(&self, alloc: Global, path: &str) -> io::Result<Option<String>> {
+        let Ok(real) = fs::canonicalize(self.rt, path) else {
+            return free_path(self.rt, alloc, path);
+        };
+        let real = real.into_string();
+        if !fs::metadata(self.rt, real.as_str())?.is_file() {
+            return Ok(None);
+        }
+        let _ = OpenOptions::new().write(true).open(self.rt, real.as_str())?;
+        Ok(Some(real))
+    }
+
+    fn sync(&self, file: &R::File) -> io::Result<()> {
+        file.sync_all()
+    }
+
+    fn rename(&self, from: &str, to: &str) -> io::Result<()> {
+        if let Ok(replaced) = fs::metadata(self.rt, to) {
+            let _ = fs::set_permissions(self.rt, from, replaced.permissions());
+        }
+        fs::rename(self.rt, from, to)
+    }
+
+    fn remove_file(&self, path: &str) -> io::Result<()> {
+        fs::remove_file(self.rt, path)
+    }
+}
+
+/// A path at which nothing stands; `None` for a link that leads nowhere.
+fn free_path<R: Files>(rt: &R, alloc: Global, path: &str) -> io::Result<Option<String>> {
+    match fs::symlink_metadata(rt, path) {
+        Ok(_) => Ok(None),
+        Err(_) => Ok(Some(String::from_str(alloc, path)?)),
     }
 }

@@ -4,12 +4,12 @@ use Rattle.stm_state.specs.declared.state.Status.TheVariants.{Executing, Abortin
 use Rattle.stm_state.specs.declared.state.Task.{Task}
 use Rattle.stm_state.specs.declared.state.Task.TheVariants.{Idle, Running, Validating}
 use Rattle.stm_state.specs.State.{State, call_at, with_call, with_task, is_executed, is_ready, is_done}
-use Rattle.stm_state.specs.Steps.{asked, ask_execution, ask_validation, lowered, parked, readied, readied_if, reads_of, to_validate, told_done, woken}
+use Rattle.stm_state.specs.Steps.{asked, ask_execution, ask_validation, lowered, parked, next_incarnation, resume_if_parked, reads_of, to_validate, count_done, resume_dependents}
 use Rattle.scheduler.specs.Parts.{abort_finished}
 
 module _ (w : ℕ) (s : State) where
   -- ask
-  pub asked_done : is_done s ≡ true → told_done w s ≡ asked w s
+  pub asked_done : is_done s ≡ true → count_done w s ≡ asked w s
   asked_done e = rw e refl
 
   pub asked_validation : is_done s ≡ false → nat_lt s.validation s.execution ≡ true → ask_validation w s ≡ asked w s
@@ -62,13 +62,13 @@ module _ (w : ℕ) (s : State) where
   one_again i new task e f = rw (e, f) refl
 
   -- abort
-  pub abort_runs : (i : ℕ) → nat_lt i s.execution ≡ true → with_task w (Running i [] None) (with_call i (record (readied (call_at s i)) { status = Executing }) (record s { validation = min s.validation (i + 1) })) ≡ abort_finished w i s
+  pub abort_runs : (i : ℕ) → nat_lt i s.execution ≡ true → with_task w (Running i [] None) (with_call i (record (next_incarnation (call_at s i)) { status = Executing }) (record s { validation = min s.validation (i + 1) })) ≡ abort_finished w i s
   abort_runs i e = rw e refl
 
-  pub abort_rests : (i : ℕ) → nat_lt i s.execution ≡ false → with_task w Idle (with_call i (readied (call_at s i)) (record s { validation = min s.validation (i + 1) })) ≡ abort_finished w i s
+  pub abort_rests : (i : ℕ) → nat_lt i s.execution ≡ false → with_task w Idle (with_call i (next_incarnation (call_at s i)) (record s { validation = min s.validation (i + 1) })) ≡ abort_finished w i s
   abort_rests i e = rw e refl
 
 -- those that were parked are readied
-pub woken_is : (i : ℕ) (s : State) → record s { calls = map (readied_if i) s.calls; execution = lowered i s.execution 0 s.calls } ≡ woken i s
-unfolding woken
+pub woken_is : (i : ℕ) (s : State) → record s { calls = map (resume_if_parked i) s.calls; execution = lowered i s.execution 0 s.calls } ≡ resume_dependents i s
+unfolding resume_dependents
 woken_is i s = refl

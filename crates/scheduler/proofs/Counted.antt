@@ -6,7 +6,7 @@ use Rattle.stm_state.specs.declared.state.Recorded.{Recorded}
 use Rattle.stm_state.specs.declared.state.Task.{Task}
 use Rattle.stm_state.specs.declared.state.Task.TheVariants.{Validating}
 use Rattle.stm_state.specs.State.{State, call_at, with_call, is_executed, is_ready, is_done}
-use Rattle.stm_state.specs.Steps.{counted, ask_validation, ask_execution, has_new_key, to_validate, woken}
+use Rattle.stm_state.specs.Steps.{counted, ask_validation, ask_execution, has_new_key, to_validate, resume_dependents}
 use Rattle.scheduler.specs.Parts.{execution_finished}
 
 module _ (add : Counts → Counts) (w : ℕ) where
@@ -37,8 +37,8 @@ module _ (add : Counts → Counts) (w : ℕ) where
   unfolding to_validate
   counted_again i new task s = sym (over_two (nat_lt i s.validation) new _ _ _)
 
-  counted_waking : (i : ℕ) (s : State) → woken i (counted add w s) ≡ counted add w (woken i s)
-  unfolding woken
+  counted_waking : (i : ℕ) (s : State) → resume_dependents i (counted add w s) ≡ counted add w (resume_dependents i s)
+  unfolding resume_dependents
   counted_waking i s = refl
 
   -- the run that is kept, in a state
@@ -46,10 +46,10 @@ module _ (add : Counts → Counts) (w : ℕ) where
   kept_in i run s = with_call i (record (call_at s i) { status = Executed; last = Some run }) s
 
   pub counted_finish : (i : ℕ) (run : Recorded) (new : Bool) (n left : ℕ) (s : State) → new ≡ has_new_key (call_at s i).last run.receipt.writes → n ≡ (call_at s i).incarnation → left ≡ length run.reads →
-      to_validate w i new (Validating i n left) (woken i (with_call i (record (call_at s i) { status = Executed; last = Some run }) (counted add w s))) ≡ counted add w (execution_finished w i run s)
+      to_validate w i new (Validating i n left) (resume_dependents i (with_call i (record (call_at s i) { status = Executed; last = Some run }) (counted add w s))) ≡ counted add w (execution_finished w i run s)
   counted_finish i run new n left s e f g =
       ap (to_validate w i new (Validating i n left)) (counted_waking i (kept_in i run s))
-      ∙ counted_again i new (Validating i n left) (woken i (kept_in i run s))
-      ∙ ap (λ (b : Bool). counted add w (to_validate w i b (Validating i n left) (woken i (kept_in i run s)))) e
-      ∙ ap (λ (m : ℕ). counted add w (to_validate w i (has_new_key (call_at s i).last run.receipt.writes) (Validating i m left) (woken i (kept_in i run s)))) f
-      ∙ ap (λ (m : ℕ). counted add w (to_validate w i (has_new_key (call_at s i).last run.receipt.writes) (Validating i (call_at s i).incarnation m) (woken i (kept_in i run s)))) g
+      ∙ counted_again i new (Validating i n left) (resume_dependents i (kept_in i run s))
+      ∙ ap (λ (b : Bool). counted add w (to_validate w i b (Validating i n left) (resume_dependents i (kept_in i run s)))) e
+      ∙ ap (λ (m : ℕ). counted add w (to_validate w i (has_new_key (call_at s i).last run.receipt.writes) (Validating i m left) (resume_dependents i (kept_in i run s)))) f
+      ∙ ap (λ (m : ℕ). counted add w (to_validate w i (has_new_key (call_at s i).last run.receipt.writes) (Validating i (call_at s i).incarnation m) (resume_dependents i (kept_in i run s)))) g

@@ -1,30 +1,77 @@
 -- What is seen of the workers where one of them is replaced.
-use Rattle.std.proofs.Common.{◌≡◌, ◌≢◌, ◌<◌, ℕ, List, length, map, set, get_or, sym, subst, ap, ◌∙◌, length-set}
-use Rattle.std.proofs.lemmas.List.{map-set, get_or-map, get_or-set_same, get_or-set_other}
+use Rattle.std.proofs.Common.{◌≡◌, ◌∷◌, ◌<◌, ℕ, List, length, map, set, get_or, refl, sym, subst, ap, ◌∙◌, length-set, replicate, zero, suc}
+use Rattle.std.proofs.lemmas.List.{length-map, map-set, get_or-map, get_or-set_same, get_or-set_other}
 use Rattle.std.proofs.Math.Seq.{map-set_same}
-use Rattle.scheduler.specs.declared.worker.Worker.{Worker}
+use Rattle.rv_ledger.specs.declared.outcome.Counts.{Counts}
+use Rattle.mvmap.specs.Versions.{Versions}
+use Rattle.stm_state.specs.declared.state.CallState.{CallState}
+use Rattle.stm_state.specs.declared.state.Task.{Task}
+use Rattle.stm_state.specs.declared.state.Task.TheVariants.{Idle}
+use Rattle.stm_state.specs.State.{with_task}
+use Rattle.scheduler.specs.Workers.{WorkerState, counts_of, dones_of, room_of, task_of}
+use Rattle.scheduler.specs.Schedule.{KeepsRooms, Schedule, schedule_of, state_of}
 
-module _ {X : Type 0} (f : Worker → X) (workers : List Worker) (w : ℕ) where
-  -- what is seen of it changes
-  pub seen_set : (new : Worker) (x : X) → f new ≡ x → map f (set workers w new) ≡ set (map f workers) w x
+-- where all workers are alike
+pub seen_alike : {X : Type 0} (f : WorkerState → X) (n : ℕ) (worker : WorkerState) → map f (replicate n worker) ≡ replicate n (f worker)
+seen_alike f zero worker = refl
+seen_alike f (suc n) worker = ap (λ xs. f worker ∷ xs) (seen_alike f n worker)
+
+-- a list of one thing of each worker
+module _ {X : Type 0} (f : WorkerState → X) (workers : List WorkerState) (w : ℕ) where
+  seen_set : (new : WorkerState) (x : X) → f new ≡ x → map f (set workers w new) ≡ set (map f workers) w x
   seen_set new x e = map-set f workers w new ∙ ap (set (map f workers) w) e
 
-  -- what is seen of it stays
-  pub seen_same : (old new : Worker) → old ≡ get_or workers w old → f new ≡ f old → map f (set workers w new) ≡ map f workers
+  seen_same : (old new : WorkerState) → old ≡ get_or workers w old → f new ≡ f old → map f (set workers w new) ≡ map f workers
   seen_same old new is e = map-set_same f workers w new old (e ∙ ap f is)
 
-  -- what is seen of a worker
-  pub seen_at : (old : Worker) (d : X) → w < length workers → old ≡ get_or workers w old → get_or (map f workers) w d ≡ f old
+  seen_at : (old : WorkerState) (d : X) → w < length workers → old ≡ get_or workers w old → get_or (map f workers) w d ≡ f old
   seen_at old d l is = get_or-map f workers w old d l ∙ ap f (sym is)
 
-  -- what is seen of it changes by a function of what was seen
-  pub seen_step : (g : X → X) (old new : Worker) (d : X) → w < length workers → old ≡ get_or workers w old → f new ≡ g (f old) → map f (set workers w new) ≡ set (map f workers) w (g (get_or (map f workers) w d))
+  seen_step : (g : X → X) (old new : WorkerState) (d : X) → w < length workers → old ≡ get_or workers w old → f new ≡ g (f old) → map f (set workers w new) ≡ set (map f workers) w (g (get_or (map f workers) w d))
   seen_step g old new d l is e = seen_set new (g (get_or (map f workers) w d)) (e ∙ ap g (sym (seen_at old d l is)))
 
-  -- what is seen of the new one
-  pub seen_new : (new : Worker) (d : X) → w < length workers → get_or (map f (set workers w new)) w d ≡ f new
+  seen_new : (new : WorkerState) (d : X) → w < length workers → get_or (map f (set workers w new)) w d ≡ f new
   seen_new new d l = get_or-map f (set workers w new) w new d (subst (λ n. w < n) (sym (length-set workers w new)) l) ∙ ap f (get_or-set_same workers w new new l)
 
-  -- what is seen of the others stays
-  pub seen_other : (new : Worker) (d : X) (u : ℕ) → u ≢ w → get_or (map f (set workers w new)) u d ≡ get_or (map f workers) u d
-  seen_other new d u ne = ap (λ xs. get_or xs u d) (map-set f workers w new) ∙ get_or-set_other (map f workers) w u (f new) d ne
+-- all that the scheduler keeps, where worker w was the old one and is the new one
+module _ (calls : List CallState) (execution validation : ℕ) (workers : List WorkerState) (w : ℕ) (s : Schedule) (was : schedule_of calls execution validation workers ≡ s) (l : w < length s.tasks)
+    (old new : WorkerState) (is : old ≡ get_or workers w old) where
+  within : w < length workers
+  within = subst (λ n. w < n) (ap (λ (t : Schedule). length t.tasks) (sym was) ∙ length-map workers task_of) l
+
+  abbrev pub after : Schedule
+  after = schedule_of calls execution validation (set workers w new)
+
+  -- its task changes, and its room
+  pub task_changed : (g : Task → Task) (room : ℕ) → new ≡ record old { task = g old.task; room = room } → (v : Versions) (p : ℕ) → state_of v p after ≡ with_task w (g (get_or s.tasks w Idle)) (state_of v p s)
+  task_changed g room e v p =
+      rw (seen_step task_of workers w g old new Idle within is (ap task_of e), seen_same counts_of workers w old new is (ap counts_of e), seen_same dones_of workers w old new is (ap dones_of e)) refl
+      ∙ ap (λ (t : Schedule). with_task w (g (get_or t.tasks w Idle)) (state_of v p t)) was
+
+  -- its room alone changes
+  pub room_changed : new ≡ record old { room = new.room } → (v : Versions) (p : ℕ) → state_of v p after ≡ state_of v p s
+  room_changed e v p =
+      rw (seen_same task_of workers w old new is (ap task_of e), seen_same counts_of workers w old new is (ap counts_of e), seen_same dones_of workers w old new is (ap dones_of e)) refl
+      ∙ ap (state_of v p) was
+
+  -- its counts alone change
+  pub counts_changed : (counts : Counts) → new ≡ record old { counts = counts } → after ≡ record s { counts = set s.counts w counts }
+  counts_changed counts e =
+      rw (seen_same task_of workers w old new is (ap task_of e), seen_set counts_of workers w new counts (ap counts_of e), seen_same dones_of workers w old new is (ap dones_of e), seen_same room_of workers w old new is (ap room_of e)) refl
+      ∙ ap (λ (t : Schedule). record t { counts = set t.counts w counts }) was
+
+  -- it is told alone how often all is done
+  pub dones_changed : (g : ℕ → ℕ) → new ≡ record old { dones = g old.dones } → after ≡ record s { dones = set s.dones w (g (get_or s.dones w 0)) }
+  dones_changed g e =
+      rw (seen_same task_of workers w old new is (ap task_of e), seen_same counts_of workers w old new is (ap counts_of e), seen_step dones_of workers w g old new 0 within is (ap dones_of e), seen_same room_of workers w old new is (ap room_of e)) refl
+      ∙ ap (λ (t : Schedule). record t { dones = set t.dones w (g (get_or t.dones w 0)) }) was
+
+  -- the rooms
+  pub rooms_kept : KeepsRooms w s.rooms after.rooms
+  rooms_kept u ne = ap (λ rooms. get_or rooms u 0) (map-set room_of workers w new) ∙ get_or-set_other (map room_of workers) w u new.room 0 ne ∙ ap (λ (t : Schedule). get_or t.rooms u 0) was
+
+  pub room_before : get_or s.rooms w 0 ≡ old.room
+  room_before = ap (λ (t : Schedule). get_or t.rooms w 0) (sym was) ∙ seen_at room_of workers w old 0 within is
+
+  pub room_after : get_or after.rooms w 0 ≡ new.room
+  room_after = seen_new room_of workers w new 0 within

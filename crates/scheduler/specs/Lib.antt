@@ -1,3 +1,3 @@
 pub mod Parts
-pub mod Schedule
 pub mod Workers
+pub mod Schedule

@@ -4,14 +4,14 @@ use Rattle.stm_state.specs.declared.state.Status.TheVariants.{Executing, Execute
 use Rattle.stm_state.specs.declared.state.Recorded.{Recorded}
 use Rattle.stm_state.specs.declared.state.Task.TheVariants.{Idle, Running, Validating}
 use Rattle.stm_state.specs.State.{State, call_at, with_call, with_task}
-use Rattle.stm_state.specs.Steps.{has_new_key, is_executed_at, readied, to_validate, woken}
+use Rattle.stm_state.specs.Steps.{has_new_key, is_executed_at, next_incarnation, to_validate, resume_dependents}
 
 -- record: the run is kept, all that are parked on its call are readied, and what is to be validated again is settled
 abbrev pub execution_finished : ℕ → ℕ → Recorded → State → State
 execution_finished w i run s =
     let call = call_at s i in
     to_validate w i (has_new_key call.last run.receipt.writes) (Validating i call.incarnation (length run.reads))
-    (woken i (with_call i (record call { status = Executed; last = Some run }) s))
+    (resume_dependents i (with_call i (record call { status = Executed; last = Some run }) s))
 
 -- validate: a call is taken back where it is EXECUTED at that incarnation
 abbrev pub abort_tried : ℕ → ℕ → State → State
@@ -23,5 +23,5 @@ abbrev pub abort_finished : ℕ → ℕ → State → State
 abort_finished w i s =
     let call = call_at s i in
     let t = record s { validation = min s.validation (i + 1) } in
-    if nat_lt i s.execution then with_task w (Running i [] None) (with_call i (record (readied call) { status = Executing }) t)
-    else with_task w Idle (with_call i (readied call) t)
+    if nat_lt i s.execution then with_task w (Running i [] None) (with_call i (record (next_incarnation call) { status = Executing }) t)
+    else with_task w Idle (with_call i (next_incarnation call) t)

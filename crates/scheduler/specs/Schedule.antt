@@ -1,10 +1,12 @@
 -- What the scheduler keeps of a block's run.
-use Rattle.std.specs.Prelude.{◌≡◌, ◌≢◌, ◌<◌, ℕ, List, length, get_or}
+use Rattle.std.specs.Prelude.{◌≡◌, ◌≢◌, ◌<◌, ℕ, List, length, map, get_or}
 use Rattle.rv_ledger.specs.declared.outcome.Counts.{Counts}
 use Rattle.mvmap.specs.Versions.{Versions}
 use Rattle.stm_state.specs.declared.state.CallState.{CallState}
 use Rattle.stm_state.specs.declared.state.Task.{Task}
 use Rattle.stm_state.specs.State.{State, no_counts}
+use Rattle.scheduler.specs.Workers.{WorkerState, counts_of, dones_of, room_of, task_of}
+use Rattle.scheduler.specs.declared.counting.TheConstants.{COUNT_LIMIT}
 
 -- a state without its versions; and for how many more answers each worker's run has room
 pub record Schedule : Type 0 where
@@ -15,6 +17,18 @@ pub record Schedule : Type 0 where
   pub counts : List Counts
   pub dones : List ℕ
   pub rooms : List ℕ
+
+-- that of these calls, indices and workers
+abbrev pub schedule_of : List CallState → ℕ → ℕ → List WorkerState → Schedule
+schedule_of calls execution validation workers = record {
+  calls = calls;
+  execution = execution;
+  validation = validation;
+  tasks = map task_of workers;
+  counts = map counts_of workers;
+  dones = map dones_of workers;
+  rooms = map room_of workers;
+}
 
 -- the state that it is with these versions, so many of which were placed
 abbrev pub state_of : Versions → ℕ → Schedule → State
@@ -36,8 +50,8 @@ KeepsRooms w old new = (u : ℕ) → u ≢ w → get_or new u 0 ≡ get_or old u
 -- a worker's counts may grow by one: each is below the greatest number that is kept
 pub record MayCount (worker : ℕ) (s : Schedule) : Type 0 where
   pub within : worker < length s.tasks
-  pub steps : (get_or s.counts worker no_counts).steps < 18446744073709551615
-  pub asks : (get_or s.counts worker no_counts).asks < 18446744073709551615
-  pub executions : (get_or s.counts worker no_counts).executions < 18446744073709551615
-  pub validations : (get_or s.counts worker no_counts).validations < 18446744073709551615
-  pub dones : get_or s.dones worker 0 < 18446744073709551615
+  pub steps : (get_or s.counts worker no_counts).steps < COUNT_LIMIT
+  pub asks : (get_or s.counts worker no_counts).asks < COUNT_LIMIT
+  pub executions : (get_or s.counts worker no_counts).executions < COUNT_LIMIT
+  pub validations : (get_or s.counts worker no_counts).validations < COUNT_LIMIT
+  pub dones : get_or s.dones worker 0 < COUNT_LIMIT

@@ -1,34 +1,44 @@
 -- What clauses see of a worker.
-use Rattle.std.specs.Prelude.{◌≡◌, ◌-◌, ◌++◌, ◌∷◌, [], ℕ, List, Some, vec_capacity, vec_len}
+use Rattle.std.specs.Prelude.{◌≡◌, ◌++◌, ◌∷◌, [], ℕ, List, Some}
 use Rattle.rv_ledger.specs.declared.outcome.Counts.{Counts}
-use Rattle.rv_step.specs.declared.answer.Answer.{Answer}
+use Rattle.rv_step.specs.declared.answer.StorageAnswer.{StorageAnswer}
 use Rattle.stm_state.specs.declared.state.Task.{Task}
+use Rattle.stm_state.specs.State.{no_counts}
 use Rattle.stm_state.specs.declared.state.Task.TheVariants as task
-use Rattle.scheduler.specs.declared.worker.Duty.{Duty}
-use Rattle.scheduler.specs.declared.worker.Duty.TheVariants as duty
-use Rattle.scheduler.specs.declared.worker.Worker.{Worker}
+use Rattle.scheduler.specs.declared.worker.TaskKind.{TaskKind}
+use Rattle.scheduler.specs.declared.worker.TaskKind.TheVariants as task_kind
 
--- a duty and the answers that a run was given
-abbrev pub task_with : Duty → List Answer → Task
-task_with duty.Idle answers = task.Idle
-task_with (duty.Running call blocked) answers = task.Running call answers blocked
-task_with (duty.Validating call incarnation left) answers = task.Validating call incarnation left
+-- what a worker is about, with the answers that its run was given
+abbrev pub task_with : TaskKind → List StorageAnswer → Task
+task_with task_kind.Idle answers = task.Idle
+task_with (task_kind.Running call blocked) answers = task.Running call answers blocked
+task_with (task_kind.Validating call incarnation left) answers = task.Validating call incarnation left
 
--- a worker's task, what it did, how often it was told that all is done, and for how many more answers it has room
-abbrev pub task_of : Worker → Task
-task_of w = task_with w.duty w.answers.items
+-- a worker: its task, what it did, how often it was told that all is done, and for how many more answers it has room
+pub record WorkerState : Type 0 where
+  pub task : Task
+  pub counts : Counts
+  pub dones : ℕ
+  pub room : ℕ
 
-abbrev pub counts_of : Worker → Counts
+abbrev pub task_of : WorkerState → Task
+task_of w = w.task
+
+abbrev pub counts_of : WorkerState → Counts
 counts_of w = w.counts
 
-abbrev pub dones_of : Worker → ℕ
+abbrev pub dones_of : WorkerState → ℕ
 dones_of w = w.dones
 
-abbrev pub room_of : Worker → ℕ
-room_of w = vec_capacity w.answers - vec_len w.answers
+abbrev pub room_of : WorkerState → ℕ
+room_of w = w.room
+
+-- a worker without a task, which did nothing yet
+abbrev pub idle_worker : WorkerState
+idle_worker = record { task = task.Idle; counts = no_counts; dones = 0; room = 0 }
 
 -- a run is given one more answer, and a run is blocked on a call; no other task changes
-abbrev pub answered : Answer → Task → Task
+abbrev pub answered : StorageAnswer → Task → Task
 answered answer task.Idle = task.Idle
 answered answer (task.Running call answers blocked) = task.Running call (answers ++ answer ∷ []) blocked
 answered answer (task.Validating call incarnation left) = task.Validating call incarnation left
@@ -45,10 +55,10 @@ IsRunning (task.Running call answers blocked) = Unit {0}
 IsRunning (task.Validating call incarnation left) = ⊥
 
 -- a task without the answers
-abbrev pub duty_of : Task → Duty
-duty_of task.Idle = duty.Idle
-duty_of (task.Running call answers blocked) = duty.Running call blocked
-duty_of (task.Validating call incarnation left) = duty.Validating call incarnation left
+abbrev pub task_kind_of : Task → TaskKind
+task_kind_of task.Idle = task_kind.Idle
+task_kind_of (task.Running call answers blocked) = task_kind.Running call blocked
+task_kind_of (task.Validating call incarnation left) = task_kind.Validating call incarnation left
 
-abbrev pub IsDutyOf : Duty → Task → Type 0
-IsDutyOf d t = d ≡ duty_of t
+abbrev pub IsTaskKindOf : TaskKind → Task → Type 0
+IsTaskKindOf d t = d ≡ task_kind_of t

@@ -1,15 +1,22 @@
-//! What the scheduler does to the list of calls.
+//! What the scheduler does to a call, and to all calls.
 
 ghost use Rattle.std.specs.Prelude.{◌≡◌, ◌≤◌, ◌<◌, ◌+◌, ℕ, [], Some, None, IfOk, length, map, set, get_or, replicate};
 ghost use Rattle.stm_state.specs.State.{fresh, is_executed, is_ready};
-ghost use Rattle.stm_state.specs.Steps.{has_new_key, is_executed_at, is_parked_on, lowered, readied, readied_if, reads_of, wrote};
+ghost use Rattle.stm_state.specs.Steps.{has_new_key, is_executed_at, is_parked_on, lowered, next_incarnation, resume_if_parked, reads_of, wrote};
 ghost use Rattle.stm_state.specs.declared.state.Status.TheVariants as status;
-ghost use Rattle.scheduler.specs.declared.worker.Duty.TheVariants as duty;
+ghost use Rattle.scheduler.specs.declared.worker.TaskKind.TheVariants as task_kind;
 
-use crate::worker::Duty;
+use crate::worker::TaskKind;
+use rv_ledger::job::CALL_LIMIT;
 use rv_ledger::{Key, Writes};
 use std::alloc::{AllocError, Global};
 use stm_state::{CallState, Recorded, Status};
+
+/// The last incarnation at which a run is recorded.
+pub const LAST_INCARNATION: u16 = 65_534;
+
+/// The incarnation at which no run is recorded, and from which a call is not readied again.
+pub const INCARNATION_LIMIT: u16 = 65_535;
 
 /// This many calls at the start; refused where memory ran out.
 pub(crate) fn fresh_calls(alloc: Global, count: usize) -> Result<Vec<CallState>, AllocError>
@@ -27,58 +34,10 @@ pub(crate) fn fresh_calls(alloc: Global, count: usize) -> Result<Vec<CallState>,
     Ok(calls)
 }
 
-/// Sets how far a call is.
-pub(crate) fn set_status(calls: &mut Vec<CallState>, call: u16, status: Status)
-    requires { call < length calls.old.items }
-    ensures { calls.new.items ≡ set calls.old.items call (record (get_or calls.old.items call fresh) { status = status }) }
-{
-    calls[usize::from(call)].status = status;
-}
-
-/// Parks a call on another.
-pub(crate) fn park(calls: &mut Vec<CallState>, call: u16, on: u16)
-    requires { call < length calls.old.items }
-    ensures { calls.new.items ≡ set calls.old.items call (record (get_or calls.old.items call fresh) { status = status.Aborting; parked = Some on }) }
-{
-    let parked = &mut calls[usize::from(call)];
-    parked.status = Status::Aborting;
-    parked.parked = Some(on);
-}
-
-/// Keeps the run of a call, which is EXECUTED from now on.
-pub(crate) fn keep(calls: &mut Vec<CallState>, call: u16, run: Recorded)
-    requires { call < length calls.old.items }
-    ensures { calls.new.items ≡ set calls.old.items call (record (get_or calls.old.items call fresh) { status = status.Executed; last = Some run }) }
-{
-    let kept = &mut calls[usize::from(call)];
-    kept.status = Status::Executed;
-    kept.last = Some(run);
-}
-
 /// Readies a call.
-pub(crate) fn ready(calls: &mut Vec<CallState>, call: u16)
-    requires within { call < length calls.old.items }
-    requires incarnation { (get_or calls.old.items call fresh).incarnation < 65535 }
-    ensures { calls.new.items ≡ set calls.old.items call (readied (get_or calls.old.items call fresh)) }
-{
-    ready_one(&mut calls[usize::from(call)]);
-}
-
-/// Readies a call, and runs it at once.
-pub(crate) fn restart(calls: &mut Vec<CallState>, call: u16)
-    requires within { call < length calls.old.items }
-    requires incarnation { (get_or calls.old.items call fresh).incarnation < 65535 }
-    ensures { calls.new.items ≡ set calls.old.items call (record (readied (get_or calls.old.items call fresh)) { status = status.Executing }) }
-{
-    let restarted = &mut calls[usize::from(call)];
-    ready_one(restarted);
-    restarted.status = Status::Executing;
-}
-
-/// Readies a call.
-fn ready_one(call: &mut CallState)
-    requires { call.old.incarnation < 65535 }
-    ensures { call.new ≡ readied call.old }
+pub(crate) fn make_ready(call: &mut CallState)
+    requires { call.old.incarnation < INCARNATION_LIMIT }
+    ensures { call.new ≡ next_incarnation call.old }
 {
     call.status = Status::Ready;
     call.incarnation += 1;
@@ -86,28 +45,28 @@ fn ready_one(call: &mut CallState)
 }
 
 /// Readies all calls that are parked on a call.
-pub(crate) fn ready_parked(calls: &mut Vec<CallState>, on: u16)
-    requires { (i : ℕ) → (get_or calls.old.items i fresh).status ≡ status.Aborting → (get_or calls.old.items i fresh).incarnation ≤ 65534 }
-    ensures { calls.new.items ≡ map (readied_if on) calls.old.items }
+pub(crate) fn resume_parked(calls: &mut Vec<CallState>, on: u16)
+    requires { (i : ℕ) → (get_or calls.old.items i fresh).status ≡ status.Aborting → (get_or calls.old.items i fresh).incarnation ≤ LAST_INCARNATION }
+    ensures { calls.new.items ≡ map (resume_if_parked on) calls.old.items }
 {
     for index in 0..calls.len() {
-        ready_if(&mut calls[index], on);
+        resume_if_parked(&mut calls[index], on);
     }
 }
 
 /// Readies a call that is parked on a call.
-fn ready_if(call: &mut CallState, on: u16)
-    requires { call.old.status ≡ status.Aborting → call.old.incarnation ≤ 65534 }
-    ensures { call.new ≡ readied_if on call.old }
+fn resume_if_parked(call: &mut CallState, on: u16)
+    requires { call.old.status ≡ status.Aborting → call.old.incarnation ≤ LAST_INCARNATION }
+    ensures { call.new ≡ resume_if_parked on call.old }
 {
     if is_parked_on(call, on) {
-        ready_one(call);
+        make_ready(call);
     }
 }
 
 /// An execution index lowered to the least call that is parked on a call.
 pub(crate) fn lowered(calls: &[CallState], on: u16, execution: u16) -> u16
-    requires { length calls.now ≤ 1024 }
+    requires { length calls.now ≤ CALL_LIMIT }
     ensures { result ≡ lowered on execution 0 calls.now }
 {
     let mut lowest = execution;
@@ -150,10 +109,10 @@ pub fn is_executed_at(call: &CallState, incarnation: u16) -> bool
 }
 
 /// The duty to check all reads of a call's last run.
-pub(crate) fn validation_of(call: &CallState, index: u16) -> Duty
-    ensures { result ≡ duty.Validating index call.now.incarnation (length (reads_of call.now.last)) }
+pub(crate) fn validation_of(call: &CallState, index: u16) -> TaskKind
+    ensures { result ≡ task_kind.Validating index call.now.incarnation (length (reads_of call.now.last)) }
 {
-    Duty::Validating {
+    TaskKind::Validating {
         call: index,
         incarnation: call.incarnation,
         left: reads(&call.last),

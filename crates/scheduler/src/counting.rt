@@ -6,6 +6,9 @@ ghost use Rattle.stm_state.specs.Steps.{one_asking, one_execution, one_step, one
 use crate::scheduler::Scheduler;
 use rv_ledger::Counts;
 
+/// The greatest number that a count may have.
+pub const COUNT_LIMIT: u64 = u64::MAX;
+
 impl Scheduler {
     ghost use Rattle.std.specs.Prelude.{set, get_or, if◌then◌else◌};
     ghost use Rattle.stm_state.specs.State.{no_counts};
@@ -62,7 +65,7 @@ impl Scheduler {
 
 /// One more step.
 fn one_step(counts: Counts) -> Counts
-    requires { counts.steps < 18446744073709551615 }
+    requires { counts.steps < COUNT_LIMIT }
     ensures { result ≡ one_step counts }
 {
     Counts {
@@ -73,8 +76,8 @@ fn one_step(counts: Counts) -> Counts
 
 /// One more asking for work.
 fn one_asking(counts: Counts) -> Counts
-    requires steps { counts.steps < 18446744073709551615 }
-    requires asks { counts.asks < 18446744073709551615 }
+    requires steps { counts.steps < COUNT_LIMIT }
+    requires asks { counts.asks < COUNT_LIMIT }
     ensures { result ≡ one_asking counts }
 {
     Counts {
@@ -86,8 +89,8 @@ fn one_asking(counts: Counts) -> Counts
 
 /// One more run that was accepted.
 fn one_execution(counts: Counts) -> Counts
-    requires steps { counts.steps < 18446744073709551615 }
-    requires executions { counts.executions < 18446744073709551615 }
+    requires steps { counts.steps < COUNT_LIMIT }
+    requires executions { counts.executions < COUNT_LIMIT }
     ensures { result ≡ one_execution counts }
 {
     Counts {
@@ -99,8 +102,8 @@ fn one_execution(counts: Counts) -> Counts
 
 /// One more validation that came to a decision.
 fn one_validation(counts: Counts) -> Counts
-    requires steps { counts.steps < 18446744073709551615 }
-    requires validations { counts.validations < 18446744073709551615 }
+    requires steps { counts.steps < COUNT_LIMIT }
+    requires validations { counts.validations < COUNT_LIMIT }
     ensures { result ≡ one_validation counts }
 {
     Counts {

@@ -2,12 +2,12 @@
 //! index, and each worker's task. It takes no memory after it is made, but for a run's answers.
 #![tactic(auto)]
 
-mod calls;
-mod counting;
+pub mod calls;
+pub mod counting;
 pub mod scheduler;
 pub mod worker;
-mod workers;
 
-pub use calls::is_executed_at;
+pub use calls::{INCARNATION_LIMIT, LAST_INCARNATION, is_executed_at};
+pub use counting::COUNT_LIMIT;
 pub use scheduler::Scheduler;
-pub use worker::Duty;
+pub use worker::TaskKind;

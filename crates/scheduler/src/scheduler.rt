@@ -1,9 +1,12 @@
 //! The scheduler's calls.
 
-use crate::worker::{Duty, Worker};
-use crate::{calls, workers};
+use crate::calls::{INCARNATION_LIMIT, LAST_INCARNATION};
+use crate::counting::COUNT_LIMIT;
+use crate::worker::{TaskKind, Worker};
+use crate::{calls, worker};
 use rv_ledger::Counts;
-use rv_step::Answer;
+use rv_ledger::job::CALL_LIMIT;
+use rv_step::StorageAnswer;
 use std::alloc::{AllocError, Global};
 use std::marker::Model;
 use stm_state::{CallState, Recorded, Status};
@@ -18,46 +21,46 @@ pub struct Scheduler {
 }
 
 impl Model for Scheduler {
-    ghost use Rattle.std.specs.Prelude.{◌≤◌, length, map};
+    ghost use Rattle.std.specs.Prelude.{◌≤◌, length};
     ghost use Rattle.std.specs.Coded.{codes};
+    ghost use Rattle.rv_ledger.specs.declared.job.TheConstants.{CALL_LIMIT};
     ghost use Rattle.stm_state.specs.contracts.state.CallState.{the_row as call_row};
     ghost use Rattle.stm_state.specs.contracts.state.Task.{the_row as task_row};
-    ghost use Rattle.scheduler.specs.Schedule.{Schedule};
-    ghost use Rattle.scheduler.specs.Workers.{counts_of, dones_of, room_of, task_of};
+    ghost use Rattle.scheduler.specs.Schedule.{Schedule, schedule_of};
 
     ghost Value = { Schedule };
 
     ghost coded = { Prim.hlevel (codes, call_row.coded, task_row.coded) };
 
-    ghost view = { λ s. record { calls = s.calls.items; execution = s.execution; validation = s.validation; tasks = map task_of s.workers.items; counts = map counts_of s.workers.items; dones = map dones_of s.workers.items; rooms = map room_of s.workers.items } };
+    ghost view = { λ s. schedule_of s.calls.items s.execution s.validation s.workers.items };
 
-    ghost invariant = { λ s. length s.calls.items ≤ 1024 };
+    ghost invariant = { λ s. length s.calls.items ≤ CALL_LIMIT };
 }
 
 impl Scheduler {
-    ghost use Rattle.std.specs.Prelude.{◌≡◌, ◌≤◌, ◌<◌, ◌+◌, ℕ, [], List, Option, Some, None, IfOk, OnOk, nat_lt, min, map, set, get_or, length, if◌then◌else◌, ◌==◌, ◌&&◌};
+    ghost use Rattle.std.specs.Prelude.{◌≡◌, ◌≤◌, ◌<◌, ◌+◌, ℕ, [], List, Option, Some, None, IfOk, OnErr, OnOk, Ok, nat_lt, min, map, set, get_or, length, if◌then◌else◌, ◌==◌, ◌&&◌};
     ghost use Rattle.std.specs.List.{list_all};
     ghost use Rattle.mvmap.specs.Versions.{Versions};
-    ghost use Rattle.rv_step.specs.declared.answer.Answer.{Answer};
+    ghost use Rattle.rv_step.specs.declared.answer.StorageAnswer.{StorageAnswer};
     ghost use Rattle.stm_state.specs.State.{fresh, is_done, is_idle, no_counts, start, with_task};
-    ghost use Rattle.stm_state.specs.Steps.{ask_execution, ask_validation, asked, counted, is_executed_at, lowered, one_asking, one_execution, one_step, one_validation, parked, readied, readied_if, to_validate};
+    ghost use Rattle.stm_state.specs.Steps.{ask_execution, ask_validation, asked, counted, is_executed_at, lowered, one_asking, one_execution, one_step, one_validation, parked, next_incarnation, resume_if_parked, to_validate};
     ghost use Rattle.stm_state.specs.declared.state.Status.TheVariants as Status;
     ghost use Rattle.stm_state.specs.declared.state.Task.TheVariants as Task;
     ghost use Rattle.scheduler.specs.Parts.{abort_finished, abort_tried, execution_finished};
     ghost use Rattle.scheduler.specs.Schedule.{KeepsRooms, MayCount, state_of};
-    ghost use Rattle.scheduler.specs.Workers.{IsDutyOf, IsRunning, answered, blocked_on, task_with};
+    ghost use Rattle.scheduler.specs.Workers.{IsTaskKindOf, IsRunning, answered, blocked_on, task_with};
 
     /// The scheduler of this many calls at the start, each READY at incarnation 0, and of this many
     /// workers without a task. Refused where memory ran out.
     pub fn new(alloc: Global, calls: usize, workers: usize) -> Result<Scheduler, AllocError>
-        requires { calls ≤ 1024 }
+        requires { calls ≤ CALL_LIMIT }
         ensures { IfOk result (λ s. (v : Versions) (p : ℕ) → state_of v p s ≡ record (start calls workers) { versions = v; placed = p }) }
     {
         Ok(Scheduler {
             calls: calls::fresh_calls(alloc, calls)?,
             execution: 0,
             validation: 0,
-            workers: workers::idle_workers(alloc, workers)?,
+            workers: worker::idle_workers(alloc, workers)?,
         })
     }
 
@@ -71,7 +74,7 @@ impl Scheduler {
     {
         self.count_asking(worker);
         if self.done() {
-            self.tell_done(worker);
+            self.count_done(worker);
         } else if self.is_validation_behind() {
             self.ask_validation(worker);
         } else if self.is_execution_behind() {
@@ -86,12 +89,14 @@ impl Scheduler {
         ensures kept { get_or self.old.rooms worker 0 ≤ get_or self.new.rooms worker 0 }
         ensures same { (v : Versions) (p : ℕ) → state_of v p self.new ≡ state_of v p self.old }
         ensures rooms { KeepsRooms worker self.old.rooms self.new.rooms }
+        ensures unchanged { OnErr result (self.new ≡ self.old) }
+        ensures succeeds { 1 ≤ get_or self.old.rooms worker 0 → result ≡ Ok tt }
     {
-        workers::reserve(&mut self.workers, worker)
+        self.workers[worker].reserve()
     }
 
     /// Keeps an answer to a worker's run, in room that was made. Takes no memory.
-    pub fn answer(&mut self, worker: usize, answer: Answer)
+    pub fn answer(&mut self, worker: usize, answer: StorageAnswer)
         requires counts { MayCount worker self.old }
         requires room { 1 ≤ get_or self.old.rooms worker 0 }
         ensures state { (v : Versions) (p : ℕ) → state_of v p self.new ≡ counted one_step worker (with_task worker (answered answer (get_or self.old.tasks worker Task.Idle)) (state_of v p self.old)) }
@@ -124,7 +129,7 @@ impl Scheduler {
             self.run_again(worker, call);
         } else {
             self.park(call, on);
-            self.begin(worker, Duty::Idle);
+            self.begin(worker, TaskKind::Idle);
         }
     }
 
@@ -132,21 +137,21 @@ impl Scheduler {
     pub fn finish_execution(&mut self, worker: usize, call: u16, run: Recorded)
         requires counts { MayCount worker self.old }
         requires within { call < length self.old.calls }
-        requires incarnations { (i : ℕ) → (get_or self.old.calls i fresh).status ≡ Status.Aborting → (get_or self.old.calls i fresh).incarnation ≤ 65534 }
+        requires incarnations { (i : ℕ) → (get_or self.old.calls i fresh).status ≡ Status.Aborting → (get_or self.old.calls i fresh).incarnation ≤ LAST_INCARNATION }
         ensures state { (v : Versions) (p : ℕ) → state_of v p self.new ≡ counted one_execution worker (execution_finished worker call run (state_of v p self.old)) }
         ensures rooms { KeepsRooms worker self.old.rooms self.new.rooms }
     {
         self.count_execution(worker);
         let left = run.reads.reads().len();
         let new_key = calls::has_new_key(&self.call(call).last, &run.receipt.writes);
-        let duty = Duty::Validating {
+        let task_kind = TaskKind::Validating {
             call,
             incarnation: self.call(call).incarnation,
             left,
         };
         self.keep(call, run);
-        self.wake(call);
-        self.to_validate(worker, call, new_key, duty);
+        self.resume_dependents(call);
+        self.to_validate(worker, call, new_key, task_kind);
     }
 
     /// Takes a call back where it is EXECUTED at this incarnation, and tells so (Block-STM,
@@ -169,7 +174,7 @@ impl Scheduler {
     pub fn finish_abort(&mut self, worker: usize, call: u16)
         requires counts { MayCount worker self.old }
         requires within { call < length self.old.calls }
-        requires incarnation { (get_or self.old.calls call fresh).incarnation < 65535 }
+        requires incarnation { (get_or self.old.calls call fresh).incarnation < INCARNATION_LIMIT }
         ensures state { (v : Versions) (p : ℕ) → state_of v p self.new ≡ counted one_validation worker (abort_finished worker call (state_of v p self.old)) }
         ensures rooms { KeepsRooms worker self.old.rooms self.new.rooms }
     {
@@ -180,7 +185,7 @@ impl Scheduler {
             self.run_again(worker, call);
         } else {
             self.ready(call);
-            self.begin(worker, Duty::Idle);
+            self.begin(worker, TaskKind::Idle);
         }
     }
 
@@ -192,7 +197,7 @@ impl Scheduler {
         ensures rooms { KeepsRooms worker self.old.rooms self.new.rooms }
     {
         self.count_decision(worker, decided);
-        self.begin(worker, Duty::Idle);
+        self.begin(worker, TaskKind::Idle);
     }
 
     /// Whether nobody has a task and both indices are past the last call. Takes no memory.
@@ -204,20 +209,20 @@ impl Scheduler {
     }
 
     /// What a worker is about, beside the answers of its run.
-    pub fn duty(&self, worker: usize) -> Duty
+    pub fn task_kind(&self, worker: usize) -> TaskKind
         requires { worker < length self.now.tasks }
-        ensures { IsDutyOf result (get_or self.now.tasks worker Task.Idle) }
+        ensures { IsTaskKindOf result (get_or self.now.tasks worker Task.Idle) }
     {
-        self.workers[worker].duty
+        self.workers[worker].task_kind()
     }
 
     /// The answers that a worker's run was given, in order.
-    pub fn answers(&self, worker: usize) -> &[Answer]
+    pub fn answers(&self, worker: usize) -> &[StorageAnswer]
         requires within { worker < length self.now.tasks }
         requires running { IsRunning (get_or self.now.tasks worker Task.Idle) }
-        ensures { (i : ℕ) (answers : List Answer) (blocked : Option ℕ) → get_or self.now.tasks worker Task.Idle ≡ Task.Running i answers blocked → result.now ≡ answers }
+        ensures { (i : ℕ) (answers : List StorageAnswer) (blocked : Option ℕ) → get_or self.now.tasks worker Task.Idle ≡ Task.Running i answers blocked → result.now ≡ answers }
     {
-        self.workers[worker].answers.as_slice()
+        self.workers[worker].answers()
     }
 
     /// What is kept of the call of an index.
@@ -247,7 +252,7 @@ impl Scheduler {
         requires { worker < length self.now.tasks }
         ensures { result ≡ get_or self.now.counts worker no_counts }
     {
-        self.workers[worker].counts
+        self.workers[worker].counts()
     }
 
     /// How often a worker was told that all is done.
@@ -255,7 +260,7 @@ impl Scheduler {
         requires { worker < length self.now.tasks }
         ensures { result ≡ get_or self.now.dones worker 0 }
     {
-        self.workers[worker].dones
+        self.workers[worker].dones()
     }
 
     /// Whether the execution index is past the last call.
@@ -269,7 +274,7 @@ impl Scheduler {
     fn is_all_validated(&self) -> bool
         ensures { result ≡ (self.now.validation == length self.now.calls && list_all is_idle self.now.tasks) }
     {
-        usize::from(self.validation) == self.calls.len() && workers::all_idle(&self.workers)
+        usize::from(self.validation) == self.calls.len() && worker::all_idle(&self.workers)
     }
 
     /// Whether the validation index is behind the execution index.
@@ -304,8 +309,8 @@ impl Scheduler {
     {
         let index = self.next_validation();
         if calls::is_executed(self.call(index)) {
-            let duty = calls::validation_of(self.call(index), index);
-            self.begin(worker, duty);
+            let task_kind = calls::validation_of(self.call(index), index);
+            self.begin(worker, task_kind);
         }
     }
 
@@ -366,18 +371,18 @@ impl Scheduler {
     /// Settles what is validated again after a run of a call: all from the call on, the call by this
     /// duty, or nothing.
     #[tactic(auto, unfolding(stm_state::specs::Steps::to_validate))]
-    fn to_validate(&mut self, worker: usize, call: u16, new_key: bool, duty: Duty)
+    fn to_validate(&mut self, worker: usize, call: u16, new_key: bool, task_kind: TaskKind)
         requires { worker < length self.old.tasks }
-        ensures state { (v : Versions) (p : ℕ) → state_of v p self.new ≡ to_validate worker call new_key (task_with duty []) (state_of v p self.old) }
+        ensures state { (v : Versions) (p : ℕ) → state_of v p self.new ≡ to_validate worker call new_key (task_with task_kind []) (state_of v p self.old) }
         ensures rooms { KeepsRooms worker self.old.rooms self.new.rooms }
     {
         if !self.is_validation_past(call) {
-            self.begin(worker, Duty::Idle);
+            self.begin(worker, TaskKind::Idle);
         } else if new_key {
             self.set_validation(call);
-            self.begin(worker, Duty::Idle);
+            self.begin(worker, TaskKind::Idle);
         } else {
-            self.begin(worker, duty);
+            self.begin(worker, task_kind);
         }
     }
 
@@ -393,7 +398,7 @@ impl Scheduler {
         requires { call < length self.old.calls }
         ensures { self.new ≡ record self.old { calls = set self.old.calls call (record (get_or self.old.calls call fresh) { status = status }) } }
     {
-        calls::set_status(&mut self.calls, call, status);
+        self.calls[usize::from(call)].status = status;
     }
 
     /// Parks a call on another.
@@ -401,7 +406,9 @@ impl Scheduler {
         requires { call < length self.old.calls }
         ensures { self.new ≡ record self.old { calls = set self.old.calls call (record (get_or self.old.calls call fresh) { status = Status.Aborting; parked = Some on }) } }
     {
-        calls::park(&mut self.calls, call, on);
+        let parked = &mut self.calls[usize::from(call)];
+        parked.status = Status::Aborting;
+        parked.parked = Some(on);
     }
 
     /// Keeps the run of a call, which is EXECUTED from now on.
@@ -409,43 +416,47 @@ impl Scheduler {
         requires { call < length self.old.calls }
         ensures { self.new ≡ record self.old { calls = set self.old.calls call (record (get_or self.old.calls call fresh) { status = Status.Executed; last = Some run }) } }
     {
-        calls::keep(&mut self.calls, call, run);
+        let kept = &mut self.calls[usize::from(call)];
+        kept.status = Status::Executed;
+        kept.last = Some(run);
     }
 
     /// Readies a call.
     fn ready(&mut self, call: u16)
         requires within { call < length self.old.calls }
-        requires incarnation { (get_or self.old.calls call fresh).incarnation < 65535 }
-        ensures { self.new ≡ record self.old { calls = set self.old.calls call (readied (get_or self.old.calls call fresh)) } }
+        requires incarnation { (get_or self.old.calls call fresh).incarnation < INCARNATION_LIMIT }
+        ensures { self.new ≡ record self.old { calls = set self.old.calls call (next_incarnation (get_or self.old.calls call fresh)) } }
     {
-        calls::ready(&mut self.calls, call);
+        calls::make_ready(&mut self.calls[usize::from(call)]);
     }
 
     /// Readies a call, and runs it at once.
     fn restart(&mut self, call: u16)
         requires within { call < length self.old.calls }
-        requires incarnation { (get_or self.old.calls call fresh).incarnation < 65535 }
-        ensures { self.new ≡ record self.old { calls = set self.old.calls call (record (readied (get_or self.old.calls call fresh)) { status = Status.Executing }) } }
+        requires incarnation { (get_or self.old.calls call fresh).incarnation < INCARNATION_LIMIT }
+        ensures { self.new ≡ record self.old { calls = set self.old.calls call (record (next_incarnation (get_or self.old.calls call fresh)) { status = Status.Executing }) } }
     {
-        calls::restart(&mut self.calls, call);
+        let restarted = &mut self.calls[usize::from(call)];
+        calls::make_ready(restarted);
+        restarted.status = Status::Executing;
     }
 
     /// Readies all calls that are parked on a call, and lowers the execution index to the least.
-    fn wake(&mut self, on: u16)
-        requires { (i : ℕ) → (get_or self.old.calls i fresh).status ≡ Status.Aborting → (get_or self.old.calls i fresh).incarnation ≤ 65534 }
-        ensures { self.new ≡ record self.old { calls = map (readied_if on) self.old.calls; execution = lowered on self.old.execution 0 self.old.calls } }
+    fn resume_dependents(&mut self, on: u16)
+        requires { (i : ℕ) → (get_or self.old.calls i fresh).status ≡ Status.Aborting → (get_or self.old.calls i fresh).incarnation ≤ LAST_INCARNATION }
+        ensures { self.new ≡ record self.old { calls = map (resume_if_parked on) self.old.calls; execution = lowered on self.old.execution 0 self.old.calls } }
     {
         self.execution = calls::lowered(&self.calls, on, self.execution);
-        calls::ready_parked(&mut self.calls, on);
+        calls::resume_parked(&mut self.calls, on);
     }
 
     /// Gives a worker a duty, and no answers.
-    fn begin(&mut self, worker: usize, duty: Duty)
+    fn begin(&mut self, worker: usize, task_kind: TaskKind)
         requires { worker < length self.old.tasks }
-        ensures state { (v : Versions) (p : ℕ) → state_of v p self.new ≡ with_task worker (task_with duty []) (state_of v p self.old) }
+        ensures state { (v : Versions) (p : ℕ) → state_of v p self.new ≡ with_task worker (task_with task_kind []) (state_of v p self.old) }
         ensures rooms { KeepsRooms worker self.old.rooms self.new.rooms }
     {
-        workers::begin(&mut self.workers, worker, duty);
+        self.workers[worker].begin(task_kind);
     }
 
     /// Gives a worker a call to run, without answers.
@@ -454,21 +465,21 @@ impl Scheduler {
         ensures state { (v : Versions) (p : ℕ) → state_of v p self.new ≡ with_task worker (Task.Running call [] None) (state_of v p self.old) }
         ensures rooms { KeepsRooms worker self.old.rooms self.new.rooms }
     {
-        let duty = Duty::Running {
+        let task_kind = TaskKind::Running {
             call,
             blocked: None,
         };
-        self.begin(worker, duty);
+        self.begin(worker, task_kind);
     }
 
     /// Keeps one more answer to a worker's run, in room that was made. Takes no memory.
-    fn push(&mut self, worker: usize, answer: Answer)
+    fn push(&mut self, worker: usize, answer: StorageAnswer)
         requires within { worker < length self.old.tasks }
         requires room { 1 ≤ get_or self.old.rooms worker 0 }
         ensures state { (v : Versions) (p : ℕ) → state_of v p self.new ≡ with_task worker (answered answer (get_or self.old.tasks worker Task.Idle)) (state_of v p self.old) }
         ensures rooms { KeepsRooms worker self.old.rooms self.new.rooms }
     {
-        workers::push(&mut self.workers, worker, answer);
+        self.workers[worker].push(answer);
     }
 
     /// Blocks a worker's run on a call.
@@ -477,17 +488,16 @@ impl Scheduler {
         ensures state { (v : Versions) (p : ℕ) → state_of v p self.new ≡ with_task worker (blocked_on on (get_or self.old.tasks worker Task.Idle)) (state_of v p self.old) }
         ensures rooms { KeepsRooms worker self.old.rooms self.new.rooms }
     {
-        workers::block(&mut self.workers, worker, on);
+        self.workers[worker].block(on);
     }
 
     /// Tells a worker that all is done.
-    fn tell_done(&mut self, worker: usize)
+    fn count_done(&mut self, worker: usize)
         requires within { worker < length self.old.tasks }
-        requires below { get_or self.old.dones worker 0 < 18446744073709551615 }
+        requires below { get_or self.old.dones worker 0 < COUNT_LIMIT }
         ensures { self.new ≡ record self.old { dones = set self.old.dones worker (get_or self.old.dones worker 0 + 1) } }
     {
-        let dones = self.dones(worker);
-        workers::put_dones(&mut self.workers, worker, dones + 1);
+        self.workers[worker].count_done();
     }
 
     /// Sets what a worker did.
@@ -495,6 +505,6 @@ impl Scheduler {
         requires { worker < length self.old.tasks }
         ensures { self.new ≡ record self.old { counts = set self.old.counts worker counts } }
     {
-        workers::put_counts(&mut self.workers, worker, counts);
+        self.workers[worker].set_counts(counts);
     }
 }

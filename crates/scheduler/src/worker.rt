@@ -1,17 +1,21 @@
 //! What the scheduler keeps of a worker.
 
-ghost use Rattle.std.specs.Prelude.{◌≡◌, ◌≤◌, [], OnOk};
-ghost use Rattle.stm_state.specs.State.{is_idle, no_counts};
+ghost use Rattle.std.specs.Prelude.{◌≡◌, ◌≤◌, ◌<◌, ◌+◌, ◌-◌, ℕ, [], IfOk, List, OnErr, OnOk, Option, map, replicate};
+ghost use Rattle.std.specs.List.{list_all};
+ghost use Rattle.rv_step.specs.declared.answer.StorageAnswer.{StorageAnswer};
+ghost use Rattle.stm_state.specs.State.{is_idle};
 ghost use Rattle.stm_state.specs.declared.state.Task.TheVariants as task;
-ghost use Rattle.scheduler.specs.Workers.{answered, blocked_on, room_of, task_of, task_with};
+ghost use Rattle.scheduler.specs.Workers.{IsRunning, IsTaskKindOf, answered, blocked_on, idle_worker, task_of, task_with};
 
+use crate::counting::COUNT_LIMIT;
 use rv_ledger::Counts;
-use rv_step::Answer;
+use rv_step::StorageAnswer;
 use std::alloc::{AllocError, Global};
+use std::marker::Model;
 
 /// What a worker is about.
 #[derive(Clone, Copy, Debug, PartialEq, Eq)]
-pub enum Duty {
+pub enum TaskKind {
     /// Nothing: it asks for work.
     Idle,
     /// It runs a call.
@@ -32,25 +36,36 @@ pub enum Duty {
     },
 }
 
-/// A worker: its duty, the answers that its run was given, what it did, and how often it was told
-/// that all is done.
+/// A worker: what it is about, the answers that its run was given, what it did, and how often it
+/// was told that all is done.
 #[derive(Drop)]
 pub(crate) struct Worker {
-    pub(crate) duty: Duty,
-    pub(crate) answers: Vec<Answer>,
-    pub(crate) counts: Counts,
-    pub(crate) dones: u64,
+    task_kind: TaskKind,
+    answers: Vec<StorageAnswer>,
+    counts: Counts,
+    dones: u64,
+}
+
+impl Model for Worker {
+    ghost use Rattle.std.specs.Prelude.{◌-◌, vec_capacity, vec_len};
+    ghost use Rattle.std.specs.Coded.{codes};
+    ghost use Rattle.stm_state.specs.contracts.state.Task.{the_row as task_row};
+    ghost use Rattle.scheduler.specs.Workers.{WorkerState, task_with};
+
+    ghost Value = { WorkerState };
+
+    ghost coded = { Prim.hlevel (codes, task_row.coded) };
+
+    ghost view = { λ w. record { task = task_with w.task_kind w.answers.items; counts = w.counts; dones = w.dones; room = vec_capacity w.answers - vec_len w.answers } };
 }
 
 impl Worker {
     /// A worker without a task, which did nothing yet. Takes no memory.
     pub(crate) fn new(alloc: Global) -> Worker
-        ensures task { task_of result ≡ task.Idle }
-        ensures counts { result.counts ≡ no_counts }
-        ensures dones { result.dones ≡ 0 }
+        ensures { result ≡ idle_worker }
     {
         Worker {
-            duty: Duty::Idle,
+            task_kind: TaskKind::Idle,
             answers: Vec::new(alloc),
             counts: Counts {
                 steps: 0,
@@ -62,58 +77,116 @@ impl Worker {
         }
     }
 
+    /// What it is about.
+    pub(crate) fn task_kind(&self) -> TaskKind
+        ensures { IsTaskKindOf result self.now.task }
+    {
+        self.task_kind
+    }
+
+    /// The answers that its run was given, in order.
+    pub(crate) fn answers(&self) -> &[StorageAnswer]
+        requires { IsRunning self.now.task }
+        ensures { (i : ℕ) (answers : List StorageAnswer) (blocked : Option ℕ) → self.now.task ≡ task.Running i answers blocked → result.now ≡ answers }
+    {
+        self.answers.as_slice()
+    }
+
+    /// What it did.
+    pub(crate) fn counts(&self) -> Counts
+        ensures { result ≡ self.now.counts }
+    {
+        self.counts
+    }
+
+    /// How often it was told that all is done.
+    pub(crate) fn dones(&self) -> u64
+        ensures { result ≡ self.now.dones }
+    {
+        self.dones
+    }
+
     /// Whether it has no task.
     pub(crate) fn is_idle(&self) -> bool
-        ensures { result ≡ is_idle (task_of self.now) }
+        ensures { result ≡ is_idle self.now.task }
     {
-        matches!(self.duty, Duty::Idle)
+        matches!(self.task_kind, TaskKind::Idle)
     }
 
     /// Gives it a duty, and no answers.
-    pub(crate) fn begin(&mut self, duty: Duty)
-        ensures task { task_of self.new ≡ task_with duty [] }
-        ensures counts { self.new.counts ≡ self.old.counts }
-        ensures dones { self.new.dones ≡ self.old.dones }
+    pub(crate) fn begin(&mut self, task_kind: TaskKind)
+        ensures { self.new ≡ record self.old { task = task_with task_kind []; room = self.new.room } }
     {
-        self.duty = duty;
+        self.task_kind = task_kind;
         self.answers.clear();
     }
 
     /// Makes room for one more answer; refused where memory ran out.
     pub(crate) fn reserve(&mut self) -> Result<(), AllocError>
-        ensures room { OnOk result (1 ≤ room_of self.new) }
-        ensures kept { room_of self.old ≤ room_of self.new }
-        ensures task { task_of self.new ≡ task_of self.old }
-        ensures counts { self.new.counts ≡ self.old.counts }
-        ensures dones { self.new.dones ≡ self.old.dones }
+        ensures room { OnOk result (1 ≤ self.new.room) }
+        ensures kept { self.old.room ≤ self.new.room }
+        ensures same { self.new ≡ record self.old { room = self.new.room } }
+        ensures unchanged { OnErr result (self.new ≡ self.old) }
+        ensures succeeds { 1 ≤ self.old.room → result ≡ Ok tt }
     {
         self.answers.reserve(1)
     }
 
     /// Keeps one more answer in room that was made. Takes no memory.
-    pub(crate) fn push(&mut self, answer: Answer)
-        requires { 1 ≤ room_of self.old }
-        ensures task { task_of self.new ≡ answered answer (task_of self.old) }
-        ensures counts { self.new.counts ≡ self.old.counts }
-        ensures dones { self.new.dones ≡ self.old.dones }
+    pub(crate) fn push(&mut self, answer: StorageAnswer)
+        requires { 1 ≤ self.old.room }
+        ensures { self.new ≡ record self.old { task = answered answer self.old.task; room = self.old.room - 1 } }
     {
-        match self.answers.push(answer) {
-            Ok(()) => {}
-            Err(_) => unreachable!(),
-        }
+        self.answers.push_reserved(answer);
     }
 
     /// Blocks its run on a call.
     pub(crate) fn block(&mut self, on: u16)
-        ensures task { task_of self.new ≡ blocked_on on (task_of self.old) }
-        ensures counts { self.new.counts ≡ self.old.counts }
-        ensures dones { self.new.dones ≡ self.old.dones }
+        ensures { self.new ≡ record self.old { task = blocked_on on self.old.task } }
     {
-        if let Duty::Running { call, .. } = self.duty {
-            self.duty = Duty::Running {
+        if let TaskKind::Running { call, .. } = self.task_kind {
+            self.task_kind = TaskKind::Running {
                 call,
                 blocked: Some(on),
             };
         }
     }
+
+    /// Sets what it did.
+    pub(crate) fn set_counts(&mut self, counts: Counts)
+        ensures { self.new ≡ record self.old { counts = counts } }
+    {
+        self.counts = counts;
+    }
+
+    /// Tells it once more that all is done.
+    pub(crate) fn count_done(&mut self)
+        requires { self.old.dones < COUNT_LIMIT }
+        ensures { self.new ≡ record self.old { dones = self.old.dones + 1 } }
+    {
+        self.dones += 1;
+    }
+}
+
+/// This many workers without a task, which did nothing yet; refused where memory ran out.
+pub(crate) fn idle_workers(alloc: Global, count: usize) -> Result<Vec<Worker>, AllocError>
+    ensures { IfOk result (λ workers. workers.items ≡ replicate count idle_worker) }
+{
+    let mut workers = Vec::with_capacity(alloc, count)?;
+    while workers.len() < count {
+        workers.push(Worker::new(alloc))?;
+    }
+    Ok(workers)
+}
+
+/// Whether no worker has a task.
+pub(crate) fn all_idle(workers: &[Worker]) -> bool
+    ensures { result ≡ list_all is_idle (map task_of workers.now) }
+{
+    for worker in workers {
+        if !worker.is_idle() {
+            return false;
+        }
+    }
+    true
 }

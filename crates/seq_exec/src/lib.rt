@@ -3,7 +3,7 @@
 
 ghost use Rattle.std.specs.Prelude.{◌≡◌, [], IfOk, OnOk};
 ghost use Rattle.rv_step.specs.Chain.{ends};
-ghost use Rattle.rv_step.specs.Fold.{laid, receipts_of, store_after};
+ghost use Rattle.rv_step.specs.Fold.{apply_writes, receipts_of, store_after};
 
 use read_set::Origin;
 use rv_ledger::{Call, Job, Outcome, Receipt, Store, Writes};
@@ -37,7 +37,7 @@ fn run_all(alloc: Global, calls: &[Call], store: &mut Store) -> Result<Vec<Recei
     let mut receipts = Vec::with_capacity(alloc, calls.len())?;
     for call in calls {
         let receipt = run_one(alloc, call, store)?;
-        lay(store, &receipt.writes)?;
+        apply(store, &receipt.writes)?;
         receipts.push(receipt)?;
     }
     Ok(receipts)
@@ -61,9 +61,9 @@ fn run_one(alloc: Global, call: &Call, store: &Store) -> Result<Receipt, AllocEr
 }
 
 /// Lays the writes of a call over the storage.
-#[tactic(auto, unfolding(rv_step::specs::Fold::laid))]
-fn lay(store: &mut Store, writes: &Writes) -> Result<(), AllocError>
-    ensures { OnOk result (store.new ≡ laid store.old writes.now) }
+#[tactic(auto, unfolding(rv_step::specs::Fold::apply_writes))]
+fn apply(store: &mut Store, writes: &Writes) -> Result<(), AllocError>
+    ensures { OnOk result (store.new ≡ apply_writes store.old writes.now) }
 {
     for (key, value) in writes.iter() {
         match value {

@@ -7,21 +7,21 @@ use Rattle.rv_ledger.specs.Call.{Invocation}
 use Rattle.rv_ledger.specs.declared.job.Job.{Job}
 use Rattle.stm_state.specs.State.{State, start, is_done}
 use Rattle.stm_state.specs.Steps.{Limit}
-use Rattle.stm_state.specs.Drive.{BadWorker, NotDone, drive_of, driven, due, went_on}
+use Rattle.stm_state.specs.Drive.{BadWorker, NotDone, drive_of, driven, due_result, continue_drive}
 use Rattle.stm_state.proofs.Tests.{lt_is, not_lt_is}
 use Rattle.stm_core.specs.declared.engine.DriveFault.{DriveFault}
 use Rattle.stm_core.specs.declared.engine.DriveFault.TheVariants as fault
-use Rattle.stm_core.specs.Board.{Board}
+use Rattle.stm_core.specs.CoreState.{CoreState}
 use Rattle.stm_core.specs.Driving.{IsRefusal, IsStepRefusal}
 
 module _ (calls : List Invocation) (store : Storage) (workers : ℕ) where
   -- what a list comes to by its first entry
-  by_entry : (w : ℕ) (ws : List ℕ) (s : State) → driven calls store workers (w ∷ ws) s ≡ cond (nat_lt w workers) (went_on (λ t. driven calls store workers ws t) (due calls store w s)) (Err BadWorker)
+  by_entry : (w : ℕ) (ws : List ℕ) (s : State) → driven calls store workers (w ∷ ws) s ≡ cond (nat_lt w workers) (continue_drive (λ t. driven calls store workers ws t) (due_result calls store w s)) (Err BadWorker)
   unfolding driven
   by_entry w ws s = refl
 
   -- the first entry's step is made
-  step_driven : (w : ℕ) (ws : List ℕ) (s t : State) → w < workers → due calls store w s ≡ Some (Ok t) → driven calls store workers (w ∷ ws) s ≡ driven calls store workers ws t
+  step_driven : (w : ℕ) (ws : List ℕ) (s t : State) → w < workers → due_result calls store w s ≡ Some (Ok t) → driven calls store workers (w ∷ ws) s ≡ driven calls store workers ws t
   step_driven w ws s t lt e = by_entry w ws s ∙ rw (lt_is w workers lt, e) refl
 
   -- the first entry is no worker
@@ -29,28 +29,28 @@ module _ (calls : List Invocation) (store : Storage) (workers : ℕ) where
   not_driven w ws s ge = by_entry w ws s ∙ rw (not_lt_is w workers ge) refl
 
   -- the first entry's step is refused
-  refused_by : (f : DriveFault) (ws : List ℕ) (o : Option (Result State Limit)) → IsStepRefusal f o → IsRefusal f (went_on (λ t. driven calls store workers ws t) o)
+  refused_by : (f : DriveFault) (ws : List ℕ) (o : Option (Result State Limit)) → IsStepRefusal f o → IsRefusal f (continue_drive (λ t. driven calls store workers ws t) o)
   refused_by fault.NotDone ws o h = absurd h
   refused_by fault.BadWorker ws o h = absurd h
-  refused_by fault.ArenaFull ws o h = ap (went_on (λ t. driven calls store workers ws t)) h
-  refused_by fault.IncarnationLimit ws o h = ap (went_on (λ t. driven calls store workers ws t)) h
+  refused_by fault.ArenaFull ws o h = ap (continue_drive (λ t. driven calls store workers ws t)) h
+  refused_by fault.IncarnationLimit ws o h = ap (continue_drive (λ t. driven calls store workers ws t)) h
   refused_by fault.Memory ws o h = tt
 
-  refused_driven : (f : DriveFault) (w : ℕ) (ws : List ℕ) (s : State) → w < workers → IsStepRefusal f (due calls store w s) → IsRefusal f (driven calls store workers (w ∷ ws) s)
-  refused_driven f w ws s lt h = subst (IsRefusal f) (sym (by_entry w ws s ∙ rw (lt_is w workers lt) refl)) (refused_by f ws (due calls store w s) h)
+  refused_driven : (f : DriveFault) (w : ℕ) (ws : List ℕ) (s : State) → w < workers → IsStepRefusal f (due_result calls store w s) → IsRefusal f (driven calls store workers (w ∷ ws) s)
+  refused_driven f w ws s lt h = subst (IsRefusal f) (sym (by_entry w ws s ∙ rw (lt_is w workers lt) refl)) (refused_by f ws (due_result calls store w s) h)
 
   -- ---- the entry of an index
   module _ (schedule : List ℕ) (n w : ℕ) (within : n < length schedule) (entry : w ≡ get_or schedule n 0) where
     from_entry : drop n schedule ≡ w ∷ drop (n + 1) schedule
     from_entry = drop_more schedule n 0 within ∙ ap (λ x. x ∷ drop (n + 1) schedule) (sym entry)
 
-    pub entry_made : (s t : State) → w < workers → due calls store w s ≡ Some (Ok t) → driven calls store workers (drop n schedule) s ≡ driven calls store workers (drop (n + 1) schedule) t
+    pub entry_made : (s t : State) → w < workers → due_result calls store w s ≡ Some (Ok t) → driven calls store workers (drop n schedule) s ≡ driven calls store workers (drop (n + 1) schedule) t
     entry_made s t lt e = ap (λ l. driven calls store workers l s) from_entry ∙ step_driven w (drop (n + 1) schedule) s t lt e
 
     pub entry_bad : (s : State) → workers ≤ w → driven calls store workers (drop n schedule) s ≡ Err BadWorker
     entry_bad s ge = ap (λ l. driven calls store workers l s) from_entry ∙ not_driven w (drop (n + 1) schedule) s ge
 
-    pub entry_refused : (f : DriveFault) (s : State) → w < workers → IsStepRefusal f (due calls store w s) → IsRefusal f (driven calls store workers (drop n schedule) s)
+    pub entry_refused : (f : DriveFault) (s : State) → w < workers → IsStepRefusal f (due_result calls store w s) → IsRefusal f (driven calls store workers (drop n schedule) s)
     entry_refused f s lt h = subst (λ l. IsRefusal f (driven calls store workers l s)) (sym from_entry) (refused_driven f w (drop (n + 1) schedule) s lt h)
 
 -- ---- the whole list
@@ -68,7 +68,7 @@ from_start calls store workers schedule low high =
     rw (at_least, at_most) refl
 
 -- the entries lead from the start of a copy of a job to a state
-module _ (job copy : Job) (old : Board) (workers : ℕ) (schedule : List ℕ) (s : State) (low : 1 ≤ workers) (high : workers ≤ 32)
+module _ (job copy : Job) (old : CoreState) (workers : ℕ) (schedule : List ℕ) (s : State) (low : 1 ≤ workers) (high : workers ≤ 32)
     (same : copy ≡ job) (of_copy : old.job ≡ copy) (first : old.state ≡ start (length copy.block) workers)
     (all : driven old.job.block old.job.store workers schedule old.state ≡ driven old.job.block old.job.store workers [] s) where
   comes_to : drive_of copy.block copy.store workers schedule ≡ cond (is_done s) (Ok s) (Err NotDone)

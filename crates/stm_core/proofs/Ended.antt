@@ -9,7 +9,7 @@ use Rattle.rv_ledger.specs.declared.receipt.Receipt.{Receipt}
 use Rattle.rv_step.specs.Fold.{receipts_of, store_after}
 use Rattle.mvmap.specs.Table.{Table}
 use Rattle.mvmap.specs.Versions.{entry_at}
-use Rattle.mvmap.specs.Reading.{held, reading}
+use Rattle.mvmap.specs.Reading.{value_seen, reading}
 use Rattle.stm_state.specs.declared.state.CallState.{CallState}
 use Rattle.stm_state.specs.State.{is_done}
 use Rattle.stm_state.specs.Done.{HasVersionsAlone, DoneHasVersionsAlone, DoneIsInOrder, block_of, last_receipt}
@@ -37,6 +37,6 @@ module _ (job : Job) (table : Table) (schedule : Schedule) (h : IsReached job ta
 
   -- so is the storage
   pub store_is : DoneIsInOrder → DoneHasVersionsAlone → (store : Storage)
-      → ((key : List ℕ) (i : ℕ) → ((w : ℕ) → i ≤ w → entry_at table.versions key w ≡ None) → get store key ≡ held (get job.store key) (reading table.versions key i)) → store ≡ store_after job.block job.store
-  store_is order alone store laid = same_map nat_list_cmp_total (slice_cmp-IsAntisymmetric nat_cmp-IsAntisymmetric) store (store_after job.block job.store)
-      (λ key. laid key (length job.block) ((versions_alone alone).0 key) ∙ (order job.block job.store (length schedule.tasks) (state_in table schedule) h.reached done).1 key)
+      → ((key : List ℕ) (i : ℕ) → ((w : ℕ) → i ≤ w → entry_at table.versions key w ≡ None) → get store key ≡ value_seen (get job.store key) (reading table.versions key i)) → store ≡ store_after job.block job.store
+  store_is order alone store apply_writes = same_map nat_list_cmp_total (slice_cmp-IsAntisymmetric nat_cmp-IsAntisymmetric) store (store_after job.block job.store)
+      (λ key. apply_writes key (length job.block) ((versions_alone alone).0 key) ∙ (order job.block job.store (length schedule.tasks) (state_in table schedule) h.reached done).1 key)

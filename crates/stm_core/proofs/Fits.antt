@@ -3,50 +3,50 @@ use Rattle.std.proofs.Common.{◌≡◌, ◌≢◌, ◌<◌, ℕ, true, false, L
 use Rattle.std.proofs.lemmas.Bool.{cases_eq}
 use Rattle.std.proofs.lemmas.List.{get_or-set_same, get_or-set_other}
 use Rattle.rv_ledger.specs.Call.{Invocation}
-use Rattle.rv_step.specs.Run.{Seen}
+use Rattle.rv_step.specs.Run.{RunView}
 use Rattle.rv_step.specs.declared.ended_run.EndedRun.{EndedRun}
 use Rattle.stm_state.specs.declared.state.Task.{Task}
 use Rattle.stm_state.specs.declared.state.Task.TheVariants.{Idle, Running, Validating}
 use Rattle.stm_state.specs.State.{State, task_at}
 use Rattle.stm_state.specs.Steps.{Record}
 use Rattle.stm_state.proofs.Tests.{equal_itself}
-use Rattle.stm_core.specs.Board.{Board, IsOwn, answers_of, doing_of, owes, runs}
-use Rattle.stm_core.specs.declared.doing.Doing.TheVariants as doing
+use Rattle.stm_core.specs.CoreState.{CoreState, IsOwn, answers_of, next_step_of, is_due, runs}
+use Rattle.stm_core.specs.declared.next_step.NextStep.TheVariants as next_step
 use Rattle.stm_core.specs.Driving.{FitsTask, HasNoAnswers, IsRunOf}
 
 -- a worker that asks, parks or validates owes no record
-pub asks_alone : (s : State) (task : Task) → doing.Ask ≡ doing_of s task → owes Record task ≡ false
+pub asks_alone : (s : State) (task : Task) → next_step.Ask ≡ next_step_of s task → is_due Record task ≡ false
 asks_alone s Idle e = cc
 asks_alone s (Running i answers None) e = cc
 asks_alone s (Running i answers (Some b)) e = cc
 asks_alone s (Validating i n left) e = cc
 
-pub parks_alone : (s : State) (task : Task) (i n : ℕ) → doing.Park i n ≡ doing_of s task → owes Record task ≡ false
+pub parks_alone : (s : State) (task : Task) (i n : ℕ) → next_step.Park i n ≡ next_step_of s task → is_due Record task ≡ false
 parks_alone s Idle i n e = cc
 parks_alone s (Running j answers None) i n e = cc
 parks_alone s (Running j answers (Some b)) i n e = cc
 parks_alone s (Validating j m left) i n e = cc
 
-pub validates_alone : (s : State) (task : Task) (i n : ℕ) → doing.Validate i n ≡ doing_of s task → owes Record task ≡ false
+pub validates_alone : (s : State) (task : Task) (i n : ℕ) → next_step.Validate i n ≡ next_step_of s task → is_due Record task ≡ false
 validates_alone s Idle i n e = cc
 validates_alone s (Running j answers None) i n e = cc
 validates_alone s (Running j answers (Some b)) i n e = cc
 validates_alone s (Validating j m left) i n e = cc
 
 -- a run fits no task that owes no record
-no_run : (calls : List Invocation) (run : Seen) (task : Task) → owes Record task ≡ false → IsRunOf calls run task → ⊥
+no_run : (calls : List Invocation) (run : RunView) (task : Task) → is_due Record task ≡ false → IsRunOf calls run task → ⊥
 no_run calls run Idle e h = h
 no_run calls run (Running i answers None) e h = cc
 no_run calls run (Running i answers (Some b)) e h = h
 no_run calls run (Validating i n left) e h = h
 
 -- so that where the task owed no record there was no run, and the next task is fit where it has no answers
-pub next_fits : (calls : List Invocation) (run : Option Seen) (old new : Task) → owes Record old ≡ false → FitsTask calls run old → HasNoAnswers new → FitsTask calls run new
+pub next_fits : (calls : List Invocation) (run : Option RunView) (old new : Task) → is_due Record old ≡ false → FitsTask calls run old → HasNoAnswers new → FitsTask calls run new
 next_fits calls None old new e h k = k
 next_fits calls (Some run) old new e h k = absurd (no_run calls run old e h)
 
 -- all workers' runs fit their tasks still, where one of them has changed
-pub all_fit : (calls : List Invocation) (runs : List (Option Seen)) (s t : State) (w : ℕ) (run : Option Seen) → w < length runs → ((u : ℕ) → u ≢ w → task_at t u ≡ task_at s u)
+pub all_fit : (calls : List Invocation) (runs : List (Option RunView)) (s t : State) (w : ℕ) (run : Option RunView) → w < length runs → ((u : ℕ) → u ≢ w → task_at t u ≡ task_at s u)
     → ((u : ℕ) → FitsTask calls (get_or runs u None) (task_at s u)) → FitsTask calls run (task_at t w) → (u : ℕ) → FitsTask calls (get_or (set runs w run) u None) (task_at t u)
 all_fit calls runs s t w run lt others before own u = elim (cases_eq u w) [
   | inl e ↦ subst (λ x. FitsTask calls (get_or (set runs w run) x None) (task_at t x)) (sym e) (subst (λ r. FitsTask calls r (task_at t w)) (sym (get_or-set_same runs w run None lt)) own)
@@ -54,8 +54,8 @@ all_fit calls runs s t w run lt others before own u = elim (cases_eq u w) [
 ]
 
 -- a run that fits the worker's task is its own
-module _ (w : ℕ) (b : Board) (run : Seen) (ended : EndedRun) (same_call : ended.call ≡ run.call) (same_answers : ended.answers.items ≡ run.told) where
-  own_with : (task : Task) → task_at b.state w ≡ task → owes Record task ≡ true → IsRunOf b.job.block run task → IsOwn w ended b
+module _ (w : ℕ) (b : CoreState) (run : RunView) (ended : EndedRun) (same_call : ended.call ≡ run.call) (same_answers : ended.answers.items ≡ run.answers) where
+  own_with : (task : Task) → task_at b.state w ≡ task → is_due Record task ≡ true → IsRunOf b.job.block run task → IsOwn w ended b
   own_with Idle at due fits = absurd fits
   own_with (Running i answers None) at due fits = record {
     call = i;
@@ -66,5 +66,5 @@ module _ (w : ℕ) (b : Board) (run : Seen) (ended : EndedRun) (same_call : ende
   own_with (Running i answers (Some x)) at due fits = absurd fits
   own_with (Validating i n left) at due fits = absurd fits
 
-  pub own_run : owes Record (task_at b.state w) ≡ true → IsRunOf b.job.block run (task_at b.state w) → IsOwn w ended b
+  pub own_run : is_due Record (task_at b.state w) ≡ true → IsRunOf b.job.block run (task_at b.state w) → IsOwn w ended b
   own_run due fits = own_with (task_at b.state w) refl due fits

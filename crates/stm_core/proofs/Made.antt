@@ -7,22 +7,22 @@ use Rattle.rv_ledger.specs.Call.{Invocation}
 use Rattle.rv_ledger.specs.declared.job.Job.{Job}
 use Rattle.rv_ledger.specs.declared.receipt.Receipt.{Receipt}
 use Rattle.rv_step.specs.Replies.{replies_of}
-use Rattle.rv_step.specs.declared.answer.Answer.{Answer}
+use Rattle.rv_step.specs.declared.answer.StorageAnswer.{StorageAnswer}
 use Rattle.rv_step.specs.declared.ended_run.EndedRun.{EndedRun}
-use Rattle.version_arena.specs.Shelf.{Record as Placing}
+use Rattle.version_arena.specs.ArenaState.{Record as Placing}
 use Rattle.mvmap.specs.Table.{Table}
 use Rattle.mvmap.specs.Versions.{Entry, Versions, place_cmp}
 use Rattle.stm_state.specs.declared.state.Status.TheVariants.{Aborting}
 use Rattle.stm_state.specs.declared.state.Task.TheVariants.{Idle, Running, Validating}
 use Rattle.stm_state.specs.State.{State, fresh, start, call_at, task_at}
 use Rattle.stm_state.specs.Steps.{Block, Step, Ask, Read_key, Park, Record, Validate, ArenaFull, IncarnationLimit, counted, one_asking, one_step, one_execution, one_validation, asked, read_at, parked, recorded, record_within, decided, validated, written_by, is_executed_at, step_with, worker_step}
-use Rattle.stm_state.specs.Done.{Reached, started, stepped, block_of, borne_by}
+use Rattle.stm_state.specs.Done.{Reached, started, stepped, block_of, borne_out_by}
 use Rattle.stm_state.specs.Invariant.{Invariant, named_by}
 use Rattle.stm_state.proofs.Whole.{invariant_kept}
 use Rattle.stm_state.proofs.Counted.{counts_within}
 use Rattle.scheduler.specs.Schedule.{KeepsRooms, Schedule, MayCount, state_of}
-use Rattle.stm_core.specs.Board.{Board, IsDue, Makes}
-use Rattle.stm_core.specs.Inner.{AreOpen, HasPlaces, IsHanded, IsReached, board_of, state_in}
+use Rattle.stm_core.specs.CoreState.{CoreState, IsDue, Makes}
+use Rattle.stm_core.specs.Inner.{AreOpen, HasPlaces, IsHanded, IsReached, core_state_of, state_in}
 use Rattle.stm_core.proofs.Open.{open_last}
 use Rattle.stm_core.proofs.Parted.{at_says}
 
@@ -40,7 +40,7 @@ module _ (job : Job) (table : Table) (schedule : Schedule) (h : IsReached job ta
   named_in w i named = let low = invariant_at.facts.named w i named in let e = invariant_at.sized.calls in omega (arith, low, e)
 
   -- so is the call that a run is blocked on
-  pub blocked_in : (w i b : ℕ) (answers : List Answer) → get_or schedule.tasks w Idle ≡ Running i answers (Some b) → b < length schedule.calls
+  pub blocked_in : (w i b : ℕ) (answers : List StorageAnswer) → get_or schedule.tasks w Idle ≡ Running i answers (Some b) → b < length schedule.calls
   blocked_in w i b answers at = let low = invariant_at.facts.blocked w i b answers at in let named = named_in w i (ap named_by at) in omega (arith, low, named)
 
   -- an ABORTING call is below the limit
@@ -60,15 +60,15 @@ module _ (job : Job) (table : Table) (schedule : Schedule) (h : IsReached job ta
   places_of_last i = open_last table.places i (get_or schedule.calls i fresh) table.versions h.places (invariant_at.facts.entries i)
 
   -- the same state is reached where the parts are others
-  pub same_reached : (moved : Table) (after : Schedule) → state_in moved after ≡ state_in table schedule → HasPlaces moved → IsReached job moved after
-  same_reached moved after same places = record {
+  pub same_reached : (after_table : Table) (after : Schedule) → state_in after_table after ≡ state_in table schedule → HasPlaces after_table → IsReached job after_table after
+  same_reached after_table after same places = record {
     reached = subst (λ (s : State). Reached (block_of job.block job.store) (length s.tasks) s) (sym same) h.reached;
     places = places;
   }
 
-  module _ (b : Board) (is : board_of job table schedule ≡ b) (w : ℕ) (step : Step) (due : IsDue w step b) where
+  module _ (b : CoreState) (is : core_state_of job table schedule ≡ b) (w : ℕ) (step : Step) (due : IsDue w step b) where
     -- what is due of the parts
-    pub due_at : IsDue w step (board_of job table schedule)
+    pub due_at : IsDue w step (core_state_of job table schedule)
     due_at = subst (IsDue w step) (sym is) due
 
     -- a worker whose step is due may count it
@@ -81,36 +81,36 @@ module _ (job : Job) (table : Table) (schedule : Schedule) (h : IsReached job ta
           asks = let d = due_at.steps in let low = few.asks in omega (arith, d, low);
           executions = let d = due_at.steps in let low = few.executions in omega (arith, d, low);
           validations = let d = due_at.steps in let low = few.validations in omega (arith, d, low);
-          dones = let d = due_at.steps in let low = few.asks in let told = few.dones in omega (arith, d, low, told);
+          dones = let d = due_at.steps in let low = few.asks in let done = few.dones in omega (arith, d, low, done);
         }
 
-    module _ (moved : Table) (after : Schedule) (made : worker_step (block_of job.block job.store) w step (state_in table schedule) ≡ Some (Ok (state_in moved after))) where
+    module _ (after_table : Table) (after : Schedule) (made : worker_step (block_of job.block job.store) w step (state_in table schedule) ≡ Some (Ok (state_in after_table after))) where
       -- the state after a step is reached
-      pub goes_on : HasPlaces moved → IsReached job moved after
+      pub goes_on : HasPlaces after_table → IsReached job after_table after
       goes_on places =
           let next = stepped w step h.reached due_at.worker made in
-          let same = (invariant_kept (block_of job.block job.store) (length schedule.tasks) (state_in moved after) next).sized.tasks in
+          let same = (invariant_kept (block_of job.block job.store) (length schedule.tasks) (state_in after_table after) next).sized.tasks in
           record {
-            reached = subst (λ n. Reached (block_of job.block job.store) n (state_in moved after)) (sym same) next;
+            reached = subst (λ n. Reached (block_of job.block job.store) n (state_in after_table after)) (sym same) next;
             places = places;
           }
 
       -- the step is made
-      pub makes : KeepsRooms w schedule.rooms after.rooms → Makes w step b (board_of job moved after)
-      makes rooms = subst (λ x. Makes w step x (board_of job moved after)) is (made, refl, rooms)
+      pub makes : KeepsRooms w schedule.rooms after.rooms → Makes w step b (core_state_of job after_table after)
+      makes rooms = subst (λ x. Makes w step x (core_state_of job after_table after)) is (made, refl, rooms)
 
 -- ---- the start
 
 -- the parts of a run at its start are the start of its block
-pub start_is : (n workers : ℕ) (table : Table) (schedule : Schedule) → table.versions ≡ empty → table.shelf.records ≡ [] → ((v : Versions) (p : ℕ) → state_of v p schedule ≡ record (start n workers) { versions = v; placed = p })
+pub start_is : (n workers : ℕ) (table : Table) (schedule : Schedule) → table.versions ≡ empty → table.arena.records ≡ [] → ((v : Versions) (p : ℕ) → state_of v p schedule ≡ record (start n workers) { versions = v; placed = p })
     → state_in table schedule ≡ start n workers
 start_is n workers table schedule none records is =
-    is table.versions (length table.shelf.records)
-    ∙ ap (λ v. record (start n workers) { versions = v; placed = length table.shelf.records }) none
+    is table.versions (length table.arena.records)
+    ∙ ap (λ v. record (start n workers) { versions = v; placed = length table.arena.records }) none
     ∙ ap (λ (rs : List Placing). record (start n workers) { placed = length rs }) records
 
 -- it is reached
-pub start_reached : (job : Job) (n workers : ℕ) (table : Table) (schedule : Schedule) → n ≡ length job.block → table.versions ≡ empty → table.shelf.records ≡ [] → ((v : Versions) (p : ℕ) → state_of v p schedule ≡ record (start n workers) { versions = v; placed = p })
+pub start_reached : (job : Job) (n workers : ℕ) (table : Table) (schedule : Schedule) → n ≡ length job.block → table.versions ≡ empty → table.arena.records ≡ [] → ((v : Versions) (p : ℕ) → state_of v p schedule ≡ record (start n workers) { versions = v; placed = p })
     → IsReached job table schedule
 start_reached job n workers table schedule count none records is =
     let same : state_in table schedule ≡ start (length job.block) workers = start_is n workers table schedule none records is ∙ ap (λ x. start x workers) count in
@@ -143,10 +143,10 @@ module _ (block : Block) (w : ℕ) (s : State) where
   pub ask_made : task_at s w ≡ Idle → worker_step block w Ask s ≡ Some (Ok (counted one_asking w (asked w s)))
   ask_made idle = ap (λ t. step_with block w t Ask s) idle
 
-  pub read_made : (key : List ℕ) (i : ℕ) (answers : List Answer) → task_at s w ≡ Running i answers None → worker_step block w (Read_key key) s ≡ Some (Ok (counted one_step w (read_at block.base key w i answers s)))
+  pub read_made : (key : List ℕ) (i : ℕ) (answers : List StorageAnswer) → task_at s w ≡ Running i answers None → worker_step block w (Read_key key) s ≡ Some (Ok (counted one_step w (read_at block.base key w i answers s)))
   read_made key i answers runs = ap (λ t. step_with block w t (Read_key key) s) runs
 
-  pub park_made : (i b : ℕ) (answers : List Answer) → task_at s w ≡ Running i answers (Some b) → (call_at s i).incarnation < 65535 → worker_step block w Park s ≡ Some (Ok (counted one_step w (parked w i b s)))
+  pub park_made : (i b : ℕ) (answers : List StorageAnswer) → task_at s w ≡ Running i answers (Some b) → (call_at s i).incarnation < 65535 → worker_step block w Park s ≡ Some (Ok (counted one_step w (parked w i b s)))
   park_made i b answers runs low =
       ap (λ t. step_with block w t Park s) runs
       ∙ ap (λ spent. cond spent (Some (Err IncarnationLimit)) (Some (Ok (counted one_step w (parked w i b s))))) (not_le 65535 (call_at s i).incarnation low)
@@ -154,9 +154,9 @@ module _ (block : Block) (w : ℕ) (s : State) where
   pub validate_made : (i n left : ℕ) → task_at s w ≡ Validating i n left → worker_step block w Validate s ≡ Some (Ok (counted (if decided i n left s then one_validation else one_step) w (validated w i n s)))
   validate_made i n left at = ap (λ t. step_with block w t Validate s) at
 
-module _ (block : Block) (w i : ℕ) (answers : List Answer) (s : State) where
+module _ (block : Block) (w i : ℕ) (answers : List StorageAnswer) (s : State) where
   -- a record within the limits, and one that is refused
-  pub record_made : (receipt : Receipt) → task_at s w ≡ Running i answers None → block.borne i (replies_of answers) ≡ Some receipt → s.placed + len receipt.writes ≤ 1048576 → (call_at s i).incarnation < 65535
+  pub record_made : (receipt : Receipt) → task_at s w ≡ Running i answers None → block.borne_out i (replies_of answers) ≡ Some receipt → s.placed + len receipt.writes ≤ 1048576 → (call_at s i).incarnation < 65535
       → worker_step block w Record s ≡ Some (Ok (counted one_execution w (recorded w i answers receipt s)))
   record_made receipt runs bears room low =
       ap (λ t. step_with block w t Record s) runs
@@ -164,14 +164,14 @@ module _ (block : Block) (w i : ℕ) (answers : List Answer) (s : State) where
       ∙ ap (λ b. cond b (Some (Err ArenaFull)) (cond (nat_le 65535 (call_at s i).incarnation) (Some (Err IncarnationLimit)) (Some (Ok (counted one_execution w (recorded w i answers receipt s)))))) (not_lt 1048576 (s.placed + len receipt.writes) room)
       ∙ ap (λ b. cond b (Some (Err IncarnationLimit)) (Some (Ok (counted one_execution w (recorded w i answers receipt s))))) (not_le 65535 (call_at s i).incarnation low)
 
-  pub record_full : (receipt : Receipt) → task_at s w ≡ Running i answers None → block.borne i (replies_of answers) ≡ Some receipt → 1048576 < s.placed + len receipt.writes
+  pub record_full : (receipt : Receipt) → task_at s w ≡ Running i answers None → block.borne_out i (replies_of answers) ≡ Some receipt → 1048576 < s.placed + len receipt.writes
       → worker_step block w Record s ≡ Some (Err ArenaFull)
   record_full receipt runs bears full =
       ap (λ t. step_with block w t Record s) runs
       ∙ ap (λ o. record_within i answers w o s) bears
       ∙ ap (λ b. cond b (Some (Err ArenaFull)) (cond (nat_le 65535 (call_at s i).incarnation) (Some (Err IncarnationLimit)) (Some (Ok (counted one_execution w (recorded w i answers receipt s)))))) (is_lt 1048576 (s.placed + len receipt.writes) full)
 
-  pub record_limit : (receipt : Receipt) → task_at s w ≡ Running i answers None → block.borne i (replies_of answers) ≡ Some receipt → s.placed + len receipt.writes ≤ 1048576 → 65535 ≤ (call_at s i).incarnation
+  pub record_limit : (receipt : Receipt) → task_at s w ≡ Running i answers None → block.borne_out i (replies_of answers) ≡ Some receipt → s.placed + len receipt.writes ≤ 1048576 → 65535 ≤ (call_at s i).incarnation
       → worker_step block w Record s ≡ Some (Err IncarnationLimit)
   record_limit receipt runs bears room high =
       ap (λ t. step_with block w t Record s) runs
@@ -180,12 +180,12 @@ module _ (block : Block) (w i : ℕ) (answers : List Answer) (s : State) where
       ∙ ap (λ b. cond b (Some (Err IncarnationLimit)) (Some (Ok (counted one_execution w (recorded w i answers receipt s))))) (is_le 65535 (call_at s i).incarnation high)
 
 -- a worker's own run that is handed in, within the limits, and refused
-module _ (calls : List Invocation) (store : Storage) (w i : ℕ) (answers : List Answer) (run : EndedRun) (s : State) (runs : task_at s w ≡ Running i answers None) (handed : IsHanded calls i answers run) where
+module _ (calls : List Invocation) (store : Storage) (w i : ℕ) (answers : List StorageAnswer) (run : EndedRun) (s : State) (runs : task_at s w ≡ Running i answers None) (handed : IsHanded calls i answers run) where
   runs_own : task_at s w ≡ Running i run.answers.items None
   runs_own = runs ∙ ap (λ x. Running i x None) (sym handed.1)
 
-  bears_own : borne_by (slice_get calls i) (replies_of run.answers.items) ≡ Some run.receipt
-  bears_own = ap (λ o. borne_by o (replies_of run.answers.items)) handed.0 ∙ run.borne
+  bears_own : borne_out_by (slice_get calls i) (replies_of run.answers.items) ≡ Some run.receipt
+  bears_own = ap (λ o. borne_out_by o (replies_of run.answers.items)) handed.0 ∙ run.borne_out
 
   pub own_made : s.placed + len run.receipt.writes ≤ 1048576 → (call_at s i).incarnation < 65535
       → worker_step (block_of calls store) w Record s ≡ Some (Ok (counted one_execution w (recorded w i run.answers.items run.receipt s)))

@@ -5,14 +5,14 @@ use Rattle.std.proofs.lemmas.List.Elements.{All-head, All-tail}
 use Rattle.std.specs.Ordering.{eq_by_cmp}
 use Rattle.std.specs.FinMap.{get, insert, remove, entries}
 use Rattle.std.specs.FinSet.{FinSet, contains}
-use Rattle.version_arena.specs.Shelf.{Content}
+use Rattle.version_arena.specs.ArenaState.{Content}
 use Rattle.rv_ledger.specs.Key.{WriteMap}
 use Rattle.mvmap.specs.Versions.{Entry, Stands, Estimate, Place, Versions, changed, entry_at, place_cmp}
 use Rattle.mvmap.proofs.Places.{get_changed, same_place}
 use Rattle.stm_state.specs.declared.state.CallState.{CallState}
 use Rattle.stm_state.specs.declared.state.Recorded.{Recorded}
 use Rattle.stm_state.specs.State.{is_executed}
-use Rattle.stm_state.specs.Steps.{written_by, published, withdrawn, estimated, left_over, moved}
+use Rattle.stm_state.specs.Steps.{written_by, published, withdrawn, estimated, left_over, recorded_versions}
 use Rattle.stm_state.specs.Invariant.{entry_by, entry_of, write_of}
 use Rattle.stm_state.proofs.Writes.{entries_found}
 use Rattle.stm_core.specs.Inner.{AreOpen, keys_of}
@@ -47,7 +47,7 @@ module _ (places : FinSet place_cmp) where
   estimated_within i (e ∷ es) v open_ within =
       estimated_within i es (insert v (e.0, i) Estimate) open_.1 (changed_within v (e.0, i) (Some Estimate) (λ _. open_.0) within)
 
-  pub moved_within : (i n : ℕ) (last : Option Recorded) (writes : WriteMap) (v : Versions) → AreOpen places i (entries writes) → Within places v → Within places (moved i n last writes v)
+  pub moved_within : (i n : ℕ) (last : Option Recorded) (writes : WriteMap) (v : Versions) → AreOpen places i (entries writes) → Within places v → Within places (recorded_versions i n last writes v)
   moved_within i n last writes v open_ within =
       withdrawn_within i (left_over last writes) (published i n (entries writes) v) (published_within i n (entries writes) v open_ within)
 

@@ -5,7 +5,7 @@ use Rattle.std.proofs.lemmas.Bool.{and_parts}
 use Rattle.std.proofs.lemmas.List.{get_or-set_same, set-set, length-map}
 use Rattle.read_set.specs.declared.Read.{Read}
 use Rattle.rv_ledger.specs.declared.receipt.Receipt.{Receipt}
-use Rattle.rv_step.specs.declared.answer.Answer.{Answer}
+use Rattle.rv_step.specs.declared.answer.StorageAnswer.{StorageAnswer}
 use Rattle.mvmap.specs.Versions.{Versions}
 use Rattle.stm_state.specs.declared.state.Status.TheVariants.{Executed, Aborting}
 use Rattle.stm_state.specs.declared.state.CallState.{CallState}
@@ -13,61 +13,61 @@ use Rattle.stm_state.specs.declared.state.Recorded.{Recorded}
 use Rattle.stm_state.specs.declared.state.Task.{Task}
 use Rattle.stm_state.specs.declared.state.Task.TheVariants.{Idle, Running, Validating}
 use Rattle.stm_state.specs.State.{State, fresh, call_at, with_call, with_task, is_executed}
-use Rattle.stm_state.specs.Steps.{Ask, Read_key, Record, counted, one_step, one_validation, decided, written_by, estimated, read_of, moved, kept, has_new_key, to_validate, woken, recorded, is_executed_at, all_stand, aborted, validated}
+use Rattle.stm_state.specs.Steps.{Ask, Read_key, Record, counted, one_step, one_validation, decided, written_by, estimated, read_of, recorded_versions, recorded_run, has_new_key, to_validate, resume_dependents, recorded, is_executed_at, all_stand, aborted, validated}
 use Rattle.stm_state.specs.Invariant.{named_by}
 use Rattle.stm_state.proofs.Tests.{equal_says, is_executed_says}
-use Rattle.scheduler.specs.declared.worker.Duty.TheVariants as duty
+use Rattle.scheduler.specs.declared.worker.TaskKind.TheVariants as task_kind
 use Rattle.scheduler.specs.Schedule.{Schedule, state_of, MayCount}
 use Rattle.scheduler.specs.Parts.{execution_finished, abort_tried, abort_finished}
-use Rattle.scheduler.specs.Workers.{IsRunning, duty_of}
+use Rattle.scheduler.specs.Workers.{IsRunning, task_kind_of}
 use Rattle.mvmap.specs.Table.{Table}
-use Rattle.stm_core.specs.Board.{IsWithin, doing_of, owes}
+use Rattle.stm_core.specs.CoreState.{IsWithin, next_step_of, is_due}
 use Rattle.stm_core.specs.Inner.{state_in}
 
 -- ---- what a worker's duty says of its task
 
-pub asks_idle : (task : Task) → owes Ask task ≡ true → task ≡ Idle
+pub asks_idle : (task : Task) → is_due Ask task ≡ true → task ≡ Idle
 asks_idle Idle h = refl
 asks_idle (Running i answers None) h = cc
 asks_idle (Running i answers (Some b)) h = cc
 asks_idle (Validating i n left) h = cc
 
-pub reads_running : (task : Task) (key : List ℕ) (i : ℕ) (blocked : Option ℕ) → owes (Read_key key) task ≡ true → duty.Running i blocked ≡ duty_of task → (answers : List Answer) × (task ≡ Running i answers None)
+pub reads_running : (task : Task) (key : List ℕ) (i : ℕ) (blocked : Option ℕ) → is_due (Read_key key) task ≡ true → task_kind.Running i blocked ≡ task_kind_of task → (answers : List StorageAnswer) × (task ≡ Running i answers None)
 reads_running Idle key i blocked h d = cc
 reads_running (Running j answers None) key i blocked h d = (answers, cc)
 reads_running (Running j answers (Some b)) key i blocked h d = cc
 reads_running (Validating j n left) key i blocked h d = cc
 
-pub records_running : (task : Task) (i : ℕ) (blocked : Option ℕ) → owes Record task ≡ true → duty.Running i blocked ≡ duty_of task → (answers : List Answer) × (task ≡ Running i answers None)
+pub records_running : (task : Task) (i : ℕ) (blocked : Option ℕ) → is_due Record task ≡ true → task_kind.Running i blocked ≡ task_kind_of task → (answers : List StorageAnswer) × (task ≡ Running i answers None)
 records_running Idle i blocked h d = cc
 records_running (Running j answers None) i blocked h d = (answers, cc)
 records_running (Running j answers (Some b)) i blocked h d = cc
 records_running (Validating j n left) i blocked h d = cc
 
-pub parks_running : (task : Task) (i b : ℕ) → duty.Running i (Some b) ≡ duty_of task → (answers : List Answer) × (task ≡ Running i answers (Some b))
+pub parks_running : (task : Task) (i b : ℕ) → task_kind.Running i (Some b) ≡ task_kind_of task → (answers : List StorageAnswer) × (task ≡ Running i answers (Some b))
 parks_running Idle i b d = cc
 parks_running (Running j answers blocked) i b d = (answers, cc)
 parks_running (Validating j n left) i b d = cc
 
-pub validates_at : (task : Task) (i n left : ℕ) → duty.Validating i n left ≡ duty_of task → task ≡ Validating i n left
+pub validates_at : (task : Task) (i n left : ℕ) → task_kind.Validating i n left ≡ task_kind_of task → task ≡ Validating i n left
 validates_at Idle i n left d = cc
 validates_at (Running j answers blocked) i n left d = cc
 validates_at (Validating j m k) i n left d = cc
 
 -- a task names a call as its duty does
-pub names_running : (task : Task) (i : ℕ) (blocked : Option ℕ) → duty.Running i blocked ≡ duty_of task → named_by task ≡ Some i
+pub names_running : (task : Task) (i : ℕ) (blocked : Option ℕ) → task_kind.Running i blocked ≡ task_kind_of task → named_by task ≡ Some i
 names_running Idle i blocked d = cc
 names_running (Running j answers b) i blocked d = cc
 names_running (Validating j n left) i blocked d = cc
 
 -- a task runs a call where its duty does
-pub runs_one : (task : Task) (i : ℕ) (blocked : Option ℕ) → duty.Running i blocked ≡ duty_of task → IsRunning task
+pub runs_one : (task : Task) (i : ℕ) (blocked : Option ℕ) → task_kind.Running i blocked ≡ task_kind_of task → IsRunning task
 runs_one Idle i blocked d = cc
 runs_one (Running j answers b) i blocked d = tt
 runs_one (Validating j n left) i blocked d = cc
 
 -- what a worker is about is within the calls where its task is
-pub within_doing : (count : ℕ) (s : State) (task : Task) → ((i : ℕ) → named_by task ≡ Some i → i < count) → IsWithin count (doing_of s task)
+pub within_doing : (count : ℕ) (s : State) (task : Task) → ((i : ℕ) → named_by task ≡ Some i → i < count) → IsWithin count (next_step_of s task)
 within_doing count s Idle h = tt
 within_doing count s (Running i answers None) h = h i refl
 within_doing count s (Running i answers (Some b)) h = h i refl
@@ -76,15 +76,15 @@ within_doing count s (Validating i n left) h = h i refl
 -- ---- record
 
 -- the run that is kept, over the versions that are moved
-pub recorded_is : (w i : ℕ) (answers : List Answer) (receipt : Receipt) (s : State) (versions : Versions) (placed : ℕ) (reads : List Read)
-    → versions ≡ moved i (call_at s i).incarnation (call_at s i).last receipt.writes s.versions → placed ≡ s.placed + len receipt.writes → reads ≡ map read_of answers
+pub recorded_is : (w i : ℕ) (answers : List StorageAnswer) (receipt : Receipt) (s : State) (versions : Versions) (placed : ℕ) (reads : List Read)
+    → versions ≡ recorded_versions i (call_at s i).incarnation (call_at s i).last receipt.writes s.versions → placed ≡ s.placed + len receipt.writes → reads ≡ map read_of answers
     → execution_finished w i (record { receipt = receipt; reads = reads }) (record s { versions = versions; placed = placed }) ≡ recorded w i answers receipt s
 recorded_is w i answers receipt s versions placed reads v p r =
     ap (λ x. execution_finished w i (record { receipt = receipt; reads = x }) (record s { versions = versions; placed = placed })) r
-    ∙ ap (λ x. execution_finished w i (kept answers receipt) (record s { versions = x; placed = placed })) v
-    ∙ ap (λ x. execution_finished w i (kept answers receipt) (record s { versions = moved i (call_at s i).incarnation (call_at s i).last receipt.writes s.versions; placed = x })) p
+    ∙ ap (λ x. execution_finished w i (recorded_run answers receipt) (record s { versions = x; placed = placed })) v
+    ∙ ap (λ x. execution_finished w i (recorded_run answers receipt) (record s { versions = recorded_versions i (call_at s i).incarnation (call_at s i).last receipt.writes s.versions; placed = x })) p
     ∙ ap (λ x. to_validate w i (has_new_key (call_at s i).last receipt.writes) (Validating i (call_at s i).incarnation x)
-    (woken i (with_call i (record (call_at s i) { status = Executed; last = Some (kept answers receipt) }) (record s { versions = moved i (call_at s i).incarnation (call_at s i).last receipt.writes s.versions; placed = s.placed + len receipt.writes }))))
+    (resume_dependents i (with_call i (record (call_at s i) { status = Executed; last = Some (recorded_run answers receipt) }) (record s { versions = recorded_versions i (call_at s i).incarnation (call_at s i).last receipt.writes s.versions; placed = s.placed + len receipt.writes }))))
     (length-map answers read_of)
 
 -- ---- validate
@@ -141,9 +141,9 @@ pub abort_is : (w i n : ℕ) (table turned : Table) (old new after : Schedule) (
     → ((v : Versions) (p : ℕ) → state_of v p after ≡ counted one_validation w (abort_finished w i (state_of v p new))) → state_in turned after ≡ counted one_validation w (aborted w i (state_in table old))
 abort_is w i n table turned old new after last i_in at tried same turns finished =
     let versions : turned.versions ≡ estimated i (written_by (get_or old.calls i fresh).last) table.versions = ap (λ (t : Table). t.versions) turns ∙ ap (λ l. estimated i (written_by l) table.versions) same in
-    let placed : length turned.shelf.records ≡ length table.shelf.records = ap (λ (t : Table). length t.shelf.records) turns in
-    finished turned.versions (length turned.shelf.records)
-    ∙ ap (λ s. counted one_validation w (abort_finished w i s)) (taken_is i n old new tried at turned.versions (length turned.shelf.records))
+    let placed : length turned.arena.records ≡ length table.arena.records = ap (λ (t : Table). length t.arena.records) turns in
+    finished turned.versions (length turned.arena.records)
+    ∙ ap (λ s. counted one_validation w (abort_finished w i s)) (taken_is i n old new tried at turned.versions (length turned.arena.records))
     ∙ ap (λ p. counted one_validation w (abort_finished w i (with_call i (taken (get_or old.calls i fresh)) (state_of turned.versions p old)))) placed
     ∙ ap (counted one_validation w) (aborted_is w i (state_in table old) turned.versions i_in versions)
 

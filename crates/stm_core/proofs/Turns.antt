@@ -5,11 +5,11 @@ use Rattle.std.proofs.lemmas.List.{set-get_or, get_or-set_same, get_or-set_other
 use Rattle.rv_ledger.specs.declared.receipt.Receipt.{Receipt}
 use Rattle.rv_ledger.specs.declared.outcome.Counts.{Counts}
 use Rattle.rv_step.specs.Replies.{replies_of}
-use Rattle.rv_step.specs.declared.answer.Answer.{Answer}
+use Rattle.rv_step.specs.declared.answer.StorageAnswer.{StorageAnswer}
 use Rattle.stm_state.specs.declared.state.Task.{Task}
 use Rattle.stm_state.specs.declared.state.Task.TheVariants.{Idle, Running, Validating}
 use Rattle.stm_state.specs.State.{State, call_at, task_at, with_task, no_counts, is_ready, is_executed, is_done}
-use Rattle.stm_state.specs.Steps.{Block, Step, Ask, Read_key, Park, Record, Validate, ArenaFull, IncarnationLimit, counted, one_step, one_asking, one_execution, one_validation, decided, asked, ask_validation, ask_execution, told_done, parked, recorded, to_validate, woken, validated, aborted, is_executed_at, all_stand, record_within, step_with, worker_step}
+use Rattle.stm_state.specs.Steps.{Block, Step, Ask, Read_key, Park, Record, Validate, ArenaFull, IncarnationLimit, counted, one_step, one_asking, one_execution, one_validation, decided, asked, ask_validation, ask_execution, count_done, parked, recorded, to_validate, resume_dependents, validated, aborted, is_executed_at, all_stand, record_within, step_with, worker_step}
 use Rattle.stm_state.proofs.Whole.{same_state, none_ok, err_ok}
 use Rattle.stm_core.specs.Driving.{HasNoAnswers}
 
@@ -77,7 +77,7 @@ module _ (w : ℕ) (s : State) where
 
   -- what an asking comes to by its tests
   asked_by_tests : (done late more : Bool) → task_at s w ≡ Idle
-      → TaskTurn w HasNoAnswers s (cond done (told_done w s) (cond late (ask_validation w s) (cond more (ask_execution w s) s)))
+      → TaskTurn w HasNoAnswers s (cond done (count_done w s) (cond late (ask_validation w s) (cond more (ask_execution w s) s)))
   asked_by_tests true late more at = same _ at refl refl
   asked_by_tests false true more at = validation_asked at
   asked_by_tests false false true at = execution_asked at
@@ -99,12 +99,12 @@ module _ (w : ℕ) (s : State) where
   -- ---- record
 
   -- all that are parked on it are woken, and no task changes
-  woken_tasks : (i : ℕ) (t : State) → (woken i t).tasks ≡ t.tasks
-  unfolding woken
+  woken_tasks : (i : ℕ) (t : State) → (resume_dependents i t).tasks ≡ t.tasks
+  unfolding resume_dependents
   woken_tasks i t = refl
 
-  woken_counts : (i : ℕ) (t : State) → (woken i t).counts ≡ t.counts
-  unfolding woken
+  woken_counts : (i : ℕ) (t : State) → (resume_dependents i t).counts ≡ t.counts
+  unfolding resume_dependents
   woken_counts i t = refl
 
   -- what a record leaves to validate
@@ -117,7 +117,7 @@ module _ (w : ℕ) (s : State) where
       go true false = given HasNoAnswers (Validating i n left) _ tt (ap (λ l. set l w (Validating i n left)) e) c
       go false fresh = given HasNoAnswers Idle _ tt (ap (λ l. set l w Idle) e) c
 
-  has_recorded : (i : ℕ) (answers : List Answer) (receipt : Receipt) → TaskTurn w HasNoAnswers s (recorded w i answers receipt s)
+  has_recorded : (i : ℕ) (answers : List StorageAnswer) (receipt : Receipt) → TaskTurn w HasNoAnswers s (recorded w i answers receipt s)
   has_recorded i answers receipt = left_to_validate i _ _ _ _ (woken_tasks i _) (woken_counts i _)
 
   -- ---- validate
@@ -142,7 +142,7 @@ module _ (w : ℕ) (s : State) where
 
 module _ (block : Block) (w : ℕ) (s t : State) where
   -- a record within the limits
-  recorded_within : (i : ℕ) (answers : List Answer) (o : Option Receipt) → record_within i answers w o s ≡ Some (Ok t) → Turn w HasNoAnswers s t
+  recorded_within : (i : ℕ) (answers : List StorageAnswer) (o : Option Receipt) → record_within i answers w o s ≡ Some (Ok t) → Turn w HasNoAnswers s t
   recorded_within i answers None k = absurd (none_ok t k)
   recorded_within i answers (Some receipt) k = go (nat_lt 1048576 (s.placed + len receipt.writes)) (nat_le 65535 (call_at s i).incarnation) k
     where
@@ -167,7 +167,7 @@ module _ (block : Block) (w : ℕ) (s t : State) where
   step_turn (Running i answers None) at (Read_key key) k =
       subst (λ x. Turn w (Leaves (Read_key key)) s x) (same_state _ t k) (counts_one w s (Leaves (Read_key key)) one_step _ (λ c. refl) (given w s (Leaves (Read_key key)) _ _ tt refl refl))
   step_turn (Running i answers (Some b)) at Park k = parked_within i b (nat_le 65535 (call_at s i).incarnation) k
-  step_turn (Running i answers None) at Record k = recorded_within i answers (block.borne i (replies_of answers)) k
+  step_turn (Running i answers None) at Record k = recorded_within i answers (block.borne_out i (replies_of answers)) k
   step_turn (Validating i n left) at Validate k = subst (λ x. Turn w HasNoAnswers s x) (same_state _ t k) (validated_once i n (decided i n left s))
   step_turn task at step k = absurd (none_ok t k)
 

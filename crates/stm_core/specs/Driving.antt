@@ -1,7 +1,7 @@
 -- What the engine's answers say of the list of worker numbers that it was given.
 use Rattle.std.specs.Prelude.{◌≡◌, List, [], Option, None, Some, Result, Err, slice_get}
 use Rattle.rv_ledger.specs.Call.{Invocation}
-use Rattle.rv_step.specs.Run.{Seen}
+use Rattle.rv_step.specs.Run.{RunView}
 use Rattle.stm_state.specs.declared.state.Task.{Task}
 use Rattle.stm_state.specs.declared.state.Task.TheVariants.{Idle, Running, Validating}
 use Rattle.stm_state.specs.State.{State}
@@ -34,13 +34,13 @@ HasNoAnswers (Running i answers (Some b)) = Unit {0}
 HasNoAnswers (Validating i n left) = Unit {0}
 
 -- a run under way is of the call that a task runs, and was given just that task's answers
-abbrev pub IsRunOf : List Invocation → Seen → Task → Type 0
+abbrev pub IsRunOf : List Invocation → RunView → Task → Type 0
 IsRunOf calls run Idle = ⊥
-IsRunOf calls run (Running i answers None) = (slice_get calls i ≡ Some run.call) × (run.told ≡ answers)
+IsRunOf calls run (Running i answers None) = (slice_get calls i ≡ Some run.call) × (run.answers ≡ answers)
 IsRunOf calls run (Running i answers (Some b)) = ⊥
 IsRunOf calls run (Validating i n left) = ⊥
 
 -- a worker's run under way is that of its task; where there is none the task has no answers
-abbrev pub FitsTask : List Invocation → Option Seen → Task → Type 0
+abbrev pub FitsTask : List Invocation → Option RunView → Task → Type 0
 FitsTask calls None task = HasNoAnswers task
 FitsTask calls (Some run) task = IsRunOf calls run task

@@ -1,3 +1,4 @@
-pub mod Board
+pub mod CoreState
 pub mod Inner
 pub mod Driving
+pub mod Faults

@@ -6,18 +6,20 @@ ghost use Rattle.rv_step.specs.Run.{IsEnded};
 ghost use Rattle.rv_step.specs.declared.stage.Stage.TheVariants.{Asked};
 ghost use Rattle.stm_state.specs.State.{State, no_counts, start, task_at};
 ghost use Rattle.stm_state.specs.Steps.{IncarnationLimit, Park, Read_key, Record, worker_step};
-ghost use Rattle.stm_state.specs.Drive.{drive_of, driven, due};
+ghost use Rattle.stm_state.specs.Drive.{drive_of, driven, due_result};
 ghost use Rattle.stm_state.specs.declared.state.Task.TheVariants.{Running};
-ghost use Rattle.stm_core.specs.Board.{IsDue, IsRefused, Makes, answers_of, block_in};
+ghost use Rattle.stm_core.specs.CoreState.{IsDue, IsRefused, Makes, answers_of, block_in};
 ghost use Rattle.stm_core.specs.Driving.{FitsTask, IsRefusal, IsStepRefusal};
 ghost use Rattle.stm_core.specs.declared.engine.DriveFault.TheVariants.{Memory};
 
-use crate::doing::{Doing, Told};
 use crate::fault::RecordFault;
+use crate::next_step::{NextStep, ReadResult};
 use crate::state::Core;
 use rv_ledger::{Job, Key, Outcome};
 use rv_step::{Pause, Run};
+use scheduler::COUNT_LIMIT;
 use std::alloc::{AllocError, AllocFailed, Global};
+use std::fmt;
 use thiserror::Error;
 
 /// The greatest number of workers.
@@ -27,20 +29,33 @@ pub const WORKER_LIMIT: usize = 32;
 #[derive(Clone, Copy, Debug, PartialEq, Eq, Error)]
 pub enum DriveFault {
     /// The list is used up, and workers are not done.
-    #[error("NotDone 1")]
     NotDone = 1,
     /// An entry is no worker, or the number of workers is not 1 to 32.
-    #[error("BadWorker 2")]
     BadWorker = 2,
     /// There would be above 1,048,576 records of versions.
-    #[error("ArenaFull 3")]
     ArenaFull = 3,
     /// A run at incarnation 65,535 was to be parked or recorded.
-    #[error("IncarnationLimit 4")]
     IncarnationLimit = 4,
     /// Memory ran out.
-    #[error("Memory 5")]
     Memory = 5,
+}
+
+impl fmt::Display for DriveFault {
+    ghost use Rattle.std.specs.Prelude.{Some};
+    ghost use Rattle.stm_core.specs.Faults.{fault_text};
+
+    ghost output = { λ fault. Some (fault_text fault) };
+
+    /// The name and the number.
+    fn fmt<W: fmt::Write>(&self, f: &mut fmt::Formatter<W>) -> fmt::Result {
+        match self {
+            DriveFault::NotDone => f.write_str("NotDone 1"),
+            DriveFault::BadWorker => f.write_str("BadWorker 2"),
+            DriveFault::ArenaFull => f.write_str("ArenaFull 3"),
+            DriveFault::IncarnationLimit => f.write_str("IncarnationLimit 4"),
+            DriveFault::Memory => f.write_str("Memory 5"),
+        }
+    }
 }
 
 impl From<AllocError> for DriveFault {
@@ -133,18 +148,20 @@ fn step(
     run: &mut Option<Run>,
 ) -> Result<(), DriveFault>
     requires worker { worker < length core.old.state.tasks }
-    requires steps { (get_or core.old.state.counts worker no_counts).steps < 18446744073709551615 }
+    requires steps { (get_or core.old.state.counts worker no_counts).steps < COUNT_LIMIT }
     requires fits { FitsTask core.old.job.block run.old (task_at core.old.state worker) }
     ensures job { OnOk result (core.new.job ≡ core.old.job) }
-    ensures due { OnOk result (due core.old.job.block core.old.job.store worker core.old.state ≡ Some (Ok core.new.state)) }
+    ensures due { OnOk result (due_result core.old.job.block core.old.job.store worker core.old.state ≡ Some (Ok core.new.state)) }
     ensures fits { OnOk result (FitsTask core.old.job.block run.new (task_at core.new.state worker)) }
-    ensures refused { IfErr result (λ e. IsStepRefusal e (due core.old.job.block core.old.job.store worker core.old.state)) }
+    ensures refused { IfErr result (λ e. IsStepRefusal e (due_result core.old.job.block core.old.job.store worker core.old.state)) }
 {
     match core.doing(worker) {
-        Doing::Ask => core.ask(worker),
-        Doing::Run { call, .. } => *run = run_on(alloc, core, worker, call, run.take())?,
-        Doing::Park { .. } => park(core, worker)?,
-        Doing::Validate { .. } => core.validate(worker),
+        NextStep::Ask => {
+            let _ = core.ask(worker);
+        }
+        NextStep::Run { call, .. } => *run = run_on(alloc, core, worker, call, run.take())?,
+        NextStep::Park { .. } => park(core, worker)?,
+        NextStep::Validate { .. } => core.validate(worker),
     }
     Ok(())
 }
@@ -172,13 +189,13 @@ fn run_on(
 ) -> Result<Option<Run>, DriveFault>
     requires worker { worker < length core.old.state.tasks }
     requires within { call < length core.old.job.block }
-    requires steps { (get_or core.old.state.counts worker no_counts).steps < 18446744073709551615 }
+    requires steps { (get_or core.old.state.counts worker no_counts).steps < COUNT_LIMIT }
     requires running { task_at core.old.state worker ≡ Running call (answers_of (task_at core.old.state worker)) None }
     requires fits { FitsTask core.old.job.block run (task_at core.old.state worker) }
     ensures job { OnOk result (core.new.job ≡ core.old.job) }
-    ensures due { OnOk result (due core.old.job.block core.old.job.store worker core.old.state ≡ Some (Ok core.new.state)) }
+    ensures due { OnOk result (due_result core.old.job.block core.old.job.store worker core.old.state ≡ Some (Ok core.new.state)) }
     ensures fits { IfOk result (λ next. FitsTask core.old.job.block next (task_at core.new.state worker)) }
-    ensures refused { IfErr result (λ e. IsStepRefusal e (due core.old.job.block core.old.job.store worker core.old.state)) }
+    ensures refused { IfErr result (λ e. IsStepRefusal e (due_result core.old.job.block core.old.job.store worker core.old.state)) }
 {
     let mut run = match run {
         Some(run) => run,
@@ -205,11 +222,11 @@ fn read(core: &mut Core, worker: usize, mut run: Run, key: &Key) -> Result<Optio
 {
     core.room_for_read(worker)?;
     match core.read(worker, key) {
-        Told::Given(value, origin) => {
+        ReadResult::Given(value, origin) => {
             run.answer(value.as_ref(), origin)?;
             Ok(Some(run))
         }
-        Told::Blocked => Ok(None),
+        ReadResult::Blocked => Ok(None),
     }
 }
 

@@ -2,9 +2,9 @@
 //! that makes them along a list of worker numbers.
 #![tactic(auto)]
 
-pub mod doing;
 pub mod engine;
 pub mod fault;
+pub mod next_step;
 mod outcome;
 mod reading;
 mod reads;
@@ -14,7 +14,7 @@ pub mod state;
 mod validating;
 mod versions;
 
-pub use doing::{Doing, Told};
 pub use engine::{DriveFault, WORKER_LIMIT, drive};
 pub use fault::{IncarnationLimit, RecordFault, Refused};
+pub use next_step::{AskResult, NextStep, ReadResult};
 pub use state::Core;

@@ -4,7 +4,7 @@ ghost use Rattle.std.specs.Prelude.{◌≡◌, ◌≤◌, ℕ, List, None, lengt
 ghost use Rattle.std.specs.List.{filter_map};
 ghost use Rattle.std.specs.FinMap.{get};
 ghost use Rattle.mvmap.specs.Versions.{HasNoEstimate, entry_at};
-ghost use Rattle.mvmap.specs.Reading.{held, reading};
+ghost use Rattle.mvmap.specs.Reading.{value_seen, reading};
 ghost use Rattle.stm_state.specs.Done.{last_receipt};
 
 use mvmap::MvMap;
@@ -24,7 +24,7 @@ pub(crate) fn outcome_of(
     requires counts { length scheduler.now.counts ≡ length scheduler.now.tasks }
     ensures job { IfOk result (λ o. o.job ≡ job.now) }
     ensures receipts { IfOk result (λ o. o.receipts.items ≡ filter_map last_receipt scheduler.now.calls) }
-    ensures store { IfOk result (λ o. (key : List ℕ) (i : ℕ) → ((w : ℕ) → i ≤ w → entry_at map.now.versions key w ≡ None) → get o.store key ≡ held (get job.now.store key) (reading map.now.versions key i)) }
+    ensures store { IfOk result (λ o. (key : List ℕ) (i : ℕ) → ((w : ℕ) → i ≤ w → entry_at map.now.versions key w ≡ None) → get o.store key ≡ value_seen (get job.now.store key) (reading map.now.versions key i)) }
     ensures counts { IfOk result (λ o. o.counts.items ≡ scheduler.now.counts) }
 {
     let mut store = job.store.copy()?;

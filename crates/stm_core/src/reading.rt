@@ -2,7 +2,7 @@
 
 ghost use Rattle.std.specs.Prelude.{◌≡◌, ◌<◌, ◌≤◌, ℕ, List, length, get_or, IfSome, None, Some};
 ghost use Rattle.std.specs.Option.{option_copied};
-ghost use Rattle.rv_step.specs.declared.answer.Answer.{Answer};
+ghost use Rattle.rv_step.specs.declared.answer.StorageAnswer.{StorageAnswer};
 ghost use Rattle.mvmap.specs.Versions.{Versions};
 ghost use Rattle.mvmap.specs.Reading.{reading};
 ghost use Rattle.stm_state.specs.declared.state.Task.TheVariants as task;
@@ -11,44 +11,44 @@ ghost use Rattle.stm_state.specs.Steps.{answered_with, counted, one_step};
 ghost use Rattle.stm_state.specs.Invariant.{named_by};
 ghost use Rattle.scheduler.specs.Schedule.{KeepsRooms, MayCount, state_of};
 ghost use Rattle.scheduler.specs.Workers.{answered};
-ghost use Rattle.stm_core.specs.declared.doing.Told.TheVariants as told;
-ghost use Rattle.stm_core.specs.Board.{doing_of, told_of};
+ghost use Rattle.stm_core.specs.declared.next_step.ReadResult.TheVariants as read_result;
+ghost use Rattle.stm_core.specs.CoreState.{next_step_of, read_result_of};
 
-use crate::doing::{Doing, Told};
+use crate::next_step::{NextStep, ReadResult};
 use mvmap::MvMap;
 use read_set::Origin;
-use rv_ledger::short_bytes::VALUE_LIMIT;
+use rv_ledger::inline_bytes::VALUE_LIMIT;
 use rv_ledger::{Key, Store, Value};
-use rv_step::Answer;
-use scheduler::{Duty, Scheduler};
+use rv_step::StorageAnswer;
+use scheduler::{Scheduler, TaskKind};
 
 /// The step that a worker owes.
-pub(crate) fn doing_of(scheduler: &Scheduler, worker: usize) -> Doing
+pub(crate) fn next_step_of(scheduler: &Scheduler, worker: usize) -> NextStep
     requires worker { worker < length scheduler.now.tasks }
     requires named { (i : ℕ) → named_by (get_or scheduler.now.tasks worker task.Idle) ≡ Some i → i < length scheduler.now.calls }
-    ensures { (v : Versions) (p : ℕ) → result ≡ doing_of (state_of v p scheduler.now) (get_or scheduler.now.tasks worker task.Idle) }
+    ensures { (v : Versions) (p : ℕ) → result ≡ next_step_of (state_of v p scheduler.now) (get_or scheduler.now.tasks worker task.Idle) }
 {
-    match scheduler.duty(worker) {
-        Duty::Idle => Doing::Ask,
-        Duty::Running {
+    match scheduler.task_kind(worker) {
+        TaskKind::Idle => NextStep::Ask,
+        TaskKind::Running {
             call,
             blocked: None,
-        } => Doing::Run {
+        } => NextStep::Run {
             call,
             incarnation: scheduler.call(call).incarnation,
         },
-        Duty::Running {
+        TaskKind::Running {
             call,
             blocked: Some(_),
-        } => Doing::Park {
+        } => NextStep::Park {
             call,
             incarnation: scheduler.call(call).incarnation,
         },
-        Duty::Validating {
+        TaskKind::Validating {
             call,
             incarnation,
             ..
-        } => Doing::Validate { call, incarnation },
+        } => NextStep::Validate { call, incarnation },
     }
 }
 
@@ -61,11 +61,11 @@ pub(crate) fn read_at(
     worker: usize,
     call: u16,
     key: &Key,
-) -> Told
+) -> ReadResult
     requires counts { MayCount worker scheduler.old }
     requires room { 1 ≤ get_or scheduler.old.rooms worker 0 }
-    ensures told { result ≡ told_of store.now key.now (reading map.now.versions key.now call) }
-    ensures state { (answers : List Answer) → get_or scheduler.old.tasks worker task.Idle ≡ task.Running call answers None → (v : Versions) (p : ℕ) →
+    ensures answers { result ≡ read_result_of store.now key.now (reading map.now.versions key.now call) }
+    ensures state { (answers : List StorageAnswer) → get_or scheduler.old.tasks worker task.Idle ≡ task.Running call answers None → (v : Versions) (p : ℕ) →
         state_of v p scheduler.new ≡ counted one_step worker (with_task worker (answered_with store.now key.now call answers (reading map.now.versions key.now call)) (state_of v p scheduler.old)) }
     ensures rooms { KeepsRooms worker scheduler.old.rooms scheduler.new.rooms }
 {
@@ -89,7 +89,7 @@ pub(crate) fn read_at(
         ),
         mvmap::Answer::Estimate(writer) => {
             scheduler.block(worker, writer);
-            Told::Blocked
+            ReadResult::Blocked
         }
     }
 }
@@ -101,20 +101,20 @@ fn give(
     key: &Key,
     value: Option<Value>,
     origin: Origin,
-) -> Told
+) -> ReadResult
     requires counts { MayCount worker scheduler.old }
     requires room { 1 ≤ get_or scheduler.old.rooms worker 0 }
-    ensures told { result ≡ told.Given value origin }
+    ensures answers { result ≡ read_result.Given value origin }
     ensures state { (v : Versions) (p : ℕ) → state_of v p scheduler.new ≡ counted one_step worker (with_task worker (answered (record { key = key.now; value = value; origin = origin }) (get_or scheduler.old.tasks worker task.Idle)) (state_of v p scheduler.old)) }
     ensures rooms { KeepsRooms worker scheduler.old.rooms scheduler.new.rooms }
 {
-    let answer = Answer {
+    let answer = StorageAnswer {
         key: *key,
         value: Value::copied(value.as_ref()),
         origin,
     };
     scheduler.answer(worker, answer);
-    Told::Given(value, origin)
+    ReadResult::Given(value, origin)
 }
 
 /// The value of bytes that a version has.

@@ -7,13 +7,13 @@ ghost use Rattle.stm_state.specs.Steps.{read_of, reads_of};
 
 use mvmap::MvMap;
 use read_set::{Read, ReadSet};
-use rv_step::Answer;
+use rv_step::StorageAnswer;
 use std::alloc::{AllocError, Global};
 use stm_state::Recorded;
 use validate::still_read;
 
 /// The reads of a run that was given these answers; refused where memory ran out.
-pub(crate) fn reads_of(alloc: Global, answers: &[Answer]) -> Result<ReadSet, AllocError>
+pub(crate) fn reads_of(alloc: Global, answers: &[StorageAnswer]) -> Result<ReadSet, AllocError>
     ensures { IfOk result (λ reads. reads ≡ map read_of answers.now) }
 {
     let mut reads = ReadSet::new(alloc);

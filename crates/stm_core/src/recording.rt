@@ -3,7 +3,7 @@
 ghost use Rattle.std.specs.Prelude.{◌≡◌, ◌≢◌, ◌<◌, ◌≤◌, ◌+◌, ◌↔◌, ℕ, List, length, get_or, true, Some, None, IfOk, IfErr, OnOk, IsTrue};
 ghost use Rattle.std.specs.FinMap.{entries, len};
 ghost use Rattle.std.specs.FinSet as set;
-ghost use Rattle.rv_step.specs.declared.answer.Answer.{Answer};
+ghost use Rattle.rv_step.specs.declared.answer.StorageAnswer.{StorageAnswer};
 ghost use Rattle.mvmap.specs.Versions.{Place};
 ghost use Rattle.stm_state.specs.declared.state.Status.TheVariants as status;
 ghost use Rattle.stm_state.specs.declared.state.Task.TheVariants as task;
@@ -16,13 +16,13 @@ ghost use Rattle.stm_core.specs.Inner.{AreOpen, HasPlaces, IsHanded, reads_in, s
 
 use crate::fault::{RecordFault, Refused};
 use crate::reads::reads_of;
-use crate::same::{same_answers, same_call};
+use crate::same::same_answers;
 use crate::versions::{move_all, written_bytes, written_count, written_keys};
 use mvmap::MvMap;
 use read_set::ReadSet;
-use rv_ledger::Job;
+use rv_ledger::{Job, same_call};
 use rv_step::EndedRun;
-use scheduler::Scheduler;
+use scheduler::{INCARNATION_LIMIT, LAST_INCARNATION, Scheduler};
 use std::alloc::Global;
 use stm_state::Recorded;
 use version_arena::{RECORD_LIMIT, ReserveFault};
@@ -38,7 +38,7 @@ pub(crate) fn is_own(
 ) -> bool
     requires worker { worker < length scheduler.now.tasks }
     requires running { IsRunning (get_or scheduler.now.tasks worker task.Idle) }
-    ensures { (answers : List Answer) → get_or scheduler.now.tasks worker task.Idle ≡ task.Running call answers None → (result ≡ true) ↔ IsHanded job.now.block call answers run.now }
+    ensures { (answers : List StorageAnswer) → get_or scheduler.now.tasks worker task.Idle ≡ task.Running call answers None → (result ≡ true) ↔ IsHanded job.now.block call answers run.now }
 {
     match job.block.calls().get(usize::from(call)) {
         Some(own) => {
@@ -61,12 +61,12 @@ pub(crate) fn record_run(
 ) -> Result<(), Refused>
     requires counts { MayCount worker scheduler.old }
     requires within { call < length scheduler.old.calls }
-    requires incarnations { (i : ℕ) → (get_or scheduler.old.calls i fresh).status ≡ status.Aborting → (get_or scheduler.old.calls i fresh).incarnation ≤ 65534 }
+    requires incarnations { (i : ℕ) → (get_or scheduler.old.calls i fresh).status ≡ status.Aborting → (get_or scheduler.old.calls i fresh).incarnation ≤ LAST_INCARNATION }
     ensures state { OnOk result (state_in map.new scheduler.new ≡ counted one_execution worker (recorded worker call run.answers.items run.receipt (state_in map.old scheduler.old))) }
-    ensures within { OnOk result ((length map.old.shelf.records + len run.receipt.writes ≤ 1048576) × ((get_or scheduler.old.calls call fresh).incarnation < 65535)) }
-    ensures full { IfErr result (λ e. e.fault ≡ fault.ArenaFull → 1048576 < length map.old.shelf.records + len run.receipt.writes) }
-    ensures limit { IfErr result (λ e. e.fault ≡ fault.IncarnationLimit → (length map.old.shelf.records + len run.receipt.writes ≤ 1048576) × (65535 ≤ (get_or scheduler.old.calls call fresh).incarnation)) }
-    ensures memory { IfErr result (λ e. e.fault ≡ fault.Memory → (length map.old.shelf.records + len run.receipt.writes ≤ 1048576) × ((get_or scheduler.old.calls call fresh).incarnation < 65535)) }
+    ensures within { OnOk result ((length map.old.arena.records + len run.receipt.writes ≤ RECORD_LIMIT) × ((get_or scheduler.old.calls call fresh).incarnation < INCARNATION_LIMIT)) }
+    ensures full { IfErr result (λ e. e.fault ≡ fault.ArenaFull → RECORD_LIMIT < length map.old.arena.records + len run.receipt.writes) }
+    ensures limit { IfErr result (λ e. e.fault ≡ fault.IncarnationLimit → (length map.old.arena.records + len run.receipt.writes ≤ RECORD_LIMIT) × (INCARNATION_LIMIT ≤ (get_or scheduler.old.calls call fresh).incarnation)) }
+    ensures memory { IfErr result (λ e. e.fault ≡ fault.Memory → (length map.old.arena.records + len run.receipt.writes ≤ RECORD_LIMIT) × ((get_or scheduler.old.calls call fresh).incarnation < INCARNATION_LIMIT)) }
     ensures own { IfErr result (λ e. e.fault ≢ fault.Foreign) }
     ensures back { IfErr result (λ e. (e.run ≡ run) × (state_in map.new scheduler.new ≡ state_in map.old scheduler.old) × (scheduler.new ≡ scheduler.old)) }
     ensures places { HasPlaces map.old → HasPlaces map.new }
@@ -114,13 +114,13 @@ fn make_room(
     call: u16,
     run: &EndedRun,
 ) -> Result<ReadSet, ReserveFault>
-    requires { length map.old.shelf.records + length (entries run.now.receipt.writes) ≤ 1048576 }
+    requires { length map.old.arena.records + length (entries run.now.receipt.writes) ≤ RECORD_LIMIT }
     ensures reads { IfOk result (λ reads. reads ≡ reads_in run.now.answers.items) }
     ensures open_ { OnOk result (AreOpen map.new.places call (entries run.now.receipt.writes)) }
-    ensures room { OnOk result (length (entries run.now.receipt.writes) ≤ map.new.shelf.room) }
-    ensures bytes { OnOk result (size_of (entries run.now.receipt.writes) ≤ map.new.shelf.bytes) }
+    ensures room { OnOk result (length (entries run.now.receipt.writes) ≤ map.new.arena.room) }
+    ensures bytes { OnOk result (size_of (entries run.now.receipt.writes) ≤ map.new.arena.bytes) }
     ensures versions { map.new.versions ≡ map.old.versions }
-    ensures records { map.new.shelf.records ≡ map.old.shelf.records }
+    ensures records { map.new.arena.records ≡ map.old.arena.records }
     ensures places { (place : Place) → IsTrue (set.contains map.old.places place) → IsTrue (set.contains map.new.places place) }
 {
     let reads = reads_of(alloc, run.answers.as_slice())?;

@@ -1,15 +1,20 @@
 //! The state of a job's run, and its steps.
 
-use crate::doing::{Doing, Told};
+ghost use Rattle.std.specs.Prelude.{◌≡◌};
+ghost use Rattle.stm_state.specs.declared.state.Task.{Task};
+ghost use Rattle.scheduler.specs.Workers.{IsTaskKindOf};
+ghost use Rattle.stm_core.specs.CoreState.{ask_result_of};
+
 use crate::fault::{IncarnationLimit, RecordFault, Refused};
+use crate::next_step::{AskResult, NextStep, ReadResult};
 use crate::outcome::outcome_of;
-use crate::reading::{doing_of, read_at};
+use crate::reading::{next_step_of, read_at};
 use crate::recording::{is_own, record_run};
 use crate::validating::validate_call;
 use mvmap::MvMap;
 use rv_ledger::{Counts, Job, Key, Outcome};
 use rv_step::EndedRun;
-use scheduler::{Duty, Scheduler};
+use scheduler::{Scheduler, TaskKind};
 use std::alloc::{AllocError, Global};
 use std::marker::Model;
 use version_arena::Arena;
@@ -31,20 +36,21 @@ impl Model for Core {
     ghost use Rattle.rv_ledger.specs.contracts.job.Job.{the_row as job_row};
     ghost use Rattle.stm_state.specs.contracts.state.CallState.{the_row as call_row};
     ghost use Rattle.stm_state.specs.contracts.state.Task.{the_row as task_row};
-    ghost use Rattle.stm_core.specs.Board.{Board};
-    ghost use Rattle.stm_core.specs.Inner.{IsReached, board_of};
+    ghost use Rattle.stm_core.specs.CoreState.{CoreState};
+    ghost use Rattle.stm_core.specs.Inner.{IsReached, core_state_of};
 
-    ghost Value = { Board };
+    ghost Value = { CoreState };
 
     ghost coded = { Prim.hlevel (codes, job_row.coded, call_row.coded, task_row.coded, finite.code {R = place_cmp} coded_place coded_entry) };
 
-    ghost view = { λ c. board_of c.job c.map c.scheduler };
+    ghost view = { λ c. core_state_of c.job c.map c.scheduler };
 
     ghost invariant = { λ c. IsReached c.job c.map c.scheduler };
 }
 
 impl Core {
-    ghost use Rattle.std.specs.Prelude.{◌≡◌, ◌≢◌, ◌<◌, ◌≤◌, ◌↔◌, ℕ, true, [], length, get_or, IfOk, IfErr, OnOk, OnErr};
+    ghost use Rattle.std.specs.Prelude.{◌≡◌, ◌≢◌, ◌<◌, ◌≤◌, ◌↔◌, ℕ, true, length, get_or, [], IfOk, IfErr, OnOk, OnErr, Ok};
+    ghost use Rattle.version_arena.specs.ArenaState.{emptied};
     ghost use Rattle.mvmap.specs.Reading.{reading};
     ghost use Rattle.rv_step.specs.Fold.{receipts_of, store_after};
     ghost use Rattle.stm_state.specs.State.{is_done, no_counts, start, task_at};
@@ -53,7 +59,7 @@ impl Core {
     ghost use Rattle.stm_state.specs.Invariant.{Invariant};
     ghost use Rattle.scheduler.specs.Schedule.{KeepsRooms};
     ghost use Rattle.stm_core.specs.declared.fault.RecordFault.TheVariants as fault;
-    ghost use Rattle.stm_core.specs.Board.{IsDue, IsOwn, IsRefused, IsTaken, IsWithin, Makes, block_in, doing_of, runs, told_of};
+    ghost use Rattle.stm_core.specs.CoreState.{ask_result_of, IsDue, IsOwn, IsRefused, IsTaken, IsWithin, Makes, block_in, next_step_of, runs, read_result_of};
 
     /// The state at the start of a job; refused where memory ran out.
     pub fn new(alloc: Global, job: Job, workers: usize) -> Result<Core, AllocError>
@@ -67,13 +73,13 @@ impl Core {
         }
     }
 
-    /// The same over an arena, whose records are taken away; where memory ran out the arena is handed
-    /// back without records.
+    /// The same over an arena, whose records are taken away; where memory ran out that arena is handed
+    /// back, without records.
     pub fn over(alloc: Global, arena: Arena, job: Job, workers: usize) -> Result<Core, Arena>
         requires { (1 ≤ workers) × (workers ≤ 32) }
         ensures job { IfOk result (λ c. c.job ≡ job) }
         ensures state { IfOk result (λ c. c.state ≡ start (length job.block) workers) }
-        ensures back { IfErr result (λ a. a.records ≡ []) }
+        ensures back { IfErr result (λ a. a ≡ emptied arena) }
     {
         let map = MvMap::over(alloc, arena);
         match Scheduler::new(alloc, job.block.calls().len(), workers) {
@@ -109,6 +115,13 @@ impl Core {
         self.scheduler.counts(worker)
     }
 
+    /// The number of workers.
+    pub fn workers(&self) -> usize
+        ensures { result ≡ length self.now.state.tasks }
+    {
+        self.scheduler.workers()
+    }
+
     /// How often a worker was told that all is done.
     pub fn dones(&self, worker: usize) -> u64
         requires { worker < length self.now.state.tasks }
@@ -125,15 +138,16 @@ impl Core {
     }
 
     /// The step that a worker owes.
-    pub fn doing(&self, worker: usize) -> Doing
+    pub fn doing(&self, worker: usize) -> NextStep
         requires { worker < length self.now.state.tasks }
-        ensures doing { result ≡ doing_of self.now.state (task_at self.now.state worker) }
+        ensures doing { result ≡ next_step_of self.now.state (task_at self.now.state worker) }
         ensures within { IsWithin (length self.now.job.block) result }
     {
-        doing_of(&self.scheduler, worker)
+        next_step_of(&self.scheduler, worker)
     }
 
-    /// Makes room for one more answer to a worker's run; refused where memory ran out. No step.
+    /// Makes room for one more answer to a worker's run. Refused where memory ran out, and then nothing
+    /// changes; where the room is there it succeeds. No step.
     pub fn room_for_read(&mut self, worker: usize) -> Result<(), AllocError>
         requires { worker < length self.old.state.tasks }
         ensures room { OnOk result (1 ≤ get_or self.new.rooms worker 0) }
@@ -141,26 +155,31 @@ impl Core {
         ensures rooms { KeepsRooms worker self.old.rooms self.new.rooms }
         ensures job { self.new.job ≡ self.old.job }
         ensures state { self.new.state ≡ self.old.state }
+        ensures unchanged { OnErr result (self.new ≡ self.old) }
+        ensures succeeds { 1 ≤ get_or self.old.rooms worker 0 → result ≡ Ok tt }
     {
         self.scheduler.room_for_read(worker)
     }
 
     /// A worker without a task asks for work. Takes no memory.
-    pub fn ask(&mut self, worker: usize)
+    pub fn ask(&mut self, worker: usize) -> AskResult
         requires { IsDue worker steps.Ask self.old }
-        ensures { Makes worker steps.Ask self.old self.new }
+        ensures makes { Makes worker steps.Ask self.old self.new }
+        ensures answer { result ≡ ask_result_of (is_done self.old.state) (task_at self.new.state worker) }
     {
+        let done = self.scheduler.done();
         self.scheduler.ask(worker);
+        answered(done, self.scheduler.task_kind(worker))
     }
 
     /// A worker's run reads the key that it asks for, in room that was made. Takes no memory.
-    pub fn read(&mut self, worker: usize, key: &Key) -> Told
+    pub fn read(&mut self, worker: usize, key: &Key) -> ReadResult
         requires due { IsDue worker (steps.Read_key key.now) self.old }
         requires room { 1 ≤ get_or self.old.rooms worker 0 }
         ensures makes { Makes worker (steps.Read_key key.now) self.old self.new }
-        ensures told { (i : ℕ) → runs (task_at self.old.state worker) i ≡ true → result ≡ told_of self.old.job.store key.now (reading self.old.state.versions key.now i) }
+        ensures answers { (i : ℕ) → runs (task_at self.old.state worker) i ≡ true → result ≡ read_result_of self.old.job.store key.now (reading self.old.state.versions key.now i) }
     {
-        let Duty::Running { call, .. } = self.scheduler.duty(worker) else {
+        let TaskKind::Running { call, .. } = self.scheduler.task_kind(worker) else {
             unreachable!();
         };
         read_at(
@@ -180,10 +199,10 @@ impl Core {
         ensures makes { OnOk result (Makes worker steps.Park self.old self.new) }
         ensures refused { OnErr result (IsRefused worker steps.Park steps.IncarnationLimit self.old × (self.new ≡ self.old)) }
     {
-        let Duty::Running {
+        let TaskKind::Running {
             call,
             blocked: Some(on),
-        } = self.scheduler.duty(worker)
+        } = self.scheduler.task_kind(worker)
         else {
             unreachable!();
         };
@@ -206,7 +225,7 @@ impl Core {
         ensures memory { IfErr result (λ e. e.fault ≡ fault.Memory → IsTaken worker steps.Record self.old) }
         ensures back { IfErr result (λ e. (e.run ≡ run) × (self.new ≡ self.old)) }
     {
-        let Duty::Running { call, .. } = self.scheduler.duty(worker) else {
+        let TaskKind::Running { call, .. } = self.scheduler.task_kind(worker) else {
             unreachable!();
         };
         if !is_own(&self.job, &self.scheduler, worker, call, &run) {
@@ -224,11 +243,11 @@ impl Core {
         requires { IsDue worker steps.Validate self.old }
         ensures { Makes worker steps.Validate self.old self.new }
     {
-        let Duty::Validating {
+        let TaskKind::Validating {
             call,
             incarnation,
             left,
-        } = self.scheduler.duty(worker)
+        } = self.scheduler.task_kind(worker)
         else {
             unreachable!();
         };
@@ -263,5 +282,16 @@ impl Core {
             scheduler: _,
         } = self;
         map.into_arena()
+    }
+}
+
+/// What an asking is answered, by whether all was done before it and the task that the worker has now.
+fn answered(done: bool, task: TaskKind) -> AskResult
+    ensures { (t : Task) → IsTaskKindOf task t → result ≡ ask_result_of done t }
+{
+    match task {
+        _ if done => AskResult::Done,
+        TaskKind::Idle => AskResult::Nothing,
+        TaskKind::Running { .. } | TaskKind::Validating { .. } => AskResult::Task,
     }
 }

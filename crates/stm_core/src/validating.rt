@@ -9,7 +9,7 @@ ghost use Rattle.stm_core.specs.Inner.{AreOpen, HasPlaces, state_in};
 use crate::reads::all_stand;
 use crate::versions::estimate_all;
 use mvmap::MvMap;
-use scheduler::{Scheduler, is_executed_at};
+use scheduler::{LAST_INCARNATION, Scheduler, is_executed_at};
 
 /// Checks all reads of a call that a worker validates at an incarnation, and takes the call's run back
 /// where one does not stand. Takes no memory.
@@ -23,7 +23,7 @@ pub(crate) fn validate_call(
 )
     requires counts { MayCount worker scheduler.old }
     requires within { call < length scheduler.old.calls }
-    requires limit { is_executed_at incarnation (get_or scheduler.old.calls call fresh) ≡ true → incarnation ≤ 65534 }
+    requires limit { is_executed_at incarnation (get_or scheduler.old.calls call fresh) ≡ true → incarnation ≤ LAST_INCARNATION }
     requires places { AreOpen map.old.places call (written_by (get_or scheduler.old.calls call fresh).last) }
     ensures state { state_in map.new scheduler.new ≡ counted (if decided call incarnation left (state_in map.old scheduler.old) then one_validation else one_step) worker (validated worker call incarnation (state_in map.old scheduler.old)) }
     ensures places { HasPlaces map.old → HasPlaces map.new }
@@ -43,7 +43,7 @@ fn abort(map: &mut MvMap, scheduler: &mut Scheduler, worker: usize, call: u16, i
     requires counts { MayCount worker scheduler.old }
     requires within { call < length scheduler.old.calls }
     requires current { is_executed_at incarnation (get_or scheduler.old.calls call fresh) ≡ true }
-    requires limit { incarnation ≤ 65534 }
+    requires limit { incarnation ≤ LAST_INCARNATION }
     requires places { AreOpen map.old.places call (written_by (get_or scheduler.old.calls call fresh).last) }
     ensures state { state_in map.new scheduler.new ≡ counted one_validation worker (aborted worker call (state_in map.old scheduler.old)) }
     ensures places { HasPlaces map.old → HasPlaces map.new }

@@ -3,13 +3,14 @@
 ghost use Rattle.std.specs.Prelude.{◌≡◌, ◌≤◌, ◌+◌, length, not, IfOk};
 ghost use Rattle.std.specs.List.{filter};
 ghost use Rattle.std.specs.FinMap.{contains_key, entries};
-ghost use Rattle.stm_state.specs.Steps.{estimated, left_over, moved, published, withdrawn, written_by};
+ghost use Rattle.stm_state.specs.Steps.{estimated, left_over, recorded_versions, published, withdrawn, written_by};
 ghost use Rattle.stm_core.specs.Inner.{AreOpen, keys_of, size_of};
 
 use mvmap::MvMap;
 use rv_ledger::{Key, Writes};
 use std::alloc::{AllocError, Global};
 use stm_state::Recorded;
+use version_arena::RECORD_LIMIT;
 
 /// How many keys are written.
 pub(crate) fn written_count(writes: &Writes) -> usize
@@ -31,7 +32,7 @@ pub(crate) fn written_keys(alloc: Global, writes: &Writes) -> Result<Vec<Key>, A
 
 /// How many bytes the written values have together.
 pub(crate) fn written_bytes(writes: &Writes) -> usize
-    requires { length (entries writes.now) ≤ 1048576 }
+    requires { length (entries writes.now) ≤ RECORD_LIMIT }
     ensures { result ≡ size_of (entries writes.now) }
 {
     let mut bytes = 0;
@@ -46,11 +47,11 @@ pub(crate) fn written_bytes(writes: &Writes) -> usize
 /// Publishes all writes of a call's run, in room that was made. Takes no memory.
 pub(crate) fn publish_all(map: &mut MvMap, call: u16, incarnation: u16, writes: &Writes)
     requires places { AreOpen map.old.places call (entries writes.now) }
-    requires room { length (entries writes.now) ≤ map.old.shelf.room }
-    requires bytes { size_of (entries writes.now) ≤ map.old.shelf.bytes }
+    requires room { length (entries writes.now) ≤ map.old.arena.room }
+    requires bytes { size_of (entries writes.now) ≤ map.old.arena.bytes }
     ensures versions { map.new.versions ≡ published call incarnation (entries writes.now) map.old.versions }
     ensures places { map.new.places ≡ map.old.places }
-    ensures records { length map.new.shelf.records ≡ length map.old.shelf.records + length (entries writes.now) }
+    ensures records { length map.new.arena.records ≡ length map.old.arena.records + length (entries writes.now) }
 {
     for (key, value) in writes.iter() {
         map.publish(key, call, incarnation, value.as_ref());
@@ -107,11 +108,11 @@ pub(crate) fn move_all(
     writes: &Writes,
 )
     requires places { AreOpen map.old.places call (entries writes.now) }
-    requires room { length (entries writes.now) ≤ map.old.shelf.room }
-    requires bytes { size_of (entries writes.now) ≤ map.old.shelf.bytes }
-    ensures versions { map.new.versions ≡ moved call incarnation last.now writes.now map.old.versions }
+    requires room { length (entries writes.now) ≤ map.old.arena.room }
+    requires bytes { size_of (entries writes.now) ≤ map.old.arena.bytes }
+    ensures versions { map.new.versions ≡ recorded_versions call incarnation last.now writes.now map.old.versions }
     ensures places { map.new.places ≡ map.old.places }
-    ensures records { length map.new.shelf.records ≡ length map.old.shelf.records + length (entries writes.now) }
+    ensures records { length map.new.arena.records ≡ length map.old.arena.records + length (entries writes.now) }
 {
     publish_all(map, call, incarnation, writes);
     withdraw_left(map, call, last, writes);

@@ -3,8 +3,8 @@ use Rattle.std.proofs.Common.{◌≡◌, ◌<◌, ◌≤◌, ◌≢◌, ◌⊎�
 use Rattle.std.specs.List.{AllByRecursion}
 use Rattle.std.proofs.lemmas.Bool.{cases_eq, cond_both, and_parts, and_cases, and_from, not-false}
 use Rattle.std.proofs.lemmas.List.{get_or-set_same, get_or-set_other}
-use Rattle.version_arena.specs.Shelf.{Content}
-use Rattle.rv_step.specs.declared.answer.Answer.{Answer}
+use Rattle.version_arena.specs.ArenaState.{Content}
+use Rattle.rv_step.specs.declared.answer.StorageAnswer.{StorageAnswer}
 use Rattle.mvmap.specs.Versions.{Stands, entry_at}
 use Rattle.mvmap.specs.Reading.{stands_among}
 use Rattle.stm_state.specs.declared.state.Status.{Status}
@@ -13,9 +13,9 @@ use Rattle.stm_state.specs.declared.state.CallState.{CallState}
 use Rattle.stm_state.specs.declared.state.Task.{Task}
 use Rattle.stm_state.specs.declared.state.Task.TheVariants.{Idle, Running, Validating}
 use Rattle.stm_state.specs.State.{State, fresh, call_at, task_at, with_call, with_task, is_executed}
-use Rattle.stm_state.specs.Steps.{Block, reads_of, written_by, estimated, readied, is_executed_at, all_stand, aborted, validated}
-use Rattle.stm_state.specs.Invariant.{View, view_of, Facts, IsRightAnswer, Invariant, IsSized, write_of, entry_by, run_by, named_by}
-use Rattle.stm_state.proofs.Moves.{Move, moved}
+use Rattle.stm_state.specs.Steps.{Block, reads_of, written_by, estimated, next_incarnation, is_executed_at, all_stand, aborted, validated}
+use Rattle.stm_state.specs.Invariant.{View, view_of, ViewInvariant, IsRightAnswer, Invariant, IsSized, write_of, entry_by, run_by, named_by}
+use Rattle.stm_state.proofs.Frames.{Frame, recorded_versions}
 use Rattle.stm_state.proofs.Rests.{rested_facts}
 use Rattle.stm_state.proofs.Safes.{IsValidated, on_below, safe_all, safe_other, stand_each}
 use Rattle.stm_state.proofs.Tests.{is_executed_says, not_lt_says, equal_itself, resized}
@@ -26,7 +26,7 @@ pub version_is : (o : Option Content) (m n : ℕ) (x : Content) → option_map (
 version_is None m n x h = cc
 version_is (Some c) m n x h = cc
 
-module _ (block : Block) (s : State) (w i n left : ℕ) (f : Facts block (view_of s)) (checks : task_at s w ≡ Validating i n left) (w_in : w < length s.tasks) where
+module _ (block : Block) (s : State) (w i n left : ℕ) (f : ViewInvariant block (view_of s)) (checks : task_at s w ≡ Validating i n left) (w_in : w < length s.tasks) where
   -- the worker runs no call
   runs_none : (j : ℕ) → run_by (task_at s w) ≢ Some j
   runs_none j h = let none : run_by (task_at s w) ≡ None = ap run_by checks in cc
@@ -61,7 +61,7 @@ module _ (block : Block) (s : State) (w i n left : ℕ) (f : Facts block (view_o
   ]
 
   -- the task may end where the call is stale or all its reads stand
-  ends : (is_executed_at n (call_at s i) ≡ true → all_stand i s ≡ true) → Facts block (view_of after_end)
+  ends : (is_executed_at n (call_at s i) ≡ true → all_stand i s ≡ true) → ViewInvariant block (view_of after_end)
   ends stand = rested_facts block (view_of s) (task_at after_end) s.execution s.validation f ended_tasks f.execution_within f.validation_within f.ready
       (λ j h l. safe_all (view_of s) (view_of after_end) j (reads_of (call_at s j).last) (λ read k. k) (still_covered stand j h) (f.safe j h l))
 
@@ -69,7 +69,7 @@ module _ (block : Block) (s : State) (w i n left : ℕ) (f : Facts block (view_o
 
   -- the call that is readied, or is run again
   abbrev again : Status → CallState
-  again status = record (readied (call_at s i)) { status = status }
+  again status = record (next_incarnation (call_at s i)) { status = status }
 
   -- the versions turned to estimates, and the validation index lowered
   abbrev turned : State
@@ -86,8 +86,8 @@ module _ (block : Block) (s : State) (w i n left : ℕ) (f : Facts block (view_o
   -- what an abort changes
   abort_move : (task : Task) (status : Status) → (call_at s i).status ≡ Executed → i < length s.calls → is_executed status ≡ false → status ≢ Aborting → (status ≡ Ready → s.execution ≤ i)
       → ((run_by task ≡ Some i) × (status ≡ Executing)) ⊎ ((run_by task ≡ None) × (status ≢ Executing)) → ((j : ℕ) → named_by task ≡ Some j → j ≡ i)
-      → ((j : ℕ) (answers : List Answer) (waits : Option ℕ) → task ≡ Running j answers waits → (answers ≡ []) × (waits ≡ None)) → ((j m k : ℕ) → task ≢ Validating j m k)
-      → Move block (view_of s) (view_of (after task status)) i w (again status) task
+      → ((j : ℕ) (answers : List StorageAnswer) (waits : Option ℕ) → task ≡ Running j answers waits → (answers ≡ []) × (waits ≡ None)) → ((j m k : ℕ) → task ≢ Validating j m k)
+      → Frame block (view_of s) (view_of (after task status)) i w (again status) task
   abort_move task status done i_in open_ not_aborting ready now name begins not_checks = record {
     calls = λ j ne. get_or-set_other s.calls i j (again status) fresh ne;
     tasks = λ x ne. get_or-set_other s.tasks w x task Idle ne;
@@ -120,10 +120,10 @@ module _ (block : Block) (s : State) (w i n left : ℕ) (f : Facts block (view_o
   }
 
   -- an abort keeps the invariant: calls below it see none of its entries, and calls above it are above the validation index
-  aborts : (task : Task) (status : Status) → Move block (view_of s) (view_of (after task status)) i w (again status) task → is_executed status ≡ false → Facts block (view_of (after task status))
+  aborts : (task : Task) (status : Status) → Frame block (view_of s) (view_of (after task status)) i w (again status) task → is_executed status ≡ false → ViewInvariant block (view_of (after task status))
   aborts task status m open_ =
       let u : View = view_of (after task status) in
-      moved block (view_of s) u i w (again status) task m f (λ j h l. elim (cases_eq j i) [
+      recorded_versions block (view_of s) u i w (again status) task m f (λ j h l. elim (cases_eq j i) [
         | inl e ↦
             let st : (u.calls j).status ≡ status = ap (λ x. (u.calls x).status) e ∙ ap (λ (call : CallState). call.status) m.call in
             let r : is_executed status ≡ true = ap is_executed (sym st ∙ h) in cc
@@ -137,18 +137,18 @@ module _ (block : Block) (s : State) (w i n left : ℕ) (f : Facts block (view_o
       ])
 
   -- an abort keeps the invariant, whether the call is run again at once or readied
-  pub aborted_facts : (call_at s i).status ≡ Executed → i < length s.calls → Facts block (view_of (aborted w i s))
+  pub aborted_facts : (call_at s i).status ≡ Executed → i < length s.calls → ViewInvariant block (view_of (aborted w i s))
   unfolding aborted
-  aborted_facts done i_in = cond_both (nat_lt i s.execution) _ _ (λ t. Facts block (view_of t))
+  aborted_facts done i_in = cond_both (nat_lt i s.execution) _ _ (λ t. ViewInvariant block (view_of t))
       (λ l. aborts (Running i [] None) Executing
       (abort_move (Running i [] None) Executing done i_in refl (λ h. cc) (λ h. cc) (inl (refl, refl)) (λ j h. cc) (λ j answers waits h. (cc, cc)) (λ j m k h. cc)) refl)
       (λ l. aborts Idle Ready
       (abort_move Idle Ready done i_in refl (λ h. cc) (λ _. not_lt_says i s.execution l) (inr (refl, λ h. cc)) (λ j h. cc) (λ j answers waits h. cc) (λ j m k h. cc)) refl)
 
   -- a validation keeps the invariant
-  pub validated_facts : i < length s.calls → Facts block (view_of (validated w i n s))
+  pub validated_facts : i < length s.calls → ViewInvariant block (view_of (validated w i n s))
   unfolding validated
-  validated_facts i_in = cond_both (is_executed_at n (call_at s i) && not (all_stand i s)) _ _ (λ t. Facts block (view_of t))
+  validated_facts i_in = cond_both (is_executed_at n (call_at s i) && not (all_stand i s)) _ _ (λ t. ViewInvariant block (view_of t))
       (λ h. aborted_facts (is_executed_says (call_at s i).status (and_parts (is_executed (call_at s i).status) ((call_at s i).incarnation == n) (and_parts (is_executed_at n (call_at s i)) (not (all_stand i s)) h).0).0) i_in)
       (λ h. ends (λ at. elim (and_cases (is_executed_at n (call_at s i)) (not (all_stand i s)) h) [ inl other ↦ cc | inr stand ↦ not-false (all_stand i s) stand ]))
 

@@ -1,25 +1,20 @@
 -- One worker goes through the rounds of all calls, and is then told that all is done.
-use Rattle.std.proofs.Common.{◌≡◌, ◌<◌, ◌≤◌, ◌+◌, ◌-◌, ◌*◌, ◌&&◌, ◌==◌, ℕ, zero, suc, true, if◌then◌else◌, List, [], ◌∷◌, length, get_or, slice_get, Some, Ok, Err, arith, refl, sym, ap, subst, ◌∙◌, inl, inr}
-use Rattle.std.specs.Cmp.Derive.{both_true}
-use Rattle.std.specs.List.{list_all}
-use Rattle.std.proofs.lemmas.Bool.{cases_eq, cases_lt, cond-true}
+use Rattle.std.proofs.Common.{◌≡◌, ◌<◌, ◌≤◌, ◌+◌, ◌-◌, ◌*◌, ℕ, zero, suc, true, if◌then◌else◌, List, [], ◌∷◌, length, get_or, slice_get, Some, Ok, Err, arith, refl, ap, subst, ◌∙◌, inl, inr}
+use Rattle.std.proofs.lemmas.Bool.{cases_lt, cond-true}
 use Rattle.std.proofs.lemmas.Grind.{get_or-set_at}
 use Rattle.rv_ledger.specs.Key.{Storage}
 use Rattle.rv_ledger.specs.Call.{Invocation}
 use Rattle.rv_step.specs.Fold.{store_after, store_after_call, store_before}
 use Rattle.rv_step.proofs.Receipts.{one_receipt_lem}
-use Rattle.stm_state.specs.declared.state.CallState.{CallState}
-use Rattle.stm_state.specs.declared.state.Task.{Task}
 use Rattle.stm_state.specs.declared.state.Task.TheVariants.{Idle}
-use Rattle.stm_state.specs.State.{State, fresh, no_counts, start, call_at, task_at, is_idle, is_done}
-use Rattle.stm_state.specs.Steps.{counted, one_asking, told_done, step_with, reads_of}
+use Rattle.stm_state.specs.State.{State, fresh, no_counts, start, call_at, is_done}
+use Rattle.stm_state.specs.Steps.{counted, one_asking, count_done, step_with, reads_of}
 use Rattle.stm_state.specs.Done.{block_of}
-use Rattle.stm_state.specs.Drive.{NotDone, owed, due}
-use Rattle.stm_state.specs.Invariant.{Invariant}
+use Rattle.stm_state.specs.Drive.{NotDone, due_step, due_result}
 use Rattle.stm_state.specs.OneWorker.{IsReads, rounds, MeetsNoEstimate, OneWorkerDid, HasOneWorkerCounts}
-use Rattle.stm_state.proofs.Tests.{equal_itself}
-use Rattle.stm_state.proofs.Whole.{replicated, start_kept}
+use Rattle.stm_state.proofs.Lists.{replicated, one_element}
 use Rattle.stm_state.proofs.Paths.{alone, Leads, Free, free_now, free_on, used_up, one_step_on, leads_none, leads_next, leads_join}
+use Rattle.stm_state.proofs.Rounds.{Stage, first_stage, all_first, is_over, told_stage}
 use Rattle.stm_state.proofs.Phases.{call_there, did, Now, unblocked, still, one_more, run_begins}
 use Rattle.stm_state.proofs.Turns.{read_all, record_one, check_begins, check_one}
 
@@ -40,21 +35,10 @@ each_reads [] store i call h = cc
 each_reads (c ∷ calls) store zero call h =
     let some = (one_receipt_lem c store).some_answers in
     let same : c ≡ call = cc in
-    subst (λ x. IsReads x store (length some.0)) same (record { replies = some.0; size = refl; from = some.1; borne = some.2 })
+    subst (λ x. IsReads x store (length some.0)) same (record { replies = some.0; size = refl; from = some.1; borne_out = some.2 })
 each_reads (c ∷ calls) store (suc i) call h = each_reads calls (store_after_call c store) i call h
 
 -- ---- the rounds
-
--- lists of one element
-one_idle : (tasks : List Task) → length tasks ≡ 1 → get_or tasks 0 Idle ≡ Idle → list_all is_idle tasks ≡ true
-one_idle [] size h = refl
-one_idle (task ∷ []) size h = ap (λ x. is_idle x && true) h
-one_idle (task ∷ other ∷ tasks) size h = absurd (omega (arith, size))
-
-one_element : {X : Type 0} (xs : List X) (d x : X) → length xs ≡ 1 → get_or xs 0 d ≡ x → xs ≡ x ∷ []
-one_element [] d x size h = absurd (omega (arith, size))
-one_element (y ∷ []) d x size h = ap (λ z. z ∷ []) h
-one_element (y ∷ other ∷ xs) d x size h = absurd (omega (arith, size))
 
 module _ (calls : List Invocation) (store : Storage) (short : length calls ≤ 1024) where
   -- the calls below d are through, after so many steps
@@ -66,7 +50,7 @@ module _ (calls : List Invocation) (store : Storage) (short : length calls ≤ 1
       → (t : State) × Leads calls store s (4 + r) t × At (d + 1) (steps + (4 + r)) (asks + 2) t
   round d steps asks r s call there within reads now =
       let a = run_begins calls store d s (did steps asks d d) now within in
-      let b = read_all calls store d call there within reads.replies [] (steps + 1) (asks + 1) d d a.0 (record { now = a.2; bears = reads.borne; from = reads.from; stand = refl }) in
+      let b = read_all calls store d call there within reads.replies [] (steps + 1) (asks + 1) d d a.0 (record { now = a.2; bears = reads.borne_out; from = reads.from; stand = refl }) in
       let c = record_one calls store d call there within b.1 (did (steps + 1 + length reads.replies) (asks + 1) d d) b.0 short b.3 in
       let e = check_begins calls store d call there within (did (steps + 1 + length reads.replies + 1) (asks + 1) (d + 1) d) c.0 c.2 c.3 in
       let g = check_one calls store d call there within (did (steps + 1 + length reads.replies + 1 + 1) (asks + 1 + 1) (d + 1) d) e.0 (length (reads_of (call_at c.0 d).last)) e.2 e.3 in
@@ -112,72 +96,50 @@ module _ (calls : List Invocation) (store : Storage) (short : length calls ≤ 1
 
   -- all calls are through, after so many steps, of which so many were askings that were told so
   record Ended (steps asks told : ℕ) (s : State) : Type 0 where
-    inv : Invariant (block_of calls store) 1 s
-    runs_from : s.execution ≡ length calls
-    checks_from : s.validation ≡ length calls
-    does : task_at s 0 ≡ Idle
-    incarnations : (i : ℕ) → (call_at s i).incarnation ≡ 0
+    stage : Stage (block_of calls store) (length calls) fresh (length calls) (length calls) Idle s
     worked : get_or s.counts 0 no_counts ≡ did steps asks (length calls) (length calls)
     told_so : get_or s.dones 0 0 ≡ told
 
   -- so it is after all rounds
   at_end : (steps asks : ℕ) (s : State) → At (length calls) steps asks s → Ended steps asks 0 s
   at_end steps asks s now = record {
-    inv = now.inv;
-    runs_from = now.runs_from;
-    checks_from = now.checks_from;
-    does = now.does;
-    incarnations = λ i. elim (cases_lt i (length calls)) [
-      | inl low ↦ (now.below i low).incarnation
-      | inr high ↦ elim (cases_eq i (length calls)) [
-        | inl e ↦ ap (λ (x : CallState). x.incarnation) (ap (call_at s) e ∙ now.here)
-        | inr ne ↦ ap (λ (x : CallState). x.incarnation) (now.above i (omega (arith, high, ne)))
-      ]
-    ];
+    stage = now.stage;
     worked = now.worked;
     told_so = now.untold;
   }
 
   -- workers are done
-  is_over : (steps asks told : ℕ) (s : State) → Ended steps asks told s → is_done s ≡ true
-  unfolding is_done
-  is_over steps asks told s now =
-      let n = now.inv.sized.calls in
-      both_true (both_true (ap (λ x. x == length s.calls) (now.runs_from ∙ sym n) ∙ equal_itself (length s.calls)) (ap (λ x. x == length s.calls) (now.checks_from ∙ sym n) ∙ equal_itself (length s.calls)))
-      (one_idle s.tasks now.inv.sized.tasks now.does)
+  over_now : (steps asks told : ℕ) (s : State) → Ended steps asks told s → is_done s ≡ true
+  over_now steps asks told s now = is_over (block_of calls store) s now.stage.inv now.stage.runs_from now.stage.checks_from now.stage.does
 
   module _ (steps asks told : ℕ) (s : State) (now : Ended steps asks told s) where
     -- one more asking
     abbrev asked_again : State
-    asked_again = counted one_asking 0 (told_done 0 s)
+    asked_again = counted one_asking 0 (count_done 0 s)
 
-    again_due : due calls store 0 s ≡ Some (Ok asked_again)
+    again_due : due_result calls store 0 s ≡ Some (Ok asked_again)
     again_due =
-        ap (λ task. step_with (block_of calls store) 0 task (owed calls task) s) now.does
-        ∙ ap (λ u. Some (Ok (counted one_asking 0 u))) (cond-true (is_done s) _ _ (is_over steps asks told s now))
+        ap (λ task. step_with (block_of calls store) 0 task (due_step calls task) s) now.stage.does
+        ∙ ap (λ u. Some (Ok (counted one_asking 0 u))) (cond-true (is_done s) _ _ (over_now steps asks told s now))
 
     -- is told so too
     again : Ended (steps + 1) (asks + 1) (told + 1) asked_again
     again = record {
-      inv = still calls store (length calls) s asked_again now.inv again_due;
-      runs_from = now.runs_from;
-      checks_from = now.checks_from;
-      does = now.does;
-      incarnations = now.incarnations;
-      worked = one_more calls store (length calls) s now.inv one_asking (did steps asks (length calls) (length calls)) now.worked;
-      told_so = get_or-set_at s.dones 0 0 (get_or s.dones 0 0 + 1) 0 refl (let one = now.inv.sized.dones in omega (arith, one)) ∙ ap (λ n. n + 1) now.told_so;
+      stage = told_stage (block_of calls store) s (length calls) fresh (length calls) (length calls) Idle now.stage (still calls store (length calls) s asked_again now.stage.inv again_due);
+      worked = one_more calls store (length calls) s now.stage.inv one_asking (did steps asks (length calls) (length calls)) now.worked;
+      told_so = get_or-set_at s.dones 0 0 (get_or s.dones 0 0 + 1) 0 refl (let one = now.stage.inv.sized.dones in omega (arith, one)) ∙ ap (λ n. n + 1) now.told_so;
     }
 
     -- no run is blocked
     nobody : MeetsNoEstimate s
-    nobody = unblocked s Idle now.inv.sized.tasks now.does (λ i b answers h. cc)
+    nobody = unblocked s Idle now.stage.inv.sized.tasks now.stage.does (λ i b answers h. cc)
 
     -- what the worker did
     did_all : OneWorkerDid (length calls) steps asks told s
     did_all = record {
-      counts = one_element s.counts no_counts (did steps asks (length calls) (length calls)) now.inv.sized.counts now.worked;
-      dones = one_element s.dones 0 told now.inv.sized.dones now.told_so;
-      incarnations = now.incarnations;
+      counts = one_element s.counts no_counts (did steps asks (length calls) (length calls)) now.stage.inv.sized.counts now.worked;
+      dones = one_element s.dones 0 told now.stage.inv.sized.dones now.told_so;
+      incarnations = all_first (block_of calls store) (length calls) (length calls) (length calls) Idle s now.stage;
     }
 
   -- each further asking is told so
@@ -185,7 +147,7 @@ module _ (calls : List Invocation) (store : Storage) (short : length calls ≤ 1
   told_all zero steps asks told s now =
       let same : (n : ℕ) → n ≡ n + 0 = λ n. omega arith in (
         s,
-        used_up calls store s ∙ ap (λ b. if b then Ok s else Err NotDone) (is_over steps asks told s now),
+        used_up calls store s ∙ ap (λ b. if b then Ok s else Err NotDone) (over_now steps asks told s now),
         subst (λ n. Ended n (asks + 0) (told + 0) s) (same steps) (subst (λ n. Ended steps n (told + 0) s) (same asks) (subst (λ n. Ended steps asks n s) (same told) now)),
         free_now calls store s (nobody steps asks told s now),
       )
@@ -204,13 +166,8 @@ module _ (calls : List Invocation) (store : Storage) (short : length calls ≤ 1
   -- the start
   first : At 0 0 0 (start (length calls) 1)
   first = record {
-    inv = start_kept (block_of calls store) 1;
-    runs_from = refl;
-    checks_from = refl;
-    does = replicated 1 0 Idle;
-    below = λ j l. absurd (omega (arith, l));
-    here = replicated (length calls) 0 fresh;
-    above = λ j l. replicated (length calls) j fresh;
+    stage = first_stage (block_of calls store);
+    receipts = λ j l. absurd (omega (arith, l));
     room = omega arith;
     worked = replicated 1 0 no_counts;
     untold = replicated 1 0 0;

@@ -8,22 +8,22 @@ use Rattle.stm_state.specs.declared.state.CallState.{CallState}
 use Rattle.stm_state.specs.declared.state.Task.{Task}
 use Rattle.stm_state.specs.declared.state.Task.TheVariants.{Idle, Running, Validating}
 use Rattle.stm_state.specs.State.{State, fresh, call_at, task_at, with_call, with_task, is_ready, is_executed, is_done}
-use Rattle.stm_state.specs.Steps.{Block, reads_of, told_done, ask_validation, ask_execution, asked}
-use Rattle.stm_state.specs.Invariant.{View, view_of, Facts, IsRightAnswer, Invariant, IsSized, entry_by, write_of, run_by}
-use Rattle.stm_state.proofs.Moves.{Move, moved}
+use Rattle.stm_state.specs.Steps.{Block, reads_of, count_done, ask_validation, ask_execution, asked}
+use Rattle.stm_state.specs.Invariant.{View, view_of, ViewInvariant, IsRightAnswer, Invariant, IsSized, entry_by, write_of, run_by}
+use Rattle.stm_state.proofs.Frames.{Frame, recorded_versions}
 use Rattle.stm_state.proofs.Rests.{rested_facts}
 use Rattle.stm_state.proofs.Safes.{safe_all, safe_other, safe_validated}
 use Rattle.stm_state.proofs.Tests.{is_ready_says, not_ready_says, is_executed_says, not_executed_says, lt_says, resized}
 
 -- what a call that isn't EXECUTED has as entries stays where only its status changes
-pub same_entries : (block : Block) (v : View) (f : Facts block v) (i : ℕ) → (v.calls i).status ≢ Executed → (key : List ℕ) → v.entries key i ≡ entry_by false (v.calls i).incarnation (write_of (v.calls i).last key)
+pub same_entries : (block : Block) (v : View) (f : ViewInvariant block v) (i : ℕ) → (v.calls i).status ≢ Executed → (key : List ℕ) → v.entries key i ≡ entry_by false (v.calls i).incarnation (write_of (v.calls i).last key)
 same_entries block v f i ne key = f.entries i key ∙ ap (λ b. entry_by b (v.calls i).incarnation (write_of (v.calls i).last key)) (go (is_executed (v.calls i).status) refl)
   where
     go : (b : Bool) → is_executed (v.calls i).status ≡ b → b ≡ false
     go true h = absurd (ne (is_executed_says (v.calls i).status h))
     go false h = refl
 
-module _ (block : Block) (s : State) (w : ℕ) (f : Facts block (view_of s)) (idle : task_at s w ≡ Idle) (w_in : w < length s.tasks) where
+module _ (block : Block) (s : State) (w : ℕ) (f : ViewInvariant block (view_of s)) (idle : task_at s w ≡ Idle) (w_in : w < length s.tasks) where
   -- the worker validates nothing
   free : (j n left : ℕ) → task_at s w ≢ Validating j n left
   free j n left h = cc
@@ -38,7 +38,7 @@ module _ (block : Block) (s : State) (w : ℕ) (f : Facts block (view_of s)) (id
 
   -- what a validation that begins changes
   validation_move : (i : ℕ) → i ≡ s.validation → i < s.execution → (call_at s i).status ≡ Executed
-      → Move block (view_of s) (view_of (with_task w (to_check i) (record s { validation = i + 1 }))) i w (call_at s i) (to_check i)
+      → Frame block (view_of s) (view_of (with_task w (to_check i) (record s { validation = i + 1 }))) i w (call_at s i) (to_check i)
   validation_move i at below done = record {
     calls = λ j ne. refl;
     tasks = λ x ne. get_or-set_other s.tasks w x (to_check i) Idle ne;
@@ -70,17 +70,17 @@ module _ (block : Block) (s : State) (w : ℕ) (f : Facts block (view_of s)) (id
   }
 
   -- a validation may begin: it covers all reads of its call
-  validation_begun : (i : ℕ) → i ≡ s.validation → i < s.execution → (call_at s i).status ≡ Executed → Facts block (view_of (with_task w (to_check i) (record s { validation = i + 1 })))
+  validation_begun : (i : ℕ) → i ≡ s.validation → i < s.execution → (call_at s i).status ≡ Executed → ViewInvariant block (view_of (with_task w (to_check i) (record s { validation = i + 1 })))
   validation_begun i at below done =
       let m = validation_move i at below done in
       let u : View = view_of (with_task w (to_check i) (record s { validation = i + 1 })) in
-      moved block (view_of s) u i w (call_at s i) (to_check i) m f (λ j h l. elim (cases_eq j i) [
+      recorded_versions block (view_of s) u i w (call_at s i) (to_check i) m f (λ j h l. elim (cases_eq j i) [
         | inl e ↦ safe_validated u j (reads_of (call_at s j).last) (w, (length (reads_of (call_at s i).last), m.task ∙ ap (λ x. Validating x (call_at s x).incarnation (length (reads_of (call_at s i).last))) (sym e)))
         | inr ne ↦ safe_other block (view_of s) u i w (call_at s i) (to_check i) m j ne (λ left. free j (call_at s j).incarnation left) (λ read k. k) (f.safe j h (omega (arith, at)))
       ])
 
   -- the validation index passes a call that is not EXECUTED
-  validation_passed : (i : ℕ) → i ≡ s.validation → i < s.execution → (call_at s i).status ≢ Executed → Facts block (view_of (record s { validation = i + 1 }))
+  validation_passed : (i : ℕ) → i ≡ s.validation → i < s.execution → (call_at s i).status ≢ Executed → ViewInvariant block (view_of (record s { validation = i + 1 }))
   validation_passed i at below ne = rested_facts block (view_of s) (task_at s) s.execution (i + 1) f (λ x. inl refl) f.execution_within (let within = f.execution_within in omega (arith, within)) f.ready
       (λ j h l. elim (cases_eq j i) [
         | inl e ↦ absurd (ne (ap (λ x. (call_at s x).status) (sym e) ∙ h))
@@ -88,9 +88,9 @@ module _ (block : Block) (s : State) (w : ℕ) (f : Facts block (view_of s)) (id
       ])
 
   -- asking for a validation keeps the invariant
-  pub validation_kept : s.validation < s.execution → Facts block (view_of (ask_validation w s))
+  pub validation_kept : s.validation < s.execution → ViewInvariant block (view_of (ask_validation w s))
   unfolding ask_validation
-  validation_kept below = cond_both (is_executed (call_at s s.validation).status) _ _ (λ t. Facts block (view_of t))
+  validation_kept below = cond_both (is_executed (call_at s s.validation).status) _ _ (λ t. ViewInvariant block (view_of t))
       (λ h. validation_begun s.validation refl below (is_executed_says (call_at s s.validation).status h))
       (λ h. validation_passed s.validation refl below (not_executed_says (call_at s s.validation).status h))
 
@@ -103,7 +103,7 @@ module _ (block : Block) (s : State) (w : ℕ) (f : Facts block (view_of s)) (id
   after_begin i = with_task w (Running i [] None) (with_call i (begun i) (record s { execution = i + 1 }))
 
   -- what an execution that begins changes
-  execution_move : (i : ℕ) → i ≡ s.execution → i < length s.calls → i < block.count → (call_at s i).status ≡ Ready → Move block (view_of s) (view_of (after_begin i)) i w (begun i) (Running i [] None)
+  execution_move : (i : ℕ) → i ≡ s.execution → i < length s.calls → i < block.count → (call_at s i).status ≡ Ready → Frame block (view_of s) (view_of (after_begin i)) i w (begun i) (Running i [] None)
   execution_move i at i_in within ready = record {
     calls = λ j ne. get_or-set_other s.calls i j (begun i) fresh ne;
     tasks = λ x ne. get_or-set_other s.tasks w x (Running i [] None) Idle ne;
@@ -135,26 +135,26 @@ module _ (block : Block) (s : State) (w : ℕ) (f : Facts block (view_of s)) (id
   }
 
   -- an execution may begin
-  execution_begun : (i : ℕ) → i ≡ s.execution → i < length s.calls → i < block.count → (call_at s i).status ≡ Ready → Facts block (view_of (after_begin i))
+  execution_begun : (i : ℕ) → i ≡ s.execution → i < length s.calls → i < block.count → (call_at s i).status ≡ Ready → ViewInvariant block (view_of (after_begin i))
   execution_begun i at i_in within ready =
       let m = execution_move i at i_in within ready in
       let u : View = view_of (after_begin i) in
-      moved block (view_of s) u i w (begun i) (Running i [] None) m f (λ j h l. elim (cases_eq j i) [
+      recorded_versions block (view_of s) u i w (begun i) (Running i [] None) m f (λ j h l. elim (cases_eq j i) [
         | inl e ↦ let c : u.calls j ≡ begun i = ap u.calls e ∙ m.call in let r : (u.calls j).status ≡ Executing = ap (λ (call : CallState). call.status) c in cc
         | inr ne ↦ safe_other block (view_of s) u i w (begun i) (Running i [] None) m j ne (λ left. free j (call_at s j).incarnation left) (λ read k. k)
             (f.safe j (ap (λ (call : CallState). call.status) (sym (m.calls j ne)) ∙ h) l)
       ])
 
   -- the execution index passes a call that is not READY
-  execution_passed : (i : ℕ) → i ≡ s.execution → i < block.count → (call_at s i).status ≢ Ready → Facts block (view_of (record s { execution = i + 1 }))
+  execution_passed : (i : ℕ) → i ≡ s.execution → i < block.count → (call_at s i).status ≢ Ready → ViewInvariant block (view_of (record s { execution = i + 1 }))
   execution_passed i at within ne = rested_facts block (view_of s) (task_at s) (i + 1) s.validation f (λ x. inl refl) (omega (arith, within)) f.validation_within
       (λ j h. let low = f.ready j h in let other : j ≢ i = λ e. ne (ap (λ x. (call_at s x).status) (sym e) ∙ h) in omega (arith, low, at, other))
       (λ j h l. safe_all (view_of s) (view_of (record s { execution = i + 1 })) j (reads_of (call_at s j).last) (λ read k. k) (λ q. inr q) (f.safe j h l))
 
   -- asking for an execution keeps the invariant
-  pub execution_kept : s.execution < length s.calls → s.execution < block.count → Facts block (view_of (ask_execution w s))
+  pub execution_kept : s.execution < length s.calls → s.execution < block.count → ViewInvariant block (view_of (ask_execution w s))
   unfolding ask_execution
-  execution_kept i_in within = cond_both (is_ready (call_at s s.execution).status) _ _ (λ t. Facts block (view_of t))
+  execution_kept i_in within = cond_both (is_ready (call_at s s.execution).status) _ _ (λ t. ViewInvariant block (view_of t))
       (λ h. execution_begun s.execution refl i_in within (is_ready_says (call_at s s.execution).status h))
       (λ h. execution_passed s.execution refl within (not_ready_says (call_at s s.execution).status h))
 
@@ -171,7 +171,7 @@ execution_sized count workers w s h = cond_both (is_ready (call_at s s.execution
     (λ _. resized count workers s _ (length-set s.calls s.execution _) (length-set s.tasks w _) refl refl h) (λ _. resized count workers s _ refl refl refl refl h)
 
 -- being told that all is done keeps the invariant
-told : (block : Block) (workers w : ℕ) (s : State) → Invariant block workers s → Invariant block workers (told_done w s)
+told : (block : Block) (workers w : ℕ) (s : State) → Invariant block workers s → Invariant block workers (count_done w s)
 told block workers w s h = record { sized = resized block.count workers s _ refl refl refl (length-set s.dones w _) h.sized; facts = h.facts }
 
 -- asking for work keeps the invariant

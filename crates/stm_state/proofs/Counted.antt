@@ -1,18 +1,17 @@
 -- What a worker's counts say of each other.
-use Rattle.std.proofs.Common.{◌≡◌, ◌<◌, ◌≤◌, ◌+◌, ◌&&◌, not, nat_lt, nat_le, ℕ, Bool, true, false, cond, if◌then◌else◌, List, length, replicate, get_or, set, Option, None, Some, Ok, Err, arith, refl, sym, subst, inl, inr}
-use Rattle.std.specs.FinMap.{len}
+use Rattle.std.proofs.Common.{◌≡◌, ◌<◌, ◌≤◌, ◌+◌, ◌&&◌, not, nat_lt, ℕ, Bool, true, false, if◌then◌else◌, List, length, replicate, get_or, set, arith, refl, sym, subst, inl, inr}
 use Rattle.std.proofs.lemmas.Bool.{cases_eq, cond_both}
 use Rattle.std.proofs.lemmas.List.{get_or-set_same, get_or-set_other}
 use Rattle.rv_ledger.specs.declared.receipt.Receipt.{Receipt}
 use Rattle.rv_ledger.specs.declared.outcome.Counts.{Counts}
-use Rattle.rv_step.specs.Replies.{replies_of}
-use Rattle.rv_step.specs.declared.answer.Answer.{Answer}
+use Rattle.rv_step.specs.declared.answer.StorageAnswer.{StorageAnswer}
 use Rattle.stm_state.specs.declared.state.Task.{Task}
-use Rattle.stm_state.specs.declared.state.Task.TheVariants.{Idle, Running, Validating}
-use Rattle.stm_state.specs.State.{State, no_counts, start, call_at, task_at, is_executed, is_ready, is_done}
-use Rattle.stm_state.specs.Steps.{Block, Step, Ask, Read_key, Park, Record, Validate, ArenaFull, IncarnationLimit, counted, one_step, one_asking, one_execution, one_validation, ask_validation, ask_execution, asked, told_done, read_at, decided, parked, has_new_key, woken, to_validate, recorded, aborted, validated, is_executed_at, all_stand, record_within, step_with}
+use Rattle.stm_state.specs.State.{State, no_counts, start, call_at, is_executed, is_ready, is_done}
+use Rattle.stm_state.specs.Steps.{Block, Step, counted, one_step, one_asking, one_execution, one_validation, ask_validation, ask_execution, asked, count_done, read_at, decided, parked, has_new_key, resume_dependents, to_validate, recorded, aborted, validated, is_executed_at, all_stand}
 use Rattle.stm_state.specs.Done.{Reached, started, stepped}
-use Rattle.stm_state.proofs.Whole.{replicated, none_ok, err_ok, same_state, invariant_kept}
+use Rattle.stm_state.proofs.Cases.{IsMade, by_ask, by_read, by_park, by_record, by_validate, made}
+use Rattle.stm_state.proofs.Lists.{replicated}
+use Rattle.stm_state.proofs.Whole.{invariant_kept}
 
 -- each asking, execution and decision is a step, and only an asking is told that all is done
 pub record Within (c : Counts) (told : ℕ) : Type 0 where
@@ -26,20 +25,20 @@ abbrev CountsWithin : State → Type 0
 CountsWithin s = (x : ℕ) → Within (get_or s.counts x no_counts) (get_or s.dones x 0)
 
 -- a step leaves what the workers did as it was
-abbrev IsSilent : State → State → Type 0
+abbrev pub IsSilent : State → State → Type 0
 IsSilent s t = (t.counts ≡ s.counts) × (t.dones ≡ s.dones)
 
 -- ---- steps that are silent before they are counted
 
-ask_validation_silent : (w : ℕ) (s : State) → IsSilent s (ask_validation w s)
+pub ask_validation_silent : (w : ℕ) (s : State) → IsSilent s (ask_validation w s)
 unfolding ask_validation
 ask_validation_silent w s = cond_both (is_executed (call_at s s.validation).status) _ _ (λ t. IsSilent s t) (λ _. (refl, refl)) (λ _. (refl, refl))
 
-ask_execution_silent : (w : ℕ) (s : State) → IsSilent s (ask_execution w s)
+pub ask_execution_silent : (w : ℕ) (s : State) → IsSilent s (ask_execution w s)
 unfolding ask_execution
 ask_execution_silent w s = cond_both (is_ready (call_at s s.execution).status) _ _ (λ t. IsSilent s t) (λ _. (refl, refl)) (λ _. (refl, refl))
 
-parked_silent : (w i b : ℕ) (s : State) → IsSilent s (parked w i b s)
+pub parked_silent : (w i b : ℕ) (s : State) → IsSilent s (parked w i b s)
 unfolding parked
 parked_silent w i b s = cond_both (is_executed (call_at s b).status) _ _ (λ t. IsSilent s t) (λ _. (refl, refl)) (λ _. (refl, refl))
 
@@ -47,15 +46,15 @@ to_validate_silent : (w i : ℕ) (new : Bool) (task : Task) (s : State) → IsSi
 unfolding to_validate
 to_validate_silent w i new task s = cond_both (nat_lt i s.validation) _ _ (λ t. IsSilent s t) (λ _. cond_both new _ _ (λ t. IsSilent s t) (λ _. (refl, refl)) (λ _. (refl, refl))) (λ _. (refl, refl))
 
-recorded_silent : (w i : ℕ) (answers : List Answer) (receipt : Receipt) (s : State) → IsSilent s (recorded w i answers receipt s)
-unfolding woken
+pub recorded_silent : (w i : ℕ) (answers : List StorageAnswer) (receipt : Receipt) (s : State) → IsSilent s (recorded w i answers receipt s)
+unfolding resume_dependents
 recorded_silent w i answers receipt s = to_validate_silent w i (has_new_key (call_at s i).last receipt.writes) _ _
 
 aborted_silent : (w i : ℕ) (s : State) → IsSilent s (aborted w i s)
 unfolding aborted
 aborted_silent w i s = cond_both (nat_lt i s.execution) _ _ (λ t. IsSilent s t) (λ _. (refl, refl)) (λ _. (refl, refl))
 
-validated_silent : (w i n : ℕ) (s : State) → IsSilent s (validated w i n s)
+pub validated_silent : (w i n : ℕ) (s : State) → IsSilent s (validated w i n s)
 unfolding validated
 validated_silent w i n s = cond_both (is_executed_at n (call_at s i) && not (all_stand i s)) _ _ (λ t. IsSilent s t) (λ _. aborted_silent w i s) (λ _. (refl, refl))
 
@@ -92,7 +91,7 @@ module _ (s : State) (w : ℕ) (h : CountsWithin s) (w_in : w < length s.counts)
       ]))
 
   -- an asking that is told that all is done
-  told_kept : w < length s.dones → CountsWithin (counted one_asking w (told_done w s))
+  told_kept : w < length s.dones → CountsWithin (counted one_asking w (count_done w s))
   told_kept w_told x = elim (cases_eq x w) [
     | inl e ↦ subst (λ y. Within (get_or (set s.counts w (one_asking (get_or s.counts w no_counts))) y no_counts) (get_or (set s.dones w (get_or s.dones w 0 + 1)) y 0)) (sym e)
         (subst (λ c. Within c (get_or (set s.dones w (get_or s.dones w 0 + 1)) w 0)) (sym (get_or-set_same s.counts w (one_asking (get_or s.counts w no_counts)) no_counts w_in))
@@ -114,29 +113,14 @@ module _ (s : State) (w : ℕ) (h : CountsWithin s) (w_in : w < length s.counts)
 
 -- ---- one step
 
-module _ (block : Block) (w : ℕ) (s t : State) (h : CountsWithin s) (w_in : w < length s.counts) (w_told : w < length s.dones) where
-  record_keeps : (i : ℕ) (answers : List Answer) (o : Option Receipt) → record_within i answers w o s ≡ Some (Ok t) → CountsWithin t
-  record_keeps i answers None k = absurd (none_ok t k)
-  record_keeps i answers (Some receipt) k = go (nat_lt 1048576 (s.placed + len receipt.writes)) (nat_le 65535 (call_at s i).incarnation) k
-    where
-      go : (full spent : Bool) → cond full (Some (Err ArenaFull)) (cond spent (Some (Err IncarnationLimit)) (Some (Ok (counted one_execution w (recorded w i answers receipt s))))) ≡ Some (Ok t) → CountsWithin t
-      go true spent k = absurd (err_ok ArenaFull t k)
-      go false true k = absurd (err_ok IncarnationLimit t k)
-      go false false k = subst (λ x. CountsWithin x) (same_state _ t k) (silent_kept s w h w_in one_execution (recorded w i answers receipt s) execution_keeps (recorded_silent w i answers receipt s))
-
-  park_keeps : (i b : ℕ) (spent : Bool) → cond spent (Some (Err IncarnationLimit)) (Some (Ok (counted one_step w (parked w i b s)))) ≡ Some (Ok t) → CountsWithin t
-  park_keeps i b true k = absurd (err_ok IncarnationLimit t k)
-  park_keeps i b false k = subst (λ x. CountsWithin x) (same_state _ t k) (silent_kept s w h w_in one_step (parked w i b s) step_keeps (parked_silent w i b s))
-
-  -- each step, by the task
-  task_keeps : (task : Task) (step : Step) → step_with block w task step s ≡ Some (Ok t) → CountsWithin t
-  task_keeps Idle Ask k = subst (λ x. CountsWithin x) (same_state _ t k) (asked_kept s w h w_in w_told)
-  task_keeps (Running i answers None) (Read_key key) k = subst (λ x. CountsWithin x) (same_state _ t k) (silent_kept s w h w_in one_step (read_at block.base key w i answers s) step_keeps (refl, refl))
-  task_keeps (Running i answers (Some b)) Park k = park_keeps i b (nat_le 65535 (call_at s i).incarnation) k
-  task_keeps (Running i answers None) Record k = record_keeps i answers (block.borne i (replies_of answers)) k
-  task_keeps (Validating i n left) Validate k = subst (λ x. CountsWithin x) (same_state _ t k)
-      (silent_kept s w h w_in (if decided i n left s then one_validation else one_step) (validated w i n s) (decision_keeps (decided i n left s)) (validated_silent w i n s))
-  task_keeps task step k = absurd (none_ok t k)
+module _ (block : Block) (w : ℕ) (s : State) (h : CountsWithin s) (w_in : w < length s.counts) (w_told : w < length s.dones) where
+  -- each step that is made
+  made_keeps : (step : Step) (t : State) → IsMade block w s step t → CountsWithin t
+  made_keeps step t (by_ask at) = asked_kept s w h w_in w_told
+  made_keeps step t (by_read i answers key at) = silent_kept s w h w_in one_step (read_at block.base key w i answers s) step_keeps (refl, refl)
+  made_keeps step t (by_park i b answers at below) = silent_kept s w h w_in one_step (parked w i b s) step_keeps (parked_silent w i b s)
+  made_keeps step t (by_record i answers receipt at bears below) = silent_kept s w h w_in one_execution (recorded w i answers receipt s) execution_keeps (recorded_silent w i answers receipt s)
+  made_keeps step t (by_validate i n left at) = silent_kept s w h w_in (if decided i n left s then one_validation else one_step) (validated w i n s) (decision_keeps (decided i n left s)) (validated_silent w i n s)
 
 -- ---- all states
 
@@ -150,4 +134,4 @@ pub counts_within : (block : Block) (workers : ℕ) (s : State) → Reached bloc
 counts_within block workers s started = first_within block workers
 counts_within block workers t (stepped {s} w step before w_in k) =
     let sized = (invariant_kept block workers s before).sized in
-    task_keeps block w s t (counts_within block workers s before) (let e = sized.counts in omega (arith, e, w_in)) (let e = sized.dones in omega (arith, e, w_in)) (task_at s w) step k
+    made_keeps block w s (counts_within block workers s before) (let e = sized.counts in omega (arith, e, w_in)) (let e = sized.dones in omega (arith, e, w_in)) step t (made block w s t step k)

@@ -7,7 +7,7 @@ use Rattle.rv_ledger.specs.Call.{Invocation}
 use Rattle.rv_ledger.specs.declared.receipt.Receipt.{Receipt}
 use Rattle.rv_step.specs.declared.machine.Machine.{Machine}
 use Rattle.rv_step.specs.Step.{StepResult, Next, Asks, Ends, step, answered}
-use Rattle.rv_step.specs.Chain.{Reply, after_step, borne, ends, followed, ran, receipt_of, replayed, start}
+use Rattle.rv_step.specs.Chain.{Reply, after_step, borne_out, ends, followed, ran, receipt_of, replayed, start}
 use Rattle.rv_step.specs.Asked.{asked_after, asked_by, asked_in, asked_on}
 use Rattle.rv_step.proofs.Falls.{IsFalling, step_falls, answered_falls, less_gas, not_asked}
 use Rattle.rv_step.proofs.Receipts.{one_receipt_lem, reached}
@@ -19,7 +19,7 @@ Completes f = (rest : List Reply) × (receipt : Receipt) × (f rest ≡ Some rec
 
 -- some replies after these bear a receipt of the call out
 abbrev pub GoesOn : Invocation → List Reply → Type 0
-GoesOn call replies = Completes (λ rest. borne call (replies ++ rest))
+GoesOn call replies = Completes (λ rest. borne_out call (replies ++ rest))
 
 -- ---- one more answer
 
@@ -84,10 +84,10 @@ goes_first call = let some = (one_receipt_lem call map.empty).some_answers in (s
 pub goes_next : (call : Invocation) (replies : List Reply) (key : List ℕ) (content : Option (List ℕ)) → asked_by call replies ≡ Some key → GoesOn call (replies ++ (key, content) ∷ [])
 goes_next call replies key content e =
     let done = chain_goes call.gas (suc call.gas) (start call) replies key content (let gas = start_gas call in omega (arith, gas)) e in
-    (done.0, done.1, ap (borne call) (append_assoc replies ((key, content) ∷ []) done.0) ∙ done.2)
+    (done.0, done.1, ap (borne_out call) (append_assoc replies ((key, content) ∷ []) done.0) ∙ done.2)
 
 -- where it goes on and asks for nothing it has ended
-pub goes_last : (call : Invocation) (replies : List Reply) → GoesOn call replies → asked_by call replies ≡ None → (receipt : Receipt) × (borne call replies ≡ Some receipt)
-goes_last call replies ([], receipt, e) none = (receipt, ap (borne call) (sym (append-nil replies)) ∙ e)
+pub goes_last : (call : Invocation) (replies : List Reply) → GoesOn call replies → asked_by call replies ≡ None → (receipt : Receipt) × (borne_out call replies ≡ Some receipt)
+goes_last call replies ([], receipt, e) none = (receipt, ap (borne_out call) (sym (append-nil replies)) ∙ e)
 goes_last call replies (reply ∷ rest, receipt, e) none =
     let asks = chain_asks call.gas (suc call.gas) (start call) replies (reply ∷ rest) receipt e in cc

@@ -6,20 +6,20 @@ use Rattle.rv_ledger.specs.Key.{Storage}
 use Rattle.rv_ledger.specs.Call.{Invocation}
 use Rattle.rv_ledger.specs.declared.receipt.Receipt.{Receipt}
 use Rattle.rv_step.specs.Chain.{Reply, AreFrom, ends}
-use Rattle.rv_step.specs.Fold.{laid, receipts_of, store_after, store_after_call}
+use Rattle.rv_step.specs.Fold.{apply_writes, receipts_of, store_after, store_after_call}
 use Rattle.rv_step.proofs.Receipts.{one_receipt_lem}
 use Rattle.stm_state.specs.State.{fresh}
-use Rattle.stm_state.specs.Done.{last_receipt, borne_by, block_of, DoneIsInOrder}
+use Rattle.stm_state.specs.Done.{last_receipt, borne_out_by, block_of, DoneIsInOrder}
 use Rattle.stm_state.proofs.Whole.{invariant_kept}
 use Rattle.stm_state.proofs.Serials.{serial_at_done}
 
 -- each call has the receipt that answers of the storage before it bear out
 abbrev EndsEach : List Invocation → (ℕ → Storage) → (ℕ → Receipt) → Type 0
-EndsEach calls before receipt = (i : ℕ) → i < length calls → (replies : List Reply) × AreFrom (before i) replies × (borne_by (slice_get calls i) replies ≡ Some (receipt i))
+EndsEach calls before receipt = (i : ℕ) → i < length calls → (replies : List Reply) × AreFrom (before i) replies × (borne_out_by (slice_get calls i) replies ≡ Some (receipt i))
 
 -- each storage is the one before it with the receipt's writes laid over it
 abbrev LaysEach : List Invocation → (ℕ → Storage) → (ℕ → Receipt) → Type 0
-LaysEach calls before receipt = (i : ℕ) → i < length calls → before (suc i) ≡ laid (before i) (receipt i).writes
+LaysEach calls before receipt = (i : ℕ) → i < length calls → before (suc i) ≡ apply_writes (before i) (receipt i).writes
 
 -- receipts that follow on each other storage by storage are those of the calls in order
 in_order : (calls : List Invocation) (before : ℕ → Storage) (receipt : ℕ → Receipt) (xs : List (Option Receipt)) → EndsEach calls before receipt → LaysEach calls before receipt
@@ -31,7 +31,7 @@ in_order (call ∷ calls) before receipt [] each lays same has = absurd (omega (
 in_order (call ∷ calls) before receipt (x ∷ xs) each lays same has =
     let own = each 0 (omega arith) in
     let one : receipt 0 ≡ ends call (before 0) = (one_receipt_lem call (before 0)).no_other own.0 (receipt 0) own.1 own.2 in
-    let step : before 1 ≡ store_after_call call (before 0) = lays 0 (omega arith) ∙ ap (λ (r : Receipt). laid (before 0) r.writes) one in
+    let step : before 1 ≡ store_after_call call (before 0) = lays 0 (omega arith) ∙ ap (λ (r : Receipt). apply_writes (before 0) r.writes) one in
     let rest = in_order calls (λ i. before (suc i)) (λ i. receipt (suc i)) xs (λ i l. each (suc i) (omega (arith, l))) (λ i l. lays (suc i) (omega (arith, l))) (omega (arith, same)) (λ i l. has (suc i) (omega (arith, l))) in (
       (let head : x ≡ Some (ends call (before 0)) = has 0 (omega arith) ∙ ap Some one in
           let tail : xs ≡ map Some (receipts_of calls (store_after_call call (before 0))) = rest.0 ∙ ap (λ store. map Some (receipts_of calls store)) step in cc),

@@ -2,18 +2,18 @@
 use Rattle.std.proofs.Common.{◌≡◌, ◌⊎◌, ℕ, Bool, true, false, option_map, List, [], ◌∷◌, Option, Some, arith, refl, sym, ap, ◌∙◌, inl, inr}
 use Rattle.std.specs.List.{AllByRecursion}
 use Rattle.std.proofs.lemmas.Bool.{cases_lt}
-use Rattle.version_arena.specs.Shelf.{Content}
+use Rattle.version_arena.specs.ArenaState.{Content}
 use Rattle.read_set.specs.declared.Origin.{Origin}
 use Rattle.read_set.specs.declared.Origin.TheVariants as origin
 use Rattle.read_set.specs.declared.Read.{Read}
-use Rattle.rv_step.specs.declared.answer.Answer.{Answer}
+use Rattle.rv_step.specs.declared.answer.StorageAnswer.{StorageAnswer}
 use Rattle.mvmap.specs.Versions.{Stands, entry_at}
 use Rattle.mvmap.specs.Reading.{stands}
 use Rattle.stm_state.specs.declared.state.Task.{Task}
 use Rattle.stm_state.specs.declared.state.Task.TheVariants.{Idle, Running, Validating}
 use Rattle.stm_state.specs.State.{State, call_at, task_at, is_executed}
 use Rattle.stm_state.specs.Steps.{Block, reads_of}
-use Rattle.stm_state.specs.Invariant.{view_of, run_by, Facts, IsRight, IsRightAnswer, IsSafe, validated, write_of, entry_by}
+use Rattle.stm_state.specs.Invariant.{view_of, run_by, ViewInvariant, IsRight, IsRightAnswer, IsSafe, validated, write_of, entry_by}
 use Rattle.stm_state.specs.Parts.{HoldsWhereReached, IsRun, CallsAreAttended, OthersHaveEstimates, IsValidated, ReadsAreWatched, IsContent, IsKnown, IsTrueAnswer, RunsAreBorneOut}
 use Rattle.stm_state.proofs.Asks.{same_entries}
 use Rattle.stm_state.proofs.Records.{no_version}
@@ -39,7 +39,7 @@ all_or P Q (x ∷ xs) h = elim h.0 [
   | inr q ↦ inr q
 ]
 
-module _ (block : Block) (s : State) (f : Facts block (view_of s)) where
+module _ (block : Block) (s : State) (f : ViewInvariant block (view_of s)) where
   -- part 1
   pub attended : CallsAreAttended block s
   attended = record {
@@ -89,14 +89,14 @@ module _ (block : Block) (s : State) (f : Facts block (view_of s)) where
   known i key value (origin.Version w n) right = (right.0, elim right.1 [ inl old ↦ inr old | inr there ↦ inl (value, there) ])
 
   -- so with all answers
-  true_all : (i : ℕ) (answers : List Answer) → AllByRecursion (IsRightAnswer block (view_of s) i) answers → AllByRecursion (IsTrueAnswer block s i) answers
+  true_all : (i : ℕ) (answers : List StorageAnswer) → AllByRecursion (IsRightAnswer block (view_of s) i) answers → AllByRecursion (IsTrueAnswer block s i) answers
   true_all i [] h = tt
   true_all i (x ∷ xs) h = ((content_is i x.key x.value x.origin h.0, known i x.key x.value x.origin h.0), true_all i xs h.1)
 
   -- part 4
   pub borne_out : RunsAreBorneOut block s
   borne_out = record {
-    recorded = λ i run h. let b = f.recorded i run h in record { answers = b.answers; reads = b.reads; borne = b.borne; true_answers = true_all i b.answers b.right };
+    recorded = λ i run h. let b = f.recorded i run h in record { answers = b.answers; reads = b.reads; borne_out = b.borne_out; true_answers = true_all i b.answers b.right };
     going_on = λ w i answers waits h. true_all i answers (f.answered w i answers waits h);
     published = λ i h. let run = f.executed i h in record {
       run = run.0;

@@ -4,7 +4,7 @@ use Rattle.std.proofs.lemmas.Bool.{cases_lt}
 use Rattle.rv_ledger.specs.Key.{Storage}
 use Rattle.rv_ledger.specs.Call.{Invocation}
 use Rattle.stm_state.specs.State.{State, is_done}
-use Rattle.stm_state.specs.Drive.{Refusal, NotDone, due, went_on, driven}
+use Rattle.stm_state.specs.Drive.{Refusal, NotDone, due_result, continue_drive, driven}
 use Rattle.stm_state.specs.OneWorker.{MeetsNoEstimate, HoldsAfter, NeverMeetsEstimate}
 
 module _ (calls : List Invocation) (store : Storage) where
@@ -29,9 +29,9 @@ module _ (calls : List Invocation) (store : Storage) where
   used_up s = refl
 
   -- one step
-  pub one_step_on : (s t : State) (k : ℕ) → due calls store 0 s ≡ Some (Ok t) → alone (suc k) s ≡ alone k t
+  pub one_step_on : (s t : State) (k : ℕ) → due_result calls store 0 s ≡ Some (Ok t) → alone (suc k) s ≡ alone k t
   unfolding driven
-  one_step_on s t k e = ap (went_on (λ u. driven calls store 1 (replicate k 0) u)) e
+  one_step_on s t k e = ap (continue_drive (λ u. driven calls store 1 (replicate k 0) u)) e
 
   -- no step
   pub leads_none : (s : State) → Leads s 0 s
@@ -47,12 +47,12 @@ module _ (calls : List Invocation) (store : Storage) where
   unfolding NeverMeetsEstimate
   free_now s h = h
 
-  pub free_on : (s t : State) (k : ℕ) → MeetsNoEstimate s → due calls store 0 s ≡ Some (Ok t) → Free k t → Free (suc k) s
+  pub free_on : (s t : State) (k : ℕ) → MeetsNoEstimate s → due_result calls store 0 s ≡ Some (Ok t) → Free k t → Free (suc k) s
   unfolding NeverMeetsEstimate
   free_on s t k now e h = (now, subst (λ o. HoldsAfter (λ u. NeverMeetsEstimate calls store (replicate k 0) u) o) (sym e) h)
 
   -- a step, and then the others
-  pub leads_next : (s t u : State) (m : ℕ) → is_done s ≡ false → due calls store 0 s ≡ Some (Ok t) → MeetsNoEstimate s → Leads t m u → Leads s (m + 1) u
+  pub leads_next : (s t u : State) (m : ℕ) → is_done s ≡ false → due_result calls store 0 s ≡ Some (Ok t) → MeetsNoEstimate s → Leads t m u → Leads s (m + 1) u
   leads_next s t u m not_yet e now rest = record {
     early = early;
     late = λ k. let one : m + 1 + k ≡ suc (m + k) = omega arith in ap (λ n. alone n s) one ∙ one_step_on s t (m + k) e ∙ rest.late k;

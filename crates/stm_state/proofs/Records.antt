@@ -3,19 +3,20 @@ use Rattle.std.proofs.Common.{◌≡◌, ◌<◌, ◌≤◌, ◌≢◌, ◌⊎�
 use Rattle.std.specs.FinMap.{get, len}
 use Rattle.std.proofs.lemmas.Bool.{cases_eq, cond_both}
 use Rattle.std.proofs.lemmas.List.{get_or-set_same, get_or-set_other, length-map}
-use Rattle.version_arena.specs.Shelf.{Content}
+use Rattle.version_arena.specs.ArenaState.{Content}
 use Rattle.rv_ledger.specs.declared.receipt.Receipt.{Receipt}
 use Rattle.rv_step.specs.Replies.{replies_of}
-use Rattle.rv_step.specs.declared.answer.Answer.{Answer}
+use Rattle.rv_step.specs.declared.answer.StorageAnswer.{StorageAnswer}
 use Rattle.mvmap.specs.Versions.{Entry, Stands, Estimate, entry_at}
 use Rattle.stm_state.specs.declared.state.Status.TheVariants.{Executing, Executed, Aborting}
 use Rattle.stm_state.specs.declared.state.CallState.{CallState}
 use Rattle.stm_state.specs.declared.state.Task.{Task}
 use Rattle.stm_state.specs.declared.state.Task.TheVariants.{Idle, Running, Validating}
+use Rattle.stm_state.specs.Limits.{incarnation_limit}
 use Rattle.stm_state.specs.State.{State, fresh, call_at, task_at, with_call, with_task}
-use Rattle.stm_state.specs.Steps.{Block, reads_of, read_of, has_new_key, is_parked_on, readied_if, lowered, moved as moved_versions, woken, to_validate, kept, recorded}
-use Rattle.stm_state.specs.Invariant.{View, view_of, Facts, IsBorneOut, Invariant, IsSized, write_of, run_by, named_by}
-use Rattle.stm_state.proofs.Moves.{Move, moved, right_all}
+use Rattle.stm_state.specs.Steps.{Block, reads_of, read_of, has_new_key, is_parked_on, resume_if_parked, lowered, recorded_versions as moved_versions, resume_dependents, to_validate, recorded_run, recorded}
+use Rattle.stm_state.specs.Invariant.{View, view_of, ViewInvariant, IsBorneOut, Invariant, IsSized, write_of, run_by, named_by}
+use Rattle.stm_state.proofs.Frames.{Frame, recorded_versions, right_all}
 use Rattle.stm_state.proofs.Safes.{StandsOn, on_below, on_estimates, safe_other, safe_validated}
 use Rattle.stm_state.proofs.Tests.{lt_says, not_lt_says, resized}
 use Rattle.stm_state.proofs.Asks.{same_entries}
@@ -39,8 +40,8 @@ estimate_or_same n None None a b p q h = inl (p ∙ sym q)
 estimate_or_same n (Some x) None a b p q h = let r : false ≡ true = h refl in cc
 estimate_or_same n o (Some y) a b p q h = inr q
 
-module _ (block : Block) (s : State) (w i : ℕ) (answers : List Answer) (receipt : Receipt) (f : Facts block (view_of s)) (runs : task_at s w ≡ Running i answers None) (w_in : w < length s.tasks) (i_in : i < length s.calls)
-    (less : (call_at s i).incarnation < 65535) (borne : block.borne i (replies_of answers) ≡ Some receipt) where
+module _ (block : Block) (s : State) (w i : ℕ) (answers : List StorageAnswer) (receipt : Receipt) (f : ViewInvariant block (view_of s)) (runs : task_at s w ≡ Running i answers None) (w_in : w < length s.tasks) (i_in : i < length s.calls)
+    (less : (call_at s i).incarnation < incarnation_limit) (borne_out : block.borne_out i (replies_of answers) ≡ Some receipt) where
   -- the worker runs call i
   runs_i : run_by (task_at s w) ≡ Some i
   runs_i = ap run_by runs
@@ -55,7 +56,7 @@ module _ (block : Block) (s : State) (w i : ℕ) (answers : List Answer) (receip
 
   -- the call that is recorded
   abbrev done : CallState
-  done = record (call_at s i) { status = Executed; last = Some (kept answers receipt) }
+  done = record (call_at s i) { status = Executed; last = Some (recorded_run answers receipt) }
 
   -- the execution index afterwards
   abbrev lower : ℕ
@@ -70,7 +71,7 @@ module _ (block : Block) (s : State) (w i : ℕ) (answers : List Answer) (receip
 
   -- the state after the record, with a task and a validation index
   abbrev after : Task → ℕ → State
-  after task validation = with_task w task (record (woken i (with_call i done placed)) { validation = validation })
+  after task validation = with_task w task (record (resume_dependents i (with_call i done placed)) { validation = validation })
 
   -- the execution index is at most each call that is readied
   least : (j : ℕ) → is_parked_on i (call_at s j) ≡ true → lower ≤ j
@@ -88,7 +89,7 @@ module _ (block : Block) (s : State) (w i : ℕ) (answers : List Answer) (receip
   before = woken_view (view_of s) i lower
 
   -- the invariant holds of it
-  before_facts : Facts block before
+  before_facts : ViewInvariant block before
   before_facts = woken_facts block (view_of s) i lower f (lowered_low i s.execution 0 (set s.calls i done)) least
 
   -- call i is in it as it was
@@ -101,13 +102,13 @@ module _ (block : Block) (s : State) (w i : ℕ) (answers : List Answer) (receip
 
   -- what the record changes besides
   record_move : (task : Task) (validation : ℕ) → run_by task ≡ None → ((j n left : ℕ) → task ≡ Validating j n left → (j ≡ i) × (n ≡ (call_at s i).incarnation) × (left ≡ length answers)) → ((j : ℕ) → named_by task ≡ Some j → j ≡ i) → validation ≤ block.count
-      → Move block before (view_of (after task validation)) i w done task
-  unfolding woken
+      → Frame block before (view_of (after task validation)) i w done task
+  unfolding resume_dependents
   record_move task validation quiet checks name within = record {
-    calls = λ j ne. mapped_at (readied_if i) (set s.calls i done) j fresh refl ∙ ap (readied_if i) (get_or-set_other s.calls i j done fresh ne);
+    calls = λ j ne. mapped_at (resume_if_parked i) (set s.calls i done) j fresh refl ∙ ap (resume_if_parked i) (get_or-set_other s.calls i j done fresh ne);
     tasks = λ x ne. get_or-set_other s.tasks w x task Idle ne;
     entries = λ j key ne. moved_other i (call_at s i).incarnation (call_at s i).last receipt.writes s.versions key j ne;
-    call = mapped_at (readied_if i) (set s.calls i done) i fresh refl ∙ ap (readied_if i) (get_or-set_same s.calls i done fresh i_in);
+    call = mapped_at (resume_if_parked i) (set s.calls i done) i fresh refl ∙ ap (resume_if_parked i) (get_or-set_same s.calls i done fresh i_in);
     task = get_or-set_same s.tasks w task Idle w_in;
     execution_within = before_facts.execution_within;
     validation_within = within;
@@ -126,11 +127,11 @@ module _ (block : Block) (s : State) (w i : ℕ) (answers : List Answer) (receip
     grows = let e = ap (λ (c : CallState). c.incarnation) before_call in omega (arith, e);
     versions = λ key n x h. absurd (no_version (write_of (call_at s i).last key) n x (sym (old_entries key) ∙ h));
     own_entries = λ key. moved_at i (call_at s i).incarnation (call_at s i).last receipt.writes s.versions key (old_entries key);
-    executed = λ _. (kept answers receipt, refl);
-    recorded = λ run h. let same : kept answers receipt ≡ run = cc in subst (λ r. IsBorneOut block before i r) same (record {
+    executed = λ _. (recorded_run answers receipt, refl);
+    recorded = λ run h. let same : recorded_run answers receipt ≡ run = cc in subst (λ r. IsBorneOut block before i r) same (record {
       answers = answers;
       reads = refl;
-      borne = borne;
+      borne_out = borne_out;
       right = right_all block (view_of s) before (woken_grows block (view_of s) i lower f (lowered_low i s.execution 0 (set s.calls i done)) least) i answers (f.answered w i answers None runs);
     });
     answered = λ j xs waits h. let r : run_by task ≡ Some j = ap run_by h in cc;
@@ -142,11 +143,11 @@ module _ (block : Block) (s : State) (w i : ℕ) (answers : List Answer) (receip
   record_facts : (task : Task) (validation : ℕ) → run_by task ≡ None → ((j n left : ℕ) → task ≡ Validating j n left → (j ≡ i) × (n ≡ (call_at s i).incarnation) × (left ≡ length answers)) → ((j : ℕ) → named_by task ≡ Some j → j ≡ i) → validation ≤ block.count
       → (i < validation → task ≡ Validating i (call_at s i).incarnation (length answers))
       → ((j : ℕ) → j ≢ i → j < validation → (j < s.validation) × StandsOn before (view_of (after task validation)) j)
-      → Facts block (view_of (after task validation))
+      → ViewInvariant block (view_of (after task validation))
   record_facts task validation quiet checks name within own others =
       let m = record_move task validation quiet checks name within in
       let u : View = view_of (after task validation) in
-      moved block before u i w done task m before_facts (λ j h l. elim (cases_eq j i) [
+      recorded_versions block before u i w done task m before_facts (λ j h l. elim (cases_eq j i) [
         | inl e ↦
             let at : i < validation = let l2 : j < validation = l in omega (arith, e, l2) in
             let c : u.calls j ≡ done = ap u.calls e ∙ m.call in
@@ -158,7 +159,7 @@ module _ (block : Block) (s : State) (w i : ℕ) (answers : List Answer) (receip
 
   -- what stands of calls up to i stays so
   below_stands : (task : Task) (validation j : ℕ) → j ≤ i → StandsOn before (view_of (after task validation)) j
-  unfolding woken
+  unfolding resume_dependents
   below_stands task validation j l = on_below before (view_of (after task validation)) j (λ key x low. moved_other i (call_at s i).incarnation (call_at s i).last receipt.writes s.versions key x (omega arith))
 
   -- whether the run wrote a new key
@@ -167,7 +168,7 @@ module _ (block : Block) (s : State) (w i : ℕ) (answers : List Answer) (receip
 
   -- without a new key entries change only where an estimate was
   estimates_change : new_key ≡ false → (task : Task) (validation : ℕ) (key : List ℕ) (x : ℕ) → ((view_of (after task validation)).entries key x ≡ before.entries key x) ⊎ (before.entries key x ≡ Some Estimate)
-  unfolding woken
+  unfolding resume_dependents
   estimates_change none task validation key x = elim (cases_eq x i) [
     | inl e ↦ subst (λ y. ((view_of (after task validation)).entries key y ≡ before.entries key y) ⊎ (before.entries key y ≡ Some Estimate)) (sym e)
         (estimate_or_same (call_at s i).incarnation (get receipt.writes key) (write_of (call_at s i).last key) _ _
@@ -176,7 +177,7 @@ module _ (block : Block) (s : State) (w i : ℕ) (answers : List Answer) (receip
   ]
 
   -- with a new key all calls from i on are validated again
-  lowers : i < s.validation → Facts block (view_of (after Idle i))
+  lowers : i < s.validation → ViewInvariant block (view_of (after Idle i))
   lowers below = record_facts Idle i refl (λ j n left h. cc) (λ j h. cc) (let within = f.validation_within in omega (arith, within)) (λ l. absurd (omega arith))
       (λ j ne l. (omega arith, below_stands Idle i j (omega arith)))
 
@@ -185,28 +186,28 @@ module _ (block : Block) (s : State) (w i : ℕ) (answers : List Answer) (receip
   check = Validating i (call_at s i).incarnation (length answers)
 
   -- without one only call i is
-  checks_own : i < s.validation → new_key ≡ false → Facts block (view_of (after check s.validation))
+  checks_own : i < s.validation → new_key ≡ false → ViewInvariant block (view_of (after check s.validation))
   checks_own below none = record_facts check s.validation refl (λ j n left h. (cc, cc, cc)) (λ j h. cc) f.validation_within (λ _. refl)
       (λ j ne l. (l, on_estimates before (view_of (after check s.validation)) j (estimates_change none check s.validation)))
 
   -- above the validation index nothing is
-  ends_task : s.validation ≤ i → Facts block (view_of (after Idle s.validation))
+  ends_task : s.validation ≤ i → ViewInvariant block (view_of (after Idle s.validation))
   ends_task above = record_facts Idle s.validation refl (λ j n left h. cc) (λ j h. cc) f.validation_within (λ l. absurd (omega arith))
       (λ j ne l. (l, below_stands Idle s.validation j (omega arith)))
 
   -- a record keeps the invariant
-  pub recorded_facts : Facts block (view_of (recorded w i answers receipt s))
-  unfolding to_validate woken
-  recorded_facts = cond_both (nat_lt i s.validation) _ _ (λ t. Facts block (view_of t))
-      (λ l. let below = lt_says i s.validation l in cond_both new_key _ _ (λ t. Facts block (view_of t)) (λ _. lowers below) (λ none. checks_own below none))
+  pub recorded_facts : ViewInvariant block (view_of (recorded w i answers receipt s))
+  unfolding to_validate resume_dependents
+  recorded_facts = cond_both (nat_lt i s.validation) _ _ (λ t. ViewInvariant block (view_of t))
+      (λ l. let below = lt_says i s.validation l in cond_both new_key _ _ (λ t. ViewInvariant block (view_of t)) (λ _. lowers below) (λ none. checks_own below none))
       (λ l. ends_task (not_lt_says i s.validation l))
 
 -- a record keeps the sizes
-recorded_sized : (count workers w i : ℕ) (answers : List Answer) (receipt : Receipt) (s : State) → IsSized count workers s → IsSized count workers (recorded w i answers receipt s)
-unfolding to_validate woken
+recorded_sized : (count workers w i : ℕ) (answers : List StorageAnswer) (receipt : Receipt) (s : State) → IsSized count workers s → IsSized count workers (recorded w i answers receipt s)
+unfolding to_validate resume_dependents
 recorded_sized count workers w i answers receipt s h =
-    let c : CallState = record (call_at s i) { status = Executed; last = Some (kept answers receipt) } in
-    let calls : length (map (readied_if i) (set s.calls i c)) ≡ length s.calls = length-map (set s.calls i c) (readied_if i) ∙ length-set s.calls i c in
+    let c : CallState = record (call_at s i) { status = Executed; last = Some (recorded_run answers receipt) } in
+    let calls : length (map (resume_if_parked i) (set s.calls i c)) ≡ length s.calls = length-map (set s.calls i c) (resume_if_parked i) ∙ length-set s.calls i c in
     cond_both (nat_lt i s.validation) _ _ (λ t. IsSized count workers t)
     (λ _. cond_both (has_new_key (call_at s i).last receipt.writes) _ _ (λ t. IsSized count workers t)
     (λ _. resized count workers s _ calls (length-set s.tasks w _) refl refl h)
@@ -214,10 +215,10 @@ recorded_sized count workers w i answers receipt s h =
     (λ _. resized count workers s _ calls (length-set s.tasks w _) refl refl h)
 
 -- recording keeps the invariant
-pub record_kept : (block : Block) (workers w i : ℕ) (answers : List Answer) (receipt : Receipt) (s : State) → Invariant block workers s → w < workers → task_at s w ≡ Running i answers None → (call_at s i).incarnation < 65535 → block.borne i (replies_of answers) ≡ Some receipt
+pub record_kept : (block : Block) (workers w i : ℕ) (answers : List StorageAnswer) (receipt : Receipt) (s : State) → Invariant block workers s → w < workers → task_at s w ≡ Running i answers None → (call_at s i).incarnation < incarnation_limit → block.borne_out i (replies_of answers) ≡ Some receipt
     → Invariant block workers (recorded w i answers receipt s)
-record_kept block workers w i answers receipt s h w_in runs less borne = record {
+record_kept block workers w i answers receipt s h w_in runs less borne_out = record {
   sized = recorded_sized block.count workers w i answers receipt s h.sized;
   facts = recorded_facts block s w i answers receipt h.facts runs (let e = h.sized.tasks in omega (arith, e))
-      (let within = h.facts.named w i (ap named_by runs) in let e = h.sized.calls in omega (arith, within, e)) less borne;
+      (let within = h.facts.named w i (ap named_by runs) in let e = h.sized.calls in omega (arith, within, e)) less borne_out;
 }

@@ -1,19 +1,19 @@
 -- Changes of the indices, and workers that end a task that runs nothing.
 use Rattle.std.proofs.Common.{◌≡◌, ◌<◌, ◌≤◌, ◌⊎◌, ℕ, List, length, Option, None, Some, arith, sym, ap, subst, ◌∙◌, inl, inr}
 use Rattle.std.specs.List.{AllByRecursion}
-use Rattle.rv_step.specs.declared.answer.Answer.{Answer}
+use Rattle.rv_step.specs.declared.answer.StorageAnswer.{StorageAnswer}
 use Rattle.stm_state.specs.declared.state.Status.TheVariants.{Ready, Executing, Executed, Aborting}
 use Rattle.stm_state.specs.declared.state.Task.{Task}
 use Rattle.stm_state.specs.declared.state.Task.TheVariants.{Idle, Running, Validating}
 use Rattle.stm_state.specs.Steps.{Block, reads_of}
-use Rattle.stm_state.specs.Invariant.{View, Facts, IsWaiting, IsRightAnswer, IsSafe, run_by, named_by}
-use Rattle.stm_state.proofs.Moves.{Grows, right_all, borne_still}
+use Rattle.stm_state.specs.Invariant.{View, ViewInvariant, IsWaiting, IsRightAnswer, IsSafe, run_by, named_by}
+use Rattle.stm_state.proofs.Frames.{Grows, right_all, borne_still}
 
 -- a view with other tasks and other indices
 abbrev pub rested : View → (ℕ → Task) → ℕ → ℕ → View
 rested v tasks execution validation = record { calls = v.calls; tasks = tasks; entries = v.entries; execution = execution; validation = validation }
 
-module _ (block : Block) (v : View) (tasks : ℕ → Task) (execution validation : ℕ) (f : Facts block v) (rest : (x : ℕ) → (tasks x ≡ v.tasks x) ⊎ ((tasks x ≡ Idle) × (run_by (v.tasks x) ≡ None))) where
+module _ (block : Block) (v : View) (tasks : ℕ → Task) (execution validation : ℕ) (f : ViewInvariant block v) (rest : (x : ℕ) → (tasks x ≡ v.tasks x) ⊎ ((tasks x ≡ Idle) × (run_by (v.tasks x) ≡ None))) where
   -- the view afterwards
   abbrev now : View
   now = rested v tasks execution validation
@@ -41,7 +41,7 @@ module _ (block : Block) (v : View) (tasks : ℕ → Task) (execution validation
   rested_run x i = rested_tasks x (λ task. run_by task ≡ Some i → run_by (v.tasks x) ≡ Some i) (λ h. h) (λ h. cc)
 
   -- runs are blocked on lower calls
-  rested_blocked : (x i b : ℕ) (answers : List Answer) → tasks x ≡ Running i answers (Some b) → b < i
+  rested_blocked : (x i b : ℕ) (answers : List StorageAnswer) → tasks x ≡ Running i answers (Some b) → b < i
   rested_blocked x i b answers = rested_tasks x (λ task. task ≡ Running i answers (Some b) → b < i) (f.blocked x i b answers) (λ h. cc)
 
   -- ABORTING calls wait
@@ -53,7 +53,7 @@ module _ (block : Block) (v : View) (tasks : ℕ → Task) (execution validation
   rested_grows = record { incarnations = λ i. omega arith; versions = λ key i n c h. inr h }
 
   -- answers of runs are right
-  rested_answered : (x i : ℕ) (answers : List Answer) (waits : Option ℕ) → tasks x ≡ Running i answers waits → AllByRecursion (IsRightAnswer block now i) answers
+  rested_answered : (x i : ℕ) (answers : List StorageAnswer) (waits : Option ℕ) → tasks x ≡ Running i answers waits → AllByRecursion (IsRightAnswer block now i) answers
   rested_answered x i answers waits = rested_tasks x (λ task. task ≡ Running i answers waits → AllByRecursion (IsRightAnswer block now i) answers)
       (λ h. right_all block v now rested_grows i answers (f.answered x i answers waits h)) (λ h. cc)
 
@@ -67,7 +67,7 @@ module _ (block : Block) (v : View) (tasks : ℕ → Task) (execution validation
 
   -- the invariant is kept, where the indices stay in range and the reads are seen to
   pub rested_facts : execution ≤ block.count → validation ≤ block.count → ((i : ℕ) → (v.calls i).status ≡ Ready → execution ≤ i)
-      → ((i : ℕ) → (v.calls i).status ≡ Executed → i < validation → AllByRecursion (IsSafe (rested v tasks execution validation) i) (reads_of (v.calls i).last)) → Facts block (rested v tasks execution validation)
+      → ((i : ℕ) → (v.calls i).status ≡ Executed → i < validation → AllByRecursion (IsSafe (rested v tasks execution validation) i) (reads_of (v.calls i).last)) → ViewInvariant block (rested v tasks execution validation)
   rested_facts execution_within validation_within ready safe = record {
     execution_within = execution_within;
     validation_within = validation_within;

@@ -26,8 +26,8 @@ use Rattle.ecalls.specs.StorageCalls.{a1, a2, ecall_charge, request_of}
 use Rattle.ecalls.specs.declared.request_kind.Request.{Request}
 use Rattle.ecalls.specs.declared.request_kind.Request.TheVariants as request
 use Rattle.rv_step.specs.declared.machine.Machine.{Machine}
-use Rattle.rv_step.specs.Step.{StepResult, Next, Asks, Ends, acted, answered, called, charged, computes, delivered, fetched, is_ecall, leaves, obeyed, read_own, served, step, takes, wrote}
-use Rattle.rv_step.specs.Chain.{start, kept, answered_by, settled, ran, ends}
+use Rattle.rv_step.specs.Step.{StepResult, Next, Asks, Ends, instruction_result, answered, ecall_result, charged, compute_result, delivery_result, fetch_result, is_ecall, memory_result, decode_result, read_result, storage_call_result, step, load_result, write_result}
+use Rattle.rv_step.specs.Chain.{start, kept_writes, answered_by, settled, ran, ends}
 
 -- a machine's own writes are at most 256 keys
 abbrev HasFew : Machine → Type 0
@@ -47,23 +47,23 @@ one_more false n h k = grind (arith, nat_tests)
 insert_few : (own : WriteMap) (key : List ℕ) (value : Option (List ℕ)) → has_room own key ≡ true → len own ≤ 256 → len (insert own key value) ≤ 256
 insert_few own key value room few = subst (λ n. n ≤ 256) (sym (len-insert nat_list_cmp_total own key value)) (one_more (contains_key own key) (len own) room few)
 
-takes_few : (kind : LoadKind) (rd : Reg) (s : Machine) (r : Result ℕ Fault) → HasFew s → LeavesFew (takes kind rd s r)
+takes_few : (kind : LoadKind) (rd : Reg) (s : Machine) (r : Result ℕ Fault) → HasFew s → LeavesFew (load_result kind rd s r)
 unfolding LeavesFew
 takes_few kind rd s (Ok n) h = h
 takes_few kind rd s (Err fault) h = h
 
-leaves_few : (s : Machine) (registers : List ℕ) (r : Result Space Fault) → HasFew s → LeavesFew (leaves s registers r)
+leaves_few : (s : Machine) (registers : List ℕ) (r : Result Space Fault) → HasFew s → LeavesFew (memory_result s registers r)
 unfolding LeavesFew
 leaves_few s registers (Ok memory) h = h
 leaves_few s registers (Err fault) h = h
 
-computes_few : (s : Machine) (o : Option (List ℕ × ℕ)) → HasFew s → LeavesFew (computes s o)
+computes_few : (s : Machine) (o : Option (List ℕ × ℕ)) → HasFew s → LeavesFew (compute_result s o)
 unfolding LeavesFew
 computes_few s (Some effect) h = h
 computes_few s None h = h
 
-acted_few : (i : Instr) (s : Machine) → HasFew s → LeavesFew (acted i s)
-unfolding acted
+acted_few : (i : Instr) (s : Machine) → HasFew s → LeavesFew (instruction_result i s)
+unfolding instruction_result
 acted_few (Load kind rd base offset) s h = takes_few kind rd s _ h
 acted_few (Store kind source base offset) s h = leaves_few s _ _ h
 acted_few Ebreak s h = unfold LeavesFew in h
@@ -78,25 +78,25 @@ acted_few (Compute operation rd left right) s h = computes_few s (effect_of (Com
 acted_few (Fence rd source m) s h = computes_few s (effect_of (Fence rd source m) s.regs s.pc) h
 acted_few Ecall s h = computes_few s (effect_of Ecall s.regs s.pc) h
 
-delivered_few : (s : Machine) (content : Option (List ℕ)) → HasFew s → LeavesFew (delivered s content)
-unfolding delivered
+delivered_few : (s : Machine) (content : Option (List ℕ)) → HasFew s → LeavesFew (delivery_result s content)
+unfolding delivery_result
 delivered_few s None h = unfold LeavesFew in h
 delivered_few s (Some value) h = cond_both (nat_lt (a2 s.regs) (length value)) _ _ (λ o. LeavesFew o)
     (λ _. unfold LeavesFew in h)
     (λ _. leaves_few s (written s.regs 10 (length value)) (copied s.memory (a1 s.regs) value) h)
 
-read_own_few : (s : Machine) (key : List ℕ) (content : Option (Option (List ℕ))) → HasFew s → LeavesFew (read_own s key content)
+read_own_few : (s : Machine) (key : List ℕ) (content : Option (Option (List ℕ))) → HasFew s → LeavesFew (read_result s key content)
 read_own_few s key (Some content) h = delivered_few s content h
 read_own_few s key None h = unfold LeavesFew in tt
 
-wrote_few : (s : Machine) (write : Write) → HasFew s → LeavesFew (wrote s write)
-unfolding wrote
+wrote_few : (s : Machine) (write : Write) → HasFew s → LeavesFew (write_result s write)
+unfolding write_result
 wrote_few s write h = cond_both (has_room s.own write.key) _ _ (λ o. LeavesFew o)
     (λ room. unfold LeavesFew in insert_few s.own write.key write.value room h)
     (λ _. unfold LeavesFew in h)
 
-served_few : (s : Machine) (r : Result Request Trap) → HasFew s → LeavesFew (served s r)
-unfolding served
+served_few : (s : Machine) (r : Result Request Trap) → HasFew s → LeavesFew (storage_call_result s r)
+unfolding storage_call_result
 served_few s (Err cause) h = unfold LeavesFew in h
 served_few s (Ok (request.Read key)) h = read_own_few s key _ h
 served_few s (Ok (request.Write write)) h = wrote_few s write h
@@ -106,15 +106,15 @@ served_few s (Ok (request.Revert out)) h = unfold LeavesFew in h
 charged_few : (cost : ℕ) (s : Machine) (act : Machine → StepResult) → HasFew s → ((t : Machine) → HasFew t → LeavesFew (act t)) → LeavesFew (charged cost s act)
 charged_few cost s act h k = cond_both (nat_le cost s.gas) _ _ (λ o. LeavesFew o) (λ _. k (record s { gas = s.gas - cost }) h) (λ _. unfold LeavesFew in h)
 
-called_few : (s : Machine) (r : Result ℕ Trap) → HasFew s → LeavesFew (called s r)
+called_few : (s : Machine) (r : Result ℕ Trap) → HasFew s → LeavesFew (ecall_result s r)
 called_few s (Err cause) h = unfold LeavesFew in h
-called_few s (Ok cost) h = charged_few cost s (λ t. served t (request_of t.regs t.memory)) h (λ t k. served_few t (request_of t.regs t.memory) k)
+called_few s (Ok cost) h = charged_few cost s (λ t. storage_call_result t (request_of t.regs t.memory)) h (λ t k. served_few t (request_of t.regs t.memory) k)
 
-obeyed_few : (s : Machine) (o : Option Instr) → HasFew s → LeavesFew (obeyed s o)
+obeyed_few : (s : Machine) (o : Option Instr) → HasFew s → LeavesFew (decode_result s o)
 obeyed_few s None h = unfold LeavesFew in h
-obeyed_few s (Some i) h = cond_both (is_ecall i) _ _ (λ o. LeavesFew o) (λ _. called_few s (ecall_charge s.regs) h) (λ _. charged_few (cost_of i) s (λ t. acted i t) h (λ t k. acted_few i t k))
+obeyed_few s (Some i) h = cond_both (is_ecall i) _ _ (λ o. LeavesFew o) (λ _. called_few s (ecall_charge s.regs) h) (λ _. charged_few (cost_of i) s (λ t. instruction_result i t) h (λ t k. acted_few i t k))
 
-fetched_few : (s : Machine) (r : Result ℕ Fault) → HasFew s → LeavesFew (fetched s r)
+fetched_few : (s : Machine) (r : Result ℕ Fault) → HasFew s → LeavesFew (fetch_result s r)
 fetched_few s (Ok word) h = obeyed_few s (decoded word) h
 fetched_few s (Err fault) h = unfold LeavesFew in h
 
@@ -124,7 +124,7 @@ step_few s h = fetched_few s (loaded 4 access.Execute s.memory s.pc) h
 
 answered_few : (s : Machine) (content : Option (List ℕ)) → HasFew s → LeavesFew (answered s content)
 unfolding answered
-answered_few s content h = charged_few 200 s (λ t. delivered t content) h (λ t k. delivered_few t content k)
+answered_few s content h = charged_few 200 s (λ t. delivery_result t content) h (λ t k. delivered_few t content k)
 
 answered_by_few : (store : Storage) (s : Machine) (o : StepResult) → HasFew s → LeavesFew o → LeavesFew (answered_by store s o)
 answered_by_few store s (Next t) h k = k
@@ -132,7 +132,7 @@ answered_by_few store s (Asks key) h k = answered_few s (get store key) h
 answered_by_few store s (Ends end out t) h k = k
 
 -- a receipt has at most its machine's writes
-kept_few : (end : End) (own : WriteMap) → len own ≤ 256 → len (kept end own) ≤ 256
+kept_few : (end : End) (own : WriteMap) → len own ≤ 256 → len (kept_writes end own) ≤ 256
 kept_few Returned own h = h
 kept_few end own h = subst (λ n. n ≤ 256) (sym (len-empty key_cmp (Option (List ℕ)))) (lit≤ tt)
 

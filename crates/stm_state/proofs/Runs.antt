@@ -5,27 +5,24 @@ use Rattle.std.specs.FinMap.{get}
 use Rattle.std.proofs.lemmas.Bool.{cases_eq, cond_both}
 use Rattle.std.proofs.lemmas.List.{get_or-set_same, get_or-set_other}
 use Rattle.read_set.specs.declared.Origin.TheVariants as origin
-use Rattle.rv_step.specs.declared.answer.Answer.{Answer}
+use Rattle.rv_step.specs.declared.answer.StorageAnswer.{StorageAnswer}
 use Rattle.mvmap.specs.Versions.{entry_at}
-use Rattle.mvmap.specs.Reading.{Seen, Base, Found, Blocked, reading}
+use Rattle.mvmap.specs.Reading.{Visible, Base, Found, Blocked, reading}
 use Rattle.mvmap.proofs.Readings.{found_at, blocked_at}
 use Rattle.stm_state.specs.declared.state.Status.TheVariants.{Executing, Executed, Aborting}
 use Rattle.stm_state.specs.declared.state.CallState.{CallState}
 use Rattle.stm_state.specs.declared.state.Task.TheVariants.{Idle, Running, Validating}
+use Rattle.stm_state.specs.Limits.{incarnation_limit}
 use Rattle.stm_state.specs.State.{State, fresh, call_at, task_at, with_call, with_task, is_executed}
 use Rattle.stm_state.specs.Steps.{Block, answered_with, read_at, parked}
-use Rattle.stm_state.specs.Invariant.{View, view_of, Facts, IsRightAnswer, Invariant, IsSized, run_by, named_by}
-use Rattle.stm_state.proofs.Moves.{Move, moved}
+use Rattle.stm_state.specs.Invariant.{View, view_of, ViewInvariant, IsRightAnswer, Invariant, IsSized, run_by, named_by}
+use Rattle.stm_state.proofs.Lists.{all_append}
+use Rattle.stm_state.proofs.Frames.{Frame, recorded_versions}
 use Rattle.stm_state.proofs.Safes.{safe_other}
 use Rattle.stm_state.proofs.Tests.{not_executed_says, resized}
 use Rattle.stm_state.proofs.Asks.{same_entries}
 
--- one more right answer
-pub right_more : (P : Answer → Type 0) (xs : List Answer) (x : Answer) → AllByRecursion P xs → P x → AllByRecursion P (xs ++ x ∷ [])
-right_more P [] x h k = (k, tt)
-right_more P (y ∷ ys) x h k = (h.0, right_more P ys x h.1 k)
-
-module _ (block : Block) (s : State) (w i : ℕ) (answers : List Answer) (waits : Option ℕ) (f : Facts block (view_of s)) (runs : task_at s w ≡ Running i answers waits) (w_in : w < length s.tasks) where
+module _ (block : Block) (s : State) (w i : ℕ) (answers : List StorageAnswer) (waits : Option ℕ) (f : ViewInvariant block (view_of s)) (runs : task_at s w ≡ Running i answers waits) (w_in : w < length s.tasks) where
   -- the worker runs call i
   runs_i : run_by (task_at s w) ≡ Some i
   runs_i = ap run_by runs
@@ -39,8 +36,8 @@ module _ (block : Block) (s : State) (w i : ℕ) (answers : List Answer) (waits 
   free j n left h = cc
 
   -- what a run that goes on changes
-  goes_move : (xs : List Answer) (o : Option ℕ) → AllByRecursion (IsRightAnswer block (view_of s) i) xs → ((b : ℕ) → o ≡ Some b → b < i)
-      → Move block (view_of s) (view_of (with_task w (Running i xs o) s)) i w (call_at s i) (Running i xs o)
+  goes_move : (xs : List StorageAnswer) (o : Option ℕ) → AllByRecursion (IsRightAnswer block (view_of s) i) xs → ((b : ℕ) → o ≡ Some b → b < i)
+      → Frame block (view_of s) (view_of (with_task w (Running i xs o) s)) i w (call_at s i) (Running i xs o)
   goes_move xs o right low = record {
     calls = λ j ne. refl;
     tasks = λ x ne. get_or-set_other s.tasks w x (Running i xs o) Idle ne;
@@ -72,11 +69,11 @@ module _ (block : Block) (s : State) (w i : ℕ) (answers : List Answer) (waits 
   }
 
   -- the run is answered, blocked or begun again
-  pub goes : (xs : List Answer) (o : Option ℕ) → AllByRecursion (IsRightAnswer block (view_of s) i) xs → ((b : ℕ) → o ≡ Some b → b < i) → Facts block (view_of (with_task w (Running i xs o) s))
+  pub goes : (xs : List StorageAnswer) (o : Option ℕ) → AllByRecursion (IsRightAnswer block (view_of s) i) xs → ((b : ℕ) → o ≡ Some b → b < i) → ViewInvariant block (view_of (with_task w (Running i xs o) s))
   goes xs o right low =
       let m = goes_move xs o right low in
       let u : View = view_of (with_task w (Running i xs o) s) in
-      moved block (view_of s) u i w (call_at s i) (Running i xs o) m f (λ j h l. elim (cases_eq j i) [
+      recorded_versions block (view_of s) u i w (call_at s i) (Running i xs o) m f (λ j h l. elim (cases_eq j i) [
         | inl e ↦ let r : (call_at s j).status ≡ Executing = ap (λ x. (call_at s x).status) e ∙ is_executing in let q : (call_at s j).status ≡ Executed = h in cc
         | inr ne ↦ safe_other block (view_of s) u i w (call_at s i) (Running i xs o) m j ne (λ left. free j (call_at s j).incarnation left) (λ read k. k) (f.safe j h l)
       ])
@@ -86,11 +83,11 @@ module _ (block : Block) (s : State) (w i : ℕ) (answers : List Answer) (waits 
   right_so_far = f.answered w i answers waits runs
 
   -- a read keeps the invariant, whatever is seen
-  seen_kept_by : (key : List ℕ) (seen : Seen) → reading s.versions key i ≡ seen → Facts block (view_of (with_task w (answered_with block.base key i answers seen) s))
-  seen_kept_by key Base h = goes (answers ++ record { key = key; value = get block.base key; origin = origin.Base } ∷ []) None (right_more (IsRightAnswer block (view_of s) i) answers (record { key = key; value = get block.base key; origin = origin.Base }) right_so_far refl) (λ b k. cc)
+  seen_kept_by : (key : List ℕ) (seen : Visible) → reading s.versions key i ≡ seen → ViewInvariant block (view_of (with_task w (answered_with block.base key i answers seen) s))
+  seen_kept_by key Base h = goes (answers ++ record { key = key; value = get block.base key; origin = origin.Base } ∷ []) None (all_append (IsRightAnswer block (view_of s) i) answers (record { key = key; value = get block.base key; origin = origin.Base } ∷ []) right_so_far (refl, tt)) (λ b k. cc)
   seen_kept_by key (Found v n c) h =
       let at = found_at (entry_at s.versions key) i v n c h in
-      goes (answers ++ record { key = key; value = c; origin = origin.Version v n } ∷ []) None (right_more (IsRightAnswer block (view_of s) i) answers (record { key = key; value = c; origin = origin.Version v n }) right_so_far (at.0, inr at.1)) (λ b k. cc)
+      goes (answers ++ record { key = key; value = c; origin = origin.Version v n } ∷ []) None (all_append (IsRightAnswer block (view_of s) i) answers (record { key = key; value = c; origin = origin.Version v n } ∷ []) right_so_far ((at.0, inr at.1), tt)) (λ b k. cc)
   seen_kept_by key (Blocked b) h = goes answers (Some b) right_so_far (λ x k. let same : b ≡ x = cc in let low = (blocked_at (entry_at s.versions key) i b h).0 in omega (arith, same, low))
 
   -- a call that is parked
@@ -102,7 +99,7 @@ module _ (block : Block) (s : State) (w i : ℕ) (answers : List Answer) (waits 
   after_park b = with_task w Idle (with_call i (waiting b) s)
 
   -- what parking changes
-  parks_move : (b : ℕ) → b < i → (call_at s b).status ≢ Executed → (call_at s i).incarnation < 65535 → i < length s.calls → Move block (view_of s) (view_of (after_park b)) i w (waiting b) Idle
+  parks_move : (b : ℕ) → b < i → (call_at s b).status ≢ Executed → (call_at s i).incarnation < incarnation_limit → i < length s.calls → Frame block (view_of s) (view_of (after_park b)) i w (waiting b) Idle
   parks_move b low not_done less i_in = record {
     calls = λ j ne. get_or-set_other s.calls i j (waiting b) fresh ne;
     tasks = λ x ne. get_or-set_other s.tasks w x Idle Idle ne;
@@ -134,20 +131,20 @@ module _ (block : Block) (s : State) (w i : ℕ) (answers : List Answer) (waits 
   }
 
   -- a call may be parked on a lower call that is not EXECUTED
-  parks : (b : ℕ) → b < i → (call_at s b).status ≢ Executed → (call_at s i).incarnation < 65535 → i < length s.calls → Facts block (view_of (after_park b))
+  parks : (b : ℕ) → b < i → (call_at s b).status ≢ Executed → (call_at s i).incarnation < incarnation_limit → i < length s.calls → ViewInvariant block (view_of (after_park b))
   parks b low not_done less i_in =
       let m = parks_move b low not_done less i_in in
       let u : View = view_of (after_park b) in
-      moved block (view_of s) u i w (waiting b) Idle m f (λ j h l. elim (cases_eq j i) [
+      recorded_versions block (view_of s) u i w (waiting b) Idle m f (λ j h l. elim (cases_eq j i) [
         | inl e ↦ let c : u.calls j ≡ waiting b = ap u.calls e ∙ m.call in let r : (u.calls j).status ≡ Aborting = ap (λ (call : CallState). call.status) c in cc
         | inr ne ↦ safe_other block (view_of s) u i w (waiting b) Idle m j ne (λ left. free j (call_at s j).incarnation left) (λ read k. k)
             (f.safe j (ap (λ (call : CallState). call.status) (sym (m.calls j ne)) ∙ h) l)
       ])
 
   -- parking keeps the invariant, whether the call is parked or its run starts again
-  pub park_facts : (b : ℕ) → waits ≡ Some b → (call_at s i).incarnation < 65535 → i < length s.calls → Facts block (view_of (parked w i b s))
+  pub park_facts : (b : ℕ) → waits ≡ Some b → (call_at s i).incarnation < incarnation_limit → i < length s.calls → ViewInvariant block (view_of (parked w i b s))
   unfolding parked
-  park_facts b on less i_in = cond_both (is_executed (call_at s b).status) _ _ (λ t. Facts block (view_of t))
+  park_facts b on less i_in = cond_both (is_executed (call_at s b).status) _ _ (λ t. ViewInvariant block (view_of t))
       (λ h. goes [] None tt (λ x k. cc))
       (λ h. parks b (f.blocked w i b answers (runs ∙ ap (Running i answers) on)) (not_executed_says (call_at s b).status h) less i_in)
 
@@ -159,14 +156,14 @@ park_sized count workers w i b s h = cond_both (is_executed (call_at s b).status
     (λ _. resized count workers s _ (length-set s.calls i _) (length-set s.tasks w _) refl refl h)
 
 -- a read keeps the invariant
-pub read_kept : (block : Block) (workers w i : ℕ) (answers : List Answer) (key : List ℕ) (s : State) → Invariant block workers s → w < workers → task_at s w ≡ Running i answers None → Invariant block workers (read_at block.base key w i answers s)
+pub read_kept : (block : Block) (workers w i : ℕ) (answers : List StorageAnswer) (key : List ℕ) (s : State) → Invariant block workers s → w < workers → task_at s w ≡ Running i answers None → Invariant block workers (read_at block.base key w i answers s)
 read_kept block workers w i answers key s h w_in runs = record {
   sized = resized block.count workers s _ refl (length-set s.tasks w _) refl refl h.sized;
   facts = seen_kept_by block s w i answers None h.facts runs (let e = h.sized.tasks in omega (arith, e)) key (reading s.versions key i) refl;
 }
 
 -- parking keeps the invariant
-pub park_kept : (block : Block) (workers w i b : ℕ) (answers : List Answer) (s : State) → Invariant block workers s → w < workers → task_at s w ≡ Running i answers (Some b) → (call_at s i).incarnation < 65535 → Invariant block workers (parked w i b s)
+pub park_kept : (block : Block) (workers w i b : ℕ) (answers : List StorageAnswer) (s : State) → Invariant block workers s → w < workers → task_at s w ≡ Running i answers (Some b) → (call_at s i).incarnation < incarnation_limit → Invariant block workers (parked w i b s)
 park_kept block workers w i b answers s h w_in runs less = record {
   sized = park_sized block.count workers w i b s h.sized;
   facts = park_facts block s w i answers (Some b) h.facts runs (let e = h.sized.tasks in omega (arith, e)) b refl less

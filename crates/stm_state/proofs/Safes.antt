@@ -4,14 +4,14 @@ use Rattle.std.specs.List.{AllByRecursion, list_all}
 use Rattle.std.proofs.lemmas.Bool.{cases_eq, and_parts}
 use Rattle.read_set.specs.declared.Read.{Read}
 use Rattle.mvmap.specs.Versions.{Estimate}
-use Rattle.mvmap.specs.Reading.{seen_below, is_origin, stands_among}
+use Rattle.mvmap.specs.Reading.{visible_below, is_origin, stands_among}
 use Rattle.mvmap.proofs.Readings.{seen_same, seen_kept, origin_shown}
 use Rattle.stm_state.specs.declared.state.CallState.{CallState}
 use Rattle.stm_state.specs.declared.state.Task.{Task}
 use Rattle.stm_state.specs.declared.state.Task.TheVariants.{Validating}
 use Rattle.stm_state.specs.Steps.{Block, reads_of}
 use Rattle.stm_state.specs.Invariant.{View, validated, IsSafe}
-use Rattle.stm_state.proofs.Moves.{Move}
+use Rattle.stm_state.proofs.Frames.{Frame}
 
 -- what stands of a call stays so
 abbrev pub StandsOn : View → View → ℕ → Type 0
@@ -24,7 +24,7 @@ on_below v u i same read h = ap (is_origin read.origin) (seen_same (u.entries re
 -- entries change where an estimate was
 pub on_estimates : (v u : View) (i : ℕ) → ((key : List ℕ) (w : ℕ) → (u.entries key w ≡ v.entries key w) ⊎ (v.entries key w ≡ Some Estimate)) → StandsOn v u i
 on_estimates v u i same read h =
-    ap (is_origin read.origin) (seen_kept (v.entries read.key) (u.entries read.key) i (λ w. same read.key w) (origin_shown read.origin (seen_below (v.entries read.key) i) h)) ∙ h
+    ap (is_origin read.origin) (seen_kept (v.entries read.key) (u.entries read.key) i (λ w. same read.key w) (origin_shown read.origin (visible_below (v.entries read.key) i) h)) ∙ h
 
 -- some worker validates a call at its incarnation
 abbrev pub IsValidated : View → ℕ → Type 0
@@ -54,7 +54,7 @@ stand_each v i [] h = tt
 stand_each v i (read ∷ reads) h = let both = and_parts (stands_among v.entries i read) (list_all (stands_among v.entries i) reads) h in (both.0, stand_each v i reads both.1)
 
 -- a call whose task a move doesn't end stays validated
-pub validated_on : (block : Block) (v u : View) (i w : ℕ) (c : CallState) (t : Task) → Move block v u i w c t → (j : ℕ) → j ≢ i → ((left : ℕ) → v.tasks w ≢ Validating j (v.calls j).incarnation left) → IsValidated v j → IsValidated u j
+pub validated_on : (block : Block) (v u : View) (i w : ℕ) (c : CallState) (t : Task) → Frame block v u i w c t → (j : ℕ) → j ≢ i → ((left : ℕ) → v.tasks w ≢ Validating j (v.calls j).incarnation left) → IsValidated v j → IsValidated u j
 validated_on block v u i w c t m j ne free q = (
   q.0,
   (
@@ -67,7 +67,7 @@ validated_on block v u i w c t m j ne free q = (
 )
 
 -- a move keeps the reads of another call safe
-pub safe_other : (block : Block) (v u : View) (i w : ℕ) (c : CallState) (t : Task) → Move block v u i w c t → (j : ℕ) → j ≢ i → ((left : ℕ) → v.tasks w ≢ Validating j (v.calls j).incarnation left) → StandsOn v u j
+pub safe_other : (block : Block) (v u : View) (i w : ℕ) (c : CallState) (t : Task) → Frame block v u i w c t → (j : ℕ) → j ≢ i → ((left : ℕ) → v.tasks w ≢ Validating j (v.calls j).incarnation left) → StandsOn v u j
     → AllByRecursion (IsSafe v j) (reads_of (v.calls j).last) → AllByRecursion (IsSafe u j) (reads_of (u.calls j).last)
 safe_other block v u i w c t m j ne free stood h =
     subst (λ (call : CallState). AllByRecursion (IsSafe u j) (reads_of call.last)) (sym (m.calls j ne))

@@ -4,7 +4,7 @@ use Rattle.std.specs.List.{AllByRecursion, list_all}
 use Rattle.std.specs.FinMap.{get, empty, get-empty}
 use Rattle.std.proofs.lemmas.Bool.{and_parts, cases_lt}
 use Rattle.std.proofs.lemmas.List.{get_or_past}
-use Rattle.version_arena.specs.Shelf.{Content}
+use Rattle.version_arena.specs.ArenaState.{Content}
 use Rattle.rv_ledger.specs.Key.{Storage, key_cmp}
 use Rattle.rv_ledger.specs.declared.end.End.TheVariants.{Returned}
 use Rattle.rv_ledger.specs.declared.receipt.Receipt.{Receipt}
@@ -12,11 +12,11 @@ use Rattle.read_set.specs.declared.Origin.{Origin}
 use Rattle.read_set.specs.declared.Origin.TheVariants as origin
 use Rattle.read_set.specs.declared.Read.{Read}
 use Rattle.rv_step.specs.Chain.{Reply, AreFrom}
-use Rattle.rv_step.specs.Fold.{laid}
+use Rattle.rv_step.specs.Fold.{apply_writes}
 use Rattle.rv_step.specs.Replies.{replies_of}
-use Rattle.rv_step.specs.declared.answer.Answer.{Answer}
+use Rattle.rv_step.specs.declared.answer.StorageAnswer.{StorageAnswer}
 use Rattle.mvmap.specs.Versions.{Estimate, Stands, entry_at}
-use Rattle.mvmap.specs.Reading.{Seen, see, seen_below, reading, is_origin, stands_among, held}
+use Rattle.mvmap.specs.Reading.{Visible, visible_over, visible_below, reading, is_origin, stands_among, value_seen}
 use Rattle.mvmap.proofs.Readings.{found_at, base_shown, version_shown}
 use Rattle.stm_state.specs.declared.state.Status.{Status}
 use Rattle.stm_state.specs.declared.state.Status.TheVariants.{Ready, Executing, Executed, Aborting}
@@ -24,9 +24,9 @@ use Rattle.stm_state.specs.declared.state.Recorded.{Recorded}
 use Rattle.stm_state.specs.declared.state.Task.TheVariants.{Idle}
 use Rattle.stm_state.specs.State.{State, fresh, call_at, task_at, is_executed, is_idle, is_done}
 use Rattle.stm_state.specs.Steps.{Block, read_of, reads_of}
-use Rattle.stm_state.specs.Invariant.{view_of, Facts, IsRight, IsRightAnswer, validated, IsSafe, Invariant, write_of, entry_of, entry_by}
+use Rattle.stm_state.specs.Invariant.{view_of, ViewInvariant, IsRight, IsRightAnswer, validated, IsSafe, Invariant, write_of, entry_of, entry_by}
 use Rattle.stm_state.specs.Done.{HasVersionsAlone, Reached, IsSerial}
-use Rattle.stm_state.proofs.Tests.{equal_says, all_idle}
+use Rattle.stm_state.proofs.Tests.{equal_says, idle_at_done}
 use Rattle.stm_state.proofs.Writes.{over, laid_get}
 use Rattle.stm_state.proofs.Aborts.{version_is}
 use Rattle.stm_state.proofs.Whole.{invariant_kept}
@@ -48,7 +48,7 @@ over_at_done block workers s h done =
     record {
       execution = equal_says s.execution (length s.calls) indices.0 ∙ h.sized.calls;
       validation = equal_says s.validation (length s.calls) indices.1 ∙ h.sized.calls;
-      idle = λ w. all_idle s.tasks w parts.1;
+      idle = idle_at_done s done;
     }
 
 -- ---- the receipts and the storage before each call
@@ -65,10 +65,10 @@ receipt_or (Some run) = run.receipt
 -- the storage after some receipts
 abbrev pub store_after_receipts : Storage → (ℕ → Receipt) → ℕ → Storage
 store_after_receipts base receipt zero = base
-store_after_receipts base receipt (suc i) = laid (store_after_receipts base receipt i) (receipt i).writes
+store_after_receipts base receipt (suc i) = apply_writes (store_after_receipts base receipt i) (receipt i).writes
 
 -- what is seen of an EXECUTED call lies over what is seen below it
-pub held_see : (base : Option (List ℕ)) (i n : ℕ) (o : Option Content) (below : Seen) → held base (see i (option_map (λ c. Stands n c) o) below) ≡ over o (held base below)
+pub held_see : (base : Option (List ℕ)) (i n : ℕ) (o : Option Content) (below : Visible) → value_seen base (visible_over i (option_map (λ c. Stands n c) o) below) ≡ over o (value_seen base below)
 held_see base i n None below = refl
 held_see base i n (Some c) below = refl
 
@@ -81,7 +81,7 @@ safe_stands s i (read ∷ reads) idle h = (one h.0, safe_stands s i reads idle h
     one (inl stand) = stand
     one (inr (validated w left task)) = let none = idle w in cc
 
-module _ (block : Block) (s : State) (f : Facts block (view_of s)) (over_now : IsOver block s) where
+module _ (block : Block) (s : State) (f : ViewInvariant block (view_of s)) (over_now : IsOver block s) where
   -- the receipt of a call
   abbrev receipt_at : ℕ → Receipt
   receipt_at i = receipt_or (call_at s i).last
@@ -120,14 +120,14 @@ module _ (block : Block) (s : State) (f : Facts block (view_of s)) (over_now : I
   write_is (Some run) key = refl
 
   -- what call i sees is the storage before it
-  seen_is_store : (i : ℕ) → i ≤ block.count → (key : List ℕ) → held (get block.base key) (seen_below (entry_at s.versions key) i) ≡ get (before i) key
-  unfolding seen_below
+  seen_is_store : (i : ℕ) → i ≤ block.count → (key : List ℕ) → value_seen (get block.base key) (visible_below (entry_at s.versions key) i) ≡ get (before i) key
+  unfolding visible_below
   seen_is_store zero l key = refl
   seen_is_store (suc i) l key =
       let o : Option Content = get (receipt_at i).writes key in
-      let below : Seen = seen_below (entry_at s.versions key) i in
+      let below : Visible = visible_below (entry_at s.versions key) i in
       let own : entry_at s.versions key i ≡ option_map (λ c. Stands (call_at s i).incarnation c) o = entry_is i (omega arith) key ∙ ap (option_map (λ c. Stands (call_at s i).incarnation c)) (write_is (call_at s i).last key) in
-      ap (λ e. held (get block.base key) (see i e below)) own
+      ap (λ e. value_seen (get block.base key) (visible_over i e below)) own
       ∙ held_see (get block.base key) i (call_at s i).incarnation o below
       ∙ ap (over o) (seen_is_store i (omega arith) key)
       ∙ sym (laid_get (before i) (receipt_at i).writes key)
@@ -135,12 +135,12 @@ module _ (block : Block) (s : State) (f : Facts block (view_of s)) (over_now : I
   -- an answer whose read stands is that of the storage before the call
   answer_is : (i : ℕ) → i ≤ block.count → (key : List ℕ) (value : Content) (o : Origin) → is_origin o (reading s.versions key i) ≡ true → IsRight block (view_of s) i key value o → value ≡ get (before i) key
   answer_is i l key value origin.Base stand right =
-      right ∙ ap (held (get block.base key)) (sym (base_shown (reading s.versions key i) stand)) ∙ seen_is_store i l key
+      right ∙ ap (value_seen (get block.base key)) (sym (base_shown (reading s.versions key i) stand)) ∙ seen_is_store i l key
   answer_is i l key value (origin.Version v n) stand right =
       let shown = version_shown v n (reading s.versions key i) stand in
       let at = found_at (entry_at s.versions key) i v n shown.0 shown.1 in
       let there : entry_at s.versions key v ≡ Some (Stands n shown.0) = at.1 in
-      let content : shown.0 ≡ get (before i) key = ap (held (get block.base key)) (sym shown.1) ∙ seen_is_store i l key in
+      let content : shown.0 ≡ get (before i) key = ap (value_seen (get block.base key)) (sym shown.1) ∙ seen_is_store i l key in
       elim right.1 [
         | inl old ↦
             let low = at.0 in
@@ -150,7 +150,7 @@ module _ (block : Block) (s : State) (f : Facts block (view_of s)) (over_now : I
       ]
 
   -- the answers of a run whose reads stand are those of the storage before the call
-  answers_are : (i : ℕ) → i ≤ block.count → (answers : List Answer) → AllByRecursion (λ read. stands_among (entry_at s.versions) i read ≡ true) (map read_of answers) → AllByRecursion (IsRightAnswer block (view_of s) i) answers → AreFrom (before i) (replies_of answers)
+  answers_are : (i : ℕ) → i ≤ block.count → (answers : List StorageAnswer) → AllByRecursion (λ read. stands_among (entry_at s.versions) i read ≡ true) (map read_of answers) → AllByRecursion (IsRightAnswer block (view_of s) i) answers → AreFrom (before i) (replies_of answers)
   answers_are i l [] stand right = tt
   answers_are i l (x ∷ xs) stand right = (answer_is i l x.key x.value x.origin stand.0 right.0, answers_are i l xs stand.1 right.1)
 
@@ -159,14 +159,14 @@ module _ (block : Block) (s : State) (f : Facts block (view_of s)) (over_now : I
   receipt_is i within = f.executed i (all_executed i within)
 
   -- answers of the storage before a call bear its receipt out
-  ends_in : (i : ℕ) → i < block.count → (replies : List Reply) × AreFrom (before i) replies × (block.borne i replies ≡ Some (receipt_at i))
+  ends_in : (i : ℕ) → i < block.count → (replies : List Reply) × AreFrom (before i) replies × (block.borne_out i replies ≡ Some (receipt_at i))
   ends_in i within =
       let run = receipt_is i within in
       let b = f.recorded i run.0 run.1 in
       let reads : reads_of (call_at s i).last ≡ map read_of b.answers = ap reads_of run.1 ∙ sym b.reads in (
         replies_of b.answers,
         answers_are i (omega (arith, within)) b.answers (subst (λ xs. AllByRecursion (λ read. stands_among (entry_at s.versions) i read ≡ true) xs) reads (all_stand i within)) b.right,
-        b.borne ∙ ap (λ o. Some (receipt_or o)) (sym run.1),
+        b.borne_out ∙ ap (λ o. Some (receipt_or o)) (sym run.1),
       )
 
   -- the result is that of the calls one after another

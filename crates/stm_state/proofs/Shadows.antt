@@ -6,26 +6,29 @@ use Rattle.std.specs.Cmp.Lexicographic.{nat_list_cmp_total}
 use Rattle.std.specs.FinMap.{get, empty, entries, len, get-empty, get-insert, entries-insert, len-empty, len-entries}
 use Rattle.std.specs.FinMap.Entries.{put}
 use Rattle.std.proofs.lemmas.Bool.{and_parts}
-use Rattle.version_arena.specs.Shelf.{Content}
+use Rattle.version_arena.specs.ArenaState.{Content}
 use Rattle.rv_ledger.specs.Key.{key_cmp}
 use Rattle.rv_ledger.specs.declared.receipt.Receipt.{Receipt}
 use Rattle.read_set.specs.declared.Origin.TheVariants as origin
 use Rattle.read_set.specs.declared.Read.{Read}
 use Rattle.rv_step.specs.Chain.{Reply}
 use Rattle.rv_step.specs.Replies.{replies_of}
-use Rattle.rv_step.specs.declared.answer.Answer.{Answer}
+use Rattle.rv_step.specs.declared.answer.StorageAnswer.{StorageAnswer}
 use Rattle.mvmap.specs.Versions.{entry_at}
-use Rattle.mvmap.specs.Reading.{Seen, Base, Found, Blocked, seen_below, reading, is_origin}
+use Rattle.mvmap.specs.Reading.{Visible, Base, Found, Blocked, visible_below, reading, is_origin}
 use Rattle.mvmap.proofs.Readings.{seen_same}
 use Rattle.stm_state.specs.declared.state.Status.TheVariants.{Executed}
 use Rattle.stm_state.specs.declared.state.Recorded.{Recorded}
 use Rattle.stm_state.specs.declared.state.Task.{Task}
 use Rattle.stm_state.specs.declared.state.Task.TheVariants.{Idle, Running, Validating}
+use Rattle.stm_state.specs.Limits.{record_limit, incarnation_limit}
 use Rattle.stm_state.specs.State.{State, start, call_at, task_at, with_call, with_task, is_executed}
-use Rattle.stm_state.specs.Steps.{Step, Ask, Read_key, Park, Record, Validate, Limit, ArenaFull, IncarnationLimit, counted, one_step, one_asking, one_execution, one_validation, asked, answered_with, parked, wrote, has_new_key, moved, woken, to_validate, kept, is_executed_at, aborted, all_stand, validated, decided, record_within, reads_of, step_with, worker_step}
-use Rattle.stm_state.specs.Invariant.{view_of, Facts, write_of, entry_by}
+use Rattle.stm_state.specs.Steps.{Step, Ask, Read_key, Park, Record, Validate, Limit, ArenaFull, IncarnationLimit, counted, one_step, one_asking, one_execution, one_validation, asked, answered_with, parked, wrote, has_new_key, recorded_versions, resume_dependents, to_validate, recorded_run, is_executed_at, aborted, all_stand, validated, decided, record_within, reads_of, step_with, worker_step}
+use Rattle.stm_state.specs.Invariant.{view_of, ViewInvariant, write_of, entry_by}
 use Rattle.stm_state.specs.Done.{Reached, started, stepped}
-use Rattle.stm_state.specs.Rows.{Turn, Reads, Ends, Script, writes_of, at_end, on_reply, borne_from, block_of_scripts, owed, went_on, driven, echo}
+use Rattle.stm_state.specs.Rows.{Turn, Reads, Ends, Script, writes_of, at_end, on_reply, borne_from, block_of_scripts, due_step, after_schedule, echo}
+use Rattle.stm_state.specs.Walk.{after_step}
+use Rattle.stm_state.proofs.Lists.{all_same}
 use Rattle.stm_state.proofs.Tests.{lt_says}
 use Rattle.stm_state.proofs.Whole.{invariant_kept}
 
@@ -79,9 +82,9 @@ shaped_reply (Reads key) k rest r more h = go (bytes_eq k key) h
 shaped_reply (Ends end out write) k rest r more h = cc
 
 -- the writes of a receipt are what its registers tell
-shaped : (script : Script) (told : List Content) (replies : List Reply) (r : Receipt) → borne_from script told replies ≡ Some r → r.writes ≡ writes_of r.regs
-shaped script told [] r h = shaped_end (script told) r h
-shaped script told (reply ∷ replies) r h = shaped_reply (script told) reply.0 (borne_from script (told ++ reply.1 ∷ []) replies) r (shaped script (told ++ reply.1 ∷ []) replies r) h
+shaped : (script : Script) (contents : List Content) (replies : List Reply) (r : Receipt) → borne_from script contents replies ≡ Some r → r.writes ≡ writes_of r.regs
+shaped script contents [] r h = shaped_end (script contents) r h
+shaped script contents (reply ∷ replies) r h = shaped_reply (script contents) reply.0 (borne_from script (contents ++ reply.1 ∷ []) replies) r (shaped script (contents ++ reply.1 ∷ []) replies r) h
 
 -- ---- the same steps, with what they look at computed
 
@@ -91,8 +94,8 @@ written None key = None
 written (Some run) key = value_of run.receipt.regs key
 
 -- what a call sees of a key
-abbrev seen_by : State → List ℕ → ℕ → Seen
-seen_by s key i = seen_below (λ w. entry_by (is_executed (call_at s w).status) (call_at s w).incarnation (written (call_at s w).last key)) i
+abbrev seen_by : State → List ℕ → ℕ → Visible
+seen_by s key i = visible_below (λ w. entry_by (is_executed (call_at s w).status) (call_at s w).incarnation (written (call_at s w).last key)) i
 
 -- whether all reads of a call stand
 abbrev stand_by : ℕ → State → Bool
@@ -103,22 +106,22 @@ abbrev new_by : Option Recorded → List ℕ → Bool
 new_by last write = list_any (λ e. not (is_some (written last e.0))) (entries_of write)
 
 -- the task after an answer
-abbrev answered_by : List ℕ → ℕ → List Answer → Seen → Task
+abbrev answered_by : List ℕ → ℕ → List StorageAnswer → Visible → Task
 answered_by key i answers Base = Running i (answers ++ record { key = key; value = None; origin = origin.Base } ∷ []) None
 answered_by key i answers (Found w n content) = Running i (answers ++ record { key = key; value = content; origin = origin.Version w n } ∷ []) None
 answered_by key i answers (Blocked b) = Running i answers (Some b)
 
 -- a record, with how many keys it wrote and whether one is new
-abbrev recorded_by : ℕ → ℕ → List Answer → Receipt → State → ℕ → Bool → Option (Result State Limit)
+abbrev recorded_by : ℕ → ℕ → List StorageAnswer → Receipt → State → ℕ → Bool → Option (Result State Limit)
 recorded_by w i answers receipt s writes new =
-    if nat_lt 1048576 (s.placed + writes) then Some (Err ArenaFull)
-    else if nat_le 65535 (call_at s i).incarnation then Some (Err IncarnationLimit)
+    if nat_lt record_limit (s.placed + writes) then Some (Err ArenaFull)
+    else if nat_le incarnation_limit (call_at s i).incarnation then Some (Err IncarnationLimit)
     else Some (Ok (counted one_execution w (to_validate w i new (Validating i (call_at s i).incarnation (length answers))
-    (woken i (with_call i (record (call_at s i) { status = Executed; last = Some (kept answers receipt) })
-    (record s { versions = moved i (call_at s i).incarnation (call_at s i).last receipt.writes s.versions; placed = s.placed + writes }))))))
+    (resume_dependents i (with_call i (record (call_at s i) { status = Executed; last = Some (recorded_run answers receipt) })
+    (record s { versions = recorded_versions i (call_at s i).incarnation (call_at s i).last receipt.writes s.versions; placed = s.placed + writes }))))))
 
 -- a record of a receipt that is borne out
-abbrev within_by : ℕ → List Answer → ℕ → Option Receipt → State → Option (Result State Limit)
+abbrev within_by : ℕ → List StorageAnswer → ℕ → Option Receipt → State → Option (Result State Limit)
 within_by i answers w None s = None
 within_by i answers w (Some receipt) s = recorded_by w i answers receipt s (length (entries_of receipt.regs)) (new_by (call_at s i).last receipt.regs)
 
@@ -131,16 +134,16 @@ abbrev step_by : List Script → ℕ → Task → Step → State → Option (Res
 step_by scripts w Idle Ask s = Some (Ok (counted one_asking w (asked w s)))
 step_by scripts w (Running i answers None) (Read_key key) s = Some (Ok (counted one_step w (with_task w (answered_by key i answers (seen_by s key i)) s)))
 step_by scripts w (Running i answers (Some b)) Park s =
-    if nat_le 65535 (call_at s i).incarnation then Some (Err IncarnationLimit) else Some (Ok (counted one_step w (parked w i b s)))
+    if nat_le incarnation_limit (call_at s i).incarnation then Some (Err IncarnationLimit) else Some (Ok (counted one_step w (parked w i b s)))
 step_by scripts w (Running i answers None) Record s = within_by i answers w (borne_from (get_or scripts i echo) [] (replies_of answers)) s
 step_by scripts w (Validating i n left) Validate s =
     Some (Ok (counted (if decided i n left s then one_validation else one_step) w (validated_by w i (is_executed_at n (call_at s i) && not (stand_by i s)) s)))
 step_by scripts w task step s = None
 
 -- a list of worker numbers
-unfoldable pub driven_by : List Script → List ℕ → State → Option State
-driven_by scripts [] s = Some s
-driven_by scripts (w ∷ ws) s = went_on (λ t. driven_by scripts ws t) (step_by scripts w (task_at s w) (owed scripts (task_at s w)) s)
+unfoldable pub computed_after : List Script → List ℕ → State → Option State
+computed_after scripts [] s = Some s
+computed_after scripts (w ∷ ws) s = after_step (λ t. computed_after scripts ws t) (step_by scripts w (task_at s w) (due_step scripts (task_at s w)) s)
 
 -- ---- they are the same
 
@@ -149,20 +152,15 @@ any_same : {X : Type 0} (f g : X → Bool) → ((x : X) → f x ≡ g x) → (xs
 any_same f g h [] = refl
 any_same f g h (x ∷ xs) = cc (h x, any_same f g h xs)
 
--- like tests are met by all alike
-all_same : {X : Type 0} (f g : X → Bool) → ((x : X) → f x ≡ g x) → (xs : List X) → list_all f xs ≡ list_all g xs
-all_same f g h [] = refl
-all_same f g h (x ∷ xs) = cc (h x, all_same f g h xs)
-
 -- the task after an answer is that task
-answered_same : (key : List ℕ) (i : ℕ) (answers : List Answer) (seen : Seen) → answered_with empty key i answers seen ≡ answered_by key i answers seen
+answered_same : (key : List ℕ) (i : ℕ) (answers : List StorageAnswer) (seen : Visible) → answered_with empty key i answers seen ≡ answered_by key i answers seen
 answered_same key i answers Base = ap (λ (c : Content). Running i (answers ++ record { key = key; value = c; origin = origin.Base } ∷ []) None) (get-empty key_cmp key)
 answered_same key i answers (Found w n content) = refl
 answered_same key i answers (Blocked b) = refl
 
 module _ (scripts : List Script) (workers : ℕ) (s : State) (reached : Reached (block_of_scripts scripts) workers s) where
   -- the invariant
-  facts : Facts (block_of_scripts scripts) (view_of s)
+  facts : ViewInvariant (block_of_scripts scripts) (view_of s)
   facts = (invariant_kept (block_of_scripts scripts) workers s reached).facts
 
   -- what a recorded run wrote is what its registers tell
@@ -170,7 +168,7 @@ module _ (scripts : List Script) (workers : ℕ) (s : State) (reached : Reached 
   last_written i key None h = refl
   last_written i key (Some run) h =
       let b = facts.recorded i run h in
-      ap (λ (m : _). get m key) (shaped (get_or scripts i echo) [] (replies_of b.answers) run.receipt b.borne) ∙ value_is run.receipt.regs key
+      ap (λ (m : _). get m key) (shaped (get_or scripts i echo) [] (replies_of b.answers) run.receipt b.borne_out) ∙ value_is run.receipt.regs key
 
   -- so for each call
   write_same : (i : ℕ) (key : List ℕ) → write_of (call_at s i).last key ≡ written (call_at s i).last key
@@ -201,7 +199,7 @@ module _ (scripts : List Script) (workers : ℕ) (s : State) (reached : Reached 
   len_same r shape = len-entries r.writes ∙ ap length (ap entries shape ∙ entries_are r.regs)
 
   -- a record is that record
-  within_same : (i : ℕ) (answers : List Answer) (w : ℕ) (o : Option Receipt) → borne_from (get_or scripts i echo) [] (replies_of answers) ≡ o → record_within i answers w o s ≡ within_by i answers w o s
+  within_same : (i : ℕ) (answers : List StorageAnswer) (w : ℕ) (o : Option Receipt) → borne_from (get_or scripts i echo) [] (replies_of answers) ≡ o → record_within i answers w o s ≡ within_by i answers w o s
   within_same i answers w None h = refl
   within_same i answers w (Some r) h =
       let shape = shaped (get_or scripts i echo) [] (replies_of answers) r h in
@@ -224,20 +222,20 @@ module _ (scripts : List Script) (workers : ℕ) (s : State) (reached : Reached 
   step_same w task step = refl
 
 -- what a list of worker numbers leads to is what it computes to
-driven_same : (scripts : List Script) (workers : ℕ) (ws : List ℕ) (s : State) → list_all (λ w. nat_lt w workers) ws ≡ true → Reached (block_of_scripts scripts) workers s → driven scripts ws s ≡ driven_by scripts ws s
-unfolding driven driven_by
-driven_same scripts workers [] s within reached = refl
-driven_same scripts workers (w ∷ ws) s within reached =
+computed_same : (scripts : List Script) (workers : ℕ) (ws : List ℕ) (s : State) → list_all (λ w. nat_lt w workers) ws ≡ true → Reached (block_of_scripts scripts) workers s → after_schedule scripts ws s ≡ computed_after scripts ws s
+unfolding after_schedule computed_after
+computed_same scripts workers [] s within reached = refl
+computed_same scripts workers (w ∷ ws) s within reached =
     let both = and_parts (nat_lt w workers) (list_all (λ w. nat_lt w workers) ws) within in
-    let e = step_same scripts workers s reached w (task_at s w) (owed scripts (task_at s w)) in
-    ap (went_on (λ t. driven scripts ws t)) e ∙ go (λ t k. driven_same scripts workers ws t both.1 (stepped w (owed scripts (task_at s w)) reached (lt_says w workers both.0) k)) (step_by scripts w (task_at s w) (owed scripts (task_at s w)) s) e
+    let e = step_same scripts workers s reached w (task_at s w) (due_step scripts (task_at s w)) in
+    ap (after_step (λ t. after_schedule scripts ws t)) e ∙ go (λ t k. computed_same scripts workers ws t both.1 (stepped w (due_step scripts (task_at s w)) reached (lt_says w workers both.0) k)) (step_by scripts w (task_at s w) (due_step scripts (task_at s w)) s) e
   where
-    go : ((t : State) → worker_step (block_of_scripts scripts) w (owed scripts (task_at s w)) s ≡ Some (Ok t) → driven scripts ws t ≡ driven_by scripts ws t)
-        → (o : Option (Result State Limit)) → worker_step (block_of_scripts scripts) w (owed scripts (task_at s w)) s ≡ o → went_on (λ t. driven scripts ws t) o ≡ went_on (λ t. driven_by scripts ws t) o
+    go : ((t : State) → worker_step (block_of_scripts scripts) w (due_step scripts (task_at s w)) s ≡ Some (Ok t) → after_schedule scripts ws t ≡ computed_after scripts ws t)
+        → (o : Option (Result State Limit)) → worker_step (block_of_scripts scripts) w (due_step scripts (task_at s w)) s ≡ o → after_step (λ t. after_schedule scripts ws t) o ≡ after_step (λ t. computed_after scripts ws t) o
     go more None e = refl
     go more (Some (Ok t)) e = more t e
     go more (Some (Err limit)) e = refl
 
 -- so from the start
-pub from_start : (scripts : List Script) (workers : ℕ) (ws : List ℕ) → list_all (λ w. nat_lt w workers) ws ≡ true → driven scripts ws (start (length scripts) workers) ≡ driven_by scripts ws (start (length scripts) workers)
-from_start scripts workers ws within = driven_same scripts workers ws (start (length scripts) workers) within started
+pub from_start : (scripts : List Script) (workers : ℕ) (ws : List ℕ) → list_all (λ w. nat_lt w workers) ws ≡ true → after_schedule scripts ws (start (length scripts) workers) ≡ computed_after scripts ws (start (length scripts) workers)
+from_start scripts workers ws within = computed_same scripts workers ws (start (length scripts) workers) within started

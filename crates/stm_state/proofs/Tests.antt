@@ -1,5 +1,5 @@
 -- What tests of a status, of indices and of tasks say, and sizes that stay.
-use Rattle.std.proofs.Common.{◌≡◌, ◌<◌, ◌≤◌, ◌≢◌, ◌==◌, nat_lt, nat_le, ℕ, zero, suc, true, false, List, [], ◌∷◌, length, get_or, arith, refl, ap, ◌∙◌}
+use Rattle.std.proofs.Common.{◌≡◌, ◌<◌, ◌≤◌, ◌≢◌, ◌==◌, ◌&&◌, nat_lt, nat_le, ℕ, zero, suc, true, false, List, [], ◌∷◌, length, get_or, arith, refl, ap, ◌∙◌}
 use Rattle.std.specs.List.{list_all}
 use Rattle.std.proofs.lemmas.Bool.{and_parts}
 use Rattle.std.proofs.lemmas.Bool.Decides.{nat_tests}
@@ -7,7 +7,7 @@ use Rattle.stm_state.specs.declared.state.Status.{Status}
 use Rattle.stm_state.specs.declared.state.Status.TheVariants.{Ready, Executing, Executed, Aborting}
 use Rattle.stm_state.specs.declared.state.Task.{Task}
 use Rattle.stm_state.specs.declared.state.Task.TheVariants.{Idle, Running, Validating}
-use Rattle.stm_state.specs.State.{State, is_ready, is_executed, is_aborting, is_idle}
+use Rattle.stm_state.specs.State.{State, is_ready, is_executed, is_aborting, is_idle, is_done}
 use Rattle.stm_state.specs.Invariant.{IsSized}
 
 -- what tests of a status say
@@ -67,10 +67,15 @@ idle_says (Running i answers blocked) h = cc
 idle_says (Validating i n left) h = cc
 
 -- where all tasks of a list are idle, so is the one at each index, and past the end
-pub all_idle : (tasks : List Task) (w : ℕ) → list_all is_idle tasks ≡ true → get_or tasks w Idle ≡ Idle
+all_idle : (tasks : List Task) (w : ℕ) → list_all is_idle tasks ≡ true → get_or tasks w Idle ≡ Idle
 all_idle [] w h = refl
 all_idle (task ∷ tasks) zero h = idle_says task (and_parts (is_idle task) (list_all is_idle tasks) h).0
 all_idle (task ∷ tasks) (suc w) h = all_idle tasks w (and_parts (is_idle task) (list_all is_idle tasks) h).1
+
+-- where workers are done nobody has a task
+pub idle_at_done : (s : State) → is_done s ≡ true → (w : ℕ) → get_or s.tasks w Idle ≡ Idle
+unfolding is_done
+idle_at_done s done w = all_idle s.tasks w (and_parts (s.execution == length s.calls && s.validation == length s.calls) (list_all is_idle s.tasks) done).1
 
 -- sizes stay where the lengths do
 pub resized : (count workers : ℕ) (s t : State) → length t.calls ≡ length s.calls → length t.tasks ≡ length s.tasks → length t.counts ≡ length s.counts → length t.dones ≡ length s.dones → IsSized count workers s → IsSized count workers t

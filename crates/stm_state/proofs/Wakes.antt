@@ -1,33 +1,34 @@
 -- Readying all calls that are parked on one keeps the invariant.
-use Rattle.std.proofs.Common.{◌≡◌, ◌<◌, ◌≤◌, ◌≢◌, ◌⊎◌, ◌+◌, ◌&&◌, min, ℕ, zero, suc, Bool, true, false, cond, List, [], ◌∷◌, length, get_or, Some, arith, refl, sym, ap, subst, ◌∙◌, inl, inr}
+use Rattle.std.proofs.Common.{◌≡◌, ◌<◌, ◌≤◌, ◌-◌, ◌≢◌, ◌⊎◌, ◌+◌, ◌&&◌, min, ℕ, zero, suc, Bool, true, false, cond, List, [], ◌∷◌, length, get_or, Some, arith, refl, sym, ap, subst, ◌∙◌, inl, inr}
 use Rattle.std.specs.List.{AllByRecursion}
 use Rattle.std.proofs.lemmas.Bool.{and_parts}
 use Rattle.stm_state.specs.declared.state.Status.TheVariants.{Ready, Executing, Executed, Aborting}
 use Rattle.stm_state.specs.declared.state.CallState.{CallState}
 use Rattle.stm_state.specs.declared.state.Recorded.{Recorded}
 use Rattle.stm_state.specs.declared.state.Task.TheVariants.{Validating}
+use Rattle.stm_state.specs.Limits.{incarnation_limit}
 use Rattle.stm_state.specs.State.{fresh, is_aborting}
-use Rattle.stm_state.specs.Steps.{Block, reads_of, readied, is_parked_on, is_some_of, readied_if, lowered}
-use Rattle.stm_state.specs.Invariant.{View, Facts, IsWaiting, IsBorneOut, IsSafe, entry_of, run_by}
-use Rattle.stm_state.proofs.Moves.{Grows, right_all, borne_still}
+use Rattle.stm_state.specs.Steps.{Block, reads_of, next_incarnation, is_parked_on, is_some_of, resume_if_parked, lowered}
+use Rattle.stm_state.specs.Invariant.{View, ViewInvariant, IsWaiting, IsBorneOut, IsSafe, entry_of, run_by}
+use Rattle.stm_state.proofs.Frames.{Grows, right_all, borne_still}
 use Rattle.stm_state.proofs.Safes.{safe_all}
 use Rattle.stm_state.proofs.Tests.{is_aborting_says, equal_itself}
 use Rattle.stm_state.proofs.Asks.{same_entries}
 
 -- a call is as before, or was parked on call i and is readied
-readied_cases : (i : ℕ) (call : CallState) → (readied_if i call ≡ call) ⊎ ((is_parked_on i call ≡ true) × (readied_if i call ≡ readied call))
+readied_cases : (i : ℕ) (call : CallState) → (resume_if_parked i call ≡ call) ⊎ ((is_parked_on i call ≡ true) × (resume_if_parked i call ≡ next_incarnation call))
 readied_cases i call = go (is_parked_on i call) refl
   where
-    go : (b : Bool) → is_parked_on i call ≡ b → (cond (is_parked_on i call) (readied call) call ≡ call) ⊎ ((is_parked_on i call ≡ true) × (cond (is_parked_on i call) (readied call) call ≡ readied call))
-    go true h = inr (h, ap (λ t. cond t (readied call) call) h)
-    go false h = inl (ap (λ t. cond t (readied call) call) h)
+    go : (b : Bool) → is_parked_on i call ≡ b → (cond (is_parked_on i call) (next_incarnation call) call ≡ call) ⊎ ((is_parked_on i call ≡ true) × (cond (is_parked_on i call) (next_incarnation call) call ≡ next_incarnation call))
+    go true h = inr (h, ap (λ t. cond t (next_incarnation call) call) h)
+    go false h = inl (ap (λ t. cond t (next_incarnation call) call) h)
 
 -- a call that is parked is ABORTING
 pub parked_aborting : (i : ℕ) (call : CallState) → is_parked_on i call ≡ true → call.status ≡ Aborting
 parked_aborting i call h = is_aborting_says call.status (and_parts (is_aborting call.status) (is_some_of call.parked i) h).0
 
 -- a call that isn't ABORTING stays
-pub not_parked : (i : ℕ) (call : CallState) → call.status ≢ Aborting → readied_if i call ≡ call
+pub not_parked : (i : ℕ) (call : CallState) → call.status ≢ Aborting → resume_if_parked i call ≡ call
 not_parked i call ne = elim (readied_cases i call) [ inl same ↦ same | inr q ↦ absurd (ne (parked_aborting i call q.0)) ]
 
 -- an ABORTING call that names call i is parked on it
@@ -35,14 +36,14 @@ parked_on : (i : ℕ) (call : CallState) → call.status ≡ Aborting → call.p
 parked_on i call h k = ap (λ st. is_aborting st && is_some_of call.parked i) h ∙ ap (λ o. is_some_of o i) k ∙ equal_itself i
 
 -- afterwards no call is parked on call i
-pub none_parked : (i : ℕ) (call : CallState) → (readied_if i call).status ≡ Aborting → (readied_if i call).parked ≢ Some i
+pub none_parked : (i : ℕ) (call : CallState) → (resume_if_parked i call).status ≡ Aborting → (resume_if_parked i call).parked ≢ Some i
 none_parked i call h k = elim (readied_cases i call) [
   | inl same ↦
       let was : call.status ≡ Aborting = ap (λ (c : CallState). c.status) (sym same) ∙ h in
       let on : call.parked ≡ Some i = ap (λ (c : CallState). c.parked) (sym same) ∙ k in
-      let now : readied_if i call ≡ readied call = ap (λ t. cond t (readied call) call) (parked_on i call was on) in
-      let ready : (readied_if i call).status ≡ Ready = ap (λ (c : CallState). c.status) now in cc
-  | inr q ↦ let ready : (readied_if i call).status ≡ Ready = ap (λ (c : CallState). c.status) q.1 in cc
+      let now : resume_if_parked i call ≡ next_incarnation call = ap (λ t. cond t (next_incarnation call) call) (parked_on i call was on) in
+      let ready : (resume_if_parked i call).status ≡ Ready = ap (λ (c : CallState). c.status) now in cc
+  | inr q ↦ let ready : (resume_if_parked i call).status ≡ Ready = ap (λ (c : CallState). c.status) q.1 in cc
 ]
 
 -- ---- the execution index lowered
@@ -77,15 +78,15 @@ lowered_at i x p (call ∷ calls) (suc k) h =
 
 -- a view with all calls that are parked on call i readied
 abbrev pub woken_view : View → ℕ → ℕ → View
-woken_view v i execution = record { calls = λ j. readied_if i (v.calls j); tasks = v.tasks; entries = v.entries; execution = execution; validation = v.validation }
+woken_view v i execution = record { calls = λ j. resume_if_parked i (v.calls j); tasks = v.tasks; entries = v.entries; execution = execution; validation = v.validation }
 
-module _ (block : Block) (v : View) (i execution : ℕ) (f : Facts block v) (low : execution ≤ v.execution) (least : (j : ℕ) → is_parked_on i (v.calls j) ≡ true → execution ≤ j) where
+module _ (block : Block) (v : View) (i execution : ℕ) (f : ViewInvariant block v) (low : execution ≤ v.execution) (least : (j : ℕ) → is_parked_on i (v.calls j) ≡ true → execution ≤ j) where
   -- the view afterwards
   abbrev now : View
   now = woken_view v i execution
 
   -- what holds of a call as it was, and readied where it was parked, holds of it now
-  woken_calls : (j : ℕ) (P : CallState → Type 0) → P (v.calls j) → (is_parked_on i (v.calls j) ≡ true → (v.calls j).status ≡ Aborting → P (readied (v.calls j))) → P (readied_if i (v.calls j))
+  woken_calls : (j : ℕ) (P : CallState → Type 0) → P (v.calls j) → (is_parked_on i (v.calls j) ≡ true → (v.calls j).status ≡ Aborting → P (next_incarnation (v.calls j))) → P (resume_if_parked i (v.calls j))
   woken_calls j P h k = elim (readied_cases i (v.calls j)) [
     | inl same ↦ subst P (sym same) h
     | inr q ↦ subst P (sym q.1) (k q.0 (parked_aborting i (v.calls j) q.0))
@@ -94,45 +95,45 @@ module _ (block : Block) (v : View) (i execution : ℕ) (f : Facts block v) (low
   -- ---- each part of the invariant afterwards
 
   -- READY calls are at or above the execution index
-  woken_ready : (j : ℕ) → (readied_if i (v.calls j)).status ≡ Ready → execution ≤ j
+  woken_ready : (j : ℕ) → (resume_if_parked i (v.calls j)).status ≡ Ready → execution ≤ j
   woken_ready j = woken_calls j (λ call. call.status ≡ Ready → execution ≤ j) (λ h. let r = f.ready j h in omega (arith, r)) (λ on _ _. least j on)
 
   -- EXECUTING calls are run
-  woken_executing : (j : ℕ) → (readied_if i (v.calls j)).status ≡ Executing → (x : ℕ) × (run_by (v.tasks x) ≡ Some j)
+  woken_executing : (j : ℕ) → (resume_if_parked i (v.calls j)).status ≡ Executing → (x : ℕ) × (run_by (v.tasks x) ≡ Some j)
   woken_executing j = woken_calls j (λ call. call.status ≡ Executing → (x : ℕ) × (run_by (v.tasks x) ≡ Some j)) (f.executing j) (λ _ _ h. cc)
 
   -- calls that are run are EXECUTING
-  woken_running : (x j : ℕ) → run_by (v.tasks x) ≡ Some j → (readied_if i (v.calls j)).status ≡ Executing
+  woken_running : (x j : ℕ) → run_by (v.tasks x) ≡ Some j → (resume_if_parked i (v.calls j)).status ≡ Executing
   woken_running x j h = woken_calls j (λ call. call.status ≡ Executing) (f.running x j h) (λ _ aborts. let r = f.running x j h in cc)
 
   -- ABORTING calls still have a lower call that is not EXECUTED
-  woken_waits : (j : ℕ) → (readied_if i (v.calls j)).status ≡ Aborting → (b : ℕ) × ((readied_if i (v.calls j)).parked ≡ Some b) × (b < j) × ((readied_if i (v.calls b)).status ≢ Executed)
-  woken_waits j = woken_calls j (λ call. call.status ≡ Aborting → (b : ℕ) × (call.parked ≡ Some b) × (b < j) × ((readied_if i (v.calls b)).status ≢ Executed))
+  woken_waits : (j : ℕ) → (resume_if_parked i (v.calls j)).status ≡ Aborting → (b : ℕ) × ((resume_if_parked i (v.calls j)).parked ≡ Some b) × (b < j) × ((resume_if_parked i (v.calls b)).status ≢ Executed)
+  woken_waits j = woken_calls j (λ call. call.status ≡ Aborting → (b : ℕ) × (call.parked ≡ Some b) × (b < j) × ((resume_if_parked i (v.calls b)).status ≢ Executed))
       (λ h. let old = f.aborting j h in (old.on, old.parked, old.lower, woken_calls old.on (λ call. call.status ≢ Executed) old.not_done (λ _ _ k. cc)))
       (λ _ _ h. cc)
 
   -- ABORTING calls wait
-  woken_aborting : (j : ℕ) → (readied_if i (v.calls j)).status ≡ Aborting → IsWaiting now j
+  woken_aborting : (j : ℕ) → (resume_if_parked i (v.calls j)).status ≡ Aborting → IsWaiting now j
   woken_aborting j h = let q = woken_waits j h in record { on = q.0; parked = q.1; lower = q.2; not_done = q.3 }
 
   -- incarnations are at most 65,535
-  woken_limit : (j : ℕ) → (readied_if i (v.calls j)).incarnation ≤ 65535
-  woken_limit j = woken_calls j (λ call. call.incarnation ≤ 65535) (f.limit j) (λ _ aborts. let r = f.aborting_limit j aborts in omega (arith, r))
+  woken_limit : (j : ℕ) → (resume_if_parked i (v.calls j)).incarnation ≤ incarnation_limit
+  woken_limit j = woken_calls j (λ call. call.incarnation ≤ incarnation_limit) (f.limit j) (λ _ aborts. let r = f.aborting_limit j aborts in omega (arith, r))
 
   -- those of EXECUTED calls are at most 65,534
-  woken_executed_limit : (j : ℕ) → (readied_if i (v.calls j)).status ≡ Executed → (readied_if i (v.calls j)).incarnation ≤ 65534
-  woken_executed_limit j = woken_calls j (λ call. call.status ≡ Executed → call.incarnation ≤ 65534) (f.executed_limit j) (λ _ _ h. cc)
+  woken_executed_limit : (j : ℕ) → (resume_if_parked i (v.calls j)).status ≡ Executed → (resume_if_parked i (v.calls j)).incarnation ≤ incarnation_limit - 1
+  woken_executed_limit j = woken_calls j (λ call. call.status ≡ Executed → call.incarnation ≤ incarnation_limit - 1) (f.executed_limit j) (λ _ _ h. cc)
 
   -- those of ABORTING calls are at most 65,534
-  woken_aborting_limit : (j : ℕ) → (readied_if i (v.calls j)).status ≡ Aborting → (readied_if i (v.calls j)).incarnation ≤ 65534
-  woken_aborting_limit j = woken_calls j (λ call. call.status ≡ Aborting → call.incarnation ≤ 65534) (f.aborting_limit j) (λ _ _ h. cc)
+  woken_aborting_limit : (j : ℕ) → (resume_if_parked i (v.calls j)).status ≡ Aborting → (resume_if_parked i (v.calls j)).incarnation ≤ incarnation_limit - 1
+  woken_aborting_limit j = woken_calls j (λ call. call.status ≡ Aborting → call.incarnation ≤ incarnation_limit - 1) (f.aborting_limit j) (λ _ _ h. cc)
 
   -- entries are those of the calls
-  woken_entries : (j : ℕ) (key : List ℕ) → v.entries key j ≡ entry_of (readied_if i (v.calls j)) key
+  woken_entries : (j : ℕ) (key : List ℕ) → v.entries key j ≡ entry_of (resume_if_parked i (v.calls j)) key
   woken_entries j key = woken_calls j (λ call. v.entries key j ≡ entry_of call key) (f.entries j key) (λ _ aborts. same_entries block v f j (λ h. cc) key)
 
   -- EXECUTED calls have a recorded run
-  woken_executed : (j : ℕ) → (readied_if i (v.calls j)).status ≡ Executed → (run : Recorded) × ((readied_if i (v.calls j)).last ≡ Some run)
+  woken_executed : (j : ℕ) → (resume_if_parked i (v.calls j)).status ≡ Executed → (run : Recorded) × ((resume_if_parked i (v.calls j)).last ≡ Some run)
   woken_executed j = woken_calls j (λ call. call.status ≡ Executed → (run : Recorded) × (call.last ≡ Some run)) (f.executed j) (λ _ _ h. cc)
 
   -- incarnations grow, and versions stay
@@ -143,30 +144,30 @@ module _ (block : Block) (v : View) (i execution : ℕ) (f : Facts block v) (low
   }
 
   -- recorded runs are borne out
-  woken_recorded : (j : ℕ) (run : Recorded) → (readied_if i (v.calls j)).last ≡ Some run → IsBorneOut block now j run
+  woken_recorded : (j : ℕ) (run : Recorded) → (resume_if_parked i (v.calls j)).last ≡ Some run → IsBorneOut block now j run
   woken_recorded j run h = borne_still block v now woken_grows j run (woken_calls j (λ call. call.last ≡ Some run → IsBorneOut block v j run) (f.recorded j run) (λ _ _. f.recorded j run) h)
 
   -- validations are of incarnations that the calls had
-  woken_validating : (x j n left : ℕ) → v.tasks x ≡ Validating j n left → n ≤ (readied_if i (v.calls j)).incarnation
+  woken_validating : (x j n left : ℕ) → v.tasks x ≡ Validating j n left → n ≤ (resume_if_parked i (v.calls j)).incarnation
   woken_validating x j n left h = let old = f.validating x j n left h in let more = woken_grows.incarnations j in omega (arith, old, more)
 
   -- validations of present incarnations are of EXECUTED calls, with all reads to check
-  woken_current : (x j left : ℕ) → v.tasks x ≡ Validating j (readied_if i (v.calls j)).incarnation left → ((readied_if i (v.calls j)).status ≡ Executed) × (left ≡ length (reads_of (readied_if i (v.calls j)).last))
+  woken_current : (x j left : ℕ) → v.tasks x ≡ Validating j (resume_if_parked i (v.calls j)).incarnation left → ((resume_if_parked i (v.calls j)).status ≡ Executed) × (left ≡ length (reads_of (resume_if_parked i (v.calls j)).last))
   woken_current x j left = woken_calls j (λ call. v.tasks x ≡ Validating j call.incarnation left → (call.status ≡ Executed) × (left ≡ length (reads_of call.last)))
       (f.current x j left)
       (λ _ _ h. let over = f.validating x j ((v.calls j).incarnation + 1) left h in absurd (omega (arith, over)))
 
   -- reads stay safe
-  woken_safe : (j : ℕ) → (readied_if i (v.calls j)).status ≡ Executed → j < v.validation → AllByRecursion (IsSafe now j) (reads_of (readied_if i (v.calls j)).last)
+  woken_safe : (j : ℕ) → (resume_if_parked i (v.calls j)).status ≡ Executed → j < v.validation → AllByRecursion (IsSafe now j) (reads_of (resume_if_parked i (v.calls j)).last)
   woken_safe j h l = elim (readied_cases i (v.calls j)) [
     | inl same ↦ subst (λ (call : CallState). AllByRecursion (IsSafe now j) (reads_of call.last)) (sym same)
         (safe_all v now j (reads_of (v.calls j).last) (λ read k. k) (λ q. inr (q.0, (q.1.0, q.1.1 ∙ ap (λ (call : CallState). Validating j call.incarnation q.1.0) (sym same))))
         (f.safe j (ap (λ (call : CallState). call.status) (sym same) ∙ h) l))
-    | inr q ↦ let ready : (readied_if i (v.calls j)).status ≡ Ready = ap (λ (call : CallState). call.status) q.1 in cc
+    | inr q ↦ let ready : (resume_if_parked i (v.calls j)).status ≡ Ready = ap (λ (call : CallState). call.status) q.1 in cc
   ]
 
   -- the invariant is kept
-  pub woken_facts : Facts block (woken_view v i execution)
+  pub woken_facts : ViewInvariant block (woken_view v i execution)
   woken_facts = record {
     execution_within = let within = f.execution_within in omega (arith, within);
     validation_within = f.validation_within;

@@ -1,33 +1,26 @@
 -- Each state that worker steps lead to keeps the invariant.
-use Rattle.std.proofs.Common.{◌≡◌, ◌<◌, ◌+◌, nat_lt, nat_le, ℕ, zero, suc, Bool, true, false, cond, if◌then◌else◌, List, replicate, get_or, Option, None, Some, Result, Ok, Err, arith, refl, sym, ap, subst, length-set}
-use Rattle.std.specs.FinMap.{get, get-empty, len}
+use Rattle.std.proofs.Common.{◌≡◌, ◌<◌, ℕ, if◌then◌else◌, Some, Ok, arith, refl, sym, ap, subst, length-set}
+use Rattle.std.specs.FinMap.{get, get-empty}
 use Rattle.std.proofs.lemmas.List.{length-replicate}
-use Rattle.rv_ledger.specs.declared.receipt.Receipt.{Receipt}
 use Rattle.rv_ledger.specs.declared.outcome.Counts.{Counts}
-use Rattle.rv_step.specs.Replies.{replies_of}
-use Rattle.rv_step.specs.declared.answer.Answer.{Answer}
 use Rattle.mvmap.specs.Versions.{place_cmp}
 use Rattle.stm_state.specs.declared.state.Status.TheVariants.{Ready}
 use Rattle.stm_state.specs.declared.state.CallState.{CallState}
-use Rattle.stm_state.specs.declared.state.Task.{Task}
-use Rattle.stm_state.specs.declared.state.Task.TheVariants.{Idle, Running, Validating}
+use Rattle.stm_state.specs.declared.state.Task.TheVariants.{Idle}
 use Rattle.stm_state.specs.State.{State, fresh, no_counts, start, call_at, task_at}
-use Rattle.stm_state.specs.Steps.{Block, Step, Ask, Read_key, Park, Record, Validate, Limit, ArenaFull, IncarnationLimit, counted, one_step, one_asking, one_execution, one_validation, decided, parked, recorded, record_within, step_with, worker_step}
+use Rattle.stm_state.specs.Steps.{Block, Step, counted, one_step, one_asking, one_execution, one_validation, decided, worker_step}
 use Rattle.stm_state.specs.Invariant.{entry_of, Invariant}
 use Rattle.stm_state.specs.Done.{Reached, started, stepped}
-use Rattle.stm_state.proofs.Tests.{not_le_says, resized}
+use Rattle.stm_state.proofs.Lists.{replicated}
+use Rattle.stm_state.proofs.Tests.{resized}
+pub use Rattle.stm_state.proofs.Cases.{same_state, none_ok, err_ok}
+use Rattle.stm_state.proofs.Cases.{IsMade, by_ask, by_read, by_park, by_record, by_validate, made}
 use Rattle.stm_state.proofs.Asks.{ask_kept}
 use Rattle.stm_state.proofs.Runs.{read_kept, park_kept}
 use Rattle.stm_state.proofs.Records.{record_kept}
 use Rattle.stm_state.proofs.Aborts.{validate_kept}
 
 -- ---- the start
-
--- a list of one thing at an index, also past the end
-pub replicated : {X : Type 0} (n i : ℕ) (d : X) → get_or (replicate n d) i d ≡ d
-replicated zero i d = refl
-replicated (suc n) zero d = refl
-replicated (suc n) (suc i) d = replicated n i d
 
 module _ (block : Block) (workers : ℕ) where
   -- the state at the start
@@ -79,50 +72,18 @@ module _ (block : Block) (workers : ℕ) where
 counted_kept : (block : Block) (workers w : ℕ) (add : Counts → Counts) (s : State) → Invariant block workers s → Invariant block workers (counted add w s)
 counted_kept block workers w add s h = record { sized = resized block.count workers s _ refl refl (length-set s.counts w _) refl h.sized; facts = h.facts }
 
--- a step has one result
-pub same_state : (s t : State) → ◌≡◌ {A = Option (Result State Limit)} (Some (Ok s)) (Some (Ok t)) → s ≡ t
-same_state s t h = cc
+module _ (block : Block) (workers w : ℕ) (s : State) (h : Invariant block workers s) (w_in : w < workers) where
+  -- each step that is made keeps the invariant
+  made_kept : (step : Step) (t : State) → IsMade block w s step t → Invariant block workers t
+  made_kept step t (by_ask at) = counted_kept block workers w one_asking _ (ask_kept block workers w s h w_in at)
+  made_kept step t (by_read i answers key at) = counted_kept block workers w one_step _ (read_kept block workers w i answers key s h w_in at)
+  made_kept step t (by_park i b answers at below) = counted_kept block workers w one_step _ (park_kept block workers w i b answers s h w_in at below)
+  made_kept step t (by_record i answers receipt at bears below) = counted_kept block workers w one_execution _ (record_kept block workers w i answers receipt s h w_in at below bears)
+  made_kept step t (by_validate i n left at) = counted_kept block workers w (if decided i n left s then one_validation else one_step) _ (validate_kept block workers w i n left s h w_in at)
 
--- a step that is not due has none
-pub none_ok : (t : State) → ◌≡◌ {A = Option (Result State Limit)} None (Some (Ok t)) → ⊥
-none_ok t h = cc
-
--- nor has one that is refused
-pub err_ok : (e : Limit) (t : State) → ◌≡◌ {A = Option (Result State Limit)} (Some (Err e)) (Some (Ok t)) → ⊥
-err_ok e t h = cc
-
-module _ (block : Block) (workers w : ℕ) (s t : State) (h : Invariant block workers s) (w_in : w < workers) where
-  -- a record within the limits keeps the invariant
-  recorded_within : (i : ℕ) (answers : List Answer) (o : Option Receipt) → block.borne i (replies_of answers) ≡ o → task_at s w ≡ Running i answers None → record_within i answers w o s ≡ Some (Ok t) → Invariant block workers t
-  recorded_within i answers None e runs k = absurd (none_ok t k)
-  recorded_within i answers (Some receipt) e runs k = go (nat_lt 1048576 (s.placed + len receipt.writes)) (nat_le 65535 (call_at s i).incarnation) refl k
-    where
-      go : (full spent : Bool) → nat_le 65535 (call_at s i).incarnation ≡ spent → cond full (Some (Err ArenaFull)) (cond spent (Some (Err IncarnationLimit)) (Some (Ok (counted one_execution w (recorded w i answers receipt s))))) ≡ Some (Ok t) → Invariant block workers t
-      go true spent at k = absurd (err_ok ArenaFull t k)
-      go false true at k = absurd (err_ok IncarnationLimit t k)
-      go false false at k = subst (λ x. Invariant block workers x) (same_state _ t k)
-          (counted_kept block workers w one_execution _ (record_kept block workers w i answers receipt s h w_in runs (not_le_says 65535 (call_at s i).incarnation at) e))
-
-  -- parking within the limit keeps the invariant
-  parked_within : (i b : ℕ) (answers : List Answer) → task_at s w ≡ Running i answers (Some b) → (spent : Bool) → nat_le 65535 (call_at s i).incarnation ≡ spent
-      → cond spent (Some (Err IncarnationLimit)) (Some (Ok (counted one_step w (parked w i b s)))) ≡ Some (Ok t) → Invariant block workers t
-  parked_within i b answers runs true at k = absurd (err_ok IncarnationLimit t k)
-  parked_within i b answers runs false at k = subst (λ x. Invariant block workers x) (same_state _ t k)
-      (counted_kept block workers w one_step _ (park_kept block workers w i b answers s h w_in runs (not_le_says 65535 (call_at s i).incarnation at)))
-
-  -- each step keeps the invariant, by the task
-  step_kept : (task : Task) → task_at s w ≡ task → (step : Step) → step_with block w task step s ≡ Some (Ok t) → Invariant block workers t
-  step_kept Idle at Ask k = subst (λ x. Invariant block workers x) (same_state _ t k) (counted_kept block workers w one_asking _ (ask_kept block workers w s h w_in at))
-  step_kept (Running i answers None) at (Read_key key) k = subst (λ x. Invariant block workers x) (same_state _ t k) (counted_kept block workers w one_step _ (read_kept block workers w i answers key s h w_in at))
-  step_kept (Running i answers (Some b)) at Park k = parked_within i b answers at (nat_le 65535 (call_at s i).incarnation) refl k
-  step_kept (Running i answers None) at Record k = recorded_within i answers (block.borne i (replies_of answers)) refl at k
-  step_kept (Validating i n left) at Validate k = subst (λ x. Invariant block workers x) (same_state _ t k)
-      (counted_kept block workers w (if decided i n left s then one_validation else one_step) _ (validate_kept block workers w i n left s h w_in at))
-  step_kept task at step k = absurd (none_ok t k)
-
-  -- each step keeps the invariant
-  pub worker_kept : (step : Step) → worker_step block w step s ≡ Some (Ok t) → Invariant block workers t
-  worker_kept step k = step_kept (task_at s w) refl step k
+-- each step keeps the invariant
+pub worker_kept : (block : Block) (workers w : ℕ) (s t : State) → Invariant block workers s → w < workers → (step : Step) → worker_step block w step s ≡ Some (Ok t) → Invariant block workers t
+worker_kept block workers w s t h w_in step k = made_kept block workers w s h w_in step t (made block w s t step k)
 
 -- ---- all states
 

@@ -11,13 +11,13 @@ use Rattle.std.specs.FinMap.Entries.{below_all}
 use Rattle.std.proofs.lemmas.Bool.{or_parts}
 use Rattle.std.proofs.lemmas.Map.Lookups.{exact_bytes}
 use Rattle.std.proofs.lemmas.Map.Views.{tells_apart}
-use Rattle.version_arena.specs.Shelf.{Content}
+use Rattle.version_arena.specs.ArenaState.{Content}
 use Rattle.rv_ledger.specs.Key.{Storage, WriteMap, key_cmp}
-use Rattle.rv_step.specs.Fold.{laid, laid_at}
+use Rattle.rv_step.specs.Fold.{apply_writes, apply_write}
 use Rattle.mvmap.specs.Versions.{Entry, Stands, Estimate, Place, Versions, changed, place_cmp}
 use Rattle.mvmap.proofs.Places.{get_changed, get_other}
 use Rattle.stm_state.specs.declared.state.Recorded.{Recorded}
-use Rattle.stm_state.specs.Steps.{written_by, published, estimated, left_over, wrote, has_new_key, moved}
+use Rattle.stm_state.specs.Steps.{written_by, published, estimated, left_over, wrote, has_new_key, recorded_versions}
 use Rattle.stm_state.specs.Invariant.{write_of}
 
 -- ---- each entry of a map is what the map has at its key
@@ -144,7 +144,7 @@ all_at i h (e ∷ es) v key x all =
 -- ---- what a record does to the versions
 
 -- other writers keep their entries
-pub moved_other : (i n : ℕ) (last : Option Recorded) (writes : WriteMap) (v : Versions) (key : List ℕ) (j : ℕ) → j ≢ i → get (moved i n last writes v) (key, j) ≡ get v (key, j)
+pub moved_other : (i n : ℕ) (last : Option Recorded) (writes : WriteMap) (v : Versions) (key : List ℕ) (j : ℕ) → j ≢ i → get (recorded_versions i n last writes v) (key, j) ≡ get v (key, j)
 moved_other i n last writes v key j ne =
     all_other i (λ write. None) (left_over last writes) (published i n (entries writes) v) key j ne
     ∙ all_other i (λ write. Some (Stands n write.1)) (entries writes) v key j ne
@@ -179,7 +179,7 @@ left_at : (key : List ℕ) (last : Option Recorded) (writes : WriteMap) → at_k
 left_at key last writes = at_key_filter (λ k. not (contains_key writes k)) key (written_by last) ∙ ap (λ b. not (is_some (get writes key)) && b) (at_key_last key last)
 
 -- where the writer had estimates at the keys of its last run, it has just the new versions
-pub moved_at : (i n : ℕ) (last : Option Recorded) (writes : WriteMap) (v : Versions) (key : List ℕ) → get v (key, i) ≡ option_map (λ c. Estimate) (write_of last key) → get (moved i n last writes v) (key, i) ≡ option_map (λ c. Stands n c) (get writes key)
+pub moved_at : (i n : ℕ) (last : Option Recorded) (writes : WriteMap) (v : Versions) (key : List ℕ) → get v (key, i) ≡ option_map (λ c. Estimate) (write_of last key) → get (recorded_versions i n last writes v) (key, i) ≡ option_map (λ c. Stands n c) (get writes key)
 moved_at i n last writes v key old =
     all_at i (λ write. None) (left_over last writes) (published i n (entries writes) v) key None (always (λ e. key ≡ e.0 → None ≡ None) (λ e same. refl) (left_over last writes))
     ∙ ap (λ b. cond b None (get (published i n (entries writes) v) (key, i))) (left_at key last writes)
@@ -227,7 +227,7 @@ over None old = old
 over (Some content) old = content
 
 -- what a storage has after one write
-get_laid_at : (store : Storage) (k : List ℕ) (content : Content) (key : List ℕ) → get (laid_at store k content) key ≡ cond (eq_by_cmp key_cmp key k) content (get store key)
+get_laid_at : (store : Storage) (k : List ℕ) (content : Content) (key : List ℕ) → get (apply_write store k content) key ≡ cond (eq_by_cmp key_cmp key k) content (get store key)
 get_laid_at store k None key = get-remove nat_list_cmp_total store k key
 get_laid_at store k (Some value) key = get-insert nat_list_cmp_total store k value key
 
@@ -239,10 +239,10 @@ picked false true x y o h = h refl
 picked false false x y o h = refl
 
 -- what a storage has after some writes
-laid_all : (es : List (List ℕ × Content)) (store : Storage) (key : List ℕ) (x : Option (List ℕ)) → AllByRecursion (λ e. key ≡ e.0 → e.1 ≡ x) es → get (fold (λ before write. laid_at before write.0 write.1) store es) key ≡ cond (at_key key es) x (get store key)
+laid_all : (es : List (List ℕ × Content)) (store : Storage) (key : List ℕ) (x : Option (List ℕ)) → AllByRecursion (λ e. key ≡ e.0 → e.1 ≡ x) es → get (fold (λ before write. apply_write before write.0 write.1) store es) key ≡ cond (at_key key es) x (get store key)
 laid_all [] store key x all = refl
 laid_all (e ∷ es) store key x all =
-    laid_all es (laid_at store e.0 e.1) key x all.1
+    laid_all es (apply_write store e.0 e.1) key x all.1
     ∙ ap (cond (at_key key es) x) (get_laid_at store e.0 e.1 key)
     ∙ picked (at_key key es) (eq_by_cmp key_cmp key e.0) e.1 x (get store key) (λ t. all.0 (same_key key e.0 t))
 
@@ -252,8 +252,8 @@ over_is None old = refl
 over_is (Some c) old = refl
 
 -- a storage with writes laid over it has at a key what was written there, and else what it had
-pub laid_get : (store : Storage) (writes : WriteMap) (key : List ℕ) → get (laid store writes) key ≡ over (get writes key) (get store key)
-unfolding laid
+pub laid_get : (store : Storage) (writes : WriteMap) (key : List ℕ) → get (apply_writes store writes) key ≡ over (get writes key) (get store key)
+unfolding apply_writes
 laid_get store writes key =
     laid_all (entries writes) store key (over (get writes key) None)
     (all_map (λ e. get writes e.0 ≡ Some e.1) (λ e. key ≡ e.0 → e.1 ≡ over (get writes key) None)

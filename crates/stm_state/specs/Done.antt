@@ -1,22 +1,31 @@
 -- What workers reach, and what it is where they are done.
-use Rattle.std.specs.Prelude.{◌≡◌, ◌<◌, ◌≤◌, ℕ, suc, true, List, length, map, Option, None, Some, slice_get, Ok}
+use Rattle.std.specs.Prelude.{◌≡◌, ◌<◌, ◌≤◌, ℕ, suc, true, List, length, map, Option, None, Some, slice_get, Ok, Err}
 use Rattle.std.specs.Option.{option_map}
 use Rattle.std.specs.FinMap.{get}
 use Rattle.rv_ledger.specs.Key.{Storage}
 use Rattle.rv_ledger.specs.Call.{Invocation}
 use Rattle.rv_ledger.specs.declared.receipt.Receipt.{Receipt}
-use Rattle.rv_step.specs.Chain.{Reply, AreFrom, borne}
-use Rattle.rv_step.specs.Fold.{laid, receipts_of, store_after}
+use Rattle.rv_step.specs.Chain.{Reply, AreFrom, borne_out}
+use Rattle.rv_step.specs.Fold.{apply_writes, receipts_of, store_after}
 use Rattle.mvmap.specs.Versions.{HasNoEstimate, entry_at}
-use Rattle.mvmap.specs.Reading.{held, reading}
+use Rattle.mvmap.specs.Reading.{value_seen, reading}
 use Rattle.stm_state.specs.declared.state.CallState.{CallState}
 use Rattle.stm_state.specs.State.{State, start, call_at, is_done}
-use Rattle.stm_state.specs.Steps.{Block, Step, worker_step}
+use Rattle.stm_state.specs.Steps.{Block, Step, Limit, worker_step}
 
 -- some list of worker steps leads from the start of a block to this state
 pub data Reached (block : Block) (workers : ℕ) : State → Type 0 where
   started : Reached block workers (start block.count workers)
   stepped : {s t : State} (w : ℕ) (step : Step) → Reached block workers s → w < workers → worker_step block w step s ≡ Some (Ok t) → Reached block workers t
+
+-- some list of worker steps leads to a state where a worker's step is refused for a limit
+pub record MeetsLimit (block : Block) (workers : ℕ) (limit : Limit) : Type 0 where
+  pub state : State
+  pub reached : Reached block workers state
+  pub worker : ℕ
+  pub within : worker < workers
+  pub step : Step
+  pub refused : worker_step block worker step state ≡ Some (Err limit)
 
 -- the receipt of the run of a call that was last recorded
 abbrev pub last_receipt : CallState → Option Receipt
@@ -29,9 +38,9 @@ pub record IsSerial (block : Block) (s : State) : Type 0 where
   pub receipt : ℕ → Receipt
   pub first : before 0 ≡ block.base
   pub has : (i : ℕ) → i < block.count → last_receipt (call_at s i) ≡ Some (receipt i)
-  pub ends : (i : ℕ) → i < block.count → (replies : List Reply) × AreFrom (before i) replies × (block.borne i replies ≡ Some (receipt i))
-  pub next : (i : ℕ) → i < block.count → before (suc i) ≡ laid (before i) (receipt i).writes
-  pub last : (key : List ℕ) → held (get block.base key) (reading s.versions key block.count) ≡ get (before block.count) key
+  pub ends : (i : ℕ) → i < block.count → (replies : List Reply) × AreFrom (before i) replies × (block.borne_out i replies ≡ Some (receipt i))
+  pub next : (i : ℕ) → i < block.count → before (suc i) ≡ apply_writes (before i) (receipt i).writes
+  pub last : (key : List ℕ) → value_seen (get block.base key) (reading s.versions key block.count) ≡ get (before block.count) key
 
 -- no call past the last has an entry, and no entry is an estimate
 abbrev pub HasVersionsAlone : Block → State → Type 0
@@ -46,15 +55,15 @@ abbrev pub DoneIsSerial : Type 0
 DoneIsSerial = (block : Block) (workers : ℕ) (s : State) → Reached block workers s → is_done s ≡ true → IsSerial block s
 
 -- the receipt that replies bear out of a call
-abbrev pub borne_by : Option Invocation → List Reply → Option Receipt
-borne_by None replies = None
-borne_by (Some call) replies = borne call replies
+abbrev pub borne_out_by : Option Invocation → List Reply → Option Receipt
+borne_out_by None replies = None
+borne_out_by (Some call) replies = borne_out call replies
 
 -- the calls of a job as a block
 abbrev pub block_of : List Invocation → Storage → Block
-block_of calls store = record { count = length calls; base = store; borne = λ i replies. borne_by (slice_get calls i) replies }
+block_of calls store = record { count = length calls; base = store; borne_out = λ i replies. borne_out_by (slice_get calls i) replies }
 
 -- where workers are done with a job, the receipts and the storage are those of running its calls one after another
 abbrev pub DoneIsInOrder : Type 0
 DoneIsInOrder = (calls : List Invocation) (store : Storage) (workers : ℕ) (s : State) → Reached (block_of calls store) workers s → is_done s ≡ true
-    → (map last_receipt s.calls ≡ map Some (receipts_of calls store)) × ((key : List ℕ) → held (get store key) (reading s.versions key (length calls)) ≡ get (store_after calls store) key)
+    → (map last_receipt s.calls ≡ map Some (receipts_of calls store)) × ((key : List ℕ) → value_seen (get store key) (reading s.versions key (length calls)) ≡ get (store_after calls store) key)

@@ -1,15 +1,15 @@
 -- What holds of each state that worker steps lead to (Block-STM), over functions of indices: a call past the
 -- last one is as at the start, and a worker past the last one has no task.
-use Rattle.std.specs.Prelude.{◌≡◌, ◌<◌, ◌≤◌, ◌≢◌, ◌⊎◌, ℕ, Bool, true, false, List, length, map, Option, None, Some}
+use Rattle.std.specs.Prelude.{◌≡◌, ◌<◌, ◌≤◌, ◌-◌, ◌≢◌, ◌⊎◌, ℕ, Bool, true, false, List, length, map, Option, None, Some}
 use Rattle.std.specs.List.{AllByRecursion}
 use Rattle.std.specs.Option.{option_map}
 use Rattle.std.specs.FinMap.{get}
-use Rattle.version_arena.specs.Shelf.{Content}
+use Rattle.version_arena.specs.ArenaState.{Content}
 use Rattle.read_set.specs.declared.Origin.{Origin}
 use Rattle.read_set.specs.declared.Origin.TheVariants as origin
 use Rattle.read_set.specs.declared.Read.{Read}
 use Rattle.rv_step.specs.Replies.{replies_of}
-use Rattle.rv_step.specs.declared.answer.Answer.{Answer}
+use Rattle.rv_step.specs.declared.answer.StorageAnswer.{StorageAnswer}
 use Rattle.mvmap.specs.Versions.{Entry, Stands, Estimate, entry_at}
 use Rattle.mvmap.specs.Reading.{stands_among}
 use Rattle.stm_state.specs.declared.state.Status.TheVariants.{Ready, Executing, Executed, Aborting}
@@ -17,6 +17,7 @@ use Rattle.stm_state.specs.declared.state.CallState.{CallState}
 use Rattle.stm_state.specs.declared.state.Recorded.{Recorded}
 use Rattle.stm_state.specs.declared.state.Task.{Task}
 use Rattle.stm_state.specs.declared.state.Task.TheVariants.{Idle, Running, Validating}
+use Rattle.stm_state.specs.Limits.{incarnation_limit}
 use Rattle.stm_state.specs.State.{State, call_at, task_at, is_executed}
 use Rattle.stm_state.specs.Steps.{Block, read_of, reads_of}
 use Rattle.stm_state.specs.Done.{Reached}
@@ -75,14 +76,14 @@ abbrev pub IsRight : Block → View → ℕ → List ℕ → Content → Origin 
 IsRight block v i key value origin.Base = value ≡ get block.base key
 IsRight block v i key value (origin.Version w n) = (w < i) × ((n < (v.calls w).incarnation) ⊎ (v.entries key w ≡ Some (Stands n value)))
 
-abbrev pub IsRightAnswer : Block → View → ℕ → Answer → Type 0
+abbrev pub IsRightAnswer : Block → View → ℕ → StorageAnswer → Type 0
 IsRightAnswer block v i answer = IsRight block v i answer.key answer.value answer.origin
 
 -- a recorded run is borne out by right answers to its reads
 pub record IsBorneOut (block : Block) (v : View) (i : ℕ) (run : Recorded) : Type 0 where
-  pub answers : List Answer
+  pub answers : List StorageAnswer
   pub reads : map read_of answers ≡ run.reads
-  pub borne : block.borne i (replies_of answers) ≡ Some run.receipt
+  pub borne_out : block.borne_out i (replies_of answers) ≡ Some run.receipt
   pub right : AllByRecursion (IsRightAnswer block v i) answers
 
 -- a worker has yet to check a read of a call: it validates the call at its incarnation
@@ -93,7 +94,7 @@ pub data IsCovered (v : View) (i : ℕ) (read : Read) : Type 0 where
 abbrev pub IsSafe : View → ℕ → Read → Type 0
 IsSafe v i read = (stands_among v.entries i read ≡ true) ⊎ IsCovered v i read
 
-pub record Facts (block : Block) (v : View) : Type 0 where
+pub record ViewInvariant (block : Block) (v : View) : Type 0 where
   -- the indices are at most the number of calls
   pub execution_within : v.execution ≤ block.count
   pub validation_within : v.validation ≤ block.count
@@ -106,13 +107,13 @@ pub record Facts (block : Block) (v : View) : Type 0 where
   pub running : (w i : ℕ) → run_by (v.tasks w) ≡ Some i → (v.calls i).status ≡ Executing
   pub alone : (w u i : ℕ) → run_by (v.tasks w) ≡ Some i → run_by (v.tasks u) ≡ Some i → w ≡ u
   -- a run is blocked on a lower call
-  pub blocked : (w i b : ℕ) (answers : List Answer) → v.tasks w ≡ Running i answers (Some b) → b < i
+  pub blocked : (w i b : ℕ) (answers : List StorageAnswer) → v.tasks w ≡ Running i answers (Some b) → b < i
   -- an ABORTING call waits for a lower call that is not EXECUTED
   pub aborting : (i : ℕ) → (v.calls i).status ≡ Aborting → IsWaiting v i
-  -- an incarnation is at most 65,535, and at most 65,534 where the call is yet to be readied from EXECUTED or ABORTING
-  pub limit : (i : ℕ) → (v.calls i).incarnation ≤ 65535
-  pub executed_limit : (i : ℕ) → (v.calls i).status ≡ Executed → (v.calls i).incarnation ≤ 65534
-  pub aborting_limit : (i : ℕ) → (v.calls i).status ≡ Aborting → (v.calls i).incarnation ≤ 65534
+  -- no incarnation is above the limit, and it is below it where the call is yet to be readied from EXECUTED or ABORTING
+  pub limit : (i : ℕ) → (v.calls i).incarnation ≤ incarnation_limit
+  pub executed_limit : (i : ℕ) → (v.calls i).status ≡ Executed → (v.calls i).incarnation ≤ incarnation_limit - 1
+  pub aborting_limit : (i : ℕ) → (v.calls i).status ≡ Aborting → (v.calls i).incarnation ≤ incarnation_limit - 1
   -- the entries of an EXECUTED call are the writes of its receipt at its incarnation; any other call has estimates, at
   -- just the keys that its last recorded run wrote
   pub entries : (i : ℕ) (key : List ℕ) → v.entries key i ≡ entry_of (v.calls i) key
@@ -121,7 +122,7 @@ pub record Facts (block : Block) (v : View) : Type 0 where
   -- each recorded run is borne out by right answers
   pub recorded : (i : ℕ) (run : Recorded) → (v.calls i).last ≡ Some run → IsBorneOut block v i run
   -- each answer that a run was given is right
-  pub answered : (w i : ℕ) (answers : List Answer) (waits : Option ℕ) → v.tasks w ≡ Running i answers waits → AllByRecursion (IsRightAnswer block v i) answers
+  pub answered : (w i : ℕ) (answers : List StorageAnswer) (waits : Option ℕ) → v.tasks w ≡ Running i answers waits → AllByRecursion (IsRightAnswer block v i) answers
   -- a validation is of an incarnation that the call had; where the call still has it, it is EXECUTED, and all its reads
   -- are to be checked
   pub validating : (w i n left : ℕ) → v.tasks w ≡ Validating i n left → n ≤ (v.calls i).incarnation
@@ -139,7 +140,7 @@ pub record IsSized (count workers : ℕ) (s : State) : Type 0 where
 -- the invariant of a block's run
 pub record Invariant (block : Block) (workers : ℕ) (s : State) : Type 0 where
   pub sized : IsSized block.count workers s
-  pub facts : Facts block (view_of s)
+  pub facts : ViewInvariant block (view_of s)
 
 -- the invariant holds of each state that some list of worker steps leads to
 abbrev pub InvariantHolds : Type 0

@@ -1,21 +1,22 @@
 -- What one worker does on a job, in worker steps.
-use Rattle.std.specs.Prelude.{◌≡◌, ◌≢◌, ◌<◌, ◌≤◌, ◌+◌, ◌-◌, ◌*◌, ℕ, List, [], ◌∷◌, length, get_or, replicate, Option, Some, slice_get, Result, Ok, Err}
+use Rattle.std.specs.Prelude.{◌≡◌, ◌≢◌, ◌<◌, ◌≤◌, ◌+◌, ◌-◌, ◌*◌, ℕ, true, List, [], ◌∷◌, length, get_or, replicate, Option, Some, slice_get, Result, Ok, Err}
 use Rattle.rv_ledger.specs.Key.{Storage}
 use Rattle.rv_ledger.specs.Call.{Invocation}
-use Rattle.rv_step.specs.Chain.{Reply, AreFrom, borne, ends}
+use Rattle.rv_step.specs.Chain.{Reply, AreFrom, borne_out, ends}
 use Rattle.rv_step.specs.Fold.{store_before}
-use Rattle.rv_step.specs.declared.answer.Answer.{Answer}
+use Rattle.rv_step.specs.declared.answer.StorageAnswer.{StorageAnswer}
 use Rattle.stm_state.specs.declared.state.Task.TheVariants.{Running}
-use Rattle.stm_state.specs.State.{State, start, call_at, task_at}
-use Rattle.stm_state.specs.Steps.{Limit}
-use Rattle.stm_state.specs.Drive.{NotDone, due, drive_of}
+use Rattle.stm_state.specs.State.{State, start, call_at, task_at, is_done}
+use Rattle.stm_state.specs.Steps.{Block, Limit}
+use Rattle.stm_state.specs.Done.{Reached}
+use Rattle.stm_state.specs.Drive.{NotDone, due_result, drive_of}
 
 -- so many answers of a storage bear a call's receipt out
 pub record IsReads (call : Invocation) (store : Storage) (reads : ℕ) : Type 0 where
   pub replies : List Reply
   pub size : length replies ≡ reads
   pub from : AreFrom store replies
-  pub borne : borne call replies ≡ Some (ends call store)
+  pub borne_out : borne_out call replies ≡ Some (ends call store)
 
 -- of each call the number of its storage answers, on the storage that the calls before it left
 pub record AreReads (calls : List Invocation) (store : Storage) (reads : List ℕ) : Type 0 where
@@ -29,7 +30,7 @@ rounds (r ∷ reads) = 4 + r + rounds reads
 
 -- no run is blocked on an estimate
 abbrev pub MeetsNoEstimate : State → Type 0
-MeetsNoEstimate s = (w i b : ℕ) (answers : List Answer) → task_at s w ≢ Running i answers (Some b)
+MeetsNoEstimate s = (w i b : ℕ) (answers : List StorageAnswer) → task_at s w ≢ Running i answers (Some b)
 
 -- what is to hold of a state holds after a step that is not refused
 abbrev pub HoldsAfter : (State → Type 0) → Option (Result State Limit) → Type 0
@@ -39,7 +40,7 @@ HoldsAfter P _ = Unit {0}
 -- no run is blocked on an estimate in any state that a list of worker numbers leads through from a state on
 unfoldable pub NeverMeetsEstimate : List Invocation → Storage → List ℕ → State → Type 0
 NeverMeetsEstimate calls store [] s = MeetsNoEstimate s
-NeverMeetsEstimate calls store (w ∷ ws) s = MeetsNoEstimate s × HoldsAfter (λ t. NeverMeetsEstimate calls store ws t) (due calls store w s)
+NeverMeetsEstimate calls store (w ∷ ws) s = MeetsNoEstimate s × HoldsAfter (λ t. NeverMeetsEstimate calls store ws t) (due_result calls store w s)
 
 -- what the one worker did: steps, askings, and an execution and a decision of each call, each at its incarnation 0; and
 -- so many askings were told that all is done
@@ -47,6 +48,11 @@ pub record OneWorkerDid (calls steps asks told : ℕ) (s : State) : Type 0 where
   pub counts : s.counts ≡ record { steps = steps; asks = asks; executions = calls; validations = calls } ∷ []
   pub dones : s.dones ≡ told ∷ []
   pub incarnations : (i : ℕ) → (call_at s i).incarnation ≡ 0
+
+-- where the one worker of a block is done, whatever list of steps led there: an execution and a decision of each call, each
+-- at its incarnation 0, and two askings of each call beside those that were told that all is done
+abbrev pub OneWorkerCountsWhereReached : Type 0
+OneWorkerCountsWhereReached = (block : Block) (s : State) → Reached block 1 s → is_done s ≡ true → (steps told : ℕ) × OneWorkerDid block.count steps (2 * block.count + told) told s
 
 -- one worker is done after the rounds of all calls and not before, each further step is an asking that is told so, and no
 -- read meets an estimate

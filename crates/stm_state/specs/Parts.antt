@@ -4,11 +4,11 @@ use Rattle.std.specs.Prelude.{◌≡◌, ◌<◌, ◌≤◌, ◌≢◌, ◌⊎�
 use Rattle.std.specs.List.{AllByRecursion}
 use Rattle.std.specs.Option.{option_map}
 use Rattle.std.specs.FinMap.{get}
-use Rattle.version_arena.specs.Shelf.{Content}
+use Rattle.version_arena.specs.ArenaState.{Content}
 use Rattle.read_set.specs.declared.Origin.{Origin}
 use Rattle.read_set.specs.declared.Origin.TheVariants as origin
 use Rattle.rv_step.specs.Replies.{replies_of}
-use Rattle.rv_step.specs.declared.answer.Answer.{Answer}
+use Rattle.rv_step.specs.declared.answer.StorageAnswer.{StorageAnswer}
 use Rattle.mvmap.specs.Versions.{Stands, entry_at}
 use Rattle.mvmap.specs.Reading.{stands}
 use Rattle.stm_state.specs.declared.state.Status.TheVariants.{Ready, Executing, Executed, Aborting}
@@ -25,7 +25,7 @@ HoldsWhereReached P = (block : Block) (workers : ℕ) (s : State) → Reached bl
 -- some worker runs a call
 pub record IsRun (s : State) (i : ℕ) : Type 0 where
   pub worker : ℕ
-  pub answers : List Answer
+  pub answers : List StorageAnswer
   pub waits : Option ℕ
   pub task : task_at s worker ≡ Running i answers waits
 
@@ -73,14 +73,14 @@ IsKnown s i key origin.Base = Unit {0}
 IsKnown s i key (origin.Version w n) = (w < i) × (((content : Content) × (entry_at s.versions key w ≡ Some (Stands n content))) ⊎ (n < (call_at s w).incarnation))
 
 -- what call i was answered
-abbrev pub IsTrueAnswer : Block → State → ℕ → Answer → Type 0
+abbrev pub IsTrueAnswer : Block → State → ℕ → StorageAnswer → Type 0
 IsTrueAnswer block s i answer = IsContent block s answer.key answer.value answer.origin × IsKnown s i answer.key answer.origin
 
 -- a recorded run is borne out by answers with its recorded keys and origins
 pub record IsBorne (block : Block) (s : State) (i : ℕ) (run : Recorded) : Type 0 where
-  pub answers : List Answer
+  pub answers : List StorageAnswer
   pub reads : map read_of answers ≡ run.reads
-  pub borne : block.borne i (replies_of answers) ≡ Some run.receipt
+  pub borne_out : block.borne_out i (replies_of answers) ≡ Some run.receipt
   pub true_answers : AllByRecursion (IsTrueAnswer block s i) answers
 
 -- an EXECUTED call has a recorded run, whose writes are just its versions, each at its incarnation
@@ -93,5 +93,5 @@ pub record IsPublished (s : State) (i : ℕ) : Type 0 where
 -- versions at its incarnation and just the writes of its receipt
 pub record RunsAreBorneOut (block : Block) (s : State) : Type 0 where
   pub recorded : (i : ℕ) (run : Recorded) → (call_at s i).last ≡ Some run → IsBorne block s i run
-  pub going_on : (w i : ℕ) (answers : List Answer) (waits : Option ℕ) → task_at s w ≡ Running i answers waits → AllByRecursion (IsTrueAnswer block s i) answers
+  pub going_on : (w i : ℕ) (answers : List StorageAnswer) (waits : Option ℕ) → task_at s w ≡ Running i answers waits → AllByRecursion (IsTrueAnswer block s i) answers
   pub published : (i : ℕ) → (call_at s i).status ≡ Executed → IsPublished s i

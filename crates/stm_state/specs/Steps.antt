@@ -10,14 +10,15 @@ use Rattle.read_set.specs.declared.Origin.TheVariants as origin
 use Rattle.read_set.specs.declared.Read.{Read}
 use Rattle.rv_step.specs.Chain.{Reply}
 use Rattle.rv_step.specs.Replies.{replies_of}
-use Rattle.rv_step.specs.declared.answer.Answer.{Answer}
+use Rattle.rv_step.specs.declared.answer.StorageAnswer.{StorageAnswer}
 use Rattle.mvmap.specs.Versions.{Versions, Stands, Estimate}
-use Rattle.mvmap.specs.Reading.{Seen, Base, Found, Blocked, reading, stands}
+use Rattle.mvmap.specs.Reading.{Visible, Base, Found, Blocked, reading, stands}
 use Rattle.stm_state.specs.declared.state.Status.TheVariants.{Ready, Executing, Executed, Aborting}
 use Rattle.stm_state.specs.declared.state.CallState.{CallState}
 use Rattle.stm_state.specs.declared.state.Recorded.{Recorded}
 use Rattle.stm_state.specs.declared.state.Task.{Task}
 use Rattle.stm_state.specs.declared.state.Task.TheVariants.{Idle, Running, Validating}
+use Rattle.stm_state.specs.Limits.{record_limit, incarnation_limit}
 use Rattle.stm_state.specs.State.{State, call_at, task_at, with_call, with_task, no_counts, is_ready, is_executed, is_aborting, is_done}
 
 -- a block as the workers see it: how many calls it has, the storage before it, and the receipt that answers bear out of
@@ -25,7 +26,7 @@ use Rattle.stm_state.specs.State.{State, call_at, task_at, with_call, with_task,
 pub record Block : Type 0 where
   pub count : ℕ
   pub base : Storage
-  pub borne : ℕ → List Reply → Option Receipt
+  pub borne_out : ℕ → List Reply → Option Receipt
 
 -- what a step adds to a worker's counts
 abbrev pub counted : (Counts → Counts) → ℕ → State → State
@@ -53,12 +54,12 @@ written_by None = []
 written_by (Some run) = entries run.receipt.writes
 
 -- to ready a call: incarnation plus one
-abbrev pub readied : CallState → CallState
-readied call = record call { status = Ready; incarnation = call.incarnation + 1; parked = None }
+abbrev pub next_incarnation : CallState → CallState
+next_incarnation call = record call { status = Ready; incarnation = call.incarnation + 1; parked = None }
 
 -- ask: told that all is done
-abbrev pub told_done : ℕ → State → State
-told_done w s = record s { dones = set s.dones w (get_or s.dones w 0 + 1) }
+abbrev pub count_done : ℕ → State → State
+count_done w s = record s { dones = set s.dones w (get_or s.dones w 0 + 1) }
 
 -- ask: the validation index goes on, and its call is validated if it is EXECUTED
 unfoldable pub ask_validation : ℕ → State → State
@@ -79,18 +80,18 @@ ask_execution w s =
 -- ask
 abbrev pub asked : ℕ → State → State
 asked w s =
-    if is_done s then told_done w s
+    if is_done s then count_done w s
     else if nat_lt s.validation s.execution then ask_validation w s
     else if nat_lt s.execution (length s.calls) then ask_execution w s
     else s
 
 -- read: what the run is answered, or the call that it is blocked on
-abbrev pub answered_with : Storage → List ℕ → ℕ → List Answer → Seen → Task
+abbrev pub answered_with : Storage → List ℕ → ℕ → List StorageAnswer → Visible → Task
 answered_with base key i answers Base = Running i (answers ++ record { key = key; value = get base key; origin = origin.Base } ∷ []) None
 answered_with base key i answers (Found w n content) = Running i (answers ++ record { key = key; value = content; origin = origin.Version w n } ∷ []) None
 answered_with base key i answers (Blocked b) = Running i answers (Some b)
 
-abbrev pub read_at : Storage → List ℕ → ℕ → ℕ → List Answer → State → State
+abbrev pub read_at : Storage → List ℕ → ℕ → ℕ → List StorageAnswer → State → State
 read_at base key w i answers s = with_task w (answered_with base key i answers (reading s.versions key i)) s
 
 -- park: where the call that it waits for is EXECUTED the run starts again, else it is parked on that call
@@ -100,7 +101,7 @@ parked w i b s =
     else with_task w Idle (with_call i (record (call_at s i) { status = Aborting; parked = Some b }) s)
 
 -- what a run read
-abbrev pub read_of : Answer → Read
+abbrev pub read_of : StorageAnswer → Read
 read_of answer = record { key = answer.key; origin = answer.origin }
 
 -- a run's writes published at an incarnation, some keys withdrawn, and some made estimates
@@ -135,8 +136,8 @@ abbrev pub is_parked_on : ℕ → CallState → Bool
 is_parked_on i call = is_aborting call.status && is_some_of call.parked i
 
 -- those that are parked on a call are readied
-abbrev pub readied_if : ℕ → CallState → CallState
-readied_if i call = if is_parked_on i call then readied call else call
+abbrev pub resume_if_parked : ℕ → CallState → CallState
+resume_if_parked i call = if is_parked_on i call then next_incarnation call else call
 
 -- an index lowered to the least of the calls that are parked on call i, the first of these calls having number p
 abbrev pub lowered : ℕ → ℕ → ℕ → List CallState → ℕ
@@ -144,12 +145,12 @@ lowered i x p [] = x
 lowered i x p (call ∷ calls) = lowered i (if is_parked_on i call then min x p else x) (p + 1) calls
 
 -- record: the versions
-abbrev pub moved : ℕ → ℕ → Option Recorded → WriteMap → Versions → Versions
-moved i n last writes versions = withdrawn i (left_over last writes) (published i n (entries writes) versions)
+abbrev pub recorded_versions : ℕ → ℕ → Option Recorded → WriteMap → Versions → Versions
+recorded_versions i n last writes versions = withdrawn i (left_over last writes) (published i n (entries writes) versions)
 
 -- record: all that are parked on call i are readied
-unfoldable pub woken : ℕ → State → State
-woken i s = record s { calls = map (readied_if i) s.calls; execution = lowered i s.execution 0 s.calls }
+unfoldable pub resume_dependents : ℕ → State → State
+resume_dependents i s = record s { calls = map (resume_if_parked i) s.calls; execution = lowered i s.execution 0 s.calls }
 
 -- record: what is validated again. Where V is past call i, all from i on if the run wrote a new key, else call i
 unfoldable pub to_validate : ℕ → ℕ → Bool → Task → State → State
@@ -158,16 +159,16 @@ to_validate w i new task s =
     else with_task w Idle s
 
 -- record: the run that is kept
-abbrev pub kept : List Answer → Receipt → Recorded
-kept answers receipt = record { receipt = receipt; reads = map read_of answers }
+abbrev pub recorded_run : List StorageAnswer → Receipt → Recorded
+recorded_run answers receipt = record { receipt = receipt; reads = map read_of answers }
 
 -- record
-abbrev pub recorded : ℕ → ℕ → List Answer → Receipt → State → State
+abbrev pub recorded : ℕ → ℕ → List StorageAnswer → Receipt → State → State
 recorded w i answers receipt s =
     let call = call_at s i in
-    let t = record s { versions = moved i call.incarnation call.last receipt.writes s.versions; placed = s.placed + len receipt.writes } in
+    let t = record s { versions = recorded_versions i call.incarnation call.last receipt.writes s.versions; placed = s.placed + len receipt.writes } in
     to_validate w i (has_new_key call.last receipt.writes) (Validating i call.incarnation (length answers))
-    (woken i (with_call i (record call { status = Executed; last = Some (kept answers receipt) }) t))
+    (resume_dependents i (with_call i (record call { status = Executed; last = Some (recorded_run answers receipt) }) t))
 
 -- validate: a call is EXECUTED at an incarnation
 abbrev pub is_executed_at : ℕ → CallState → Bool
@@ -179,8 +180,8 @@ unfoldable pub aborted : ℕ → ℕ → State → State
 aborted w i s =
     let call = call_at s i in
     let t = record s { versions = estimated i (written_by call.last) s.versions; validation = min s.validation (i + 1) } in
-    if nat_lt i s.execution then with_task w (Running i [] None) (with_call i (record (readied call) { status = Executing }) t)
-    else with_task w Idle (with_call i (readied call) t)
+    if nat_lt i s.execution then with_task w (Running i [] None) (with_call i (record (next_incarnation call) { status = Executing }) t)
+    else with_task w Idle (with_call i (next_incarnation call) t)
 
 -- validate: whether all reads of a call stand
 abbrev pub all_stand : ℕ → State → Bool
@@ -207,11 +208,11 @@ pub data Limit : Type 0 where
   IncarnationLimit : Limit
 
 -- a run may be handed in: the arena has room for its writes, and its incarnation is below the limit
-abbrev pub record_within : ℕ → List Answer → ℕ → Option Receipt → State → Option (Result State Limit)
+abbrev pub record_within : ℕ → List StorageAnswer → ℕ → Option Receipt → State → Option (Result State Limit)
 record_within i answers w None s = None
 record_within i answers w (Some receipt) s =
-    if nat_lt 1048576 (s.placed + len receipt.writes) then Some (Err ArenaFull)
-    else if nat_le 65535 (call_at s i).incarnation then Some (Err IncarnationLimit)
+    if nat_lt record_limit (s.placed + len receipt.writes) then Some (Err ArenaFull)
+    else if nat_le incarnation_limit (call_at s i).incarnation then Some (Err IncarnationLimit)
     else Some (Ok (counted one_execution w (recorded w i answers receipt s)))
 
 -- the step of a worker with a task: None where it is not due
@@ -219,8 +220,8 @@ abbrev pub step_with : Block → ℕ → Task → Step → State → Option (Res
 step_with block w Idle Ask s = Some (Ok (counted one_asking w (asked w s)))
 step_with block w (Running i answers None) (Read_key key) s = Some (Ok (counted one_step w (read_at block.base key w i answers s)))
 step_with block w (Running i answers (Some b)) Park s =
-    if nat_le 65535 (call_at s i).incarnation then Some (Err IncarnationLimit) else Some (Ok (counted one_step w (parked w i b s)))
-step_with block w (Running i answers None) Record s = record_within i answers w (block.borne i (replies_of answers)) s
+    if nat_le incarnation_limit (call_at s i).incarnation then Some (Err IncarnationLimit) else Some (Ok (counted one_step w (parked w i b s)))
+step_with block w (Running i answers None) Record s = record_within i answers w (block.borne_out i (replies_of answers)) s
 step_with block w (Validating i n left) Validate s =
     Some (Ok (counted (if decided i n left s then one_validation else one_step) w (validated w i n s)))
 step_with block w task step s = None

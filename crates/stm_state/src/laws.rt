@@ -1,10 +1,12 @@
 //! Laws of the steps.
 
 ghost use Rattle.stm_state.specs.Done.{DoneHasVersionsAlone, DoneIsInOrder, DoneIsSerial};
-ghost use Rattle.stm_state.specs.Drive.{OwedIsDue};
+ghost use Rattle.stm_state.specs.Dones.{DoneIsAsked, DoneStays, DonesAreAsked, DonesGrowAtDone, LastEntryIsDone, OtherDonesStay};
+ghost use Rattle.stm_state.specs.Drive.{DueStepHasResult, RefusedListMeetsLimit};
 ghost use Rattle.stm_state.specs.Invariant.{InvariantHolds};
-ghost use Rattle.stm_state.specs.OneWorker.{HasOneWorkerCounts};
+ghost use Rattle.stm_state.specs.OneWorker.{HasOneWorkerCounts, OneWorkerCountsWhereReached};
 ghost use Rattle.stm_state.specs.Parts.{CallsAreAttended, HoldsWhereReached, OthersHaveEstimates, ReadsAreWatched, RunsAreBorneOut};
+ghost use Rattle.stm_state.specs.Walk.{ReachedByList};
 
 use rv_ledger::Job;
 
@@ -54,6 +56,44 @@ pub fn one_worker_counts(job: &Job)
 /// In each state that a list of worker numbers leads through from the start of a job, the step that a
 /// worker owes is due: it is made, or refused for a limit. So a list is refused as NotDone exactly where it
 /// is used up and workers are not done.
-pub fn owed_is_due()
-    ensures { OwedIsDue }
+pub fn due_step_has_result()
+    ensures { DueStepHasResult }
+{}
+
+/// Each step that is made where workers are done is an asking, and they are done after it.
+pub fn done_stays()
+    ensures asking { DoneIsAsked }
+    ensures done { DoneStays }
+{}
+
+/// What a step adds to the askings answered Done: nothing to those of the other workers, nothing to the
+/// worker's own where it is no asking, and one for an asking where workers are done.
+pub fn dones_grow_at_done()
+    ensures others { OtherDonesStay }
+    ensures other_steps { DonesAreAsked }
+    ensures askings { DonesGrowAtDone }
+{}
+
+/// A state is reached just where some list of pairs of a worker and a step leads to it.
+pub fn reached_by_list()
+    ensures { ReachedByList }
+{}
+
+/// In a list that leads to a state where some asking of a worker was answered Done, that worker's last
+/// entry is such an asking, made where workers are done.
+pub fn last_entry_is_done()
+    ensures { LastEntryIsDone }
+{}
+
+/// Where the one worker of a block is done, whatever list of steps led there and whatever keys its runs
+/// read: an execution and a decision of each call, each at its incarnation 0, and two askings of each call
+/// beside those that were told so.
+pub fn one_worker_counts_where_reached()
+    ensures { OneWorkerCountsWhereReached }
+{}
+
+/// Where a list of worker numbers is refused for a limit, some list of steps leads to a state that meets
+/// just that limit.
+pub fn refused_list_meets_limit()
+    ensures { RefusedListMeetsLimit }
 {}

@@ -7,8 +7,9 @@ mod schedules;
 mod state;
 
 pub use laws::{
-    done_has_versions_alone, done_is_in_order, done_is_serial, invariant_holds, one_worker_counts,
-    owed_is_due, the_parts_hold,
+    done_has_versions_alone, done_is_in_order, done_is_serial, done_stays, dones_grow_at_done,
+    due_step_has_result, invariant_holds, last_entry_is_done, one_worker_counts,
+    one_worker_counts_where_reached, reached_by_list, refused_list_meets_limit, the_parts_hold,
 };
 pub use schedules::schedules_come_to;
 pub use state::{Answers, CallState, Recorded, Status, Task};

@@ -2,7 +2,7 @@
 
 use read_set::ReadSet;
 use rv_ledger::Receipt;
-use rv_step::Answer;
+use rv_step::StorageAnswer;
 use std::marker::Model;
 
 /// How far a call is.
@@ -43,14 +43,14 @@ pub struct CallState {
 /// The answers that a run was given, in order.
 #[derive(Drop)]
 pub struct Answers {
-    items: Vec<Answer>,
+    items: Vec<StorageAnswer>,
 }
 
 impl Model for Answers {
     ghost use Rattle.std.specs.Prelude.{List};
-    ghost use Rattle.rv_step.specs.declared.answer.Answer.{Answer};
+    ghost use Rattle.rv_step.specs.declared.answer.StorageAnswer.{StorageAnswer};
 
-    ghost Value = { List Answer };
+    ghost Value = { List StorageAnswer };
 
     ghost view = { λ a. a.items.items };
 }

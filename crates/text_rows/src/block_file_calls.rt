@@ -1,3 +1,5 @@
+//! The calls of block_file.
+
 use block_file::*;
 use rv_ledger::Key;
 use std::alloc::{AllocError, Global};

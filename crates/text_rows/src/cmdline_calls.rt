@@ -1,3 +1,5 @@
+//! The calls of cmdline.
+
 use cmdline::{Request, request_of};
 use std::alloc::{AllocError, Global};
 use std::test::Fail;

@@ -3,7 +3,7 @@
 use receipts::{WriteFault, end_name, one_text_of, result_text, write_outcome, write_whole};
 use rv_isa::{Reg, Regs};
 use rv_ledger::{
-    End, Job, Key, Outcome, Output, Receipt, ShortBytes, Store, Trap, Value, Write as WriteTo,
+    End, InlineBytes, Job, Key, Outcome, Output, Receipt, Store, Trap, Value, Write as WriteTo,
     Writes,
 };
 use std::alloc::Global;
@@ -44,7 +44,7 @@ fn outcome(alloc: Global) -> Result<Outcome, Fail> {
     receipts.push(writer(alloc)?)?;
     let mut store = Store::new(alloc);
     store.insert(Key::new([0xff; 32]), value(&[1])?)?;
-    store.insert(Key::new([10; 32]), ShortBytes::empty())?;
+    store.insert(Key::new([10; 32]), InlineBytes::empty())?;
     Ok(Outcome {
         job: Job::new(Vec::new(alloc), Store::new(alloc))?,
         receipts,
@@ -74,13 +74,13 @@ fn echo(alloc: Global) -> Result<Receipt, Fail> {
 fn writer(alloc: Global) -> Result<Receipt, Fail> {
     let mut writes = Writes::new(alloc);
     write(&mut writes, [0xff; 32], Some(value(&[0, 0xab, 9])?))?;
-    write(&mut writes, [10; 32], Some(ShortBytes::empty()))?;
+    write(&mut writes, [10; 32], Some(InlineBytes::empty()))?;
     write(&mut writes, [0; 32], None)?;
     Ok(Receipt {
         end: End::Returned,
         gas: u32::MAX,
         pc: 0xfedc_ba98,
-        out: ShortBytes::empty(),
+        out: InlineBytes::empty(),
         regs: Regs::zero(),
         writes,
     })

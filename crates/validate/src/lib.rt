@@ -4,13 +4,10 @@
 ghost use Rattle.std.specs.Prelude.{◌≡◌, slice_get};
 ghost use Rattle.std.specs.Option.{option_map};
 ghost use Rattle.mvmap.specs.Reading.{Base, Found, is_origin, stands};
-ghost use Rattle.version_arena.specs.Shelf.{Content};
+ghost use Rattle.version_arena.specs.ArenaState.{Content};
 
 use mvmap::{Answer, MvMap, Version};
 use read_set::{Origin, Read};
-
-#[cfg(test)]
-mod tests;
 
 /// Whether a read of the call of index `i` stands: reading its key for that call now gives that very
 /// origin, the storage before the block included, and no estimate. Takes no memory.

@@ -1,7 +1,7 @@
 -- What a lent record tells.
 use Rattle.std.specs.Option.{option_copied}
 use Rattle.version_arena.specs.declared.record.Record as declared
-use Rattle.version_arena.specs.Shelf.{Record}
+use Rattle.version_arena.specs.ArenaState.{Record}
 
 -- the record that was lent
 abbrev pub lent : declared.Record → Record

@@ -1,8 +1,8 @@
 //! The list of a block's records.
 
-ghost use Rattle.std.specs.Prelude.{◌≡◌, ◌+◌, ◌<◌, ◌≤◌, ◌↔◌, [], Err, IfSome, OnOk, length, slice_get, take};
+ghost use Rattle.std.specs.Prelude.{◌≡◌, ◌+◌, ◌<◌, ◌≤◌, ◌↔◌, [], Err, IfSome, Ok, OnErr, OnOk, length, nat_lt, slice_get, take};
 ghost use Rattle.std.specs.Option.{option_copied, option_map};
-ghost use Rattle.version_arena.specs.Shelf.{bytes_of, placed};
+ghost use Rattle.version_arena.specs.ArenaState.{bytes_of, emptied, placed};
 ghost use Rattle.version_arena.specs.Lent.{lent};
 ghost use Rattle.version_arena.specs.declared.fault.ReserveFault.TheVariants.{ArenaFull};
 
@@ -10,7 +10,7 @@ use crate::fault::ReserveFault;
 use crate::record::{Record, VersionId};
 use crate::slot::Slot;
 use rv_ledger::Value;
-use rv_ledger::short_bytes::VALUE_LIMIT;
+use rv_ledger::inline_bytes::VALUE_LIMIT;
 use std::alloc::{AllocError, Global};
 use std::marker::Model;
 
@@ -28,13 +28,14 @@ pub struct Arena {
 
 impl Model for Arena {
     ghost use Rattle.std.specs.Prelude.{◌≤◌, ◌-◌, length, take};
-    ghost use Rattle.version_arena.specs.Shelf.{Shelf};
+    ghost use Rattle.version_arena.specs.ArenaState.{ArenaState};
+    ghost use Rattle.version_arena.specs.declared.arena.TheConstants.{RECORD_LIMIT};
 
-    ghost Value = { Shelf };
+    ghost Value = { ArenaState };
 
     ghost view = { λ a. record { records = take a.len a.slots.items; room = length a.slots.items - a.len; bytes = a.bytes } };
 
-    ghost invariant = { λ a. (a.len ≤ length a.slots.items) × (length a.slots.items ≤ 1048576) };
+    ghost invariant = { λ a. (a.len ≤ length a.slots.items) × (length a.slots.items ≤ RECORD_LIMIT) };
 }
 
 impl Arena {
@@ -51,21 +52,30 @@ impl Arena {
 
     /// Makes room for this many more records, whose values have together at most this many bytes.
     /// Refused as ArenaFull exactly where there would be above 1,048,576 records, and as Memory
-    /// where memory ran out. The records stay, and no room is lost.
+    /// where memory ran out; a refusal changes nothing. Room for values takes no memory of its own.
     pub fn reserve(&mut self, records: usize, bytes: usize) -> Result<(), ReserveFault>
         ensures full { (result ≡ Err ArenaFull) ↔ (RECORD_LIMIT < length self.old.records + records) }
         ensures ok { OnOk result ((records ≤ self.new.room) × (bytes ≤ self.new.bytes)) }
         ensures records { self.new.records ≡ self.old.records }
         ensures room { self.old.room ≤ self.new.room }
         ensures bytes { self.old.bytes ≤ self.new.bytes }
-        ensures unchanged { result ≡ Err ArenaFull → self.new ≡ self.old }
+        ensures unchanged { OnErr result (self.new ≡ self.old) }
+        ensures succeeds { records ≤ self.old.room → result ≡ Ok tt }
     {
-        if records > RECORD_LIMIT - self.len {
+        if self.is_full_for(records) {
             return Err(ReserveFault::ArenaFull);
         }
         grow(&mut self.slots, self.len + records)?;
         self.bytes = self.bytes.max(bytes);
         Ok(())
+    }
+
+    /// Whether with this many more records there would be above 1,048,576.
+    pub fn is_full_for(&self, records: usize) -> bool
+        ensures full { result ≡ nat_lt RECORD_LIMIT (length self.now.records + records) }
+        ensures limit { length self.now.records + self.now.room ≤ RECORD_LIMIT }
+    {
+        records > RECORD_LIMIT - self.len
     }
 
     /// Adds a record at the end, in room that is there, and gives its name. Takes no memory.
@@ -102,25 +112,28 @@ impl Arena {
         self.len
     }
 
-    /// Takes all records away; names from before name none of them again. Takes no memory.
+    /// Takes all records away, and keeps their room; names from before name none of them again.
+    /// Takes no memory.
     pub fn reset(&mut self)
-        ensures { self.new.records ≡ [] }
+        ensures { self.new ≡ emptied self.old }
     {
         self.len = 0;
     }
 }
 
-/// Adds vacant places until there are as many as asked for; where memory ran out fewer were added.
+/// Adds vacant places until there are as many as asked for; refused where memory ran out.
 fn grow(slots: &mut Vec<Slot>, count: usize) -> Result<(), AllocError>
     requires { (count ≤ RECORD_LIMIT) × (length slots.old.items ≤ RECORD_LIMIT) }
     ensures ok { OnOk result (count ≤ length slots.new.items) }
     ensures grows { length slots.old.items ≤ length slots.new.items }
     ensures limit { length slots.new.items ≤ RECORD_LIMIT }
     ensures begins { take (length slots.old.items) slots.new.items ≡ slots.old.items }
+    ensures unchanged { OnErr result (slots.new.items ≡ slots.old.items) }
+    ensures succeeds { count ≤ length slots.old.items → result ≡ Ok tt }
 {
     slots.reserve(count.saturating_sub(slots.len()))?;
     while slots.len() < count {
-        slots.push(Slot::vacant())?;
+        slots.push_reserved(Slot::vacant());
     }
     Ok(())
 }

@@ -10,6 +10,3 @@ mod slot;
 pub use arena::{Arena, RECORD_LIMIT};
 pub use fault::ReserveFault;
 pub use record::{Record, VersionId};
-
-#[cfg(test)]
-mod tests;

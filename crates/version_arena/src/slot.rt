@@ -6,7 +6,7 @@ ghost use Rattle.version_arena.specs.Lent.{lent};
 
 use crate::record::Record;
 use rv_ledger::Value;
-use rv_ledger::short_bytes::VALUE_LIMIT;
+use rv_ledger::inline_bytes::VALUE_LIMIT;
 use std::marker::Model;
 
 /// The place of one record.
@@ -18,7 +18,7 @@ pub(crate) struct Slot {
 }
 
 impl Model for Slot {
-    ghost use Rattle.version_arena.specs.Shelf.{Record};
+    ghost use Rattle.version_arena.specs.ArenaState.{Record};
 
     ghost Value = { Record };
 

@@ -1,8 +1,8 @@
 use Rattle.std.proofs.Common.{◌≡◌, ◌∙◌, sym, subst, refl, List}
-use Rattle.rv_step.specs.declared.answer.Answer.{Answer}
+use Rattle.rv_step.specs.declared.answer.StorageAnswer.{StorageAnswer}
 use Rattle.rv_step.specs.declared.stage.Stage.TheVariants.{Asked}
 use Rattle.rv_ledger.specs.Call.{Invocation}
-use Rattle.rv_step.specs.Chain.{AreFrom, borne}
+use Rattle.rv_step.specs.Chain.{AreFrom, borne_out}
 use Rattle.rv_step.specs.Replies.{replies_of}
 use Rattle.seq_exec.proofs.Told.{same_call, still_from}
 use Rattle.seq_exec.proofs.run_one.Goals as goal
@@ -10,7 +10,7 @@ use Rattle.seq_exec.proofs.run_one.Goals as goal
 pub loop-run-preserved : goal.loop-run-preserved
 loop-run-preserved c =
     let asked : c.go.new.self.stage ≡ Asked c.in-Ask.key = rw c.in-Ask.is at c.in_ok-key.ensures.pause in
-    let from : AreFrom c.args.store.now (replies_of c.go.new.self.told) = rw c.go.ensures.told c.loop-run.invariant.answers in
+    let from : AreFrom c.args.store.now (replies_of c.go.new.self.answers) = rw c.go.ensures.answers c.loop-run.invariant.answers in
     record {
       call = same_call c.args.store.now c.go.new.self c.answer.new.self c.in-Ask.key _ _ asked c.in_ok-answer.ensures.ok ∙ c.go.ensures.call ∙ c.loop-run.invariant.call;
       answers = still_from c.args.store.now c.go.new.self c.answer.new.self c.in-Ask.key _ _ asked c.in_ok-answer.ensures.ok c.get.ensures from;
@@ -18,7 +18,7 @@ loop-run-preserved c =
 
 pub returns : goal.returns
 returns c =
-    let told : c.finish-receipt.result.answers.items ≡ c.loop-run.run.told = c.finish-receipt.ensures.answers ∙ c.go.ensures.told in
+    let answers : c.finish-receipt.result.answers.items ≡ c.loop-run.run.answers = c.finish-receipt.ensures.answers ∙ c.go.ensures.answers in
     let is : c.finish-receipt.result.call ≡ c.args.call.now = c.finish-receipt.ensures.call ∙ c.go.ensures.call ∙ c.loop-run.invariant.call in
     (c.one_receipt.ensures c.args.call.now c.args.store.now).no_other (replies_of c.finish-receipt.result.answers.items) c.finish-receipt.result.receipt
-    (rw told c.loop-run.invariant.answers) (rw is at c.finish-receipt.result.borne)
+    (rw answers c.loop-run.invariant.answers) (rw is at c.finish-receipt.result.borne_out)

@@ -7,7 +7,7 @@ use Rattle.seq_exec.proofs.run_one.Given as goal
 abbrev pub invariant-loop-run : goal.invariant-loop-run
 invariant-loop-run l = record {
   call : l.run.call ≡ l.call;
-  answers : AreFrom l.store (replies_of l.run.told);
+  answers : AreFrom l.store (replies_of l.run.answers);
 }
 
 abbrev pub decreases-loop-run : goal.decreases-loop-run

@@ -2,10 +2,10 @@ use Rattle.std.proofs.Common.{◌≡◌, ◌+◌, drop}
 use Rattle.block_file.specs.declared.fault.Cause.TheVariants.{BadLine}
 use Rattle.block_file.specs.Line.{read_parts}
 use Rattle.block_file.specs.Block.{with_line, body_of}
-use Rattle.block_file.specs.Reader.{seen}
+use Rattle.block_file.specs.Reader.{parsed}
 use Rattle.block_file.proofs.Lines.{texts}
 use Rattle.block_file.proofs.block.body_of.Given as goal
 
 -- what is left to read, behind what was seen so far, gives what all gives
 abbrev pub invariant-loop-index : goal.invariant-loop-index
-invariant-loop-index l = read_parts with_line BadLine (l.index + 2) (seen l.reader) (drop l.index (texts l.parts)) ≡ body_of (texts l.parts)
+invariant-loop-index l = read_parts with_line BadLine (l.index + 2) (parsed l.reader) (drop l.index (texts l.parts)) ≡ body_of (texts l.parts)

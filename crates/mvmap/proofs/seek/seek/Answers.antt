@@ -1,10 +1,10 @@
 use Rattle.std.proofs.Common.{sym, ap, ◌∙◌, Some}
 use Rattle.std.specs.Option.{option_map}
-use Rattle.version_arena.specs.Shelf.{Record}
+use Rattle.version_arena.specs.ArenaState.{Record}
 use Rattle.version_arena.specs.Lent.{lent}
 use Rattle.mvmap.proofs.Fills.{lent_within}
 use Rattle.mvmap.specs.Versions.{Stands}
-use Rattle.mvmap.specs.Reading.{see, reading}
+use Rattle.mvmap.specs.Reading.{visible_over, reading}
 use Rattle.mvmap.specs.Slots.{entry_of, versions_of}
 use Rattle.mvmap.specs.declared.slot.Slot.{Slot}
 use Rattle.mvmap.proofs.Seeks.{seen_slot, seen_nothing}
@@ -15,7 +15,7 @@ loop-writer-preserved c =
     let rs = c.args.arena.now.records in
     let es = c.args.slots.now.entries in
     sym (seen_slot rs es c.args.key.now c.loop-writer.end c.in-Some.writer c.in-Some.slot c.in-Some.ensures.0 c.in-Some.ensures.1 c.in-Some.ensures.2
-    ∙ ap (λ (s : Slot). see c.in-Some.writer (entry_of rs s) (reading (versions_of rs es) c.args.key.now c.in-Some.writer)) c.in-Vacant.is)
+    ∙ ap (λ (s : Slot). visible_over c.in-Some.writer (entry_of rs s) (reading (versions_of rs es) c.args.key.now c.in-Some.writer)) c.in-Vacant.is)
     ∙ c.loop-writer.invariant
 
 pub returns-in-Estimate-clause-seen : goal.returns-in-Estimate-clause-seen
@@ -23,7 +23,7 @@ returns-in-Estimate-clause-seen c =
     let rs = c.args.arena.now.records in
     let es = c.args.slots.now.entries in
     sym (seen_slot rs es c.args.key.now c.loop-writer.end c.in-Some.writer c.in-Some.slot c.in-Some.ensures.0 c.in-Some.ensures.1 c.in-Some.ensures.2
-    ∙ ap (λ (s : Slot). see c.in-Some.writer (entry_of rs s) (reading (versions_of rs es) c.args.key.now c.in-Some.writer)) c.in-Estimate.is)
+    ∙ ap (λ (s : Slot). visible_over c.in-Some.writer (entry_of rs s) (reading (versions_of rs es) c.args.key.now c.in-Some.writer)) c.in-Estimate.is)
     ∙ c.loop-writer.invariant
 
 pub returns-in-Placed-clause-seen : goal.returns-in-Placed-clause-seen
@@ -32,7 +32,7 @@ returns-in-Placed-clause-seen c =
     let es = c.args.slots.now.entries in
     let told = ap (option_map (λ (x : Record). Stands x.incarnation x.content)) (sym (ap (option_map lent) c.unwrap.ensures) ∙ c.get.ensures.record) in
     c.found.ensures.seen
-    ∙ ap (λ o. see c.in-Some.writer o (reading (versions_of rs es) c.args.key.now c.in-Some.writer)) (told ∙ ap (entry_of rs) (sym c.in-Placed.is))
+    ∙ ap (λ o. visible_over c.in-Some.writer o (reading (versions_of rs es) c.args.key.now c.in-Some.writer)) (told ∙ ap (entry_of rs) (sym c.in-Placed.is))
     ∙ sym (seen_slot rs es c.args.key.now c.loop-writer.end c.in-Some.writer c.in-Some.slot c.in-Some.ensures.0 c.in-Some.ensures.1 c.in-Some.ensures.2)
     ∙ c.loop-writer.invariant
 

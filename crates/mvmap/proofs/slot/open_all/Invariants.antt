@@ -1,4 +1,6 @@
-use Rattle.std.proofs.Common.{ℕ, ◌<◌, IsSome, get_or, List}
+use Rattle.std.proofs.Common.{◌≡◌, ◌≢◌, ℕ, ◌<◌, IsSome, get_or, List}
+use Rattle.std.specs.List.{All}
+use Rattle.mvmap.specs.Versions.{Place}
 use Rattle.mvmap.specs.Slots.{IsOpened, slot_at}
 use Rattle.mvmap.proofs.slot.open_all.Given as goal
 
@@ -6,4 +8,5 @@ abbrev pub invariant-loop-key : goal.invariant-loop-key
 invariant-loop-key l = record {
   opened : IsOpened l.fn.slots.entries l.slots.entries;
   made : (k : ℕ) (d : List ℕ) → k < l.key-index → IsSome (slot_at l.slots.entries (get_or l.keys k d, l.writer));
+  elsewhere : (place : Place) → All (λ key. (key, l.writer) ≢ place) l.keys → slot_at l.slots.entries place ≡ slot_at l.fn.slots.entries place;
 }

@@ -1,5 +1,5 @@
 use Rattle.stm_state.specs.Steps.{Record}
-use Rattle.stm_core.specs.Board.{block_in}
+use Rattle.stm_core.specs.CoreState.{block_in}
 use Rattle.stm_core.proofs.Turns.{turn_own}
 use Rattle.stm_core.proofs.engine.run_on.Goals as goal
 

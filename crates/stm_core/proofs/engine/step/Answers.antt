@@ -1,6 +1,6 @@
 use Rattle.stm_state.specs.State.{task_at}
 use Rattle.stm_state.specs.Steps.{Ask, Park, Validate}
-use Rattle.stm_core.specs.Board.{block_in}
+use Rattle.stm_core.specs.CoreState.{block_in}
 use Rattle.stm_core.proofs.Fits.{asks_alone, next_fits, parks_alone, validates_alone}
 use Rattle.stm_core.proofs.Turns.{turn_own}
 use Rattle.stm_core.proofs.engine.step.Goals as goal
@@ -9,7 +9,7 @@ pub returns-in-Ask-clause-fits : goal.returns-in-Ask-clause-fits
 returns-in-Ask-clause-fits c =
     let b = c.args.core.now in
     next_fits b.job.block c.args.run.now (task_at b.state c.args.worker) _ (asks_alone b.state _ c.in-Ask.ensures.doing) c.requires.fits
-    (turn_own (block_in b) c.args.worker Ask b.state c.ask.new.self.state c.ask.ensures.0 c.requires.worker)
+    (turn_own (block_in b) c.args.worker Ask b.state c.ask.new.self.state c.ask.ensures.makes.0 c.requires.worker)
 
 pub returns-in_ok-park-in-Park-clause-fits : goal.returns-in_ok-park-in-Park-clause-fits
 returns-in_ok-park-in-Park-clause-fits c =

@@ -1,11 +1,11 @@
 use Rattle.std.proofs.Common.{◌≡◌, ◌+◌, ◌∙◌, List, length, get_or, IsSome, IsTrue, arith, ap, sym, subst}
 use Rattle.std.specs.FinMap.{entries, get, len, len-entries}
 use Rattle.std.specs.FinSet.{contains}
-use Rattle.version_arena.specs.Shelf.{Record}
+use Rattle.version_arena.specs.ArenaState.{Record}
 use Rattle.mvmap.specs.Versions.{Versions}
 use Rattle.stm_state.specs.declared.state.CallState.{CallState}
 use Rattle.stm_state.specs.State.{fresh}
-use Rattle.stm_state.specs.Steps.{counted, moved, one_execution}
+use Rattle.stm_state.specs.Steps.{counted, recorded_versions, one_execution}
 use Rattle.stm_core.specs.Inner.{state_in}
 use Rattle.stm_core.proofs.Open.{moved_within}
 use Rattle.stm_core.proofs.Parted.{recorded_is}
@@ -23,17 +23,17 @@ pub returns-in-Ok-clause-state : goal.returns-in-Ok-clause-state
 returns-in-Ok-clause-state c =
     let writes = c.args.run.receipt.writes in
     let call = get_or c.args.scheduler.now.calls c.args.call fresh in
-    let versions : c.move_all.new.map.versions ≡ moved c.args.call call.incarnation call.last writes c.args.map.now.versions =
+    let versions : c.move_all.new.map.versions ≡ recorded_versions c.args.call call.incarnation call.last writes c.args.map.now.versions =
     c.move_all.ensures.versions
-    ∙ ap (λ v. moved c.args.call c.call.result.now.incarnation c.call-in-Ok.result.now.last writes v) c.make_room.ensures.versions
-    ∙ ap (λ (x : CallState). moved c.args.call x.incarnation c.call-in-Ok.result.now.last writes c.args.map.now.versions) c.call.ensures
-    ∙ ap (λ (x : CallState). moved c.args.call call.incarnation x.last writes c.args.map.now.versions) c.call-in-Ok.ensures in
-    let placed : length c.move_all.new.map.shelf.records ≡ length c.args.map.now.shelf.records + len writes =
+    ∙ ap (λ v. recorded_versions c.args.call c.call.result.now.incarnation c.call-in-Ok.result.now.last writes v) c.make_room.ensures.versions
+    ∙ ap (λ (x : CallState). recorded_versions c.args.call x.incarnation c.call-in-Ok.result.now.last writes c.args.map.now.versions) c.call.ensures
+    ∙ ap (λ (x : CallState). recorded_versions c.args.call call.incarnation x.last writes c.args.map.now.versions) c.call-in-Ok.ensures in
+    let placed : length c.move_all.new.map.arena.records ≡ length c.args.map.now.arena.records + len writes =
     c.move_all.ensures.records ∙ ap (λ (rs : List Record). length rs + length (entries writes)) c.make_room.ensures.records
-    ∙ ap (λ n. length c.args.map.now.shelf.records + n) (sym (len-entries writes)) in
-    c.finish_execution.ensures.state c.move_all.new.map.versions (length c.move_all.new.map.shelf.records)
+    ∙ ap (λ n. length c.args.map.now.arena.records + n) (sym (len-entries writes)) in
+    c.finish_execution.ensures.state c.move_all.new.map.versions (length c.move_all.new.map.arena.records)
     ∙ ap (counted one_execution c.args.worker)
-    (recorded_is c.args.worker c.args.call c.args.run.answers.items c.args.run.receipt (state_in c.args.map.now c.args.scheduler.now) c.move_all.new.map.versions (length c.move_all.new.map.shelf.records) c.in-Ok.reads versions placed c.in-Ok.ensures.reads)
+    (recorded_is c.args.worker c.args.call c.args.run.answers.items c.args.run.receipt (state_in c.args.map.now c.args.scheduler.now) c.move_all.new.map.versions (length c.move_all.new.map.arena.records) c.in-Ok.reads versions placed c.in-Ok.ensures.reads)
 
 pub returns-in-Ok-clause-within : goal.returns-in-Ok-clause-within
 returns-in-Ok-clause-within c =

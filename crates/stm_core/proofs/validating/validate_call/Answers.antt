@@ -30,6 +30,6 @@ returns-after-current-2-clause-state c =
       | then-current-2 w ↦ w.finish_validation-is ∙ w.if-current-2.true ∙ sym (ap (λ b. b || c.args.left == 0) (at ∙ w.if-current-2.true))
       | else-current-2 w ↦ w.finish_validation-is ∙ sym (ap (λ b. b || c.args.left == 0) (at ∙ w.if-current-2.false))
     ] in
-    c.finish_validation.ensures.state c.args.map.now.versions (length c.args.map.now.shelf.records)
+    c.finish_validation.ensures.state c.args.map.now.versions (length c.args.map.now.arena.records)
     ∙ ap (λ b. counted (if b then one_validation else one_step) c.args.worker (with_task c.args.worker Idle s)) decides
     ∙ ap (counted (if decided c.args.call c.args.incarnation c.args.left s then one_validation else one_step) c.args.worker) (sym ends)

@@ -8,8 +8,8 @@ abbrev pub invariant-loop-key : goal.invariant-loop-key
 invariant-loop-key l = record {
   versions : published l.call l.incarnation l.key-iterator l.map.versions ≡ published l.call l.incarnation (entries l.writes) l.fn.map.versions;
   places : l.map.places ≡ l.fn.map.places;
-  records : length l.map.shelf.records + length l.key-iterator ≡ length l.fn.map.shelf.records + length (entries l.writes);
+  records : length l.map.arena.records + length l.key-iterator ≡ length l.fn.map.arena.records + length (entries l.writes);
   open_ : AreOpen l.map.places l.call l.key-iterator;
-  room : length l.key-iterator ≤ l.map.shelf.room;
-  bytes : size_of l.key-iterator ≤ l.map.shelf.bytes;
+  room : length l.key-iterator ≤ l.map.arena.room;
+  bytes : size_of l.key-iterator ≤ l.map.arena.bytes;
 }

@@ -1,10 +1,12 @@
-use Rattle.std.proofs.Common.{◌≡◌, ◌≤◌, ◌-◌, length, take}
+use Rattle.std.proofs.Common.{◌≡◌, ◌≤◌, ◌-◌, length, take, vec_capacity}
+use Rattle.version_arena.specs.declared.arena.TheConstants.{RECORD_LIMIT}
 use Rattle.version_arena.proofs.arena.grow.Given as goal
 
 abbrev pub invariant-loop-slots : goal.invariant-loop-slots
 invariant-loop-slots l = record {
   grows : length l.fn.slots.items ≤ length l.slots.items;
-  limit : length l.slots.items ≤ 1048576;
+  limit : length l.slots.items ≤ RECORD_LIMIT;
+  room : l.count ≤ vec_capacity l.slots;
   begins : take (length l.fn.slots.items) l.slots.items ≡ l.fn.slots.items;
 }
 

@@ -2,7 +2,7 @@ use Rattle.std.proofs.Common.{ap, ◌∙◌, ◌++◌, ◌∷◌, [], Some}
 use Rattle.std.specs.Option.{option_copied}
 use Rattle.std.specs.FinMap as map
 use Rattle.std.specs.FinSet as set
-use Rattle.version_arena.specs.Shelf.{Record, Shelf}
+use Rattle.version_arena.specs.ArenaState.{Record, ArenaState}
 use Rattle.mvmap.specs.Table.{Table}
 use Rattle.mvmap.specs.Versions.{Stands}
 use Rattle.mvmap.specs.Slots.{slot_at, versions_of}
@@ -17,7 +17,7 @@ returns-clause-versions c =
     let content = option_copied c.args.value in
     let r : Record = record { writer = c.args.writer; incarnation = c.args.incarnation; content = content } in
     let there = there_at_place es (c.args.key.now, c.args.writer) (ap (λ (t : Table). set.contains t.places (c.args.key.now, c.args.writer)) c.self.view_is ∙ c.requires.place) in
-    ap (λ (s : Shelf). versions_of s.records c.put.new.slots.entries) c.place-id.ensures.placed
+    ap (λ (s : ArenaState). versions_of s.records c.put.new.slots.entries) c.place-id.ensures.placed
     ∙ written_versions rs (rs ++ r ∷ []) es c.put.new.slots.entries (c.args.key.now, c.args.writer) (slot.Placed c.place-id.result) (Some (Stands c.args.incarnation content))
     c.put.ensures (kept_entries rs r es c.self.invariant) (entry_of_last rs r c.place-id.result c.place-id.ensures.id)
     (there_not_none (slot_at es (c.args.key.now, c.args.writer)) (Some (Stands c.args.incarnation content)) there)

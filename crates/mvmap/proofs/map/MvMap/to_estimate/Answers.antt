@@ -18,4 +18,4 @@ returns c =
     (there_not_none (slot_at es (c.args.key.now, c.args.writer)) (Some Estimate) there)
     ∙ ap (λ (t : Table). map.insert t.versions (c.args.key.now, c.args.writer) Estimate) c.self.view_is)
     (written_places es c.put.new.slots.entries (c.args.key.now, c.args.writer) slot.Estimate c.put.ensures ∙ ap (λ (t : Table). t.places) c.self.view_is)
-    (ap (λ (t : Table). t.shelf) c.self.view_is)
+    (ap (λ (t : Table). t.arena) c.self.view_is)

@@ -13,4 +13,4 @@ returns c =
     (written_versions rs rs es c.put.new.slots.entries (c.args.key.now, c.args.writer) slot.Vacant None c.put.ensures (λ q. refl) refl (λ _. refl)
     ∙ ap (λ (t : Table). map.remove t.versions (c.args.key.now, c.args.writer)) c.self.view_is)
     (written_places es c.put.new.slots.entries (c.args.key.now, c.args.writer) slot.Vacant c.put.ensures ∙ ap (λ (t : Table). t.places) c.self.view_is)
-    (ap (λ (t : Table). t.shelf) c.self.view_is)
+    (ap (λ (t : Table). t.arena) c.self.view_is)

@@ -1,6 +1,6 @@
 use Rattle.std.proofs.Common.{◌≡◌, nat_lt, true, false, length, sym, ap, ◌∙◌}
 use Rattle.stm_state.specs.State.{is_done}
-use Rattle.stm_state.specs.Steps.{ask_execution, ask_validation, counted, one_asking, told_done}
+use Rattle.stm_state.specs.Steps.{ask_execution, ask_validation, counted, one_asking, count_done}
 use Rattle.scheduler.specs.Schedule.{Schedule, state_of}
 use Rattle.scheduler.proofs.Cases.{asked_done, asked_validation, asked_execution, asked_nothing}
 use Rattle.scheduler.proofs.Counted.{done_counted, counted_validation, counted_execution}
@@ -10,8 +10,8 @@ pub returns-then-done-clause-state : goal.returns-then-done-clause-state
 returns-then-done-clause-state c = λ v p.
     let s = state_of v p c.args.self.now in
     let done : is_done s ≡ true = sym (done_counted one_asking c.args.worker s) ∙ ap (λ (t : Schedule). is_done (state_of v p t)) (sym c.count_asking.ensures) ∙ sym (c.done.ensures v p) ∙ c.if-done.true in
-    ap (state_of v p) c.tell_done.ensures
-    ∙ ap (λ (t : Schedule). told_done c.args.worker (state_of v p t)) c.count_asking.ensures
+    ap (state_of v p) c.count_done.ensures
+    ∙ ap (λ (t : Schedule). count_done c.args.worker (state_of v p t)) c.count_asking.ensures
     ∙ ap (counted one_asking c.args.worker) (asked_done c.args.worker s done)
 
 pub returns-then-is_validation_behind-clause-state : goal.returns-then-is_validation_behind-clause-state

@@ -13,17 +13,17 @@ read_at-requires-clause-counts c = may_count c.self.inside.job c.self.inside.map
 pub invariant_of-self : goal.invariant_of-self
 invariant_of-self c =
     let due = due_at c.self.inside.job c.self.inside.map c.self.inside.scheduler c.self.invariant c.args.self.now c.self.view_is c.args.worker (Read_key c.args.key.now) c.requires.due in
-    let runs = reads_running (get_or c.self.inside.scheduler.tasks c.args.worker Idle) c.args.key.now c.in-Running.call c.in-Running.blocked due.owed c.in-Running.ensures in
+    let runs = reads_running (get_or c.self.inside.scheduler.tasks c.args.worker Idle) c.args.key.now c.in-Running.call c.in-Running.blocked due.due_step c.in-Running.ensures in
     goes_on c.self.inside.job c.self.inside.map c.self.inside.scheduler c.self.invariant c.args.self.now c.self.view_is c.args.worker (Read_key c.args.key.now) c.requires.due c.self.inside.map c.read_at.new.scheduler
     (read_made (block_of c.self.inside.job.block c.self.inside.job.store) c.args.worker (state_in c.self.inside.map c.self.inside.scheduler) c.args.key.now c.in-Running.call runs.0 runs.1
-    ∙ ap (λ s. Some (Ok s)) (sym (c.read_at.ensures.state runs.0 runs.1 c.self.inside.map.versions (length c.self.inside.map.shelf.records))))
+    ∙ ap (λ s. Some (Ok s)) (sym (c.read_at.ensures.state runs.0 runs.1 c.self.inside.map.versions (length c.self.inside.map.arena.records))))
     c.self.invariant.places
 
 pub returns-clause-makes : goal.returns-clause-makes
 returns-clause-makes c =
     let due = due_at c.self.inside.job c.self.inside.map c.self.inside.scheduler c.self.invariant c.args.self.now c.self.view_is c.args.worker (Read_key c.args.key.now) c.requires.due in
-    let runs = reads_running (get_or c.self.inside.scheduler.tasks c.args.worker Idle) c.args.key.now c.in-Running.call c.in-Running.blocked due.owed c.in-Running.ensures in
+    let runs = reads_running (get_or c.self.inside.scheduler.tasks c.args.worker Idle) c.args.key.now c.in-Running.call c.in-Running.blocked due.due_step c.in-Running.ensures in
     makes c.self.inside.job c.self.inside.map c.self.inside.scheduler c.self.invariant c.args.self.now c.self.view_is c.args.worker (Read_key c.args.key.now) c.requires.due c.self.inside.map c.read_at.new.scheduler
     (read_made (block_of c.self.inside.job.block c.self.inside.job.store) c.args.worker (state_in c.self.inside.map c.self.inside.scheduler) c.args.key.now c.in-Running.call runs.0 runs.1
-    ∙ ap (λ s. Some (Ok s)) (sym (c.read_at.ensures.state runs.0 runs.1 c.self.inside.map.versions (length c.self.inside.map.shelf.records))))
+    ∙ ap (λ s. Some (Ok s)) (sym (c.read_at.ensures.state runs.0 runs.1 c.self.inside.map.versions (length c.self.inside.map.arena.records))))
     c.read_at.ensures.rooms

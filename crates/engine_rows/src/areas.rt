@@ -1,0 +1,160 @@
+//! The line of each refusal.
+
+use block_file::{BlockFault, Cause};
+use elf32::ElfError;
+use engines::{FileFault, Refusal, SeqFault, report};
+use receipts::WriteFault;
+use rv_text::{AsmCause, AsmError};
+use std::test::Fail;
+use stm_core::DriveFault;
+
+const CAUSES: [(Cause, &str); 7] = [
+    (Cause::BadHeader, "2 BadHeader 1\n"),
+    (Cause::BadLine, "2 BadLine 2\n"),
+    (Cause::BadNumber, "2 BadNumber 3\n"),
+    (Cause::BadHex, "2 BadHex 4\n"),
+    (Cause::KeyOrder, "2 KeyOrder 5\n"),
+    (Cause::UnknownProgram, "2 UnknownProgram 6\n"),
+    (Cause::Limit, "2 Limit 7\n"),
+];
+
+const ASM_CAUSES: [(AsmCause, &str); 7] = [
+    (AsmCause::UnknownMnemonic, "3 UnknownMnemonic 1\n"),
+    (AsmCause::BadOperand, "3 BadOperand 2\n"),
+    (AsmCause::ImmediateRange, "3 ImmediateRange 3\n"),
+    (AsmCause::UnknownLabel, "3 UnknownLabel 4\n"),
+    (AsmCause::DuplicateLabel, "3 DuplicateLabel 5\n"),
+    (AsmCause::LabelRange, "3 LabelRange 6\n"),
+    (AsmCause::TooLarge, "3 TooLarge 7\n"),
+];
+
+const NO_BLOCK_MEMORY: BlockFault = BlockFault {
+    line: 2,
+    cause: Cause::Memory,
+};
+
+const NO_ASM_MEMORY: AsmError = AsmError {
+    line: 3,
+    cause: AsmCause::Memory,
+};
+
+const OTHERS: [(Refusal, &str); 31] = [
+    (
+        Refusal::File(FileFault::Unreadable),
+        "rvstm: file Unreadable 1\n",
+    ),
+    (
+        Refusal::File(FileFault::Unwritable),
+        "rvstm: file Unwritable 2\n",
+    ),
+    (Refusal::File(FileFault::TooLong), "rvstm: file TooLong 3\n"),
+    (Refusal::Block(NO_BLOCK_MEMORY), "rvstm: block Memory 8\n"),
+    (
+        Refusal::Schedule(NO_BLOCK_MEMORY),
+        "rvstm: schedule Memory 8\n",
+    ),
+    (Refusal::Asm(NO_ASM_MEMORY), "rvstm: asm Memory 8\n"),
+    (
+        Refusal::Elf(ElfError::Truncated),
+        "rvstm: elf Truncated 1\n",
+    ),
+    (Refusal::Elf(ElfError::BadMagic), "rvstm: elf BadMagic 2\n"),
+    (
+        Refusal::Elf(ElfError::BadClassOrData),
+        "rvstm: elf BadClassOrData 3\n",
+    ),
+    (
+        Refusal::Elf(ElfError::BadVersion),
+        "rvstm: elf BadVersion 4\n",
+    ),
+    (Refusal::Elf(ElfError::NotExec), "rvstm: elf NotExec 5\n"),
+    (Refusal::Elf(ElfError::NotRiscv), "rvstm: elf NotRiscv 6\n"),
+    (Refusal::Elf(ElfError::BadFlags), "rvstm: elf BadFlags 7\n"),
+    (
+        Refusal::Elf(ElfError::BadHeaderSize),
+        "rvstm: elf BadHeaderSize 8\n",
+    ),
+    (Refusal::Elf(ElfError::BadCount), "rvstm: elf BadCount 9\n"),
+    (Refusal::Elf(ElfError::BadType), "rvstm: elf BadType 10\n"),
+    (
+        Refusal::Elf(ElfError::SegmentRange),
+        "rvstm: elf SegmentRange 11\n",
+    ),
+    (
+        Refusal::Elf(ElfError::SegmentOrder),
+        "rvstm: elf SegmentOrder 12\n",
+    ),
+    (
+        Refusal::Elf(ElfError::PageShared),
+        "rvstm: elf PageShared 13\n",
+    ),
+    (
+        Refusal::Elf(ElfError::WriteExecute),
+        "rvstm: elf WriteExecute 14\n",
+    ),
+    (Refusal::Elf(ElfError::BadEntry), "rvstm: elf BadEntry 15\n"),
+    (Refusal::Elf(ElfError::Memory), "rvstm: elf Memory 16\n"),
+    (Refusal::Seq(SeqFault::Memory), "rvstm: seq Memory 1\n"),
+    (
+        Refusal::Drive(DriveFault::NotDone),
+        "rvstm: drive NotDone 1\n",
+    ),
+    (
+        Refusal::Drive(DriveFault::BadWorker),
+        "rvstm: drive BadWorker 2\n",
+    ),
+    (
+        Refusal::Drive(DriveFault::ArenaFull),
+        "rvstm: drive ArenaFull 3\n",
+    ),
+    (
+        Refusal::Drive(DriveFault::IncarnationLimit),
+        "rvstm: drive IncarnationLimit 4\n",
+    ),
+    (
+        Refusal::Drive(DriveFault::Memory),
+        "rvstm: drive Memory 5\n",
+    ),
+    (Refusal::Output(WriteFault::Io), "rvstm: output Io 1\n"),
+    (
+        Refusal::Output(WriteFault::WroteNothing),
+        "rvstm: output WroteNothing 2\n",
+    ),
+    (
+        Refusal::Output(WriteFault::Memory),
+        "rvstm: output Memory 3\n",
+    ),
+];
+
+#[test]
+fn each_refusal_has_its_line(rt: HostRuntime) -> Result<(), Fail> {
+    for (refusal, line) in OTHERS {
+        let mut errors = Vec::new(rt.alloc());
+        assert_eq!(rt; report(&refusal, &mut errors), 1);
+        assert_eq!(rt; errors.as_slice(), line.as_bytes());
+    }
+    for (cause, line) in CAUSES {
+        let fault = BlockFault { line: 2, cause };
+        for (refusal, area) in [
+            (Refusal::Block(fault), "rvstm: block "),
+            (Refusal::Schedule(fault), "rvstm: schedule "),
+        ] {
+            let mut errors = Vec::new(rt.alloc());
+            assert_eq!(rt; report(&refusal, &mut errors), 1);
+            assert!(rt;
+                errors.as_slice().strip_prefix(area.as_bytes()) == Some(line.as_bytes()),
+                "{line}"
+            );
+        }
+    }
+    for (cause, line) in ASM_CAUSES {
+        let refusal = Refusal::Asm(AsmError { line: 3, cause });
+        let mut errors = Vec::new(rt.alloc());
+        assert_eq!(rt; report(&refusal, &mut errors), 1);
+        assert!(rt;
+            errors.as_slice().strip_prefix(b"rvstm: asm ".as_slice()) == Some(line.as_bytes()),
+            "{line}"
+        );
+    }
+    Ok(())
+}

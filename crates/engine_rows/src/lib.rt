@@ -1,0 +1,28 @@
+//! Tests of the engines and of the program over any files. They stand here, and not in `engines`, since
+//! a crate with tests is proved twice.
+#![tactic(auto)]
+
+#[cfg(test)]
+mod areas;
+#[cfg(test)]
+mod assembled;
+#[cfg(test)]
+mod blocks;
+#[cfg(test)]
+mod drives;
+#[cfg(test)]
+mod edge_values;
+#[cfg(test)]
+mod failing;
+#[cfg(test)]
+mod fake_disk;
+#[cfg(test)]
+mod outside;
+#[cfg(test)]
+mod programs;
+#[cfg(test)]
+mod rows;
+#[cfg(test)]
+mod schedules;
+#[cfg(test)]
+mod sources;

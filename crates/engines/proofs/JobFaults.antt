@@ -1,0 +1,39 @@
+-- A refusal met before a job is made is one of the run in order.
+use Rattle.std.proofs.Common.{◌≡◌, ℕ, List, inl, inr}
+use Rattle.std.specs.Prelude.{Option, Some, None, Result, Ok, Err, IfSome}
+use Rattle.std.specs.Option.{option_map}
+use Rattle.std.specs.Result.{result_map_both}
+use Rattle.elf32.specs.Layout.{Layout}
+use Rattle.block_file.specs.Block.{BlockValue}
+use Rattle.block_file.specs.declared.fault.BlockFault.{BlockFault}
+use Rattle.engines.specs.declared.fault.Refusal.{Refusal}
+use Rattle.engines.specs.declared.fault.Refusal.TheVariants.{File, Block, Elf, Asm, Seq, Schedule, Drive, Output}
+use Rattle.engines.specs.declared.fault.FileFault.TheVariants.{Unreadable, Unwritable, TooLong}
+use Rattle.engines.specs.Engine.{answer_of, files_of, programs_of, result_of, IsFaultOf}
+use Rattle.engines.specs.Parts.{IsJobFault, job_over, loaded_job}
+
+with_programs : (block : BlockValue) (programs : Result (List Layout) Refusal) (e : Refusal) → result_map_both (job_over block) (λ fault. fault) programs ≡ Err e → result_map_both (result_of block) (λ fault. fault) programs ≡ Err e
+with_programs block (Ok images) e h = cc
+with_programs block (Err fault) e h = cc
+
+with_files : (block : BlockValue) (files : Option (List (List ℕ))) (e : Refusal) → IfSome (option_map (λ f. result_map_both (job_over block) (λ fault. fault) (programs_of f)) files) (λ w. w ≡ Err e) → IfSome (option_map (λ f. result_map_both (result_of block) (λ fault. fault) (programs_of f)) files) (λ a. a ≡ Err e)
+with_files block None e h = tt
+with_files block (Some files) e h = with_programs block (programs_of files) e h
+
+-- the first fault of a block file's job is that of its result
+first_fault : (content : List ℕ → Option (List ℕ)) (block : Result BlockValue BlockFault) (e : Refusal) → IfSome (loaded_job content block) (λ w. w ≡ Err e) → IfSome (answer_of content block) (λ a. a ≡ Err e)
+first_fault content (Err fault) e h = cc
+first_fault content (Ok block) e h = with_files block (files_of content block.programs) e h
+
+pub job_fault : (content : List ℕ → Option (List ℕ)) (block : Result BlockValue BlockFault) (old new : Option (List ℕ)) (e : Refusal) → IsJobFault content block e → IsFaultOf content block old new e
+job_fault content block old new (Block fault) h = h
+job_fault content block old new (Elf fault) (inl memory) = inl memory
+job_fault content block old new (Elf fault) (inr wanted) = inr (first_fault content block (Elf fault) wanted)
+job_fault content block old new (File TooLong) h = first_fault content block (File TooLong) h
+job_fault content block old new (File Unreadable) h = tt
+job_fault content block old new (File Unwritable) h = absurd h
+job_fault content block old new (Asm fault) h = absurd h
+job_fault content block old new (Seq fault) h = absurd h
+job_fault content block old new (Schedule fault) h = absurd h
+job_fault content block old new (Drive fault) h = absurd h
+job_fault content block old new (Output fault) h = absurd h

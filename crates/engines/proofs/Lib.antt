@@ -1,0 +1,2 @@
+pub mod JobFaults
+pub mod ProgramFiles

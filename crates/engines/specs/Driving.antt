@@ -1,0 +1,60 @@
+-- What the engine of `rvstm drive` writes, and what it refuses.
+use Rattle.std.specs.Prelude.{ℕ, List, ◌≡◌, ◌⊎◌, ⊤, map, Option, Some, IfSome, Result, Ok, Err, IsOkAnd, option_and_then}
+use Rattle.std.specs.Option.{option_map}
+use Rattle.std.specs.Result.{result_map_both}
+use Rattle.elf32.specs.Layout.{Layout}
+use Rattle.elf32.specs.declared.error.ElfError.TheVariants as elf
+use Rattle.rv_ledger.specs.Call.{Invocation}
+use Rattle.rv_ledger.specs.Key.{Storage}
+use Rattle.rv_step.specs.Fold.{receipts_of, store_after}
+use Rattle.stm_state.specs.Drive as list
+use Rattle.stm_state.specs.Steps.{ArenaFull, IncarnationLimit}
+use Rattle.stm_core.specs.declared.engine.DriveFault.{DriveFault}
+use Rattle.stm_core.specs.declared.engine.DriveFault.TheVariants as drive
+use Rattle.receipts.specs.Text.{result_text}
+use Rattle.receipts.specs.Written.{AppendsPart}
+use Rattle.block_file.specs.Block.{BlockValue}
+use Rattle.block_file.specs.declared.fault.BlockFault.{BlockFault}
+use Rattle.block_file.specs.declared.fault.Cause.TheVariants as cause
+use Rattle.engines.specs.Engine.{call_over, files_of, programs_of}
+use Rattle.engines.specs.declared.fault.Refusal.{Refusal}
+use Rattle.engines.specs.declared.fault.Refusal.TheVariants.{File, Block, Elf, Schedule, Drive, Output}
+use Rattle.engines.specs.declared.fault.FileFault.TheVariants.{Unreadable, TooLong}
+
+-- the refusal of a list of worker numbers
+abbrev pub fault_of : list.Refusal → DriveFault
+fault_of list.NotDone = drive.NotDone
+fault_of list.BadWorker = drive.BadWorker
+fault_of (list.Limited ArenaFull) = drive.ArenaFull
+fault_of (list.Limited IncarnationLimit) = drive.IncarnationLimit
+
+-- the text of the result of calls along a list of worker numbers: where the list comes to an end it is that of the calls run in order
+abbrev pub text_along : List Invocation → Storage → ℕ → List ℕ → Result (List ℕ) Refusal
+text_along calls store workers entries = result_map_both (λ s. result_text (receipts_of calls store) (store_after calls store))
+    (λ refusal. Drive (fault_of refusal)) (list.drive_of calls store workers entries)
+
+-- the same by the text of a schedule file, whose first fault comes before those of the list
+abbrev pub text_by : BlockValue → List Layout → ℕ → Result (List ℕ) BlockFault → Result (List ℕ) Refusal
+text_by block images workers (Err fault) = Err (Schedule fault)
+text_by block images workers (Ok entries) = text_along (map (call_over images) block.calls) block.store workers entries
+
+-- the same over the files of programs, the first fault of which comes before those of the schedule; nothing is said where the schedule is unknown
+abbrev pub text_over : BlockValue → ℕ → Option (Result (List ℕ) BlockFault) → Result (List Layout) Refusal → Option (Result (List ℕ) Refusal)
+text_over block workers schedule (Err fault) = Some (Err fault)
+text_over block workers schedule (Ok images) = option_map (text_by block images workers) schedule
+
+-- what is to be written for a block file and a schedule file, or the first fault in the block file, in the files of its programs, in the schedule file and along the schedule; nothing is said where the bytes that this rests on are unknown
+abbrev pub driven_answer : (List ℕ → Option (List ℕ)) → Result BlockValue BlockFault → ℕ → Option (Result (List ℕ) BlockFault) → Option (Result (List ℕ) Refusal)
+driven_answer content (Err fault) workers schedule = Some (Err (Block fault))
+driven_answer content (Ok block) workers schedule = option_and_then (λ files. text_over block workers schedule (programs_of files)) (files_of content block.programs)
+
+-- a refusal: a fault of what was read or of the schedule's run is the wanted one, or want of memory; with one of the output a beginning of the wanted text was written
+abbrev pub IsFaultIn : Option (Result (List ℕ) Refusal) → Option (List ℕ) → Option (List ℕ) → Refusal → Type 0
+IsFaultIn answer old new (Block fault) = (fault.cause ≡ cause.Memory) ⊎ IfSome answer (λ a. a ≡ Err (Block fault))
+IsFaultIn answer old new (Elf fault) = (fault ≡ elf.Memory) ⊎ IfSome answer (λ a. a ≡ Err (Elf fault))
+IsFaultIn answer old new (File TooLong) = IfSome answer (λ a. a ≡ Err (File TooLong))
+IsFaultIn answer old new (File Unreadable) = ⊤
+IsFaultIn answer old new (Schedule fault) = (fault.cause ≡ cause.Memory) ⊎ IfSome answer (λ a. a ≡ Err (Schedule fault))
+IsFaultIn answer old new (Drive fault) = (fault ≡ drive.Memory) ⊎ IfSome answer (λ a. a ≡ Err (Drive fault))
+IsFaultIn answer old new (Output fault) = IfSome answer (λ a. IsOkAnd a (AppendsPart old new))
+IsFaultIn answer old new _ = ⊥

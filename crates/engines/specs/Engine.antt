@@ -1,0 +1,74 @@
+-- What the engine of `rvstm seq` writes, and what it refuses.
+use Rattle.std.specs.Prelude.{ℕ, List, [], ◌∷◌, ◌≡◌, ◌⊎◌, ⊤, map, length, nat_lt, slice_index_or, Option, Some, None, IfSome, Result, Ok, Err, IsOkAnd, if◌then◌else◌}
+use Rattle.std.specs.Option.{option_map}
+use Rattle.std.specs.Result.{result_map_both}
+use Rattle.elf32.specs.Layout.{Layout}
+use Rattle.elf32.specs.Image.{image_of}
+use Rattle.elf32.specs.declared.error.ElfError.TheVariants as elf
+use Rattle.rv_ledger.specs.Call.{Invocation}
+use Rattle.rv_step.specs.Fold.{receipts_of, store_after}
+use Rattle.receipts.specs.Text.{result_text}
+use Rattle.receipts.specs.Written.{AppendsPart}
+use Rattle.receipts.specs.declared.write.WriteFault.TheVariants as output
+use Rattle.block_file.specs.Block.{BlockValue, CallValue}
+use Rattle.block_file.specs.declared.fault.BlockFault.{BlockFault}
+use Rattle.block_file.specs.declared.fault.Cause.TheVariants as cause
+use Rattle.engines.specs.declared.fault.Refusal.{Refusal}
+use Rattle.engines.specs.declared.fault.Refusal.TheVariants.{File, Block, Elf, Seq, Output}
+use Rattle.engines.specs.declared.fault.FileFault.TheVariants.{TooLong, Unreadable}
+
+-- the bytes of the files at some paths, where all are known
+abbrev pub with_file : Option (List ℕ) → Option (List (List ℕ)) → Option (List (List ℕ))
+with_file (Some bytes) (Some files) = Some (bytes ∷ files)
+with_file _ _ = None
+
+abbrev pub files_of : (List ℕ → Option (List ℕ)) → List (List ℕ) → Option (List (List ℕ))
+files_of content [] = Some []
+files_of content (path ∷ paths) = with_file (content path) (files_of content paths)
+
+-- the program of a file of at most 131,072 bytes, or its fault
+abbrev pub program_of : List ℕ → Result Layout Refusal
+program_of bytes = if nat_lt 131072 (length bytes) then Err (File TooLong) else result_map_both (λ image. image) Elf (image_of bytes)
+
+-- the programs of files, or the fault of the first faulty one
+abbrev pub with_program : Result Layout Refusal → Result (List Layout) Refusal → Result (List Layout) Refusal
+with_program (Err fault) rest = Err fault
+with_program (Ok image) (Err fault) = Err fault
+with_program (Ok image) (Ok images) = Ok (image ∷ images)
+
+abbrev pub programs_of : List (List ℕ) → Result (List Layout) Refusal
+programs_of [] = Ok []
+programs_of (bytes ∷ files) = with_program (program_of bytes) (programs_of files)
+
+-- the call of a line: its program is the one of its number
+abbrev pub call_over : List Layout → CallValue → Invocation
+call_over images line = record {
+  image = slice_index_or images line.program (record { entry = 0; segments = [] });
+  gas = line.gas;
+  input = line.input;
+}
+
+-- the text of the result of a block: its calls run in order, each on the storage that the ones before it left
+abbrev pub result_of : BlockValue → List Layout → List ℕ
+result_of block images = result_text (receipts_of (map (call_over images) block.calls) block.store) (store_after (map (call_over images) block.calls) block.store)
+
+-- what is to be written for a block file, or the first fault in it or in the files of its programs; nothing is said where one of these is unknown
+abbrev pub answer_of : (List ℕ → Option (List ℕ)) → Result BlockValue BlockFault → Option (Result (List ℕ) Refusal)
+answer_of content (Err fault) = Some (Err (Block fault))
+answer_of content (Ok block) = option_map (λ files. result_map_both (result_of block) (λ fault. fault) (programs_of files)) (files_of content block.programs)
+
+-- a refusal: a fault of the block file or of its programs is the wanted one, or want of memory; with one of the output a beginning of the wanted text was written
+abbrev pub IsFaultOf : (List ℕ → Option (List ℕ)) → Result BlockValue BlockFault → Option (List ℕ) → Option (List ℕ) → Refusal → Type 0
+IsFaultOf content block old new (Block fault) = (fault.cause ≡ cause.Memory) ⊎ (block ≡ Err fault)
+IsFaultOf content block old new (Elf fault) = (fault ≡ elf.Memory) ⊎ IfSome (answer_of content block) (λ answer. answer ≡ Err (Elf fault))
+IsFaultOf content block old new (File TooLong) = IfSome (answer_of content block) (λ answer. answer ≡ Err (File TooLong))
+IsFaultOf content block old new (Output fault) = IfSome (answer_of content block) (λ answer. IsOkAnd answer (AppendsPart old new))
+IsFaultOf content block old new (File Unreadable) = ⊤
+IsFaultOf content block old new (Seq fault) = ⊤
+IsFaultOf content block old new _ = ⊥
+
+-- where a command is refused nothing was written, unless a write failed
+abbrev pub IsUnwritten : Option (List ℕ) → Option (List ℕ) → Refusal → Type 0
+IsUnwritten old new (Output output.Io) = ⊤
+IsUnwritten old new (Output output.WroteNothing) = ⊤
+IsUnwritten old new _ = new ≡ old

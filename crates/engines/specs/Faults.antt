@@ -1,0 +1,38 @@
+-- What a refusal prints.
+use Rattle.std.specs.Prelude.{List, ℕ, ◌++◌, codes}
+use Rattle.block_file.specs.Faults as block
+use Rattle.elf32.specs.Refusals as elf
+use Rattle.receipts.specs.Faults as output
+use Rattle.rv_text.specs.Faults as asm
+use Rattle.stm_core.specs.Faults as drive
+use Rattle.engines.specs.declared.fault.FileFault.{FileFault}
+use Rattle.engines.specs.declared.fault.FileFault.TheVariants.{Unreadable, Unwritable, TooLong}
+use Rattle.engines.specs.declared.fault.SeqFault.{SeqFault}
+use Rattle.engines.specs.declared.fault.SeqFault.TheVariants.{Memory}
+use Rattle.engines.specs.declared.fault.Refusal.{Refusal}
+use Rattle.engines.specs.declared.fault.Refusal.TheVariants.{File, Block, Elf, Asm, Seq, Schedule, Drive, Output}
+
+-- the name and the number of a file's refusal
+abbrev pub file_text : FileFault → List ℕ
+file_text Unreadable = codes "Unreadable 1"
+file_text Unwritable = codes "Unwritable 2"
+file_text TooLong = codes "TooLong 3"
+
+-- of a run in order's
+abbrev pub seq_text : SeqFault → List ℕ
+seq_text Memory = codes "Memory 1"
+
+-- the area, the line where it has one, the name and the number
+abbrev pub refusal_text : Refusal → List ℕ
+refusal_text (File fault) = codes "file " ++ file_text fault
+refusal_text (Block fault) = codes "block " ++ block.fault_text fault
+refusal_text (Elf fault) = codes "elf " ++ elf.error_text fault
+refusal_text (Asm fault) = codes "asm " ++ asm.fault_text fault
+refusal_text (Seq fault) = codes "seq " ++ seq_text fault
+refusal_text (Schedule fault) = codes "schedule " ++ block.fault_text fault
+refusal_text (Drive fault) = codes "drive " ++ drive.fault_text fault
+refusal_text (Output fault) = codes "output " ++ output.fault_text fault
+
+-- the line that tells of a refusal
+abbrev pub refusal_line : List ℕ → List ℕ
+refusal_line text = codes "rvstm: " ++ text ++ codes "\n"

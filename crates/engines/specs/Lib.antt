@@ -1,0 +1,5 @@
+pub mod Engine
+pub mod Listing
+pub mod Parts
+pub mod Driving
+pub mod Faults

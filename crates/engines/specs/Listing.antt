@@ -1,0 +1,59 @@
+-- What `rvstm dis` prints and `rvstm asm` writes, and what they refuse.
+use Rattle.std.specs.Prelude.{◌≡◌, ◌⊎◌, ⊤, ℕ, List, [], ◌∷◌, ◌++◌, flat_map, Option, Result, Ok, Err, IsOkAnd, if◌then◌else◌, length, ◌==◌, IsUtf8}
+use Rattle.std.specs.Result.{result_map_both}
+use Rattle.elf32.specs.Layout.{Layout}
+use Rattle.elf32.specs.Words.{words_of}
+use Rattle.elf32.specs.Written.{file_of}
+use Rattle.elf32.specs.declared.words.PlacedWord.{PlacedWord}
+use Rattle.elf32.specs.declared.error.ElfError.TheVariants as elf
+use Rattle.receipts.specs.Text.{word_text}
+use Rattle.receipts.specs.Written.{AppendsPart}
+use Rattle.rv_names.specs.Text as text
+use Rattle.rv_program.specs.Sections.{Sections}
+use Rattle.rv_text.specs.Assembly.{assembled}
+use Rattle.rv_text.specs.declared.fault.AsmError.{AsmError}
+use Rattle.rv_text.specs.declared.fault.AsmCause.TheVariants as cause
+use Rattle.engines.specs.declared.fault.Refusal.{Refusal}
+use Rattle.engines.specs.declared.fault.Refusal.TheVariants.{File, Elf, Output, Asm}
+use Rattle.engines.specs.declared.fault.FileFault.TheVariants.{Unreadable, TooLong}
+use Rattle.engines.specs.Engine.{program_of}
+
+-- a line of the listing: the address and the word in eight hex digits each, and the word's text
+abbrev pub listing_line : PlacedWord → List ℕ
+listing_line placed = word_text placed.address ++ 32 ∷ (word_text placed.word ++ 32 ∷ (text.word_text placed.word ++ 10 ∷ []))
+
+-- the words of a program's text, ascending
+abbrev pub listing_of : Layout → List ℕ
+listing_of image = flat_map listing_line (words_of image)
+
+-- what `dis` prints of a file, or its fault
+abbrev pub listing_of_file : List ℕ → Result (List ℕ) Refusal
+listing_of_file bytes = result_map_both listing_of (λ fault. fault) (program_of bytes)
+
+-- a refusal of `dis`: a fault of the file is the wanted one, or want of memory; with one of the output a beginning of
+-- the wanted text was written
+abbrev pub IsListingFault : Result (List ℕ) Refusal → Option (List ℕ) → Option (List ℕ) → Refusal → Type 0
+IsListingFault answer old new (Elf fault) = (fault ≡ elf.Memory) ⊎ (answer ≡ Err (Elf fault))
+IsListingFault answer old new (File TooLong) = answer ≡ Err (File TooLong)
+IsListingFault answer old new (File Unreadable) = ⊤
+IsListingFault answer old new (Output fault) = IsOkAnd answer (AppendsPart old new)
+IsListingFault answer old new _ = ⊥
+
+-- the file of a program that was assembled: one without text words has no entry
+abbrev pub file_or_fault : Sections → Result (List ℕ) Refusal
+file_or_fault program = if length program.text == 0 then Err (Elf elf.BadEntry) else Ok (file_of program)
+
+-- the file that `asm` writes for a source, or the source's first fault
+abbrev pub file_of_program : Result Sections AsmError → Result (List ℕ) Refusal
+file_of_program (Ok program) = file_or_fault program
+file_of_program (Err fault) = Err (Asm fault)
+
+abbrev pub file_of_source : List ℕ → Result (List ℕ) Refusal
+file_of_source source = file_of_program (assembled source)
+
+-- a refusal of `asm` before anything is written: a fault of a source in UTF-8 is the wanted one, or want of memory
+abbrev pub IsSourceFault : List ℕ → Refusal → Type 0
+IsSourceFault source (Asm fault) = (fault.cause ≡ cause.Memory) ⊎ (IsUtf8 source × (file_of_source source ≡ Err (Asm fault)))
+IsSourceFault source (Elf fault) = (fault ≡ elf.Memory) ⊎ (IsUtf8 source × (file_of_source source ≡ Err (Elf fault)))
+IsSourceFault source (File Unreadable) = ⊤
+IsSourceFault source _ = ⊥

@@ -1,0 +1,39 @@
+//! The engine of `rvstm asm`, over any reader.
+
+ghost use Rattle.std.specs.Prelude.{◌≡◌, Ok, IfErr, IfOk, IfSome, IsUtf8};
+ghost use Rattle.engines.specs.Listing.{IsSourceFault, file_of_source};
+
+use crate::fault::{FileFault, Refusal};
+use crate::reading::read_text;
+use rv_text::{AsmCause, AsmError, assemble};
+use std::alloc::Global;
+use std::io::Read;
+use std::str;
+
+/// Reads a source to its end and gives the ELF file of the program that it stands for. Refused with
+/// the source's first fault, with BadEntry where it has no text words, with Unreadable where a read
+/// failed or the source is no UTF-8, or where memory ran out.
+pub fn file_of_source<R: Read>(alloc: Global, source: &mut R) -> Result<Vec<u8>, Refusal>
+    ensures ok { IfOk result (λ file. IfSome (R.remaining source.old) (λ bytes. IsUtf8 bytes × (file_of_source bytes ≡ Ok file.items))) }
+    ensures err { IfErr result (λ e. IfSome (R.remaining source.old) (λ bytes. IsSourceFault bytes e)) }
+{
+    let memory = AsmError {
+        line: 1,
+        cause: AsmCause::Memory,
+    };
+    let bytes = match read_text(alloc, source, Refusal::Asm(memory)) {
+        Ok(bytes) => bytes,
+        Err(refusal) => return Err(refusal),
+    };
+    let Ok(text) = str::from_utf8(bytes.as_slice()) else {
+        return Err(Refusal::File(FileFault::Unreadable));
+    };
+    let program = match assemble(alloc, text) {
+        Ok(program) => program,
+        Err(fault) => return Err(Refusal::Asm(fault)),
+    };
+    match elf32::write(alloc, &program) {
+        Ok(file) => Ok(file),
+        Err(fault) => Err(Refusal::Elf(fault)),
+    }
+}

@@ -1,0 +1,79 @@
+//! Files by their paths.
+
+ghost use Rattle.std.specs.Prelude.{None};
+
+use crate::programs::Programs;
+use std::alloc::Global;
+use std::io;
+use std::io::{Read, Write};
+
+/// Files by their paths.
+pub trait Disk {
+    /// What reads a file.
+    type File: Read + Drop;
+
+    /// What writes a file.
+    type NewFile: Write + Drop;
+
+    /// Opens a file to read it.
+    fn open(&self, path: &str) -> io::Result<Self::File>;
+
+    /// Makes a file to write it; refused as AlreadyExists where something stands at the path.
+    fn create_new(&self, path: &str) -> io::Result<Self::NewFile>;
+
+    /// Opens what stands at a path to write into it from its start.
+    fn create(&self, path: &str) -> io::Result<Self::NewFile>;
+
+    /// The path, with links followed, of the ordinary file that a path names or would name once made;
+    /// `None` where something else stands there, as a device. Refused where that file may not be written.
+    fn file_path(&self, alloc: Global, path: &str) -> io::Result<Option<String>>;
+
+    /// Brings to the disk what was written to a file.
+    fn sync(&self, file: &Self::NewFile) -> io::Result<()>;
+
+    /// Renames a file, in the place of the one that has the new name.
+    fn rename(&self, from: &str, to: &str) -> io::Result<()>;
+
+    /// Removes a file.
+    fn remove_file(&self, path: &str) -> io::Result<()>;
+}
+
+/// The programs in the files that their paths name.
+#[derive(Drop)]
+pub(crate) struct ProgramFiles<'a, D: Disk> {
+    /// Where the files are.
+    pub disk: &'a D,
+}
+
+impl<'a, D: Disk> Programs for ProgramFiles<'a, D> {
+    type File = D::File;
+
+    ghost content = { λ _ _. None };
+
+    fn open(&mut self, path: &str) -> io::Result<D::File> {
+        self.disk.open(path)
+    }
+}
+
+/// A file that is opened when it is first read.
+#[derive(Drop)]
+pub(crate) struct LateFile<'a, D: Disk> {
+    /// Where the file is.
+    pub disk: &'a D,
+    /// Its path.
+    pub path: &'a str,
+    /// The file, once it is open.
+    pub file: Option<D::File>,
+}
+
+impl<'a, D: Disk> Read for LateFile<'a, D> {
+    fn read(&mut self, buf: &mut [u8]) -> io::Result<usize> {
+        if self.file.is_none() {
+            self.file = Some(self.disk.open(self.path)?);
+        }
+        match &mut self.file {
+            Some(file) => file.read(buf),
+            None => Ok(0),
+        }
+    }
+}

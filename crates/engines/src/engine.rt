@@ -1,0 +1,141 @@
+//! The engines of `rvstm seq` and `rvstm drive`, over any readers, programs and writer.
+
+ghost use Rattle.std.specs.Prelude.{◌≡◌, IfErr, IfOk, IfSome, IsOkAnd, OnOk, Ok, Some};
+ghost use Rattle.std.specs.Io.KnownBytes.{Appends};
+ghost use Rattle.std.specs.Option.{option_map};
+ghost use Rattle.block_file.specs.Block.{block_of};
+ghost use Rattle.block_file.specs.Schedule.{schedule_of};
+ghost use Rattle.receipts.specs.Text.{result_text};
+ghost use Rattle.engines.specs.Driving.{IsFaultIn, driven_answer, text_along};
+ghost use Rattle.engines.specs.Engine.{answer_of, IsFaultOf, IsUnwritten};
+ghost use Rattle.engines.specs.Parts.{IsOutputFault, IsRunFault, IsScheduleFault, text_of};
+
+use crate::fault::{Refusal, SeqFault};
+use crate::loading::load_job;
+use crate::programs::Programs;
+use crate::reading::read_text;
+use block_file::{BlockFault, Cause, parse_schedule};
+use receipts::write_outcome;
+use rv_ledger::{Job, Outcome};
+use seq_exec::run_in_order;
+use std::alloc::Global;
+use std::io::{Read, Write};
+use stm_core::{DriveFault, drive};
+
+/// Reads a block file to its end and parses it, opens, reads and loads its programs in the order of
+/// their numbers, runs the calls in order and writes the result. The first refusal ends it; where that is
+/// one of the output, a beginning of the result was written, and else nothing.
+pub fn seq_to<R: Read, P: Programs, W: Write>(
+    alloc: Global,
+    block: &mut R,
+    programs: &mut P,
+    out: &mut W,
+) -> Result<(), Refusal>
+    ensures written { OnOk result (IfSome (R.remaining block.old) (λ input.
+        IfSome (answer_of (P.content programs.old) (block_of input)) (λ answer.
+        IsOkAnd answer (Appends (W.contents out.old) (W.contents out.new))))) }
+    ensures refused { IfErr result (λ e. IfSome (R.remaining block.old) (λ input.
+        IsFaultOf (P.content programs.old) (block_of input) (W.contents out.old) (W.contents out.new) e)) }
+    ensures unwritten { IfErr result (λ e. IsUnwritten (W.contents out.old) (W.contents out.new) e) }
+{
+    let job = match load_job(alloc, block, programs, Refusal::Seq(SeqFault::Memory)) {
+        Ok(job) => job,
+        Err(refusal) => return Err(refusal),
+    };
+    run_job(alloc, &job, out)
+}
+
+/// Reads a block file to its end and parses it, opens, reads and loads its programs in the order of
+/// their numbers, reads a schedule file to its end and parses it, runs the calls by so many workers
+/// along it and writes the result, which is that of the calls in order. The first refusal ends it; where
+/// that is one of the output, a beginning of the result was written, and else nothing.
+pub fn drive_to<R: Read, P: Programs, S: Read, W: Write>(
+    alloc: Global,
+    block: &mut R,
+    programs: &mut P,
+    schedule: &mut S,
+    workers: usize,
+    out: &mut W,
+) -> Result<(), Refusal>
+    ensures written { OnOk result (IfSome (R.remaining block.old) (λ input.
+        IfSome (driven_answer (P.content programs.old) (block_of input) workers (option_map schedule_of (S.remaining schedule.old))) (λ answer.
+        IsOkAnd answer (Appends (W.contents out.old) (W.contents out.new))))) }
+    ensures refused { IfErr result (λ e. IfSome (R.remaining block.old) (λ input.
+        IsFaultIn (driven_answer (P.content programs.old) (block_of input) workers (option_map schedule_of (S.remaining schedule.old)))
+        (W.contents out.old) (W.contents out.new) e)) }
+    ensures unwritten { IfErr result (λ e. IsUnwritten (W.contents out.old) (W.contents out.new) e) }
+{
+    let job = match load_job(alloc, block, programs, Refusal::Drive(DriveFault::Memory)) {
+        Ok(job) => job,
+        Err(refusal) => return Err(refusal),
+    };
+    let entries = match read_schedule(alloc, schedule) {
+        Ok(entries) => entries,
+        Err(refusal) => return Err(refusal),
+    };
+    drive_job(alloc, &job, workers, entries.as_slice(), out)
+}
+
+/// Reads and parses a schedule file.
+fn read_schedule<S: Read>(alloc: Global, schedule: &mut S) -> Result<Vec<u16>, Refusal>
+    ensures ok { IfOk result (λ v. IfSome (S.remaining schedule.old) (λ bytes. schedule_of bytes ≡ Ok v.items)) }
+    ensures err { IfErr result (λ e. IsScheduleFault (option_map schedule_of (S.remaining schedule.old)) e) }
+{
+    let memory = BlockFault {
+        line: 1,
+        cause: Cause::Memory,
+    };
+    let bytes = match read_text(alloc, schedule, Refusal::Schedule(memory)) {
+        Ok(bytes) => bytes,
+        Err(refusal) => return Err(refusal),
+    };
+    match parse_schedule(alloc, bytes.as_slice()) {
+        Ok(entries) => Ok(entries),
+        Err(fault) => Err(Refusal::Schedule(fault)),
+    }
+}
+
+/// Runs a job in order and writes the result.
+fn run_job<W: Write>(alloc: Global, job: &Job, out: &mut W) -> Result<(), Refusal>
+    ensures written { OnOk result (Appends (W.contents out.old) (W.contents out.new) (text_of job.now)) }
+    ensures refused { IfErr result (λ e. IsRunFault (text_of job.now) (W.contents out.old) (W.contents out.new) e) }
+    ensures unwritten { IfErr result (λ e. IsUnwritten (W.contents out.old) (W.contents out.new) e) }
+{
+    let Ok(outcome) = run_in_order(alloc, job) else {
+        return Err(Refusal::Seq(SeqFault::Memory));
+    };
+    write_result(alloc, &outcome, out)
+}
+
+/// Runs a job along a list of worker numbers and writes the result.
+fn drive_job<W: Write>(
+    alloc: Global,
+    job: &Job,
+    workers: usize,
+    entries: &[u16],
+    out: &mut W,
+) -> Result<(), Refusal>
+    ensures written { OnOk result (IsOkAnd (text_along job.now.block job.now.store workers entries.now) (Appends (W.contents out.old) (W.contents out.new))) }
+    ensures refused { IfErr result (λ e. IsFaultIn (Some (text_along job.now.block job.now.store workers entries.now)) (W.contents out.old) (W.contents out.new) e) }
+    ensures unwritten { IfErr result (λ e. IsUnwritten (W.contents out.old) (W.contents out.new) e) }
+{
+    let outcome = match drive(alloc, job, workers, entries) {
+        Ok(outcome) => outcome,
+        Err(fault) => return Err(Refusal::Drive(fault)),
+    };
+    write_result(alloc, &outcome, out)
+}
+
+/// Writes the result of a run.
+fn write_result<W: Write>(alloc: Global, outcome: &Outcome, out: &mut W) -> Result<(), Refusal>
+    ensures written { OnOk result (Appends (W.contents out.old) (W.contents out.new)
+        (result_text outcome.now.receipts.items outcome.now.store)) }
+    ensures refused { IfErr result (λ e. IsOutputFault (result_text outcome.now.receipts.items outcome.now.store)
+        (W.contents out.old) (W.contents out.new) e) }
+    ensures unwritten { IfErr result (λ e. IsUnwritten (W.contents out.old) (W.contents out.new) e) }
+{
+    match write_outcome(alloc, outcome, out) {
+        Ok(()) => Ok(()),
+        Err(fault) => Err(Refusal::Output(fault)),
+    }
+}

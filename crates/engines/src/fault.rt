@@ -1,0 +1,100 @@
+//! Why a command is refused.
+
+use block_file::BlockFault;
+use elf32::ElfError;
+use receipts::WriteFault;
+use rv_text::AsmError;
+use std::fmt;
+use stm_core::DriveFault;
+use thiserror::Error;
+
+/// Why a file is refused.
+#[derive(Clone, Copy, Debug, PartialEq, Eq, Error)]
+pub enum FileFault {
+    /// It can't be opened or read.
+    Unreadable = 1,
+    /// It can't be made or written.
+    Unwritable = 2,
+    /// A program file has more than 131,072 bytes.
+    TooLong = 3,
+}
+
+impl fmt::Display for FileFault {
+    ghost use Rattle.std.specs.Prelude.{Some};
+    ghost use Rattle.engines.specs.Faults.{file_text};
+
+    ghost output = { λ fault. Some (file_text fault) };
+
+    /// The name and the number.
+    fn fmt<W: fmt::Write>(&self, f: &mut fmt::Formatter<W>) -> fmt::Result {
+        match self {
+            FileFault::Unreadable => f.write_str("Unreadable 1"),
+            FileFault::Unwritable => f.write_str("Unwritable 2"),
+            FileFault::TooLong => f.write_str("TooLong 3"),
+        }
+    }
+}
+
+/// Why a run in order is refused.
+#[derive(Clone, Copy, Debug, PartialEq, Eq, Error)]
+pub enum SeqFault {
+    /// Memory ran out.
+    Memory = 1,
+}
+
+impl fmt::Display for SeqFault {
+    ghost use Rattle.std.specs.Prelude.{Some};
+    ghost use Rattle.engines.specs.Faults.{seq_text};
+
+    ghost output = { λ fault. Some (seq_text fault) };
+
+    /// The name and the number.
+    fn fmt<W: fmt::Write>(&self, f: &mut fmt::Formatter<W>) -> fmt::Result {
+        match self {
+            SeqFault::Memory => f.write_str("Memory 1"),
+        }
+    }
+}
+
+/// Why a command is refused: the area, the refusal's name and its number; for a block file, a schedule
+/// file and a source also the line.
+#[derive(Clone, Copy, Debug, PartialEq, Eq, Error)]
+pub enum Refusal {
+    /// A file.
+    File(FileFault),
+    /// The text of a block file.
+    Block(BlockFault),
+    /// A program's bytes.
+    Elf(ElfError),
+    /// The text of a source.
+    Asm(AsmError),
+    /// The run in order.
+    Seq(SeqFault),
+    /// The text of a schedule file.
+    Schedule(BlockFault),
+    /// The run along a schedule.
+    Drive(DriveFault),
+    /// The output.
+    Output(WriteFault),
+}
+
+impl fmt::Display for Refusal {
+    ghost use Rattle.std.specs.Prelude.{Some};
+    ghost use Rattle.engines.specs.Faults.{refusal_text};
+
+    ghost output = { λ refusal. Some (refusal_text refusal) };
+
+    /// The area, and what is printed of the refusal in it.
+    fn fmt<W: fmt::Write>(&self, f: &mut fmt::Formatter<W>) -> fmt::Result {
+        match self {
+            Refusal::File(fault) => write!(f, "file {fault}"),
+            Refusal::Block(fault) => write!(f, "block {fault}"),
+            Refusal::Elf(fault) => write!(f, "elf {fault}"),
+            Refusal::Asm(fault) => write!(f, "asm {fault}"),
+            Refusal::Seq(fault) => write!(f, "seq {fault}"),
+            Refusal::Schedule(fault) => write!(f, "schedule {fault}"),
+            Refusal::Drive(fault) => write!(f, "drive {fault}"),
+            Refusal::Output(fault) => write!(f, "output {fault}"),
+        }
+    }
+}

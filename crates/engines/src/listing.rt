@@ -1,0 +1,88 @@
+//! The engine of `rvstm dis`, over any reader and writer.
+
+ghost use Rattle.std.specs.Prelude.{◌≡◌, ◌++◌, flat_map, Ok, IfErr, IfOk, IfSome, IsOkAnd, OnOk};
+ghost use Rattle.std.specs.Io.KnownBytes.{Appends};
+ghost use Rattle.std.specs.Option.{option_map};
+ghost use Rattle.std.specs.String.{string_bytes};
+ghost use Rattle.engines.specs.Engine.{IsUnwritten, program_of};
+ghost use Rattle.engines.specs.Listing.{IsListingFault, listing_line, listing_of, listing_of_file};
+ghost use Rattle.engines.specs.Parts.{IsProgramFault};
+
+use crate::fault::Refusal;
+use crate::reading::read_elf;
+use elf32::{ElfError, Image, PlacedWord, load};
+use receipts::{word_text, write_whole};
+use rv_text::disassemble;
+use std::alloc::{AllocError, Global};
+use std::io::{Read, Write};
+
+/// Reads an ELF file of at most 131,072 bytes to its end, loads it and writes a line for each of its
+/// words: the address, the word and its text. The first refusal ends it; where that is one of the
+/// output, a beginning of the lines was written, and else nothing.
+pub fn dis_to<R: Read, W: Write>(alloc: Global, file: &mut R, out: &mut W) -> Result<(), Refusal>
+    ensures written { OnOk result (IfSome (R.remaining file.old) (λ bytes.
+        IsOkAnd (listing_of_file bytes) (Appends (W.contents out.old) (W.contents out.new)))) }
+    ensures refused { IfErr result (λ e. IfSome (R.remaining file.old) (λ bytes.
+        IsListingFault (listing_of_file bytes) (W.contents out.old) (W.contents out.new) e)) }
+    ensures unwritten { IfErr result (λ e. IsUnwritten (W.contents out.old) (W.contents out.new) e) }
+{
+    let listing = match listing(alloc, file) {
+        Ok(listing) => listing,
+        Err(refusal) => return Err(refusal),
+    };
+    match write_whole(listing.as_bytes(), out) {
+        Ok(()) => Ok(()),
+        Err(fault) => Err(Refusal::Output(fault)),
+    }
+}
+
+/// The lines of an ELF file.
+fn listing<R: Read>(alloc: Global, file: &mut R) -> Result<String, Refusal>
+    ensures ok { IfOk result (λ t. IfSome (R.remaining file.old) (λ bytes. listing_of_file bytes ≡ Ok (string_bytes t))) }
+    ensures err { IfErr result (λ e. IsProgramFault (option_map program_of (R.remaining file.old)) e) }
+{
+    let bytes = match read_elf(alloc, file) {
+        Ok(bytes) => bytes,
+        Err(refusal) => return Err(refusal),
+    };
+    let image = match load(alloc, bytes.as_slice()) {
+        Ok(image) => image,
+        Err(fault) => return Err(Refusal::Elf(fault)),
+    };
+    match text_of(alloc, &image) {
+        Ok(text) => Ok(text),
+        Err(_) => Err(Refusal::Elf(ElfError::Memory)),
+    }
+}
+
+/// The lines of an image; refused where memory ran out.
+fn text_of(alloc: Global, image: &Image) -> Result<String, AllocError>
+    ensures { IfOk result (λ t. string_bytes t ≡ listing_of image.now) }
+{
+    let words = image.words(alloc)?;
+    let mut text = String::new(alloc);
+    push_lines(alloc, words.as_slice(), &mut text)?;
+    Ok(text)
+}
+
+/// Appends the lines of some words; refused where memory ran out.
+fn push_lines(alloc: Global, words: &[PlacedWord], text: &mut String) -> Result<(), AllocError>
+    ensures { OnOk result (string_bytes text.new ≡ string_bytes text.old ++ flat_map listing_line words.now) }
+{
+    for word in words {
+        push_line(alloc, word, text)?;
+    }
+    Ok(())
+}
+
+/// Appends the line of a word; refused where memory ran out.
+fn push_line(alloc: Global, placed: &PlacedWord, text: &mut String) -> Result<(), AllocError>
+    ensures { OnOk result (string_bytes text.new ≡ string_bytes text.old ++ listing_line placed.now) }
+{
+    text.push_str(word_text(alloc, placed.address)?.as_str())?;
+    text.push(' ')?;
+    text.push_str(word_text(alloc, placed.word)?.as_str())?;
+    text.push(' ')?;
+    disassemble(alloc, placed.word, text)?;
+    text.push('\n')
+}

@@ -1,0 +1,190 @@
+//! The job of a block file and of the files of its programs.
+
+ghost use Rattle.std.specs.Prelude.{◌≡◌, ◌⊎◌, ◌<◌, ◌≤◌, length, map, vec_len, All, IfOk, IfErr, IfSome, Ok, Some};
+ghost use Rattle.std.specs.Arc.{arc_value};
+ghost use Rattle.std.specs.Option.{option_map};
+ghost use Rattle.std.specs.String.{string_bytes};
+ghost use Rattle.block_file.specs.Block.{block_of, block_value, call_value};
+ghost use Rattle.engines.specs.Engine.{call_over, files_of, program_of, programs_of};
+ghost use Rattle.engines.specs.Parts.{IsBlockFault, IsJobFault, IsProgramFault, loaded_job};
+
+use crate::fault::{FileFault, Refusal};
+use crate::programs::Programs;
+use crate::reading::{read_elf, read_text};
+use block_file::{BlockFault, BlockText, CallLine, Cause, parse};
+use elf32::{ElfError, Image, load};
+use rv_ledger::{Call, Job, Store};
+use std::alloc::{AllocError, Global};
+use std::io::Read;
+use std::sync::Arc;
+
+/// Reads a block file to its end and parses it, opens, reads and loads its programs in the order of
+/// their numbers, and makes its job. The first refusal ends it; it is `memory` where memory for the
+/// calls ran out.
+pub(crate) fn load_job<R: Read, P: Programs>(
+    alloc: Global,
+    block: &mut R,
+    programs: &mut P,
+    memory: Refusal,
+) -> Result<Job, Refusal>
+    ensures ok { IfOk result (λ job. IfSome (R.remaining block.old) (λ input.
+        IfSome (loaded_job (P.content programs.old) (block_of input)) (λ wanted. wanted ≡ Ok job))) }
+    ensures err { IfErr result (λ e. (e ≡ memory) ⊎ IfSome (R.remaining block.old) (λ input.
+        IsJobFault (P.content programs.old) (block_of input) e)) }
+{
+    match read_block(alloc, block) {
+        Ok(text) => load_text(alloc, text, programs, memory),
+        Err(refusal) => Err(refusal),
+    }
+}
+
+/// Reads and parses a block file.
+fn read_block<R: Read>(alloc: Global, block: &mut R) -> Result<BlockText, Refusal>
+    ensures ok { IfOk result (λ text. IfSome (R.remaining block.old) (λ input. block_of input ≡ Ok (block_value text))) }
+    ensures err { IfErr result (λ e. IfSome (R.remaining block.old) (λ input. IsBlockFault (block_of input) e)) }
+{
+    let memory = BlockFault {
+        line: 1,
+        cause: Cause::Memory,
+    };
+    let bytes = match read_text(alloc, block, Refusal::Block(memory)) {
+        Ok(bytes) => bytes,
+        Err(refusal) => return Err(refusal),
+    };
+    match parse(alloc, bytes.as_slice()) {
+        Ok(text) => Ok(text),
+        Err(fault) => Err(Refusal::Block(fault)),
+    }
+}
+
+/// Loads the programs of a block, and makes its job.
+fn load_text<P: Programs>(
+    alloc: Global,
+    text: BlockText,
+    programs: &mut P,
+    memory: Refusal,
+) -> Result<Job, Refusal>
+    ensures ok { IfOk result (λ job. IfSome (loaded_job (P.content programs.old) (Ok (block_value text))) (λ wanted. wanted ≡ Ok job)) }
+    ensures err { IfErr result (λ e. (e ≡ memory) ⊎ IsJobFault (P.content programs.old) (Ok (block_value text)) e) }
+{
+    let BlockText {
+        programs: paths,
+        store,
+        calls,
+    } = text;
+    let images = match load_all(alloc, programs, paths.as_slice()) {
+        Ok(images) => images,
+        Err(refusal) => return Err(refusal),
+    };
+    match job_of(alloc, images.as_slice(), calls, store) {
+        Ok(job) => Ok(job),
+        Err(_) => Err(memory),
+    }
+}
+
+/// Opens, reads and loads the programs in the order of their numbers.
+fn load_all<P: Programs>(
+    alloc: Global,
+    programs: &mut P,
+    paths: &[String],
+) -> Result<Vec<Arc<Image>>, Refusal>
+    ensures all { IfOk result (λ v. vec_len v ≡ length paths.now) }
+    ensures ok { IfOk result (λ v. IfSome (files_of (P.content programs.old) (map string_bytes paths.now)) (λ files.
+        programs_of files ≡ Ok (map arc_value v.items))) }
+    ensures err { IfErr result (λ e. IsProgramFault (option_map programs_of (files_of (P.content programs.old) (map string_bytes paths.now))) e) }
+{
+    let mut images = Vec::new(alloc);
+    for path in paths {
+        let image = match load_one(alloc, programs, path.as_str()) {
+            Ok(image) => image,
+            Err(refusal) => return Err(refusal),
+        };
+        if images.push(image).is_err() {
+            return Err(Refusal::Elf(ElfError::Memory));
+        }
+    }
+    Ok(images)
+}
+
+/// Opens, reads and loads a program.
+fn load_one<P: Programs>(alloc: Global, programs: &mut P, path: &str) -> Result<Arc<Image>, Refusal>
+    ensures same { P.content programs.new ≡ P.content programs.old }
+    ensures ok { IfOk result (λ i. IfSome (P.content programs.old path.now) (λ bytes. program_of bytes ≡ Ok (arc_value i))) }
+    ensures err { IfErr result (λ e. IsProgramFault (option_map program_of (P.content programs.old path.now)) e) }
+{
+    match read_program(alloc, programs, path) {
+        Ok(bytes) => load_program(alloc, bytes.as_slice()),
+        Err(refusal) => Err(refusal),
+    }
+}
+
+/// Opens and reads the file of a program.
+fn read_program<P: Programs>(
+    alloc: Global,
+    programs: &mut P,
+    path: &str,
+) -> Result<Vec<u8>, Refusal>
+    ensures same { P.content programs.new ≡ P.content programs.old }
+    ensures ok { IfOk result (λ v. IfSome (P.content programs.old path.now) (λ bytes. v.items ≡ bytes)) }
+    ensures short { IfOk result (λ v. vec_len v ≤ 131072) }
+    ensures err { IfErr result (λ e. IsProgramFault (option_map program_of (P.content programs.old path.now)) e) }
+{
+    let Ok(mut file) = programs.open(path) else {
+        return Err(Refusal::File(FileFault::Unreadable));
+    };
+    read_elf(alloc, &mut file)
+}
+
+/// Loads the program of a file of at most 131,072 bytes.
+fn load_program(alloc: Global, bytes: &[u8]) -> Result<Arc<Image>, Refusal>
+    requires { length bytes.now ≤ 131072 }
+    ensures ok { IfOk result (λ i. program_of bytes.now ≡ Ok (arc_value i)) }
+    ensures err { IfErr result (λ e. IsProgramFault (Some (program_of bytes.now)) e) }
+{
+    let image = match load(alloc, bytes) {
+        Ok(image) => image,
+        Err(fault) => return Err(Refusal::Elf(fault)),
+    };
+    match Arc::new(alloc, image) {
+        Ok(image) => Ok(image),
+        Err(_) => Err(Refusal::Elf(ElfError::Memory)),
+    }
+}
+
+/// The job of the calls over the loaded programs.
+fn job_of(
+    alloc: Global,
+    images: &[Arc<Image>],
+    lines: Vec<CallLine>,
+    store: Store,
+) -> Result<Job, AllocError>
+    requires few { vec_len lines ≤ 1024 }
+    requires known { All (λ line. line.program < length images.now) lines.items }
+    ensures { IfOk result (λ j. j ≡ record { block = map (call_over (map arc_value images.now)) (map call_value lines.items); store = store }) }
+{
+    let mut calls = Vec::with_capacity(alloc, lines.len())?;
+    for line in lines {
+        calls.push(call_of(images, line)?)?;
+    }
+    let Ok(job) = Job::new(calls, store) else {
+        unreachable!()
+    };
+    Ok(job)
+}
+
+/// The call of a line over the loaded programs.
+fn call_of(images: &[Arc<Image>], line: CallLine) -> Result<Call, AllocError>
+    requires { line.program < length images.now }
+    ensures { IfOk result (λ c. c ≡ call_over (map arc_value images.now) (call_value line)) }
+{
+    let CallLine {
+        program,
+        gas,
+        input,
+    } = line;
+    let image = Arc::try_clone(&images[program])?;
+    let Ok(call) = Call::new(image, gas, input) else {
+        unreachable!()
+    };
+    Ok(call)
+}

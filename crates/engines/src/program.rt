@@ -1,0 +1,140 @@
+//! The program, over any command line, files, output and errors' writer.
+
+use crate::assembling::file_of_source;
+use crate::disk::{Disk, LateFile, ProgramFiles};
+use crate::engine::{drive_to, seq_to};
+use crate::fault::{FileFault, Refusal};
+use crate::listing::dis_to;
+use crate::replacing::replace;
+use crate::reporting::report;
+use cmdline::{Request, request_of};
+use std::alloc::Global;
+use std::io::Write;
+use std::rt::Env;
+use std::{env, io};
+
+/// The exit status of a wrong command line.
+const WRONG_LINE: u8 = 2;
+
+/// Does what the command line asks for, and gives the exit status: 0 where it is done, 1 where it is
+/// refused, 2 where the line is wrong. A text of help is written to the output; what is refused or wrong is
+/// told on the errors' writer.
+pub fn status<R, D, W, E>(rt: &R, disk: &D, out: &mut W, errors: &mut E) -> u8
+where
+    R: Env + AllocGlobal,
+    D: Disk,
+    W: Write,
+    E: Write,
+{
+    let words = match words_of(rt) {
+        Ok(words) => words,
+        Err(error) => {
+            let _ = writeln!(errors, "{}", text_of(&error));
+            return WRONG_LINE;
+        }
+    };
+    match request_of(rt.alloc(), words.as_slice()) {
+        Ok(Some(request)) => match answer(rt.alloc(), disk, request, out) {
+            Ok(()) => 0,
+            Err(refusal) => report(&refusal, errors),
+        },
+        Ok(None) => {
+            let _ = writeln!(errors, "error: a value is missing");
+            WRONG_LINE
+        }
+        Err(error) if error.use_stderr() => {
+            let _ = write!(errors, "{error}");
+            WRONG_LINE
+        }
+        Err(error) => {
+            let _ = write!(out, "{error}");
+            0
+        }
+    }
+}
+
+/// The words of the command line, the program's name first.
+fn words_of<R: Env + AllocGlobal>(rt: &R) -> io::Result<Vec<String>> {
+    let words = env::args(rt)?;
+    Ok(words.collect::<Vec<String>>(rt.alloc())?)
+}
+
+/// What is told of a command line that can't be read.
+fn text_of(error: &io::Error) -> &'static str {
+    match error.kind() {
+        io::ErrorKind::InvalidData => "error: a word of the command line is not UTF-8",
+        _ => "error: out of memory",
+    }
+}
+
+/// Does a request.
+fn answer<D: Disk, W: Write>(
+    alloc: Global,
+    disk: &D,
+    request: Request<'_>,
+    out: &mut W,
+) -> Result<(), Refusal> {
+    match request {
+        Request::Seq { file } => seq(alloc, disk, file, out),
+        Request::Drive {
+            file,
+            workers,
+            schedule,
+        } => drive(alloc, disk, file, workers, schedule, out),
+        Request::Asm { file, out } => asm(alloc, disk, file, out),
+        Request::Dis { file } => dis(alloc, disk, file, out),
+    }
+}
+
+/// Runs the calls of a block file in order and prints the result.
+fn seq<D: Disk, W: Write>(alloc: Global, disk: &D, file: &str, out: &mut W) -> Result<(), Refusal> {
+    let mut block = opened(disk, file)?;
+    seq_to(alloc, &mut block, &mut ProgramFiles { disk }, out)
+}
+
+/// Runs the calls of a block file along a schedule, whose file is opened behind those of the programs,
+/// and prints the result.
+fn drive<D: Disk, W: Write>(
+    alloc: Global,
+    disk: &D,
+    file: &str,
+    workers: usize,
+    schedule: &str,
+    out: &mut W,
+) -> Result<(), Refusal> {
+    let mut block = opened(disk, file)?;
+    let mut schedule = LateFile {
+        disk,
+        path: schedule,
+        file: None,
+    };
+    drive_to(
+        alloc,
+        &mut block,
+        &mut ProgramFiles { disk },
+        &mut schedule,
+        workers,
+        out,
+    )
+}
+
+/// Assembles a source and puts its ELF file at a path, which stays as it was where this is refused.
+fn asm<D: Disk>(alloc: Global, disk: &D, file: &str, out: &str) -> Result<(), Refusal> {
+    let mut source = opened(disk, file)?;
+    let bytes = file_of_source(alloc, &mut source)?;
+    replace(alloc, disk, out, bytes.as_slice())
+}
+
+/// Prints the instructions of an ELF file.
+fn dis<D: Disk, W: Write>(alloc: Global, disk: &D, file: &str, out: &mut W) -> Result<(), Refusal> {
+    let mut file = opened(disk, file)?;
+    dis_to(alloc, &mut file, out)
+}
+
+/// Opens a file to read it.
+fn opened<D: Disk>(disk: &D, path: &str) -> Result<D::File, Refusal> {
+    match disk.open(path) {
+        Ok(file) => Ok(file),
+        Err(_) => Err(Refusal::File(FileFault::Unreadable)),
+    }
+}

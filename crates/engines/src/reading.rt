@@ -1,0 +1,83 @@
+//! Reading files to their ends.
+
+ghost use Rattle.std.specs.Prelude.{◌≡◌, ◌⊎◌, ◌<◌, ◌≤◌, length, vec_len, IfOk, IfErr, IfSome, Option, Some};
+ghost use Rattle.std.specs.Option.{option_map};
+ghost use Rattle.engines.specs.Engine.{program_of};
+ghost use Rattle.engines.specs.Parts.{IsProgramFault};
+
+use crate::fault::{FileFault, Refusal};
+use elf32::ElfError;
+use std::alloc::Global;
+use std::io::Read;
+
+/// The greatest length of a program file, in bytes.
+const PROGRAM_FILE_LIMIT: usize = 131_072;
+
+/// Why a file is not read.
+#[derive(Clone, Copy, Debug, PartialEq, Eq)]
+enum ReadFault {
+    /// A read failed.
+    Unreadable,
+    /// There are more bytes than allowed.
+    TooLong,
+    /// Memory ran out.
+    Memory,
+}
+
+/// All the bytes that a reader has left. Refused as TooLong where there are more than `limit`, as
+/// Unreadable where a read failed, or where memory ran out.
+fn read_whole<R: Read>(alloc: Global, reader: &mut R, limit: usize) -> Result<Vec<u8>, ReadFault>
+    ensures ok { IfOk result (λ v. IfSome (R.remaining reader.old) (λ bytes. v.items ≡ bytes)) }
+    ensures short { IfOk result (λ v. vec_len v ≤ limit) }
+    ensures long { IfErr result (λ e. e ≡ ReadFault.TooLong → IfSome (R.remaining reader.old) (λ bytes. limit < length bytes)) }
+{
+    let mut all = Vec::new(alloc);
+    let mut part = [0u8; 1024];
+    for _ in 0..u64::MAX {
+        let Ok(count) = reader.read(&mut part) else {
+            return Err(ReadFault::Unreadable);
+        };
+        if count == 0 {
+            return Ok(all);
+        }
+        if count > limit - all.len() {
+            return Err(ReadFault::TooLong);
+        }
+        if all.extend_from_slice(&part[..count]).is_err() {
+            return Err(ReadFault::Memory);
+        }
+    }
+    Err(ReadFault::Unreadable)
+}
+
+/// All the bytes that a reader of a text has left. Refused as Unreadable where a read failed, and as
+/// `memory` where memory ran out.
+pub(crate) fn read_text<R: Read>(
+    alloc: Global,
+    reader: &mut R,
+    memory: Refusal,
+) -> Result<Vec<u8>, Refusal>
+    ensures ok { IfOk result (λ v. IfSome (R.remaining reader.old) (λ bytes. v.items ≡ bytes)) }
+    ensures err { IfErr result (λ e. (e ≡ memory) ⊎ (e ≡ Refusal.File FileFault.Unreadable)) }
+{
+    match read_whole(alloc, reader, usize::MAX) {
+        Ok(bytes) => Ok(bytes),
+        Err(ReadFault::Memory | ReadFault::TooLong) => Err(memory),
+        Err(ReadFault::Unreadable) => Err(Refusal::File(FileFault::Unreadable)),
+    }
+}
+
+/// All the bytes that a reader of a program file has left. Refused as TooLong where there are more than
+/// 131,072, as Unreadable where a read failed, or where memory ran out.
+pub(crate) fn read_elf<R: Read>(alloc: Global, reader: &mut R) -> Result<Vec<u8>, Refusal>
+    ensures ok { IfOk result (λ v. IfSome (R.remaining reader.old) (λ bytes. v.items ≡ bytes)) }
+    ensures short { IfOk result (λ v. vec_len v ≤ 131072) }
+    ensures err { IfErr result (λ e. IsProgramFault (option_map program_of (R.remaining reader.old)) e) }
+{
+    match read_whole(alloc, reader, PROGRAM_FILE_LIMIT) {
+        Ok(bytes) => Ok(bytes),
+        Err(ReadFault::Memory) => Err(Refusal::Elf(ElfError::Memory)),
+        Err(ReadFault::TooLong) => Err(Refusal::File(FileFault::TooLong)),
+        Err(ReadFault::Unreadable) => Err(Refusal::File(FileFault::Unreadable)),
+    }
+}

@@ -1,0 +1,35 @@
+-- Where a step may be refused for want of memory.
+use Rattle.std.specs.Prelude.{ℕ, Bool, true, false, Option, Some, None, Result, Ok, Err, IsTrue}
+use Rattle.rv_isa.specs.Decoded.{decoded}
+use Rattle.rv_isa.specs.declared.instruction.Instr.{Instr}
+use Rattle.rv_isa.specs.declared.instruction.Instr.TheVariants.{Store, Ecall}
+use Rattle.rv_mem.specs.Space.{loaded}
+use Rattle.rv_mem.specs.declared.access.Access.TheVariants as access
+use Rattle.rv_mem.specs.declared.fault.Fault.{Fault}
+use Rattle.rv_step.specs.declared.machine.Machine.{Machine}
+use Rattle.rv_step.specs.Step.{StepResult, Next, step}
+
+-- the instruction of a word that was fetched
+abbrev pub fetched_instruction : Result ℕ Fault → Option Instr
+fetched_instruction (Ok word) = decoded word
+fetched_instruction (Err fault) = None
+
+-- the instruction at which a machine stands, if there is one
+abbrev pub instruction_at : Machine → Option Instr
+instruction_at s = fetched_instruction (loaded 4 access.Execute s.memory s.pc)
+
+-- a store changes memory; an ECALL may copy a value into it or record a write
+abbrev pub may_grow : Option Instr → Bool
+may_grow (Some (Store kind source base offset)) = true
+may_grow (Some Ecall) = true
+may_grow _ = false
+
+-- the call goes on after the step
+abbrev pub goes_on : StepResult → Bool
+goes_on (Next t) = true
+goes_on _ = false
+
+-- the machine's next step takes memory: it is a store or an ECALL after which the call goes on, so that it neither
+-- traps, nor runs out of gas, nor asks the storage, nor ends the call
+abbrev pub TakesMemory : Machine → Type 0
+TakesMemory s = IsTrue (may_grow (instruction_at s)) × IsTrue (goes_on (step s))

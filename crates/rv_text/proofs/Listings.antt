@@ -1,0 +1,126 @@
+-- The texts of words, each on a line of its own, are the source of these words.
+use Rattle.std.proofs.Common.{◌≡◌, ℕ, ◌+◌, ◌*◌, ◌≤◌, ◌==◌, false, nat_lt, List, [], ◌∷◌, ◌++◌, length, map, All, Option, None, Result, Ok, Err, refl, sym, ap, ◌∙◌, append_assoc, append-nil, arith}
+use Rattle.std.specs.Prelude.{codes}
+use Rattle.std.specs.List.{list_any, slice_split}
+use Rattle.std.specs.Result.{result_map_both}
+use Rattle.std.proofs.lemmas.Bool.Decides.{nat_tests}
+use Rattle.std.proofs.lemmas.List.Elements.{All-cons, All-head, All-tail}
+use Rattle.std.proofs.lemmas.List.Splits.{slice_split_at}
+use Rattle.rv_names.specs.Operands.{trimmed}
+use Rattle.rv_names.specs.Line.{line_of, content_of, label_of, body_of, command_of}
+use Rattle.rv_names.specs.Text.{word_text}
+use Rattle.rv_names.specs.declared.lines.Cause.{Cause}
+use Rattle.rv_names.specs.declared.lines.Line.{Line}
+use Rattle.rv_names.specs.declared.lines.Section.TheVariants.{Text}
+use Rattle.rv_names.specs.declared.lines.Statement.{Statement}
+use Rattle.rv_names.specs.declared.lines.Statement.TheVariants.{Empty, Plain, Pair, BranchTo, JumpTo, AddressOf, WordValue, ByteValue, ZeroBytes, Enter}
+use Rattle.rv_program.specs.Sections.{Sections}
+use Rattle.rv_text.specs.declared.fault.AsmCause.{AsmCause}
+use Rattle.rv_text.specs.declared.fault.AsmError.{AsmError}
+use Rattle.rv_text.specs.Assembly.{Item, Labels, SourceLayout, empty_layout, on_line, place_in, with_label, with_text, with_statement, with_line, layout_from, words_of_item, words_of, program_from, assembled}
+use Rattle.rv_text.specs.Back.{IsWord, IsLineOf, IsReadBack, IsAssembledBack, listing}
+use Rattle.rv_text.proofs.Cuts.{neither}
+use Rattle.rv_text.proofs.LineFeeds.{word_text_is_one_line}
+
+-- ---- the lines of a listing
+
+lacks : (text : List ℕ) → list_any (λ b. b == 10) text ≡ false → All (λ b. (b == 10) ≡ false) text
+lacks [] h = λ k d b. absurd (omega arith)
+lacks (b ∷ text) h =
+    let parts = neither (b == 10) _ h in
+    All-cons (λ x. (x == 10) ≡ false) b text parts.0 (lacks text parts.1)
+
+lines_of : (words : List ℕ) → slice_split (λ b. b == 10) (listing words) ≡ map word_text words ++ [] ∷ []
+lines_of [] = refl
+lines_of (word ∷ words) =
+    ap (slice_split (λ b. b == 10)) (append_assoc (word_text word) (codes "\n") (listing words))
+    ∙ slice_split_at (λ b. b == 10) (word_text word) 10 (listing words) (lacks (word_text word) (word_text_is_one_line word)) refl
+    ∙ ap (λ (t : List (List ℕ)). word_text word ∷ t) (lines_of words)
+
+-- ---- one word more
+
+abbrev pushed : {E : Type 0} → ℕ → Result (List ℕ) E → Result (List ℕ) E
+pushed word r = result_map_both (λ words. words ++ word ∷ []) (λ fault. fault) r
+
+through : (n word : ℕ) (a : Result (List ℕ) AsmCause) (b : Result (List ℕ) AsmError)
+    → on_line n a (λ words. result_map_both (λ more. words ++ more) (λ fault. fault) (pushed word b)) ≡ pushed word (on_line n a (λ words. result_map_both (λ more. words ++ more) (λ fault. fault) b))
+through n word (Ok front) (Ok words) = ap (λ (ws : List ℕ). Ok ws) (sym (append_assoc front words (word ∷ [])))
+through n word (Ok front) (Err fault) = refl
+through n word (Err cause) b = refl
+
+one_more : (labels : Labels) (items : List Item) (item : Item) (word : ℕ) → words_of_item labels item ≡ Ok (word ∷ []) → words_of labels (items ++ item ∷ []) ≡ pushed word (words_of labels items)
+unfolding words_of
+one_more labels [] item word e = rw e refl
+one_more labels (x ∷ items) item word e =
+    ap (λ r. on_line x.line (words_of_item labels x) (λ words. result_map_both (λ more. words ++ more) (λ fault. fault) r)) (one_more labels items item word e)
+    ∙ through x.line word (words_of_item labels x) (words_of labels items)
+
+-- ---- what the lines lay down
+
+-- behind lines of words and no other
+abbrev state : List Item → ℕ → SourceLayout
+state items size = record { section = Text; items = items; text_size = size; data_bytes = []; labels = [] }
+
+abbrev only_words : List ℕ → Result Sections AsmError
+only_words words = Ok (record { text = words; data_bytes = [] })
+
+-- what the lines from n on give behind these statements
+abbrev rest_gives : ℕ → List (List ℕ) → List Item → ℕ → Result Sections AsmError
+rest_gives n texts items size = program_from (layout_from n texts (state items size))
+
+fits : (size : ℕ) → size + 4 ≤ 65536 → nat_lt 65536 (size + 4) ≡ false
+fits size h = grind (arith, nat_tests)
+
+module _ (n size word : ℕ) (items : List Item) (front : List ℕ) (texts : List (List ℕ)) (wanted : Result Sections AsmError)
+    (before : words_of [] items ≡ Ok front) (room : size + 4 ≤ 65536)
+    (then : (item : Item) → words_of [] (items ++ item ∷ []) ≡ Ok (front ++ word ∷ []) → rest_gives (n + 1) texts (items ++ item ∷ []) (size + 4) ≡ wanted) where
+  laid_item : (item : Item) → words_of_item [] item ≡ Ok (word ∷ []) → rest_gives (n + 1) texts (items ++ item ∷ []) (size + 4) ≡ wanted
+  laid_item item e = then item (one_more [] items item word e ∙ ap (pushed word) before)
+
+  stated : (label target : Option (List ℕ)) (statement : Statement) → IsWord statement word
+      → program_from (on_line n (with_statement n (record { label = label; statement = statement; target = target }) statement (state items size)) (λ l. layout_from (n + 1) texts l)) ≡ wanted
+  unfolding with_text words_of_item
+  stated label target (Plain instr) e =
+      rw (fits size room) (laid_item (record { line = n; address = place_in Text (state items size); statement = Plain instr; target = target }) (ap (λ w. Ok (w ∷ [])) e))
+  stated label target (WordValue value) e =
+      rw (fits size room) (laid_item (record { line = n; address = place_in Text (state items size); statement = WordValue value; target = target }) (ap (λ w. Ok (w ∷ [])) e))
+  stated label target Empty h = absurd h
+  stated label target (Pair first second) h = absurd h
+  stated label target (BranchTo condition left right) h = absurd h
+  stated label target (JumpTo rd) h = absurd h
+  stated label target (AddressOf rd) h = absurd h
+  stated label target (ByteValue value) h = absurd h
+  stated label target (ZeroBytes count) h = absurd h
+  stated label target (Enter section) h = absurd h
+
+  line_read : (text : List ℕ) (r : Result (Line (List ℕ)) Cause) → line_of Text text ≡ r → IsLineOf word r → rest_gives n (text ∷ texts) items size ≡ wanted
+  unfolding layout_from with_line with_label
+  line_read text (Ok line) e h = rw (e, h.0) (stated None line.target line.statement h.1)
+  line_read text (Err cause) e h = absurd h
+
+empty_line : (n : ℕ) (items : List Item) (size : ℕ) → rest_gives n ([] ∷ []) items size ≡ program_from (Ok (state items size))
+unfolding layout_from with_line with_label line_of content_of label_of body_of command_of trimmed
+empty_line n items size = refl
+
+lines_read : (n size : ℕ) (items : List Item) (front words : List ℕ) → words_of [] items ≡ Ok front → All IsReadBack words → size + 4 * length words ≤ 65536
+    → rest_gives n (map word_text words ++ [] ∷ []) items size ≡ only_words (front ++ words)
+lines_read n size items front [] before h room =
+    empty_line n items size
+    ∙ ap (λ r. result_map_both (λ text. (record { text = text; data_bytes = [] })) (λ fault. fault) r) before
+    ∙ ap only_words (sym (append-nil front))
+lines_read n size items front (word ∷ words) before h room =
+    line_read n size word items front (map word_text words ++ [] ∷ []) (only_words (front ++ word ∷ words)) before (omega arith)
+    (λ item more. lines_read (n + 1) (size + 4) (items ++ item ∷ []) (front ++ word ∷ []) words more (All-tail IsReadBack word words h) (omega arith)
+    ∙ ap only_words (append_assoc front (word ∷ []) words))
+    (word_text word) (line_of Text (word_text word)) refl (All-head IsReadBack word words h)
+
+no_words : words_of [] [] ≡ Ok []
+unfolding words_of
+no_words = refl
+
+-- words that fit in text, each of which is read back
+pub assembled_listing : (words : List ℕ) → All IsReadBack words → 4 * length words ≤ 65536 → IsAssembledBack words
+unfolding assembled
+assembled_listing words h room =
+    ap (λ texts. program_from (layout_from 1 texts empty_layout)) (lines_of words)
+    ∙ lines_read 1 0 [] [] words no_words h (omega arith)

@@ -1,4 +1,0 @@
-pub mod Engine
-pub mod Listing
-pub mod Parts
-pub mod Driving

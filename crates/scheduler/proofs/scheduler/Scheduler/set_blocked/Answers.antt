@@ -1,0 +1,9 @@
+use Rattle.scheduler.specs.Workers.{blocked_on}
+use Rattle.scheduler.proofs.Seen.{rooms_kept, task_changed}
+use Rattle.scheduler.proofs.scheduler.Scheduler.set_blocked.Goals as goal
+
+pub returns-clause-state : goal.returns-clause-state
+returns-clause-state c = task_changed c.self.inside.calls.items c.self.inside.execution c.self.inside.validation c.self.inside.workers.items c.args.worker c.args.self.now c.self.view_is c.requires c.index_mut.result.now c.block.new.self c.index_mut.ensures.value (blocked_on c.args.on) c.index_mut.result.now.room c.block.ensures
+
+pub returns-clause-rooms : goal.returns-clause-rooms
+returns-clause-rooms c = rooms_kept c.self.inside.calls.items c.self.inside.execution c.self.inside.validation c.self.inside.workers.items c.args.worker c.args.self.now c.self.view_is c.requires c.index_mut.result.now c.block.new.self c.index_mut.ensures.value

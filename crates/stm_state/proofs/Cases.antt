@@ -1,0 +1,67 @@
+-- The steps that are made, by the worker's task.
+use Rattle.std.proofs.Common.{◌≡◌, ◌<◌, ◌+◌, nat_lt, nat_le, ℕ, Bool, true, false, cond, if◌then◌else◌, List, Option, None, Some, Result, Ok, Err, refl, subst}
+use Rattle.std.specs.FinMap.{len}
+use Rattle.rv_ledger.specs.declared.receipt.Receipt.{Receipt}
+use Rattle.rv_step.specs.Replies.{replies_of}
+use Rattle.rv_step.specs.declared.answer.StorageAnswer.{StorageAnswer}
+use Rattle.stm_state.specs.declared.state.Task.{Task}
+use Rattle.stm_state.specs.declared.state.Task.TheVariants.{Idle, Running, Validating}
+use Rattle.stm_state.specs.Limits.{record_limit, incarnation_limit}
+use Rattle.stm_state.specs.State.{State, call_at, task_at}
+use Rattle.stm_state.specs.Steps.{Block, Step, Ask, Read_key, Park, Record, Validate, Limit, ArenaFull, IncarnationLimit, counted, one_step, one_asking, one_execution, one_validation, asked, read_at, decided, parked, recorded, validated, record_within, step_with, worker_step}
+use Rattle.stm_state.proofs.Tests.{not_le_says}
+
+-- a step has one result
+pub same_state : (s t : State) → ◌≡◌ {A = Option (Result State Limit)} (Some (Ok s)) (Some (Ok t)) → s ≡ t
+same_state s t h = cc
+
+-- a step that is not due has none
+pub none_ok : (t : State) → ◌≡◌ {A = Option (Result State Limit)} None (Some (Ok t)) → ⊥
+none_ok t h = cc
+
+-- nor has one that is refused
+pub err_ok : (e : Limit) (t : State) → ◌≡◌ {A = Option (Result State Limit)} (Some (Err e)) (Some (Ok t)) → ⊥
+err_ok e t h = cc
+
+-- a step of a worker is made, and comes to a state
+pub data IsMade (block : Block) (w : ℕ) (s : State) : Step → State → Type 0 where
+  by_ask : task_at s w ≡ Idle → IsMade block w s Ask (counted one_asking w (asked w s))
+  by_read : (i : ℕ) (answers : List StorageAnswer) (key : List ℕ) → task_at s w ≡ Running i answers None → IsMade block w s (Read_key key) (counted one_step w (read_at block.base key w i answers s))
+  by_park : (i b : ℕ) (answers : List StorageAnswer) → task_at s w ≡ Running i answers (Some b) → (call_at s i).incarnation < incarnation_limit → IsMade block w s Park (counted one_step w (parked w i b s))
+  by_record : (i : ℕ) (answers : List StorageAnswer) (receipt : Receipt) → task_at s w ≡ Running i answers None → block.borne_out i (replies_of answers) ≡ Some receipt → (call_at s i).incarnation < incarnation_limit
+      → IsMade block w s Record (counted one_execution w (recorded w i answers receipt s))
+  by_validate : (i n left : ℕ) → task_at s w ≡ Validating i n left → IsMade block w s Validate (counted (if decided i n left s then one_validation else one_step) w (validated w i n s))
+
+module _ (block : Block) (w : ℕ) (s t : State) where
+  -- a state that it comes to
+  comes : (step : Step) (u : State) → IsMade block w s step u → ◌≡◌ {A = Option (Result State Limit)} (Some (Ok u)) (Some (Ok t)) → IsMade block w s step t
+  comes step u h k = subst (IsMade block w s step) (same_state u t k) h
+
+  -- a record within the limits
+  record_made : (i : ℕ) (answers : List StorageAnswer) (o : Option Receipt) → task_at s w ≡ Running i answers None → block.borne_out i (replies_of answers) ≡ o → record_within i answers w o s ≡ Some (Ok t) → IsMade block w s Record t
+  record_made i answers None at e k = absurd (none_ok t k)
+  record_made i answers (Some receipt) at e k = go (nat_lt record_limit (s.placed + len receipt.writes)) (nat_le incarnation_limit (call_at s i).incarnation) refl k
+    where
+      go : (full spent : Bool) → nat_le incarnation_limit (call_at s i).incarnation ≡ spent → cond full (Some (Err ArenaFull)) (cond spent (Some (Err IncarnationLimit)) (Some (Ok (counted one_execution w (recorded w i answers receipt s))))) ≡ Some (Ok t) → IsMade block w s Record t
+      go true spent below k = absurd (err_ok ArenaFull t k)
+      go false true below k = absurd (err_ok IncarnationLimit t k)
+      go false false below k = comes Record _ (by_record i answers receipt at e (not_le_says incarnation_limit (call_at s i).incarnation below)) k
+
+  -- parking within the limit
+  park_made : (i b : ℕ) (answers : List StorageAnswer) → task_at s w ≡ Running i answers (Some b) → (spent : Bool) → nat_le incarnation_limit (call_at s i).incarnation ≡ spent
+      → cond spent (Some (Err IncarnationLimit)) (Some (Ok (counted one_step w (parked w i b s)))) ≡ Some (Ok t) → IsMade block w s Park t
+  park_made i b answers at true below k = absurd (err_ok IncarnationLimit t k)
+  park_made i b answers at false below k = comes Park _ (by_park i b answers at (not_le_says incarnation_limit (call_at s i).incarnation below)) k
+
+  -- by the task
+  made_by : (task : Task) → task_at s w ≡ task → (step : Step) → step_with block w task step s ≡ Some (Ok t) → IsMade block w s step t
+  made_by Idle at Ask k = comes Ask _ (by_ask at) k
+  made_by (Running i answers None) at (Read_key key) k = comes (Read_key key) _ (by_read i answers key at) k
+  made_by (Running i answers (Some b)) at Park k = park_made i b answers at (nat_le incarnation_limit (call_at s i).incarnation) refl k
+  made_by (Running i answers None) at Record k = record_made i answers (block.borne_out i (replies_of answers)) at refl k
+  made_by (Validating i n left) at Validate k = comes Validate _ (by_validate i n left at) k
+  made_by task at step k = absurd (none_ok t k)
+
+  -- a step that a state follows is made
+  pub made : (step : Step) → worker_step block w step s ≡ Some (Ok t) → IsMade block w s step t
+  made step k = made_by (task_at s w) refl step k

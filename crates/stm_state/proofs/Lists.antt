@@ -1,0 +1,30 @@
+-- Small facts on lists.
+use Rattle.std.proofs.Common.{◌≡◌, ◌&&◌, ℕ, zero, suc, Bool, List, [], ◌∷◌, ◌++◌, length, replicate, get_or, arith, refl, ap, ◌∙◌}
+use Rattle.std.specs.List.{AllByRecursion, list_all}
+
+-- a list of one thing at an index, also past the end
+pub replicated : {X : Type 0} (n i : ℕ) (d : X) → get_or (replicate n d) i d ≡ d
+replicated zero i d = refl
+replicated (suc n) zero d = refl
+replicated (suc n) (suc i) d = replicated n i d
+
+-- the one element of a list
+pub one_element : {X : Type 0} (xs : List X) (d x : X) → length xs ≡ 1 → get_or xs 0 d ≡ x → xs ≡ x ∷ []
+one_element [] d x size h = absurd (omega (arith, size))
+one_element (y ∷ []) d x size h = ap (λ z. z ∷ []) h
+one_element (y ∷ other ∷ xs) d x size h = absurd (omega (arith, size))
+
+-- tests that agree hold of the same lists
+pub all_same : {X : Type 0} (p q : X → Bool) → ((x : X) → p x ≡ q x) → (xs : List X) → list_all p xs ≡ list_all q xs
+all_same p q h [] = refl
+all_same p q h (x ∷ xs) = ap (λ b. b && list_all p xs) (h x) ∙ ap (λ b. q x && b) (all_same p q h xs)
+
+-- what holds of the elements of two lists holds of them joined
+pub all_append : {X : Type 0} (P : X → Type 0) (xs ys : List X) → AllByRecursion P xs → AllByRecursion P ys → AllByRecursion P (xs ++ ys)
+all_append P [] ys h k = k
+all_append P (x ∷ xs) ys h k = (h.0, all_append P xs ys h.1 k)
+
+-- what holds of the elements of two lists joined holds of the first
+pub all_before : {X : Type 0} (P : X → Type 0) (xs ys : List X) → AllByRecursion P (xs ++ ys) → AllByRecursion P xs
+all_before P [] ys h = tt
+all_before P (x ∷ xs) ys h = (h.0, all_before P xs ys h.1)

@@ -1,0 +1,332 @@
+-- One worker on a block: where each of its calls is, and what its next step comes to, whatever keys its runs read.
+use Rattle.std.proofs.Common.{◌≡◌, ◌<◌, ◌≢◌, ◌+◌, ◌&&◌, ◌==◌, not, nat_lt, min, ℕ, suc, Bool, true, false, cond, List, [], ◌∷◌, ◌++◌, length, map, get_or, set, Option, None, Some, arith, refl, sym, ap, subst, ◌∙◌, inl, inr}
+use Rattle.std.specs.Cmp.Derive.{both_true}
+use Rattle.std.specs.List.{list_all}
+use Rattle.std.specs.FinMap.{get, len}
+use Rattle.std.proofs.lemmas.Bool.{cases_eq, cases_lt, cond-true, cond-false}
+use Rattle.std.proofs.lemmas.Grind.{get_or-set_at}
+use Rattle.std.proofs.lemmas.List.{get_or-set_other, map-append}
+use Rattle.std.proofs.lemmas.List.Folds.{list_all-append}
+use Rattle.version_arena.specs.ArenaState.{Content}
+use Rattle.rv_ledger.specs.Key.{Storage}
+use Rattle.rv_ledger.specs.declared.outcome.Counts.{Counts}
+use Rattle.rv_ledger.specs.declared.receipt.Receipt.{Receipt}
+use Rattle.read_set.specs.declared.Origin.TheVariants as origin
+use Rattle.read_set.specs.declared.Read.{Read}
+use Rattle.rv_step.specs.declared.answer.StorageAnswer.{StorageAnswer}
+use Rattle.mvmap.specs.Versions.{Estimate, entry_at}
+use Rattle.mvmap.specs.Reading.{Visible, Base, Found, Blocked, visible_below, is_origin, stands, value_seen}
+use Rattle.mvmap.proofs.Readings.{is_blocked, blocked_at, seen_same}
+use Rattle.stm_state.specs.declared.state.Status.{Status}
+use Rattle.stm_state.specs.declared.state.Status.TheVariants.{Ready, Executing, Executed}
+use Rattle.stm_state.specs.declared.state.CallState.{CallState}
+use Rattle.stm_state.specs.declared.state.Task.{Task}
+use Rattle.stm_state.specs.declared.state.Task.TheVariants.{Idle, Running, Validating}
+use Rattle.stm_state.specs.State.{State, fresh, start, call_at, task_at, with_call, with_task, is_ready, is_executed, is_aborting, is_idle, is_done}
+use Rattle.stm_state.specs.Steps.{Block, read_of, reads_of, counted, one_asking, one_execution, ask_validation, ask_execution, asked, count_done, answered_with, recorded_versions, is_some_of, is_parked_on, resume_if_parked, lowered, resume_dependents, to_validate, recorded_run, has_new_key, recorded, is_executed_at, all_stand, validated}
+use Rattle.stm_state.specs.Invariant.{view_of, ViewInvariant, Invariant, write_of, entry_by}
+use Rattle.stm_state.proofs.Tests.{equal_itself, lt_is, not_lt_is}
+use Rattle.stm_state.proofs.Writes.{moved_other}
+use Rattle.stm_state.proofs.Lists.{replicated, all_same}
+use Rattle.stm_state.proofs.Whole.{start_kept}
+use Rattle.stm_state.proofs.Serials.{IsOver, over_at_done}
+
+-- ---- where each call is
+
+-- a call that was run once
+pub record IsRunOnce (c : CallState) : Type 0 where
+  pub status : c.status ≡ Executed
+  pub incarnation : c.incarnation ≡ 0
+
+-- a call that is run for the first time
+abbrev pub begun : CallState
+begun = record { status = Executing; incarnation = 0; parked = None; last = None }
+
+-- the calls below m were run once, call m is as told, and those above are as at the start
+pub record Stage (block : Block) (m : ℕ) (own : CallState) (execution validation : ℕ) (task : Task) (s : State) : Type 0 where
+  pub inv : Invariant block 1 s
+  pub runs_from : s.execution ≡ execution
+  pub checks_from : s.validation ≡ validation
+  pub does : task_at s 0 ≡ task
+  pub below : (j : ℕ) → j < m → IsRunOnce (call_at s j)
+  pub here : call_at s m ≡ own
+  pub above : (j : ℕ) → m < j → call_at s j ≡ fresh
+
+-- so it is at the start
+pub first_stage : (block : Block) → Stage block 0 fresh 0 0 Idle (start block.count 1)
+first_stage block = record {
+  inv = start_kept block 1;
+  runs_from = refl;
+  checks_from = refl;
+  does = replicated 1 0 Idle;
+  below = λ j l. absurd (omega (arith, l));
+  here = replicated block.count 0 fresh;
+  above = λ j l. replicated block.count j fresh;
+}
+
+-- where call m is yet to be run each call is at its incarnation 0
+pub all_first : (block : Block) (m e v : ℕ) (task : Task) (s : State) → Stage block m fresh e v task s → (i : ℕ) → (call_at s i).incarnation ≡ 0
+all_first block m e v task s now i = elim (cases_lt i m) [
+  | inl low ↦ (now.below i low).incarnation
+  | inr high ↦ elim (cases_eq i m) [
+    | inl is ↦ ap (λ (x : CallState). x.incarnation) (ap (call_at s) is ∙ now.here)
+    | inr ne ↦ ap (λ (x : CallState). x.incarnation) (now.above i (omega (arith, high, ne)))
+  ]
+]
+
+-- ---- tests that come out so
+
+-- where the workers cannot be done, the test says so
+pub not_done : (block : Block) (workers : ℕ) (s : State) → Invariant block workers s → (IsOver block s → ⊥) → is_done s ≡ false
+not_done block workers s inv never = go (is_done s) refl
+  where
+    go : (b : Bool) → is_done s ≡ b → b ≡ false
+    go true h = absurd (never (over_at_done block workers s inv h))
+    go false h = refl
+
+-- the only task
+one_idle : (tasks : List Task) → length tasks ≡ 1 → get_or tasks 0 Idle ≡ Idle → list_all is_idle tasks ≡ true
+one_idle [] size h = refl
+one_idle (task ∷ []) size h = ap (λ x. is_idle x && true) h
+one_idle (task ∷ other ∷ tasks) size h = absurd (omega (arith, size))
+
+-- one worker is done where both indices are past the last call and it has no task
+pub is_over : (block : Block) (s : State) → Invariant block 1 s → s.execution ≡ block.count → s.validation ≡ block.count → task_at s 0 ≡ Idle → is_done s ≡ true
+unfolding is_done
+is_over block s inv runs checks does =
+    let n = inv.sized.calls in
+    both_true (both_true (ap (λ x. x == length s.calls) (runs ∙ sym n) ∙ equal_itself (length s.calls)) (ap (λ x. x == length s.calls) (checks ∙ sym n) ∙ equal_itself (length s.calls)))
+    (one_idle s.tasks inv.sized.tasks does)
+
+-- a call that isn't ABORTING is parked on none
+calm : (i : ℕ) (c : CallState) (st : Status) → c.status ≡ st → is_aborting st ≡ false → is_parked_on i c ≡ false
+calm i c st h k = ap (λ x. is_aborting x && is_some_of c.parked i) h ∙ ap (λ b. b && is_some_of c.parked i) k
+
+-- where no call is parked on call i, all stay
+none_readied : (i : ℕ) (calls : List CallState) → ((j : ℕ) → is_parked_on i (get_or calls j fresh) ≡ false) → map (resume_if_parked i) calls ≡ calls
+none_readied i [] h = refl
+none_readied i (c ∷ calls) h =
+    ap (λ x. x ∷ map (resume_if_parked i) calls) (cond-false (is_parked_on i c) _ _ (h 0)) ∙ ap (λ xs. c ∷ xs) (none_readied i calls (λ j. h (suc j)))
+
+none_lowered : (i x p : ℕ) (calls : List CallState) → ((j : ℕ) → is_parked_on i (get_or calls j fresh) ≡ false) → lowered i x p calls ≡ x
+none_lowered i x p [] h = refl
+none_lowered i x p (c ∷ calls) h = none_lowered i (cond (is_parked_on i c) (min x p) x) (p + 1) calls (λ j. h (suc j)) ∙ cond-false (is_parked_on i c) (min x p) x (h 0)
+
+none_resumed : (i : ℕ) (s : State) → ((j : ℕ) → is_parked_on i (call_at s j) ≡ false) → resume_dependents i s ≡ s
+unfolding resume_dependents
+none_resumed i s h =
+    ap (λ calls. record s { calls = calls; execution = lowered i s.execution 0 s.calls }) (none_readied i s.calls h)
+    ∙ ap (λ e. record s { execution = e }) (none_lowered i s.execution 0 s.calls h)
+
+-- ---- what a run is answered
+
+-- an answer from what is seen, where it is not blocked
+pub record Answered (store : Storage) (key : List ℕ) (i : ℕ) (answers : List StorageAnswer) (seen : Visible) : Type 0 where
+  pub answer : StorageAnswer
+  pub task : answered_with store key i answers seen ≡ Running i (answers ++ answer ∷ []) None
+  pub at : answer.key ≡ key
+  pub value : answer.value ≡ value_seen (get store key) seen
+  pub stand : is_origin answer.origin seen ≡ true
+
+pub answered_by : (store : Storage) (key : List ℕ) (i : ℕ) (answers : List StorageAnswer) (seen : Visible) → is_blocked seen ≡ false → Answered store key i answers seen
+answered_by store key i answers Base h = record { answer = record { key = key; value = get store key; origin = origin.Base }; task = refl; at = refl; value = refl; stand = refl }
+answered_by store key i answers (Found w n content) h = record {
+  answer = record { key = key; value = content; origin = origin.Version w n };
+  task = refl;
+  at = refl;
+  value = refl;
+  stand = both_true (equal_itself w) (equal_itself n);
+}
+answered_by store key i answers (Blocked b) h = cc
+
+module _ (block : Block) (s : State) where
+  -- where the calls below d were run once no read of call d is blocked
+  pub clear_below : ViewInvariant block (view_of s) → (d : ℕ) → ((j : ℕ) → j < d → IsRunOnce (call_at s j)) → (key : List ℕ) → is_blocked (visible_below (entry_at s.versions key) d) ≡ false
+  clear_below f d below key = go (visible_below (entry_at s.versions key) d) refl
+    where
+      no_estimate : (n : ℕ) (o : Option Content) → entry_by true n o ≡ Some Estimate → ⊥
+      no_estimate n None h = cc
+      no_estimate n (Some content) h = cc
+
+      go : (seen : Visible) → visible_below (entry_at s.versions key) d ≡ seen → is_blocked seen ≡ false
+      go Base e = refl
+      go (Found w n content) e = refl
+      go (Blocked b) e =
+          let from = blocked_at (entry_at s.versions key) d b e in
+          let done = below b from.0 in
+          absurd (no_estimate (call_at s b).incarnation (write_of (call_at s b).last key)
+          (ap (λ st. entry_by (is_executed st) (call_at s b).incarnation (write_of (call_at s b).last key)) (sym done.status) ∙ sym (f.entries b key) ∙ from.1))
+
+  -- another task
+  pub new_task : Invariant block 1 s → (task : Task) → get_or (set s.tasks 0 task) 0 Idle ≡ task
+  new_task inv task = get_or-set_at s.tasks 0 0 task Idle refl (let one = inv.sized.tasks in omega (arith, one))
+
+  -- a step that changes the worker's task alone
+  pub task_stage : (m : ℕ) (own : CallState) (e v : ℕ) (old task : Task) (add : Counts → Counts) → Stage block m own e v old s → Invariant block 1 (counted add 0 (with_task 0 task s)) → Stage block m own e v task (counted add 0 (with_task 0 task s))
+  task_stage m own e v old task add now inv = record {
+    inv = inv;
+    runs_from = now.runs_from;
+    checks_from = now.checks_from;
+    does = new_task now.inv task;
+    below = now.below;
+    here = now.here;
+    above = now.above;
+  }
+
+  -- an asking that is told that all is done
+  pub told_stage : (m : ℕ) (own : CallState) (e v : ℕ) (task : Task) → Stage block m own e v task s → Invariant block 1 (counted one_asking 0 (count_done 0 s)) → Stage block m own e v task (counted one_asking 0 (count_done 0 s))
+  told_stage m own e v task now inv = record {
+    inv = inv;
+    runs_from = now.runs_from;
+    checks_from = now.checks_from;
+    does = now.does;
+    below = now.below;
+    here = now.here;
+    above = now.above;
+  }
+
+  -- ---- asking for the execution of call d
+
+  -- the worker is to run the call of the execution index
+  abbrev pub to_run : State
+  to_run = with_task 0 (Running s.execution [] None) (with_call s.execution (record (call_at s s.execution) { status = Executing }) (record s { execution = s.execution + 1 }))
+
+  module _ (d : ℕ) (now : Stage block d fresh d d Idle s) (within : d < block.count) where
+    pub run_over : is_done s ≡ false
+    run_over = not_done block 1 s now.inv (λ o. let e = o.execution in let r = now.runs_from in omega (arith, e, r, within))
+
+    call_is : call_at s s.execution ≡ fresh
+    call_is = ap (call_at s) now.runs_from ∙ now.here
+
+    pub run_asked : asked 0 s ≡ to_run
+    unfolding ask_execution
+    run_asked =
+        let e = now.runs_from in let v = now.checks_from in let n = now.inv.sized.calls in
+        cond-false (is_done s) _ _ run_over
+        ∙ cond-false (nat_lt s.validation s.execution) _ _ (not_lt_is s.validation s.execution (omega (arith, e, v)))
+        ∙ cond-true (nat_lt s.execution (length s.calls)) _ _ (lt_is s.execution (length s.calls) (omega (arith, e, n, within)))
+        ∙ cond-true (is_ready (call_at s s.execution).status) _ _ (ap (λ (x : CallState). is_ready x.status) call_is)
+
+    pub other_call : (j : ℕ) → j ≢ d → call_at to_run j ≡ call_at s j
+    other_call j ne = get_or-set_other s.calls s.execution j _ fresh (λ q. ne (q ∙ now.runs_from))
+
+    pub run_stage : Invariant block 1 (counted one_asking 0 to_run) → Stage block d begun (d + 1) d (Running d [] None) (counted one_asking 0 to_run)
+    run_stage inv = record {
+      inv = inv;
+      runs_from = ap (λ x. x + 1) now.runs_from;
+      checks_from = now.checks_from;
+      does = new_task now.inv (Running s.execution [] None) ∙ ap (λ i. Running i [] None) now.runs_from;
+      below = λ j l. subst (λ x. IsRunOnce x) (sym (other_call j (λ q. omega (arith, l, q)))) (now.below j l);
+      here = get_or-set_at s.calls s.execution d (record (call_at s s.execution) { status = Executing }) fresh (sym now.runs_from) (let e = now.runs_from in let n = now.inv.sized.calls in omega (arith, e, n, within))
+          ∙ ap (λ (x : CallState). record x { status = Executing }) call_is;
+      above = λ j l. other_call j (λ q. omega (arith, l, q)) ∙ now.above j l;
+    }
+
+  -- ---- a read
+
+  -- one more read stands
+  pub read_stands : (store : Storage) (key : List ℕ) (d : ℕ) (answers : List StorageAnswer) → list_all (stands s.versions d) (map read_of answers) ≡ true
+      → (told : Answered store key d answers (visible_below (entry_at s.versions key) d)) → list_all (stands s.versions d) (map read_of (answers ++ told.answer ∷ [])) ≡ true
+  read_stands store key d answers stand told =
+      ap (list_all (stands s.versions d)) (map-append read_of answers (told.answer ∷ []))
+      ∙ list_all-append (stands s.versions d) (map read_of answers) (read_of told.answer ∷ [])
+      ∙ both_true stand (both_true (ap (λ k. is_origin told.answer.origin (visible_below (entry_at s.versions k) d)) told.at ∙ told.stand) refl)
+
+  -- ---- the record of call d
+
+  module _ (d : ℕ) (answers : List StorageAnswer) (receipt : Receipt) (now : Stage block d begun (d + 1) d (Running d answers None) s) (within : d < block.count) where
+    abbrev pub done_call : CallState
+    done_call = record (call_at s d) { status = Executed; last = Some (recorded_run answers receipt) }
+
+    abbrev pub moved_on : State
+    moved_on = with_call d done_call (record s { versions = recorded_versions d (call_at s d).incarnation (call_at s d).last receipt.writes s.versions; placed = s.placed + len receipt.writes })
+
+    pub done_here : call_at moved_on d ≡ done_call
+    done_here = get_or-set_at s.calls d d done_call fresh refl (let n = now.inv.sized.calls in omega (arith, n, within))
+
+    pub done_else : (j : ℕ) → j ≢ d → call_at moved_on j ≡ call_at s j
+    done_else j ne = get_or-set_other s.calls d j done_call fresh ne
+
+    none_on : (j : ℕ) → is_parked_on d (call_at moved_on j) ≡ false
+    none_on j = elim (cases_eq j d) [
+      | inl e ↦ calm d (call_at moved_on j) Executed (ap (λ (x : CallState). x.status) (ap (call_at moved_on) e ∙ done_here)) refl
+      | inr ne ↦ elim (cases_lt j d) [
+        | inl low ↦ calm d (call_at moved_on j) Executed (ap (λ (x : CallState). x.status) (done_else j ne) ∙ (now.below j low).status) refl
+        | inr high ↦ calm d (call_at moved_on j) Ready (ap (λ (x : CallState). x.status) (done_else j ne ∙ now.above j (omega (arith, ne, high)))) refl
+      ]
+    ]
+
+    pub recorded_is : recorded 0 d answers receipt s ≡ with_task 0 Idle moved_on
+    unfolding to_validate
+    recorded_is =
+        ap (to_validate 0 d (has_new_key (call_at s d).last receipt.writes) (Validating d (call_at s d).incarnation (length answers))) (none_resumed d moved_on none_on)
+        ∙ cond-false (nat_lt d s.validation) _ _ (let v = now.checks_from in not_lt_is d s.validation (omega (arith, v)))
+
+    -- what call d sees is as before its record
+    seen_still : (read : Read) → stands moved_on.versions d read ≡ stands s.versions d read
+    seen_still read = ap (is_origin read.origin) (seen_same (entry_at moved_on.versions read.key) (entry_at s.versions read.key) d (λ j l. moved_other d (call_at s d).incarnation (call_at s d).last receipt.writes s.versions read.key j (λ e. omega (arith, l, e))))
+
+    -- so its reads stand
+    pub recorded_stands : list_all (stands s.versions d) (map read_of answers) ≡ true → all_stand d moved_on ≡ true
+    recorded_stands stand = ap (λ (x : CallState). list_all (stands moved_on.versions d) (reads_of x.last)) done_here ∙ all_same (stands moved_on.versions d) (stands s.versions d) seen_still (map read_of answers) ∙ stand
+
+    pub record_stage : Invariant block 1 (counted one_execution 0 (with_task 0 Idle moved_on)) → Stage block (d + 1) fresh (d + 1) d Idle (counted one_execution 0 (with_task 0 Idle moved_on))
+    record_stage inv = record {
+      inv = inv;
+      runs_from = now.runs_from;
+      checks_from = now.checks_from;
+      does = new_task now.inv Idle;
+      below = λ j l. elim (cases_eq j d) [
+        | inl e ↦ subst (λ x. IsRunOnce (call_at moved_on x)) (sym e) (record {
+          status = ap (λ (x : CallState). x.status) done_here;
+          incarnation = ap (λ (x : CallState). x.incarnation) done_here ∙ ap (λ (x : CallState). x.incarnation) now.here;
+        })
+        | inr ne ↦ subst (λ x. IsRunOnce x) (sym (done_else j ne)) (now.below j (omega (arith, l, ne)))
+      ];
+      here = done_else (d + 1) (λ e. omega (arith, e)) ∙ now.above (d + 1) (omega arith);
+      above = λ j l. done_else j (λ e. omega (arith, l, e)) ∙ now.above j (omega (arith, l));
+    }
+
+  -- ---- asking for the validation of call d
+
+  -- the worker is to validate the call of the validation index
+  abbrev pub to_check : State
+  to_check = with_task 0 (Validating s.validation (call_at s s.validation).incarnation (length (reads_of (call_at s s.validation).last))) (record s { validation = s.validation + 1 })
+
+  module _ (d : ℕ) (now : Stage block (d + 1) fresh (d + 1) d Idle s) (within : d < block.count) where
+    is_there : call_at s s.validation ≡ call_at s d
+    is_there = ap (call_at s) now.checks_from
+
+    pub check_over : is_done s ≡ false
+    check_over = not_done block 1 s now.inv (λ o. let v = o.validation in let r = now.checks_from in omega (arith, v, r, within))
+
+    pub check_asked : asked 0 s ≡ to_check
+    unfolding ask_validation
+    check_asked =
+        let e = now.runs_from in let v = now.checks_from in
+        cond-false (is_done s) _ _ check_over
+        ∙ cond-true (nat_lt s.validation s.execution) _ _ (lt_is s.validation s.execution (omega (arith, e, v)))
+        ∙ cond-true (is_executed (call_at s s.validation).status) _ _ (ap (λ (x : CallState). is_executed x.status) is_there ∙ ap is_executed (now.below d (omega arith)).status)
+
+    pub check_stage : Invariant block 1 (counted one_asking 0 to_check) → Stage block (d + 1) fresh (d + 1) (d + 1) (Validating d 0 (length (reads_of (call_at s d).last))) (counted one_asking 0 to_check)
+    check_stage inv = record {
+      inv = inv;
+      runs_from = now.runs_from;
+      checks_from = ap (λ x. x + 1) now.checks_from;
+      does = new_task now.inv (Validating s.validation (call_at s s.validation).incarnation (length (reads_of (call_at s s.validation).last)))
+          ∙ ap (λ i. Validating i (call_at s i).incarnation (length (reads_of (call_at s i).last))) now.checks_from
+          ∙ ap (λ n. Validating d n (length (reads_of (call_at s d).last))) (now.below d (omega arith)).incarnation;
+      below = now.below;
+      here = now.here;
+      above = now.above;
+    }
+
+  -- ---- the validation of call d
+
+  module _ (d left : ℕ) (now : Stage block (d + 1) fresh (d + 1) (d + 1) (Validating d 0 left) s) (stand : all_stand d s ≡ true) where
+    pub at_zero : is_executed_at 0 (call_at s d) ≡ true
+    at_zero = let done = now.below d (omega arith) in both_true (ap is_executed done.status) (ap (λ n. n == 0) done.incarnation)
+
+    pub not_aborted : validated 0 d 0 s ≡ with_task 0 Idle s
+    unfolding validated
+    not_aborted = cond-false (is_executed_at 0 (call_at s d) && not (all_stand d s)) _ _ (ap (λ b. is_executed_at 0 (call_at s d) && not b) stand ∙ ap (λ b. b && false) at_zero)

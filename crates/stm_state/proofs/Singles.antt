@@ -1,0 +1,278 @@
+-- What one worker did in each state that it reaches, whatever keys its runs read.
+use Rattle.std.proofs.Common.{◌≡◌, ◌<◌, ◌+◌, ◌*◌, ◌||◌, ◌==◌, ℕ, true, if◌then◌else◌, List, [], ◌∷◌, ◌++◌, length, map, get_or, Option, None, Some, arith, refl, sym, ap, subst, ◌∙◌, inl, inr}
+use Rattle.std.specs.List.{list_all}
+use Rattle.std.proofs.lemmas.Bool.{cases_lt, cond-true}
+use Rattle.std.proofs.lemmas.Grind.{get_or-set_at}
+use Rattle.rv_ledger.specs.declared.outcome.Counts.{Counts}
+use Rattle.rv_ledger.specs.declared.receipt.Receipt.{Receipt}
+use Rattle.rv_step.specs.declared.answer.StorageAnswer.{StorageAnswer}
+use Rattle.mvmap.specs.Reading.{reading, stands}
+use Rattle.stm_state.specs.declared.state.Task.{Task}
+use Rattle.stm_state.specs.declared.state.Task.TheVariants.{Idle, Running, Validating}
+use Rattle.stm_state.specs.State.{State, fresh, no_counts, start, call_at, task_at, with_task, is_done}
+use Rattle.stm_state.specs.Steps.{Block, Step, read_of, reads_of, counted, one_step, one_asking, one_execution, one_validation, asked, count_done, read_at, recorded, decided, validated, all_stand}
+use Rattle.stm_state.specs.Invariant.{Invariant}
+use Rattle.stm_state.specs.Done.{Reached, started, stepped}
+use Rattle.stm_state.specs.Dones.{dones_of}
+use Rattle.stm_state.specs.OneWorker.{OneWorkerDid, OneWorkerCountsWhereReached}
+use Rattle.stm_state.proofs.Cases.{IsMade, by_ask, by_read, by_park, by_record, by_validate, made}
+use Rattle.stm_state.proofs.Lists.{one_element}
+use Rattle.stm_state.proofs.Whole.{worker_kept, invariant_kept}
+use Rattle.stm_state.proofs.Serials.{IsOver, over_at_done}
+use Rattle.stm_state.proofs.Rounds.{Stage, first_stage, begun, all_first, is_over, told_stage, answered_by, clear_below, task_stage, to_run, run_asked, run_stage, read_stands, moved_on, recorded_is, recorded_stands, record_stage, to_check, check_asked, check_stage, at_zero, not_aborted}
+
+-- ---- what the worker did
+
+abbrev did_by : State → Counts
+did_by s = get_or s.counts 0 no_counts
+
+-- so many askings beside those answered Done, executions and decisions
+record Did (asked run decided : ℕ) (s : State) : Type 0 where
+  asks : (did_by s).asks ≡ asked + dones_of 0 s
+  executions : (did_by s).executions ≡ run
+  validations : (did_by s).validations ≡ decided
+
+-- a counted step that changes neither the counts nor the askings answered Done before it is counted
+module _ (s u : State) (counts : u.counts ≡ s.counts) (dones : u.dones ≡ s.dones) (one : length s.counts ≡ 1) (asked run decided : ℕ) (h : Did asked run decided s) where
+  count : (add : Counts → Counts) → did_by (counted add 0 u) ≡ add (did_by s)
+  count add = get_or-set_at u.counts 0 0 (add (did_by u)) no_counts refl (let size = ap length counts in omega (arith, size, one)) ∙ ap (λ l. add (get_or l 0 no_counts)) counts
+
+  same_dones : dones_of 0 u ≡ dones_of 0 s
+  same_dones = ap (λ l. get_or l 0 0) dones
+
+  after_step : Did asked run decided (counted one_step 0 u)
+  after_step = record {
+    asks = let is = ap (λ (c : Counts). c.asks) (count one_step) in let was = h.asks in let d = same_dones in omega (arith, is, was, d);
+    executions = ap (λ (c : Counts). c.executions) (count one_step) ∙ h.executions;
+    validations = ap (λ (c : Counts). c.validations) (count one_step) ∙ h.validations;
+  }
+
+  after_asking : Did (asked + 1) run decided (counted one_asking 0 u)
+  after_asking = record {
+    asks = let is = ap (λ (c : Counts). c.asks) (count one_asking) in let was = h.asks in let d = same_dones in omega (arith, is, was, d);
+    executions = ap (λ (c : Counts). c.executions) (count one_asking) ∙ h.executions;
+    validations = ap (λ (c : Counts). c.validations) (count one_asking) ∙ h.validations;
+  }
+
+  after_execution : Did asked (run + 1) decided (counted one_execution 0 u)
+  after_execution = record {
+    asks = let is = ap (λ (c : Counts). c.asks) (count one_execution) in let was = h.asks in let d = same_dones in omega (arith, is, was, d);
+    executions = let is = ap (λ (c : Counts). c.executions) (count one_execution) in let was = h.executions in omega (arith, is, was);
+    validations = ap (λ (c : Counts). c.validations) (count one_execution) ∙ h.validations;
+  }
+
+  after_validation : Did asked run (decided + 1) (counted one_validation 0 u)
+  after_validation = record {
+    asks = let is = ap (λ (c : Counts). c.asks) (count one_validation) in let was = h.asks in let d = same_dones in omega (arith, is, was, d);
+    executions = ap (λ (c : Counts). c.executions) (count one_validation) ∙ h.executions;
+    validations = let is = ap (λ (c : Counts). c.validations) (count one_validation) in let was = h.validations in omega (arith, is, was);
+  }
+
+-- counts are told by their numbers
+same_counts : (c d : Counts) → c.steps ≡ d.steps → c.asks ≡ d.asks → c.executions ≡ d.executions → c.validations ≡ d.validations → c ≡ d
+same_counts c d p q r t = rw (p, q, r, t) refl
+
+-- ---- where it is
+
+module _ (block : Block) where
+  -- the calls below d are through, and it asks for call d
+  record Rests (d : ℕ) (s : State) : Type 0 where
+    now : Stage block d fresh d d Idle s
+    did : Did (2 * d) d d s
+
+  -- it runs call d, whose reads stand
+  record Runs (d : ℕ) (answers : List StorageAnswer) (s : State) : Type 0 where
+    now : Stage block d begun (d + 1) d (Running d answers None) s
+    did : Did (2 * d + 1) d d s
+    stand : list_all (stands s.versions d) (map read_of answers) ≡ true
+
+  -- call d is recorded, and it asks for its validation
+  record Waits (d : ℕ) (s : State) : Type 0 where
+    now : Stage block (d + 1) fresh (d + 1) d Idle s
+    did : Did (2 * d + 1) (d + 1) d s
+    stand : all_stand d s ≡ true
+
+  -- it validates call d
+  record Checks (d left : ℕ) (s : State) : Type 0 where
+    now : Stage block (d + 1) fresh (d + 1) (d + 1) (Validating d 0 left) s
+    did : Did (2 * d + 1 + 1) (d + 1) d s
+    stand : all_stand d s ≡ true
+
+  data Phase (s : State) : Type 0 where
+    rests : (d : ℕ) → Rests d s → Phase s
+    runs : (d : ℕ) (answers : List StorageAnswer) → Runs d answers s → Phase s
+    waits : (d : ℕ) → Waits d s → Phase s
+    checks : (d left : ℕ) → Checks d left s → Phase s
+
+  -- what is to be shown of a state that a counted step comes to
+  abbrev Goes : (Counts → Counts) → State → Type 0
+  Goes add u = Invariant block 1 (counted add 0 u) → Phase (counted add 0 u)
+
+  module _ (s : State) where
+    -- ---- an asking
+
+    -- where all calls are through it is told so
+    told_so : (d : ℕ) → Rests d s → Goes one_asking (count_done 0 s)
+    told_so d h inv =
+        let size = h.now.inv.sized.counts in
+        let told = h.now.inv.sized.dones in
+        let is = get_or-set_at s.counts 0 0 (one_asking (did_by s)) no_counts refl (omega (arith, size)) in
+        let asked_is = ap (λ (c : Counts). c.asks) is in
+        let was = h.did.asks in
+        let more = get_or-set_at s.dones 0 0 (dones_of 0 s + 1) 0 refl (omega (arith, told)) in
+        rests d (record {
+          now = told_stage block s d fresh d d Idle h.now inv;
+          did = record {
+            asks = omega (arith, was, asked_is, more);
+            executions = ap (λ (c : Counts). c.executions) is ∙ h.did.executions;
+            validations = ap (λ (c : Counts). c.validations) is ∙ h.did.validations;
+          };
+        })
+
+    -- where call d is left it is to run it
+    begins : (d : ℕ) → Rests d s → d < block.count → Goes one_asking (asked 0 s)
+    begins d h within = subst (Goes one_asking) (sym (run_asked block s d h.now within)) (λ inv. runs d [] (record {
+      now = run_stage block s d h.now within inv;
+      did = after_asking s (to_run block s) refl refl h.now.inv.sized.counts (2 * d) d d h.did;
+      stand = refl;
+    }))
+
+    rest_asks : (d : ℕ) → Rests d s → Goes one_asking (asked 0 s)
+    rest_asks d h = elim (cases_lt d block.count) [
+      | inl low ↦ begins d h low
+      | inr high ↦
+          let within = h.now.inv.facts.execution_within in
+          let e = h.now.runs_from in
+          let last : d ≡ block.count = omega (arith, within, e, high) in
+          let over = is_over block s h.now.inv (h.now.runs_from ∙ last) (h.now.checks_from ∙ last) h.now.does in
+          subst (Goes one_asking) (sym (cond-true (is_done s) (count_done 0 s) _ over)) (told_so d h)
+    ]
+
+    -- where call d is recorded it is to validate it
+    wait_asks : (d : ℕ) → Waits d s → Goes one_asking (asked 0 s)
+    wait_asks d h =
+        let within : d < block.count = let all = h.now.inv.facts.execution_within in let e = h.now.runs_from in omega (arith, all, e) in
+        subst (Goes one_asking) (sym (check_asked block s d h.now within)) (λ inv. checks d (length (reads_of (call_at s d).last)) (record {
+          now = check_stage block s d h.now within inv;
+          did = after_asking s (to_check block s) refl refl h.now.inv.sized.counts (2 * d + 1) (d + 1) d h.did;
+          stand = h.stand;
+        }))
+
+    asks_on : Phase s → task_at s 0 ≡ Idle → Goes one_asking (asked 0 s)
+    asks_on (rests d h) at = rest_asks d h
+    asks_on (runs d answers h) at = let does = h.now.does in cc
+    asks_on (waits d h) at = wait_asks d h
+    asks_on (checks d left h) at = let does = h.now.does in cc
+
+    -- ---- a run
+
+    -- which call it runs
+    runs_call : Phase s → (i : ℕ) (answers : List StorageAnswer) (blocked : Option ℕ) → task_at s 0 ≡ Running i answers blocked → Runs i answers s × (blocked ≡ None)
+    runs_call (rests d h) i answers blocked at = let does = h.now.does in cc
+    runs_call (runs d told h) i answers blocked at =
+        let does = h.now.does in
+        let call : d ≡ i = cc in
+        let same : told ≡ answers = cc in
+        (subst (λ x. Runs x answers s) call (subst (λ x. Runs d x s) same h), cc)
+    runs_call (waits d h) i answers blocked at = let does = h.now.does in cc
+    runs_call (checks d left h) i answers blocked at = let does = h.now.does in cc
+
+    -- a read
+    read_on : (i : ℕ) (answers : List StorageAnswer) (key : List ℕ) → Runs i answers s → Goes one_step (read_at block.base key 0 i answers s)
+    read_on i answers key h =
+        let told = answered_by block.base key i answers (reading s.versions key i) (clear_below block s h.now.inv.facts i h.now.below key) in
+        subst (λ (task : Task). Goes one_step (with_task 0 task s)) (sym told.task) (λ inv. runs i (answers ++ told.answer ∷ []) (record {
+          now = task_stage block s i begun (i + 1) i (Running i answers None) (Running i (answers ++ told.answer ∷ []) None) one_step h.now inv;
+          did = after_step s (with_task 0 (Running i (answers ++ told.answer ∷ []) None) s) refl refl h.now.inv.sized.counts (2 * i + 1) i i h.did;
+          stand = read_stands block s block.base key i answers h.stand told;
+        }))
+
+    -- a record
+    record_on : (i : ℕ) (answers : List StorageAnswer) (receipt : Receipt) → Runs i answers s → Goes one_execution (recorded 0 i answers receipt s)
+    record_on i answers receipt h =
+        let within : i < block.count = let all = h.now.inv.facts.execution_within in let e = h.now.runs_from in omega (arith, all, e) in
+        subst (Goes one_execution) (sym (recorded_is block s i answers receipt h.now within)) (λ inv. waits i (record {
+          now = record_stage block s i answers receipt h.now within inv;
+          did = after_execution s (with_task 0 Idle (moved_on block s i answers receipt h.now within)) refl refl h.now.inv.sized.counts (2 * i + 1) i i h.did;
+          stand = recorded_stands block s i answers receipt h.now within h.stand;
+        }))
+
+    -- ---- a validation
+
+    check_on : (d left : ℕ) → Checks d left s → (add : Counts → Counts) → add ≡ one_validation → Goes add (validated 0 d 0 s)
+    check_on d left h add e = subst (λ (x : Counts → Counts). Goes x (validated 0 d 0 s)) (sym e) (subst (Goes one_validation) (sym (not_aborted block s d left h.now h.stand)) (λ inv.
+        let twice : 2 * d + 1 + 1 ≡ 2 * (d + 1) = omega arith in
+        rests (d + 1) (record {
+          now = task_stage block s (d + 1) fresh (d + 1) (d + 1) (Validating d 0 left) Idle one_validation h.now inv;
+          did = subst (λ n. Did n (d + 1) (d + 1) (counted one_validation 0 (with_task 0 Idle s))) twice
+              (after_validation s (with_task 0 Idle s) refl refl h.now.inv.sized.counts (2 * d + 1 + 1) (d + 1) d h.did);
+        })))
+
+    -- it is a decision
+    is_decision : (d left : ℕ) → Checks d left s → (if decided d 0 left s then one_validation else one_step) ≡ one_validation
+    is_decision d left h = ap (λ b. if (b || left == 0) then one_validation else one_step) (at_zero block s d left h.now h.stand)
+
+    validates_on : Phase s → (i n left : ℕ) → task_at s 0 ≡ Validating i n left → Goes (if decided i n left s then one_validation else one_step) (validated 0 i n s)
+    validates_on (rests d h) i n left at = let does = h.now.does in cc
+    validates_on (runs d told h) i n left at = let does = h.now.does in cc
+    validates_on (waits d h) i n left at = let does = h.now.does in cc
+    validates_on (checks d more h) i n left at =
+        let does = h.now.does in
+        let call : d ≡ i = cc in
+        let incarnation : 0 ≡ n = cc in
+        let size : more ≡ left = cc in
+        subst (λ x. Goes (if decided x n left s then one_validation else one_step) (validated 0 x n s)) call
+        (subst (λ x. Goes (if decided d x left s then one_validation else one_step) (validated 0 d x s)) incarnation
+        (subst (λ x. Goes (if decided d 0 x s then one_validation else one_step) (validated 0 d 0 s)) size
+        (check_on d more h (if decided d 0 more s then one_validation else one_step) (is_decision d more h))))
+
+    -- ---- each step
+
+    goes_on : Phase s → (step : Step) (t : State) → IsMade block 0 s step t → Invariant block 1 t → Phase t
+    goes_on h step t (by_ask at) inv = asks_on h at inv
+    goes_on h step t (by_read i answers key at) inv = read_on i answers key (runs_call h i answers None at).0 inv
+    goes_on h step t (by_park i b answers at below) inv = let none = (runs_call h i answers (Some b) at).1 in cc
+    goes_on h step t (by_record i answers receipt at bears below) inv = record_on i answers receipt (runs_call h i answers None at).0 inv
+    goes_on h step t (by_validate i n left at) inv = validates_on h i n left at inv
+
+  -- ---- all states
+
+  first : Phase (start block.count 1)
+  first = rests 0 (record {
+    now = first_stage block;
+    did = record { asks = refl; executions = refl; validations = refl };
+  })
+
+  phase_of : (s : State) → Reached block 1 s → Phase s
+  phase_of s started = first
+  phase_of t (stepped {s} w step before w_in k) =
+      let none : w ≡ 0 = omega (arith, w_in) in
+      let inv = worker_kept block 1 w s t (invariant_kept block 1 s before) w_in step k in
+      goes_on s (phase_of s before) step t (subst (λ x. IsMade block x s step t) none (made block w s t step k)) inv
+
+  -- ---- where it is done
+
+  -- all calls are through
+  all_rest : (s : State) → Invariant block 1 s → is_done s ≡ true → Phase s → Rests block.count s
+  all_rest s inv done phase = go phase
+    where
+      over : IsOver block s
+      over = over_at_done block 1 s inv done
+
+      go : Phase s → Rests block.count s
+      go (rests d h) = let e = h.now.runs_from in let all = over.execution in let last : d ≡ block.count = cc in subst (λ x. Rests x s) last h
+      go (runs d answers h) = let does = h.now.does in let idle = over.idle 0 in cc
+      go (waits d h) = let e = h.now.runs_from in let v = h.now.checks_from in let ran = over.execution in let checked = over.validation in absurd (omega (arith, e, v, ran, checked))
+      go (checks d left h) = let does = h.now.does in let idle = over.idle 0 in cc
+
+  -- what it did
+  did_all : (s : State) → Rests block.count s → OneWorkerDid block.count (did_by s).steps (2 * block.count + dones_of 0 s) (dones_of 0 s) s
+  did_all s h = record {
+    counts = one_element s.counts no_counts _ h.now.inv.sized.counts (same_counts (did_by s) _ refl h.did.asks h.did.executions h.did.validations);
+    dones = one_element s.dones 0 (dones_of 0 s) h.now.inv.sized.dones refl;
+    incarnations = all_first block block.count block.count block.count Idle s h.now;
+  }
+
+pub counts_where_reached : OneWorkerCountsWhereReached
+counts_where_reached block s reached done =
+    ((did_by s).steps, dones_of 0 s, did_all block s (all_rest block s (invariant_kept block 1 s reached) done (phase_of block s reached)))

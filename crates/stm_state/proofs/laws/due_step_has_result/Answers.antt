@@ -1,0 +1,5 @@
+use Rattle.stm_state.proofs.Dues.{due_where_led}
+use Rattle.stm_state.proofs.laws.due_step_has_result.Goals as goal
+
+pub returns : goal.returns
+returns c = due_where_led

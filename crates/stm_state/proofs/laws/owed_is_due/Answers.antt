@@ -1,5 +1,0 @@
-use Rattle.stm_state.proofs.Dues.{due_where_led}
-use Rattle.stm_state.proofs.laws.owed_is_due.Goals as goal
-
-pub returns : goal.returns
-returns c = due_where_led

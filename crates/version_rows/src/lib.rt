@@ -1,0 +1,10 @@
+//! Tests of the public calls of the crates below, each crate's in a file of its own. They stand here,
+//! and not in those crates, since a crate with tests is proved twice.
+#![tactic(auto)]
+
+#[cfg(test)]
+mod mvmap_calls;
+#[cfg(test)]
+mod validate_calls;
+#[cfg(test)]
+mod version_arena_calls;
