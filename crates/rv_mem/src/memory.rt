@@ -1,6 +1,6 @@
 //! The memory of one call.
 
-ghost use Rattle.std.specs.Prelude.{◌≡◌, ◌<◌, ◌≤◌, ◌^◌, ◌↔◌, true, length, IfOk, OnOk, IsOk, IfErr, All};
+ghost use Rattle.std.specs.Prelude.{◌≡◌, ◌<◌, ◌≤◌, ◌+◌, ◌^◌, ◌↔◌, true, length, IfOk, OnOk, IsOk, IfErr, All};
 ghost use Rattle.elf32.specs.Layout.{IsPlaced};
 ghost use Rattle.rv_mem.specs.Space.{bytes_at, each, loaded, stored, copied, Leaves};
 ghost use Rattle.rv_mem.specs.Start.{start_space};
@@ -165,6 +165,17 @@ impl Memory {
             out.copy_from_slice(&self.bytes[at..at + out.len()]);
         }
         Ok(())
+    }
+
+    /// Fills `out` with the bytes from the address on, whatever the rights of their pages: for one who
+    /// looks at memory from outside. All of them lie in memory.
+    pub fn inspect(&self, address: u32, out: &mut [u8])
+        requires first { 0x1_0000 ≤ address }
+        requires last { address + length out.old ≤ 0x11_0000 }
+        ensures { out.new ≡ bytes_at self.now address (length out.old) }
+    {
+        let at = (address - FIRST) as usize;
+        out.copy_from_slice(&self.bytes[at..at + out.len()]);
     }
 
     /// Writes the bytes, less than 2^32 of them, from the address on, at any alignment, or refuses

@@ -79,6 +79,20 @@ impl Run {
         matches!(self.stage, Stage::Running)
     }
 
+    /// Where the machine stands.
+    pub fn machine(&self) -> &Machine
+        ensures { result.now ≡ self.now.machine }
+    {
+        &self.machine
+    }
+
+    /// Whether it can go on, asks the storage, or has ended.
+    pub fn stage(&self) -> &Stage
+        ensures { result.now ≡ self.now.stage }
+    {
+        &self.stage
+    }
+
     /// Makes one instruction of a run that can. Refused where memory ran out, at a step that takes
     /// memory alone, and then nothing changes.
     pub fn step_one(&mut self) -> Result<(), AllocError>

@@ -108,7 +108,7 @@ pub fn is_executed_at(call: &CallState, incarnation: u16) -> bool
     is_executed(call) && call.incarnation == incarnation
 }
 
-/// The duty to check all reads of a call's last run.
+/// The task to check all reads of a call's last run.
 pub(crate) fn validation_of(call: &CallState, index: u16) -> TaskKind
     ensures { result ≡ task_kind.Validating index call.now.incarnation (length (reads_of call.now.last)) }
 {

@@ -369,7 +369,7 @@ impl Scheduler {
     }
 
     /// Settles what is validated again after a run of a call: all from the call on, the call by this
-    /// duty, or nothing.
+    /// task, or nothing.
     #[tactic(auto, unfolding(stm_state::specs::Steps::to_validate))]
     fn to_validate(&mut self, worker: usize, call: u16, new_key: bool, task_kind: TaskKind)
         requires { worker < length self.old.tasks }
@@ -450,7 +450,7 @@ impl Scheduler {
         calls::resume_parked(&mut self.calls, on);
     }
 
-    /// Gives a worker a duty, and no answers.
+    /// Gives a worker a task, and no answers.
     fn begin(&mut self, worker: usize, task_kind: TaskKind)
         requires { worker < length self.old.tasks }
         ensures state { (v : Versions) (p : ℕ) → state_of v p self.new ≡ with_task worker (task_with task_kind []) (state_of v p self.old) }

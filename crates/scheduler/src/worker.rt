@@ -113,7 +113,7 @@ impl Worker {
         matches!(self.task_kind, TaskKind::Idle)
     }
 
-    /// Gives it a duty, and no answers.
+    /// Gives it a task, and no answers.
     pub(crate) fn begin(&mut self, task_kind: TaskKind)
         ensures { self.new ≡ record self.old { task = task_with task_kind []; room = self.new.room } }
     {
