@@ -4,13 +4,10 @@ use Rattle.std.specs.Char.{is_ascii_digit}
 use Rattle.std.specs.List.{list_all}
 use Rattle.std.specs.Str.{IsUtf8, IsAscii}
 use Rattle.std.specs.Str.Parse.{ParsesUnsigned}
+use Rattle.std.proofs.lemmas.Bool.{and_parts}
 use Rattle.std.proofs.lemmas.Str.{IsUtf8-from_ascii}
 use Rattle.std.proofs.lemmas.Str.Parse.{IsNumeralModel, numerals_by_weight, parse_gives, digits_value_short}
 use Rattle.block_file.specs.Line.{sum_of_digits}
-
-and_true : (a b : Bool) → a && b ≡ true → (a ≡ true) × (b ≡ true)
-and_true true b h = (refl, h)
-and_true false b h = cc
 
 -- bytes that pass a test of ASCII bytes are text
 pub text_of_passing : (p : ℕ → Bool) → ((b : ℕ) → p b ≡ true → b < 128) → (bytes : List ℕ) → list_all p bytes ≡ true → IsUtf8 bytes
@@ -18,8 +15,8 @@ text_of_passing p low bytes all = IsUtf8-from_ascii bytes (ascii p low bytes all
   where
     ascii : (p : ℕ → Bool) → ((b : ℕ) → p b ≡ true → b < 128) → (bytes : List ℕ) → list_all p bytes ≡ true → IsAscii bytes
     ascii p low [] all i = lit< tt
-    ascii p low (b ∷ bytes) all zero = low b ((and_true (p b) _ all).0)
-    ascii p low (b ∷ bytes) all (suc i) = ascii p low bytes ((and_true (p b) _ all).1) i
+    ascii p low (b ∷ bytes) all zero = low b ((and_parts (p b) _ all).0)
+    ascii p low (b ∷ bytes) all (suc i) = ascii p low bytes ((and_parts (p b) _ all).1) i
 
 pub own : IsNumeralModel (λ ds. list_all is_ascii_digit ds ≡ true) sum_of_digits
 own = numerals_by_weight _ (search rules) sum_of_digits (search rules)

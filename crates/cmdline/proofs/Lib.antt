@@ -1,4 +1,5 @@
 pub mod Numbers
-pub mod Lines
 pub mod Operands
+pub mod FileWords
+pub mod Lines
 pub mod DriveLine

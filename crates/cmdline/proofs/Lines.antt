@@ -1,10 +1,14 @@
 -- What clap finds on the lines of `rvstm`.
-use Rattle.std.proofs.Common.{◌≡◌, ◌==◌, ◌&&◌, ℕ, Bool, true, false, not, [], ◌∷◌, Some, refl, sym, codes}
+use Rattle.std.proofs.Common.{◌≡◌, ◌&&◌, Bool, true, false, not, ℕ, [], ◌∷◌, Some, option_map, refl, sym, ap, codes, get_or}
+use Rattle.std.proofs.lemmas.Bool.{and_from}
+use Rattle.clap.specs.Simple.{Shape, built}
+use Rattle.clap.specs.Walk.{Walk}
 use Rattle.clap.specs.Words.{Text, first_of, first_value, is_simple, is_simple_and_free, rows_of, takes}
 use Rattle.clap.specs.declared.parser.matches.Found.{Found}
 use Rattle.clap.proofs.OnLiterals.{clap_on_literals}
 use Rattle.clap.proofs.WalkLemmas.{first_value-rows}
-use Rattle.cmdline.specs.Line.{AsmOf, DisOf, SeqOf, asked, is_operand, rvstm_app}
+use Rattle.cmdline.specs.Line.{AsmOf, DebugOf, DisOf, RunOf, SeqOf, asked, asm_of, is_call_number, is_operand, is_worker_number, last_call, max_workers, number_in, rvstm_app, top_app}
+use Rattle.cmdline.proofs.FileWords.{file_level, file_walked, number_asked, number_level, option_level, option_walked, rows_at_end}
 
 -- `get_str` reads the rows
 pub first_in_rows : (f : Found) (id : Text) → first_value f id ≡ first_of id (rows_of f)
@@ -26,116 +30,84 @@ pub is_free : is_simple_and_free rvstm_app ≡ true
 unfolding clap_on_literals
 is_free = refl
 
--- a word whose first byte is tested for a hyphen
-taken_by_test : (program : Text) (x : ℕ) (rest : Text) (b : Bool) → (x == 45) ≡ b → not b ≡ true
-    → takes rvstm_app (program ∷ codes "seq" ∷ (x ∷ rest) ∷ []) ≡ true
-unfolding clap_on_literals
-taken_by_test program x rest false e h = simp e refl
-taken_by_test program x rest true e h = cc
+-- a subcommand as it is read, by its place
+abbrev pub shape_at : ℕ → Shape
+shape_at place = get_or (built rvstm_app).subs place top_app.top
 
--- clap takes `seq FILE`
+abbrev run_shape : Shape
+run_shape = shape_at 0
+
+abbrev seq_shape : Shape
+seq_shape = shape_at 1
+
+abbrev asm_shape : Shape
+asm_shape = shape_at 3
+
+abbrev dis_shape : Shape
+dis_shape = shape_at 4
+
+abbrev debug_shape : Shape
+debug_shape = shape_at 5
+
+-- `run FILE --workers N`: clap takes it, and it asks for just what it says
+pub run_is_taken : (program file word : Text) → is_operand file ≡ true → is_worker_number word ≡ true
+    → takes rvstm_app (program ∷ codes "run" ∷ file ∷ codes "--workers" ∷ word ∷ []) ≡ true
+unfolding clap_on_literals
+run_is_taken program file word o n =
+    and_from _ _ (number_level run_shape (codes "workers") (codes "--workers") 1 max_workers file word refl o n refl refl refl) refl
+
+pub run_is_asked : (program file word : Text) → is_operand file ≡ true → is_worker_number word ≡ true
+    → asked (program ∷ codes "run" ∷ file ∷ codes "--workers" ∷ word ∷ []) ≡ Some (RunOf file (number_in word))
+unfolding clap_on_literals
+run_is_asked program file word o n =
+    number_asked run_shape (codes "workers") (codes "--workers") 1 max_workers file word refl o n RunOf refl refl
+
+-- the same of `seq FILE`
 pub seq_is_taken : (program file : Text) → is_operand file ≡ true
     → takes rvstm_app (program ∷ codes "seq" ∷ file ∷ []) ≡ true
 unfolding clap_on_literals
-seq_is_taken program [] h = refl
-seq_is_taken program (x ∷ rest) h = taken_by_test program x rest (x == 45) refl h
+seq_is_taken program file o = and_from _ _ (file_level seq_shape file o refl refl) refl
 
--- the same, of what it asks for
-asked_by_test : (program : Text) (x : ℕ) (rest : Text) (b : Bool) → (x == 45) ≡ b → not b ≡ true
-    → asked (program ∷ codes "seq" ∷ (x ∷ rest) ∷ []) ≡ Some (SeqOf (x ∷ rest))
-unfolding clap_on_literals
-asked_by_test program x rest false e h = simp e refl
-asked_by_test program x rest true e h = cc
-
--- `seq FILE` asks for a run of FILE
 pub seq_is_asked : (program file : Text) → is_operand file ≡ true
     → asked (program ∷ codes "seq" ∷ file ∷ []) ≡ Some (SeqOf file)
 unfolding clap_on_literals
-seq_is_asked program [] h = refl
-seq_is_asked program (x ∷ rest) h = asked_by_test program x rest (x == 45) refl h
+seq_is_asked program file o =
+    ap (λ (w : Walk). option_map SeqOf (first_of (codes "file") (rows_at_end seq_shape w))) (file_walked seq_shape file o)
 
--- a word whose first byte is tested, behind `dis`
-dis_taken_by_test : (program : Text) (x : ℕ) (rest : Text) (b : Bool) → (x == 45) ≡ b → not b ≡ true
-    → takes rvstm_app (program ∷ codes "dis" ∷ (x ∷ rest) ∷ []) ≡ true
-unfolding clap_on_literals
-dis_taken_by_test program x rest false e h = simp e refl
-dis_taken_by_test program x rest true e h = cc
-
--- clap takes `dis FILE`
-pub dis_is_taken : (program file : Text) → is_operand file ≡ true
-    → takes rvstm_app (program ∷ codes "dis" ∷ file ∷ []) ≡ true
-unfolding clap_on_literals
-dis_is_taken program [] h = refl
-dis_is_taken program (x ∷ rest) h = dis_taken_by_test program x rest (x == 45) refl h
-
--- the same, of what it asks for
-dis_asked_by_test : (program : Text) (x : ℕ) (rest : Text) (b : Bool) → (x == 45) ≡ b → not b ≡ true
-    → asked (program ∷ codes "dis" ∷ (x ∷ rest) ∷ []) ≡ Some (DisOf (x ∷ rest))
-unfolding clap_on_literals
-dis_asked_by_test program x rest false e h = simp e refl
-dis_asked_by_test program x rest true e h = cc
-
--- `dis FILE` asks for the instructions of FILE
-pub dis_is_asked : (program file : Text) → is_operand file ≡ true
-    → asked (program ∷ codes "dis" ∷ file ∷ []) ≡ Some (DisOf file)
-unfolding clap_on_literals
-dis_is_asked program [] h = refl
-dis_is_asked program (x ∷ rest) h = dis_asked_by_test program x rest (x == 45) refl h
-
--- two words whose first bytes are tested, behind `asm`
-asm_taken_by_tests : (program : Text) (x y : ℕ) (rest more : Text) (b c : Bool) → (x == 45) ≡ b → not b ≡ true → (y == 45) ≡ c → not c ≡ true
-    → takes rvstm_app (program ∷ codes "asm" ∷ (x ∷ rest) ∷ codes "--out" ∷ (y ∷ more) ∷ []) ≡ true
-unfolding clap_on_literals
-asm_taken_by_tests program x y rest more false false e h f k = simp (e, f) refl
-asm_taken_by_tests program x y rest more true c e h f k = cc
-asm_taken_by_tests program x y rest more false true e h f k = cc
-
-asm_taken_by_first : (program : Text) (x : ℕ) (rest : Text) (b : Bool) → (x == 45) ≡ b → not b ≡ true
-    → takes rvstm_app (program ∷ codes "asm" ∷ (x ∷ rest) ∷ codes "--out" ∷ [] ∷ []) ≡ true
-unfolding clap_on_literals
-asm_taken_by_first program x rest false e h = simp e refl
-asm_taken_by_first program x rest true e h = cc
-
-asm_taken_by_second : (program : Text) (y : ℕ) (more : Text) (c : Bool) → (y == 45) ≡ c → not c ≡ true
-    → takes rvstm_app (program ∷ codes "asm" ∷ [] ∷ codes "--out" ∷ (y ∷ more) ∷ []) ≡ true
-unfolding clap_on_literals
-asm_taken_by_second program y more false f k = simp f refl
-asm_taken_by_second program y more true f k = cc
-
--- clap takes `asm FILE --out OUT`
+-- the same of `asm FILE --out OUT`
 pub asm_is_taken : (program file out : Text) → is_operand file ≡ true → is_operand out ≡ true
     → takes rvstm_app (program ∷ codes "asm" ∷ file ∷ codes "--out" ∷ out ∷ []) ≡ true
 unfolding clap_on_literals
-asm_is_taken program [] [] h k = refl
-asm_is_taken program (x ∷ rest) [] h k = asm_taken_by_first program x rest (x == 45) refl h
-asm_is_taken program [] (y ∷ more) h k = asm_taken_by_second program y more (y == 45) refl k
-asm_is_taken program (x ∷ rest) (y ∷ more) h k = asm_taken_by_tests program x y rest more (x == 45) (y == 45) refl h refl k
+asm_is_taken program file out o p =
+    and_from _ _ (option_level asm_shape (codes "out") (codes "--out") file out refl o p refl refl refl) refl
 
--- the same, of what it asks for
-asm_asked_by_tests : (program : Text) (x y : ℕ) (rest more : Text) (b c : Bool) → (x == 45) ≡ b → not b ≡ true → (y == 45) ≡ c → not c ≡ true
-    → asked (program ∷ codes "asm" ∷ (x ∷ rest) ∷ codes "--out" ∷ (y ∷ more) ∷ []) ≡ Some (AsmOf (x ∷ rest) (y ∷ more))
-unfolding clap_on_literals
-asm_asked_by_tests program x y rest more false false e h f k = simp (e, f) refl
-asm_asked_by_tests program x y rest more true c e h f k = cc
-asm_asked_by_tests program x y rest more false true e h f k = cc
-
-asm_asked_by_first : (program : Text) (x : ℕ) (rest : Text) (b : Bool) → (x == 45) ≡ b → not b ≡ true
-    → asked (program ∷ codes "asm" ∷ (x ∷ rest) ∷ codes "--out" ∷ [] ∷ []) ≡ Some (AsmOf (x ∷ rest) [])
-unfolding clap_on_literals
-asm_asked_by_first program x rest false e h = simp e refl
-asm_asked_by_first program x rest true e h = cc
-
-asm_asked_by_second : (program : Text) (y : ℕ) (more : Text) (c : Bool) → (y == 45) ≡ c → not c ≡ true
-    → asked (program ∷ codes "asm" ∷ [] ∷ codes "--out" ∷ (y ∷ more) ∷ []) ≡ Some (AsmOf [] (y ∷ more))
-unfolding clap_on_literals
-asm_asked_by_second program y more false f k = simp f refl
-asm_asked_by_second program y more true f k = cc
-
--- `asm FILE --out OUT` asks to assemble FILE into OUT
 pub asm_is_asked : (program file out : Text) → is_operand file ≡ true → is_operand out ≡ true
     → asked (program ∷ codes "asm" ∷ file ∷ codes "--out" ∷ out ∷ []) ≡ Some (AsmOf file out)
 unfolding clap_on_literals
-asm_is_asked program [] [] h k = refl
-asm_is_asked program (x ∷ rest) [] h k = asm_asked_by_first program x rest (x == 45) refl h
-asm_is_asked program [] (y ∷ more) h k = asm_asked_by_second program y more (y == 45) refl k
-asm_is_asked program (x ∷ rest) (y ∷ more) h k = asm_asked_by_tests program x y rest more (x == 45) (y == 45) refl h refl k
+asm_is_asked program file out o p =
+    ap (λ (w : Walk). asm_of (rows_at_end asm_shape w)) (option_walked asm_shape (codes "out") (codes "--out") file out refl o p [])
+
+-- the same of `dis FILE`
+pub dis_is_taken : (program file : Text) → is_operand file ≡ true
+    → takes rvstm_app (program ∷ codes "dis" ∷ file ∷ []) ≡ true
+unfolding clap_on_literals
+dis_is_taken program file o = and_from _ _ (file_level dis_shape file o refl refl) refl
+
+pub dis_is_asked : (program file : Text) → is_operand file ≡ true
+    → asked (program ∷ codes "dis" ∷ file ∷ []) ≡ Some (DisOf file)
+unfolding clap_on_literals
+dis_is_asked program file o =
+    ap (λ (w : Walk). option_map DisOf (first_of (codes "file") (rows_at_end dis_shape w))) (file_walked dis_shape file o)
+
+-- the same of `debug FILE --call N`
+pub debug_is_taken : (program file word : Text) → is_operand file ≡ true → is_call_number word ≡ true
+    → takes rvstm_app (program ∷ codes "debug" ∷ file ∷ codes "--call" ∷ word ∷ []) ≡ true
+unfolding clap_on_literals
+debug_is_taken program file word o n =
+    and_from _ _ (number_level debug_shape (codes "call") (codes "--call") 0 last_call file word refl o n refl refl refl) refl
+
+pub debug_is_asked : (program file word : Text) → is_operand file ≡ true → is_call_number word ≡ true
+    → asked (program ∷ codes "debug" ∷ file ∷ codes "--call" ∷ word ∷ []) ≡ Some (DebugOf file (number_in word))
+unfolding clap_on_literals
+debug_is_asked program file word o n =
+    number_asked debug_shape (codes "call") (codes "--call") 0 last_call file word refl o n DebugOf refl refl

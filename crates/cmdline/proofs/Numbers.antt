@@ -3,13 +3,13 @@ use Rattle.std.proofs.Common.{◌≡◌, ◌==◌, ◌∙◌, ◌<◌, ◌^◌, 
 use Rattle.std.proofs.lemmas.Bool.{eqb-true}
 use Rattle.std.specs.Char.{digit_value}
 use Rattle.std.specs.Str.Parse.{IsNumeral, ParsesUnsigned, without_leading_plus}
-use Rattle.clap.specs.Words.{ReadsOne, Text, one_of, one_text, rows_of}
+use Rattle.clap.specs.Words.{ReadsOne, Text, one_text, rows_of}
 use Rattle.clap.specs.ValueTests.{is_unsigned_in}
 use Rattle.clap.specs.declared.parser.matches.Found.{Found}
 use Rattle.clap.specs.declared.builder.value_parser.ValueParser.TheVariants as parser
 use Rattle.clap.proofs.ValueTestLemmas.{Accepts-accepts, accepts-Accepts}
 use Rattle.clap.proofs.WalkLemmas.{one_text-rows}
-use Rattle.cmdline.specs.Line.{is_operand, is_worker_number, number_in, number_of}
+use Rattle.cmdline.specs.Line.{is_operand, number_at, number_in, number_of}
 
 -- a word that says a number in some bounds says one of 64 bits
 in_range : (word : Text) → IsNumeral 10 (without_leading_plus word) → number_in word < 2 ^ 64 → number_of word ≡ Some (number_in word)
@@ -18,23 +18,24 @@ in_range word digits small =
     ap (λ (b : Bool). if b then Some (number_in word) else None)
     (Accepts-accepts false (parser.Unsigned 0 0xffff_ffff_ffff_ffff) word (digits, small, omega arith, omega arith))
 
-pub number_is_read : (word : Text) → is_worker_number word ≡ true → number_of word ≡ Some (number_in word)
-number_is_read word h =
-    let read = accepts-Accepts false (parser.Unsigned 1 32) word h in
-    in_range word read.0 read.1
+module _ (low high : ℕ) where
+  pub number_is_read : (word : Text) → is_unsigned_in low high word ≡ true → number_of word ≡ Some (number_in word)
+  number_is_read word h =
+      let read = accepts-Accepts false (parser.Unsigned low high) word h in
+      in_range word read.0 read.1
 
--- its first byte is no hyphen
-never_hyphen : (y : ℕ) (word : Text) (b : Bool) → (y == 45) ≡ b → is_worker_number (y ∷ word) ≡ true → b ≡ false
-never_hyphen y word false e h = refl
-never_hyphen y word true e h =
-    let same : y ≡ 45 = eqb-true y 45 e in
-    let read = accepts-Accepts false (parser.Unsigned 1 32) (45 ∷ word) (subst (λ (x : ℕ). is_worker_number (x ∷ word) ≡ true) same h) in
-    let small : digit_value 45 < 10 = read.0.1.0 in
-    absurd (omega arith)
+  -- its first byte is no hyphen
+  never_hyphen : (y : ℕ) (word : Text) (b : Bool) → (y == 45) ≡ b → is_unsigned_in low high (y ∷ word) ≡ true → b ≡ false
+  never_hyphen y word false e h = refl
+  never_hyphen y word true e h =
+      let same : y ≡ 45 = eqb-true y 45 e in
+      let read = accepts-Accepts false (parser.Unsigned low high) (45 ∷ word) (subst (λ (x : ℕ). is_unsigned_in low high (x ∷ word) ≡ true) same h) in
+      let small : digit_value 45 < 10 = read.0.1.0 in
+      absurd (omega arith)
 
-pub is_no_flag : (word : Text) → is_worker_number word ≡ true → is_operand word ≡ true
-is_no_flag [] h = refl
-is_no_flag (y ∷ word) h = rw (never_hyphen y word (y == 45) refl h) refl
+  pub is_no_flag : (word : Text) → is_unsigned_in low high word ≡ true → is_operand word ≡ true
+  is_no_flag [] h = refl
+  is_no_flag (y ∷ word) h = rw (never_hyphen y word (y == 45) refl h) refl
 
 -- a word that says none
 no_number : (word : Text) (b : Bool) → is_unsigned_in 0 0xffff_ffff_ffff_ffff word ≡ b → (IsNumeral 10 (without_leading_plus word) × (number_in word < 2 ^ 64) → ⊥) → number_of word ≡ None
@@ -57,5 +58,5 @@ module _ (E : Type 0) (G : Text → Result ℕ E → Type 0) (only : (word : Tex
   read_if_there (Some word) r none some = read_from word r (some word refl)
 
   -- the number that `get_one` reads of an option
-  pub number_at : (f : Found) (id : Text) (r : Option ℕ) → (one_text f id ≡ None → r ≡ None) → ((word : Text) → one_text f id ≡ Some word → ReadsOne G word r) → r ≡ option_and_then number_of (one_of id (rows_of f))
-  number_at f id r none some = read_if_there (one_text f id) r none some ∙ ap (option_and_then number_of) (one_text-rows f id)
+  pub number_is_found : (f : Found) (id : Text) (r : Option ℕ) → (one_text f id ≡ None → r ≡ None) → ((word : Text) → one_text f id ≡ Some word → ReadsOne G word r) → r ≡ number_at id (rows_of f)
+  number_is_found f id r none some = read_if_there (one_text f id) r none some ∙ ap (option_and_then number_of) (one_text-rows f id)

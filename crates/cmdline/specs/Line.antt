@@ -11,7 +11,7 @@ use Rattle.clap.specs.declared.builder.value_parser.ValueParser.TheVariants as p
 use Rattle.clap.specs.declared.error.Error.{Error}
 use Rattle.clap.specs.declared.error.ErrorKind.TheVariants as kind
 use Rattle.cmdline.specs.declared.Request.{Request}
-use Rattle.cmdline.specs.declared.Request.TheVariants.{Seq, Drive, Asm, Dis}
+use Rattle.cmdline.specs.declared.Request.TheVariants.{Run, Seq, Drive, Asm, Dis, Debug}
 
 -- the argument FILE: one required word
 abbrev pub file_rule : Rule
@@ -21,19 +21,41 @@ file_rule = record (new_rule (codes "file")) {
   required = true;
 }
 
--- `seq FILE`
-abbrev pub seq_app : App
-seq_app = with_rule (new_app (codes "seq")) file_rule
+-- the largest number of workers
+abbrev pub max_workers : ℕ
+max_workers = 32
 
--- the option `--workers N`: it is required, and N is a whole number of 1 to 32
+-- the largest number of a call, the first being 0
+abbrev pub last_call : ℕ
+last_call = 1023
+
+-- the option `--workers N`: it is required, and N is a whole number of 1 to `max_workers`
 abbrev pub workers_rule : Rule
 workers_rule = record (new_rule (codes "workers")) {
   long = Some (codes "workers");
   action = Some action.Set;
   value_names = 1;
-  parser = Some (parser.Unsigned 1 32);
+  parser = Some (parser.Unsigned 1 max_workers);
   required = true;
 }
+
+-- the option `--call N`: it is required, and N is a whole number of 0 to `last_call`
+abbrev pub call_rule : Rule
+call_rule = record (new_rule (codes "call")) {
+  long = Some (codes "call");
+  action = Some action.Set;
+  value_names = 1;
+  parser = Some (parser.Unsigned 0 last_call);
+  required = true;
+}
+
+-- `run FILE --workers N`
+abbrev pub run_app : App
+run_app = with_rule (with_rule (new_app (codes "run")) file_rule) workers_rule
+
+-- `seq FILE`
+abbrev pub seq_app : App
+seq_app = with_rule (new_app (codes "seq")) file_rule
 
 -- the option `--schedule FILE`: it is required
 abbrev pub schedule_rule : Rule
@@ -65,6 +87,10 @@ asm_app = with_rule (with_rule (new_app (codes "asm")) file_rule) out_rule
 abbrev pub dis_app : App
 dis_app = with_rule (new_app (codes "dis")) file_rule
 
+-- `debug FILE --call N`
+abbrev pub debug_app : App
+debug_app = with_rule (with_rule (new_app (codes "debug")) file_rule) call_rule
+
 -- `rvstm`, which has a version and wants a subcommand
 abbrev pub top_app : App
 top_app = record (new_app (codes "rvstm")) {
@@ -74,20 +100,25 @@ top_app = record (new_app (codes "rvstm")) {
 -- the whole command line
 abbrev pub rvstm_app : App
 rvstm_app =
-    with_subcommand (with_subcommand (with_subcommand (with_subcommand top_app seq_app.top) drive_app.top) asm_app.top) dis_app.top
+    with_subcommand (with_subcommand (with_subcommand (with_subcommand (with_subcommand (with_subcommand top_app run_app.top)
+    seq_app.top) drive_app.top) asm_app.top) dis_app.top) debug_app.top
 
 -- a request with its words as texts
 pub data Asked : Type 0 where
+  RunOf : Text → ℕ → Asked
   SeqOf : Text → Asked
   DriveOf : Text → ℕ → Text → Asked
   AsmOf : Text → Text → Asked
   DisOf : Text → Asked
+  DebugOf : Text → ℕ → Asked
 
 abbrev pub asked_by : Request → Asked
+asked_by (Run file workers) = RunOf file.now workers
 asked_by (Seq file) = SeqOf file.now
 asked_by (Drive file workers schedule) = DriveOf file.now workers schedule.now
 asked_by (Asm file out) = AsmOf file.now out.now
 asked_by (Dis file) = DisOf file.now
+asked_by (Debug file call) = DebugOf file.now call
 
 -- the number that a word says
 abbrev pub number_in : Text → ℕ
@@ -97,10 +128,18 @@ number_in word = digits_value 10 (without_leading_plus word)
 unfoldable pub number_of : Text → Option ℕ
 number_of word = if is_unsigned_in 0 0xffff_ffff_ffff_ffff word then Some (number_in word) else None
 
+-- the number of an option, by what clap found
+abbrev pub number_at : Text → List Row → Option ℕ
+number_at option rows = option_and_then number_of (one_of option rows)
+
+-- what FILE and the number of an option ask for, by what clap found
+abbrev pub numbered_of : (Text → ℕ → Asked) → Text → List Row → Option Asked
+numbered_of ask option rows = option_and_then (λ file. option_map (ask file) (number_at option rows)) (first_of (codes "file") rows)
+
 -- what `drive` asks for, by what clap found
 abbrev pub drive_of : List Row → Option Asked
 drive_of rows = option_and_then (λ file. option_and_then (λ workers. option_map (λ schedule. DriveOf file workers schedule)
-    (first_of (codes "schedule") rows)) (option_and_then number_of (one_of (codes "workers") rows))) (first_of (codes "file") rows)
+    (first_of (codes "schedule") rows)) (number_at (codes "workers") rows)) (first_of (codes "file") rows)
 
 -- what `asm` asks for, by what clap found
 abbrev pub asm_of : List Row → Option Asked
@@ -108,7 +147,9 @@ asm_of rows = option_and_then (λ file. option_map (λ out. AsmOf file out) (fir
 
 -- what a subcommand asks for, by its name and what clap found for its arguments
 abbrev pub asked_in : Text × List Row → Option Asked
-asked_in found = if bytes_eq found.0 (codes "seq")
+asked_in found = if bytes_eq found.0 (codes "run")
+    then numbered_of RunOf (codes "workers") found.1
+    else if bytes_eq found.0 (codes "seq")
     then option_map SeqOf (first_of (codes "file") found.1)
     else if bytes_eq found.0 (codes "drive")
     then drive_of found.1
@@ -116,6 +157,8 @@ asked_in found = if bytes_eq found.0 (codes "seq")
     then asm_of found.1
     else if bytes_eq found.0 (codes "dis")
     then option_map DisOf (first_of (codes "file") found.1)
+    else if bytes_eq found.0 (codes "debug")
+    then numbered_of DebugOf (codes "call") found.1
     else None
 
 -- what a whole line, with the program's name first, asks for where clap takes it
@@ -127,9 +170,13 @@ abbrev pub is_operand : Text → Bool
 is_operand [] = true
 is_operand (x ∷ rest) = not (x == 45)
 
--- the word says a whole number of 1 to 32
+-- the word says a whole number of 1 to `max_workers`
 abbrev pub is_worker_number : Text → Bool
-is_worker_number word = is_unsigned_in 1 32 word
+is_worker_number word = is_unsigned_in 1 max_workers word
+
+-- the word says a whole number of 0 to `last_call`
+abbrev pub is_call_number : Text → Bool
+is_call_number word = is_unsigned_in 0 last_call word
 
 -- the answer is this request, or memory ran out
 abbrev pub AnswersUnlessMemory : Result (Option Request) Error → Asked → Type 0

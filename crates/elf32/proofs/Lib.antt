@@ -3,3 +3,4 @@ pub mod Sound
 pub mod Ascending
 pub mod Loads
 pub mod Standing
+pub mod Zeros

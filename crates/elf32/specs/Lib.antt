@@ -1,4 +1,5 @@
 pub mod Layout
+pub mod Pages
 pub mod Header
 pub mod Faults
 pub mod Readable

@@ -2,11 +2,15 @@
 //! assembled program.
 #![tactic(auto)]
 
+pub mod bytes;
 pub mod error;
+pub mod extent;
 mod header;
 mod header_faults;
 pub mod image;
+pub mod pages;
 mod reading;
+mod rights;
 pub mod segment;
 mod segment_faults;
 mod table;
@@ -15,6 +19,7 @@ pub mod writing;
 
 pub use error::ElfError;
 pub use image::Image;
+pub use pages::Page;
 pub use reading::load;
 pub use segment::{Content, Rights, Segment};
 pub use words::PlacedWord;

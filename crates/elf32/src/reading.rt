@@ -122,7 +122,7 @@ fn image(alloc: Global, bytes: &[u8]) -> Result<Image, AllocError>
 {
     let loads = loads(bytes);
     let segments = segments(alloc, bytes, loads.as_slice())?;
-    Ok(Image::new(word_at(bytes, E_ENTRY), segments))
+    Image::new(alloc, word_at(bytes, E_ENTRY), segments)
 }
 
 /// The program that an ELF32 file stands for, or the least-numbered fault in it. Want of memory comes

@@ -4,17 +4,12 @@ ghost use Rattle.std.specs.Prelude.{◌≡◌, ◌+◌, ◌%◌, ◌==◌, ◌&&
 ghost use Rattle.std.specs.List.{list_any};
 ghost use Rattle.elf32.specs.Faults.{has_execute, has_read, has_write, is_below, is_load, is_null, is_out_of_range, may_execute_at, share_a_page, some_pair};
 
+use crate::extent::{self, FIRST_ADDRESS, INPUT_ADDRESS};
 use crate::header::ProgramHeader;
 use crate::table::{PT_LOAD, PT_NULL};
 
-/// The first address of memory.
-const FIRST_ADDRESS: u32 = 0x0001_0000;
-
-/// Where the input stands; segments end before it.
-const INPUT_ADDRESS: u64 = 0x0010_0000;
-
-/// The size of a page, in bytes.
-const PAGE_SIZE: u64 = 4096;
+/// The size of a page, in bytes, as wide as the end of a segment.
+const PAGE_SIZE: u64 = extent::PAGE_SIZE as u64;
 
 /// The flag of an executable segment.
 pub(crate) const PF_X: u32 = 1;
@@ -63,7 +58,7 @@ impl ProgramHeader {
         self.p_memsz < self.p_filesz
             || len < self.p_offset as usize + self.p_filesz as usize
             || self.p_vaddr < FIRST_ADDRESS
-            || INPUT_ADDRESS < self.end()
+            || u64::from(INPUT_ADDRESS) < self.end()
     }
 
     /// Whether two segments have addresses in one page.

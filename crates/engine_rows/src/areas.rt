@@ -1,12 +1,14 @@
 //! The line of each refusal.
 
 use block_file::{BlockFault, Cause};
+use debugger::ReplayFault;
 use elf32::ElfError;
 use engines::{FileFault, Refusal, SeqFault, report};
 use receipts::WriteFault;
 use rv_text::{AsmCause, AsmError};
 use std::test::Fail;
 use stm_core::DriveFault;
+use workers::RunFault;
 
 const CAUSES: [(Cause, &str); 7] = [
     (Cause::BadHeader, "2 BadHeader 1\n"),
@@ -38,7 +40,7 @@ const NO_ASM_MEMORY: AsmError = AsmError {
     cause: AsmCause::Memory,
 };
 
-const OTHERS: [(Refusal, &str); 31] = [
+const OTHERS: [(Refusal, &str); 43] = [
     (
         Refusal::File(FileFault::Unreadable),
         "rvstm: file Unreadable 1\n",
@@ -95,6 +97,39 @@ const OTHERS: [(Refusal, &str); 31] = [
     (Refusal::Elf(ElfError::BadEntry), "rvstm: elf BadEntry 15\n"),
     (Refusal::Elf(ElfError::Memory), "rvstm: elf Memory 16\n"),
     (Refusal::Seq(SeqFault::Memory), "rvstm: seq Memory 1\n"),
+    (Refusal::Run(RunFault::BadCount), "rvstm: run BadCount 1\n"),
+    (Refusal::Run(RunFault::Foreign), "rvstm: run Foreign 2\n"),
+    (
+        Refusal::Run(RunFault::ArenaFull),
+        "rvstm: run ArenaFull 3\n",
+    ),
+    (
+        Refusal::Run(RunFault::IncarnationLimit),
+        "rvstm: run IncarnationLimit 4\n",
+    ),
+    (Refusal::Run(RunFault::Memory), "rvstm: run Memory 5\n"),
+    (Refusal::Run(RunFault::Spawn), "rvstm: run Spawn 6\n"),
+    (
+        Refusal::Run(RunFault::StepLimit),
+        "rvstm: run StepLimit 7\n",
+    ),
+    (
+        Refusal::Debug(ReplayFault::NoSuchCall),
+        "rvstm: debug NoSuchCall 1\n",
+    ),
+    (Refusal::Debug(ReplayFault::AtEnd), "rvstm: debug AtEnd 2\n"),
+    (
+        Refusal::Debug(ReplayFault::AtStart),
+        "rvstm: debug AtStart 3\n",
+    ),
+    (
+        Refusal::Debug(ReplayFault::BadRange),
+        "rvstm: debug BadRange 4\n",
+    ),
+    (
+        Refusal::Debug(ReplayFault::Memory),
+        "rvstm: debug Memory 5\n",
+    ),
     (
         Refusal::Drive(DriveFault::NotDone),
         "rvstm: drive NotDone 1\n",

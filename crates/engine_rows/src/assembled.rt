@@ -33,7 +33,7 @@ fn a_file_is_replaced(rt: HostRuntime) -> Result<(), Fail> {
     let wanted = hex::decode(alloc, ECHO_FILE)?;
     for has_out in [false, true] {
         let stored = disk_of_source(alloc, has_out, NONE)?;
-        let answer = answer_to(alloc, LINE, &stored);
+        let answer = answer_to(&rt, alloc, LINE, &stored);
         assert_eq!(rt; answer.status, 0);
         assert_eq!(rt;
             stored.bytes_of(alloc, "out.elf")?.as_slice(),
@@ -49,14 +49,14 @@ fn a_refused_file_stays(rt: HostRuntime) -> Result<(), Fail> {
     let alloc = rt.alloc();
     for has_out in [false, true] {
         let whole = disk_of_source(alloc, has_out, NONE)?;
-        assert_eq!(rt; answer_to(alloc, LINE, &whole).status, 0);
+        assert_eq!(rt; answer_to(&rt, alloc, LINE, &whole).status, 0);
         // Making the file, three writes, bringing it to the disk, renaming it.
         assert_eq!(rt; whole.changes.get(), 6);
         for failing in 0..6 {
             for takes_nothing in [false, true] {
                 let mut stored = disk_of_source(alloc, has_out, failing)?;
                 stored.takes_nothing = takes_nothing;
-                let answer = answer_to(alloc, LINE, &stored);
+                let answer = answer_to(&rt, alloc, LINE, &stored);
                 assert_eq!(rt; answer.status, 1);
                 assert_eq!(rt; answer.errors.as_slice(), UNWRITABLE.as_bytes());
                 if has_out {
@@ -79,7 +79,7 @@ fn no_other_file_is_written_over(rt: HostRuntime) -> Result<(), Fail> {
     for name in ["out.elf.new0", "out.elf.new1"] {
         stored.put(alloc, name, OLD)?;
     }
-    assert_eq!(rt; answer_to(alloc, LINE, &stored).status, 0);
+    assert_eq!(rt; answer_to(&rt, alloc, LINE, &stored).status, 0);
     assert_eq!(rt;
         stored.bytes_of(alloc, "out.elf")?.as_slice(),
         wanted.as_slice()
@@ -102,7 +102,7 @@ fn no_free_name_is_refused(rt: HostRuntime) -> Result<(), Fail> {
             OLD,
         )?;
     }
-    let answer = answer_to(alloc, LINE, &stored);
+    let answer = answer_to(&rt, alloc, LINE, &stored);
     assert_eq!(rt; answer.errors.as_slice(), UNWRITABLE.as_bytes());
     assert_eq!(rt; stored.bytes_of(alloc, "out.elf")?.as_slice(), OLD);
     assert_eq!(rt; stored.count(), 102);
@@ -126,7 +126,7 @@ fn links_are_followed_and_devices_are_written(rt: HostRuntime) -> Result<(), Fai
         ),
     ] {
         let stored = disk_of_source(alloc, true, NONE)?;
-        assert_eq!(rt; answer_to(alloc, line.as_bytes(), &stored).status, 0);
+        assert_eq!(rt; answer_to(&rt, alloc, line.as_bytes(), &stored).status, 0);
         assert_eq!(rt; stored.bytes_of(alloc, path)?.as_slice(), wanted.as_slice());
         let asked = stored.asked(alloc)?;
         assert_eq!(rt; asked.as_str(), requests);

@@ -7,6 +7,8 @@ use std::env::FillError;
 use std::io;
 use std::io::{Read, Write};
 use std::rt::Env;
+use std::sync::Wait;
+use std::thread::Threads;
 
 /// The most bytes that a write takes.
 const WRITE_SIZE: usize = 40;
@@ -294,12 +296,36 @@ pub struct Answer {
     pub errors: Vec<u8>,
 }
 
-/// What the program answers to a command line over a disk.
-pub fn answer_to(alloc: Global, line: &[u8], stored: &Stored) -> Answer {
+/// What the program answers to a command line over a disk, with no lines on its input.
+pub fn answer_to<T: Threads + Wait + Sync>(
+    threads: &T,
+    alloc: Global,
+    line: &[u8],
+    stored: &Stored,
+) -> Answer {
+    answer_with(threads, alloc, line, stored, b"")
+}
+
+/// The same with these bytes on its input.
+pub fn answer_with<T: Threads + Wait + Sync>(
+    threads: &T,
+    alloc: Global,
+    line: &[u8],
+    stored: &Stored,
+    input: &[u8],
+) -> Answer {
+    let mut input = input;
     let mut out = Vec::new(alloc);
     let mut errors = Vec::new(alloc);
     let disk = FakeDisk { stored, alloc };
-    let status = status(&(Words { line }, alloc), &disk, &mut out, &mut errors);
+    let status = status(
+        &(Words { line }, alloc),
+        threads,
+        &disk,
+        &mut input,
+        &mut out,
+        &mut errors,
+    );
     Answer {
         status,
         out,

@@ -9,6 +9,8 @@ mod assembled;
 #[cfg(test)]
 mod blocks;
 #[cfg(test)]
+mod debugging;
+#[cfg(test)]
 mod drives;
 #[cfg(test)]
 mod edge_values;
@@ -26,3 +28,5 @@ mod rows;
 mod schedules;
 #[cfg(test)]
 mod sources;
+#[cfg(test)]
+mod threads;

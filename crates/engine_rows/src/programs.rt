@@ -3,7 +3,7 @@
 
 use crate::blocks::{elf_of, files_of};
 use crate::failing::FailingWriter;
-use crate::fake_disk::{FakeDisk, Stored, Words, answer_to, repeated};
+use crate::fake_disk::{FakeDisk, Stored, Words, answer_to, answer_with, repeated};
 use crate::rows::ECHO;
 use crate::sources::{ECHO_LISTING, ECHO_SOURCE};
 use engines::status;
@@ -52,6 +52,9 @@ fn disk_of_echo(alloc: Global) -> io::Result<Stored> {
 /// Command lines, with the exit status, what is printed and what is told on the errors' writer.
 const LINES: &[(&str, u8, &str, &str)] = &[
     ("rvstm seq echo.block", 0, RESULT, ""),
+    ("rvstm run echo.block --workers 1", 0, RESULT, ""),
+    ("rvstm run echo.block --workers 4", 0, RESULT, ""),
+    ("rvstm debug echo.block --call 0", 0, "", ""),
     (
         "rvstm drive echo.block --workers 1 --schedule one.schedule",
         0,
@@ -68,6 +71,30 @@ const LINES: &[(&str, u8, &str, &str)] = &[
         "rvstm: block 1 BadHeader 1\n",
     ),
     ("rvstm seq lost.block", 1, "", "rvstm: file Unreadable 1\n"),
+    (
+        "rvstm run lost.block --workers 2",
+        1,
+        "",
+        "rvstm: file Unreadable 1\n",
+    ),
+    (
+        "rvstm run wrong.block --workers 2",
+        1,
+        "",
+        "rvstm: block 1 BadHeader 1\n",
+    ),
+    (
+        "rvstm debug echo.block --call 1",
+        1,
+        "",
+        "rvstm: debug NoSuchCall 1\n",
+    ),
+    (
+        "rvstm debug wrong.block --call 1",
+        1,
+        "",
+        "rvstm: block 1 BadHeader 1\n",
+    ),
     (
         "rvstm drive echo.block --workers 1 --schedule short.schedule",
         1,
@@ -113,11 +140,24 @@ fn commands_reach_their_engines(rt: HostRuntime) -> Result<(), Fail> {
     let alloc = rt.alloc();
     for (line, status, out, errors) in LINES {
         let stored = disk_of_echo(alloc)?;
-        let answer = answer_to(alloc, line.as_bytes(), &stored);
+        let answer = answer_to(&rt, alloc, line.as_bytes(), &stored);
         assert_eq!(rt; answer.status, *status, "{line}");
         assert_eq!(rt; answer.out.as_slice(), out.as_bytes(), "{line}");
         assert_eq!(rt; answer.errors.as_slice(), errors.as_bytes(), "{line}");
     }
+    Ok(())
+}
+
+#[test]
+fn a_call_is_replayed_along_the_input(rt: HostRuntime) -> Result<(), Fail> {
+    let alloc = rt.alloc();
+    let stored = disk_of_echo(alloc)?;
+    let line = b"rvstm debug echo.block --call 0";
+    let answer = answer_with(&rt, alloc, line, &stored, b"w\ns\nq\ns\n");
+    assert_eq!(rt; answer.status, 0);
+    let shown = "0 00010000 addi x17,x0,3\n1 00010004 ecall\n";
+    assert_eq!(rt; answer.out.as_slice(), shown.as_bytes());
+    assert!(rt; answer.errors.is_empty());
     Ok(())
 }
 
@@ -135,7 +175,7 @@ fn help_is_printed(rt: HostRuntime) -> Result<(), Fail> {
         ("rvstm --version", "0.1.0"),
     ] {
         let stored = Stored::new(alloc, NONE);
-        let answer = answer_to(alloc, line.as_bytes(), &stored);
+        let answer = answer_to(&rt, alloc, line.as_bytes(), &stored);
         assert_eq!(rt; answer.status, 0, "{line}");
         assert!(rt; has(answer.out.as_slice(), piece)?, "{line}");
         assert!(rt; answer.errors.is_empty(), "{line}");
@@ -146,7 +186,7 @@ fn help_is_printed(rt: HostRuntime) -> Result<(), Fail> {
 #[test]
 fn wrong_lines_are_told(rt: HostRuntime) -> Result<(), Fail> {
     let alloc = rt.alloc();
-    let rows: [(&[u8], &str); 6] = [
+    let rows: [(&[u8], &str); 10] = [
         (b"rvstm", "error: "),
         (b"rvstm fly", "error: "),
         (b"rvstm seq", "error: "),
@@ -158,6 +198,10 @@ fn wrong_lines_are_told(rt: HostRuntime) -> Result<(), Fail> {
             b"rvstm drive echo.block --workers 33 --schedule one.schedule",
             "error: ",
         ),
+        (b"rvstm run echo.block", "error: "),
+        (b"rvstm run echo.block --workers 33", "error: "),
+        (b"rvstm debug echo.block", "error: "),
+        (b"rvstm debug echo.block --call 1024", "error: "),
         (
             b"rvstm seq \xff.block",
             "error: a word of the command line is not UTF-8\n",
@@ -165,7 +209,7 @@ fn wrong_lines_are_told(rt: HostRuntime) -> Result<(), Fail> {
     ];
     for (line, piece) in rows {
         let stored = disk_of_echo(alloc)?;
-        let answer = answer_to(alloc, line, &stored);
+        let answer = answer_to(&rt, alloc, line, &stored);
         assert_eq!(rt; answer.status, 2, "{piece}");
         assert!(rt; has(answer.errors.as_slice(), piece)?, "{piece}");
         assert!(rt; answer.out.is_empty(), "{piece}");
@@ -178,6 +222,14 @@ fn wrong_lines_are_told(rt: HostRuntime) -> Result<(), Fail> {
 const REQUESTS: &[(&str, &str)] = &[
     (
         "rvstm seq two.block",
+        "open two.block\nend two.block\nopen echo.elf\nend echo.elf\nopen other.elf\nend other.elf\n",
+    ),
+    (
+        "rvstm run two.block --workers 2",
+        "open two.block\nend two.block\nopen echo.elf\nend echo.elf\nopen other.elf\nend other.elf\n",
+    ),
+    (
+        "rvstm debug two.block --call 0",
         "open two.block\nend two.block\nopen echo.elf\nend echo.elf\nopen other.elf\nend other.elf\n",
     ),
     (
@@ -214,7 +266,7 @@ fn files_are_opened_in_their_order(rt: HostRuntime) -> Result<(), Fail> {
     let alloc = rt.alloc();
     for (line, requests) in REQUESTS {
         let stored = disk_of_echo(alloc)?;
-        let _ = answer_to(alloc, line.as_bytes(), &stored);
+        let _ = answer_to(&rt, alloc, line.as_bytes(), &stored);
         let asked = stored.asked(alloc)?;
         assert_eq!(rt; asked.as_str(), *requests, "{line}");
     }
@@ -244,7 +296,17 @@ fn a_failing_output_is_told(rt: HostRuntime) -> Result<(), Fail> {
             let words = Words {
                 line: line.as_bytes(),
             };
-            assert_eq!(rt; status(&(words, alloc), &disk, &mut out, &mut errors), 1);
+            assert_eq!(rt;
+                status(
+                    &(words, alloc),
+                    &rt,
+                    &disk,
+                    &mut io::empty(),
+                    &mut out,
+                    &mut errors
+                ),
+                1
+            );
             assert_eq!(rt; errors.as_slice(), told.as_bytes(), "{line}");
         }
     }
@@ -274,7 +336,7 @@ fn large_block(alloc: Global, programs: usize, calls: usize) -> Result<Stored, F
 fn the_largest_block_is_run(rt: HostRuntime) -> Result<(), Fail> {
     let alloc = rt.alloc();
     let stored = large_block(alloc, 64, 1024)?;
-    let answer = answer_to(alloc, b"rvstm seq large.block", &stored);
+    let answer = answer_to(&rt, alloc, b"rvstm seq large.block", &stored);
     assert_eq!(rt; answer.status, 0);
     assert!(rt; answer.out.starts_with(b"call 0 returned gas 11 "));
     assert!(rt; has(answer.out.as_slice(), "\ncall 1023 returned gas 11 ")?);
@@ -292,7 +354,7 @@ fn larger_blocks_are_refused(rt: HostRuntime) -> Result<(), Fail> {
         (65, 1, "rvstm: block 66 Limit 7\n"),
     ] {
         let stored = large_block(alloc, programs, calls)?;
-        let answer = answer_to(alloc, b"rvstm seq large.block", &stored);
+        let answer = answer_to(&rt, alloc, b"rvstm seq large.block", &stored);
         assert_eq!(rt; answer.status, 1);
         assert_eq!(rt; answer.errors.as_slice(), told.as_bytes());
         assert!(rt; answer.out.is_empty());

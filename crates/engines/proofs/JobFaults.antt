@@ -7,10 +7,10 @@ use Rattle.elf32.specs.Layout.{Layout}
 use Rattle.block_file.specs.Block.{BlockValue}
 use Rattle.block_file.specs.declared.fault.BlockFault.{BlockFault}
 use Rattle.engines.specs.declared.fault.Refusal.{Refusal}
-use Rattle.engines.specs.declared.fault.Refusal.TheVariants.{File, Block, Elf, Asm, Seq, Schedule, Drive, Output}
+use Rattle.engines.specs.declared.fault.Refusal.TheVariants.{File, Block, Elf, Asm, Seq, Schedule, Run, Drive, Debug, Output}
 use Rattle.engines.specs.declared.fault.FileFault.TheVariants.{Unreadable, Unwritable, TooLong}
-use Rattle.engines.specs.Engine.{answer_of, files_of, programs_of, result_of, IsFaultOf}
-use Rattle.engines.specs.Parts.{IsJobFault, job_over, loaded_job}
+use Rattle.engines.specs.Engine.{answer_of, files_of, job_over, loaded_job, programs_of, result_of, IsFaultOf}
+use Rattle.engines.specs.Parts.{IsJobFault}
 
 with_programs : (block : BlockValue) (programs : Result (List Layout) Refusal) (e : Refusal) → result_map_both (job_over block) (λ fault. fault) programs ≡ Err e → result_map_both (result_of block) (λ fault. fault) programs ≡ Err e
 with_programs block (Ok images) e h = cc
@@ -35,5 +35,7 @@ job_fault content block old new (File Unwritable) h = absurd h
 job_fault content block old new (Asm fault) h = absurd h
 job_fault content block old new (Seq fault) h = absurd h
 job_fault content block old new (Schedule fault) h = absurd h
+job_fault content block old new (Run fault) h = absurd h
 job_fault content block old new (Drive fault) h = absurd h
+job_fault content block old new (Debug fault) h = absurd h
 job_fault content block old new (Output fault) h = absurd h

@@ -1,2 +1,3 @@
 pub mod JobFaults
 pub mod ProgramFiles
+pub mod LaterFaults

@@ -5,7 +5,7 @@ use Rattle.std.specs.Prelude.{Option, Some, None, Result, Ok, Err, IfSome}
 use Rattle.std.specs.Option.{option_map}
 use Rattle.elf32.specs.Layout.{Layout}
 use Rattle.engines.specs.declared.fault.Refusal.{Refusal}
-use Rattle.engines.specs.declared.fault.Refusal.TheVariants.{File, Block, Elf, Asm, Seq, Schedule, Drive, Output}
+use Rattle.engines.specs.declared.fault.Refusal.TheVariants.{File, Block, Elf, Asm, Seq, Schedule, Run, Drive, Debug, Output}
 use Rattle.engines.specs.declared.fault.FileFault.TheVariants.{Unreadable, Unwritable, TooLong}
 use Rattle.engines.specs.Engine.{with_file, files_of, program_of, with_program, programs_of}
 use Rattle.engines.specs.Parts.{IsProgramFault}
@@ -43,7 +43,9 @@ met_fault all file more done (Block fault) h w = w
 met_fault all file more done (Asm fault) h w = w
 met_fault all file more done (Seq fault) h w = w
 met_fault all file more done (Schedule fault) h w = w
+met_fault all file more done (Run fault) h w = w
 met_fault all file more done (Drive fault) h w = w
+met_fault all file more done (Debug fault) h w = w
 met_fault all file more done (Output fault) h w = w
 
 -- a refusal of the next program is the one of all programs

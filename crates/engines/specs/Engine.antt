@@ -6,6 +6,7 @@ use Rattle.elf32.specs.Layout.{Layout}
 use Rattle.elf32.specs.Image.{image_of}
 use Rattle.elf32.specs.declared.error.ElfError.TheVariants as elf
 use Rattle.rv_ledger.specs.Call.{Invocation}
+use Rattle.rv_ledger.specs.declared.job.Job.{Job}
 use Rattle.rv_step.specs.Fold.{receipts_of, store_after}
 use Rattle.receipts.specs.Text.{result_text}
 use Rattle.receipts.specs.Written.{AppendsPart}
@@ -16,6 +17,7 @@ use Rattle.block_file.specs.declared.fault.Cause.TheVariants as cause
 use Rattle.engines.specs.declared.fault.Refusal.{Refusal}
 use Rattle.engines.specs.declared.fault.Refusal.TheVariants.{File, Block, Elf, Seq, Output}
 use Rattle.engines.specs.declared.fault.FileFault.TheVariants.{TooLong, Unreadable}
+use Rattle.engines.specs.declared.reading.TheConstants.{PROGRAM_FILE_LIMIT}
 
 -- the bytes of the files at some paths, where all are known
 abbrev pub with_file : Option (List ℕ) → Option (List (List ℕ)) → Option (List (List ℕ))
@@ -28,7 +30,7 @@ files_of content (path ∷ paths) = with_file (content path) (files_of content p
 
 -- the program of a file of at most 131,072 bytes, or its fault
 abbrev pub program_of : List ℕ → Result Layout Refusal
-program_of bytes = if nat_lt 131072 (length bytes) then Err (File TooLong) else result_map_both (λ image. image) Elf (image_of bytes)
+program_of bytes = if nat_lt PROGRAM_FILE_LIMIT (length bytes) then Err (File TooLong) else result_map_both (λ image. image) Elf (image_of bytes)
 
 -- the programs of files, or the fault of the first faulty one
 abbrev pub with_program : Result Layout Refusal → Result (List Layout) Refusal → Result (List Layout) Refusal
@@ -47,6 +49,15 @@ call_over images line = record {
   gas = line.gas;
   input = line.input;
 }
+
+-- the job of a block over the programs of its files
+abbrev pub job_over : BlockValue → List Layout → Job
+job_over block images = record { block = map (call_over images) block.calls; store = block.store }
+
+-- the job of a block file, or the first fault in it or in the files of its programs; nothing is said where one of these is unknown
+abbrev pub loaded_job : (List ℕ → Option (List ℕ)) → Result BlockValue BlockFault → Option (Result Job Refusal)
+loaded_job content (Err fault) = Some (Err (Block fault))
+loaded_job content (Ok block) = option_map (λ files. result_map_both (job_over block) (λ fault. fault) (programs_of files)) (files_of content block.programs)
 
 -- the text of the result of a block: its calls run in order, each on the storage that the ones before it left
 abbrev pub result_of : BlockValue → List Layout → List ℕ

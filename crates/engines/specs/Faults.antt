@@ -1,16 +1,18 @@
 -- What a refusal prints.
 use Rattle.std.specs.Prelude.{List, ℕ, ◌++◌, codes}
 use Rattle.block_file.specs.Faults as block
+use Rattle.debugger.specs.Faults as debug
 use Rattle.elf32.specs.Refusals as elf
 use Rattle.receipts.specs.Faults as output
 use Rattle.rv_text.specs.Faults as asm
 use Rattle.stm_core.specs.Faults as drive
+use Rattle.workers.specs.Faults as run
 use Rattle.engines.specs.declared.fault.FileFault.{FileFault}
 use Rattle.engines.specs.declared.fault.FileFault.TheVariants.{Unreadable, Unwritable, TooLong}
 use Rattle.engines.specs.declared.fault.SeqFault.{SeqFault}
 use Rattle.engines.specs.declared.fault.SeqFault.TheVariants.{Memory}
 use Rattle.engines.specs.declared.fault.Refusal.{Refusal}
-use Rattle.engines.specs.declared.fault.Refusal.TheVariants.{File, Block, Elf, Asm, Seq, Schedule, Drive, Output}
+use Rattle.engines.specs.declared.fault.Refusal.TheVariants.{File, Block, Elf, Asm, Seq, Schedule, Run, Drive, Debug, Output}
 
 -- the name and the number of a file's refusal
 abbrev pub file_text : FileFault → List ℕ
@@ -30,7 +32,9 @@ refusal_text (Elf fault) = codes "elf " ++ elf.error_text fault
 refusal_text (Asm fault) = codes "asm " ++ asm.fault_text fault
 refusal_text (Seq fault) = codes "seq " ++ seq_text fault
 refusal_text (Schedule fault) = codes "schedule " ++ block.fault_text fault
+refusal_text (Run fault) = codes "run " ++ run.fault_text fault
 refusal_text (Drive fault) = codes "drive " ++ drive.fault_text fault
+refusal_text (Debug fault) = codes "debug " ++ debug.fault_text fault
 refusal_text (Output fault) = codes "output " ++ output.fault_text fault
 
 -- the line that tells of a refusal

@@ -3,3 +3,5 @@ pub mod Listing
 pub mod Parts
 pub mod Driving
 pub mod Faults
+pub mod Running
+pub mod Debugging

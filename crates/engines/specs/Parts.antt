@@ -1,5 +1,5 @@
 -- Private help of proofs: no public clause cites it.
-use Rattle.std.specs.Prelude.{◌≡◌, ◌⊎◌, ⊤, ℕ, List, map, Option, Some, IfSome, Result, Ok, Err}
+use Rattle.std.specs.Prelude.{◌≡◌, ◌⊎◌, ⊤, ℕ, List, map, Option, Some, None, IfSome, Result, Ok, Err, slice_get}
 use Rattle.std.specs.Option.{option_map}
 use Rattle.std.specs.Result.{result_map_both}
 use Rattle.elf32.specs.Layout.{Layout}
@@ -7,13 +7,15 @@ use Rattle.elf32.specs.declared.error.ElfError.TheVariants as elf
 use Rattle.block_file.specs.Block.{BlockValue}
 use Rattle.block_file.specs.declared.fault.BlockFault.{BlockFault}
 use Rattle.block_file.specs.declared.fault.Cause.TheVariants as cause
+use Rattle.debugger.specs.declared.fault.ReplayFault.TheVariants as debug
 use Rattle.receipts.specs.Text.{result_text}
 use Rattle.receipts.specs.Written.{AppendsPart}
 use Rattle.rv_ledger.specs.declared.job.Job.{Job}
 use Rattle.rv_step.specs.Fold.{receipts_of, store_after}
-use Rattle.engines.specs.Engine.{call_over, files_of, programs_of}
+use Rattle.engines.specs.Engine.{loaded_job}
+use Rattle.engines.specs.Running.{IsRefusalOf}
 use Rattle.engines.specs.declared.fault.Refusal.{Refusal}
-use Rattle.engines.specs.declared.fault.Refusal.TheVariants.{File, Block, Elf, Seq, Schedule, Output}
+use Rattle.engines.specs.declared.fault.Refusal.TheVariants.{File, Block, Elf, Seq, Schedule, Run, Debug, Output}
 use Rattle.engines.specs.declared.fault.FileFault.TheVariants.{Unreadable, TooLong}
 
 -- a refusal met in the block file: it is the wanted one, or want of memory
@@ -34,15 +36,6 @@ abbrev pub IsScheduleFault : Option (Result (List ℕ) BlockFault) → Refusal �
 IsScheduleFault wanted (Schedule fault) = (fault.cause ≡ cause.Memory) ⊎ IfSome wanted (λ w. w ≡ Err fault)
 IsScheduleFault wanted (File Unreadable) = ⊤
 IsScheduleFault wanted _ = ⊥
-
--- the job of a block over the programs of its files
-abbrev pub job_over : BlockValue → List Layout → Job
-job_over block images = record { block = map (call_over images) block.calls; store = block.store }
-
--- the job of a block file, or the first fault in it or in the files of its programs; nothing is said where one of these is unknown
-abbrev pub loaded_job : (List ℕ → Option (List ℕ)) → Result BlockValue BlockFault → Option (Result Job Refusal)
-loaded_job content (Err fault) = Some (Err (Block fault))
-loaded_job content (Ok block) = option_map (λ files. result_map_both (job_over block) (λ fault. fault) (programs_of files)) (files_of content block.programs)
 
 -- a refusal met before a job is made: it is the wanted one, or want of memory
 abbrev pub IsJobFault : (List ℕ → Option (List ℕ)) → Result BlockValue BlockFault → Refusal → Type 0
@@ -66,3 +59,23 @@ abbrev pub IsRunFault : List ℕ → Option (List ℕ) → Option (List ℕ) →
 IsRunFault text old new (Seq fault) = ⊤
 IsRunFault text old new (Output fault) = AppendsPart old new text
 IsRunFault text old new _ = ⊥
+
+-- a refusal of a run by workers: one that the job may meet, or one of the output
+abbrev pub IsWorkersFault : Job → ℕ → Option (List ℕ) → Option (List ℕ) → Refusal → Type 0
+IsWorkersFault job workers old new (Run fault) = IsRefusalOf job workers fault
+IsWorkersFault job workers old new (Output fault) = AppendsPart old new (text_of job)
+IsWorkersFault job workers old new _ = ⊥
+
+-- a refusal before a session over the call of an index: want of memory, or that there is no such call
+abbrev pub IsReplayFault : Job → ℕ → Refusal → Type 0
+IsReplayFault job index (Seq fault) = ⊤
+IsReplayFault job index (Debug debug.Memory) = ⊤
+IsReplayFault job index (Debug debug.NoSuchCall) = slice_get job.block index ≡ None
+IsReplayFault job index _ = ⊥
+
+-- a refusal of a session: of a read, of a write, or want of memory
+abbrev pub IsSessionFault : Refusal → Type 0
+IsSessionFault (File Unreadable) = ⊤
+IsSessionFault (Output fault) = ⊤
+IsSessionFault (Debug debug.Memory) = ⊤
+IsSessionFault _ = ⊥

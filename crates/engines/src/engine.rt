@@ -127,7 +127,11 @@ fn drive_job<W: Write>(
 }
 
 /// Writes the result of a run.
-fn write_result<W: Write>(alloc: Global, outcome: &Outcome, out: &mut W) -> Result<(), Refusal>
+pub(crate) fn write_result<W: Write>(
+    alloc: Global,
+    outcome: &Outcome,
+    out: &mut W,
+) -> Result<(), Refusal>
     ensures written { OnOk result (Appends (W.contents out.old) (W.contents out.new)
         (result_text outcome.now.receipts.items outcome.now.store)) }
     ensures refused { IfErr result (λ e. IsOutputFault (result_text outcome.now.receipts.items outcome.now.store)

@@ -1,12 +1,14 @@
 //! Why a command is refused.
 
 use block_file::BlockFault;
+use debugger::ReplayFault;
 use elf32::ElfError;
 use receipts::WriteFault;
 use rv_text::AsmError;
 use std::fmt;
 use stm_core::DriveFault;
 use thiserror::Error;
+use workers::RunFault;
 
 /// Why a file is refused.
 #[derive(Clone, Copy, Debug, PartialEq, Eq, Error)]
@@ -72,8 +74,12 @@ pub enum Refusal {
     Seq(SeqFault),
     /// The text of a schedule file.
     Schedule(BlockFault),
+    /// The run by workers.
+    Run(RunFault),
     /// The run along a schedule.
     Drive(DriveFault),
+    /// The replay of a call.
+    Debug(ReplayFault),
     /// The output.
     Output(WriteFault),
 }
@@ -93,7 +99,9 @@ impl fmt::Display for Refusal {
             Refusal::Asm(fault) => write!(f, "asm {fault}"),
             Refusal::Seq(fault) => write!(f, "seq {fault}"),
             Refusal::Schedule(fault) => write!(f, "schedule {fault}"),
+            Refusal::Run(fault) => write!(f, "run {fault}"),
             Refusal::Drive(fault) => write!(f, "drive {fault}"),
+            Refusal::Debug(fault) => write!(f, "debug {fault}"),
             Refusal::Output(fault) => write!(f, "output {fault}"),
         }
     }

@@ -5,12 +5,12 @@ ghost use Rattle.std.specs.Arc.{arc_value};
 ghost use Rattle.std.specs.Option.{option_map};
 ghost use Rattle.std.specs.String.{string_bytes};
 ghost use Rattle.block_file.specs.Block.{block_of, block_value, call_value};
-ghost use Rattle.engines.specs.Engine.{call_over, files_of, program_of, programs_of};
-ghost use Rattle.engines.specs.Parts.{IsBlockFault, IsJobFault, IsProgramFault, loaded_job};
+ghost use Rattle.engines.specs.Engine.{call_over, files_of, loaded_job, program_of, programs_of};
+ghost use Rattle.engines.specs.Parts.{IsBlockFault, IsJobFault, IsProgramFault};
 
 use crate::fault::{FileFault, Refusal};
 use crate::programs::Programs;
-use crate::reading::{read_elf, read_text};
+use crate::reading::{PROGRAM_FILE_LIMIT, read_elf, read_text};
 use block_file::{BlockFault, BlockText, CallLine, Cause, parse};
 use elf32::{ElfError, Image, load};
 use rv_ledger::{Call, Job, Store};
@@ -126,7 +126,7 @@ fn read_program<P: Programs>(
 ) -> Result<Vec<u8>, Refusal>
     ensures same { P.content programs.new ≡ P.content programs.old }
     ensures ok { IfOk result (λ v. IfSome (P.content programs.old path.now) (λ bytes. v.items ≡ bytes)) }
-    ensures short { IfOk result (λ v. vec_len v ≤ 131072) }
+    ensures short { IfOk result (λ v. vec_len v ≤ PROGRAM_FILE_LIMIT) }
     ensures err { IfErr result (λ e. IsProgramFault (option_map program_of (P.content programs.old path.now)) e) }
 {
     let Ok(mut file) = programs.open(path) else {
@@ -137,7 +137,7 @@ fn read_program<P: Programs>(
 
 /// Loads the program of a file of at most 131,072 bytes.
 fn load_program(alloc: Global, bytes: &[u8]) -> Result<Arc<Image>, Refusal>
-    requires { length bytes.now ≤ 131072 }
+    requires { length bytes.now ≤ PROGRAM_FILE_LIMIT }
     ensures ok { IfOk result (λ i. program_of bytes.now ≡ Ok (arc_value i)) }
     ensures err { IfErr result (λ e. IsProgramFault (Some (program_of bytes.now)) e) }
 {

@@ -1,28 +1,41 @@
 //! The program, over any command line, files, output and errors' writer.
 
 use crate::assembling::file_of_source;
+use crate::debugging::debug_block_to;
 use crate::disk::{Disk, LateFile, ProgramFiles};
 use crate::engine::{drive_to, seq_to};
 use crate::fault::{FileFault, Refusal};
 use crate::listing::dis_to;
 use crate::replacing::replace;
 use crate::reporting::report;
+use crate::running::run_to;
 use cmdline::{Request, request_of};
 use std::alloc::Global;
-use std::io::Write;
+use std::io::{Read, Write};
 use std::rt::Env;
+use std::sync::Wait;
+use std::thread::Threads;
 use std::{env, io};
 
 /// The exit status of a wrong command line.
 const WRONG_LINE: u8 = 2;
 
 /// Does what the command line asks for, and gives the exit status: 0 where it is done, 1 where it is
-/// refused, 2 where the line is wrong. A text of help is written to the output; what is refused or wrong is
-/// told on the errors' writer.
-pub fn status<R, D, W, E>(rt: &R, disk: &D, out: &mut W, errors: &mut E) -> u8
+/// refused, 2 where the line is wrong. A debugger's lines are read from the input. A text of help is written
+/// to the output; what is refused or wrong is told on the errors' writer.
+pub fn status<R, T, D, I, W, E>(
+    rt: &R,
+    threads: &T,
+    disk: &D,
+    input: &mut I,
+    out: &mut W,
+    errors: &mut E,
+) -> u8
 where
     R: Env + AllocGlobal,
+    T: Threads + Wait + Sync,
     D: Disk,
+    I: Read,
     W: Write,
     E: Write,
 {
@@ -34,7 +47,7 @@ where
         }
     };
     match request_of(rt.alloc(), words.as_slice()) {
-        Ok(Some(request)) => match answer(rt.alloc(), disk, request, out) {
+        Ok(Some(request)) => match answer(threads, rt.alloc(), disk, request, input, out) {
             Ok(()) => 0,
             Err(refusal) => report(&refusal, errors),
         },
@@ -68,13 +81,16 @@ fn text_of(error: &io::Error) -> &'static str {
 }
 
 /// Does a request.
-fn answer<D: Disk, W: Write>(
+fn answer<T: Threads + Wait + Sync, D: Disk, I: Read, W: Write>(
+    threads: &T,
     alloc: Global,
     disk: &D,
     request: Request<'_>,
+    input: &mut I,
     out: &mut W,
 ) -> Result<(), Refusal> {
     match request {
+        Request::Run { file, workers } => run(threads, alloc, disk, file, workers, out),
         Request::Seq { file } => seq(alloc, disk, file, out),
         Request::Drive {
             file,
@@ -83,7 +99,22 @@ fn answer<D: Disk, W: Write>(
         } => drive(alloc, disk, file, workers, schedule, out),
         Request::Asm { file, out } => asm(alloc, disk, file, out),
         Request::Dis { file } => dis(alloc, disk, file, out),
+        Request::Debug { file, call } => debug(alloc, disk, file, call, input, out),
     }
+}
+
+/// Runs the calls of a block file by workers, each on a thread of its own, and prints the result.
+fn run<T: Threads + Wait + Sync, D: Disk, W: Write>(
+    threads: &T,
+    alloc: Global,
+    disk: &D,
+    file: &str,
+    workers: usize,
+    out: &mut W,
+) -> Result<(), Refusal> {
+    let mut block = opened(disk, file)?;
+    let mut programs = ProgramFiles { disk };
+    run_to(threads, alloc, &mut block, &mut programs, workers, out)
 }
 
 /// Runs the calls of a block file in order and prints the result.
@@ -129,6 +160,20 @@ fn asm<D: Disk>(alloc: Global, disk: &D, file: &str, out: &str) -> Result<(), Re
 fn dis<D: Disk, W: Write>(alloc: Global, disk: &D, file: &str, out: &mut W) -> Result<(), Refusal> {
     let mut file = opened(disk, file)?;
     dis_to(alloc, &mut file, out)
+}
+
+/// Replays a call of a block file along the lines of the input.
+fn debug<D: Disk, I: Read, W: Write>(
+    alloc: Global,
+    disk: &D,
+    file: &str,
+    call: usize,
+    input: &mut I,
+    out: &mut W,
+) -> Result<(), Refusal> {
+    let mut block = opened(disk, file)?;
+    let mut programs = ProgramFiles { disk };
+    debug_block_to(alloc, &mut block, &mut programs, call, input, out)
 }
 
 /// Opens a file to read it.

@@ -9,4 +9,6 @@ mod elf32_calls;
 #[cfg(test)]
 mod rv_ledger_calls;
 #[cfg(test)]
+mod rv_mem_calls;
+#[cfg(test)]
 mod rv_program_calls;

@@ -6,6 +6,7 @@ ghost use Rattle.gas.specs.Costs.{cost_of, cost_of_operation};
 use rv_isa::{Instr, Operation};
 
 /// The gas that `instr` costs. ECALL costs 0 here: what it asks for has a charge of its own.
+#[inline(always)]
 pub fn cost(instr: &Instr) -> u32
     ensures { result ≡ cost_of instr.now }
 {
@@ -18,6 +19,7 @@ pub fn cost(instr: &Instr) -> u32
 }
 
 /// The gas that an operation on two registers costs.
+#[inline(always)]
 fn operation_cost(operation: Operation) -> u32
     ensures { result ≡ cost_of_operation operation }
 {

@@ -36,6 +36,7 @@ impl Meter {
 
     /// Takes `amount` from what is left. False where less than `amount` is left; then nothing
     /// changes.
+    #[inline(always)]
     pub fn charge(&mut self, amount: u32) -> bool
         ensures answer { result ≡ nat_le amount self.old }
         ensures taken { OnTrue result (self.new ≡ self.old - amount) }

@@ -5,3 +5,4 @@ pub mod Fills
 pub mod Seeks
 pub mod Storages
 pub mod Snapshots
+pub mod Walks

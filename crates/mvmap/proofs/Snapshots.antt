@@ -76,7 +76,7 @@ picked f true x o = refl
 picked f false x o = refl
 
 -- the first slot's entry where a place is its own, and else the others'
-first_or_later : (rs : List Record) (p : Place) (s : Slot) (es : Slots) (key : List ℕ) (w : ℕ) (b : Bool) → eq_by_cmp place_cmp (key, w) p ≡ b → entries_of rs ((p, s) ∷ es) key w ≡ cond b (entry_of rs s) (entries_of rs es key w)
+pub first_or_later : (rs : List Record) (p : Place) (s : Slot) (es : Slots) (key : List ℕ) (w : ℕ) (b : Bool) → eq_by_cmp place_cmp (key, w) p ≡ b → entries_of rs ((p, s) ∷ es) key w ≡ cond b (entry_of rs s) (entries_of rs es key w)
 first_or_later rs p s es key w b h = picked (entry_of rs) (eq_by_cmp place_cmp (key, w) p) s (slot_at es (key, w)) ∙ ap (λ t. cond t (entry_of rs s) (entries_of rs es key w)) h
 
 -- a place that isn't above the first one has no later slot
@@ -105,10 +105,10 @@ other_key key k w v h = false_if (eq_by_cmp place_cmp (key, w) (k, v)) (λ t.
     let tied : eq_by_cmp key_cmp key k ≡ true = ap (eq_by_cmp key_cmp key) (sym one) ∙ ap is_eq (tied_itself nat_list_cmp_total key) in
     cc)
 
-other_writer : (key : List ℕ) (w v : ℕ) → w ≢ v → eq_by_cmp place_cmp (key, w) (key, v) ≡ false
+pub other_writer : (key : List ℕ) (w v : ℕ) → w ≢ v → eq_by_cmp place_cmp (key, w) (key, v) ≡ false
 other_writer key w v ne = false_if (eq_by_cmp place_cmp (key, w) (key, v)) (λ t. ne (ap (λ (p : Place). p.1) (same_place (key, w) (key, v) t)))
 
-not_above : (key : List ℕ) (v w : ℕ) → w ≤ v → place_cmp (key, v) (key, w) ≡ Less → ⊥
+pub not_above : (key : List ℕ) (v w : ℕ) → w ≤ v → place_cmp (key, v) (key, w) ≡ Less → ⊥
 not_above key v w l h = let less : v < w = is_less v w (sym (by_writer key v w) ∙ h) in omega arith
 
 -- a version of the first slot at the key, applied to a base

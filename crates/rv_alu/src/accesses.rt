@@ -6,6 +6,7 @@ ghost use Rattle.rv_alu.specs.Accesses.{address_from, extended_of, width_of};
 use rv_isa::{Immediate, LoadKind};
 
 /// The address of a load or a store at `base`, rs1, plus `offset`, modulo 2^32.
+#[inline(always)]
 pub fn address(base: u32, offset: Immediate) -> u32
     ensures { result ≡ address_from base offset }
 {
@@ -13,6 +14,7 @@ pub fn address(base: u32, offset: Immediate) -> u32
 }
 
 /// What a load writes to rd where it reads `number`: below 2^8 for LB and LBU, 2^16 for LH and LHU.
+#[inline(always)]
 pub fn extended(kind: LoadKind, number: u32) -> u32
     requires { number < 2 ^ (8 * width_of kind) }
     ensures { result ≡ extended_of kind number }

@@ -13,6 +13,7 @@ use rv_isa::{Instr, Reg, Regs};
 /// Makes `instr`, which stands at `pc`, and gives the pc after it. None where it jumps or branches
 /// to an address that is no multiple of 4; then nothing changes. `instr` is no load, store, ECALL or
 /// EBREAK.
+#[inline(always)]
 pub fn execute(instr: &Instr, registers: &mut Regs, pc: u32) -> Option<u32>
     requires { IsTrue (is_plain instr.now) }
     ensures done { IfSome result (λ next. effect_of instr.now registers.old pc ≡ Some (registers.new, next)) }
@@ -50,6 +51,7 @@ pub fn execute(instr: &Instr, registers: &mut Regs, pc: u32) -> Option<u32>
 
 /// Goes from `pc` to `target` and writes the address after `pc` to `rd`. None where `target` is no
 /// multiple of 4; then nothing changes.
+#[inline(always)]
 fn jump(registers: &mut Regs, rd: Reg, pc: u32, target: u32) -> Option<u32>
     ensures done { let linked = put registers.old rd (pos pc +ℤ pos 4) in
         IfSome result (λ next. jumped linked target ≡ Some (registers.new, next)) }
@@ -65,6 +67,7 @@ fn jump(registers: &mut Regs, rd: Reg, pc: u32, target: u32) -> Option<u32>
 }
 
 /// Writes what `instr`, which stands at `pc` and goes on to the next, computes.
+#[inline(always)]
 fn write_value(instr: &Instr, registers: &mut Regs, pc: u32)
     requires { IsTrue (is_computation instr.now) }
     ensures { effect_of instr.now registers.old pc ≡ onward registers.new pc }

@@ -9,6 +9,7 @@ use crate::products::{high_mixed, high_signed, high_unsigned};
 use rv_isa::Operation;
 
 /// What `operation` gives of `left`, rs1, and `right`, rs2.
+#[inline(always)]
 pub(crate) fn compute(operation: Operation, left: u32, right: u32) -> u32
     ensures { result ≡ wrapped (value_of operation left right) }
 {

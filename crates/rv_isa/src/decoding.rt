@@ -3,15 +3,15 @@
 ghost use Rattle.std.specs.Prelude.{◌≡◌, ◌↔◌, ◌%◌, ◌^◌, IfSome};
 ghost use Rattle.rv_isa.specs.Word.{word_of};
 ghost use Rattle.rv_isa.specs.Decoded.{decoded};
-ghost use Rattle.rv_isa.specs.Decoding.{slots_of, instr_of, jalr_of, branch_of, load_of, store_of, compute_immediate_of, shift_of, immediate_of, compute_of, fence_of, system_of};
+ghost use Rattle.rv_isa.specs.Decoding.{slots_of, instr_of, compute_immediate_of, shift_of};
 ghost use Rattle.rv_isa.specs.declared.instruction.Instr.{Instr};
 
-use crate::Instr;
 use crate::fields::{
     branch_offset, funct3, funct7, immediate_of_i, immediate_of_s, jump_offset, rd, rs1, rs2,
     shift_amount, upper,
 };
 use crate::tables::{condition, immediate_operation, load_kind, operation, shift, store_kind};
+use crate::{Instr, opcode};
 
 /// The instruction whose word is `word`; `None` where there is none, which is an illegal word.
 #[inline(always)]
@@ -25,40 +25,75 @@ pub fn decode(word: u32) -> Option<Instr>
 
 /// The instruction of a word by its opcode.
 #[inline(always)]
-#[tactic(auto, unfolding(crate::specs::Decoding::instr_of))]
+#[tactic(auto, unfolding(crate::specs::Decoded::decoded, crate::specs::Decoding::instr_of))]
 fn decode_slots(word: u32) -> Option<Instr>
-    ensures exact { result ≡ instr_of (slots_of word) }
+    ensures function { result ≡ decoded word }
     ensures found { IfSome result (λ x. word_of x ≡ word) }
 {
-    match word & 0x7f {
-        0b0110111 => Some(Instr::Lui {
-            rd: rd(word),
-            immediate: upper(word),
-        }),
-        0b0010111 => Some(Instr::Auipc {
-            rd: rd(word),
-            immediate: upper(word),
-        }),
-        0b1101111 => Some(Instr::Jal {
-            rd: rd(word),
-            offset: jump_offset(word),
-        }),
-        0b1100111 => decode_jalr(word),
-        0b1100011 => decode_branch(word),
-        0b0000011 => decode_load(word),
-        0b0100011 => decode_store(word),
-        0b0010011 => decode_immediate(word),
-        0b0110011 => decode_compute(word),
-        0b0001111 => decode_fence(word),
-        0b1110011 => decode_system(word),
+    match word & opcode::MASK {
+        opcode::LUI => decode_lui(word),
+        opcode::AUIPC => decode_auipc(word),
+        opcode::JAL => decode_jal(word),
+        opcode::JALR => decode_jalr(word),
+        opcode::BRANCH => decode_branch(word),
+        opcode::LOAD => decode_load(word),
+        opcode::STORE => decode_store(word),
+        opcode::OP_IMM => decode_immediate(word),
+        opcode::OP => decode_compute(word),
+        opcode::MISC_MEM => decode_fence(word),
+        opcode::SYSTEM => decode_system(word),
         _ => None,
     }
 }
 
-/// JALR.
-fn decode_jalr(word: u32) -> Option<Instr>
+/// The instruction of a word of the opcode LUI.
+#[inline(always)]
+#[tactic(auto, unfolding(crate::specs::Decoded::decoded, crate::specs::Decoding::instr_of))]
+pub fn decode_lui(word: u32) -> Option<Instr>
+    requires { word % 2 ^ 7 ≡ 0b0110111 }
+    ensures function { result ≡ decoded word }
+    ensures found { IfSome result (λ x. word_of x ≡ word) }
+{
+    Some(Instr::Lui {
+        rd: rd(word),
+        immediate: upper(word),
+    })
+}
+
+/// The instruction of a word of the opcode AUIPC.
+#[inline(always)]
+#[tactic(auto, unfolding(crate::specs::Decoded::decoded, crate::specs::Decoding::instr_of))]
+pub fn decode_auipc(word: u32) -> Option<Instr>
+    requires { word % 2 ^ 7 ≡ 0b0010111 }
+    ensures function { result ≡ decoded word }
+    ensures found { IfSome result (λ x. word_of x ≡ word) }
+{
+    Some(Instr::Auipc {
+        rd: rd(word),
+        immediate: upper(word),
+    })
+}
+
+/// The instruction of a word of the opcode JAL.
+#[inline(always)]
+#[tactic(auto, unfolding(crate::specs::Decoded::decoded, crate::specs::Decoding::instr_of))]
+pub fn decode_jal(word: u32) -> Option<Instr>
+    requires { word % 2 ^ 7 ≡ 0b1101111 }
+    ensures function { result ≡ decoded word }
+    ensures found { IfSome result (λ x. word_of x ≡ word) }
+{
+    Some(Instr::Jal {
+        rd: rd(word),
+        offset: jump_offset(word),
+    })
+}
+
+/// The instruction of a word of the opcode JALR; `None` where its funct3 is not 0.
+#[inline(always)]
+#[tactic(auto, unfolding(crate::specs::Decoded::decoded, crate::specs::Decoding::instr_of))]
+pub fn decode_jalr(word: u32) -> Option<Instr>
     requires { word % 2 ^ 7 ≡ 0b1100111 }
-    ensures exact { result ≡ jalr_of (slots_of word) }
+    ensures function { result ≡ decoded word }
     ensures found { IfSome result (λ x. word_of x ≡ word) }
 {
     if funct3(word) != 0b000 {
@@ -71,10 +106,12 @@ fn decode_jalr(word: u32) -> Option<Instr>
     })
 }
 
-/// A branch.
-fn decode_branch(word: u32) -> Option<Instr>
+/// The branch of a word of the opcode BRANCH; `None` where no condition has its funct3.
+#[inline(always)]
+#[tactic(auto, unfolding(crate::specs::Decoded::decoded, crate::specs::Decoding::instr_of))]
+pub fn decode_branch(word: u32) -> Option<Instr>
     requires { word % 2 ^ 7 ≡ 0b1100011 }
-    ensures exact { result ≡ branch_of (slots_of word) }
+    ensures function { result ≡ decoded word }
     ensures found { IfSome result (λ x. word_of x ≡ word) }
 {
     Some(Instr::Branch {
@@ -85,10 +122,12 @@ fn decode_branch(word: u32) -> Option<Instr>
     })
 }
 
-/// A load.
-fn decode_load(word: u32) -> Option<Instr>
+/// The load of a word of the opcode LOAD; `None` where none has its funct3.
+#[inline(always)]
+#[tactic(auto, unfolding(crate::specs::Decoded::decoded, crate::specs::Decoding::instr_of))]
+pub fn decode_load(word: u32) -> Option<Instr>
     requires { word % 2 ^ 7 ≡ 0b0000011 }
-    ensures exact { result ≡ load_of (slots_of word) }
+    ensures function { result ≡ decoded word }
     ensures found { IfSome result (λ x. word_of x ≡ word) }
 {
     Some(Instr::Load {
@@ -99,10 +138,12 @@ fn decode_load(word: u32) -> Option<Instr>
     })
 }
 
-/// A store.
-fn decode_store(word: u32) -> Option<Instr>
+/// The store of a word of the opcode STORE; `None` where none has its funct3.
+#[inline(always)]
+#[tactic(auto, unfolding(crate::specs::Decoded::decoded, crate::specs::Decoding::instr_of))]
+pub fn decode_store(word: u32) -> Option<Instr>
     requires { word % 2 ^ 7 ≡ 0b0100011 }
-    ensures exact { result ≡ store_of (slots_of word) }
+    ensures function { result ≡ decoded word }
     ensures found { IfSome result (λ x. word_of x ≡ word) }
 {
     Some(Instr::Store {
@@ -113,10 +154,13 @@ fn decode_store(word: u32) -> Option<Instr>
     })
 }
 
-/// funct3 001 and 101 are the shifts.
-fn decode_immediate(word: u32) -> Option<Instr>
+/// The computation of a word of the opcode OP-IMM, of which funct3 001 and 101 are the shifts; `None`
+/// where no shift has its funct7.
+#[inline(always)]
+#[tactic(auto, unfolding(crate::specs::Decoded::decoded, crate::specs::Decoding::instr_of))]
+pub fn decode_immediate(word: u32) -> Option<Instr>
     requires { word % 2 ^ 7 ≡ 0b0010011 }
-    ensures exact { result ≡ immediate_of (slots_of word) }
+    ensures function { result ≡ decoded word }
     ensures found { IfSome result (λ x. word_of x ≡ word) }
 {
     match funct3(word) {
@@ -126,6 +170,7 @@ fn decode_immediate(word: u32) -> Option<Instr>
 }
 
 /// A shift by an amount.
+#[inline(always)]
 fn decode_shift(word: u32) -> Option<Instr>
     requires { word % 2 ^ 7 ≡ 0b0010011 }
     ensures exact { result ≡ shift_of (slots_of word) }
@@ -140,6 +185,7 @@ fn decode_shift(word: u32) -> Option<Instr>
 }
 
 /// A computation with an immediate.
+#[inline(always)]
 fn decode_compute_immediate(word: u32) -> Option<Instr>
     requires { word % 2 ^ 7 ≡ 0b0010011 }
     ensures exact { result ≡ compute_immediate_of (slots_of word) }
@@ -153,10 +199,12 @@ fn decode_compute_immediate(word: u32) -> Option<Instr>
     })
 }
 
-/// A computation of two registers.
-fn decode_compute(word: u32) -> Option<Instr>
+/// The computation of a word of the opcode OP; `None` where none has its funct7 and funct3.
+#[inline(always)]
+#[tactic(auto, unfolding(crate::specs::Decoded::decoded, crate::specs::Decoding::instr_of))]
+pub fn decode_compute(word: u32) -> Option<Instr>
     requires { word % 2 ^ 7 ≡ 0b0110011 }
-    ensures exact { result ≡ compute_of (slots_of word) }
+    ensures function { result ≡ decoded word }
     ensures found { IfSome result (λ x. word_of x ≡ word) }
 {
     Some(Instr::Compute {
@@ -167,10 +215,12 @@ fn decode_compute(word: u32) -> Option<Instr>
     })
 }
 
-/// FENCE.
-fn decode_fence(word: u32) -> Option<Instr>
+/// The fence of a word of the opcode MISC-MEM; `None` where its funct3 is not 0.
+#[inline(always)]
+#[tactic(auto, unfolding(crate::specs::Decoded::decoded, crate::specs::Decoding::instr_of))]
+pub fn decode_fence(word: u32) -> Option<Instr>
     requires { word % 2 ^ 7 ≡ 0b0001111 }
-    ensures exact { result ≡ fence_of (slots_of word) }
+    ensures function { result ≡ decoded word }
     ensures found { IfSome result (λ x. word_of x ≡ word) }
 {
     if funct3(word) != 0b000 {
@@ -183,10 +233,12 @@ fn decode_fence(word: u32) -> Option<Instr>
     })
 }
 
-/// ECALL or EBREAK.
-fn decode_system(word: u32) -> Option<Instr>
+/// ECALL or EBREAK, of a word of the opcode SYSTEM; `None` where it is neither.
+#[inline(always)]
+#[tactic(auto, unfolding(crate::specs::Decoded::decoded, crate::specs::Decoding::instr_of))]
+pub fn decode_system(word: u32) -> Option<Instr>
     requires { word % 2 ^ 7 ≡ 0b1110011 }
-    ensures exact { result ≡ system_of (slots_of word) }
+    ensures function { result ≡ decoded word }
     ensures found { IfSome result (λ x. word_of x ≡ word) }
 {
     match word >> 7 {

@@ -1,2 +1,3 @@
 mod Each
+mod Flat
 mod Copied

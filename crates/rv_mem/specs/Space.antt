@@ -1,6 +1,7 @@
 -- Memory as a caller sees it, and what loads, stores and copies make of it.
-use Rattle.std.specs.Prelude.{◌≡◌, ℕ, zero, suc, ◌+◌, ◌-◌, ◌/◌, ◌%◌, ◌==◌, nat_le, nat_lt, Bool, true, false, ◌&&◌, if◌then◌else◌, List, ◌++◌, length, take, drop, slice_index_or, Result, Ok, Err, IsOk}
+use Rattle.std.specs.Prelude.{◌≡◌, ℕ, zero, suc, ◌+◌, ◌-◌, ◌/◌, ◌%◌, ◌==◌, nat_le, nat_lt, Bool, true, false, ◌&&◌, if◌then◌else◌, List, length, take, drop, slice_index_or, Result, Ok, Err, IsOk}
 use Rattle.byteorder.specs.Endian.{little_number, little_bytes}
+use Rattle.elf32.specs.Pages.{over}
 use Rattle.elf32.specs.declared.segment.Rights.{Rights}
 use Rattle.rv_mem.specs.declared.access.Access.{Access}
 use Rattle.rv_mem.specs.declared.access.Access.TheVariants.{Read, Write, Execute}
@@ -60,10 +61,6 @@ from_place f (Err fault) = Err fault
 abbrev pub loaded : ℕ → Access → Space → ℕ → Result ℕ Fault
 loaded n access m a =
     from_place (λ place. little_number n (drop place m.bytes)) (place_of n access m.rights a)
-
--- the list with another laid over it from a place on
-unfoldable pub over : List ℕ → ℕ → List ℕ → List ℕ
-over bytes place new = take place bytes ++ new ++ drop (place + length new) bytes
 
 -- memory with bytes written from a place on
 abbrev pub written : Space → List ℕ → ℕ → Space

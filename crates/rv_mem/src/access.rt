@@ -19,6 +19,7 @@ pub enum Access {
 
 impl Access {
     /// Whether a page with these rights may be used so.
+    #[inline(always)]
     pub(crate) fn is_allowed_by(self, rights: Rights) -> bool
         ensures { result ≡ allows self rights }
     {

@@ -1,14 +1,12 @@
-//! The memory of one contract call: one mebibyte of bytes, with rights a page.
+//! The memory of one contract call: one mebibyte of bytes, in pages that are
+//! shared until they are written, with rights a page.
 #![tactic(auto)]
 
 pub mod access;
-mod bytes;
 pub mod fault;
 pub mod memory;
 mod pages;
-mod start;
-#[cfg(test)]
-mod tests;
+mod rights;
 
 pub use access::Access;
 pub use fault::Fault;

@@ -1,152 +1,164 @@
 //! The memory of one call.
 
-ghost use Rattle.std.specs.Prelude.{◌≡◌, ◌<◌, ◌≤◌, ◌+◌, ◌^◌, ◌↔◌, true, length, IfOk, OnOk, IsOk, IfErr, All};
-ghost use Rattle.elf32.specs.Layout.{IsPlaced};
+ghost use Rattle.std.specs.Prelude.{◌≡◌, ◌<◌, ◌≤◌, ◌+◌, ◌-◌, ◌^◌, ◌↔◌, true, length, flat_map, IfOk, OnOk, IsOk, IfErr};
+ghost use Rattle.std.specs.Arc.{arc_value};
+ghost use Rattle.elf32.specs.Pages.{over, ArePages};
 ghost use Rattle.rv_mem.specs.Space.{bytes_at, each, loaded, stored, copied, Leaves};
 ghost use Rattle.rv_mem.specs.Start.{start_space};
 ghost use Rattle.rv_mem.specs.declared.access.Access.TheVariants.{Read, Write, Execute};
 ghost use Rattle.rv_mem.specs.declared.fault.Fault.TheVariants.{MemoryFault};
 
 use crate::access::Access;
-use crate::bytes::put;
 use crate::fault::Fault;
-use crate::pages::{FIRST, PAGES, place, range_has};
-use crate::start::{lay, page_rights, zero_bytes};
+use crate::pages::{byte_at, halfword_at, read, shared_pages, word_at, write, write_in_page};
+use crate::rights::{place, range_has};
 use byteorder::{ByteOrder, LittleEndian};
-use elf32::{Image, Rights, Segment};
+use elf32::extent::{FIRST_ADDRESS, INPUT_ADDRESS, PAGE_COUNT};
+use elf32::{Image, Page, Rights};
 use std::alloc::{AllocError, Global};
 use std::marker::Model;
+use std::sync::Arc;
 
-/// The number of bytes.
-const SIZE: usize = 0x0010_0000;
 /// The place of the input.
-const INPUT: usize = 0x000f_0000;
+const INPUT: usize = (INPUT_ADDRESS - FIRST_ADDRESS) as usize;
+
+/// Writes the input at its address; refused where memory ran out.
+fn put_input(pages: &mut [Arc<Page>], alloc: Global, input: &[u8]) -> Result<(), AllocError>
+    requires input { length input.now ≤ 4096 }
+    requires sizes { ArePages arc_value pages.old }
+    requires count { length pages.old ≡ 256 }
+    ensures ok { OnOk result (flat_map arc_value pages.new ≡ over (flat_map arc_value pages.old) (0x10_0000 - 0x1_0000) input.now) }
+    ensures sizes { ArePages arc_value pages.new }
+    ensures count { length pages.new ≡ 256 }
+{
+    if input.is_empty() {
+        return Ok(());
+    }
+    write(pages, alloc, INPUT, input)
+}
 
 /// The bytes at the addresses 0x00010000 up to 0x00110000, and the rights of their pages of 4,096
 /// bytes each.
 #[derive(Drop)]
 pub struct Memory {
-    bytes: Vec<u8>,
-    rights: Vec<Rights>,
+    alloc: Global,
+    pages: Vec<Arc<Page>>,
+    rights: Arc<[Rights; PAGE_COUNT]>,
 }
 
 impl Model for Memory {
-    ghost use Rattle.std.specs.Prelude.{◌≡◌, length};
+    ghost use Rattle.std.specs.Prelude.{◌≡◌, length, flat_map};
+    ghost use Rattle.std.specs.Arc.{arc_value};
+    ghost use Rattle.elf32.specs.Pages.{ArePages};
     ghost use Rattle.rv_mem.specs.Space.{Space};
 
     ghost Value = { Space };
 
-    ghost view = { λ m. record { bytes = m.bytes.items; rights = m.rights.items } };
+    ghost view = { λ m. record { bytes = flat_map arc_value m.pages.items; rights = arc_value m.rights } };
 
-    ghost invariant = { λ m. (length m.bytes.items ≡ 1048576) × (length m.rights.items ≡ 256) };
+    ghost invariant = { λ m. (length m.pages.items ≡ 256) × ArePages arc_value m.pages.items × (length (arc_value m.rights) ≡ 256) };
 }
 
 impl Memory {
     /// The memory of a call before its first instruction: the image's segments, and from
-    /// 0x00100000 on the input, of at most 4,096 bytes; refused where memory ran out.
+    /// 0x00100000 on the input, of at most 4,096 bytes; refused where memory ran out. The pages of the
+    /// image are shared, and the input gets one of its own.
     pub fn of(alloc: Global, image: &Image, input: &[u8]) -> Result<Memory, AllocError>
         requires { length input.now ≤ 4096 }
         ensures { IfOk result (λ m. m ≡ start_space image.now input.now) }
     {
-        Memory::with_segments(alloc, image.segments(), input)
-    }
-
-    /// The memory of a call before its first instruction, by the segments of its program; refused where
-    /// memory ran out.
-    pub(crate) fn with_segments(
-        alloc: Global,
-        segments: &[Segment],
-        input: &[u8],
-    ) -> Result<Memory, AllocError>
-        requires input { length input.now ≤ 4096 }
-        requires placed { All IsPlaced segments.now }
-        ensures { IfOk result (λ m. m ≡ start_space (record { entry = 0; segments = segments.now }) input.now) }
-    {
-        let mut bytes = zero_bytes(alloc, SIZE)?;
-        lay(&mut bytes, segments);
-        put(&mut bytes, INPUT, input);
-        let rights = page_rights(alloc, segments, PAGES)?;
-        Ok(Memory { bytes, rights })
+        let mut pages = shared_pages(alloc, image.pages())?;
+        put_input(&mut pages, alloc, input)?;
+        let rights = Arc::try_clone(image.rights())?;
+        Ok(Memory {
+            alloc,
+            pages,
+            rights,
+        })
     }
 
     /// The instruction word at the address, or Misaligned, or FetchFault where one of its bytes may
     /// not be executed.
+    #[inline(always)]
     pub fn fetch(&self, address: u32) -> Result<u32, Fault>
         ensures { result ≡ loaded 4 Execute self.now address }
     {
-        let at = place(&self.rights, Access::Execute, address, 4)?;
-        Ok(LittleEndian::read_u32(&self.bytes[at..]))
+        let at = place(&*self.rights, Access::Execute, address, 4)?;
+        Ok(word_at(&self.pages, at))
     }
 
     /// The byte at the address, or MemoryFault.
+    #[inline(always)]
     pub fn load8(&self, address: u32) -> Result<u8, Fault>
         ensures { result ≡ loaded 1 Read self.now address }
     {
-        let at = place(&self.rights, Access::Read, address, 1)?;
-        Ok(self.bytes[at])
+        let at = place(&*self.rights, Access::Read, address, 1)?;
+        Ok(byte_at(&self.pages, at))
     }
 
     /// The halfword at the address, or Misaligned where the address is odd, or MemoryFault.
+    #[inline(always)]
     pub fn load16(&self, address: u32) -> Result<u16, Fault>
         ensures { result ≡ loaded 2 Read self.now address }
     {
-        let at = place(&self.rights, Access::Read, address, 2)?;
-        Ok(LittleEndian::read_u16(&self.bytes[at..]))
+        let at = place(&*self.rights, Access::Read, address, 2)?;
+        Ok(halfword_at(&self.pages, at))
     }
 
     /// The word at the address, or Misaligned where the address is no multiple of 4, or MemoryFault.
+    #[inline(always)]
     pub fn load32(&self, address: u32) -> Result<u32, Fault>
         ensures { result ≡ loaded 4 Read self.now address }
     {
-        let at = place(&self.rights, Access::Read, address, 4)?;
-        Ok(LittleEndian::read_u32(&self.bytes[at..]))
+        let at = place(&*self.rights, Access::Read, address, 4)?;
+        Ok(word_at(&self.pages, at))
     }
 
     /// Writes a byte at the address, or refuses with MemoryFault or Memory and changes nothing.
+    #[inline(always)]
     pub fn store8(&mut self, address: u32, value: u8) -> Result<(), Fault>
         ensures { Leaves result (stored 1 self.old address value) self.old self.new }
     {
-        let at = place(&self.rights, Access::Write, address, 1)?;
-        put(&mut self.bytes, at, &[value]);
-        Ok(())
+        let at = place(&*self.rights, Access::Write, address, 1)?;
+        write_in_page(&mut self.pages, self.alloc, at, &[value]).map_err(|_| Fault::Memory)
     }
 
     /// Writes a halfword at the address, or refuses with Misaligned, MemoryFault or Memory and
     /// changes nothing.
+    #[inline(always)]
     pub fn store16(&mut self, address: u32, value: u16) -> Result<(), Fault>
         ensures { Leaves result (stored 2 self.old address value) self.old self.new }
     {
-        let at = place(&self.rights, Access::Write, address, 2)?;
+        let at = place(&*self.rights, Access::Write, address, 2)?;
         let mut halfword = [0; 2];
         LittleEndian::write_u16(&mut halfword, value);
-        put(&mut self.bytes, at, &halfword);
-        Ok(())
+        write_in_page(&mut self.pages, self.alloc, at, &halfword).map_err(|_| Fault::Memory)
     }
 
     /// Writes a word at the address, or refuses with Misaligned, MemoryFault or Memory and changes
     /// nothing.
+    #[inline(always)]
     pub fn store32(&mut self, address: u32, value: u32) -> Result<(), Fault>
         ensures { Leaves result (stored 4 self.old address value) self.old self.new }
     {
-        let at = place(&self.rights, Access::Write, address, 4)?;
+        let at = place(&*self.rights, Access::Write, address, 4)?;
         let mut word = [0; 4];
         LittleEndian::write_u32(&mut word, value);
-        put(&mut self.bytes, at, &word);
-        Ok(())
+        write_in_page(&mut self.pages, self.alloc, at, &word).map_err(|_| Fault::Memory)
     }
 
     /// Whether each of the `len` bytes from the address on may be loaded. Addresses do not wrap.
     pub fn range_readable(&self, address: u32, len: u32) -> bool
         ensures { result ≡ each Read self.now.rights address len }
     {
-        range_has(&self.rights, Access::Read, address, len)
+        range_has(&*self.rights, Access::Read, address, len)
     }
 
     /// Whether each of the `len` bytes from the address on may be stored to. Addresses do not wrap.
     pub fn range_writable(&self, address: u32, len: u32) -> bool
         ensures { result ≡ each Write self.now.rights address len }
     {
-        range_has(&self.rights, Access::Write, address, len)
+        range_has(&*self.rights, Access::Write, address, len)
     }
 
     /// Fills `out`, of less than 2^32 bytes, with those from the address on, at any alignment, or
@@ -157,12 +169,11 @@ impl Memory {
         ensures ok { IsOk result ↔ (each Read self.now.rights address (length out.old) ≡ true) }
         ensures err { IfErr result (λ e. (e ≡ MemoryFault) × (out.new ≡ out.old)) }
     {
-        if !range_has(&self.rights, Access::Read, address, out.len() as u32) {
+        if !range_has(&*self.rights, Access::Read, address, out.len() as u32) {
             return Err(Fault::MemoryFault);
         }
         if !out.is_empty() {
-            let at = (address - FIRST) as usize;
-            out.copy_from_slice(&self.bytes[at..at + out.len()]);
+            read(&self.pages, (address - FIRST_ADDRESS) as usize, out);
         }
         Ok(())
     }
@@ -174,8 +185,9 @@ impl Memory {
         requires last { address + length out.old ≤ 0x11_0000 }
         ensures { out.new ≡ bytes_at self.now address (length out.old) }
     {
-        let at = (address - FIRST) as usize;
-        out.copy_from_slice(&self.bytes[at..at + out.len()]);
+        if !out.is_empty() {
+            read(&self.pages, (address - FIRST_ADDRESS) as usize, out);
+        }
     }
 
     /// Writes the bytes, less than 2^32 of them, from the address on, at any alignment, or refuses
@@ -185,12 +197,13 @@ impl Memory {
         requires { length bytes.now < 2 ^ 32 }
         ensures { Leaves result (copied self.old address bytes.now) self.old self.new }
     {
-        if !range_has(&self.rights, Access::Write, address, bytes.len() as u32) {
+        if !range_has(&*self.rights, Access::Write, address, bytes.len() as u32) {
             return Err(Fault::MemoryFault);
         }
-        if !bytes.is_empty() {
-            put(&mut self.bytes, (address - FIRST) as usize, bytes);
+        if bytes.is_empty() {
+            return Ok(());
         }
-        Ok(())
+        let at = (address - FIRST_ADDRESS) as usize;
+        write(&mut self.pages, self.alloc, at, bytes).map_err(|_| Fault::Memory)
     }
 }

@@ -1,5 +1,6 @@
 -- Digits are ASCII, and what `from_str_radix` reads is their value.
 use Rattle.std.proofs.Common.{◌≡◌, ℕ, zero, suc, ◌<◌, ◌≤◌, ◌^◌, Bool, true, false, ◌&&◌, List, [], ◌∷◌, length, Result, Ok, Err, OkIff, arith, refl, ap, lit<}
+use Rattle.std.proofs.lemmas.Bool.{and_parts}
 use Rattle.std.proofs.lemmas.Bool.Decides.{nat_tests}
 use Rattle.std.proofs.lemmas.Int.Digits.{digits_value-lt}
 use Rattle.std.proofs.Math.Nat.{pow-le-pow_left, pow-le-pow_right}
@@ -9,10 +10,6 @@ use Rattle.std.specs.Str.{IsUtf8, IsAscii}
 use Rattle.std.specs.Str.Parse.{AllDigits, IsNumeral, digits_value, without_leading_plus, ParsesUnsigned}
 use Rattle.std.proofs.lemmas.Str.{IsUtf8-from_ascii}
 use Rattle.std.proofs.lemmas.Str.Parse.{without_leading_plus_none}
-
-and_true : (a b : Bool) → a && b ≡ true → (a ≡ true) × (b ≡ true)
-and_true true b h = (refl, h)
-and_true false b h = cc
 
 -- a digit in a radix up to 16 is ASCII, and no plus
 digit_low : (radix c : ℕ) → radix ≤ 16 → is_digit c radix ≡ true → c < 128
@@ -24,7 +21,7 @@ digit_no_plus radix c high h e = grind (arith, nat_tests)
 -- the test and the fact on digits
 pub all_digits : (radix : ℕ) (ds : List ℕ) → list_all (λ c. is_digit c radix) ds ≡ true → AllDigits radix ds
 all_digits radix [] h = tt
-all_digits radix (c ∷ cs) h = let p = and_true (is_digit c radix) _ h in (grind (arith, nat_tests, p.0), all_digits radix cs p.1)
+all_digits radix (c ∷ cs) h = let p = and_parts (is_digit c radix) _ h in (grind (arith, nat_tests, p.0), all_digits radix cs p.1)
 
 -- digits are text
 pub digits_are_text : (radix : ℕ) (ds : List ℕ) → radix ≤ 16 → list_all (λ c. is_digit c radix) ds ≡ true → IsUtf8 ds
@@ -32,8 +29,8 @@ digits_are_text radix ds high h = IsUtf8-from_ascii ds (ascii radix ds high h)
   where
     ascii : (radix : ℕ) (ds : List ℕ) → radix ≤ 16 → list_all (λ c. is_digit c radix) ds ≡ true → IsAscii ds
     ascii radix [] high h i = lit< tt
-    ascii radix (c ∷ cs) high h zero = digit_low radix c high ((and_true (is_digit c radix) _ h).0)
-    ascii radix (c ∷ cs) high h (suc i) = ascii radix cs high ((and_true (is_digit c radix) _ h).1) i
+    ascii radix (c ∷ cs) high h zero = digit_low radix c high ((and_parts (is_digit c radix) _ h).0)
+    ascii radix (c ∷ cs) high h (suc i) = ascii radix cs high ((and_parts (is_digit c radix) _ h).1) i
 
 -- at most ten of them write a number below 2^40
 pub digits_small : (radix : ℕ) (ds : List ℕ) → 2 ≤ radix → radix ≤ 16 → list_all (λ c. is_digit c radix) ds ≡ true → length ds ≤ 10 → digits_value radix ds < 2 ^ 40
@@ -45,7 +42,7 @@ digits_small radix ds low high h short =
 
 no_plus : (radix : ℕ) (ds : List ℕ) → radix ≤ 16 → list_all (λ c. is_digit c radix) ds ≡ true → without_leading_plus ds ≡ ds
 no_plus radix [] high h = refl
-no_plus radix (c ∷ cs) high h = without_leading_plus_none (c ∷ cs) (λ e. absurd (omega (arith, digit_no_plus radix c high ((and_true (is_digit c radix) _ h).0) e)))
+no_plus radix (c ∷ cs) high h = without_leading_plus_none (c ∷ cs) (λ e. absurd (omega (arith, digit_no_plus radix c high ((and_parts (is_digit c radix) _ h).0) e)))
 
 -- what is read of 1 to 10 digits
 pub digits_read : {E : Type 0} (radix : ℕ) (ds text : List ℕ) (r : Result ℕ E) → text ≡ ds → ParsesUnsigned 64 radix text r → 2 ≤ radix → radix ≤ 16 → list_all (λ c. is_digit c radix) ds ≡ true → 0 < length ds → length ds ≤ 10 → r ≡ Ok (digits_value radix ds)

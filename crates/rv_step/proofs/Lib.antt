@@ -4,3 +4,4 @@ pub mod Beginnings
 pub mod Receipts
 pub mod Askings
 pub mod Steps
+pub mod Reached

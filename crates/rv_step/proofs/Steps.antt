@@ -16,3 +16,14 @@ step_made r e = rw e refl
 pub one_more_step : (r s t : RunView) → (n : ℕ) × (s ≡ after_steps n r) → is_running s.stage ≡ true → t ≡ after_result (step s.machine) s → (n : ℕ) × (t ≡ after_steps n r)
 unfolding after_steps
 one_more_step r s t made running e = (suc made.0, e ∙ step_made s running ∙ ap after_one made.1)
+
+joined : (m n : ℕ) (r : RunView) → (k : ℕ) × (after_steps m (after_steps n r) ≡ after_steps k r)
+unfolding after_steps
+joined zero n r = (n, refl)
+joined (suc m) n r = let before = joined m n r in (suc before.0, ap after_one before.1)
+
+-- steps of a run that some steps led to are steps of the first one
+pub more_steps : (r s t : RunView) → (n : ℕ) × (s ≡ after_steps n r) → (m : ℕ) × (t ≡ after_steps m s) → (n : ℕ) × (t ≡ after_steps n r)
+more_steps r s t made more =
+    let both = joined more.0 made.0 r in
+    (both.0, more.1 ∙ ap (λ (q : RunView). after_steps more.0 q) made.1 ∙ both.1)

@@ -1,5 +1,5 @@
 -- Private help of proofs; no public clause cites it. What a method of the machine owes to what a step comes to.
-use Rattle.std.specs.Prelude.{◌≡◌, [], Bool, true, false, Option, Some, None, Result, Ok, Err, IsTrue, alloc_error}
+use Rattle.std.specs.Prelude.{◌≡◌, ℕ, zero, suc, [], Bool, true, false, Option, Some, None, Result, Ok, Err, IsTrue, alloc_error}
 use Rattle.rv_isa.specs.declared.instruction.Instr.{Instr}
 use Rattle.rv_isa.specs.declared.instruction.Instr.TheVariants.{Ecall}
 use Rattle.rv_ledger.specs.declared.end.End.{End}
@@ -13,8 +13,8 @@ use Rattle.rv_step.specs.declared.outcome.InstructionOutcome.{InstructionOutcome
 use Rattle.rv_step.specs.declared.outcome.InstructionOutcome.TheVariants as outcome
 use Rattle.rv_step.specs.declared.stage.Stage.{Stage}
 use Rattle.rv_step.specs.declared.stage.Stage.TheVariants.{Running, Asked, Ended}
-use Rattle.rv_step.specs.Growth.{goes_on, may_grow}
-use Rattle.rv_step.specs.Step.{StepResult, Next, Asks, Ends, ecall_result, trap_of}
+use Rattle.rv_step.specs.Growth.{goes_on, instruction_at, may_grow}
+use Rattle.rv_step.specs.Step.{StepResult, Next, Asks, Ends, ecall_result, step, trap_of}
 
 -- a method did what was wanted; an asking changes nothing; want of memory comes only where the call would go on, and
 -- changes nothing
@@ -31,6 +31,24 @@ MeetsInstruction (Ok outcome.Next) instr want old new = want ≡ Next new
 MeetsInstruction (Ok outcome.StorageCall) instr want old new = (instr ≡ Some Ecall) × (want ≡ ecall_result old (ecall_charge old.regs)) × (new ≡ old)
 MeetsInstruction (Ok (outcome.End end)) instr want old new = want ≡ Ends end [] new
 MeetsInstruction (Err refused) instr want old new = IsTrue (may_grow instr) × IsTrue (goes_on want) × (new ≡ old)
+
+-- the machine goes on
+abbrev pub is_next : InstructionOutcome → Bool
+is_next outcome.Next = true
+is_next _ = false
+
+-- `t` comes after this number of steps from `s`, each of which goes on
+unfoldable pub Reaches : ℕ → Machine → Machine → Type 0
+Reaches zero s t = t ≡ s
+Reaches (suc n) s t = (m : Machine) × Reaches n s m × (step m ≡ Next t)
+
+-- the same of a method that makes instructions up to one of this result: `count` of them went on before it, and it
+-- stood at `last`
+pub record MeetsInstructions (result : Result InstructionOutcome AllocError) (old new : Machine) : Type 0 where
+  pub count : ℕ
+  pub last : Machine
+  pub reached : Reaches count old last
+  pub did : MeetsInstruction result (instruction_at last) (step last) last new
 
 -- the same of a method that does an instruction other than an ECALL: none where the machine goes on, or the end
 abbrev pub MeetsEffect : Result (Option End) AllocError → Instr → StepResult → Machine → Machine → Type 0

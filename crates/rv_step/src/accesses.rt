@@ -9,6 +9,7 @@ use rv_isa::{LoadKind, StoreKind};
 use rv_mem::{Fault, Memory};
 
 /// The number that a load reads.
+#[inline(always)]
 pub fn number_at(memory: &Memory, kind: LoadKind, address: u32) -> Result<u32, Fault>
     ensures value { result ≡ loaded (width_of kind) access.Read memory.now address }
     ensures small { IfOk result (λ n. n < 2 ^ (8 * width_of kind)) }
@@ -21,6 +22,7 @@ pub fn number_at(memory: &Memory, kind: LoadKind, address: u32) -> Result<u32, F
 }
 
 /// Stores the low bytes of a number.
+#[inline(always)]
 pub fn store_number(
     memory: &mut Memory,
     kind: StoreKind,

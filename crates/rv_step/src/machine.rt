@@ -6,6 +6,7 @@ ghost use Rattle.std.specs.FinMap as map;
 ghost use Rattle.rv_alu.specs.Accesses.{store_width, width_of};
 ghost use Rattle.rv_alu.specs.Effects.{effect_of, register_value, is_plain};
 ghost use Rattle.rv_ledger.specs.declared.end.End.TheVariants.{OutOfGas, Trapped};
+ghost use Rattle.rv_isa.specs.Decoded.{decoded};
 ghost use Rattle.rv_isa.specs.declared.instruction.Instr.TheVariants.{Load, Store};
 ghost use Rattle.rv_mem.specs.Space.{Leaves, loaded, stored};
 ghost use Rattle.rv_mem.specs.declared.access.Access.TheVariants as access;
@@ -18,7 +19,11 @@ use crate::stage::{Stage, is_asked, trapped};
 use ecalls::{READ_CHARGE, Request, StorageCall, Trap, asked, request_by};
 use gas::{Meter, cost};
 use rv_alu::{address, execute, extended};
-use rv_isa::{Immediate, Instr, LoadKind, Reg, Regs, StoreKind, decode};
+use rv_isa::{
+    Immediate, Instr, LoadKind, Reg, Regs, StoreKind, decode_auipc, decode_branch, decode_compute,
+    decode_fence, decode_immediate, decode_jal, decode_jalr, decode_load, decode_lui, decode_store,
+    decode_system, funct3, opcode,
+};
 use rv_ledger::{Call, End, Key, Output, Value, Write, Writes};
 use rv_mem::Memory;
 use std::alloc::{AllocError, Global};
@@ -28,6 +33,23 @@ const ABSENT: u32 = 0xffff_ffff;
 
 /// What a0 tells of a value that is longer than the buffer.
 const TOO_LONG: u32 = 0xffff_fffe;
+
+/// Writes the same expression into an arm for each funct3 of a word. The compiler knows funct3 in each
+/// arm, and does not look up there again which operation it names.
+macro_rules! by_funct3 {
+    ($word:expr, $execution:expr) => {
+        match funct3($word) {
+            0b000 => $execution,
+            0b001 => $execution,
+            0b010 => $execution,
+            0b011 => $execution,
+            0b100 => $execution,
+            0b101 => $execution,
+            0b110 => $execution,
+            _ => $execution,
+        }
+    };
+}
 
 /// The machine of one call between two instructions.
 #[derive(Drop)]
@@ -48,7 +70,7 @@ impl Machine {
     ghost use Rattle.rv_step.specs.Step.{Next, instruction_result, address_of, answered, ecall_result, compute_result, delivery_result, next_instruction, is_ecall, memory_result, decode_result, read_result, storage_call_result, step, load_result, write_result};
     ghost use Rattle.rv_step.specs.Chain.{start};
     ghost use Rattle.rv_step.specs.Growth.{instruction_at};
-    ghost use Rattle.rv_step.specs.Meets.{MeetsEffect, MeetsInstruction, MeetsResult, is_asked};
+    ghost use Rattle.rv_step.specs.Meets.{MeetsEffect, MeetsInstruction, MeetsInstructions, MeetsResult, is_asked, is_next};
 
     /// The machine of a call before its first instruction; refused where memory ran out.
     #[tactic(auto, unfolding(crate::specs::Chain::start))]
@@ -69,14 +91,35 @@ impl Machine {
         })
     }
 
+    /// Makes instructions up to one after which the machine does not go on, and that one; but an ECALL
+    /// is only found. Refused where memory ran out; then the machine stands before that instruction.
+    /// The loop is a function of its own, since it runs faster where it holds no call.
+    #[inline(never)]
+    pub(crate) fn execute_until_stop(&mut self) -> Result<InstructionOutcome, AllocError>
+        ensures did { MeetsInstructions result self.old self.new }
+        ensures last { IfOk result (λ outcome. is_next outcome ≡ false) }
+    {
+        loop {
+            let outcome = match self.execute_instruction() {
+                Ok(outcome) => outcome,
+                Err(refused) => return Err(refused),
+            };
+            match outcome {
+                InstructionOutcome::Next => {}
+                outcome => return Ok(outcome),
+            }
+        }
+    }
+
     /// One step: fetch, decode, charge, act; but an ECALL is only found. Refused where memory ran
     /// out, and then nothing changes.
+    #[inline(always)]
     #[tactic(auto, unfolding(crate::specs::Step::step))]
     pub(crate) fn execute_instruction(&mut self) -> Result<InstructionOutcome, AllocError>
         ensures { MeetsInstruction result (instruction_at self.old) (step self.old) self.old self.new }
     {
         match self.memory.fetch(self.pc) {
-            Ok(word) => self.execute_decoded(decode(word)),
+            Ok(word) => self.execute_word(word),
             Err(fault) => Ok(InstructionOutcome::End(End::Trapped(trap_of(fault)))),
         }
     }
@@ -120,7 +163,31 @@ impl Machine {
         End::OutOfGas
     }
 
+    /// Charges the instruction of a word and does it, as `execute_decoded` of `decode`. Each opcode has
+    /// an arm of its own, so that the compiler knows there which instructions may come.
+    #[inline(always)]
+    #[tactic(auto, unfolding(rv_isa::specs::Decoded::decoded, rv_isa::specs::Decoding::instr_of))]
+    fn execute_word(&mut self, word: u32) -> Result<InstructionOutcome, AllocError>
+        ensures { MeetsInstruction result (decoded word) (decode_result self.old (decoded word)) self.old self.new }
+    {
+        match word & opcode::MASK {
+            opcode::LUI => self.execute_decoded(decode_lui(word)),
+            opcode::AUIPC => self.execute_decoded(decode_auipc(word)),
+            opcode::JAL => self.execute_decoded(decode_jal(word)),
+            opcode::JALR => self.execute_decoded(decode_jalr(word)),
+            opcode::BRANCH => by_funct3!(word, self.execute_decoded(decode_branch(word))),
+            opcode::LOAD => by_funct3!(word, self.execute_decoded(decode_load(word))),
+            opcode::STORE => by_funct3!(word, self.execute_decoded(decode_store(word))),
+            opcode::OP_IMM => by_funct3!(word, self.execute_decoded(decode_immediate(word))),
+            opcode::OP => by_funct3!(word, self.execute_decoded(decode_compute(word))),
+            opcode::MISC_MEM => self.execute_decoded(decode_fence(word)),
+            opcode::SYSTEM => self.execute_decoded(decode_system(word)),
+            _ => self.execute_decoded(None),
+        }
+    }
+
     /// Charges an instruction and does it; a word of none is a trap, and an ECALL is only found.
+    #[inline(always)]
     fn execute_decoded(&mut self, instr: Option<Instr>) -> Result<InstructionOutcome, AllocError>
         ensures { MeetsInstruction result instr (decode_result self.old instr) self.old self.new }
     {
@@ -232,6 +299,7 @@ impl Machine {
 
     /// Does an instruction that is no ECALL: None where the machine goes on, or how the call ends.
     #[tactic(auto, unfolding(crate::specs::Step::instruction_result))]
+    #[inline(always)]
     fn execute_charged(&mut self, instr: &Instr) -> Result<Option<End>, AllocError>
         requires { is_ecall instr.now ≡ false }
         ensures { MeetsEffect result instr.now (instruction_result instr.now self.old) self.old self.new }
@@ -255,6 +323,7 @@ impl Machine {
     }
 
     /// Does an instruction that touches registers and the pc alone.
+    #[inline(always)]
     fn compute(&mut self, instr: &Instr) -> Option<End>
         requires { IsTrue (is_plain instr.now) }
         ensures { MeetsEffect (Ok result) instr.now (compute_result self.old (effect_of instr.now self.old.regs self.old.pc)) self.old self.new }
@@ -269,6 +338,7 @@ impl Machine {
     }
 
     /// Does a load.
+    #[inline(always)]
     fn load(&mut self, kind: LoadKind, rd: Reg, base: Reg, offset: Immediate) -> Option<End>
         ensures { MeetsEffect (Ok result) (Load kind rd base offset) (load_result kind rd self.old (loaded (width_of kind) access.Read self.old.memory (address_of self.old base offset))) self.old self.new }
     {
@@ -284,6 +354,7 @@ impl Machine {
     }
 
     /// Does a store.
+    #[inline(always)]
     fn store(
         &mut self,
         kind: StoreKind,
@@ -305,6 +376,7 @@ impl Machine {
     }
 
     /// Goes on to the next instruction.
+    #[inline(always)]
     fn advance_pc(&mut self)
         ensures { next_instruction self.old ≡ Next self.new }
     {

@@ -19,6 +19,7 @@ pub enum InstructionOutcome {
 }
 
 /// Whether an instruction is ECALL.
+#[inline(always)]
 pub(crate) fn is_ecall(instr: &Instr) -> bool
     ensures { result ≡ is_ecall instr.now }
 {

@@ -124,9 +124,29 @@ impl Run {
         ensures stays { is_running self.old.stage ≡ false → self.new ≡ self.old }
     {
         while self.is_running() {
-            self.step_one()?;
+            self.step_until_stop()?;
         }
         Ok(self.pause())
+    }
+
+    /// Makes instructions up to an ECALL or the end of the call, of a run that can make one. Refused
+    /// where memory ran out; then it stands before the instruction that took memory.
+    fn step_until_stop(&mut self) -> Result<(), AllocError>
+        requires { IsTrue (is_running self.old.stage) }
+        ensures call { self.new.call ≡ self.old.call }
+        ensures answers { self.new.answers ≡ self.old.answers }
+        ensures steps { (n : ℕ) × (self.new ≡ after_steps n self.old) }
+        ensures fewer { OnOk result (steps_left self.new < steps_left self.old) }
+        ensures left { steps_left self.new ≤ steps_left self.old }
+        ensures stopped { OnErr result (IsTrue (is_running self.new.stage)) }
+        ensures grows { OnErr result (TakesMemory self.new.machine) }
+    {
+        match self.machine.execute_until_stop()? {
+            InstructionOutcome::Next => unreachable!(),
+            InstructionOutcome::StorageCall => execute_ecall(&mut self.machine, &mut self.stage)?,
+            InstructionOutcome::End(end) => end_with(&mut self.stage, end),
+        }
+        Ok(())
     }
 
     /// Why a run that stands still does so.

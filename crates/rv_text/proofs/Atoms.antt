@@ -1,5 +1,6 @@
 -- Registers and numbers are read back from their texts, and have no byte that parts operands.
 use Rattle.std.proofs.Common.{◌≡◌, ℕ, zero, suc, ◌+◌, ◌*◌, ◌/◌, ◌%◌, ◌^◌, ◌<◌, ◌≤◌, ◌==◌, nat_eq, nat_le, Bool, true, false, not, ◌&&◌, ◌||◌, cond, List, [], ◌∷◌, ◌++◌, length, get_or, Option, Some, None, ℤ, pos, negsuc, neg_ℤ, arith, refl, ap, ◌∙◌, lit<, lit≤, codes}
+use Rattle.std.proofs.lemmas.Bool.{and_parts}
 use Rattle.std.proofs.lemmas.Bool.Decides.{nat_tests}
 use Rattle.std.proofs.lemmas.Int.{ints}
 use Rattle.std.proofs.Math.Nat.{pow-suc}
@@ -46,10 +47,6 @@ below : (ℕ → Bool) → ℕ → Bool
 below p zero = true
 below p (suc k) = p k && below p k
 
-both_true : (a b : Bool) → a && b ≡ true → (a ≡ true) × (b ≡ true)
-both_true true b h = (refl, h)
-both_true false b h = cc
-
 last_or_less : (p : ℕ → Bool) (k n : ℕ) → p k ≡ true → (n < k → p n ≡ true) → n < suc k → (b : Bool) → nat_eq n k ≡ b → p n ≡ true
 last_or_less p k n last less l true e = let same : n ≡ k = grind (arith, nat_tests) in rw same last
 last_or_less p k n last less l false e = less (grind (arith, nat_tests))
@@ -58,7 +55,7 @@ at_below : (p : ℕ → Bool) (k : ℕ) → below p k ≡ true → (n : ℕ) →
 unfolding below
 at_below p zero h n l = absurd (omega arith)
 at_below p (suc k) h n l =
-    let parts = both_true (p k) (below p k) h in
+    let parts = and_parts (p k) (below p k) h in
     last_or_less p k n parts.0 (λ less. at_below p k parts.1 n less) l (nat_eq n k) refl
 
 is_number : Option ℕ → ℕ → Bool
@@ -86,8 +83,8 @@ name_facts : (r : Reg) → (is_number (register_number (x_name r)) r.number ≡ 
 unfolding x_name named_well
 name_facts r =
     let h : named_well r.number ≡ true = at_below named_well 32 all_named_well r.number r.in_range in
-    let a = both_true (is_number (register_number (get_or x_names r.number [])) r.number) _ h in
-    let b = both_true (nat_le 1 (length (get_or x_names r.number []))) _ a.1 in
+    let a = and_parts (is_number (register_number (get_or x_names r.number [])) r.number) _ h in
+    let b = and_parts (nat_le 1 (length (get_or x_names r.number []))) _ a.1 in
     (a.0, grind (arith, nat_tests, b.0), not_true _ b.1)
 
 pub register_read : (r : Reg) → register_of (x_name r) ≡ Some r

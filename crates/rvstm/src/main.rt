@@ -10,6 +10,14 @@ use std::process::ExitCode;
 
 fn main(rt: HostRuntime) -> ExitCode {
     let disk = SystemDisk { rt: &rt };
+    let mut input = rt.stdin();
     let mut errors = rt.stderr();
-    ExitCode::from(status(&rt, &disk, &mut io::writer(&rt), &mut errors))
+    ExitCode::from(status(
+        &rt,
+        &rt,
+        &disk,
+        &mut input,
+        &mut io::writer(&rt),
+        &mut errors,
+    ))
 }

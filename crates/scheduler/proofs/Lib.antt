@@ -1,3 +1,4 @@
+pub mod Awaited
 pub mod Cases
 pub mod Counted
 pub mod Seen

@@ -1,3 +1,4 @@
 pub mod Parts
 pub mod Workers
+pub mod Awaited
 pub mod Schedule

@@ -1,6 +1,6 @@
 //! What the scheduler does to a call, and to all calls.
 
-ghost use Rattle.std.specs.Prelude.{◌≡◌, ◌≤◌, ◌<◌, ◌+◌, ℕ, [], Some, None, IfOk, length, map, set, get_or, replicate};
+ghost use Rattle.std.specs.Prelude.{◌≡◌, ◌≤◌, ◌<◌, ◌+◌, ℕ, [], Some, None, IfOk, false, true, if◌then◌else◌, length, map, min, set, get_or, replicate};
 ghost use Rattle.stm_state.specs.State.{fresh, is_executed, is_ready};
 ghost use Rattle.stm_state.specs.Steps.{has_new_key, is_executed_at, is_parked_on, lowered, next_incarnation, resume_if_parked, reads_of, wrote};
 ghost use Rattle.stm_state.specs.declared.state.Status.TheVariants as status;
@@ -34,6 +34,17 @@ pub(crate) fn fresh_calls(alloc: Global, count: usize) -> Result<Vec<CallState>,
     Ok(calls)
 }
 
+/// Of this many calls, that no other is parked on any; refused where memory ran out.
+pub(crate) fn none_awaited(alloc: Global, count: usize) -> Result<Vec<bool>, AllocError>
+    ensures { IfOk result (λ awaited. awaited.items ≡ replicate count false) }
+{
+    let mut awaited = Vec::with_capacity(alloc, count)?;
+    for _ in 0..count {
+        awaited.push(false)?;
+    }
+    Ok(awaited)
+}
+
 /// Readies a call.
 pub(crate) fn make_ready(call: &mut CallState)
     requires { call.old.incarnation < INCARNATION_LIMIT }
@@ -44,40 +55,43 @@ pub(crate) fn make_ready(call: &mut CallState)
     call.parked = None;
 }
 
-/// Readies all calls that are parked on a call.
-pub(crate) fn resume_parked(calls: &mut Vec<CallState>, on: u16)
-    requires { (i : ℕ) → (get_or calls.old.items i fresh).status ≡ status.Aborting → (get_or calls.old.items i fresh).incarnation ≤ LAST_INCARNATION }
-    ensures { calls.new.items ≡ map (resume_if_parked on) calls.old.items }
+/// Readies all calls that are parked on a call, and lowers an execution index to the least of them.
+/// Tells whether any call names that one still, as none does that was parked on it.
+pub(crate) fn resume_parked(calls: &mut Vec<CallState>, on: u16, execution: &mut u16) -> bool
+    requires count { length calls.old.items ≤ CALL_LIMIT }
+    requires incarnations { (i : ℕ) → (get_or calls.old.items i fresh).status ≡ status.Aborting → (get_or calls.old.items i fresh).incarnation ≤ LAST_INCARNATION }
+    ensures calls { calls.new.items ≡ map (resume_if_parked on) calls.old.items }
+    ensures execution { execution.new ≡ lowered on execution.old 0 calls.old.items }
+    ensures named { (i : ℕ) → (get_or calls.new.items i fresh).parked ≡ Some on → result ≡ true }
 {
+    let mut named = false;
+    let mut number = 0;
     for index in 0..calls.len() {
-        resume_if_parked(&mut calls[index], on);
+        let call = &mut calls[index];
+        resume_if_parked(call, number, on, execution);
+        named |= is_named(call, on);
+        number += 1;
     }
+    named
 }
 
-/// Readies a call that is parked on a call.
-fn resume_if_parked(call: &mut CallState, on: u16)
+/// Readies a call of a number if it is parked on a call, and lowers an execution index to it then.
+fn resume_if_parked(call: &mut CallState, number: u16, on: u16, execution: &mut u16)
     requires { call.old.status ≡ status.Aborting → call.old.incarnation ≤ LAST_INCARNATION }
-    ensures { call.new ≡ resume_if_parked on call.old }
+    ensures call { call.new ≡ resume_if_parked on call.old }
+    ensures execution { execution.new ≡ (if is_parked_on on call.old then min execution.old number else execution.old) }
 {
     if is_parked_on(call, on) {
         make_ready(call);
+        *execution = (*execution).min(number);
     }
 }
 
-/// An execution index lowered to the least call that is parked on a call.
-pub(crate) fn lowered(calls: &[CallState], on: u16, execution: u16) -> u16
-    requires { length calls.now ≤ CALL_LIMIT }
-    ensures { result ≡ lowered on execution 0 calls.now }
+/// Whether a call names a call as the one that it is parked on, be it ABORTING or not.
+fn is_named(call: &CallState, on: u16) -> bool
+    ensures { call.now.parked ≡ Some on → result ≡ true }
 {
-    let mut lowest = execution;
-    let mut index = 0;
-    for call in calls {
-        if is_parked_on(call, on) {
-            lowest = lowest.min(index);
-        }
-        index += 1;
-    }
-    lowest
+    call.parked == Some(on)
 }
 
 /// Whether a call is parked on a call.

@@ -18,6 +18,8 @@ pub struct Scheduler {
     execution: u16,
     validation: u16,
     workers: Vec<Worker>,
+    /// Of each call, whether another may be parked on it; where not, none is.
+    awaited: Vec<bool>,
 }
 
 impl Model for Scheduler {
@@ -26,6 +28,7 @@ impl Model for Scheduler {
     ghost use Rattle.rv_ledger.specs.declared.job.TheConstants.{CALL_LIMIT};
     ghost use Rattle.stm_state.specs.contracts.state.CallState.{the_row as call_row};
     ghost use Rattle.stm_state.specs.contracts.state.Task.{the_row as task_row};
+    ghost use Rattle.scheduler.specs.Awaited.{IsAwaited};
     ghost use Rattle.scheduler.specs.Schedule.{Schedule, schedule_of};
 
     ghost Value = { Schedule };
@@ -34,7 +37,7 @@ impl Model for Scheduler {
 
     ghost view = { λ s. schedule_of s.calls.items s.execution s.validation s.workers.items };
 
-    ghost invariant = { λ s. length s.calls.items ≤ CALL_LIMIT };
+    ghost invariant = { λ s. (length s.calls.items ≤ CALL_LIMIT) × IsAwaited s.calls.items s.awaited.items };
 }
 
 impl Scheduler {
@@ -61,6 +64,7 @@ impl Scheduler {
             execution: 0,
             validation: 0,
             workers: worker::idle_workers(alloc, workers)?,
+            awaited: calls::none_awaited(alloc, calls)?,
         })
     }
 
@@ -403,9 +407,11 @@ impl Scheduler {
 
     /// Parks a call on another.
     fn park(&mut self, call: u16, on: u16)
-        requires { call < length self.old.calls }
+        requires within { call < length self.old.calls }
+        requires on { on < length self.old.calls }
         ensures { self.new ≡ record self.old { calls = set self.old.calls call (record (get_or self.old.calls call fresh) { status = Status.Aborting; parked = Some on }) } }
     {
+        self.awaited[usize::from(on)] = true;
         let parked = &mut self.calls[usize::from(call)];
         parked.status = Status::Aborting;
         parked.parked = Some(on);
@@ -441,13 +447,17 @@ impl Scheduler {
         restarted.status = Status::Executing;
     }
 
-    /// Readies all calls that are parked on a call, and lowers the execution index to the least.
+    /// Readies all calls that are parked on a call, and lowers the execution index to the least. Looks
+    /// at no call where none is parked on it.
     fn resume_dependents(&mut self, on: u16)
-        requires { (i : ℕ) → (get_or self.old.calls i fresh).status ≡ Status.Aborting → (get_or self.old.calls i fresh).incarnation ≤ LAST_INCARNATION }
+        requires within { on < length self.old.calls }
+        requires incarnations { (i : ℕ) → (get_or self.old.calls i fresh).status ≡ Status.Aborting → (get_or self.old.calls i fresh).incarnation ≤ LAST_INCARNATION }
         ensures { self.new ≡ record self.old { calls = map (resume_if_parked on) self.old.calls; execution = lowered on self.old.execution 0 self.old.calls } }
     {
-        self.execution = calls::lowered(&self.calls, on, self.execution);
-        calls::resume_parked(&mut self.calls, on);
+        let awaited = &mut self.awaited[usize::from(on)];
+        if *awaited {
+            *awaited = calls::resume_parked(&mut self.calls, on, &mut self.execution);
+        }
     }
 
     /// Gives a worker a task, and no answers.

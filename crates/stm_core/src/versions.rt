@@ -23,7 +23,7 @@ pub(crate) fn written_count(writes: &Writes) -> usize
 pub(crate) fn written_keys(alloc: Global, writes: &Writes) -> Result<Vec<Key>, AllocError>
     ensures { IfOk result (λ keys. keys.items ≡ keys_of (entries writes.now)) }
 {
-    let mut keys = Vec::new(alloc);
+    let mut keys = Vec::with_capacity(alloc, written_count(writes))?;
     for (key, _) in writes.iter() {
         keys.push(*key)?;
     }

@@ -63,6 +63,35 @@ fn reads_drive(rt: HostRuntime) -> Result<(), Fail> {
 }
 
 #[test]
+fn reads_run_and_debug(rt: HostRuntime) -> Result<(), Fail> {
+    let alloc = rt.alloc();
+    let file = "a.block";
+    for (line, asked) in [
+        (
+            "rvstm run a.block --workers 007",
+            Request::Run { file, workers: 7 },
+        ),
+        (
+            "rvstm run --workers=32 a.block",
+            Request::Run { file, workers: 32 },
+        ),
+        (
+            "rvstm debug a.block --call 0",
+            Request::Debug { file, call: 0 },
+        ),
+        (
+            "rvstm debug --call=1023 a.block",
+            Request::Debug { file, call: 1023 },
+        ),
+    ] {
+        let words = words_of(alloc, line)?;
+        let request = request_of(alloc, words.as_slice())?;
+        assert!(rt; request == Some(asked), "{line}");
+    }
+    Ok(())
+}
+
+#[test]
 fn refuses_wrong_lines(rt: HostRuntime) -> Result<(), Fail> {
     let alloc = rt.alloc();
     for line in [
@@ -75,6 +104,14 @@ fn refuses_wrong_lines(rt: HostRuntime) -> Result<(), Fail> {
         "rvstm asm --out a.elf",
         "rvstm dis",
         "rvstm dis a.elf --out b",
+        "rvstm run a.block",
+        "rvstm run a.block --workers 0",
+        "rvstm run a.block --workers 33",
+        "rvstm run a.block --workers 2 --call 0",
+        "rvstm debug a.block",
+        "rvstm debug a.block --call 1024",
+        "rvstm debug a.block --call -1",
+        "rvstm debug a.block --workers 2",
         "rvstm drive a.block --workers 2",
         "rvstm drive a.block --schedule b.schedule",
         "rvstm drive --workers 2 --schedule b.schedule",
@@ -101,6 +138,7 @@ fn answers_requests_for_help(rt: HostRuntime) -> Result<(), Fail> {
         ("rvstm help seq", "The block file"),
         ("rvstm seq --help", "The block file"),
         ("rvstm drive --help", "--workers <N>"),
+        ("rvstm debug --help", "--call <N>"),
         ("rvstm --version", "rvstm 0.1.0"),
     ] {
         let words = words_of(alloc, line)?;

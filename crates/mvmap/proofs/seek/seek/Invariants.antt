@@ -1,10 +1,9 @@
-use Rattle.std.proofs.Common.{◌≡◌}
-use Rattle.mvmap.specs.Reading.{reading}
-use Rattle.mvmap.specs.Slots.{versions_of}
+use Rattle.std.proofs.Common.{length}
+use Rattle.mvmap.proofs.Walks.{IsWalked}
 use Rattle.mvmap.proofs.seek.seek.Given as goal
 
-abbrev pub invariant-loop-writer : goal.invariant-loop-writer
-invariant-loop-writer l = reading (versions_of l.arena.records l.slots.entries) l.key l.end ≡ reading (versions_of l.arena.records l.slots.entries) l.key l.i
+abbrev pub invariant-loop-place : goal.invariant-loop-place
+invariant-loop-place l = IsWalked l.slots.entries l.key l.i l.below
 
-abbrev pub decreases-loop-writer : goal.decreases-loop-writer
-decreases-loop-writer l = l.end
+abbrev pub decreases-loop-place : goal.decreases-loop-place
+decreases-loop-place l = length l.below

@@ -1,5 +1,5 @@
 use Rattle.std.proofs.Common.{rules}
-use Rattle.rv_step.proofs.Steps.{no_steps, one_more_step}
+use Rattle.rv_step.proofs.Steps.{no_steps, more_steps}
 use Rattle.rv_step.proofs.run.Run.go.Goals as goal
 
 pub loop-self-init : goal.loop-self-init
@@ -16,9 +16,12 @@ loop-self-preserved c = record {
   call = search rules;
   answers = search rules;
   fewer = search rules;
-  steps = one_more_step _ _ _ c.loop-self.invariant.steps (search rules) c.in_ok-step_one.ensures.ok;
+  steps = more_steps _ _ _ c.loop-self.invariant.steps c.in_ok-step_until_stop.ensures.steps;
   stays = search rules;
 }
 
 pub loop-self-smaller : goal.loop-self-smaller
-loop-self-smaller c = c.in_ok-step_one.ensures.fewer
+loop-self-smaller c = c.in_ok-step_until_stop.ensures.fewer
+
+pub returns-in_err-step_until_stop-clause-steps : goal.returns-in_err-step_until_stop-clause-steps
+returns-in_err-step_until_stop-clause-steps c = more_steps _ _ _ c.loop-self.invariant.steps c.in_err-step_until_stop.ensures.steps

@@ -1,0 +1,98 @@
+//! The request of a line that clap took, by what clap found.
+
+ghost use Rattle.std.specs.Prelude.{◌≡◌, option_and_then, option_map, codes};
+ghost use Rattle.clap.specs.Words.{first_of, found_of, rows_of, subcommand_rows_of};
+ghost use Rattle.cmdline.specs.Line.{DebugOf, DisOf, RunOf, SeqOf, asked_by, asked_in, asm_of, drive_of, number_at, numbered_of};
+
+use crate::Request;
+use clap::ArgMatches;
+
+/// The request of a line that clap took. `None` where a value that it demands is not there.
+pub(crate) fn request_in<'a>(matches: &ArgMatches<'a>) -> Option<Request<'a>>
+    ensures { option_map asked_by result
+        ≡ option_and_then asked_in (subcommand_rows_of matches.now) }
+{
+    match matches.subcommand()? {
+        ("run", found) => run_in(found),
+        ("seq", found) => seq_in(found),
+        ("drive", found) => drive_in(found),
+        ("asm", found) => asm_in(found),
+        ("dis", found) => dis_in(found),
+        ("debug", found) => debug_in(found),
+        _ => None,
+    }
+}
+
+/// The request of what clap found for `run`.
+#[tactic(auto, using(crate::proofs::Lines::first_in_rows))]
+fn run_in<'a>(found: &ArgMatches<'a>) -> Option<Request<'a>>
+    ensures { option_map asked_by result
+        ≡ numbered_of RunOf (codes "workers") (rows_of (found_of found.now)) }
+{
+    let file = found.get_str("file")?;
+    let workers = number_found(found, "workers")?;
+    Some(Request::Run { file, workers })
+}
+
+/// The request of what clap found for `seq`.
+#[tactic(auto, using(crate::proofs::Lines::first_in_rows))]
+fn seq_in<'a>(found: &ArgMatches<'a>) -> Option<Request<'a>>
+    ensures { option_map asked_by result
+        ≡ option_map SeqOf (first_of (codes "file") (rows_of (found_of found.now))) }
+{
+    let file = found.get_str("file")?;
+    Some(Request::Seq { file })
+}
+
+/// The request of what clap found for `drive`.
+#[tactic(auto, using(crate::proofs::Lines::first_in_rows))]
+fn drive_in<'a>(found: &ArgMatches<'a>) -> Option<Request<'a>>
+    ensures { option_map asked_by result ≡ drive_of (rows_of (found_of found.now)) }
+{
+    let file = found.get_str("file")?;
+    let workers = number_found(found, "workers")?;
+    let schedule = found.get_str("schedule")?;
+    Some(Request::Drive {
+        file,
+        workers,
+        schedule,
+    })
+}
+
+/// The request of what clap found for `asm`.
+#[tactic(auto, using(crate::proofs::Lines::first_in_rows))]
+fn asm_in<'a>(found: &ArgMatches<'a>) -> Option<Request<'a>>
+    ensures { option_map asked_by result ≡ asm_of (rows_of (found_of found.now)) }
+{
+    let file = found.get_str("file")?;
+    let out = found.get_str("out")?;
+    Some(Request::Asm { file, out })
+}
+
+/// The request of what clap found for `dis`.
+#[tactic(auto, using(crate::proofs::Lines::first_in_rows))]
+fn dis_in<'a>(found: &ArgMatches<'a>) -> Option<Request<'a>>
+    ensures { option_map asked_by result
+        ≡ option_map DisOf (first_of (codes "file") (rows_of (found_of found.now))) }
+{
+    let file = found.get_str("file")?;
+    Some(Request::Dis { file })
+}
+
+/// The request of what clap found for `debug`.
+#[tactic(auto, using(crate::proofs::Lines::first_in_rows))]
+fn debug_in<'a>(found: &ArgMatches<'a>) -> Option<Request<'a>>
+    ensures { option_map asked_by result
+        ≡ numbered_of DebugOf (codes "call") (rows_of (found_of found.now)) }
+{
+    let file = found.get_str("file")?;
+    let call = number_found(found, "call")?;
+    Some(Request::Debug { file, call })
+}
+
+/// The number that clap found for an option.
+fn number_found(found: &ArgMatches<'_>, option: &str) -> Option<usize>
+    ensures { result ≡ number_at option.now (rows_of (found_of found.now)) }
+{
+    found.get_one::<usize>(option)
+}

@@ -1,0 +1,32 @@
+use Rattle.std.proofs.Common.{◌++◌, take, arith}
+use Rattle.std.proofs.KnownBytes.{Consumes-trans}
+use Rattle.debugger.proofs.Cuts.{cut_at, cut_between, cut_inside, cut_over, read_none}
+use Rattle.debugger.proofs.Hearings.{part_heard}
+use Rattle.debugger.proofs.session.debug_to.Goals as goal
+
+pub loop-preserved : goal.loop-preserved
+loop-preserved g c = (
+  c.loop.invariant.0 ++ take c.in-Ok.count c.read.new.buf,
+  Consumes-trans _ _ _ c.loop.invariant.0 (take c.in-Ok.count c.read.new.buf) c.loop.invariant.1 c.in-Ok.ensures.bytes.0,
+  part_heard c.args.replay.now c.loop.replay c.loop.invariant.0 c.loop.line.items _ _ c.loop.invariant.2 (take c.in-Ok.count c.read.new.buf) c.hear.new.line.items c.hear.new.replay _
+      (rw c.in-Ok-true.field-0-test at c.in-Ok-true.ensures.ok),
+)
+
+pub returns-in-Err-hear-clause-err : goal.returns-in-Err-hear-clause-err
+returns-in-Err-hear-clause-err g c =
+    cut_over _ _ c.args.replay.now (c.loop.invariant.0 ++ take c.in-Ok.count c.read.new.buf) (g.W.Write.contents c.args.out.now) (g.W.Write.contents c.hear.new.out)
+    (Consumes-trans _ _ _ c.loop.invariant.0 (take c.in-Ok.count c.read.new.buf) c.loop.invariant.1 c.in-Ok.ensures.bytes.0)
+    (cut_inside c.args.replay.now c.loop.replay c.loop.invariant.0 c.loop.line.items (g.W.Write.contents c.args.out.now) (g.W.Write.contents c.loop.out) c.loop.invariant.2
+    (take c.in-Ok.count c.read.new.buf) (g.W.Write.contents c.hear.new.out) c.in-Err-hear.ensures.err)
+
+pub returns-clause-err : goal.returns-clause-err
+returns-clause-err g c =
+    cut_over _ _ c.args.replay.now c.loop.invariant.0 (g.W.Write.contents c.args.out.now) (g.W.Write.contents c.loop.out) c.loop.invariant.1
+    (cut_between c.args.replay.now c.loop.replay c.loop.invariant.0 c.loop.line.items (g.W.Write.contents c.args.out.now) (g.W.Write.contents c.loop.out) c.loop.invariant.2)
+
+pub returns-in-Err-clause-err : goal.returns-in-Err-clause-err
+returns-in-Err-clause-err g c =
+    cut_at _ (g.R.Read.remaining c.read.new.self) c.args.replay.now c.loop.replay c.loop.invariant.0 c.loop.line.items (g.W.Write.contents c.args.out.now) (g.W.Write.contents c.loop.out) (g.W.Write.contents c.hear_end.new.out)
+    (read_none _ _ (g.R.Read.remaining c.read.new.self) c.loop.invariant.0 c.read.new.buf c.in-Ok.count c.if-count-eq0.true c.loop.invariant.1 c.in-Ok.ensures.bytes.0)
+    (c.in-Ok.ensures.bytes.1 c.if-count-eq0.true (omega arith)) c.loop.invariant.2
+    (rw c.as_slice.ensures.value at c.in-Err.ensures.err)

@@ -1,0 +1,7 @@
+use Rattle.std.proofs.Common.{◌++◌, true, take}
+use Rattle.debugger.specs.Hearing.{HasHeard}
+use Rattle.debugger.proofs.session.hear.Given as goal
+
+abbrev pub invariant-loop-byte : goal.invariant-loop-byte
+invariant-loop-byte g l =
+    HasHeard true l.fn.replay (l.fn.line.items ++ take l.byte-index l.part) l.replay l.line.items (g.W.Write.contents l.fn.out) (g.W.Write.contents l.out)

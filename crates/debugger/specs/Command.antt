@@ -1,0 +1,52 @@
+-- The commands that the lines of `debug` are.
+use Rattle.std.specs.Prelude.{ℕ, nat_le, List, [], ◌∷◌, codes, Option, Some, None, if◌then◌else◌}
+use Rattle.std.specs.Int.{from_be_bytes, w32}
+use Rattle.std.specs.List.{list_all}
+use Rattle.std.specs.Option.{option_and_then, option_map}
+use Rattle.std.specs.Result.{result_ok}
+use Rattle.std.specs.Str.{bytes_eq}
+use Rattle.hex.specs.Hex.{decode_sized}
+use Rattle.block_file.specs.Line.{cut, decimal_of, is_lower_digit}
+use Rattle.debugger.specs.declared.command.Command.{Command}
+use Rattle.debugger.specs.declared.command.Command.TheVariants.{Step, Back, RunTo, Where, Registers, Bytes, Quit}
+
+-- an address: eight lower-case hex digits, the highest first
+abbrev pub address_of : List ℕ → Option ℕ
+address_of text =
+    if list_all is_lower_digit text then option_map (from_be_bytes w32) (result_ok (decode_sized text 4)) else None
+
+-- a number of bytes: a decimal up to 4096
+abbrev pub count_of : List ℕ → Option ℕ
+count_of text = option_and_then (λ n. if nat_le n 4096 then Some n else None) (decimal_of text)
+
+-- a line of one field
+abbrev pub word_command : List ℕ → Option Command
+word_command word =
+    if bytes_eq word (codes "s") then Some Step else
+    if bytes_eq word (codes "b") then Some Back else
+    if bytes_eq word (codes "w") then Some Where else
+    if bytes_eq word (codes "r") then Some Registers else
+    if bytes_eq word (codes "q") then Some Quit else None
+
+-- `g HHHHHHHH`
+abbrev pub run_to_command : List ℕ → List ℕ → Option Command
+run_to_command word address = if bytes_eq word (codes "g") then option_map RunTo (address_of address) else None
+
+-- `m HHHHHHHH LEN`
+abbrev pub bytes_command_of : Option ℕ → Option ℕ → Option Command
+bytes_command_of (Some address) (Some count) = Some (Bytes address count)
+bytes_command_of _ _ = None
+
+abbrev pub bytes_command : List ℕ → List ℕ → List ℕ → Option Command
+bytes_command word address count =
+    if bytes_eq word (codes "m") then bytes_command_of (address_of address) (count_of count) else None
+
+abbrev pub command_of_fields : List (List ℕ) → Option Command
+command_of_fields (word ∷ []) = word_command word
+command_of_fields (word ∷ address ∷ []) = run_to_command word address
+command_of_fields (word ∷ address ∷ count ∷ []) = bytes_command word address count
+command_of_fields _ = None
+
+-- the command of a line, its fields parted by one blank; None where it is none
+abbrev pub command_of : List ℕ → Option Command
+command_of line = command_of_fields (cut 32 line)

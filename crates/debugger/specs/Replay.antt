@@ -1,0 +1,116 @@
+-- A replay: what is shown of it, and where its moves lead.
+use Rattle.std.specs.Prelude.{◌≡◌, ℕ, ◌+◌, ◌-◌, ◌<◌, ◌≤◌, ◌==◌, ◌&&◌, ◌||◌, nat_le, Bool, true, false, if◌then◌else◌, List, ◌∷◌, ◌++◌, codes, fold, take, slice_get, Option, Some, None, IsSome, Result, Ok, Err}
+use Rattle.std.specs.Fmt.{decimal}
+use Rattle.std.specs.Option.{option_map}
+use Rattle.rv_ledger.specs.Key.{Storage}
+use Rattle.rv_ledger.specs.Call.{Invocation}
+use Rattle.rv_ledger.specs.declared.outcome.Outcome.{Outcome}
+use Rattle.rv_ledger.specs.declared.receipt.Receipt.{Receipt}
+use Rattle.rv_mem.specs.Space.{bytes_at, loaded}
+use Rattle.rv_mem.specs.declared.access.Access.TheVariants.{Execute}
+use Rattle.rv_mem.specs.declared.fault.Fault.{Fault}
+use Rattle.rv_names.specs.Text as names
+use Rattle.receipts.specs.Text.{word_text}
+use Rattle.rv_step.specs.declared.machine.Machine.{Machine}
+use Rattle.rv_step.specs.Fold.{apply_writes}
+use Rattle.debugger.specs.declared.fault.ReplayFault.{ReplayFault}
+use Rattle.debugger.specs.declared.fault.ReplayFault.TheVariants.{NoSuchCall, AtEnd, BadRange, Memory}
+use Rattle.debugger.specs.Moment.{Standing, is_over, machine_of, moment_of}
+
+-- a replay of a call over a storage stands at a moment; all else that is shown is a function of these
+pub record ReplayState : Type 0 where
+  pub call : Invocation
+  pub store : Storage
+  pub moment : ℕ
+
+-- where the call stands
+abbrev pub standing : ReplayState → Standing
+standing r = moment_of r.call r.store r.moment
+
+abbrev pub machine_at : ReplayState → Machine
+machine_at r = machine_of (standing r)
+
+-- the call is over: this is its last moment
+abbrev pub is_at_end : ReplayState → Bool
+is_at_end r = is_over (standing r)
+
+-- the call goes on at each moment before one
+abbrev pub GoesOnBefore : ReplayState → Type 0
+GoesOnBefore r = (n : ℕ) → n < r.moment → is_over (moment_of r.call r.store n) ≡ false
+
+-- the storage that receipts leave: the writes of each, in order
+unfoldable pub store_left : Storage → List Receipt → Storage
+store_left store receipts = fold (λ before receipt. apply_writes before receipt.writes) store receipts
+
+-- the first moment of the call of an index, over the storage that the receipts before it leave; None where there is no such call
+abbrev pub opened : Outcome → ℕ → Option ReplayState
+opened outcome index =
+    option_map (λ call. record { call = call; store = store_left outcome.job.store (take index outcome.receipts.items); moment = 0 })
+    (slice_get outcome.job.block index)
+
+-- a replay is opened there, or memory ran out; where there is nothing to open it is refused
+abbrev pub Opens : Result ReplayState ReplayFault → Option ReplayState → Type 0
+Opens (Ok r) wanted = wanted ≡ Some r
+Opens (Err NoSuchCall) wanted = wanted ≡ None
+Opens (Err Memory) wanted = IsSome wanted
+Opens (Err fault) wanted = ⊥
+
+-- the next moment, if this is not the last
+abbrev pub next_of : ReplayState → Option ReplayState
+next_of r = if is_at_end r then None else Some (record r { moment = r.moment + 1 })
+
+-- the moment before, if this is not the first
+abbrev pub previous_of : ReplayState → Option ReplayState
+previous_of r = if r.moment == 0 then None else Some (record r { moment = r.moment - 1 })
+
+-- a move goes to the wanted moment, or memory ran out and nothing changes; where there is no such moment it is refused
+-- as `edge`, and nothing changes
+abbrev pub Moves : {X : Type 0} → ReplayFault → Result X ReplayFault → Option ReplayState → ReplayState → ReplayState → Type 0
+Moves edge (Ok x) wanted old new = wanted ≡ Some new
+Moves edge (Err Memory) wanted old new = IsSome wanted × (new ≡ old)
+Moves edge (Err fault) wanted old new = (fault ≡ edge) × (wanted ≡ None) × (new ≡ old)
+
+-- a moment at which a run to a pc stops
+abbrev pub stops : ℕ → Standing → Bool
+stops pc at = is_over at || (machine_of at).pc == pc
+
+-- the new moment is the old one or a later one, and a run to a pc stops at none between them
+pub record IsPast (pc : ℕ) (old new : ReplayState) : Type 0 where
+  pub call : new.call ≡ old.call
+  pub store : new.store ≡ old.store
+  pub later : old.moment ≤ new.moment
+  pub between : (n : ℕ) → old.moment < n → n < new.moment → stops pc (moment_of old.call old.store n) ≡ false
+
+-- a run to a pc goes to the first later moment at which it stops; where memory ran out it stands at a moment before
+-- that one; where there is no later moment it is refused and nothing changes
+abbrev pub RunsTo : {X : Type 0} → ℕ → Result X ReplayFault → ReplayState → ReplayState → Type 0
+RunsTo pc (Ok x) old new = (is_at_end old ≡ false) × IsPast pc old new × (old.moment < new.moment) × (stops pc (standing new) ≡ true)
+RunsTo pc (Err Memory) old new = (is_at_end old ≡ false) × IsPast pc old new × (old.moment < new.moment → stops pc (standing new) ≡ false)
+RunsTo pc (Err AtEnd) old new = (is_at_end old ≡ true) × (new ≡ old)
+RunsTo pc (Err fault) old new = ⊥
+
+-- so many bytes from an address on lie in memory
+abbrev pub is_in_memory : ℕ → ℕ → Bool
+is_in_memory address len = nat_le 0x1_0000 address && nat_le (address + len) 0x11_0000
+
+-- the bytes that are looked at, or None where some lie outside memory
+abbrev pub bytes_seen : ReplayState → ℕ → ℕ → Option (List ℕ)
+bytes_seen r address len = if is_in_memory address len then Some (bytes_at (machine_at r).memory address len) else None
+
+abbrev pub Shows : {X : Type 0} → (X → List ℕ) → Result X ReplayFault → Option (List ℕ) → Type 0
+Shows view (Ok x) wanted = wanted ≡ Some (view x)
+Shows view (Err BadRange) wanted = wanted ≡ None
+Shows view (Err Memory) wanted = IsSome wanted
+Shows view (Err fault) wanted = ⊥
+
+-- the text of the word that was fetched, if it may be
+abbrev pub fetched_text : Result ℕ Fault → List ℕ
+fetched_text (Ok word) = names.word_text word
+fetched_text (Err fault) = codes "fetch-fault"
+
+-- a moment in decimal, the pc in eight hex digits, and the text of the word there
+abbrev pub place_text : ℕ → Machine → List ℕ
+place_text moment s = decimal moment ++ 32 ∷ (word_text s.pc ++ 32 ∷ fetched_text (loaded 4 Execute s.memory s.pc))
+
+abbrev pub where_text : ReplayState → List ℕ
+where_text r = place_text r.moment (machine_at r)

@@ -1,0 +1,108 @@
+-- What `debug` prints for its lines, and where it leaves the replay.
+use Rattle.std.specs.Prelude.{◌≡◌, ℕ, zero, suc, ◌+◌, ◌==◌, Bool, true, false, List, [], ◌∷◌, ◌++◌, codes, length, Option, Some, None, if◌then◌else◌}
+use Rattle.std.specs.Io.KnownBytes.{Appends}
+use Rattle.rv_ledger.specs.Key.{Storage}
+use Rattle.rv_ledger.specs.Call.{Invocation}
+use Rattle.block_file.specs.Line.{cut}
+use Rattle.receipts.specs.Text.{bytes_text, regs_line}
+use Rattle.debugger.specs.declared.command.Command.{Command}
+use Rattle.debugger.specs.declared.command.Command.TheVariants.{Step, Back, RunTo, Where, Registers, Bytes, Quit}
+use Rattle.debugger.specs.declared.fault.ReplayFault.{ReplayFault}
+use Rattle.debugger.specs.declared.fault.ReplayFault.TheVariants.{AtEnd, AtStart, BadRange}
+use Rattle.debugger.specs.Command.{command_of}
+use Rattle.debugger.specs.Faults.{fault_text}
+use Rattle.debugger.specs.Moment.{moment_of}
+use Rattle.debugger.specs.Replay.{ReplayState, bytes_seen, is_at_end, machine_at, next_of, previous_of, stops, where_text}
+
+-- the line of a refusal
+abbrev pub refusal_line : ReplayFault → List ℕ
+refusal_line fault = codes "refused " ++ (fault_text fault ++ 10 ∷ [])
+
+abbrev pub where_line : ReplayState → List ℕ
+where_line r = where_text r ++ 10 ∷ []
+
+-- the first moment from n on at which a run to a pc stops, among so many; else the one after them
+unfoldable pub first_stop : ℕ → Invocation → Storage → ℕ → ℕ → ℕ
+first_stop zero call store pc n = n
+first_stop (suc left) call store pc n = if stops pc (moment_of call store n) then n else first_stop left call store pc (n + 1)
+
+-- where a run to a pc goes, if this is not the last moment; a call is over after as many steps as it has gas and one more
+abbrev pub stop_of : ℕ → ReplayState → Option ReplayState
+stop_of pc r =
+    if is_at_end r then None else Some (record r { moment = first_stop (r.call.gas + 1) r.call r.store pc (r.moment + 1) })
+
+-- a move prints where it led, or its refusal
+abbrev pub moved_text : ReplayFault → Option ReplayState → List ℕ
+moved_text edge (Some r) = where_line r
+moved_text edge None = refusal_line edge
+
+abbrev pub moved : ReplayState → Option ReplayState → ReplayState
+moved r (Some s) = s
+moved r None = r
+
+abbrev pub seen_text : Option (List ℕ) → List ℕ
+seen_text (Some bytes) = bytes_text bytes ++ 10 ∷ []
+seen_text None = refusal_line BadRange
+
+-- what a command prints
+abbrev pub answer_text : ReplayState → Command → List ℕ
+answer_text r Step = moved_text AtEnd (next_of r)
+answer_text r Back = moved_text AtStart (previous_of r)
+answer_text r (RunTo pc) = moved_text AtEnd (stop_of pc r)
+answer_text r Where = where_line r
+answer_text r Registers = regs_line (machine_at r).regs
+answer_text r (Bytes address count) = seen_text (bytes_seen r address count)
+answer_text r Quit = []
+
+-- and where it leaves the replay
+abbrev pub after_command : ReplayState → Command → ReplayState
+after_command r Step = moved r (next_of r)
+after_command r Back = moved r (previous_of r)
+after_command r (RunTo pc) = moved r (stop_of pc r)
+after_command r _ = r
+
+-- the same of a line; one that is no command prints `what`
+abbrev pub line_text : ReplayState → Option Command → List ℕ
+line_text r (Some command) = answer_text r command
+line_text r None = codes "what\n"
+
+abbrev pub after_line : ReplayState → Option Command → ReplayState
+after_line r (Some command) = after_command r command
+after_line r None = r
+
+abbrev pub is_quit : Option Command → Bool
+is_quit (Some Quit) = true
+is_quit _ = false
+
+-- what a session printed, and where it left the replay
+pub record Ending : Type 0 where
+  pub text : List ℕ
+  pub replay : ReplayState
+
+abbrev pub behind : List ℕ → Ending → Ending
+behind text e = record e { text = text ++ e.text }
+
+-- a session over lines, up to the first that quits
+unfoldable pub session : ReplayState → List (List ℕ) → Ending
+session r [] = record { text = []; replay = r }
+session r (line ∷ lines) =
+    if is_quit (command_of line) then record { text = []; replay = r } else
+    behind (line_text r (command_of line)) (session (after_line r (command_of line)) lines)
+
+-- the lines of parts between LFs: what follows the last LF is a line where it has a byte
+abbrev pub with_last : List (List ℕ) → List (List ℕ)
+with_last [] = []
+with_last (rest ∷ []) = if length rest == 0 then [] else rest ∷ []
+with_last (line ∷ next ∷ more) = line ∷ with_last (next ∷ more)
+
+-- the lines of a text
+unfoldable pub lines_of : List ℕ → List (List ℕ)
+lines_of text = with_last (cut 10 text)
+
+-- a session ended so: its text was written, and the replay stands where it left it
+abbrev pub EndsAs : Ending → ReplayState → Option (List ℕ) → Option (List ℕ) → Type 0
+EndsAs ending new before after = Appends before after ending.text × (new ≡ ending.replay)
+
+-- known bytes grow by a beginning of a text
+abbrev pub AppendsBeginning : Option (List ℕ) → Option (List ℕ) → List ℕ → Type 0
+AppendsBeginning before after text = (done : List ℕ) × (rest : List ℕ) × (text ≡ done ++ rest) × Appends before after done

@@ -1,0 +1,115 @@
+//! What a command prints, and where it leaves the replay.
+
+ghost use Rattle.std.specs.Prelude.{◌≡◌, ◌++◌, ◌∷◌, [], IfOk, OnOk};
+ghost use Rattle.std.specs.String.{string_bytes};
+ghost use Rattle.debugger.specs.declared.fault.ReplayFault.TheVariants.{AtEnd, AtStart};
+ghost use Rattle.debugger.specs.Replay.{bytes_seen, next_of, previous_of};
+ghost use Rattle.debugger.specs.Session.{after_command, after_line, answer_text, line_text, moved, moved_text, refusal_line, seen_text, stop_of, where_line};
+
+use crate::command::Command;
+use crate::fault::ReplayFault;
+use crate::replay::Replay;
+use receipts::{bytes_text, regs_line};
+use std::alloc::{AllocError, Global};
+
+/// Does what a line asks for, and gives what is printed for it; `what` where it is no command. Refused
+/// where memory ran out.
+pub(crate) fn line_text(
+    alloc: Global,
+    replay: &mut Replay,
+    command: Option<Command>,
+) -> Result<String, AllocError>
+    ensures text { IfOk result (λ t. string_bytes t ≡ line_text replay.old command) }
+    ensures replay { OnOk result (replay.new ≡ after_line replay.old command) }
+{
+    match command {
+        Some(command) => answer_text(alloc, replay, command),
+        None => String::from_str(alloc, "what\n"),
+    }
+}
+
+/// Does a command, and gives what is printed for it. Refused where memory ran out.
+fn answer_text(alloc: Global, replay: &mut Replay, command: Command) -> Result<String, AllocError>
+    ensures text { IfOk result (λ t. string_bytes t ≡ answer_text replay.old command) }
+    ensures replay { OnOk result (replay.new ≡ after_command replay.old command) }
+{
+    match command {
+        Command::Step => step_text(alloc, replay),
+        Command::Back => back_text(alloc, replay),
+        Command::RunTo(pc) => run_to_text(alloc, replay, pc),
+        Command::Where => where_line(alloc, replay),
+        Command::Registers => regs_line(alloc, replay.regs()),
+        Command::Bytes(address, count) => seen_text(alloc, replay, address, count),
+        Command::Quit => Ok(String::new(alloc)),
+    }
+}
+
+/// Goes to the next moment, and tells it or the refusal.
+fn step_text(alloc: Global, replay: &mut Replay) -> Result<String, AllocError>
+    ensures text { IfOk result (λ t. string_bytes t ≡ moved_text AtEnd (next_of replay.old)) }
+    ensures replay { OnOk result (replay.new ≡ moved replay.old (next_of replay.old)) }
+{
+    match replay.step() {
+        Ok(()) => where_line(alloc, replay),
+        Err(ReplayFault::AtEnd) => refusal_line(alloc, ReplayFault::AtEnd),
+        Err(_) => Err(AllocError),
+    }
+}
+
+/// Goes to the moment before, and tells it or the refusal.
+fn back_text(alloc: Global, replay: &mut Replay) -> Result<String, AllocError>
+    ensures text { IfOk result (λ t. string_bytes t ≡ moved_text AtStart (previous_of replay.old)) }
+    ensures replay { OnOk result (replay.new ≡ moved replay.old (previous_of replay.old)) }
+{
+    match replay.back() {
+        Ok(()) => where_line(alloc, replay),
+        Err(ReplayFault::AtStart) => refusal_line(alloc, ReplayFault::AtStart),
+        Err(_) => Err(AllocError),
+    }
+}
+
+/// Runs to a pc, and tells the moment or the refusal.
+fn run_to_text(alloc: Global, replay: &mut Replay, pc: u32) -> Result<String, AllocError>
+    ensures text { IfOk result (λ t. string_bytes t ≡ moved_text AtEnd (stop_of pc replay.old)) }
+    ensures replay { OnOk result (replay.new ≡ moved replay.old (stop_of pc replay.old)) }
+{
+    match replay.run_to(pc) {
+        Ok(()) => where_line(alloc, replay),
+        Err(ReplayFault::AtEnd) => refusal_line(alloc, ReplayFault::AtEnd),
+        Err(_) => Err(AllocError),
+    }
+}
+
+/// The line that tells the moment.
+fn where_line(alloc: Global, replay: &Replay) -> Result<String, AllocError>
+    ensures { IfOk result (λ t. string_bytes t ≡ where_line replay.now) }
+{
+    let mut text = String::new(alloc);
+    if replay.where_text(&mut text).is_err() {
+        return Err(AllocError);
+    }
+    text.push_str("\n")?;
+    Ok(text)
+}
+
+/// The line of bytes of memory, or of the refusal.
+fn seen_text(alloc: Global, replay: &Replay, address: u32, count: u32) -> Result<String, AllocError>
+    ensures { IfOk result (λ t. string_bytes t ≡ seen_text (bytes_seen replay.now address count)) }
+{
+    match replay.bytes(alloc, address, count) {
+        Ok(bytes) => {
+            let mut text = bytes_text(alloc, bytes.as_slice())?;
+            text.push_str("\n")?;
+            Ok(text)
+        }
+        Err(ReplayFault::BadRange) => refusal_line(alloc, ReplayFault::BadRange),
+        Err(_) => Err(AllocError),
+    }
+}
+
+/// The line of a refusal.
+fn refusal_line(alloc: Global, fault: ReplayFault) -> Result<String, AllocError>
+    ensures { IfOk result (λ t. string_bytes t ≡ refusal_line fault) }
+{
+    format!(in alloc; "refused {fault}\n")
+}

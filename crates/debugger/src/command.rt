@@ -1,0 +1,171 @@
+//! The commands that the lines of `debug` are.
+
+ghost use Rattle.std.specs.Prelude.{◌≡◌, ◌<◌, ◌≤◌, ◌∷◌, [], length, map, IfOk, IsTrue, Some};
+ghost use Rattle.std.specs.Char.{is_ascii_digit};
+ghost use Rattle.std.specs.List.{list_all};
+ghost use Rattle.block_file.specs.Line.{cut, decimal_of, is_lower_digit, sum_of_digits};
+ghost use Rattle.debugger.specs.Command.{address_of, bytes_command, command_of, command_of_fields, count_of, run_to_command, word_command};
+
+use std::alloc::{AllocError, Global};
+use std::str;
+
+/// The greatest number of digits of a decimal.
+const DECIMAL_DIGITS: usize = 10;
+
+/// The greatest number of bytes that one line shows.
+const BYTE_LIMIT: u64 = 4096;
+
+/// A command of `debug`.
+#[derive(Clone, Copy, Debug, PartialEq, Eq)]
+pub enum Command {
+    /// Go to the next moment.
+    Step,
+    /// Go to the moment before.
+    Back,
+    /// Go to the first later moment with this pc, or the last.
+    RunTo(u32),
+    /// Tell the moment.
+    Where,
+    /// Show the registers.
+    Registers,
+    /// Show so many bytes, at most 4,096, from an address on.
+    Bytes(u32, u32),
+    /// End.
+    Quit,
+}
+
+/// The command of a line without its LF, or None where it is none; refused where memory ran out.
+pub fn command_of(alloc: Global, line: &[u8]) -> Result<Option<Command>, AllocError>
+    ensures { IfOk result (λ command. command ≡ command_of line.now) }
+{
+    let fields = fields(alloc, line)?;
+    Ok(command_of_fields(fields.as_slice()))
+}
+
+/// The parts of a line between its blanks.
+fn fields(alloc: Global, line: &[u8]) -> Result<Vec<&[u8]>, AllocError>
+    ensures { IfOk result (λ v. map (λ field. field.now) v.items ≡ cut 32 line.now) }
+{
+    line.split(|byte| *byte == b' ').collect(alloc)
+}
+
+/// The command of the fields of a line.
+fn command_of_fields(fields: &[&[u8]]) -> Option<Command>
+    ensures { result ≡ command_of_fields (map (λ field. field.now) fields.now) }
+{
+    match *fields {
+        [word] => word_command(word),
+        [word, address] => run_to_command(word, address),
+        [word, address, count] => bytes_command(word, address, count),
+        _ => None,
+    }
+}
+
+/// The command of a line of one field.
+fn word_command(word: &[u8]) -> Option<Command>
+    ensures { result ≡ word_command word.now }
+{
+    if word == b"s".as_slice() {
+        return Some(Command::Step);
+    }
+    if word == b"b".as_slice() {
+        return Some(Command::Back);
+    }
+    if word == b"w".as_slice() {
+        return Some(Command::Where);
+    }
+    if word == b"r".as_slice() {
+        return Some(Command::Registers);
+    }
+    if word == b"q".as_slice() {
+        return Some(Command::Quit);
+    }
+    None
+}
+
+/// The command of a line `g HHHHHHHH`.
+fn run_to_command(word: &[u8], address: &[u8]) -> Option<Command>
+    ensures { result ≡ run_to_command word.now address.now }
+{
+    if word != b"g".as_slice() {
+        return None;
+    }
+    match address_of(address) {
+        Some(address) => Some(Command::RunTo(address)),
+        None => None,
+    }
+}
+
+/// The command of a line `m HHHHHHHH LEN`.
+fn bytes_command(word: &[u8], address: &[u8], count: &[u8]) -> Option<Command>
+    ensures { result ≡ bytes_command word.now address.now count.now }
+{
+    if word != b"m".as_slice() {
+        return None;
+    }
+    match (address_of(address), count_of(count)) {
+        (Some(address), Some(count)) => Some(Command::Bytes(address, count)),
+        _ => None,
+    }
+}
+
+/// The address that eight lower-case hex digits write.
+fn address_of(text: &[u8]) -> Option<u32>
+    ensures { result ≡ address_of text.now }
+{
+    let mut bytes = [0; 4];
+    if !is_lower_hex(text) || hex::decode_to_slice(text, &mut bytes).is_err() {
+        return None;
+    }
+    Some(u32::from_be_bytes(bytes))
+}
+
+/// Whether each byte is a hex digit, in lower case.
+fn is_lower_hex(text: &[u8]) -> bool
+    ensures { result ≡ list_all is_lower_digit text.now }
+{
+    text.iter().all(|byte| byte.is_ascii_digit() || (b'a' <= *byte && *byte <= b'f'))
+}
+
+/// The number of bytes that a decimal up to 4096 writes.
+fn count_of(text: &[u8]) -> Option<u32>
+    ensures { result ≡ count_of text.now }
+{
+    match decimal(text) {
+        Some(count) if count <= BYTE_LIMIT => Some(count as u32),
+        _ => None,
+    }
+}
+
+/// The number of a decimal: 1 to 10 digits without a leading zero.
+fn decimal(text: &[u8]) -> Option<u64>
+    ensures { result ≡ decimal_of text.now }
+{
+    if text.is_empty() || text.len() > DECIMAL_DIGITS || (text.len() > 1 && text[0] == b'0') {
+        return None;
+    }
+    if !are_digits(text) {
+        return None;
+    }
+    number(text)
+}
+
+/// Whether each byte is a decimal digit.
+fn are_digits(text: &[u8]) -> bool
+    ensures { result ≡ list_all is_ascii_digit text.now }
+{
+    text.iter().all(|byte| byte.is_ascii_digit())
+}
+
+/// The number that 1 to 10 digits write.
+fn number(digits: &[u8]) -> Option<u64>
+    requires digits { IsTrue (list_all is_ascii_digit digits.now) }
+    requires some { 0 < length digits.now }
+    requires short { length digits.now ≤ 10 }
+    ensures { result ≡ Some (sum_of_digits digits.now) }
+{
+    let Ok(text) = str::from_utf8(digits) else {
+        return None;
+    };
+    text.parse().ok()
+}

@@ -1,0 +1,65 @@
+//! Why a replay refuses.
+
+use receipts::WriteFault;
+use std::fmt;
+use thiserror::Error;
+
+/// A refusal of a replay.
+#[derive(Clone, Copy, Debug, PartialEq, Eq, Error)]
+pub enum ReplayFault {
+    /// The block has no call of that index.
+    NoSuchCall = 1,
+    /// The call is over: there is no later moment.
+    AtEnd = 2,
+    /// There is no moment before the first.
+    AtStart = 3,
+    /// A byte is outside memory.
+    BadRange = 4,
+    /// Memory ran out.
+    Memory = 5,
+}
+
+impl fmt::Display for ReplayFault {
+    ghost use Rattle.std.specs.Prelude.{Some};
+    ghost use Rattle.debugger.specs.Faults.{fault_text};
+
+    ghost output = { λ fault. Some (fault_text fault) };
+
+    /// The name and the number.
+    fn fmt<W: fmt::Write>(&self, f: &mut fmt::Formatter<W>) -> fmt::Result {
+        match self {
+            ReplayFault::NoSuchCall => f.write_str("NoSuchCall 1"),
+            ReplayFault::AtEnd => f.write_str("AtEnd 2"),
+            ReplayFault::AtStart => f.write_str("AtStart 3"),
+            ReplayFault::BadRange => f.write_str("BadRange 4"),
+            ReplayFault::Memory => f.write_str("Memory 5"),
+        }
+    }
+}
+
+/// Why a session of `debug` is refused.
+#[derive(Clone, Copy, Debug, PartialEq, Eq, Error)]
+pub enum DebugFault {
+    /// A read failed.
+    Unreadable,
+    /// A write failed.
+    Output(WriteFault),
+    /// Memory ran out.
+    Memory,
+}
+
+impl fmt::Display for DebugFault {
+    ghost use Rattle.std.specs.Prelude.{Some};
+    ghost use Rattle.debugger.specs.Faults.{session_fault_text};
+
+    ghost output = { λ fault. Some (session_fault_text fault) };
+
+    /// The area, the name and the number.
+    fn fmt<W: fmt::Write>(&self, f: &mut fmt::Formatter<W>) -> fmt::Result {
+        match self {
+            DebugFault::Unreadable => f.write_str("file Unreadable 1"),
+            DebugFault::Output(fault) => write!(f, "output {fault}"),
+            DebugFault::Memory => f.write_str("debug Memory 5"),
+        }
+    }
+}

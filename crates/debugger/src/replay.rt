@@ -1,0 +1,202 @@
+//! A replay of one call.
+
+use crate::fault::ReplayFault;
+use crate::place::place_text;
+use crate::running::{run_after, step_run};
+use crate::storage::{first_receipts, store_left};
+use rv_isa::Regs;
+use rv_ledger::{Call, Outcome, Store};
+use rv_step::{Machine, Run, Stage};
+use std::alloc::{AllocError, Global};
+use std::marker::Model;
+
+/// The first address of memory.
+const FIRST_ADDRESS: u64 = 0x0001_0000;
+/// The first address after memory.
+const END_ADDRESS: u64 = 0x0011_0000;
+
+/// A replay of one call of a block, over the storage that the calls before it left. It stands at a
+/// moment: the number of steps that were made.
+#[derive(Drop)]
+pub struct Replay {
+    alloc: Global,
+    call: Call,
+    store: Store,
+    run: Run,
+    moment: u64,
+}
+
+impl Model for Replay {
+    ghost use Rattle.std.specs.Coded.{codes};
+    ghost use Rattle.rv_ledger.specs.contracts.store.Store.{the_row as store_row};
+    ghost use Rattle.debugger.specs.Replay.{ReplayState};
+    ghost use Rattle.debugger.specs.Standing.{IsReplay};
+
+    ghost Value = { ReplayState };
+
+    ghost coded = { Prim.hlevel (codes, store_row.coded) };
+
+    ghost view = { λ r. record { call = r.call; store = r.store; moment = r.moment } };
+
+    ghost invariant = { λ r. IsReplay r.call r.store r.run r.moment };
+}
+
+impl Replay {
+    ghost use Rattle.std.specs.Prelude.{◌≡◌, ◌<◌, ◌^◌, ◌++◌, IfOk, MatchResult};
+    ghost use Rattle.std.specs.String.{string_bytes};
+    ghost use Rattle.debugger.specs.declared.fault.ReplayFault.TheVariants.{AtEnd, AtStart, Memory};
+    ghost use Rattle.debugger.specs.Replay.{GoesOnBefore, Moves, Opens, RunsTo, Shows, bytes_seen, is_at_end, machine_at, next_of, opened, previous_of, where_text};
+
+    /// The replay of the call of an index, from 0, of an outcome's job, at its moment 0: over the
+    /// job's storage with the writes of the receipts before it. Refused as NoSuchCall where there are
+    /// not so many calls, and as Memory where memory ran out.
+    pub fn open(alloc: Global, outcome: &Outcome, index: usize) -> Result<Replay, ReplayFault>
+        ensures { Opens result (opened outcome.now index) }
+    {
+        let Some(call) = outcome.job.block.calls().get(index) else {
+            return Err(ReplayFault::NoSuchCall);
+        };
+        let before = first_receipts(outcome.receipts.as_slice(), index);
+        let Ok(store) = store_left(&outcome.job.store, before) else {
+            return Err(ReplayFault::Memory);
+        };
+        match Replay::start(alloc, call, store) {
+            Ok(replay) => Ok(replay),
+            Err(_) => Err(ReplayFault::Memory),
+        }
+    }
+
+    /// The replay of a call over a storage at its moment 0; refused where memory ran out.
+    #[tactic(auto, unfolding(crate::specs::Moment::moment_of))]
+    fn start(alloc: Global, call: &Call, store: Store) -> Result<Replay, AllocError>
+        ensures { IfOk result (λ r. r ≡ record { call = call.now; store = store; moment = 0 }) }
+    {
+        let _gas = call.gas();
+        Ok(Replay {
+            alloc,
+            call: call.copy()?,
+            store,
+            run: Run::start(alloc, call)?,
+            moment: 0,
+        })
+    }
+
+    /// Goes to the next moment. Refused as AtEnd where the call is over, and as Memory where memory ran
+    /// out; then nothing changes.
+    pub fn step(&mut self) -> Result<(), ReplayFault>
+        ensures { Moves AtEnd result (next_of self.old) self.old self.new }
+    {
+        if self.is_at_end() {
+            return Err(ReplayFault::AtEnd);
+        }
+        match step_run(&mut self.run, &self.store) {
+            Ok(()) => {
+                self.moment += 1;
+                Ok(())
+            }
+            Err(_) => Err(ReplayFault::Memory),
+        }
+    }
+
+    /// Goes to the moment before. Refused as AtStart at moment 0, and as Memory where memory ran out;
+    /// then nothing changes. It runs the call anew.
+    pub fn back(&mut self) -> Result<(), ReplayFault>
+        ensures { Moves AtStart result (previous_of self.old) self.old self.new }
+    {
+        if self.moment == 0 {
+            return Err(ReplayFault::AtStart);
+        }
+        let moment = self.moment - 1;
+        match run_after(self.alloc, &self.call, &self.store, moment) {
+            Ok(run) => {
+                self.run = run;
+                self.moment = moment;
+                Ok(())
+            }
+            Err(_) => Err(ReplayFault::Memory),
+        }
+    }
+
+    /// Goes to the first later moment at which the pc is the given one or the call is over. Refused as
+    /// AtEnd where the call is over, and then nothing changes; or as Memory where memory ran out, and
+    /// then it stands at a moment before that one.
+    pub fn run_to(&mut self, pc: u32) -> Result<(), ReplayFault>
+        ensures { RunsTo pc result self.old self.new }
+    {
+        self.step()?;
+        while !self.is_at_end() && self.pc() != pc {
+            self.step()?;
+        }
+        Ok(())
+    }
+
+    /// The moment: how many steps were made. The call goes on at each moment before it.
+    pub fn moment(&self) -> u64
+        ensures value { result ≡ self.now.moment }
+        ensures earlier { GoesOnBefore self.now }
+    {
+        self.moment
+    }
+
+    /// Whether the call is over.
+    pub fn is_at_end(&self) -> bool
+        ensures { result ≡ is_at_end self.now }
+    {
+        matches!(self.run.stage(), Stage::Ended(_, _))
+    }
+
+    /// The machine at the moment.
+    fn machine(&self) -> &Machine
+        ensures { result.now ≡ machine_at self.now }
+    {
+        self.run.machine()
+    }
+
+    /// The address of the next instruction, or of the one that ended the call.
+    pub fn pc(&self) -> u32
+        ensures { result ≡ (machine_at self.now).pc }
+    {
+        self.machine().pc
+    }
+
+    /// The registers.
+    pub fn regs(&self) -> &Regs
+        ensures { result.now ≡ (machine_at self.now).regs }
+    {
+        &self.machine().regs
+    }
+
+    /// The bytes of memory from an address on, whatever the rights of their pages. Refused as BadRange
+    /// where one of them is outside memory, 0x00010000 up to 0x00110000, and as Memory where memory
+    /// ran out.
+    pub fn bytes(&self, alloc: Global, address: u32, len: u32) -> Result<Vec<u8>, ReplayFault>
+        ensures { Shows (λ v. v.items) result (bytes_seen self.now address len) }
+    {
+        let first = u64::from(address);
+        if first < FIRST_ADDRESS || first + u64::from(len) > END_ADDRESS {
+            return Err(ReplayFault::BadRange);
+        }
+        let Ok(mut bytes) = vec![in alloc; 0u8; len as usize] else {
+            return Err(ReplayFault::Memory);
+        };
+        self.machine().memory.inspect(address, &mut bytes);
+        Ok(bytes)
+    }
+
+    /// Appends the moment in decimal, the pc in eight hex digits and the text of the word there, or
+    /// `fetch-fault` where it may not be fetched, with a blank between two. Refused as Memory where
+    /// memory ran out; the string is then as before.
+    pub fn where_text(&self, text: &mut String) -> Result<(), ReplayFault>
+        ensures { MatchResult result
+            (λ _. string_bytes text.new ≡ string_bytes text.old ++ where_text self.now)
+            (λ e. (e ≡ Memory) × (string_bytes text.new ≡ string_bytes text.old)) }
+    {
+        let Ok(place) = place_text(self.alloc, self.moment, self.machine()) else {
+            return Err(ReplayFault::Memory);
+        };
+        match text.push_str(place.as_str()) {
+            Ok(()) => Ok(()),
+            Err(_) => Err(ReplayFault::Memory),
+        }
+    }
+}

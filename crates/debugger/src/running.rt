@@ -1,0 +1,57 @@
+//! Steps of the run inside of a replay.
+
+ghost use Rattle.std.specs.Prelude.{◌≡◌, ◌<◌, ℕ, false, IfOk, IsSome, OnErr, OnOk};
+ghost use Rattle.rv_step.specs.Run.{asked_key};
+ghost use Rattle.debugger.specs.Moment.{Going, advance, moment_of};
+ghost use Rattle.debugger.specs.Standing.{GoesOn, IsAnswered, IsRunAt};
+
+use read_set::Origin;
+use rv_ledger::{Call, Store};
+use rv_step::{Run, Stage};
+use std::alloc::{AllocError, Global};
+
+/// Makes one step of a run that goes on, over a storage. Refused where memory ran out, and then the
+/// run stands where it stood.
+pub(crate) fn step_run(run: &mut Run, store: &Store) -> Result<(), AllocError>
+    requires { IsRunAt (Going run.old.machine) run.old }
+    ensures ok { OnOk result (IsRunAt (advance store.now (Going run.old.machine)) run.new) }
+    ensures err { OnErr result (IsRunAt (Going run.old.machine) run.new) }
+{
+    if run.is_running() {
+        run.step_one()?;
+    }
+    answer_from(run, store)
+}
+
+/// Answers a run that asks from a storage; one that does not ask stays. Refused where memory ran out,
+/// and then nothing changes.
+fn answer_from(run: &mut Run, store: &Store) -> Result<(), AllocError>
+    ensures ok { OnOk result (IsAnswered store.now run.old run.new) }
+    ensures err { OnErr result (run.new ≡ run.old) }
+    ensures asked { OnErr result (IsSome (asked_key run.old.stage)) }
+{
+    if let Stage::Asked(key) = run.stage() {
+        let key = *key;
+        run.answer(store.get(&key), Origin::Base)?;
+    }
+    Ok(())
+}
+
+/// The run of a call over a storage after so many steps, before which it is not over. Refused where
+/// memory ran out.
+#[tactic(auto, unfolding(crate::specs::Moment::moment_of))]
+pub(crate) fn run_after(
+    alloc: Global,
+    call: &Call,
+    store: &Store,
+    steps: u64,
+) -> Result<Run, AllocError>
+    requires { GoesOn call.now store.now steps }
+    ensures { IfOk result (λ run. IsRunAt (moment_of call.now store.now steps) run) }
+{
+    let mut run = Run::start(alloc, call)?;
+    for _ in 0..steps {
+        step_run(&mut run, store)?;
+    }
+    Ok(run)
+}

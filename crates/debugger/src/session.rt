@@ -1,0 +1,153 @@
+//! A session of `debug`, over any reader of lines and any writer.
+
+ghost use Rattle.std.specs.Prelude.{◌≡◌, ◌++◌, All, not, IfOk, IfSome, OnErr, OnOk};
+ghost use Rattle.std.specs.Io.KnownBytes.{Appends};
+ghost use Rattle.debugger.specs.Command.{command_of};
+ghost use Rattle.debugger.specs.Session.{AppendsBeginning, EndsAs, after_line, is_quit, line_text, lines_of, session};
+ghost use Rattle.debugger.specs.Hearing.{Hears, IsCutIn, IsInLine};
+
+use crate::answer::line_text;
+use crate::command::{Command, command_of};
+use crate::fault::DebugFault;
+use crate::replay::Replay;
+use receipts::{WriteFault, write_whole};
+use std::alloc::Global;
+use std::io::{Read, Write};
+
+/// The byte that ends a line.
+const LINE_END: u8 = b'\n';
+
+/// The greatest number of bytes that are read at once.
+const READ_SIZE: usize = 256;
+
+/// Reads lines, does the command of each as soon as it is read, and writes what it prints, up to a line `q`
+/// or the end of the input. A last line needs no LF. The first refusal ends it: a failed read is Unreadable,
+/// a failed write is Output, and Memory is want of memory; then a beginning of what the session prints was
+/// written, and what was read and the moves of the replay stand.
+pub fn debug_to<R: Read, W: Write>(
+    alloc: Global,
+    replay: &mut Replay,
+    lines: &mut R,
+    out: &mut W,
+) -> Result<(), DebugFault>
+    ensures ok { OnOk result (IfSome (R.remaining lines.old) (λ input.
+        EndsAs (session replay.old (lines_of input)) replay.new (W.contents out.old) (W.contents out.new))) }
+    ensures err { OnErr result (IfSome (R.remaining lines.old) (λ input.
+        AppendsBeginning (W.contents out.old) (W.contents out.new) (session replay.old (lines_of input)).text)) }
+{
+    let mut line = Vec::new(alloc);
+    let mut part = [0u8; READ_SIZE];
+    for _ in 0..u64::MAX {
+        let Ok(count) = lines.read(&mut part) else {
+            return Err(DebugFault::Unreadable);
+        };
+        if count == 0 {
+            match hear_end(alloc, replay, line.as_slice(), out) {
+                Ok(()) => return Ok(()),
+                Err(fault) => return Err(fault),
+            }
+        }
+        match hear(alloc, replay, &mut line, &part[..count], out) {
+            Ok(true) => {}
+            Ok(false) => return Ok(()),
+            Err(fault) => return Err(fault),
+        }
+    }
+    Err(DebugFault::Unreadable)
+}
+
+/// Takes the end of the input, behind a line without its LF.
+fn hear_end<W: Write>(
+    alloc: Global,
+    replay: &mut Replay,
+    line: &[u8],
+    out: &mut W,
+) -> Result<(), DebugFault>
+    requires { All IsInLine line.now }
+    ensures ok { OnOk result (EndsAs (session replay.old (lines_of line.now)) replay.new (W.contents out.old) (W.contents out.new)) }
+    ensures err { OnErr result (AppendsBeginning (W.contents out.old) (W.contents out.new) (session replay.old (lines_of line.now)).text) }
+{
+    if line.is_empty() {
+        return Ok(());
+    }
+    match answer_line(alloc, replay, line, out) {
+        Ok(_) => Ok(()),
+        Err(fault) => Err(fault),
+    }
+}
+
+/// Takes a part of the input, behind the beginning of a line. Tells whether the session goes on; then `line`
+/// is the beginning of the next line.
+fn hear<W: Write>(
+    alloc: Global,
+    replay: &mut Replay,
+    line: &mut Vec<u8>,
+    part: &[u8],
+    out: &mut W,
+) -> Result<bool, DebugFault>
+    requires { All IsInLine line.old.items }
+    ensures ok { IfOk result (λ goes_on.
+        Hears goes_on replay.old line.old.items part.now replay.new line.new.items (W.contents out.old) (W.contents out.new)) }
+    ensures err { OnErr result (IsCutIn replay.old (line.old.items ++ part.now) (W.contents out.old) (W.contents out.new)) }
+{
+    for byte in part {
+        if *byte != LINE_END {
+            match line.push(*byte) {
+                Ok(()) => continue,
+                Err(_) => return Err(DebugFault::Memory),
+            }
+        }
+        match answer_line(alloc, replay, line.as_slice(), out) {
+            Ok(true) => line.clear(),
+            Ok(false) => return Ok(false),
+            Err(fault) => return Err(fault),
+        }
+    }
+    Ok(true)
+}
+
+/// Answers a line. Tells whether the session goes on.
+fn answer_line<W: Write>(
+    alloc: Global,
+    replay: &mut Replay,
+    line: &[u8],
+    out: &mut W,
+) -> Result<bool, DebugFault>
+    ensures goes_on { IfOk result (λ goes_on. goes_on ≡ not (is_quit (command_of line.now))) }
+    ensures replay { OnOk result (replay.new ≡ after_line replay.old (command_of line.now)) }
+    ensures text { OnOk result (Appends (W.contents out.old) (W.contents out.new) (line_text replay.old (command_of line.now))) }
+    ensures err { OnErr result (AppendsBeginning (W.contents out.old) (W.contents out.new) (line_text replay.old (command_of line.now))) }
+{
+    let Ok(command) = command_of(alloc, line) else {
+        return Err(DebugFault::Memory);
+    };
+    let Ok(text) = line_text(alloc, replay, command) else {
+        return Err(DebugFault::Memory);
+    };
+    match print(text.as_bytes(), out) {
+        Ok(()) => Ok(!is_quit(command)),
+        Err(fault) => Err(DebugFault::Output(fault)),
+    }
+}
+
+/// Whether a command ends the session.
+fn is_quit(command: Option<Command>) -> bool
+    ensures { result ≡ is_quit command }
+{
+    matches!(command, Some(Command::Quit))
+}
+
+/// Writes a text and hands it on, so that it is seen before the next line is read.
+fn print<W: Write>(text: &[u8], out: &mut W) -> Result<(), WriteFault>
+    ensures ok { OnOk result (Appends (W.contents out.old) (W.contents out.new) text.now) }
+    ensures err { OnErr result (AppendsBeginning (W.contents out.old) (W.contents out.new) text.now) }
+{
+    match write_whole(text, out) {
+        Ok(()) => {}
+        Err(fault) => return Err(fault),
+    }
+    match out.flush() {
+        Ok(()) => Ok(()),
+        Err(_) => Err(WriteFault::Io),
+    }
+}

@@ -1,0 +1,20 @@
+use Rattle.std.proofs.Common.{◌≡◌, ◌⊎◌, ℕ, List, inl, inr}
+use Rattle.std.specs.Prelude.{Option, Some, None, IfSome}
+use Rattle.block_file.specs.Block.{block_of}
+use Rattle.workers.specs.declared.fault.RunFault.TheVariants.{Memory}
+use Rattle.engines.specs.declared.fault.Refusal.{Refusal}
+use Rattle.engines.specs.declared.fault.Refusal.TheVariants.{Run}
+use Rattle.engines.specs.Parts.{IsJobFault}
+use Rattle.engines.specs.Running.{IsFaultOfRun}
+use Rattle.engines.proofs.LaterFaults.{before_run}
+use Rattle.engines.proofs.running.run_to.Goals as goal
+
+-- want of memory for the calls, or a fault of what was read
+loading : (input : Option (List ℕ)) (content : List ℕ → Option (List ℕ)) (workers : ℕ) (old new : Option (List ℕ)) (e : Refusal) → (e ≡ Run Memory) ⊎ IfSome input (λ bytes. IsJobFault content (block_of bytes) e) → IfSome input (λ bytes. IsFaultOfRun content (block_of bytes) workers old new e)
+loading None content workers old new e h = tt
+loading (Some bytes) content workers old new e (inl memory) = rw memory tt
+loading (Some bytes) content workers old new e (inr fault) = before_run content (block_of bytes) workers old new e fault
+
+pub returns-in-Err-clause-refused : goal.returns-in-Err-clause-refused
+returns-in-Err-clause-refused g c =
+    loading (g.R.Read.remaining c.args.block.now) (g.P.Programs.content c.args.programs.now) c.args.workers (g.W.Write.contents c.args.out.now) (g.W.Write.contents c.args.out.now) c.in-Err.refusal c.in-Err.ensures.err

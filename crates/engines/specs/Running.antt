@@ -1,0 +1,27 @@
+-- What the engine of `rvstm run` refuses. What it writes is what the engine of `rvstm seq` writes.
+use Rattle.std.specs.Prelude.{ℕ, List, ◌≡◌, ◌⊎◌, ◌<◌, ⊤, Option, IfSome, Result, IsOkAnd}
+use Rattle.block_file.specs.Block.{BlockValue}
+use Rattle.block_file.specs.declared.fault.BlockFault.{BlockFault}
+use Rattle.rv_ledger.specs.declared.job.Job.{Job}
+use Rattle.stm_core.specs.declared.engine.TheConstants.{WORKER_LIMIT}
+use Rattle.stm_state.specs.Steps as steps
+use Rattle.workers.specs.History.{HasLimit}
+use Rattle.workers.specs.declared.fault.RunFault.{RunFault}
+use Rattle.workers.specs.declared.fault.RunFault.TheVariants as run
+use Rattle.engines.specs.Engine.{loaded_job, IsFaultOf}
+use Rattle.engines.specs.declared.fault.Refusal.{Refusal}
+use Rattle.engines.specs.declared.fault.Refusal.TheVariants.{Run, Seq}
+
+-- a refusal of a job's run by workers: a number of them that is not 1 to 32, or a limit that some list of steps of the job meets
+abbrev pub IsRefusalOf : Job → ℕ → RunFault → Type 0
+IsRefusalOf job workers run.BadCount = (workers ≡ 0) ⊎ (WORKER_LIMIT < workers)
+IsRefusalOf job workers run.ArenaFull = HasLimit job steps.ArenaFull
+IsRefusalOf job workers run.IncarnationLimit = HasLimit job steps.IncarnationLimit
+IsRefusalOf job workers fault = ⊤
+
+-- a refusal: one of the run is of the job in the files; every other one is as of the run in order, but for its own
+abbrev pub IsFaultOfRun : (List ℕ → Option (List ℕ)) → Result BlockValue BlockFault → ℕ → Option (List ℕ) → Option (List ℕ) → Refusal → Type 0
+IsFaultOfRun content block workers old new (Run run.Memory) = ⊤
+IsFaultOfRun content block workers old new (Run fault) = IfSome (loaded_job content block) (λ wanted. IsOkAnd wanted (λ job. IsRefusalOf job workers fault))
+IsFaultOfRun content block workers old new (Seq fault) = ⊥
+IsFaultOfRun content block workers old new fault = IsFaultOf content block old new fault

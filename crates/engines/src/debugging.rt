@@ -1,0 +1,82 @@
+//! The engine of `rvstm debug`, over any readers, programs and writer.
+
+ghost use Rattle.std.specs.Prelude.{◌≡◌, ◌⊎◌, None, Some, Ok, slice_get, IfErr, IfOk, IfSome, IsOkAnd, OnErr, OnOk};
+ghost use Rattle.std.specs.Io.KnownBytes.{Appends};
+ghost use Rattle.block_file.specs.Block.{block_of};
+ghost use Rattle.debugger.specs.Session.{lines_of, session};
+ghost use Rattle.engines.specs.Debugging.{first_moment, replayed_text, IsFaultOfDebug, IsUnwrittenBefore};
+ghost use Rattle.engines.specs.Engine.{loaded_job};
+ghost use Rattle.engines.specs.Parts.{IsReplayFault, IsSessionFault};
+
+use crate::fault::{FileFault, Refusal, SeqFault};
+use crate::loading::load_job;
+use crate::programs::Programs;
+use debugger::{DebugFault, Replay, ReplayFault, debug_to, opens_over_its_storage};
+use rv_ledger::Job;
+use seq_exec::run_in_order;
+use std::alloc::Global;
+use std::io::{Read, Write};
+
+/// Reads a block file to its end and parses it, opens, reads and loads its programs in the order of
+/// their numbers, runs the calls in order, and replays the call of an index along the lines that are read,
+/// over the storage that the calls before it left. The first refusal ends it; what was read and written by
+/// then stands.
+pub fn debug_block_to<R: Read, P: Programs, L: Read, W: Write>(
+    alloc: Global,
+    block: &mut R,
+    programs: &mut P,
+    call: usize,
+    lines: &mut L,
+    out: &mut W,
+) -> Result<(), Refusal>
+    ensures written { OnOk result (IfSome (R.remaining block.old) (λ input. IfSome (L.remaining lines.old) (λ typed.
+        IfSome (loaded_job (P.content programs.old) (block_of input)) (λ job.
+        IsOkAnd (replayed_text job call typed) (Appends (W.contents out.old) (W.contents out.new)))))) }
+    ensures refused { IfErr result (λ e. IfSome (R.remaining block.old) (λ input.
+        IsFaultOfDebug (P.content programs.old) (block_of input) call (W.contents out.old) (W.contents out.new) e)) }
+    ensures unwritten { IfErr result (λ e. IsUnwrittenBefore (W.contents out.old) (W.contents out.new) e) }
+{
+    let job = match load_job(alloc, block, programs, Refusal::Seq(SeqFault::Memory)) {
+        Ok(job) => job,
+        Err(refusal) => return Err(refusal),
+    };
+    let mut replay = match replay_of(alloc, &job, call) {
+        Ok(replay) => replay,
+        Err(refusal) => return Err(refusal),
+    };
+    debug_lines(alloc, &mut replay, lines, out)
+}
+
+/// The replay of the call of an index of a job, at its first moment.
+fn replay_of(alloc: Global, job: &Job, call: usize) -> Result<Replay, Refusal>
+    ensures ok { IfOk result (λ r. first_moment job.now call ≡ Some r) }
+    ensures err { IfErr result (λ e. IsReplayFault job.now call e) }
+{
+    let Ok(outcome) = run_in_order(alloc, job) else {
+        return Err(Refusal::Seq(SeqFault::Memory));
+    };
+    opens_over_its_storage();
+    match Replay::open(alloc, &outcome, call) {
+        Ok(replay) => Ok(replay),
+        Err(fault) => Err(Refusal::Debug(fault)),
+    }
+}
+
+/// A session along the lines that are read.
+fn debug_lines<L: Read, W: Write>(
+    alloc: Global,
+    replay: &mut Replay,
+    lines: &mut L,
+    out: &mut W,
+) -> Result<(), Refusal>
+    ensures written { OnOk result (IfSome (L.remaining lines.old) (λ typed.
+        Appends (W.contents out.old) (W.contents out.new) (session replay.old (lines_of typed)).text)) }
+    ensures refused { IfErr result IsSessionFault }
+{
+    match debug_to(alloc, replay, lines, out) {
+        Ok(()) => Ok(()),
+        Err(DebugFault::Unreadable) => Err(Refusal::File(FileFault::Unreadable)),
+        Err(DebugFault::Output(fault)) => Err(Refusal::Output(fault)),
+        Err(DebugFault::Memory) => Err(Refusal::Debug(ReplayFault::Memory)),
+    }
+}

@@ -1,0 +1,63 @@
+//! The engine of `rvstm run`, over any reader, programs, writer and threads.
+
+ghost use Rattle.std.specs.Prelude.{IfErr, IfOk, IfSome, IsOkAnd, OnOk};
+ghost use Rattle.std.specs.Io.KnownBytes.{Appends};
+ghost use Rattle.block_file.specs.Block.{block_of};
+ghost use Rattle.engines.specs.Engine.{answer_of, IsUnwritten};
+ghost use Rattle.engines.specs.Parts.{IsWorkersFault, text_of};
+ghost use Rattle.engines.specs.Running.{IsFaultOfRun};
+
+use crate::engine::write_result;
+use crate::fault::Refusal;
+use crate::loading::load_job;
+use crate::programs::Programs;
+use rv_ledger::Job;
+use std::alloc::Global;
+use std::io::{Read, Write};
+use std::sync::Wait;
+use std::thread::Threads;
+use workers::{Executor, RunFault};
+
+/// Reads a block file to its end and parses it, opens, reads and loads its programs in the order of
+/// their numbers, runs the calls by so many workers, each on a thread of its own, and writes the result,
+/// which is that of the calls in order. The first refusal ends it; where that is one of the output, a
+/// beginning of the result was written, and else nothing.
+pub fn run_to<T: Threads + Wait + Sync, R: Read, P: Programs, W: Write>(
+    threads: &T,
+    alloc: Global,
+    block: &mut R,
+    programs: &mut P,
+    workers: usize,
+    out: &mut W,
+) -> Result<(), Refusal>
+    ensures written { OnOk result (IfSome (R.remaining block.old) (λ input.
+        IfSome (answer_of (P.content programs.old) (block_of input)) (λ answer.
+        IsOkAnd answer (Appends (W.contents out.old) (W.contents out.new))))) }
+    ensures refused { IfErr result (λ e. IfSome (R.remaining block.old) (λ input.
+        IsFaultOfRun (P.content programs.old) (block_of input) workers (W.contents out.old) (W.contents out.new) e)) }
+    ensures unwritten { IfErr result (λ e. IsUnwritten (W.contents out.old) (W.contents out.new) e) }
+{
+    let job = match load_job(alloc, block, programs, Refusal::Run(RunFault::Memory)) {
+        Ok(job) => job,
+        Err(refusal) => return Err(refusal),
+    };
+    run_threads(threads, alloc, job, workers, out)
+}
+
+/// Runs a job by workers and writes the result.
+fn run_threads<T: Threads + Wait + Sync, W: Write>(
+    threads: &T,
+    alloc: Global,
+    job: Job,
+    workers: usize,
+    out: &mut W,
+) -> Result<(), Refusal>
+    ensures written { OnOk result (Appends (W.contents out.old) (W.contents out.new) (text_of job)) }
+    ensures refused { IfErr result (λ e. IsWorkersFault job workers (W.contents out.old) (W.contents out.new) e) }
+    ensures unwritten { IfErr result (λ e. IsUnwritten (W.contents out.old) (W.contents out.new) e) }
+{
+    match Executor::new(alloc).run_block(threads, alloc, job, workers) {
+        Ok(outcome) => write_result(alloc, &outcome, out),
+        Err(fault) => Err(Refusal::Run(fault)),
+    }
+}

@@ -1,0 +1,66 @@
+//! Tests of the rights of pages.
+
+ghost use Rattle.std.specs.Prelude.{◌≡◌, ◌+◌, ◌%◌, ◌≤◌, ◌<◌, ◌==◌, ◌||◌, length, IfOk, IsTrue};
+ghost use Rattle.rv_mem.specs.Space.{may, each, place_of};
+
+use crate::access::Access;
+use crate::fault::Fault;
+use elf32::Rights;
+use elf32::extent::{END_ADDRESS, FIRST_ADDRESS, PAGE_SIZE};
+
+/// The number of bytes of a page, as wide as an address.
+const PAGE: u32 = PAGE_SIZE as u32;
+
+/// Whether the byte at the address may be used so.
+#[inline(always)]
+pub fn may(rights: &[Rights], access: Access, address: u32) -> bool
+    requires { length rights.now ≡ 256 }
+    ensures { result ≡ may access rights.now address }
+{
+    FIRST_ADDRESS <= address
+        && address < END_ADDRESS
+        && access.is_allowed_by(rights[((address - FIRST_ADDRESS) / PAGE) as usize])
+}
+
+/// Whether each of the bytes from the address on may be used so.
+pub fn range_has(rights: &[Rights], access: Access, address: u32, len: u32) -> bool
+    requires { length rights.now ≡ 256 }
+    ensures value { result ≡ each access rights.now address len }
+    ensures room { IsTrue result → 0 < len → (0x1_0000 ≤ address) × (address + len ≤ 0x11_0000) }
+{
+    if len == 0 {
+        return true;
+    }
+    if address < FIRST_ADDRESS {
+        return false;
+    }
+    if len > END_ADDRESS.saturating_sub(address) {
+        return false;
+    }
+    let first = (address - FIRST_ADDRESS) / PAGE;
+    let last = (address - FIRST_ADDRESS + (len - 1)) / PAGE;
+    for page in first..last + 1 {
+        if !access.is_allowed_by(rights[page as usize]) {
+            return false;
+        }
+    }
+    true
+}
+
+/// The place in memory of the number of `size` bytes at the address, or why it may not be used so.
+#[inline(always)]
+pub fn place(rights: &[Rights], access: Access, address: u32, size: u32) -> Result<usize, Fault>
+    requires pages { length rights.now ≡ 256 }
+    requires size { IsTrue (size == 1 || size == 2 || size == 4) }
+    ensures value { result ≡ place_of size access rights.now address }
+    ensures room { IfOk result (λ k. k + size ≤ 0x10_0000) }
+    ensures page { IfOk result (λ k. k % 4096 + size ≤ 4096) }
+{
+    if address % size != 0 {
+        return Err(Fault::Misaligned);
+    }
+    if !may(rights, access, address) {
+        return Err(access.fault());
+    }
+    Ok((address - FIRST_ADDRESS) as usize)
+}

@@ -1,0 +1,140 @@
+-- What the answer of a settled book says of the history of its core.
+use Rattle.std.proofs.Common.{◌≡◌, ◌≢◌, ◌⊎◌, ◌<◌, ◌+◌, ◌*◌, ℕ, List, [], ◌∷◌, length, get_or, Option, None, Some, Result, Ok, Err, IfOk, IfErr, arith, sym, ap, subst, ◌∙◌, refl, inl, inr}
+use Rattle.std.proofs.lemmas.Option.{slice_get-get_or}
+use Rattle.std.proofs.lemmas.Result.{IfOk-weaker, IfErr-weaker}
+use Rattle.rv_ledger.specs.declared.job.Job.{Job}
+use Rattle.rv_ledger.specs.declared.outcome.Outcome.{Outcome}
+use Rattle.rv_step.specs.Fold.{receipts_of, store_after}
+use Rattle.stm_state.specs.Steps.{Limit}
+use Rattle.stm_state.specs.Steps as steps
+use Rattle.stm_state.specs.Done.{Reached}
+use Rattle.stm_state.specs.Invariant.{Invariant}
+use Rattle.stm_state.specs.Walk.{ReachedByList}
+use Rattle.stm_state.specs.Dones.{LastEntryIsDone, dones_of}
+use Rattle.stm_state.specs.OneWorker.{OneWorkerCountsWhereReached}
+use Rattle.stm_core.specs.CoreState.{CoreState, block_in}
+use Rattle.workers.specs.declared.share.Share.{Share}
+use Rattle.workers.specs.declared.fault.RunFault.{RunFault}
+use Rattle.workers.specs.declared.fault.RunFault.TheVariants as faults
+use Rattle.workers.specs.Book.{BookState, FaultFits, IsAtLimit, MayWrite, new_share}
+use Rattle.workers.specs.Settle.{AreSettled, IsOutcomeOf, IsOutcomeOrMemory, IsSettledAfter, IsSettled}
+use Rattle.workers.specs.History.{HasHistory, HasLimit, HasOneWorkerCounts}
+
+-- ---- what an answer says of the book
+
+ok_after : (first : Option RunFault) (b : CoreState) (shares : List Share) (answer : Result Outcome RunFault) (o : Outcome)
+    → IsSettledAfter first b shares answer → answer ≡ Ok o → AreSettled b shares × IsOutcomeOf b o
+ok_after (Some f) b shares answer o h e = cc
+ok_after None b shares answer o (inl h) e = (h.0, subst (IsOutcomeOrMemory b) e h.1)
+ok_after None b shares answer o (inr h) e = let k = h.1 in cc
+
+err_after : (first : Option RunFault) (b : CoreState) (shares : List Share) (answer : Result Outcome RunFault) (f : RunFault)
+    → IsSettledAfter first b shares answer → answer ≡ Err f → (first ≡ Some f) ⊎ ((f ≡ faults.Foreign) ⊎ (f ≡ faults.Memory))
+err_after (Some g) b shares answer f h e = inl cc
+err_after None b shares answer f (inl h) e = inr (inr (subst (IsOutcomeOrMemory b) e h.1))
+err_after None b shares answer f (inr h) e = let k = h.1 in inr (inl cc)
+
+module _ (job : Job) (shares : List Share) (b : BookState) (answer : Result Outcome RunFault) (settled : IsSettled job shares b answer) where
+  -- an outcome is that of a settled core of this job
+  pub ok_settled : (o : Outcome) → answer ≡ Ok o → (b.core.job ≡ job) × (AreSettled b.core shares × IsOutcomeOf b.core o)
+  ok_settled o e = elim settled [
+    | inl h ↦ (h.0, ok_after b.fault b.core shares answer o h.1 e)
+    | inr h ↦ (let k = h.1 in cc)
+  ]
+
+  -- a fault is the one that was written beside a core of this job, or Foreign or Memory
+  pub err_settled : (f : RunFault) → answer ≡ Err f → ((b.core.job ≡ job) × (b.fault ≡ Some f)) ⊎ ((f ≡ faults.Foreign) ⊎ (f ≡ faults.Memory))
+  err_settled f e = elim settled [
+    | inl h ↦ elim (err_after b.fault b.core shares answer f h.1 e) [ inl k ↦ inl (h.0, k) | inr k ↦ inr k ]
+    | inr h ↦ (let k = h.1 in inr (inl cc))
+  ]
+
+-- ---- the history
+
+-- each worker has one asking answered Done
+once_each : (b : CoreState) (shares : List Share) → AreSettled b shares → (w : ℕ) → w < length b.state.tasks → dones_of w b.state ≡ 1
+once_each b shares settled w within =
+    let size = settled.count in
+    let one = settled.each w (get_or shares w (new_share 0)) (slice_get-get_or shares w (new_share 0) (omega (arith, size, within))) in
+    sym (one.tells.dones ∙ ap (λ v. get_or b.state.dones v 0) one.worker) ∙ one.once
+
+module _ (b : CoreState) (shares : List Share) (settled : AreSettled b shares) (reached : Reached (block_in b) (length b.state.tasks) b.state) where
+  -- some list leads to the core's state, with its counts
+  has_history : ReachedByList → LastEntryIsDone → HasHistory b.job (length b.state.tasks) b.state.counts
+  has_history by_list last =
+      let led = (by_list (block_in b) (length b.state.tasks) b.state).0 reached in
+      record {
+        entries = led.0;
+        state = b.state;
+        leads = led.1;
+        done = settled.done;
+        counts = refl;
+        ends = λ w within. last (block_in b) (length b.state.tasks) led.0 b.state w 0 led.1 (once_each b shares settled w within);
+      }
+
+  -- the counts of one worker
+  has_one_worker_counts : OneWorkerCountsWhereReached → length b.state.tasks ≡ 1 → HasOneWorkerCounts (length b.job.block) b.state.counts
+  has_one_worker_counts law one =
+      let did = law (block_in b) b.state (subst (λ n. Reached (block_in b) n b.state) one reached) settled.done in
+      let told : did.1 ≡ 1 = sym (ap (λ ds. get_or ds 0 0) did.2.dones) ∙ once_each b shares settled 0 (omega (arith, one)) in
+      record {
+        steps = did.0;
+        counts = did.2.counts ∙ ap (λ n. record { steps = did.0; asks = 2 * length b.job.block + n; executions = length b.job.block; validations = length b.job.block } ∷ []) told;
+      }
+
+-- ---- what is answered for a job and a number of workers
+
+module _ (job : Job) (workers : ℕ) (shares : List Share) (b : BookState) (settled_answer : Result Outcome RunFault) (settled : IsSettled job shares b settled_answer)
+    (reached : Reached (block_in b.core) (length b.core.state.tasks) b.core.state) (inv : Invariant (block_in b.core) (length b.core.state.tasks) b.core.state)
+    (fits : FaultFits b.core b.fault) where
+  module _ (answer : Result Outcome RunFault) (ok : IfOk answer (λ o. (settled_answer ≡ Ok o) × (length o.counts.items ≡ workers))) where
+    pub job_is : IfOk answer (λ o. o.job ≡ job)
+    job_is = IfOk-weaker answer _ _ (λ o h. let k = ok_settled job shares b settled_answer settled o h.0 in k.1.1.job ∙ k.0) ok
+
+    pub receipts_are : IfOk answer (λ o. o.receipts.items ≡ receipts_of job.block job.store)
+    receipts_are = IfOk-weaker answer _ _ (λ o h. let k = ok_settled job shares b settled_answer settled o h.0 in k.1.1.receipts ∙ ap (λ (j : Job). receipts_of j.block j.store) k.0) ok
+
+    pub store_is : IfOk answer (λ o. o.store ≡ store_after job.block job.store)
+    store_is = IfOk-weaker answer _ _ (λ o h. let k = ok_settled job shares b settled_answer settled o h.0 in k.1.1.store ∙ ap (λ (j : Job). store_after j.block j.store) k.0) ok
+
+    as_many : (o : Outcome) → o.counts.items ≡ b.core.state.counts → length o.counts.items ≡ workers → length b.core.state.tasks ≡ workers
+    as_many o same count = sym inv.sized.counts ∙ ap length (sym same) ∙ count
+
+    pub history_is : ReachedByList → LastEntryIsDone → IfOk answer (λ o. HasHistory job workers o.counts.items)
+    history_is by_list last = IfOk-weaker answer _ _ (λ o h.
+        let k = ok_settled job shares b settled_answer settled o h.0 in
+        let counts = k.1.1.counts in
+        subst (λ (j : Job). HasHistory j workers o.counts.items) k.0
+        (subst (λ n. HasHistory b.core.job n o.counts.items) (as_many o counts h.1)
+        (subst (HasHistory b.core.job (length b.core.state.tasks)) (sym counts) (has_history b.core shares k.1.0 reached by_list last)))) ok
+
+    pub one_worker_is : OneWorkerCountsWhereReached → IfOk answer (λ o. workers ≡ 1 → HasOneWorkerCounts (length job.block) o.counts.items)
+    one_worker_is law = IfOk-weaker answer _ _ (λ o h one.
+        let k = ok_settled job shares b settled_answer settled o h.0 in
+        let counts = k.1.1.counts in
+        subst (λ (j : Job). HasOneWorkerCounts (length j.block) o.counts.items) k.0
+        (subst (HasOneWorkerCounts (length b.core.job.block)) (sym counts) (has_one_worker_counts b.core shares k.1.0 reached law (as_many o counts h.1 ∙ one)))) ok
+
+  -- a limit that was written is met by some list
+  limit_met : (limit : Limit) → IsAtLimit limit b.core → b.core.job ≡ job → HasLimit job limit
+  limit_met limit at same = subst (λ (j : Job). HasLimit j limit) same
+      (record { workers = length b.core.state.tasks; meets = record { state = b.core.state; reached = reached; worker = at.worker; within = at.within; step = at.step; refused = at.refused } })
+
+  -- a fault that is neither Foreign nor Memory was written
+  written : (f : RunFault) → (settled_answer ≡ Err f) ⊎ (f ≡ faults.Foreign) → f ≢ faults.Foreign → f ≢ faults.Memory → (b.core.job ≡ job) × MayWrite f b.core
+  written f (inl h) foreign memory = elim (err_settled job shares b settled_answer settled f h) [
+    | inl k ↦ (k.0, subst (FaultFits b.core) k.1 fits)
+    | inr (inl k) ↦ absurd (foreign k)
+    | inr (inr k) ↦ absurd (memory k)
+  ]
+  written f (inr h) foreign memory = absurd (foreign h)
+
+  module _ (answer : Result Outcome RunFault) (err : IfErr answer (λ f. (settled_answer ≡ Err f) ⊎ (f ≡ faults.Foreign))) where
+    pub never_bad_count : IfErr answer (λ f. f ≢ faults.BadCount)
+    never_bad_count = IfErr-weaker answer _ _ (λ f h e. (subst (λ (g : RunFault). MayWrite g b.core) e (written f h (λ k. cc) (λ k. cc)).1)) err
+
+    pub full_is : IfErr answer (λ f. f ≡ faults.ArenaFull → HasLimit job steps.ArenaFull)
+    full_is = IfErr-weaker answer _ _ (λ f h e. let w = written f h (λ k. cc) (λ k. cc) in limit_met steps.ArenaFull (subst (λ (g : RunFault). MayWrite g b.core) e w.1) w.0) err
+
+    pub limit_is : IfErr answer (λ f. f ≡ faults.IncarnationLimit → HasLimit job steps.IncarnationLimit)
+    limit_is = IfErr-weaker answer _ _ (λ f h e. let w = written f h (λ k. cc) (λ k. cc) in limit_met steps.IncarnationLimit (subst (λ (g : RunFault). MayWrite g b.core) e w.1) w.0) err

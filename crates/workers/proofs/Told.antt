@@ -1,0 +1,41 @@
+-- What an asking adds to a share.
+use Rattle.std.proofs.Common.{◌≡◌, ◌+◌, Bool, true, false, if◌then◌else◌, length, get_or, arith, sym, ap, ◌∙◌, refl}
+use Rattle.stm_state.specs.declared.state.Task.{Task}
+use Rattle.stm_state.specs.declared.state.Task.TheVariants.{Idle, Running, Validating}
+use Rattle.stm_state.specs.State.{is_done}
+use Rattle.stm_state.specs.Steps.{Ask}
+use Rattle.stm_state.specs.Invariant.{Invariant}
+use Rattle.stm_state.specs.Dones.{DonesGrowAtDone}
+use Rattle.stm_core.specs.CoreState.{CoreState, Makes, ask_result_of, block_in}
+use Rattle.stm_core.specs.declared.next_step.AskResult.{AskResult}
+use Rattle.stm_core.specs.declared.next_step.AskResult.TheVariants as ask_result
+use Rattle.workers.specs.declared.share.Share.{Share}
+use Rattle.workers.specs.Book.{Tells}
+
+-- an asking is answered Done just where all was done
+pub done_where_told : (done : Bool) (task : Task) → ask_result.Done ≡ ask_result_of done task → done ≡ true
+done_where_told true task e = refl
+done_where_told false Idle e = cc
+done_where_told false (Running i answers blocked) e = cc
+done_where_told false (Validating i n left) e = cc
+
+pub not_done_where_told : (done : Bool) (task : Task) (answer : AskResult) → answer ≡ ask_result_of done task → (answer ≡ ask_result.Done → ⊥) → done ≡ false
+not_done_where_told true task answer e other = absurd (other e)
+not_done_where_told false task answer e other = refl
+
+module _ (law : DonesGrowAtDone) (old new : CoreState) (share counted : Share) (made : Makes share.worker Ask old new)
+    (inv : Invariant (block_in old) (length old.state.tasks) old.state) (told : Tells share old) (tells : Tells counted new) (same : counted.worker ≡ share.worker) where
+  grown : counted.dones ≡ (if is_done old.state then share.dones + 1 else share.dones)
+  grown =
+      let size = inv.sized.dones in
+      let within = told.within in
+      tells.dones ∙ ap (λ w. get_or new.state.dones w 0) same
+      ∙ law (block_in old) share.worker old.state new.state made.0 (omega (arith, size, within))
+      ∙ ap (λ d. if is_done old.state then d + 1 else d) (sym told.dones)
+
+  -- one asking answered Done more where all was done, and else none
+  pub one_told : is_done old.state ≡ true → counted.dones ≡ share.dones + 1
+  one_told e = grown ∙ ap (λ b. if b then share.dones + 1 else share.dones) e
+
+  pub none_told : is_done old.state ≡ false → counted.dones ≡ share.dones
+  none_told e = grown ∙ ap (λ b. if b then share.dones + 1 else share.dones) e

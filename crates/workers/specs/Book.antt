@@ -1,0 +1,129 @@
+-- A core with the first fault that was written, the share of a worker, and what the step calls owe.
+use Rattle.std.specs.Prelude.{◌≡◌, ◌<◌, ◌+◌, ℕ, zero, suc, true, false, List, [], ◌∷◌, ◌++◌, length, get_or, Option, None, Some}
+use Rattle.stm_state.specs.State.{task_at, no_counts, is_done}
+use Rattle.stm_state.specs.Steps.{Step, Ask, Read_key, Park, Record, Validate}
+use Rattle.stm_state.specs.Steps as steps
+use Rattle.scheduler.specs.declared.counting.TheConstants.{COUNT_LIMIT}
+use Rattle.stm_core.specs.CoreState.{CoreState, IsRefused, Makes, next_step_of}
+use Rattle.stm_core.specs.declared.next_step.NextStep.{NextStep}
+use Rattle.stm_core.specs.declared.fault.RecordFault.{RecordFault}
+use Rattle.stm_core.specs.declared.fault.RecordFault.TheVariants as record_faults
+use Rattle.workers.specs.declared.share.Share.{Share}
+use Rattle.workers.specs.declared.fault.RunFault.{RunFault}
+use Rattle.workers.specs.declared.fault.RunFault.TheVariants as faults
+
+-- a core, and the first fault that was written
+pub record BookState : Type 0 where
+  pub core : CoreState
+  pub fault : Option RunFault
+
+-- ---- what a written fault says of the core beside it
+
+-- a due step of some worker is refused for a limit
+pub record IsAtLimit (limit : steps.Limit) (b : CoreState) : Type 0 where
+  pub worker : ℕ
+  pub within : worker < length b.state.tasks
+  pub step : Step
+  pub refused : IsRefused worker step limit b
+
+-- some worker can't count one step more
+pub record HasFullCount (b : CoreState) : Type 0 where
+  pub worker : ℕ
+  pub within : worker < length b.state.tasks
+  pub steps : (get_or b.state.counts worker no_counts).steps ≡ COUNT_LIMIT
+
+-- a fault that may be written beside a core
+abbrev pub MayWrite : RunFault → CoreState → Type 0
+MayWrite faults.BadCount b = ⊥
+MayWrite faults.Foreign b = Unit {0}
+MayWrite faults.ArenaFull b = IsAtLimit steps.ArenaFull b
+MayWrite faults.IncarnationLimit b = IsAtLimit steps.IncarnationLimit b
+MayWrite faults.Memory b = Unit {0}
+MayWrite faults.Spawn b = Unit {0}
+MayWrite faults.StepLimit b = HasFullCount b
+
+abbrev pub FaultFits : CoreState → Option RunFault → Type 0
+FaultFits b None = Unit {0}
+FaultFits b (Some fault) = MayWrite fault b
+
+-- the fault of a record that was refused
+abbrev pub fault_of : RecordFault → RunFault
+fault_of record_faults.Foreign = faults.Foreign
+fault_of record_faults.ArenaFull = faults.ArenaFull
+fault_of record_faults.Memory = faults.Memory
+fault_of record_faults.IncarnationLimit = faults.IncarnationLimit
+
+-- with a fault written, unless one was written before
+abbrev pub first_fault : Option RunFault → RunFault → RunFault
+first_fault None fault = fault
+first_fault (Some first) fault = first
+
+-- ---- shares
+
+-- the share of a worker that did nothing yet
+abbrev pub new_share : ℕ → Share
+new_share worker = record { worker = worker; counts = no_counts; dones = 0 }
+
+-- the shares of so many workers, in their order
+unfoldable pub new_shares : ℕ → List Share
+new_shares zero = []
+new_shares (suc n) = new_shares n ++ new_share n ∷ []
+
+-- a share tells what a core counts of its worker
+pub record Tells (share : Share) (b : CoreState) : Type 0 where
+  pub within : share.worker < length b.state.tasks
+  pub counts : share.counts ≡ get_or b.state.counts share.worker no_counts
+  pub dones : share.dones ≡ get_or b.state.dones share.worker 0
+
+-- and its worker owes a step
+pub record Owes (next : NextStep) (share : Share) (b : CoreState) : Type 0 where
+  pub tells : Tells share b
+  pub owed : next_step_of b.state (task_at b.state share.worker) ≡ next
+
+-- ---- step calls
+
+-- the step of the share's worker was made with no fault written, and the share tells the core's counts before it and after it
+pub record IsMade (step : Step) (before after : BookState) (share counted : Share) : Type 0 where
+  pub none_before : before.fault ≡ None
+  pub told : Tells share before.core
+  pub makes : Makes share.worker step before.core after.core
+  pub none_after : after.fault ≡ None
+  pub worker : counted.worker ≡ share.worker
+  pub tells : Tells counted after.core
+
+-- a step call that was refused leaves the core and the share as they were, and its fault written
+pub record LeavesWritten (fault : RunFault) (before after : BookState) (share left : Share) : Type 0 where
+  pub core : after.core ≡ before.core
+  pub written : after.fault ≡ Some fault
+  pub kept : left ≡ share
+
+-- why a step call is refused: as the fault that was written before; else Foreign only where the call does not fit, a limit or
+-- Memory only where the step meets it, and StepLimit only where the worker can't count one step more
+abbrev pub IsCauseAfter : Option RunFault → (Fits : Type 0) → (Wants : Type 0) → Step → ℕ → CoreState → RunFault → Type 0
+IsCauseAfter (Some first) Fits Wants step w b fault = fault ≡ first
+IsCauseAfter None Fits Wants step w b faults.BadCount = ⊥
+IsCauseAfter None Fits Wants step w b faults.Foreign = Fits → ⊥
+IsCauseAfter None Fits Wants step w b faults.ArenaFull = IsRefused w step steps.ArenaFull b
+IsCauseAfter None Fits Wants step w b faults.IncarnationLimit = IsRefused w step steps.IncarnationLimit b
+IsCauseAfter None Fits Wants step w b faults.Memory = Wants
+IsCauseAfter None Fits Wants step w b faults.Spawn = ⊥
+IsCauseAfter None Fits Wants step w b faults.StepLimit = (get_or b.state.counts w no_counts).steps ≡ COUNT_LIMIT
+
+abbrev pub IsCause : (Fits : Type 0) → (Wants : Type 0) → Step → ℕ → BookState → RunFault → Type 0
+IsCause Fits Wants step w b fault = IsCauseAfter b.fault Fits Wants step w b.core fault
+
+-- why a worker may not make a step that it is to owe, whatever the step
+abbrev pub IsUnready : Option RunFault → NextStep → Share → CoreState → RunFault → Type 0
+IsUnready (Some first) next share b fault = fault ≡ first
+IsUnready None next share b faults.BadCount = ⊥
+IsUnready None next share b faults.Foreign = Owes next share b → ⊥
+IsUnready None next share b faults.ArenaFull = ⊥
+IsUnready None next share b faults.IncarnationLimit = ⊥
+IsUnready None next share b faults.Memory = ⊥
+IsUnready None next share b faults.Spawn = ⊥
+IsUnready None next share b faults.StepLimit = (get_or b.state.counts share.worker no_counts).steps ≡ COUNT_LIMIT
+
+-- an asking: None where all was done, and then one asking more was answered Done; else what the worker owes now
+abbrev pub IsAsked : Option NextStep → CoreState → CoreState → Share → Share → Type 0
+IsAsked None before after share counted = (is_done before.state ≡ true) × (counted.dones ≡ share.dones + 1)
+IsAsked (Some next) before after share counted = (is_done before.state ≡ false) × (counted.dones ≡ share.dones) × (next ≡ next_step_of after.state (task_at after.state share.worker))

@@ -1,0 +1,4 @@
+pub mod Book
+pub mod Faults
+pub mod Settle
+pub mod History

@@ -1,0 +1,276 @@
+//! What stands under the lock: a core, and the first fault that was written.
+
+ghost use Rattle.std.specs.Prelude.{◌≡◌};
+ghost use Rattle.workers.specs.Book.{fault_of};
+
+use crate::fault::RunFault;
+use crate::share::Share;
+use rv_ledger::Key;
+use rv_step::EndedRun;
+use scheduler::COUNT_LIMIT;
+use std::alloc::Global;
+use std::marker::Model;
+use stm_core::{AskResult, Core, NextStep, ReadResult, RecordFault};
+
+/// A core, and the first fault that was written beside it. A written ArenaFull or IncarnationLimit stands
+/// beside a core in which a worker's due step is refused so, and a written StepLimit beside one in which a
+/// worker's step count is 2^64 - 1.
+#[derive(Drop)]
+pub struct Book {
+    core: Core,
+    fault: Option<RunFault>,
+}
+
+impl Model for Book {
+    ghost use Rattle.std.specs.Coded.{codes};
+    ghost use Rattle.stm_core.specs.contracts.state.Core.{the_row as core_row};
+    ghost use Rattle.workers.specs.Book.{BookState, FaultFits};
+
+    ghost Value = { BookState };
+
+    ghost coded = { Prim.hlevel (codes, core_row.coded) };
+
+    ghost view = { λ b. record { core = b.core; fault = b.fault } };
+
+    ghost invariant = { λ b. FaultFits b.core b.fault };
+}
+
+impl Book {
+    ghost use Rattle.std.specs.Prelude.{◌≡◌, ◌<◌, ◌≤◌, ◌↔◌, [], None, Some, true, length, get_or, IfErr, IfNone, IfOk, IfSome, OnOk};
+    ghost use Rattle.mvmap.specs.Reading.{reading};
+    ghost use Rattle.stm_state.specs.Done.{Reached};
+    ghost use Rattle.stm_state.specs.Invariant.{Invariant};
+    ghost use Rattle.stm_state.specs.State.{task_at};
+    ghost use Rattle.stm_state.specs.Steps as steps;
+    ghost use Rattle.stm_core.specs.CoreState.{IsOwn, IsTaken, block_in, next_step_of, read_result_of};
+    ghost use Rattle.stm_core.specs.declared.next_step.NextStep.TheVariants as next_step;
+    ghost use Rattle.workers.specs.Book.{FaultFits, IsAsked, IsCause, IsMade, IsUnready, LeavesWritten, MayWrite, Owes, Tells, first_fault};
+
+    /// A core, and no fault.
+    pub fn new(core: Core) -> Book
+        ensures { result ≡ record { core = core; fault = None } }
+    {
+        Book { core, fault: None }
+    }
+
+    /// The core.
+    pub fn core(&self) -> &Core
+        ensures { result.now ≡ self.now.core }
+    {
+        &self.core
+    }
+
+    /// The first fault that was written.
+    pub fn fault(&self) -> Option<RunFault>
+        ensures { result ≡ self.now.fault }
+    {
+        self.fault
+    }
+
+    /// What holds of the core and of the fault that was written beside it.
+    pub fn holds(&self)
+        ensures reached { Reached (block_in self.now.core) (length self.now.core.state.tasks) self.now.core.state }
+        ensures invariant { Invariant (block_in self.now.core) (length self.now.core.state.tasks) self.now.core.state }
+        ensures fits { FaultFits self.now.core self.now.fault }
+    {
+        self.core.holds();
+    }
+
+    /// Writes a fault, unless one was written before, and gives the one that is written then.
+    pub(crate) fn write(&mut self, fault: RunFault) -> RunFault
+        requires { MayWrite fault self.old.core }
+        ensures first { result ≡ first_fault self.old.fault fault }
+        ensures written { self.new ≡ record self.old { fault = Some result } }
+    {
+        match self.fault {
+            Some(first) => first,
+            None => {
+                self.fault = Some(fault);
+                fault
+            }
+        }
+    }
+
+    /// The core, without the fault.
+    pub fn into_core(self) -> Core
+        ensures { result ≡ self.core }
+    {
+        let Book { core, fault: _ } = self;
+        core
+    }
+
+    /// A worker without a task asks for work: None where all is done, else the step that it owes now.
+    /// Refused as the fault that was written before; else as Foreign where the worker owes another step or the
+    /// share tells other counts than the core's, and as StepLimit where its step count is 2^64 - 1. A refusal
+    /// is written, and core and share stay. Takes no memory.
+    #[tactic(auto, using(crate::proofs::Stays::stays, crate::proofs::Causes::unready_cause))]
+    pub fn ask(&mut self, share: &mut Share) -> Result<Option<NextStep>, RunFault>
+        ensures made { OnOk result (IsMade steps.Ask self.old self.new share.old share.new) }
+        ensures asked { IfOk result (λ next. IsAsked next self.old.core self.new.core share.old share.new) }
+        ensures refused { IfErr result (λ e. LeavesWritten e self.old self.new share.old share.new) }
+        ensures cause { IfErr result (λ e. IsCause (Owes next_step.Ask share.old self.old.core) ⊥ steps.Ask share.old.worker self.old e) }
+    {
+        self.ready(share, NextStep::Ask)?;
+        self.core.holds();
+        stm_state::dones_grow_at_done();
+        let answer = self.core.ask(share.worker);
+        self.tell(share);
+        Ok(match answer {
+            AskResult::Done => None,
+            AskResult::Nothing | AskResult::Task => Some(self.core.doing(share.worker)),
+        })
+    }
+
+    /// The run of a call at an incarnation reads the key that it asks for. Refused as `ask` is, and as Memory.
+    #[tactic(auto, using(crate::proofs::Stays::stays, crate::proofs::Causes::unready_cause))]
+    pub fn read(
+        &mut self,
+        share: &mut Share,
+        call: u16,
+        incarnation: u16,
+        key: &Key,
+    ) -> Result<ReadResult, RunFault>
+        ensures made { OnOk result (IsMade (steps.Read_key key.now) self.old self.new share.old share.new) }
+        ensures answer { IfOk result (λ answer. answer ≡ read_result_of self.old.core.job.store key.now (reading self.old.core.state.versions key.now call)) }
+        ensures dones { OnOk result (share.new.dones ≡ share.old.dones) }
+        ensures refused { IfErr result (λ e. LeavesWritten e self.old self.new share.old share.new) }
+        ensures cause { IfErr result (λ e. IsCause (Owes (next_step.Run call incarnation) share.old self.old.core) (get_or self.old.core.rooms share.old.worker 0 < 1) (steps.Read_key key.now) share.old.worker self.old e) }
+    {
+        self.ready(share, NextStep::Run { call, incarnation })?;
+        stm_state::dones_grow_at_done();
+        if self.core.room_for_read(share.worker).is_err() {
+            return Err(self.write(RunFault::Memory));
+        }
+        let answer = self.core.read(share.worker, key);
+        self.tell(share);
+        Ok(answer)
+    }
+
+    /// The run of a call at an incarnation met an estimate: it is parked, or starts again. Gives the step that
+    /// the worker owes now. Refused as `ask` is, and as IncarnationLimit. Takes no memory.
+    #[tactic(auto, using(crate::proofs::Stays::stays, crate::proofs::Causes::unready_cause))]
+    pub fn park(
+        &mut self,
+        share: &mut Share,
+        call: u16,
+        incarnation: u16,
+    ) -> Result<NextStep, RunFault>
+        ensures made { OnOk result (IsMade steps.Park self.old self.new share.old share.new) }
+        ensures next { IfOk result (λ next. next ≡ next_step_of self.new.core.state (task_at self.new.core.state share.new.worker)) }
+        ensures dones { OnOk result (share.new.dones ≡ share.old.dones) }
+        ensures refused { IfErr result (λ e. LeavesWritten e self.old self.new share.old share.new) }
+        ensures cause { IfErr result (λ e. IsCause (Owes (next_step.Park call incarnation) share.old self.old.core) ⊥ steps.Park share.old.worker self.old e) }
+    {
+        self.ready(share, NextStep::Park { call, incarnation })?;
+        stm_state::dones_grow_at_done();
+        match self.core.park(share.worker) {
+            Ok(()) => {
+                self.tell(share);
+                Ok(self.core.doing(share.worker))
+            }
+            Err(_) => Err(self.write(RunFault::IncarnationLimit)),
+        }
+    }
+
+    /// The run of a call at an incarnation has ended and is handed in. Gives the step that the worker owes now.
+    /// Refused as `ask` is; as Foreign too where the run is not of that call or its answers are not those that
+    /// were given; else as ArenaFull, IncarnationLimit or Memory.
+    #[tactic(auto, using(crate::proofs::Stays::stays, crate::proofs::Causes::unready_cause))]
+    pub fn record(
+        &mut self,
+        alloc: Global,
+        share: &mut Share,
+        call: u16,
+        incarnation: u16,
+        run: EndedRun,
+    ) -> Result<NextStep, RunFault>
+        ensures made { OnOk result (IsMade steps.Record self.old self.new share.old share.new) }
+        ensures next { IfOk result (λ next. next ≡ next_step_of self.new.core.state (task_at self.new.core.state share.new.worker)) }
+        ensures own { OnOk result (IsOwn share.old.worker run self.old.core) }
+        ensures dones { OnOk result (share.new.dones ≡ share.old.dones) }
+        ensures refused { IfErr result (λ e. LeavesWritten e self.old self.new share.old share.new) }
+        ensures cause { IfErr result (λ e. IsCause (Owes (next_step.Run call incarnation) share.old self.old.core × IsOwn share.old.worker run self.old.core) (IsTaken share.old.worker steps.Record self.old.core) steps.Record share.old.worker self.old e) }
+    {
+        self.ready(share, NextStep::Run { call, incarnation })?;
+        stm_state::dones_grow_at_done();
+        match self.core.record(alloc, share.worker, run) {
+            Ok(()) => {
+                self.tell(share);
+                Ok(self.core.doing(share.worker))
+            }
+            Err(refused) => Err(self.write(fault_of(refused.fault))),
+        }
+    }
+
+    /// A worker checks the reads of the call that it validates at an incarnation. Gives the step that it owes
+    /// now. Refused as `ask` is. Takes no memory.
+    #[tactic(auto, using(crate::proofs::Stays::stays, crate::proofs::Causes::unready_cause))]
+    pub fn validate(
+        &mut self,
+        share: &mut Share,
+        call: u16,
+        incarnation: u16,
+    ) -> Result<NextStep, RunFault>
+        ensures made { OnOk result (IsMade steps.Validate self.old self.new share.old share.new) }
+        ensures next { IfOk result (λ next. next ≡ next_step_of self.new.core.state (task_at self.new.core.state share.new.worker)) }
+        ensures dones { OnOk result (share.new.dones ≡ share.old.dones) }
+        ensures refused { IfErr result (λ e. LeavesWritten e self.old self.new share.old share.new) }
+        ensures cause { IfErr result (λ e. IsCause (Owes (next_step.Validate call incarnation) share.old self.old.core) ⊥ steps.Validate share.old.worker self.old e) }
+    {
+        self.ready(share, NextStep::Validate { call, incarnation })?;
+        stm_state::dones_grow_at_done();
+        self.core.validate(share.worker);
+        self.tell(share);
+        Ok(self.core.doing(share.worker))
+    }
+
+    /// Tests that the share's worker may make a step now; what is wrong is written.
+    fn ready(&mut self, share: &Share, owed: NextStep) -> Result<(), RunFault>
+        ensures ready { OnOk result (Owes owed share.now self.old.core × (self.old.fault ≡ None) × (share.now.counts.steps < COUNT_LIMIT) × (self.new ≡ self.old)) }
+        ensures refused { IfErr result (λ e. self.new ≡ record self.old { fault = Some e }) }
+        ensures cause { IfErr result (λ e. IsUnready self.old.fault owed share.now self.old.core e) }
+    {
+        if let Some(fault) = self.fault {
+            return Err(fault);
+        }
+        if !self.is_owed(share, owed) {
+            return Err(self.write(RunFault::Foreign));
+        }
+        if share.counts.steps == COUNT_LIMIT {
+            return Err(self.write(RunFault::StepLimit));
+        }
+        Ok(())
+    }
+
+    /// Whether the share's worker owes a step, and the share tells the core's counts.
+    fn is_owed(&self, share: &Share, owed: NextStep) -> bool
+        ensures { (result ≡ true) ↔ Owes owed share.now self.now.core }
+    {
+        share.worker < self.core.workers()
+            && self.core.doing(share.worker) == owed
+            && self.core.counts(share.worker) == share.counts
+            && self.core.dones(share.worker) == share.dones
+    }
+
+    /// Lets a share tell what the core counts of its worker.
+    fn tell(&self, share: &mut Share)
+        requires { share.old.worker < length self.now.core.state.tasks }
+        ensures tells { Tells share.new self.now.core }
+        ensures worker { share.new.worker ≡ share.old.worker }
+    {
+        share.counts = self.core.counts(share.worker);
+        share.dones = self.core.dones(share.worker);
+    }
+}
+
+/// The fault of a record that was refused.
+fn fault_of(fault: RecordFault) -> RunFault
+    ensures { result ≡ fault_of fault }
+{
+    match fault {
+        RecordFault::Foreign => RunFault::Foreign,
+        RecordFault::ArenaFull => RunFault::ArenaFull,
+        RecordFault::IncarnationLimit => RunFault::IncarnationLimit,
+        RecordFault::Memory => RunFault::Memory,
+    }
+}

@@ -1,0 +1,196 @@
+//! Runs the calls of blocks on several threads, over one arena.
+
+ghost use Rattle.std.specs.Prelude.{◌≡◌, ◌≢◌, ◌≤◌, ◌⊎◌, [], Err, IfErr, IfOk, Ok, length};
+ghost use Rattle.rv_step.specs.Fold.{receipts_of, store_after};
+ghost use Rattle.stm_state.specs.Steps as steps;
+ghost use Rattle.workers.specs.History.{HasHistory, HasLimit, HasOneWorkerCounts};
+ghost use Rattle.workers.specs.declared.fault.RunFault.TheVariants as faults;
+
+use crate::answer::settle;
+use crate::fault::RunFault;
+use crate::gate::{Gate, Open};
+use crate::share::Share;
+use crate::shared::{OutsideFault, Shared};
+use crate::worker::work;
+use rv_ledger::{Job, Outcome};
+use std::alloc::Global;
+use std::sync::Wait;
+use std::thread::Threads;
+use std::{mem, thread};
+use stm_core::{Core, WORKER_LIMIT};
+use version_arena::Arena;
+
+/// Runs blocks one after another, over one arena, which has no records between two of them.
+#[derive(Drop)]
+pub struct Executor {
+    arena: Arena,
+    ghost empty: { arena.records ≡ [] },
+}
+
+impl Executor {
+    ghost use Rattle.std.specs.Prelude.{◌≡◌, ◌<◌, ◌⊎◌, ◌↔◌, Err, IfErr, IfOk, length};
+    ghost use Rattle.rv_step.specs.Fold.{receipts_of, store_after};
+    ghost use Rattle.stm_state.specs.Steps as steps;
+    ghost use Rattle.workers.specs.declared.fault.RunFault.TheVariants as faults;
+    ghost use Rattle.workers.specs.History.{HasHistory, HasLimit, HasOneWorkerCounts};
+
+    /// An executor whose arena has room for no record yet. Takes no memory.
+    pub fn new(alloc: Global) -> Executor {
+        Executor {
+            arena: Arena::new(alloc),
+        }
+    }
+
+    /// Runs a job on 1 to 32 threads. Refused as BadCount exactly where the number of workers is another, before
+    /// all else; as ArenaFull and IncarnationLimit only where some list of worker steps of this job comes to
+    /// that; as Memory where memory ran out, as Spawn where a thread was refused, as StepLimit where a worker
+    /// made 2^64 - 1 steps, and as Foreign where a worker or the core is not as it was left. Whatever is
+    /// answered, the executor may be used again.
+    pub fn run_block<R: Threads + Wait + Sync>(
+        &mut self,
+        rt: &R,
+        alloc: Global,
+        job: Job,
+        workers: usize,
+    ) -> Result<Outcome, RunFault>
+        ensures bad_count { (result ≡ Err faults.BadCount) ↔ ((workers ≡ 0) ⊎ (WORKER_LIMIT < workers)) }
+        ensures job { IfOk result (λ o. o.job ≡ job) }
+        ensures receipts { IfOk result (λ o. o.receipts.items ≡ receipts_of job.block job.store) }
+        ensures store { IfOk result (λ o. o.store ≡ store_after job.block job.store) }
+        ensures history { IfOk result (λ o. HasHistory job workers o.counts.items) }
+        ensures one_worker { IfOk result (λ o. workers ≡ 1 → HasOneWorkerCounts (length job.block) o.counts.items) }
+        ensures full { IfErr result (λ e. e ≡ faults.ArenaFull → HasLimit job steps.ArenaFull) }
+        ensures limit { IfErr result (λ e. e ≡ faults.IncarnationLimit → HasLimit job steps.IncarnationLimit) }
+    {
+        self.run_block_with(rt, alloc, job, workers, &Open)
+    }
+
+    /// `run_block` with a gate, at which each thread is held between the end of a run and its record.
+    pub fn run_block_with<R: Threads + Wait + Sync, G: Gate + Sync>(
+        &mut self,
+        rt: &R,
+        alloc: Global,
+        job: Job,
+        workers: usize,
+        gate: &G,
+    ) -> Result<Outcome, RunFault>
+        ensures bad_count { (result ≡ Err faults.BadCount) ↔ ((workers ≡ 0) ⊎ (WORKER_LIMIT < workers)) }
+        ensures job { IfOk result (λ o. o.job ≡ job) }
+        ensures receipts { IfOk result (λ o. o.receipts.items ≡ receipts_of job.block job.store) }
+        ensures store { IfOk result (λ o. o.store ≡ store_after job.block job.store) }
+        ensures history { IfOk result (λ o. HasHistory job workers o.counts.items) }
+        ensures one_worker { IfOk result (λ o. workers ≡ 1 → HasOneWorkerCounts (length job.block) o.counts.items) }
+        ensures full { IfErr result (λ e. e ≡ faults.ArenaFull → HasLimit job steps.ArenaFull) }
+        ensures limit { IfErr result (λ e. e ≡ faults.IncarnationLimit → HasLimit job steps.IncarnationLimit) }
+    {
+        if workers == 0 || workers > WORKER_LIMIT {
+            return Err(RunFault::BadCount);
+        }
+        let arena = mem::replace(&mut self.arena, Arena::new(alloc));
+        let (answer, arena) = run_over(rt, alloc, arena, &job, workers, gate);
+        self.arena = arena;
+        answer
+    }
+}
+
+/// Runs a job on threads over an arena, which comes back without records.
+fn run_over<R: Threads + Wait + Sync, G: Gate + Sync>(
+    rt: &R,
+    alloc: Global,
+    arena: Arena,
+    job: &Job,
+    workers: usize,
+    gate: &G,
+) -> (Result<Outcome, RunFault>, Arena)
+    requires { (1 ≤ workers) × (workers ≤ 32) }
+    ensures bad_count { IfErr result.0 (λ e. e ≢ faults.BadCount) }
+    ensures job { IfOk result.0 (λ o. o.job ≡ job.now) }
+    ensures receipts { IfOk result.0 (λ o. o.receipts.items ≡ receipts_of job.now.block job.now.store) }
+    ensures store { IfOk result.0 (λ o. o.store ≡ store_after job.now.block job.now.store) }
+    ensures history { IfOk result.0 (λ o. HasHistory job.now workers o.counts.items) }
+    ensures one_worker { IfOk result.0 (λ o. workers ≡ 1 → HasOneWorkerCounts (length job.now.block) o.counts.items) }
+    ensures full { IfErr result.0 (λ e. e ≡ faults.ArenaFull → HasLimit job.now steps.ArenaFull) }
+    ensures limit { IfErr result.0 (λ e. e ≡ faults.IncarnationLimit → HasLimit job.now steps.IncarnationLimit) }
+    ensures arena { result.1.records ≡ [] }
+{
+    let (shared, shares) = match share_out(alloc, arena, job, workers) {
+        Ok(shared) => shared,
+        Err(arena) => return (Err(RunFault::Memory), arena),
+    };
+    let back = run_threads(rt, alloc, &shared, shares, gate);
+    let book = shared.into_book();
+    book.holds();
+    stm_state::reached_by_list();
+    stm_state::last_entry_is_done();
+    stm_state::one_worker_counts_where_reached();
+    let (answer, arena) = settle(alloc, book, back, job);
+    (answer_by(answer, workers), arena)
+}
+
+/// The same answer, but Foreign in place of an outcome of another number of workers.
+fn answer_by(answer: Result<Outcome, RunFault>, workers: usize) -> Result<Outcome, RunFault>
+    ensures ok { IfOk result (λ o. (answer ≡ Ok o) × (length o.counts.items ≡ workers)) }
+    ensures err { IfErr result (λ e. (answer ≡ Err e) ⊎ (e ≡ faults.Foreign)) }
+{
+    let outcome = answer?;
+    if outcome.counts.len() == workers {
+        Ok(outcome)
+    } else {
+        Err(RunFault::Foreign)
+    }
+}
+
+/// The lock over a job's core at its start, and its workers' shares.
+fn share_out(
+    alloc: Global,
+    arena: Arena,
+    job: &Job,
+    workers: usize,
+) -> Result<(Shared, Vec<Share>), Arena>
+    requires { (1 ≤ workers) × (workers ≤ 32) }
+    ensures { IfErr result (λ arena. arena.records ≡ []) }
+{
+    let Ok(job) = job.copy() else {
+        let mut arena = arena;
+        arena.reset();
+        return Err(arena);
+    };
+    let core = Core::over(alloc, arena, job, workers)?;
+    Shared::new(alloc, core)
+}
+
+/// Runs a thread for each share, and gives the shares of those that came to their end, once all have. A thread
+/// that is refused, or want of memory, is written.
+fn run_threads<R: Threads + Wait + Sync, G: Gate + Sync>(
+    rt: &R,
+    alloc: Global,
+    shared: &Shared,
+    shares: Vec<Share>,
+    gate: &G,
+) -> Vec<Share> {
+    thread::scope(thread::scope_env(), rt, |scope| -> Vec<Share> {
+        let mut handles = Vec::new(alloc);
+        let mut back = Vec::new(alloc);
+        if handles.reserve(shares.len()).is_err() || back.reserve(shares.len()).is_err() {
+            shared.refuse(rt, OutsideFault::Memory);
+            return back;
+        }
+        for share in shares {
+            match scope.spawn(move || work(rt, alloc, shared, share, gate)) {
+                Ok(handle) => {
+                    // There is room.
+                    let _ = handles.push(handle);
+                }
+                Err(_) => {
+                    shared.refuse(rt, OutsideFault::Spawn);
+                }
+            }
+        }
+        for handle in handles {
+            if let Ok(share) = handle.join(rt) {
+                let _ = back.push(share);
+            }
+        }
+        back
+    })
+}

@@ -1,0 +1,21 @@
+//! The parallel engine: threads that run the calls of a block outside one lock, and make their steps of the
+//! core under it.
+#![tactic(auto)]
+
+pub mod answer;
+pub mod book;
+pub mod executor;
+pub mod fault;
+pub mod gate;
+pub mod share;
+pub mod shared;
+pub mod worker;
+
+pub use answer::settle;
+pub use book::Book;
+pub use executor::Executor;
+pub use fault::RunFault;
+pub use gate::{Gate, Open};
+pub use share::Share;
+pub use shared::Shared;
+pub use worker::work;

@@ -1,0 +1,102 @@
+//! What one thread does: it asks for work, runs calls outside the lock, and makes their steps under it.
+
+ghost use Rattle.std.specs.Prelude.{◌≡◌, ◌+◌, IfOk, OnOk};
+
+use crate::fault::RunFault;
+use crate::gate::Gate;
+use crate::share::Share;
+use crate::shared::{OutsideFault, Shared};
+use rv_step::{Pause, Run};
+use std::alloc::Global;
+use std::sync::Wait;
+use stm_core::{NextStep, ReadResult};
+
+/// The work of one thread, whose worker's share tells what the core counts of it: it makes this worker's steps
+/// until an asking is answered Done, and then hands back its own share. Refused as the step that was refused,
+/// and as Memory where memory ran out; the fault is written then, and the steps that were made stand.
+pub fn work<R: Wait, G: Gate>(
+    rt: &R,
+    alloc: Global,
+    shared: &Shared,
+    share: Share,
+    gate: &G,
+) -> Result<Share, RunFault>
+    ensures worker { IfOk result (λ told. told.worker ≡ share.worker) }
+    ensures dones { IfOk result (λ told. told.dones ≡ share.dones + 1) }
+{
+    let mut share = share;
+    let mut next = NextStep::Ask;
+    for _ in rt.forever() {
+        next = match next {
+            NextStep::Ask => {
+                let asked = shared.lock.lock(rt).ask(&mut share)?;
+                match asked {
+                    None => return Ok(share),
+                    Some(next) => next,
+                }
+            }
+            NextStep::Run { call, incarnation } => {
+                run_call(rt, alloc, shared, &mut share, call, incarnation, gate)?
+            }
+            NextStep::Park { call, incarnation } => {
+                shared.lock.lock(rt).park(&mut share, call, incarnation)?
+            }
+            NextStep::Validate { call, incarnation } => {
+                shared
+                    .lock
+                    .lock(rt)
+                    .validate(&mut share, call, incarnation)?
+            }
+        };
+    }
+    unreachable!()
+}
+
+/// Runs a call outside the lock up to its record, or to a read that meets an estimate, and gives the step that
+/// the worker owes then.
+fn run_call<R: Wait, G: Gate>(
+    rt: &R,
+    alloc: Global,
+    shared: &Shared,
+    share: &mut Share,
+    call: u16,
+    incarnation: u16,
+    gate: &G,
+) -> Result<NextStep, RunFault>
+    ensures worker { share.new.worker ≡ share.old.worker }
+    ensures dones { OnOk result (share.new.dones ≡ share.old.dones) }
+{
+    let mut run = start(rt, alloc, shared, call)?;
+    for _ in rt.forever() {
+        let Ok(pause) = run.go() else {
+            return Err(shared.refuse(rt, OutsideFault::Memory));
+        };
+        let Pause::Ask(key) = pause else {
+            break;
+        };
+        let answer = shared.lock.lock(rt).read(share, call, incarnation, &key)?;
+        let ReadResult::Given(value, origin) = answer else {
+            return Ok(NextStep::Park { call, incarnation });
+        };
+        if run.answer(value.as_ref(), origin).is_err() {
+            return Err(shared.refuse(rt, OutsideFault::Memory));
+        }
+    }
+    gate.held(share.worker);
+    let ended = run.finish();
+    shared
+        .lock
+        .lock(rt)
+        .record(alloc, share, call, incarnation, ended)
+}
+
+/// A run of a call of the block before its first instruction.
+fn start<R: Wait>(rt: &R, alloc: Global, shared: &Shared, call: u16) -> Result<Run, RunFault> {
+    match shared.block.calls().get(usize::from(call)) {
+        Some(own) => match Run::start(alloc, own) {
+            Ok(run) => Ok(run),
+            Err(_) => Err(shared.refuse(rt, OutsideFault::Memory)),
+        },
+        None => Err(shared.refuse(rt, OutsideFault::Foreign)),
+    }
+}
