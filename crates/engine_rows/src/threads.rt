@@ -204,6 +204,7 @@ fn coarse_one_share_alone(rt: HostRuntime) -> Result<(), Fail> {
         let Ok((shared, mut shares)) = Shared::new(alloc, core) else {
             panic!(rt; "there is no memory");
         };
+        assert!(rt; first < shares.len());
         let alone = work(&rt, alloc, &shared, shares.remove(first), &Open)?;
         assert_eq!(rt; alone.worker(), first);
         assert_eq!(rt; alone.counts(), counts(13, 7, 3));
@@ -215,6 +216,7 @@ fn coarse_one_share_alone(rt: HostRuntime) -> Result<(), Fail> {
             assert_eq!(rt; share.dones(), 1);
             back.push(share)?;
         }
+        assert!(rt; first <= back.len());
         back.insert(first, alone)?;
         let (answer, _) = settle(alloc, shared.into_book(), back, &job);
         let text = text_of(alloc, &answer?)?;
