@@ -3,9 +3,11 @@
 #ifndef CONTRACT_H
 #define CONTRACT_H
 
-typedef unsigned char u8;
-typedef unsigned int u32;
-typedef unsigned long long u64;
+/* The same types as uint8_t, uint32_t, uint64_t and size_t. */
+typedef __UINT8_TYPE__ u8;
+typedef __UINT32_TYPE__ u32;
+typedef __UINT64_TYPE__ u64;
+typedef __SIZE_TYPE__ usize;
 
 enum {
     KEY_LENGTH = 32,    /* of every key */
@@ -14,6 +16,13 @@ enum {
     INPUT_LIMIT = 4096, /* the most bytes of an input */
     KEYS_LIMIT = 256    /* the most keys that one call writes or removes */
 };
+
+/* Of sdk/memory.c. The headers of C that need no library, stdint.h, stddef.h, stdbool.h and limits.h, can be
+   included too. */
+void *memcpy(void *to, const void *from, usize length);
+void *memmove(void *to, const void *from, usize length);
+void *memset(void *to, int byte, usize length);
+int memcmp(const void *left, const void *right, usize length);
 
 /* What a call runs; each contract defines it. Where it comes back, the call returns with an empty
    output. The input stands at a multiple of 4. */

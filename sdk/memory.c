@@ -9,7 +9,7 @@ static int aligned(const void *a, const void *b) {
     return (((u32)a | (u32)b) & 3) == 0;
 }
 
-void *memcpy(void *to, const void *from, u32 length) {
+void *memcpy(void *to, const void *from, usize length) {
     u8 *target = to;
     const u8 *source = from;
     if (aligned(target, source)) {
@@ -23,7 +23,7 @@ void *memcpy(void *to, const void *from, u32 length) {
     return to;
 }
 
-void *memmove(void *to, const void *from, u32 length) {
+void *memmove(void *to, const void *from, usize length) {
     u8 *target = to;
     const u8 *source = from;
     if (target <= source) {
@@ -36,7 +36,7 @@ void *memmove(void *to, const void *from, u32 length) {
     return to;
 }
 
-void *memset(void *to, int byte, u32 length) {
+void *memset(void *to, int byte, usize length) {
     u8 *target = to;
     u32 four = (u8)byte * 0x01010101u;
     if (aligned(target, target)) {
@@ -50,7 +50,7 @@ void *memset(void *to, int byte, u32 length) {
     return to;
 }
 
-int memcmp(const void *left, const void *right, u32 length) {
+int memcmp(const void *left, const void *right, usize length) {
     const u8 *a = left;
     const u8 *b = right;
     for (; length > 0; length--, a++, b++) {

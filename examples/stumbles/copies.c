@@ -3,11 +3,6 @@
 
 #include "contract.h"
 
-void *memcpy(void *, const void *, u32);
-void *memmove(void *, const void *, u32);
-void *memset(void *, int, u32);
-int memcmp(const void *, const void *, u32);
-
 enum { ROOM = 40 };
 
 static u8 found[ROOM];

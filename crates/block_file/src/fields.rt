@@ -77,7 +77,7 @@ pub fn path(alloc: Global, text: &[u8]) -> Result<String, Cause>
 }
 
 /// Whether each byte is a hex digit, in lower case.
-fn is_lower_hex(text: &[u8]) -> bool
+pub fn is_lower_hex(text: &[u8]) -> bool
     ensures { result ≡ list_all is_lower_digit text.now }
 {
     text.iter().all(|byte| byte.is_ascii_digit() || (b'a' <= *byte && *byte <= b'f'))

@@ -4,7 +4,7 @@
 mod block;
 mod block_text;
 mod fault;
-mod fields;
+pub mod fields;
 mod laws;
 mod reader;
 mod schedule;

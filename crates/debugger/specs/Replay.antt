@@ -2,6 +2,7 @@
 use Rattle.std.specs.Prelude.{◌≡◌, ℕ, ◌+◌, ◌-◌, ◌<◌, ◌≤◌, ◌==◌, ◌&&◌, ◌||◌, nat_le, Bool, true, false, if◌then◌else◌, List, ◌∷◌, ◌++◌, codes, fold, take, slice_get, Option, Some, None, IsSome, Result, Ok, Err}
 use Rattle.std.specs.Fmt.{decimal}
 use Rattle.std.specs.Option.{option_map}
+use Rattle.elf32.specs.Extent.{end_address, first_address}
 use Rattle.rv_ledger.specs.Key.{Storage}
 use Rattle.rv_ledger.specs.Call.{Invocation}
 use Rattle.rv_ledger.specs.declared.outcome.Outcome.{Outcome}
@@ -91,7 +92,7 @@ RunsTo pc (Err fault) old new = ⊥
 
 -- so many bytes from an address on lie in memory
 abbrev pub is_in_memory : ℕ → ℕ → Bool
-is_in_memory address len = nat_le 0x1_0000 address && nat_le (address + len) 0x11_0000
+is_in_memory address len = nat_le first_address address && nat_le (address + len) end_address
 
 -- the bytes that are looked at, or None where some lie outside memory
 abbrev pub bytes_seen : ReplayState → ℕ → ℕ → Option (List ℕ)

@@ -1,16 +1,10 @@
 //! The commands that the lines of `debug` are.
 
-ghost use Rattle.std.specs.Prelude.{◌≡◌, ◌<◌, ◌≤◌, ◌∷◌, [], length, map, IfOk, IsTrue, Some};
-ghost use Rattle.std.specs.Char.{is_ascii_digit};
-ghost use Rattle.std.specs.List.{list_all};
-ghost use Rattle.block_file.specs.Line.{cut, decimal_of, is_lower_digit, sum_of_digits};
+ghost use Rattle.std.specs.Prelude.{◌≡◌, map, IfOk};
 ghost use Rattle.debugger.specs.Command.{address_of, bytes_command, command_of, command_of_fields, count_of, run_to_command, word_command};
 
+use block_file::fields::{decimal, is_lower_hex, parts};
 use std::alloc::{AllocError, Global};
-use std::str;
-
-/// The greatest number of digits of a decimal.
-const DECIMAL_DIGITS: usize = 10;
 
 /// The greatest number of bytes that one line shows.
 const BYTE_LIMIT: u64 = 4096;
@@ -38,15 +32,8 @@ pub enum Command {
 pub fn command_of(alloc: Global, line: &[u8]) -> Result<Option<Command>, AllocError>
     ensures { IfOk result (λ command. command ≡ command_of line.now) }
 {
-    let fields = fields(alloc, line)?;
+    let fields = parts(alloc, line, b' ')?;
     Ok(command_of_fields(fields.as_slice()))
-}
-
-/// The parts of a line between its blanks.
-fn fields(alloc: Global, line: &[u8]) -> Result<Vec<&[u8]>, AllocError>
-    ensures { IfOk result (λ v. map (λ field. field.now) v.items ≡ cut 32 line.now) }
-{
-    line.split(|byte| *byte == b' ').collect(alloc)
 }
 
 /// The command of the fields of a line.
@@ -120,13 +107,6 @@ fn address_of(text: &[u8]) -> Option<u32>
     Some(u32::from_be_bytes(bytes))
 }
 
-/// Whether each byte is a hex digit, in lower case.
-fn is_lower_hex(text: &[u8]) -> bool
-    ensures { result ≡ list_all is_lower_digit text.now }
-{
-    text.iter().all(|byte| byte.is_ascii_digit() || (b'a' <= *byte && *byte <= b'f'))
-}
-
 /// The number of bytes that a decimal up to 4096 writes.
 fn count_of(text: &[u8]) -> Option<u32>
     ensures { result ≡ count_of text.now }
@@ -135,37 +115,4 @@ fn count_of(text: &[u8]) -> Option<u32>
         Some(count) if count <= BYTE_LIMIT => Some(count as u32),
         _ => None,
     }
-}
-
-/// The number of a decimal: 1 to 10 digits without a leading zero.
-fn decimal(text: &[u8]) -> Option<u64>
-    ensures { result ≡ decimal_of text.now }
-{
-    if text.is_empty() || text.len() > DECIMAL_DIGITS || (text.len() > 1 && text[0] == b'0') {
-        return None;
-    }
-    if !are_digits(text) {
-        return None;
-    }
-    number(text)
-}
-
-/// Whether each byte is a decimal digit.
-fn are_digits(text: &[u8]) -> bool
-    ensures { result ≡ list_all is_ascii_digit text.now }
-{
-    text.iter().all(|byte| byte.is_ascii_digit())
-}
-
-/// The number that 1 to 10 digits write.
-fn number(digits: &[u8]) -> Option<u64>
-    requires digits { IsTrue (list_all is_ascii_digit digits.now) }
-    requires some { 0 < length digits.now }
-    requires short { length digits.now ≤ 10 }
-    ensures { result ≡ Some (sum_of_digits digits.now) }
-{
-    let Ok(text) = str::from_utf8(digits) else {
-        return None;
-    };
-    text.parse().ok()
 }

@@ -38,7 +38,7 @@ impl fmt::Display for ReplayFault {
 }
 
 /// Why a session of `debug` is refused.
-#[derive(Clone, Copy, Debug, PartialEq, Eq, Error)]
+#[derive(Clone, Copy, Debug, PartialEq, Eq)]
 pub enum DebugFault {
     /// A read failed.
     Unreadable,
@@ -46,20 +46,4 @@ pub enum DebugFault {
     Output(WriteFault),
     /// Memory ran out.
     Memory,
-}
-
-impl fmt::Display for DebugFault {
-    ghost use Rattle.std.specs.Prelude.{Some};
-    ghost use Rattle.debugger.specs.Faults.{session_fault_text};
-
-    ghost output = { λ fault. Some (session_fault_text fault) };
-
-    /// The area, the name and the number.
-    fn fmt<W: fmt::Write>(&self, f: &mut fmt::Formatter<W>) -> fmt::Result {
-        match self {
-            DebugFault::Unreadable => f.write_str("file Unreadable 1"),
-            DebugFault::Output(fault) => write!(f, "output {fault}"),
-            DebugFault::Memory => f.write_str("debug Memory 5"),
-        }
-    }
 }

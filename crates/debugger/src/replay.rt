@@ -4,16 +4,12 @@ use crate::fault::ReplayFault;
 use crate::place::place_text;
 use crate::running::{run_after, step_run};
 use crate::storage::{first_receipts, store_left};
+use elf32::extent::{END_ADDRESS, FIRST_ADDRESS};
 use rv_isa::Regs;
 use rv_ledger::{Call, Outcome, Store};
 use rv_step::{Machine, Run, Stage};
 use std::alloc::{AllocError, Global};
 use std::marker::Model;
-
-/// The first address of memory.
-const FIRST_ADDRESS: u64 = 0x0001_0000;
-/// The first address after memory.
-const END_ADDRESS: u64 = 0x0011_0000;
 
 /// A replay of one call of a block, over the storage that the calls before it left. It stands at a
 /// moment: the number of steps that were made.
@@ -173,7 +169,7 @@ impl Replay {
         ensures { Shows (λ v. v.items) result (bytes_seen self.now address len) }
     {
         let first = u64::from(address);
-        if first < FIRST_ADDRESS || first + u64::from(len) > END_ADDRESS {
+        if address < FIRST_ADDRESS || first + u64::from(len) > u64::from(END_ADDRESS) {
             return Err(ReplayFault::BadRange);
         }
         let Ok(mut bytes) = vec![in alloc; 0u8; len as usize] else {

@@ -1,10 +1,10 @@
 //! The storage before a call.
 
-ghost use Rattle.std.specs.Prelude.{◌≡◌, take, IfOk, OnOk};
-ghost use Rattle.rv_step.specs.Fold.{apply_writes};
+ghost use Rattle.std.specs.Prelude.{◌≡◌, take, IfOk};
 ghost use Rattle.debugger.specs.Replay.{store_left};
 
-use rv_ledger::{Receipt, Store, Writes};
+use rv_ledger::{Receipt, Store};
+use rv_step::apply_writes;
 use std::alloc::AllocError;
 
 /// The first `count` receipts, or all where there are fewer.
@@ -28,18 +28,4 @@ pub(crate) fn store_left(store: &Store, receipts: &[Receipt]) -> Result<Store, A
         apply_writes(&mut left, &receipt.writes)?;
     }
     Ok(left)
-}
-
-/// Lays the writes of a call over a storage.
-#[tactic(auto, unfolding(rv_step::specs::Fold::apply_writes))]
-fn apply_writes(store: &mut Store, writes: &Writes) -> Result<(), AllocError>
-    ensures { OnOk result (store.new ≡ apply_writes store.old writes.now) }
-{
-    for (key, value) in writes.iter() {
-        match value {
-            Some(value) => store.insert(*key, value.copy())?,
-            None => store.remove(key),
-        }
-    }
-    Ok(())
 }

@@ -4,18 +4,8 @@ use Rattle.std.specs.List.{list_any}
 use Rattle.elf32.specs.declared.error.ElfError.{ElfError}
 use Rattle.elf32.specs.declared.error.ElfError.TheVariants.{Truncated, BadMagic, BadClassOrData, BadVersion, NotExec, NotRiscv, BadFlags, BadHeaderSize, BadCount, BadType, SegmentRange, SegmentOrder, PageShared, WriteExecute, BadEntry}
 use Rattle.elf32.specs.declared.header.ProgramHeader.{ProgramHeader}
+use Rattle.elf32.specs.Extent.{first_address, input_address, page_size}
 use Rattle.elf32.specs.Header.{e_type, e_machine, e_version, e_entry, e_phoff, e_flags, e_ehsize, e_phentsize, e_phnum, program_headers}
-
--- where memory begins, and where the input stands
-abbrev pub first_address : ℕ
-first_address = 65536
-
-abbrev pub input_address : ℕ
-input_address = 1048576
-
--- how many addresses a page has
-abbrev pub page_size : ℕ
-page_size = 4096
 
 -- p_type: PT_NULL is 0, PT_LOAD is 1
 abbrev pub is_null : ProgramHeader → Bool

@@ -1,5 +1,6 @@
 -- What an ELF file of this profile stands for: an entry and its segments.
 use Rattle.std.specs.Prelude.{ℕ, ◌+◌, ◌≤◌, List, length}
+use Rattle.elf32.specs.Extent.{first_address, input_address}
 use Rattle.elf32.specs.declared.segment.Segment.{Segment}
 
 -- a loaded program: where it begins, and its PT_LOAD segments in the order of their headers
@@ -9,6 +10,6 @@ pub record Layout : Type 0 where
 
 -- a segment lies between the first address and the input's, and its file bytes lie in it
 pub record IsPlaced (s : Segment) : Type 0 where
-  pub first : 65536 ≤ s.address
-  pub last : s.address + s.size ≤ 1048576
+  pub first : first_address ≤ s.address
+  pub last : s.address + s.size ≤ input_address
   pub filled : length s.content ≤ s.size

@@ -1,6 +1,7 @@
 pub mod Layout
 pub mod Pages
 pub mod Header
+pub mod Extent
 pub mod Faults
 pub mod Readable
 pub mod Image

@@ -6,6 +6,7 @@ use Rattle.std.specs.Option.{option_map_or}
 use Rattle.std.specs.Arc.{arc_value}
 use Rattle.std.specs.declared.sync.Arc.{Arc}
 use Rattle.std.specs.declared.alloc.Global.{Global}
+use Rattle.elf32.specs.Extent.{first_address, memory_size, page_count, page_size}
 use Rattle.elf32.specs.declared.segment.Rights.{Rights}
 use Rattle.elf32.specs.declared.segment.Segment.{Segment}
 
@@ -19,19 +20,19 @@ zeros n = replicate n 0
 
 -- the bytes with the file bytes of a segment at its address (System V ABI, Program Header, PT_LOAD)
 abbrev pub with_segment : List ℕ → Segment → List ℕ
-with_segment bytes s = over bytes (s.address - 0x1_0000) s.content
+with_segment bytes s = over bytes (s.address - first_address) s.content
 
 -- the bytes of memory with the file bytes of the segments at their addresses, and zeros elsewhere
 unfoldable pub segment_bytes : List Segment → List ℕ
-segment_bytes segments = fold with_segment (zeros 1048576) segments
+segment_bytes segments = fold with_segment (zeros memory_size) segments
 
 -- the first address of the page k
 abbrev pub page_start : ℕ → ℕ
-page_start k = 0x1_0000 + k * 4096
+page_start k = first_address + k * page_size
 
 -- the page k has an address of the segment
 abbrev pub has_page : ℕ → Segment → Bool
-has_page k s = nat_lt (max s.address (page_start k)) (min (s.address + s.size) (page_start k + 4096))
+has_page k s = nat_lt (max s.address (page_start k)) (min (s.address + s.size) (page_start k + page_size))
 
 -- the rights of a page that has no address of a segment
 abbrev pub data_rights : Rights
@@ -48,14 +49,14 @@ page_rights n segments = map (rights_of_page segments) (range_with_len 0 n)
 -- the bytes of a page of a program, of which one of zeros is not kept
 abbrev pub page_bytes : Option (Arc (List ℕ) Global) → List ℕ
 page_bytes (Some page) = arc_value page
-page_bytes None = zeros 4096
+page_bytes None = zeros page_size
 
 -- each of the pages has 4,096 bytes
 abbrev pub ArePages : {X : Type 0} → (X → List ℕ) → List X → Type 0
-ArePages bytes pages = All (λ p. length (bytes p) ≡ 4096) pages
+ArePages bytes pages = All (λ p. length (bytes p) ≡ page_size) pages
 
 -- the pages of a program before its first instruction
 pub record HoldSegments (pages : List (Option (Arc (List ℕ) Global))) (segments : List Segment) : Type 0 where
-  pub count : length pages ≡ 256
+  pub count : length pages ≡ page_count
   pub sizes : ArePages page_bytes pages
   pub bytes : flat_map page_bytes pages ≡ segment_bytes segments

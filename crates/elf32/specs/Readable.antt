@@ -2,7 +2,7 @@
 use Rattle.std.specs.Prelude.{ℕ, ◌+◌, ◌*◌, ◌≤◌, List, length}
 use Rattle.elf32.specs.declared.header.ProgramHeader.{ProgramHeader}
 use Rattle.elf32.specs.Header.{e_phoff, e_phnum}
-use Rattle.elf32.specs.Faults.{first_address, input_address}
+use Rattle.elf32.specs.Extent.{first_address, input_address}
 
 -- the header and the program header table lie in the file
 pub record IsReadable (bytes : List ℕ) : Type 0 where

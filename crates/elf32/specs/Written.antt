@@ -3,6 +3,7 @@
 use Rattle.std.specs.Prelude.{ℕ, ◌+◌, ◌*◌, true, false, List, [], ◌∷◌, ◌++◌, length, flat_map}
 use Rattle.byteorder.specs.Endian.{little_bytes}
 use Rattle.rv_program.specs.Sections.{Sections}
+use Rattle.elf32.specs.Extent.{first_address}
 use Rattle.elf32.specs.declared.header.ProgramHeader.{ProgramHeader}
 use Rattle.elf32.specs.declared.segment.Segment.{Segment}
 use Rattle.elf32.specs.Layout.{Layout}
@@ -17,7 +18,7 @@ word_bytes n = little_bytes 4 n
 
 -- where text and data begin in memory
 abbrev pub text_address : ℕ
-text_address = 65536
+text_address = first_address
 
 abbrev pub data_address : ℕ
 data_address = 131072

@@ -21,6 +21,7 @@ pub struct Image {
 impl Model for Image {
     ghost use Rattle.std.specs.Prelude.{◌≡◌, length, All};
     ghost use Rattle.std.specs.Arc.{arc_value};
+    ghost use Rattle.elf32.specs.Extent.{page_count};
     ghost use Rattle.elf32.specs.Layout.{Layout, IsPlaced};
     ghost use Rattle.elf32.specs.Pages.{HoldSegments, page_rights};
 
@@ -30,13 +31,14 @@ impl Model for Image {
 
     ghost invariant = { λ i. All IsPlaced i.segments.items
         × HoldSegments i.pages.items i.segments.items
-        × (arc_value i.rights ≡ page_rights 256 i.segments.items)
-        × (length (arc_value i.rights) ≡ 256) };
+        × (arc_value i.rights ≡ page_rights page_count i.segments.items)
+        × (length (arc_value i.rights) ≡ page_count) };
 }
 
 impl Image {
     ghost use Rattle.std.specs.Prelude.{◌≡◌, length, All, IfOk};
     ghost use Rattle.std.specs.Arc.{arc_value};
+    ghost use Rattle.elf32.specs.Extent.{page_count};
     ghost use Rattle.elf32.specs.Layout.{IsPlaced};
     ghost use Rattle.elf32.specs.Pages.{HoldSegments, page_rights};
 
@@ -83,8 +85,8 @@ impl Image {
 
     /// The rights of the 256 pages, in order.
     pub fn rights(&self) -> &Arc<[Rights; PAGE_COUNT]>
-        ensures value { arc_value result.now ≡ page_rights 256 self.now.segments }
-        ensures len { length (arc_value result.now) ≡ 256 }
+        ensures value { arc_value result.now ≡ page_rights page_count self.now.segments }
+        ensures len { length (arc_value result.now) ≡ page_count }
     {
         &self.rights
     }

@@ -2,6 +2,7 @@
 
 ghost use Rattle.std.specs.Prelude.{◌≡◌, ◌==◌, length, All, IfOk, flat_map, fold};
 ghost use Rattle.std.specs.List.{list_all};
+ghost use Rattle.elf32.specs.Extent.{memory_size, page_count, page_size};
 ghost use Rattle.elf32.specs.Layout.{IsPlaced};
 ghost use Rattle.elf32.specs.Pages.{zeros, with_segment, page_bytes, ArePages};
 
@@ -25,10 +26,10 @@ pub(crate) fn zero_bytes(alloc: Global, count: usize) -> Result<Vec<u8>, AllocEr
 
 /// Writes the file bytes of each segment at its address.
 pub(crate) fn put_segments(bytes: &mut [u8], segments: &[Segment])
-    requires room { length bytes.old ≡ 1048576 }
+    requires room { length bytes.old ≡ memory_size }
     requires placed { All IsPlaced segments.now }
     ensures value { bytes.new ≡ fold with_segment bytes.old segments.now }
-    ensures len { length bytes.new ≡ 1048576 }
+    ensures len { length bytes.new ≡ memory_size }
 {
     for segment in segments {
         put(
@@ -48,7 +49,7 @@ fn are_zeros(bytes: &[u8]) -> bool
 
 /// The page of the bytes, or None where all of them are zero.
 fn page_of(alloc: Global, bytes: &[u8]) -> Result<Option<Arc<Page>>, AllocError>
-    requires { length bytes.now ≡ 4096 }
+    requires { length bytes.now ≡ page_size }
     ensures { IfOk result (λ page. page_bytes page ≡ bytes.now) }
 {
     if are_zeros(bytes) {
@@ -62,9 +63,9 @@ fn page_of(alloc: Global, bytes: &[u8]) -> Result<Option<Arc<Page>>, AllocError>
 
 /// The pages of the bytes of memory, in order, None where all bytes of a page are zero.
 pub(crate) fn pages_of(alloc: Global, bytes: &[u8]) -> Result<Vec<Option<Arc<Page>>>, AllocError>
-    requires { length bytes.now ≡ 1048576 }
+    requires { length bytes.now ≡ memory_size }
     ensures bytes { IfOk result (λ v. flat_map page_bytes v.items ≡ bytes.now) }
-    ensures count { IfOk result (λ v. length v.items ≡ 256) }
+    ensures count { IfOk result (λ v. length v.items ≡ page_count) }
     ensures sizes { IfOk result (λ v. ArePages page_bytes v.items) }
 {
     let mut pages = Vec::with_capacity(alloc, PAGE_COUNT)?;

@@ -1,6 +1,7 @@
 //! The rights of the pages of a program.
 
 ghost use Rattle.std.specs.Prelude.{◌≡◌, ◌≤◌, ◌<◌, length, All};
+ghost use Rattle.elf32.specs.Extent.{page_count};
 ghost use Rattle.elf32.specs.Layout.{IsPlaced};
 ghost use Rattle.elf32.specs.Pages.{has_page, rights_of_page, page_rights};
 
@@ -16,7 +17,7 @@ const DATA_RIGHTS: Rights = Rights {
 
 /// Whether the page has an address of the segment.
 fn has_page(segment: &Segment, page: usize) -> bool
-    requires page { page < 256 }
+    requires page { page < page_count }
     requires placed { IsPlaced segment.now }
     ensures { result ≡ has_page page segment.now }
 {
@@ -26,7 +27,7 @@ fn has_page(segment: &Segment, page: usize) -> bool
 
 /// The rights of a page: those of the segment with an address in it, or of data.
 fn rights_of_page(segments: &[Segment], page: usize) -> Rights
-    requires page { page < 256 }
+    requires page { page < page_count }
     requires placed { All IsPlaced segments.now }
     ensures { result ≡ rights_of_page segments.now page }
 {
@@ -41,7 +42,7 @@ fn rights_of_page(segments: &[Segment], page: usize) -> Rights
 /// The rights of the first N pages.
 #[tactic(auto, unfolding(crate::specs::Pages::page_rights))]
 pub(crate) fn page_rights<const N: usize>(segments: &[Segment]) -> [Rights; N]
-    requires count { N ≤ 256 }
+    requires count { N ≤ page_count }
     requires placed { All IsPlaced segments.now }
     ensures value { result ≡ page_rights N segments.now }
     ensures len { length result ≡ N }

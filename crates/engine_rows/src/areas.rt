@@ -7,7 +7,7 @@ use engines::{FileFault, Refusal, SeqFault, report};
 use receipts::WriteFault;
 use rv_text::{AsmCause, AsmError};
 use std::test::Fail;
-use stm_core::DriveFault;
+use stm_core::{DriveFault, RecordFault};
 use workers::RunFault;
 
 const CAUSES: [(Cause, &str); 7] = [
@@ -190,6 +190,20 @@ fn each_refusal_has_its_line(rt: HostRuntime) -> Result<(), Fail> {
             errors.as_slice().strip_prefix(b"rvstm: asm ".as_slice()) == Some(line.as_bytes()),
             "{line}"
         );
+    }
+    Ok(())
+}
+
+#[test]
+fn record_faults_have_their_numbers(rt: HostRuntime) -> Result<(), Fail> {
+    for (fault, name) in [
+        (RecordFault::Foreign, "Foreign 1"),
+        (RecordFault::ArenaFull, "ArenaFull 2"),
+        (RecordFault::Memory, "Memory 3"),
+        (RecordFault::IncarnationLimit, "IncarnationLimit 4"),
+    ] {
+        let text = format!(in rt.alloc(); "{fault}")?;
+        assert_eq!(rt; text.as_str(), name);
     }
     Ok(())
 }

@@ -188,34 +188,58 @@ fn a_call_is_replayed_over_the_storage_before_it(rt: HostRuntime) -> Result<(), 
     Ok(())
 }
 
+/// What is typed where a read or a write fails: lines of two bytes each.
+const TYPED: &[u8] = b"s\nx\nb\n";
+
+/// What is printed when no line, one, two and all three of them are read.
+const PRINTED: [&str; 4] = [
+    "",
+    "1 00010004 ecall\n",
+    "1 00010004 ecall\nwhat\n",
+    "1 00010004 ecall\nwhat\n0 00010000 addi x17,x0,3\n",
+];
+
 #[test]
-fn failing_sessions(rt: HostRuntime) -> Result<(), Fail> {
+fn failing_reads(rt: HostRuntime) -> Result<(), Fail> {
     let alloc = rt.alloc();
-    let mut replay = echo(alloc)?;
-    let mut text = Vec::new(alloc);
-    let mut lines = FailingReader {
-        bytes: b"s\nb\ns\n",
-        reads: 3,
-    };
-    let answer = debug_to(alloc, &mut replay, &mut lines, &mut text);
-    assert_eq!(rt; answer, Err(DebugFault::Unreadable));
-    assert!(rt; text.as_slice() == b"1 00010004 ecall\n".as_slice());
-    assert_eq!(rt; replay.moment(), 1);
-    for (fails, fault) in [(true, WriteFault::Io), (false, WriteFault::WroteNothing)] {
+    for reads in 0..=TYPED.len() {
         let mut replay = echo(alloc)?;
-        let mut out = FailingWriter {
-            taken: Vec::new(alloc),
-            left: 19,
-            fails,
+        let mut text = Vec::new(alloc);
+        let mut lines = FailingReader {
+            bytes: TYPED,
+            reads,
         };
-        let answer = debug_to(
-            alloc,
-            &mut replay,
-            &mut b"s\nx\ns\nb\n".as_slice(),
-            &mut out,
-        );
-        assert_eq!(rt; answer, Err(DebugFault::Output(fault)));
-        assert!(rt; out.taken.as_slice() == b"1 00010004 ecall\nwh".as_slice());
+        let answer = debug_to(alloc, &mut replay, &mut lines, &mut text);
+        assert_eq!(rt; answer, Err(DebugFault::Unreadable));
+        let printed = PRINTED.get(reads / 2).copied().unwrap_or("");
+        assert!(rt; text.as_slice() == printed.as_bytes(), "{reads}");
+        let moment = if reads / 2 == 1 || reads / 2 == 2 {
+            1
+        } else {
+            0
+        };
+        assert_eq!(rt; replay.moment(), moment);
+    }
+    Ok(())
+}
+
+#[test]
+fn failing_writes(rt: HostRuntime) -> Result<(), Fail> {
+    let alloc = rt.alloc();
+    let [.., whole] = PRINTED;
+    for left in 0..whole.len() {
+        for (fails, fault) in [(true, WriteFault::Io), (false, WriteFault::WroteNothing)] {
+            let mut replay = echo(alloc)?;
+            let mut out = FailingWriter {
+                taken: Vec::new(alloc),
+                left,
+                fails,
+            };
+            let answer = debug_to(alloc, &mut replay, &mut &*TYPED, &mut out);
+            assert_eq!(rt; answer, Err(DebugFault::Output(fault)));
+            assert_eq!(rt; out.taken.len(), left);
+            assert!(rt; whole.as_bytes().starts_with(out.taken.as_slice()));
+        }
     }
     Ok(())
 }

@@ -9,6 +9,8 @@ mod assembled;
 #[cfg(test)]
 mod blocks;
 #[cfg(test)]
+mod chains;
+#[cfg(test)]
 mod debugging;
 #[cfg(test)]
 mod drives;

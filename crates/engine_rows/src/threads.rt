@@ -1,6 +1,9 @@
 //! Blocks run by threads: whatever their number, what is printed is what running the calls in order
 //! prints.
 
+ghost use Rattle.std.specs.Prelude.{All};
+ghost use Rattle.workers.specs.DoneCell.{IsPassOf};
+
 use crate::blocks::{block_of, elf_of, forty_count_lines, has_all, shows_forty_counts};
 use crate::rows::{COUNT, ECHO, LATE_WRITER, READ_OF_ABSENCE, Row, WITHDRAWN_WRITE};
 use block_file::{BlockText, CallLine, parse};
@@ -15,7 +18,7 @@ use std::sync::{Arc, Wait};
 use std::test::Fail;
 use std::thread::Threads;
 use stm_core::Core;
-use workers::{Executor, Gate, Open, RunFault, Shared, settle, work};
+use workers::{Executor, Gate, Open, RunFault, Share, Shared, settle, work};
 
 /// How often a gate looks for the other worker.
 const LOOKS: usize = 1_000_000;
@@ -65,8 +68,12 @@ const BLOCKS: &[Row] = &[
     WITHDRAWN_WRITE,
 ];
 
-/// The job of a block.
-fn job_of(alloc: Global, programs: &[&[u32]], lines: &str) -> Result<Job, Fail> {
+/// The calls of a block, and the storage before it.
+pub fn calls_of(
+    alloc: Global,
+    programs: &[&[u32]],
+    lines: &str,
+) -> Result<(Vec<Call>, Store), Fail> {
     let block = block_of(alloc, programs.len(), lines)?;
     let BlockText {
         programs: _,
@@ -85,6 +92,12 @@ fn job_of(alloc: Global, programs: &[&[u32]], lines: &str) -> Result<Job, Fail> 
         let image = Arc::new(alloc, load(alloc, file.as_slice())?)?;
         calls.push(Call::new(image, gas, input)?)?;
     }
+    Ok((calls, store))
+}
+
+/// The job of a block.
+fn job_of(alloc: Global, programs: &[&[u32]], lines: &str) -> Result<Job, Fail> {
+    let (calls, store) = calls_of(alloc, programs, lines)?;
     Ok(Job::new(calls, store)?)
 }
 
@@ -112,26 +125,10 @@ fn are_forty_counts<R: Threads + Wait + Sync>(
 }
 
 #[test]
-fn forty_counts_by_1_threads(rt: HostRuntime) -> Result<(), Fail> {
-    assert!(rt; are_forty_counts(&rt, rt.alloc(), 1)?);
-    Ok(())
-}
-
-#[test]
-fn forty_counts_by_2_threads(rt: HostRuntime) -> Result<(), Fail> {
-    assert!(rt; are_forty_counts(&rt, rt.alloc(), 2)?);
-    Ok(())
-}
-
-#[test]
-fn forty_counts_by_8_threads(rt: HostRuntime) -> Result<(), Fail> {
-    assert!(rt; are_forty_counts(&rt, rt.alloc(), 8)?);
-    Ok(())
-}
-
-#[test]
-fn forty_counts_by_32_threads(rt: HostRuntime) -> Result<(), Fail> {
-    assert!(rt; are_forty_counts(&rt, rt.alloc(), 32)?);
+fn forty_counts_by_threads(rt: HostRuntime) -> Result<(), Fail> {
+    for workers in [1, 2, 8, 32] {
+        assert!(rt; are_forty_counts(&rt, rt.alloc(), workers)?, "{workers}");
+    }
     Ok(())
 }
 
@@ -194,6 +191,22 @@ fn bad_count(rt: HostRuntime) -> Result<(), Fail> {
     Ok(())
 }
 
+/// The work of workers one after another: their shares.
+fn work_in_turn<R: Wait>(
+    rt: &R,
+    alloc: Global,
+    shared: &Shared,
+    shares: Vec<Share>,
+) -> Result<Vec<Share>, Fail>
+    requires { All (λ share. IsPassOf shared.now.cell share.pass) shares.items }
+{
+    let mut back = Vec::new(alloc);
+    for share in shares {
+        back.push(work(rt, alloc, shared, share, &Open)?)?;
+    }
+    Ok(back)
+}
+
 /// One worker of three does all the work of three echoes, then the others ask once each.
 #[test]
 fn coarse_one_share_alone(rt: HostRuntime) -> Result<(), Fail> {
@@ -209,12 +222,10 @@ fn coarse_one_share_alone(rt: HostRuntime) -> Result<(), Fail> {
         assert_eq!(rt; alone.worker(), first);
         assert_eq!(rt; alone.counts(), counts(13, 7, 3));
         assert_eq!(rt; alone.dones(), 1);
-        let mut back = Vec::new(alloc);
-        for share in shares {
-            let share = work(&rt, alloc, &shared, share, &Open)?;
+        let mut back = work_in_turn(&rt, alloc, &shared, shares)?;
+        for share in &back {
             assert_eq!(rt; share.counts(), counts(1, 1, 0));
             assert_eq!(rt; share.dones(), 1);
-            back.push(share)?;
         }
         assert!(rt; first <= back.len());
         back.insert(first, alone)?;
@@ -244,10 +255,7 @@ fn settle_misses_a_share(rt: HostRuntime) -> Result<(), Fail> {
     let Ok((shared, shares)) = Shared::new(alloc, core) else {
         panic!(rt; "there is no memory");
     };
-    let mut back = Vec::new(alloc);
-    for share in shares {
-        back.push(work(&rt, alloc, &shared, share, &Open)?)?;
-    }
+    let mut back = work_in_turn(&rt, alloc, &shared, shares)?;
     let _ = back.pop();
     let (answer, _) = settle(alloc, shared.into_book(), back, &job);
     let Err(fault) = answer else {

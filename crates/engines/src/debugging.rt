@@ -3,7 +3,7 @@
 ghost use Rattle.std.specs.Prelude.{◌≡◌, ◌⊎◌, None, Some, Ok, slice_get, IfErr, IfOk, IfSome, IsOkAnd, OnErr, OnOk};
 ghost use Rattle.std.specs.Io.KnownBytes.{Appends};
 ghost use Rattle.block_file.specs.Block.{block_of};
-ghost use Rattle.debugger.specs.Session.{lines_of, session};
+ghost use Rattle.debugger.specs.Session.{AppendsBeginning, lines_of, session};
 ghost use Rattle.engines.specs.Debugging.{first_moment, replayed_text, IsFaultOfDebug, IsUnwrittenBefore};
 ghost use Rattle.engines.specs.Engine.{loaded_job};
 ghost use Rattle.engines.specs.Parts.{IsReplayFault, IsSessionFault};
@@ -19,8 +19,8 @@ use std::io::{Read, Write};
 
 /// Reads a block file to its end and parses it, opens, reads and loads its programs in the order of
 /// their numbers, runs the calls in order, and replays the call of an index along the lines that are read,
-/// over the storage that the calls before it left. The first refusal ends it; what was read and written by
-/// then stands.
+/// over the storage that the calls before it left. The first refusal ends it; what was read by then stands, and a
+/// beginning of what the session prints was written.
 pub fn debug_block_to<R: Read, P: Programs, L: Read, W: Write>(
     alloc: Global,
     block: &mut R,
@@ -35,6 +35,9 @@ pub fn debug_block_to<R: Read, P: Programs, L: Read, W: Write>(
     ensures refused { IfErr result (λ e. IfSome (R.remaining block.old) (λ input.
         IsFaultOfDebug (P.content programs.old) (block_of input) call (W.contents out.old) (W.contents out.new) e)) }
     ensures unwritten { IfErr result (λ e. IsUnwrittenBefore (W.contents out.old) (W.contents out.new) e) }
+    ensures cut { OnErr result (IfSome (R.remaining block.old) (λ input. IfSome (L.remaining lines.old) (λ typed.
+        IfSome (loaded_job (P.content programs.old) (block_of input)) (λ job.
+        IfOk (replayed_text job call typed) (AppendsBeginning (W.contents out.old) (W.contents out.new)))))) }
 {
     let job = match load_job(alloc, block, programs, Refusal::Seq(SeqFault::Memory)) {
         Ok(job) => job,
@@ -72,6 +75,8 @@ fn debug_lines<L: Read, W: Write>(
     ensures written { OnOk result (IfSome (L.remaining lines.old) (λ typed.
         Appends (W.contents out.old) (W.contents out.new) (session replay.old (lines_of typed)).text)) }
     ensures refused { IfErr result IsSessionFault }
+    ensures cut { OnErr result (IfSome (L.remaining lines.old) (λ typed.
+        AppendsBeginning (W.contents out.old) (W.contents out.new) (session replay.old (lines_of typed)).text)) }
 {
     match debug_to(alloc, replay, lines, out) {
         Ok(()) => Ok(()),

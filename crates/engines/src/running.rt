@@ -1,11 +1,12 @@
 //! The engine of `rvstm run`, over any reader, programs, writer and threads.
 
-ghost use Rattle.std.specs.Prelude.{IfErr, IfOk, IfSome, IsOkAnd, OnOk};
+ghost use Rattle.std.specs.Prelude.{◌≤◌, IfErr, IfOk, IfSome, IsOkAnd, OnOk};
 ghost use Rattle.std.specs.Io.KnownBytes.{Appends};
 ghost use Rattle.block_file.specs.Block.{block_of};
 ghost use Rattle.engines.specs.Engine.{answer_of, IsUnwritten};
 ghost use Rattle.engines.specs.Parts.{IsWorkersFault, text_of};
 ghost use Rattle.engines.specs.Running.{IsFaultOfRun};
+ghost use Rattle.stm_core.specs.declared.engine.TheConstants.{WORKER_LIMIT};
 
 use crate::engine::write_result;
 use crate::fault::Refusal;
@@ -36,6 +37,7 @@ pub fn run_to<T: Threads + Wait + Sync, R: Read, P: Programs, W: Write>(
     ensures refused { IfErr result (λ e. IfSome (R.remaining block.old) (λ input.
         IsFaultOfRun (P.content programs.old) (block_of input) workers (W.contents out.old) (W.contents out.new) e)) }
     ensures unwritten { IfErr result (λ e. IsUnwritten (W.contents out.old) (W.contents out.new) e) }
+    ensures workers { OnOk result ((1 ≤ workers) × (workers ≤ WORKER_LIMIT)) }
 {
     let job = match load_job(alloc, block, programs, Refusal::Run(RunFault::Memory)) {
         Ok(job) => job,
@@ -55,6 +57,7 @@ fn run_threads<T: Threads + Wait + Sync, W: Write>(
     ensures written { OnOk result (Appends (W.contents out.old) (W.contents out.new) (text_of job)) }
     ensures refused { IfErr result (λ e. IsWorkersFault job workers (W.contents out.old) (W.contents out.new) e) }
     ensures unwritten { IfErr result (λ e. IsUnwritten (W.contents out.old) (W.contents out.new) e) }
+    ensures workers { OnOk result ((1 ≤ workers) × (workers ≤ WORKER_LIMIT)) }
 {
     match Executor::new(alloc).run_block(threads, alloc, job, workers) {
         Ok(outcome) => write_result(alloc, &outcome, out),

@@ -1,11 +1,28 @@
 //! Keys of the storage.
 
-ghost use Rattle.std.specs.Prelude.{◌≡◌, length};
+ghost use Rattle.std.proofs.Common.{rules};
+ghost use Rattle.std.specs.Prelude.{◌≡◌, ◌<◌, ◌*◌, drop, length, refl};
+ghost use Rattle.std.specs.Cmp.{partial_order_from_own_ties};
+ghost use Rattle.std.specs.Cmp.Rules.{comparing};
+ghost use Rattle.std.specs.Cmp.Lexicographic.{slice_cmp};
+ghost use Rattle.std.specs.Ordering.{nat_cmp, as_partial_cmp};
+ghost use Rattle.byteorder.specs.Endian.{big_number};
 
+use byteorder::{BigEndian, ByteOrder};
+use std::cmp::Ordering;
 use std::marker::Model;
 
+/// The number of bytes of a key.
+const KEY_SIZE: usize = 32;
+
+/// The number of bytes that are compared at once.
+const WORD_SIZE: usize = 8;
+
+/// How often these are compared.
+const WORD_COUNT: usize = 4;
+
 /// A key of the storage: 32 bytes, in the order of the bytes from the first on.
-#[derive(Clone, Copy, Debug, PartialEq, Eq, PartialOrd, Ord)]
+#[derive(Clone, Copy, Debug, PartialEq, Eq)]
 pub struct Key {
     bytes: [u8; 32],
 }
@@ -35,4 +52,52 @@ impl Key {
     {
         &self.bytes
     }
+}
+
+impl PartialOrd for Key {
+    ghost partial_cmp = { as_partial_cmp (slice_cmp nat_cmp) };
+
+    ghost laws = { partial_order_from_own_ties (Prim.search (comparing, rules)) (Prim.search (comparing, rules)) };
+
+    fn partial_cmp(&self, other: &Key) -> Option<Ordering> {
+        Some(self.cmp(other))
+    }
+}
+
+impl Ord for Key {
+    ghost cmp = { slice_cmp nat_cmp };
+
+    ghost total = { Prim.search (comparing, rules) };
+
+    ghost matches_partial_cmp = { λ x y. refl };
+
+    ghost matches_eq = { Prim.search (comparing, rules) };
+
+    fn cmp(&self, other: &Key) -> Ordering {
+        compared(&self.bytes, &other.bytes)
+    }
+}
+
+/// The order of two keys by their bytes. Eight bytes at once are compared as one number, the first one highest.
+#[inline]
+fn compared(left: &[u8; KEY_SIZE], right: &[u8; KEY_SIZE]) -> Ordering
+    ensures { result ≡ slice_cmp nat_cmp left.now right.now }
+{
+    for word in 0..WORD_COUNT {
+        let first = word_at(left, word);
+        let second = word_at(right, word);
+        if first != second {
+            return first.cmp(&second);
+        }
+    }
+    Ordering::Equal
+}
+
+/// Eight bytes of a key as a number.
+#[inline]
+fn word_at(bytes: &[u8; KEY_SIZE], word: usize) -> u64
+    requires { word < WORD_COUNT }
+    ensures { result ≡ big_number 8 (drop (word * 8) bytes.now) }
+{
+    BigEndian::read_u64(&bytes[word * WORD_SIZE..])
 }

@@ -1,6 +1,7 @@
 -- Memory as a caller sees it, and what loads, stores and copies make of it.
 use Rattle.std.specs.Prelude.{◌≡◌, ℕ, zero, suc, ◌+◌, ◌-◌, ◌/◌, ◌%◌, ◌==◌, nat_le, nat_lt, Bool, true, false, ◌&&◌, if◌then◌else◌, List, length, take, drop, slice_index_or, Result, Ok, Err, IsOk}
 use Rattle.byteorder.specs.Endian.{little_number, little_bytes}
+use Rattle.elf32.specs.Extent.{end_address, first_address, page_size}
 use Rattle.elf32.specs.Pages.{over}
 use Rattle.elf32.specs.declared.segment.Rights.{Rights}
 use Rattle.rv_mem.specs.declared.access.Access.{Access}
@@ -16,11 +17,11 @@ pub record Space : Type 0 where
 
 -- the n bytes from an address on
 abbrev pub bytes_at : Space → ℕ → ℕ → List ℕ
-bytes_at memory a n = take n (drop (a - 0x1_0000) memory.bytes)
+bytes_at memory a n = take n (drop (a - first_address) memory.bytes)
 
 -- the addresses of memory
 abbrev pub is_address : ℕ → Bool
-is_address a = nat_le 0x1_0000 a && nat_lt a 0x11_0000
+is_address a = nat_le first_address a && nat_lt a end_address
 
 -- the right that an access needs
 abbrev pub allows : Access → Rights → Bool
@@ -34,7 +35,7 @@ no_rights = record { readable = false; writable = false; executable = false }
 
 -- the byte at an address may be used so: it is in memory, and its page has the right
 abbrev pub may : Access → List Rights → ℕ → Bool
-may access rights a = is_address a && allows access (slice_index_or rights ((a - 0x1_0000) / 4096) no_rights)
+may access rights a = is_address a && allows access (slice_index_or rights ((a - first_address) / page_size) no_rights)
 
 -- each of the n bytes from an address on may be used so
 unfoldable pub each : Access → List Rights → ℕ → ℕ → Bool
@@ -50,7 +51,7 @@ fault_of Execute = FetchFault
 -- where in the bytes an access to n bytes at an address begins, or its fault: alignment comes first
 abbrev pub place_of : ℕ → Access → List Rights → ℕ → Result ℕ Fault
 place_of n access rights a =
-    if a % n == 0 then (if each access rights a n then Ok (a - 0x1_0000) else Err (fault_of access)) else Err Misaligned
+    if a % n == 0 then (if each access rights a n then Ok (a - first_address) else Err (fault_of access)) else Err Misaligned
 
 -- what f makes of a place, or the fault
 abbrev pub from_place : {X : Type 0} → (ℕ → X) → Result ℕ Fault → Result X Fault
@@ -73,7 +74,7 @@ stored n m a value = from_place (written m (little_bytes n value)) (place_of n W
 -- a copy into memory, at any alignment
 abbrev pub copied : Space → ℕ → List ℕ → Result Space Fault
 copied m a new =
-    if each Write m.rights a (length new) then Ok (written m new (a - 0x1_0000)) else Err MemoryFault
+    if each Write m.rights a (length new) then Ok (written m new (a - first_address)) else Err MemoryFault
 
 -- a call that should leave memory as `want` has it: it does so, or it answers want's fault, or for
 -- want of memory refuses what is no fault. A refused call changes nothing

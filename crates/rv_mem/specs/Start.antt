@@ -1,5 +1,6 @@
 -- Memory before the first instruction of a call.
 use Rattle.std.specs.Prelude.{ℕ, ◌-◌, List}
+use Rattle.elf32.specs.Extent.{first_address, input_address, page_count}
 use Rattle.elf32.specs.Layout.{Layout}
 use Rattle.elf32.specs.Pages.{over, segment_bytes, page_rights}
 use Rattle.rv_mem.specs.Space.{Space}
@@ -8,6 +9,6 @@ use Rattle.rv_mem.specs.Space.{Space}
 -- and zeros elsewhere
 abbrev pub start_space : Layout → List ℕ → Space
 start_space layout input = record {
-  bytes = over (segment_bytes layout.segments) (0x10_0000 - 0x1_0000) input;
-  rights = page_rights 256 layout.segments;
+  bytes = over (segment_bytes layout.segments) (input_address - first_address) input;
+  rights = page_rights page_count layout.segments;
 }

@@ -2,7 +2,8 @@
 
 ghost use Rattle.std.specs.Prelude.{◌≡◌, ◌<◌, ◌≤◌, ◌+◌, ◌-◌, ◌^◌, ◌↔◌, true, length, flat_map, IfOk, OnOk, IsOk, IfErr};
 ghost use Rattle.std.specs.Arc.{arc_value};
-ghost use Rattle.elf32.specs.Pages.{over, ArePages};
+ghost use Rattle.elf32.specs.Extent.{end_address, first_address, input_address, page_count};
+ghost use Rattle.elf32.specs.Pages.{over, page_bytes, ArePages};
 ghost use Rattle.rv_mem.specs.Space.{bytes_at, each, loaded, stored, copied, Leaves};
 ghost use Rattle.rv_mem.specs.Start.{start_space};
 ghost use Rattle.rv_mem.specs.declared.access.Access.TheVariants.{Read, Write, Execute};
@@ -23,13 +24,13 @@ use std::sync::Arc;
 const INPUT: usize = (INPUT_ADDRESS - FIRST_ADDRESS) as usize;
 
 /// Writes the input at its address; refused where memory ran out.
-fn put_input(pages: &mut [Arc<Page>], alloc: Global, input: &[u8]) -> Result<(), AllocError>
+fn put_input(pages: &mut [Option<Arc<Page>>], alloc: Global, input: &[u8]) -> Result<(), AllocError>
     requires input { length input.now ≤ 4096 }
-    requires sizes { ArePages arc_value pages.old }
-    requires count { length pages.old ≡ 256 }
-    ensures ok { OnOk result (flat_map arc_value pages.new ≡ over (flat_map arc_value pages.old) (0x10_0000 - 0x1_0000) input.now) }
-    ensures sizes { ArePages arc_value pages.new }
-    ensures count { length pages.new ≡ 256 }
+    requires sizes { ArePages page_bytes pages.old }
+    requires count { length pages.old ≡ page_count }
+    ensures ok { OnOk result (flat_map page_bytes pages.new ≡ over (flat_map page_bytes pages.old) (input_address - first_address) input.now) }
+    ensures sizes { ArePages page_bytes pages.new }
+    ensures count { length pages.new ≡ page_count }
 {
     if input.is_empty() {
         return Ok(());
@@ -42,27 +43,28 @@ fn put_input(pages: &mut [Arc<Page>], alloc: Global, input: &[u8]) -> Result<(),
 #[derive(Drop)]
 pub struct Memory {
     alloc: Global,
-    pages: Vec<Arc<Page>>,
+    pages: Vec<Option<Arc<Page>>>,
     rights: Arc<[Rights; PAGE_COUNT]>,
 }
 
 impl Model for Memory {
     ghost use Rattle.std.specs.Prelude.{◌≡◌, length, flat_map};
     ghost use Rattle.std.specs.Arc.{arc_value};
-    ghost use Rattle.elf32.specs.Pages.{ArePages};
+    ghost use Rattle.elf32.specs.Extent.{page_count};
+    ghost use Rattle.elf32.specs.Pages.{page_bytes, ArePages};
     ghost use Rattle.rv_mem.specs.Space.{Space};
 
     ghost Value = { Space };
 
-    ghost view = { λ m. record { bytes = flat_map arc_value m.pages.items; rights = arc_value m.rights } };
+    ghost view = { λ m. record { bytes = flat_map page_bytes m.pages.items; rights = arc_value m.rights } };
 
-    ghost invariant = { λ m. (length m.pages.items ≡ 256) × ArePages arc_value m.pages.items × (length (arc_value m.rights) ≡ 256) };
+    ghost invariant = { λ m. (length m.pages.items ≡ page_count) × ArePages page_bytes m.pages.items × (length (arc_value m.rights) ≡ page_count) };
 }
 
 impl Memory {
     /// The memory of a call before its first instruction: the image's segments, and from
     /// 0x00100000 on the input, of at most 4,096 bytes; refused where memory ran out. The pages of the
-    /// image are shared, and the input gets one of its own.
+    /// image are shared, pages of zeros are not kept, and the input gets a page of its own.
     pub fn of(alloc: Global, image: &Image, input: &[u8]) -> Result<Memory, AllocError>
         requires { length input.now ≤ 4096 }
         ensures { IfOk result (λ m. m ≡ start_space image.now input.now) }
@@ -181,8 +183,8 @@ impl Memory {
     /// Fills `out` with the bytes from the address on, whatever the rights of their pages: for one who
     /// looks at memory from outside. All of them lie in memory.
     pub fn inspect(&self, address: u32, out: &mut [u8])
-        requires first { 0x1_0000 ≤ address }
-        requires last { address + length out.old ≤ 0x11_0000 }
+        requires first { first_address ≤ address }
+        requires last { address + length out.old ≤ end_address }
         ensures { out.new ≡ bytes_at self.now address (length out.old) }
     {
         if !out.is_empty() {

@@ -3,40 +3,53 @@
 ghost use Rattle.std.specs.Prelude.{◌≡◌, ◌+◌, ◌*◌, ◌%◌, ◌-◌, ◌≤◌, ◌<◌, length, take, drop, OnOk, OnErr, IfOk, flat_map};
 ghost use Rattle.std.specs.Arc.{arc_value};
 ghost use Rattle.byteorder.specs.Endian.{little_number};
-ghost use Rattle.elf32.specs.Pages.{over, zeros as zero_bytes, page_bytes, ArePages};
+ghost use Rattle.elf32.specs.Extent.{memory_size, page_count, page_size};
+ghost use Rattle.elf32.specs.Pages.{over, page_bytes, ArePages};
 
 use byteorder::{ByteOrder, LittleEndian};
 use elf32::Page;
-use elf32::bytes::{put, zeros};
+use elf32::bytes::put;
 use elf32::extent::{PAGE_COUNT, PAGE_SIZE};
 use std::alloc::{AllocError, Global};
 use std::sync::Arc;
 
-/// The page of a program, or the one of zeros where the program keeps none.
-fn shared_page(page: &Option<Arc<Page>>, zeros: &Arc<Page>) -> Result<Arc<Page>, AllocError>
-    requires { arc_value zeros.now ≡ zero_bytes 4096 }
-    ensures { IfOk result (λ shared. arc_value shared ≡ page_bytes page.now) }
+/// A page that nobody wrote.
+static ZERO_PAGE: Page = [0; PAGE_SIZE];
+
+/// The bytes of a page, of which one of zeros is not kept.
+#[inline(always)]
+fn bytes_of(page: &Option<Arc<Page>>) -> &Page
+    ensures { result.now ≡ page_bytes page.now }
 {
     match page {
-        Some(page) => Arc::try_clone(page),
-        None => Arc::try_clone(zeros),
+        Some(page) => page,
+        None => &ZERO_PAGE,
     }
 }
 
-/// The pages of a program, shared with it, in order. Its pages of zeros are one page.
+/// The page of a program, shared with it.
+fn shared_page(page: &Option<Arc<Page>>) -> Result<Option<Arc<Page>>, AllocError>
+    ensures { IfOk result (λ shared. page_bytes shared ≡ page_bytes page.now) }
+{
+    match page {
+        Some(page) => Ok(Some(Arc::try_clone(page)?)),
+        None => Ok(None),
+    }
+}
+
+/// The pages of a program, shared with it, in order.
 pub fn shared_pages(
     alloc: Global,
     pages: &[Option<Arc<Page>>],
-) -> Result<Vec<Arc<Page>>, AllocError>
+) -> Result<Vec<Option<Arc<Page>>>, AllocError>
     requires { ArePages page_bytes pages.now }
-    ensures bytes { IfOk result (λ v. flat_map arc_value v.items ≡ flat_map page_bytes pages.now) }
+    ensures bytes { IfOk result (λ v. flat_map page_bytes v.items ≡ flat_map page_bytes pages.now) }
     ensures count { IfOk result (λ v. length v.items ≡ length pages.now) }
-    ensures sizes { IfOk result (λ v. ArePages arc_value v.items) }
+    ensures sizes { IfOk result (λ v. ArePages page_bytes v.items) }
 {
-    let zeros = Arc::new(alloc, zeros())?;
     let mut shared = Vec::with_capacity(alloc, PAGE_COUNT)?;
     for page in pages {
-        shared.push(shared_page(page, &zeros)?)?;
+        shared.push(shared_page(page)?)?;
     }
     Ok(shared)
 }
@@ -46,10 +59,10 @@ pub fn shared_pages(
 #[cold]
 #[inline(never)]
 fn written_page(alloc: Global, page: &Page, at: usize, new: &[u8]) -> Result<Arc<Page>, AllocError>
-    requires size { length page.now ≡ 4096 }
-    requires room { at + length new.now ≤ 4096 }
+    requires size { length page.now ≡ page_size }
+    requires room { at + length new.now ≤ page_size }
     ensures value { IfOk result (λ p. arc_value p ≡ over page.now at new.now) }
-    ensures size { IfOk result (λ p. length (arc_value p) ≡ 4096) }
+    ensures size { IfOk result (λ p. length (arc_value p) ≡ page_size) }
 {
     let mut copy = *page;
     put(&mut copy, at, new);
@@ -61,57 +74,62 @@ fn written_page(alloc: Global, page: &Page, at: usize, new: &[u8]) -> Result<Arc
 #[cold]
 #[inline(never)]
 fn copy_and_write(
-    page: &mut Arc<Page>,
+    page: &mut Option<Arc<Page>>,
     alloc: Global,
     at: usize,
     new: &[u8],
 ) -> Result<(), AllocError>
-    requires size { length (arc_value page.old) ≡ 4096 }
-    requires room { at + length new.now ≤ 4096 }
-    ensures ok { OnOk result (arc_value page.new ≡ over (arc_value page.old) at new.now) }
-    ensures err { OnErr result (arc_value page.new ≡ arc_value page.old) }
-    ensures size { length (arc_value page.new) ≡ 4096 }
+    requires size { length (page_bytes page.old) ≡ page_size }
+    requires room { at + length new.now ≤ page_size }
+    ensures ok { OnOk result (page_bytes page.new ≡ over (page_bytes page.old) at new.now) }
+    ensures err { OnErr result (page_bytes page.new ≡ page_bytes page.old) }
+    ensures size { length (page_bytes page.new) ≡ page_size }
 {
-    *page = written_page(alloc, page, at, new)?;
+    *page = Some(written_page(alloc, bytes_of(page), at, new)?);
     Ok(())
 }
 
 /// Writes the bytes at a place in the page, of which a shared one is copied first; refused where memory
 /// ran out, and then nothing changes.
 #[inline(always)]
-fn write_page(page: &mut Arc<Page>, alloc: Global, at: usize, new: &[u8]) -> Result<(), AllocError>
-    requires size { length (arc_value page.old) ≡ 4096 }
-    requires room { at + length new.now ≤ 4096 }
-    ensures ok { OnOk result (arc_value page.new ≡ over (arc_value page.old) at new.now) }
-    ensures err { OnErr result (arc_value page.new ≡ arc_value page.old) }
-    ensures size { length (arc_value page.new) ≡ 4096 }
+fn write_page(
+    page: &mut Option<Arc<Page>>,
+    alloc: Global,
+    at: usize,
+    new: &[u8],
+) -> Result<(), AllocError>
+    requires size { length (page_bytes page.old) ≡ page_size }
+    requires room { at + length new.now ≤ page_size }
+    ensures ok { OnOk result (page_bytes page.new ≡ over (page_bytes page.old) at new.now) }
+    ensures err { OnErr result (page_bytes page.new ≡ page_bytes page.old) }
+    ensures size { length (page_bytes page.new) ≡ page_size }
 {
-    match Arc::get_mut(page) {
-        Some(bytes) => {
+    if let Some(shared) = page {
+        if let Some(bytes) = Arc::get_mut(shared) {
             put(&mut bytes[..], at, new);
-            Ok(())
+            return Ok(());
         }
-        None => copy_and_write(page, alloc, at, new),
     }
+    copy_and_write(page, alloc, at, new)
 }
 
 /// Writes the bytes, which lie in one page, at a place in memory; refused where memory ran out, and then
 /// nothing changes.
 #[inline(always)]
 pub fn write_in_page(
-    pages: &mut [Arc<Page>],
+    pages: &mut [Option<Arc<Page>>],
     alloc: Global,
     at: usize,
     new: &[u8],
 ) -> Result<(), AllocError>
-    requires sizes { ArePages arc_value pages.old }
-    requires count { length pages.old ≡ 256 }
-    requires first { at < 1048576 }
-    requires room { at % 4096 + length new.now ≤ 4096 }
-    ensures ok { OnOk result (flat_map arc_value pages.new ≡ over (flat_map arc_value pages.old) at new.now) }
-    ensures err { OnErr result (flat_map arc_value pages.new ≡ flat_map arc_value pages.old) }
+    requires sizes { ArePages page_bytes pages.old }
+    requires count { length pages.old ≡ page_count }
+    requires first { at < memory_size }
+    requires room { at % page_size + length new.now ≤ page_size }
+    ensures ok { OnOk result (flat_map page_bytes pages.new ≡ over (flat_map page_bytes pages.old) at new.now) }
+    ensures err { OnErr result (flat_map page_bytes pages.new ≡ flat_map page_bytes pages.old) }
     ensures len { length pages.new ≡ length pages.old }
-    ensures sizes { ArePages arc_value pages.new }
+    ensures sizes { ArePages page_bytes pages.new }
 {
     write_page(&mut pages[at / PAGE_SIZE], alloc, at % PAGE_SIZE, new)
 }
@@ -119,85 +137,90 @@ pub fn write_in_page(
 /// Writes the bytes from a place in memory on; refused where memory ran out, and then nothing changes. So
 /// a page is only replaced when those after it are written.
 pub fn write(
-    pages: &mut [Arc<Page>],
+    pages: &mut [Option<Arc<Page>>],
     alloc: Global,
     at: usize,
     new: &[u8],
 ) -> Result<(), AllocError>
-    requires sizes { ArePages arc_value pages.old }
-    requires count { length pages.old ≡ 256 }
-    requires first { at < 1048576 }
-    requires room { at + length new.now ≤ 1048576 }
-    ensures ok { OnOk result (flat_map arc_value pages.new ≡ over (flat_map arc_value pages.old) at new.now) }
-    ensures err { OnErr result (flat_map arc_value pages.new ≡ flat_map arc_value pages.old) }
+    requires sizes { ArePages page_bytes pages.old }
+    requires count { length pages.old ≡ page_count }
+    requires first { at < memory_size }
+    requires room { at + length new.now ≤ memory_size }
+    ensures ok { OnOk result (flat_map page_bytes pages.new ≡ over (flat_map page_bytes pages.old) at new.now) }
+    ensures err { OnErr result (flat_map page_bytes pages.new ≡ flat_map page_bytes pages.old) }
     ensures len { length pages.new ≡ length pages.old }
-    ensures sizes { ArePages arc_value pages.new }
+    ensures sizes { ArePages page_bytes pages.new }
 {
     let room = PAGE_SIZE - at % PAGE_SIZE;
     if new.len() <= room {
         return write_in_page(pages, alloc, at, new);
     }
     let (here, later) = new.split_at(room);
-    let page = written_page(alloc, &pages[at / PAGE_SIZE], at % PAGE_SIZE, here)?;
+    let page = written_page(
+        alloc,
+        bytes_of(&pages[at / PAGE_SIZE]),
+        at % PAGE_SIZE,
+        here,
+    )?;
     write(pages, alloc, at + room, later)?;
-    pages[at / PAGE_SIZE] = page;
+    pages[at / PAGE_SIZE] = Some(page);
     Ok(())
 }
 
 /// The bytes from a place in memory to the end of its page.
 #[inline(always)]
-fn rest_of_page(pages: &[Arc<Page>], at: usize) -> &[u8]
-    requires sizes { ArePages arc_value pages.now }
-    requires count { length pages.now ≡ 256 }
-    requires first { at < 1048576 }
-    ensures value { result.now ≡ take (4096 - at % 4096) (drop at (flat_map arc_value pages.now)) }
-    ensures len { length result.now ≡ 4096 - at % 4096 }
+fn rest_of_page(pages: &[Option<Arc<Page>>], at: usize) -> &[u8]
+    requires sizes { ArePages page_bytes pages.now }
+    requires count { length pages.now ≡ page_count }
+    requires first { at < memory_size }
+    ensures value { result.now ≡ take (page_size - at % page_size) (drop at (flat_map page_bytes pages.now)) }
+    ensures len { length result.now ≡ page_size - at % page_size }
 {
-    &pages[at / PAGE_SIZE][at % PAGE_SIZE..]
+    &bytes_of(&pages[at / PAGE_SIZE])[at % PAGE_SIZE..]
 }
 
 /// The byte at a place in memory.
 #[inline(always)]
-pub fn byte_at(pages: &[Arc<Page>], at: usize) -> u8
-    requires sizes { ArePages arc_value pages.now }
-    requires count { length pages.now ≡ 256 }
-    requires first { at < 1048576 }
-    ensures { result ≡ little_number 1 (drop at (flat_map arc_value pages.now)) }
+pub fn byte_at(pages: &[Option<Arc<Page>>], at: usize) -> u8
+    requires sizes { ArePages page_bytes pages.now }
+    requires count { length pages.now ≡ page_count }
+    requires first { at < memory_size }
+    ensures { result ≡ little_number 1 (drop at (flat_map page_bytes pages.now)) }
 {
     rest_of_page(pages, at)[0]
 }
 
 /// The halfword at a place in memory, in one page.
 #[inline(always)]
-pub fn halfword_at(pages: &[Arc<Page>], at: usize) -> u16
-    requires sizes { ArePages arc_value pages.now }
-    requires count { length pages.now ≡ 256 }
-    requires first { at < 1048576 }
-    requires room { at % 4096 + 2 ≤ 4096 }
-    ensures { result ≡ little_number 2 (drop at (flat_map arc_value pages.now)) }
+pub fn halfword_at(pages: &[Option<Arc<Page>>], at: usize) -> u16
+    requires sizes { ArePages page_bytes pages.now }
+    requires count { length pages.now ≡ page_count }
+    requires first { at < memory_size }
+    requires room { at % page_size + 2 ≤ page_size }
+    ensures { result ≡ little_number 2 (drop at (flat_map page_bytes pages.now)) }
 {
     LittleEndian::read_u16(rest_of_page(pages, at))
 }
 
 /// The word at a place in memory, in one page.
 #[inline(always)]
-pub fn word_at(pages: &[Arc<Page>], at: usize) -> u32
-    requires sizes { ArePages arc_value pages.now }
-    requires count { length pages.now ≡ 256 }
-    requires first { at < 1048576 }
-    requires room { at % 4096 + 4 ≤ 4096 }
-    ensures { result ≡ little_number 4 (drop at (flat_map arc_value pages.now)) }
+pub fn word_at(pages: &[Option<Arc<Page>>], at: usize) -> u32
+    requires sizes { ArePages page_bytes pages.now }
+    requires count { length pages.now ≡ page_count }
+    requires first { at < memory_size }
+    requires room { at % page_size + 4 ≤ page_size }
+    ensures { result ≡ little_number 4 (drop at (flat_map page_bytes pages.now)) }
 {
     LittleEndian::read_u32(rest_of_page(pages, at))
 }
 
 /// Fills `out` with the bytes from a place in memory on.
-pub fn read(pages: &[Arc<Page>], at: usize, out: &mut [u8])
-    requires sizes { ArePages arc_value pages.now }
-    requires count { length pages.now ≡ 256 }
-    requires first { at < 1048576 }
-    requires room { at + length out.old ≤ 1048576 }
-    ensures { out.new ≡ take (length out.old) (drop at (flat_map arc_value pages.now)) }
+pub fn read(pages: &[Option<Arc<Page>>], at: usize, out: &mut [u8])
+    requires sizes { ArePages page_bytes pages.now }
+    requires count { length pages.now ≡ page_count }
+    requires first { at < memory_size }
+    requires room { at + length out.old ≤ memory_size }
+    ensures { out.new ≡ take (length out.old) (drop at (flat_map page_bytes pages.now)) }
 {
     let page = rest_of_page(pages, at);
     if out.len() <= page.len() {

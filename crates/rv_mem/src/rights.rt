@@ -1,6 +1,7 @@
 //! Tests of the rights of pages.
 
 ghost use Rattle.std.specs.Prelude.{◌≡◌, ◌+◌, ◌%◌, ◌≤◌, ◌<◌, ◌==◌, ◌||◌, length, IfOk, IsTrue};
+ghost use Rattle.elf32.specs.Extent.{end_address, first_address, memory_size, page_count, page_size};
 ghost use Rattle.rv_mem.specs.Space.{may, each, place_of};
 
 use crate::access::Access;
@@ -14,7 +15,7 @@ const PAGE: u32 = PAGE_SIZE as u32;
 /// Whether the byte at the address may be used so.
 #[inline(always)]
 pub fn may(rights: &[Rights], access: Access, address: u32) -> bool
-    requires { length rights.now ≡ 256 }
+    requires { length rights.now ≡ page_count }
     ensures { result ≡ may access rights.now address }
 {
     FIRST_ADDRESS <= address
@@ -24,9 +25,9 @@ pub fn may(rights: &[Rights], access: Access, address: u32) -> bool
 
 /// Whether each of the bytes from the address on may be used so.
 pub fn range_has(rights: &[Rights], access: Access, address: u32, len: u32) -> bool
-    requires { length rights.now ≡ 256 }
+    requires { length rights.now ≡ page_count }
     ensures value { result ≡ each access rights.now address len }
-    ensures room { IsTrue result → 0 < len → (0x1_0000 ≤ address) × (address + len ≤ 0x11_0000) }
+    ensures room { IsTrue result → 0 < len → (first_address ≤ address) × (address + len ≤ end_address) }
 {
     if len == 0 {
         return true;
@@ -50,11 +51,11 @@ pub fn range_has(rights: &[Rights], access: Access, address: u32, len: u32) -> b
 /// The place in memory of the number of `size` bytes at the address, or why it may not be used so.
 #[inline(always)]
 pub fn place(rights: &[Rights], access: Access, address: u32, size: u32) -> Result<usize, Fault>
-    requires pages { length rights.now ≡ 256 }
+    requires pages { length rights.now ≡ page_count }
     requires size { IsTrue (size == 1 || size == 2 || size == 4) }
     ensures value { result ≡ place_of size access rights.now address }
-    ensures room { IfOk result (λ k. k + size ≤ 0x10_0000) }
-    ensures page { IfOk result (λ k. k % 4096 + size ≤ 4096) }
+    ensures room { IfOk result (λ k. k + size ≤ memory_size) }
+    ensures page { IfOk result (λ k. k % page_size + size ≤ page_size) }
 {
     if address % size != 0 {
         return Err(Fault::Misaligned);

@@ -2,6 +2,7 @@
 use Rattle.std.specs.Prelude.{◌≡◌, ℕ, zero, suc, ◌-◌, if◌then◌else◌, List, [], ◌∷◌, length, bytes_eq, Option, Some, None}
 use Rattle.std.specs.FinMap as map
 use Rattle.rv_isa.specs.Registers.{zeros, written}
+use Rattle.elf32.specs.Extent.{end_address, input_address}
 use Rattle.rv_mem.specs.Start.{start_space}
 use Rattle.rv_ledger.specs.Key.{Storage, WriteMap}
 use Rattle.rv_ledger.specs.Call.{Invocation}
@@ -13,7 +14,7 @@ use Rattle.rv_step.specs.Step.{StepResult, Next, Asks, Ends, step, answered}
 
 -- at the start sp is the end of memory, a0 the input's address and a1 its length
 abbrev pub start_registers : ℕ → List ℕ
-start_registers len = written (written (written zeros 2 0x0011_0000) 10 0x0010_0000) 11 len
+start_registers len = written (written (written zeros 2 end_address) 10 input_address) 11 len
 
 -- a call before its first instruction
 unfoldable pub start : Invocation → Machine

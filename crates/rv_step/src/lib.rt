@@ -11,6 +11,7 @@ pub mod machine;
 mod outcome;
 pub mod run;
 pub mod stage;
+mod storage;
 
 pub use answer::StorageAnswer;
 pub use ended_run::EndedRun;
@@ -18,3 +19,4 @@ pub use laws::{each_step_takes_gas, one_receipt};
 pub use machine::Machine;
 pub use run::{Pause, Run};
 pub use stage::Stage;
+pub use storage::apply_writes;

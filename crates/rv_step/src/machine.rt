@@ -1,6 +1,6 @@
 //! The machine of one call, and one step of it.
 
-ghost use Rattle.std.specs.Prelude.{◌≡◌, ◌<◌, ◌≤◌, ◌*◌, ◌^◌, if◌then◌else◌, [], false, IfOk, IsTrue, Ok};
+ghost use Rattle.std.specs.Prelude.{◌≡◌, ◌<◌, ◌≤◌, ◌*◌, ◌%◌, ◌^◌, if◌then◌else◌, [], false, IfOk, IsTrue, Ok};
 ghost use Rattle.std.specs.Option.{option_copied};
 ghost use Rattle.std.specs.FinMap as map;
 ghost use Rattle.rv_alu.specs.Accesses.{store_width, width_of};
@@ -17,12 +17,13 @@ use crate::faults::{refusal, trap_of};
 use crate::outcome::{InstructionOutcome, is_ecall};
 use crate::stage::{Stage, is_asked, trapped};
 use ecalls::{READ_CHARGE, Request, StorageCall, Trap, asked, request_by};
+use elf32::extent::{END_ADDRESS, INPUT_ADDRESS};
 use gas::{Meter, cost};
 use rv_alu::{address, execute, extended};
 use rv_isa::{
-    Immediate, Instr, LoadKind, Reg, Regs, StoreKind, decode_auipc, decode_branch, decode_compute,
-    decode_fence, decode_immediate, decode_jal, decode_jalr, decode_load, decode_lui, decode_store,
-    decode_system, funct3, opcode,
+    Immediate, Instr, LoadKind, Reg, Regs, StoreKind, decode, decode_auipc, decode_branch,
+    decode_compute, decode_fence, decode_immediate, decode_jal, decode_jalr, decode_load,
+    decode_lui, decode_store, decode_system, funct3, opcode,
 };
 use rv_ledger::{Call, End, Key, Output, Value, Write, Writes};
 use rv_mem::Memory;
@@ -34,21 +35,35 @@ const ABSENT: u32 = 0xffff_ffff;
 /// What a0 tells of a value that is longer than the buffer.
 const TOO_LONG: u32 = 0xffff_fffe;
 
-/// Writes the same expression into an arm for each funct3 of a word. The compiler knows funct3 in each
-/// arm, and does not look up there again which operation it names.
-macro_rules! by_funct3 {
-    ($word:expr, $execution:expr) => {
-        match funct3($word) {
-            0b000 => $execution,
-            0b001 => $execution,
-            0b010 => $execution,
-            0b011 => $execution,
-            0b100 => $execution,
-            0b101 => $execution,
-            0b110 => $execution,
-            _ => $execution,
+/// Returns an expression, written into a branch for each funct3 of a word. The compiler knows funct3 in
+/// each, and does not look up there again which operation it names. Comparisons rather than a match,
+/// since a match of so many becomes a jump through a table, which may cost more than three branches.
+macro_rules! return_by_funct3 {
+    ($word:expr, $execution:expr) => {{
+        let field = funct3($word);
+        if field < 4 {
+            if field < 2 {
+                if field == 0 {
+                    return $execution;
+                }
+                return $execution;
+            }
+            if field == 2 {
+                return $execution;
+            }
+            return $execution;
         }
-    };
+        if field < 6 {
+            if field == 4 {
+                return $execution;
+            }
+            return $execution;
+        }
+        if field == 6 {
+            return $execution;
+        }
+        return $execution;
+    }};
 }
 
 /// The machine of one call between two instructions.
@@ -79,8 +94,8 @@ impl Machine {
     {
         let input = call.input();
         let mut regs = Regs::zero();
-        regs.set(Reg::sp(), 0x0011_0000);
-        regs.set(Reg::a0(), 0x0010_0000);
+        regs.set(Reg::sp(), END_ADDRESS);
+        regs.set(Reg::a0(), INPUT_ADDRESS);
         regs.set(Reg::a1(), input.len() as u32);
         Ok(Machine {
             regs,
@@ -100,7 +115,7 @@ impl Machine {
         ensures last { IfOk result (λ outcome. is_next outcome ≡ false) }
     {
         loop {
-            let outcome = match self.execute_instruction() {
+            let outcome = match self.execute_next() {
                 Ok(outcome) => outcome,
                 Err(refused) => return Err(refused),
             };
@@ -113,9 +128,21 @@ impl Machine {
 
     /// One step: fetch, decode, charge, act; but an ECALL is only found. Refused where memory ran
     /// out, and then nothing changes.
-    #[inline(always)]
     #[tactic(auto, unfolding(crate::specs::Step::step))]
     pub(crate) fn execute_instruction(&mut self) -> Result<InstructionOutcome, AllocError>
+        ensures { MeetsInstruction result (instruction_at self.old) (step self.old) self.old self.new }
+    {
+        match self.memory.fetch(self.pc) {
+            Ok(word) => self.execute_decoded(decode(word)),
+            Err(fault) => Ok(InstructionOutcome::End(End::Trapped(trap_of(fault)))),
+        }
+    }
+
+    /// One step, as `execute_instruction`, by branches on the word. The loop alone calls it, since the
+    /// compiler puts so large a function only into a single caller.
+    #[inline(always)]
+    #[tactic(auto, unfolding(crate::specs::Step::step))]
+    fn execute_next(&mut self) -> Result<InstructionOutcome, AllocError>
         ensures { MeetsInstruction result (instruction_at self.old) (step self.old) self.old self.new }
     {
         match self.memory.fetch(self.pc) {
@@ -164,26 +191,96 @@ impl Machine {
     }
 
     /// Charges the instruction of a word and does it, as `execute_decoded` of `decode`. Each opcode has
-    /// an arm of its own, so that the compiler knows there which instructions may come.
+    /// a branch of its own, so that the compiler knows there which instructions may come. Each branch
+    /// returns, since the compiler then goes on from there to the next instruction.
     #[inline(always)]
-    #[tactic(auto, unfolding(rv_isa::specs::Decoded::decoded, rv_isa::specs::Decoding::instr_of))]
     fn execute_word(&mut self, word: u32) -> Result<InstructionOutcome, AllocError>
         ensures { MeetsInstruction result (decoded word) (decode_result self.old (decoded word)) self.old self.new }
     {
-        match word & opcode::MASK {
-            opcode::LUI => self.execute_decoded(decode_lui(word)),
-            opcode::AUIPC => self.execute_decoded(decode_auipc(word)),
-            opcode::JAL => self.execute_decoded(decode_jal(word)),
-            opcode::JALR => self.execute_decoded(decode_jalr(word)),
-            opcode::BRANCH => by_funct3!(word, self.execute_decoded(decode_branch(word))),
-            opcode::LOAD => by_funct3!(word, self.execute_decoded(decode_load(word))),
-            opcode::STORE => by_funct3!(word, self.execute_decoded(decode_store(word))),
-            opcode::OP_IMM => by_funct3!(word, self.execute_decoded(decode_immediate(word))),
-            opcode::OP => by_funct3!(word, self.execute_decoded(decode_compute(word))),
-            opcode::MISC_MEM => self.execute_decoded(decode_fence(word)),
-            opcode::SYSTEM => self.execute_decoded(decode_system(word)),
-            _ => self.execute_decoded(None),
+        let code = word & opcode::MASK;
+        if code < opcode::STORE {
+            return self.execute_below_store(word);
         }
+        if code < opcode::BRANCH {
+            return self.execute_store_to_lui(word);
+        }
+        self.execute_from_branch(word)
+    }
+
+    /// Does a word of an opcode below STORE: the computations with an immediate, the loads and two more.
+    #[inline(always)]
+    #[tactic(auto, unfolding(rv_isa::specs::Decoded::decoded, rv_isa::specs::Decoding::instr_of))]
+    fn execute_below_store(&mut self, word: u32) -> Result<InstructionOutcome, AllocError>
+        requires { word % 2 ^ 7 < 0b0100011 }
+        ensures { MeetsInstruction result (decoded word) (decode_result self.old (decoded word)) self.old self.new }
+    {
+        let code = word & opcode::MASK;
+        if code == opcode::OP_IMM {
+            return_by_funct3!(word, self.execute_decoded(decode_immediate(word)));
+        }
+        if code < opcode::OP_IMM {
+            if code == opcode::LOAD {
+                return_by_funct3!(word, self.execute_decoded(decode_load(word)));
+            }
+            if code == opcode::MISC_MEM {
+                return self.execute_decoded(decode_fence(word));
+            }
+            return self.execute_decoded(None);
+        }
+        if code == opcode::AUIPC {
+            return self.execute_decoded(decode_auipc(word));
+        }
+        self.execute_decoded(None)
+    }
+
+    /// Does a word of an opcode from STORE to LUI: the computations of two registers, the stores and LUI.
+    #[inline(always)]
+    #[tactic(auto, unfolding(rv_isa::specs::Decoded::decoded, rv_isa::specs::Decoding::instr_of))]
+    fn execute_store_to_lui(&mut self, word: u32) -> Result<InstructionOutcome, AllocError>
+        requires from { 0b0100011 ≤ word % 2 ^ 7 }
+        requires below { word % 2 ^ 7 < 0b1100011 }
+        ensures { MeetsInstruction result (decoded word) (decode_result self.old (decoded word)) self.old self.new }
+    {
+        let code = word & opcode::MASK;
+        if code == opcode::OP {
+            return_by_funct3!(word, self.execute_decoded(decode_compute(word)));
+        }
+        if code < opcode::OP {
+            if code == opcode::STORE {
+                return_by_funct3!(word, self.execute_decoded(decode_store(word)));
+            }
+            return self.execute_decoded(None);
+        }
+        if code == opcode::LUI {
+            return self.execute_decoded(decode_lui(word));
+        }
+        self.execute_decoded(None)
+    }
+
+    /// Does a word of an opcode from BRANCH on: the branches, the jumps, ECALL and EBREAK.
+    #[inline(always)]
+    #[tactic(auto, unfolding(rv_isa::specs::Decoded::decoded, rv_isa::specs::Decoding::instr_of))]
+    fn execute_from_branch(&mut self, word: u32) -> Result<InstructionOutcome, AllocError>
+        requires { 0b1100011 ≤ word % 2 ^ 7 }
+        ensures { MeetsInstruction result (decoded word) (decode_result self.old (decoded word)) self.old self.new }
+    {
+        let code = word & opcode::MASK;
+        if code == opcode::BRANCH {
+            return_by_funct3!(word, self.execute_decoded(decode_branch(word)));
+        }
+        if code < opcode::JAL {
+            if code == opcode::JALR {
+                return self.execute_decoded(decode_jalr(word));
+            }
+            return self.execute_decoded(None);
+        }
+        if code == opcode::JAL {
+            return self.execute_decoded(decode_jal(word));
+        }
+        if code == opcode::SYSTEM {
+            return self.execute_decoded(decode_system(word));
+        }
+        self.execute_decoded(None)
     }
 
     /// Charges an instruction and does it; a word of none is a trap, and an ECALL is only found.

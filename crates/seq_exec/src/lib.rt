@@ -3,11 +3,11 @@
 
 ghost use Rattle.std.specs.Prelude.{◌≡◌, [], IfOk, OnOk};
 ghost use Rattle.rv_step.specs.Chain.{ends};
-ghost use Rattle.rv_step.specs.Fold.{apply_writes, receipts_of, store_after};
+ghost use Rattle.rv_step.specs.Fold.{receipts_of, store_after};
 
 use read_set::Origin;
-use rv_ledger::{Call, Job, Outcome, Receipt, Store, Writes};
-use rv_step::{EndedRun, Pause, Run, one_receipt};
+use rv_ledger::{Call, Job, Outcome, Receipt, Store};
+use rv_step::{EndedRun, Pause, Run, apply_writes, one_receipt};
 use std::alloc::{AllocError, Global};
 
 /// Runs the calls of a job one after another on one storage. The outcome has no counts. Refused
@@ -37,7 +37,7 @@ fn run_all(alloc: Global, calls: &[Call], store: &mut Store) -> Result<Vec<Recei
     let mut receipts = Vec::with_capacity(alloc, calls.len())?;
     for call in calls {
         let receipt = run_one(alloc, call, store)?;
-        apply(store, &receipt.writes)?;
+        apply_writes(store, &receipt.writes)?;
         receipts.push(receipt)?;
     }
     Ok(receipts)
@@ -58,18 +58,4 @@ fn run_one(alloc: Global, call: &Call, store: &Store) -> Result<Receipt, AllocEr
         receipt,
     } = run.finish();
     Ok(receipt)
-}
-
-/// Lays the writes of a call over the storage.
-#[tactic(auto, unfolding(rv_step::specs::Fold::apply_writes))]
-fn apply(store: &mut Store, writes: &Writes) -> Result<(), AllocError>
-    ensures { OnOk result (store.new ≡ apply_writes store.old writes.now) }
-{
-    for (key, value) in writes.iter() {
-        match value {
-            Some(value) => store.insert(*key, value.copy())?,
-            None => store.remove(key),
-        }
-    }
-    Ok(())
 }

@@ -1,0 +1,6 @@
+mod Chunks
+mod Crosses
+mod Memory
+mod Sharing
+mod Slots
+mod Walks

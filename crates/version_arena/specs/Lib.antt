@@ -1,2 +1,5 @@
 pub mod ArenaState
+pub mod Chunks
 pub mod Lent
+pub mod Ownership
+pub mod Slots

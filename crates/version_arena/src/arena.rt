@@ -1,12 +1,13 @@
 //! The list of a block's records.
 
-ghost use Rattle.std.specs.Prelude.{◌≡◌, ◌+◌, ◌<◌, ◌≤◌, ◌↔◌, [], Err, IfSome, Ok, OnErr, OnOk, length, nat_lt, slice_get, take};
+ghost use Rattle.std.specs.Prelude.{◌≡◌, ◌+◌, ◌<◌, ◌≤◌, ◌↔◌, [], Err, IfSome, Ok, OnErr, OnOk, length, max, nat_lt, slice_get, take};
 ghost use Rattle.std.specs.Option.{option_copied, option_map};
 ghost use Rattle.version_arena.specs.ArenaState.{bytes_of, emptied, placed};
 ghost use Rattle.version_arena.specs.Lent.{lent};
 ghost use Rattle.version_arena.specs.declared.fault.ReserveFault.TheVariants.{ArenaFull};
 
 use crate::fault::ReserveFault;
+use crate::pool::Pool;
 use crate::record::{Record, VersionId};
 use crate::slot::Slot;
 use rv_ledger::Value;
@@ -18,24 +19,27 @@ use std::marker::Model;
 pub const RECORD_LIMIT: usize = 1_048_576;
 
 /// The records of one block, in the order in which they were placed, at most 1,048,576; and room
-/// for more.
+/// for more. Each place of a record comes with room for a value of 64 bytes.
 #[derive(Drop)]
 pub struct Arena {
     slots: Vec<Slot>,
     len: usize,
     bytes: usize,
+    pool: Pool,
 }
 
 impl Model for Arena {
-    ghost use Rattle.std.specs.Prelude.{◌≤◌, ◌-◌, length, take};
+    ghost use Rattle.std.specs.Prelude.{◌≤◌, ◌-◌, ◌+◌, All, length, map, take};
     ghost use Rattle.version_arena.specs.ArenaState.{ArenaState};
+    ghost use Rattle.version_arena.specs.Chunks.{capacity_of, room};
+    ghost use Rattle.version_arena.specs.Slots.{IsStored, record_of};
     ghost use Rattle.version_arena.specs.declared.arena.TheConstants.{RECORD_LIMIT};
 
     ghost Value = { ArenaState };
 
-    ghost view = { λ a. record { records = take a.len a.slots.items; room = length a.slots.items - a.len; bytes = a.bytes } };
+    ghost view = { λ a. record { records = map (record_of a.pool.chunks) (take a.len a.slots.items); room = length a.slots.items - a.len; bytes = a.bytes } };
 
-    ghost invariant = { λ a. (a.len ≤ length a.slots.items) × (length a.slots.items ≤ RECORD_LIMIT) };
+    ghost invariant = { λ a. (a.len ≤ length a.slots.items) × (length a.slots.items ≤ RECORD_LIMIT) × (length a.slots.items ≤ capacity_of a.pool.chunks) × (capacity_of a.pool.chunks ≤ a.len + room a.pool) × All (IsStored a.pool.chunks) (take a.len a.slots.items) };
 }
 
 impl Arena {
@@ -47,12 +51,14 @@ impl Arena {
             slots: Vec::new(alloc),
             len: 0,
             bytes: 0,
+            pool: Pool::new(alloc),
         }
     }
 
     /// Makes room for this many more records, whose values have together at most this many bytes.
     /// Refused as ArenaFull exactly where there would be above 1,048,576 records, and as Memory
-    /// where memory ran out; a refusal changes nothing. Room for values takes no memory of its own.
+    /// where memory ran out; a refusal changes nothing. Bytes take no memory of their
+    /// own: each record brings room for 64 of them.
     pub fn reserve(&mut self, records: usize, bytes: usize) -> Result<(), ReserveFault>
         ensures full { (result ≡ Err ArenaFull) ↔ (RECORD_LIMIT < length self.old.records + records) }
         ensures ok { OnOk result ((records ≤ self.new.room) × (bytes ≤ self.new.bytes)) }
@@ -65,7 +71,9 @@ impl Arena {
         if self.is_full_for(records) {
             return Err(ReserveFault::ArenaFull);
         }
-        grow(&mut self.slots, self.len + records)?;
+        let count = self.len + records;
+        self.pool.reserve(count)?;
+        grow(&mut self.slots, count)?;
         self.bytes = self.bytes.max(bytes);
         Ok(())
     }
@@ -86,7 +94,7 @@ impl Arena {
         ensures placed { self.new ≡ placed writer incarnation (option_copied value.entry) self.old }
     {
         let place = self.len;
-        self.slots[place] = Slot::of(writer, incarnation, value);
+        self.slots[place] = Slot::of(&mut self.pool, writer, incarnation, value);
         self.len += 1;
         self.bytes -= len_of(value);
         VersionId { place }
@@ -101,7 +109,7 @@ impl Arena {
             return None;
         }
         let slot = &self.slots[id.place];
-        Some(slot.record())
+        Some(slot.record(&self.pool))
     }
 
     /// How many records there are, at most 1,048,576.
@@ -117,6 +125,7 @@ impl Arena {
     pub fn reset(&mut self)
         ensures { self.new ≡ emptied self.old }
     {
+        self.pool.rewind();
         self.len = 0;
     }
 }
@@ -124,9 +133,7 @@ impl Arena {
 /// Adds vacant places until there are as many as asked for; refused where memory ran out.
 fn grow(slots: &mut Vec<Slot>, count: usize) -> Result<(), AllocError>
     requires { (count ≤ RECORD_LIMIT) × (length slots.old.items ≤ RECORD_LIMIT) }
-    ensures ok { OnOk result (count ≤ length slots.new.items) }
-    ensures grows { length slots.old.items ≤ length slots.new.items }
-    ensures limit { length slots.new.items ≤ RECORD_LIMIT }
+    ensures ok { OnOk result (length slots.new.items ≡ max count (length slots.old.items)) }
     ensures begins { take (length slots.old.items) slots.new.items ≡ slots.old.items }
     ensures unchanged { OnErr result (slots.new.items ≡ slots.old.items) }
     ensures succeeds { count ≤ length slots.old.items → result ≡ Ok tt }

@@ -3,7 +3,10 @@
 #![tactic(auto)]
 
 pub mod arena;
+mod chunk;
 pub mod fault;
+mod pool;
+mod raw;
 pub mod record;
 mod slot;
 

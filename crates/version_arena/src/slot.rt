@@ -1,39 +1,39 @@
 //! Where a record stands.
 
-ghost use Rattle.std.specs.Prelude.{◌≡◌, ◌≤◌, IfSome, None, length};
-ghost use Rattle.std.specs.Option.{option_copied};
+ghost use Rattle.std.specs.Prelude.{◌≡◌, ◌+◌, ◌≤◌, IfSome, length};
+ghost use Rattle.std.specs.Option.{option_copied, option_map};
+ghost use Rattle.version_arena.specs.Chunks.{KeepsBytes, capacity_of, part, room};
 ghost use Rattle.version_arena.specs.Lent.{lent};
+ghost use Rattle.version_arena.specs.Slots.{IsShortSpan, IsStored, record_of};
 
+use crate::pool::{Pool, Span};
 use crate::record::Record;
 use rv_ledger::Value;
 use rv_ledger::inline_bytes::VALUE_LIMIT;
-use std::marker::Model;
 
-/// The place of one record.
-#[derive(Drop)]
+/// The place of one record: who wrote it, and where its bytes lie, None where it removed the key.
+#[derive(Clone, Copy)]
 pub(crate) struct Slot {
     writer: u16,
     incarnation: u16,
-    content: Option<Value>,
-}
-
-impl Model for Slot {
-    ghost use Rattle.version_arena.specs.ArenaState.{Record};
-
-    ghost Value = { Record };
-
-    ghost view = { λ s. record { writer = s.writer; incarnation = s.incarnation; content = s.content } };
+    content: Option<Span>,
 }
 
 impl Slot {
-    /// The place of a record of this writer, incarnation and value, absence being None.
-    pub(crate) fn of(writer: u16, incarnation: u16, value: Option<&Value>) -> Slot
-        ensures { result ≡ record { writer = writer; incarnation = incarnation; content = option_copied value.entry } }
+    /// The place of a record of this writer, incarnation and value, absence being None, whose bytes
+    /// are copied into room that is there. Takes no memory.
+    pub(crate) fn of(pool: &mut Pool, writer: u16, incarnation: u16, value: Option<&Value>) -> Slot
+        requires { 1 ≤ room pool.old }
+        ensures record { record_of pool.new.chunks result ≡ record { writer = writer; incarnation = incarnation; content = option_copied value.entry } }
+        ensures stored { IsStored pool.new.chunks result }
+        ensures keeps { KeepsBytes pool.old.chunks pool.new.chunks }
+        ensures capacity { capacity_of pool.new.chunks ≡ capacity_of pool.old.chunks }
+        ensures room { room pool.old ≤ room pool.new + 1 }
     {
         Slot {
             writer,
             incarnation,
-            content: Value::copied(value),
+            content: store(pool, value),
         }
     }
 
@@ -47,25 +47,42 @@ impl Slot {
     }
 
     /// The record that stands here.
-    pub(crate) fn record(&self) -> Record<'_>
-        ensures record { lent result ≡ self.now }
+    pub(crate) fn record<'a>(&self, pool: &'a Pool) -> Record<'a>
+        requires { IsStored pool.now.chunks self.now }
+        ensures record { lent result ≡ record_of pool.now.chunks self.now }
         ensures short { IfSome result.content (λ bytes. length bytes.now ≤ VALUE_LIMIT) }
     {
         Record {
             writer: self.writer,
             incarnation: self.incarnation,
-            content: bytes(&self.content),
+            content: load(pool, self.content),
         }
     }
 }
 
-/// The bytes of a value, where there is one.
-fn bytes(value: &Option<Value>) -> Option<&[u8]>
-    ensures value { option_copied result ≡ value.now }
-    ensures short { IfSome result (λ bytes. length bytes.now ≤ VALUE_LIMIT) }
+/// Copies the bytes of a value into the pool, where there is one.
+fn store(pool: &mut Pool, value: Option<&Value>) -> Option<Span>
+    requires { 1 ≤ room pool.old }
+    ensures value { option_map (part pool.new.chunks) result ≡ option_copied value.entry }
+    ensures stored { IfSome result (IsShortSpan pool.new.chunks) }
+    ensures keeps { KeepsBytes pool.old.chunks pool.new.chunks }
+    ensures capacity { capacity_of pool.new.chunks ≡ capacity_of pool.old.chunks }
+    ensures room { room pool.old ≤ room pool.new + 1 }
 {
     match value {
-        Some(value) => Some(value.bytes()),
+        Some(value) => Some(pool.write(value.bytes())),
+        None => None,
+    }
+}
+
+/// Lends the bytes that lie there, where there are some.
+fn load(pool: &Pool, content: Option<Span>) -> Option<&[u8]>
+    requires { IfSome content (IsShortSpan pool.now.chunks) }
+    ensures value { option_copied result ≡ option_map (part pool.now.chunks) content }
+    ensures short { IfSome result (λ bytes. length bytes.now ≤ VALUE_LIMIT) }
+{
+    match content {
+        Some(span) => Some(pool.read(span)),
         None => None,
     }
 }

@@ -1,5 +1,5 @@
 -- What the answer of a settled book says of the history of its core.
-use Rattle.std.proofs.Common.{◌≡◌, ◌≢◌, ◌⊎◌, ◌<◌, ◌+◌, ◌*◌, ℕ, List, [], ◌∷◌, length, get_or, Option, None, Some, Result, Ok, Err, IfOk, IfErr, arith, sym, ap, subst, ◌∙◌, refl, inl, inr}
+use Rattle.std.proofs.Common.{◌≡◌, ◌≢◌, ◌⊎◌, ◌<◌, ◌+◌, ◌*◌, ℕ, List, [], ◌∷◌, length, get_or, Option, None, Some, Result, Ok, Err, IfOk, IfErr, slice_get, arith, sym, ap, subst, ◌∙◌, refl, inl, inr}
 use Rattle.std.proofs.lemmas.Option.{slice_get-get_or}
 use Rattle.std.proofs.lemmas.Result.{IfOk-weaker, IfErr-weaker}
 use Rattle.rv_ledger.specs.declared.job.Job.{Job}
@@ -16,7 +16,7 @@ use Rattle.stm_core.specs.CoreState.{CoreState, block_in}
 use Rattle.workers.specs.declared.share.Share.{Share}
 use Rattle.workers.specs.declared.fault.RunFault.{RunFault}
 use Rattle.workers.specs.declared.fault.RunFault.TheVariants as faults
-use Rattle.workers.specs.Book.{BookState, FaultFits, IsAtLimit, MayWrite, new_share}
+use Rattle.workers.specs.Book.{BookState, FaultFits, IsAtLimit, MayWrite}
 use Rattle.workers.specs.Settle.{AreSettled, IsOutcomeOf, IsOutcomeOrMemory, IsSettledAfter, IsSettled}
 use Rattle.workers.specs.History.{HasHistory, HasLimit, HasOneWorkerCounts}
 
@@ -51,11 +51,17 @@ module _ (job : Job) (shares : List Share) (b : BookState) (answer : Result Outc
 
 -- ---- the history
 
+-- a worker has a share
+share_at : (shares : List Share) (w : ℕ) → w < length shares → (share : Share) × (slice_get shares w ≡ Some share)
+share_at [] w within = absurd (omega (arith, within))
+share_at (share ∷ shares) w within = (get_or (share ∷ shares) w share, slice_get-get_or (share ∷ shares) w share within)
+
 -- each worker has one asking answered Done
 once_each : (b : CoreState) (shares : List Share) → AreSettled b shares → (w : ℕ) → w < length b.state.tasks → dones_of w b.state ≡ 1
 once_each b shares settled w within =
     let size = settled.count in
-    let one = settled.each w (get_or shares w (new_share 0)) (slice_get-get_or shares w (new_share 0) (omega (arith, size, within))) in
+    let at = share_at shares w (omega (arith, size, within)) in
+    let one = settled.each w at.0 at.1 in
     sym (one.tells.dones ∙ ap (λ v. get_or b.state.dones v 0) one.worker) ∙ one.once
 
 module _ (b : CoreState) (shares : List Share) (settled : AreSettled b shares) (reached : Reached (block_in b) (length b.state.tasks) b.state) where

@@ -3,3 +3,5 @@ pub mod Zeros
 pub mod Causes
 pub mod Told
 pub mod Histories
+pub mod Chains
+pub mod Ways

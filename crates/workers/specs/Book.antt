@@ -1,5 +1,6 @@
 -- A core with the first fault that was written, the share of a worker, and what the step calls owe.
 use Rattle.std.specs.Prelude.{◌≡◌, ◌<◌, ◌+◌, ℕ, zero, suc, true, false, List, [], ◌∷◌, ◌++◌, length, get_or, Option, None, Some}
+use Rattle.rv_ledger.specs.declared.outcome.Counts.{Counts}
 use Rattle.stm_state.specs.State.{task_at, no_counts, is_done}
 use Rattle.stm_state.specs.Steps.{Step, Ask, Read_key, Park, Record, Validate}
 use Rattle.stm_state.specs.Steps as steps
@@ -60,14 +61,23 @@ first_fault (Some first) fault = first
 
 -- ---- shares
 
--- the share of a worker that did nothing yet
-abbrev pub new_share : ℕ → Share
-new_share worker = record { worker = worker; counts = no_counts; dones = 0 }
+-- what a share tells
+pub record Tally : Type 0 where
+  pub worker : ℕ
+  pub counts : Counts
+  pub dones : ℕ
 
--- the shares of so many workers, in their order
-unfoldable pub new_shares : ℕ → List Share
-new_shares zero = []
-new_shares (suc n) = new_shares n ++ new_share n ∷ []
+abbrev pub tally_of : Share → Tally
+tally_of share = record { worker = share.worker; counts = share.counts; dones = share.dones }
+
+-- of a worker that did nothing yet
+abbrev pub new_tally : ℕ → Tally
+new_tally worker = record { worker = worker; counts = no_counts; dones = 0 }
+
+-- of so many workers, in their order
+unfoldable pub new_tallies : ℕ → List Tally
+new_tallies zero = []
+new_tallies (suc n) = new_tallies n ++ new_tally n ∷ []
 
 -- a share tells what a core counts of its worker
 pub record Tells (share : Share) (b : CoreState) : Type 0 where
@@ -82,13 +92,14 @@ pub record Owes (next : NextStep) (share : Share) (b : CoreState) : Type 0 where
 
 -- ---- step calls
 
--- the step of the share's worker was made with no fault written, and the share tells the core's counts before it and after it
+-- the step of the share's worker was made with no fault written, and the share tells the core's counts before it and after it, with the same pass
 pub record IsMade (step : Step) (before after : BookState) (share counted : Share) : Type 0 where
   pub none_before : before.fault ≡ None
   pub told : Tells share before.core
   pub makes : Makes share.worker step before.core after.core
   pub none_after : after.fault ≡ None
   pub worker : counted.worker ≡ share.worker
+  pub pass : counted.pass ≡ share.pass
   pub tells : Tells counted after.core
 
 -- a step call that was refused leaves the core and the share as they were, and its fault written

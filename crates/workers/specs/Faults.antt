@@ -1,5 +1,7 @@
 -- What a refusal of a block's run prints.
 use Rattle.std.specs.Prelude.{List, ℕ, codes}
+use Rattle.workers.specs.declared.chain.ChainFault.{ChainFault}
+use Rattle.workers.specs.declared.chain.ChainFault.TheVariants.{Run, TooManyCalls}
 use Rattle.workers.specs.declared.fault.RunFault.{RunFault}
 use Rattle.workers.specs.declared.fault.RunFault.TheVariants.{BadCount, Foreign, ArenaFull, IncarnationLimit, Memory, Spawn, StepLimit}
 
@@ -12,3 +14,8 @@ fault_text IncarnationLimit = codes "IncarnationLimit 4"
 fault_text Memory = codes "Memory 5"
 fault_text Spawn = codes "Spawn 6"
 fault_text StepLimit = codes "StepLimit 7"
+
+-- of a block of a chain
+abbrev pub chain_fault_text : ChainFault → List ℕ
+chain_fault_text (Run fault) = fault_text fault
+chain_fault_text TooManyCalls = codes "TooManyCalls 8"

@@ -2,3 +2,5 @@ pub mod Book
 pub mod Faults
 pub mod Settle
 pub mod History
+pub mod Chain
+pub mod DoneCell

@@ -257,6 +257,7 @@ impl Book {
         requires { share.old.worker < length self.now.core.state.tasks }
         ensures tells { Tells share.new self.now.core }
         ensures worker { share.new.worker ≡ share.old.worker }
+        ensures pass { share.new.pass ≡ share.old.pass }
     {
         share.counts = self.core.counts(share.worker);
         share.dones = self.core.dones(share.worker);

@@ -1,8 +1,9 @@
 //! Runs the calls of blocks on several threads, over one arena.
 
-ghost use Rattle.std.specs.Prelude.{◌≡◌, ◌≢◌, ◌≤◌, ◌⊎◌, [], Err, IfErr, IfOk, Ok, length};
+ghost use Rattle.std.specs.Prelude.{◌≡◌, ◌≢◌, ◌≤◌, ◌⊎◌, [], All, Err, IfErr, IfOk, Ok, length};
 ghost use Rattle.rv_step.specs.Fold.{receipts_of, store_after};
 ghost use Rattle.stm_state.specs.Steps as steps;
+ghost use Rattle.workers.specs.DoneCell.{IsPassOf};
 ghost use Rattle.workers.specs.History.{HasHistory, HasLimit, HasOneWorkerCounts};
 ghost use Rattle.workers.specs.declared.fault.RunFault.TheVariants as faults;
 
@@ -23,7 +24,7 @@ use version_arena::Arena;
 /// Runs blocks one after another, over one arena, which has no records between two of them.
 #[derive(Drop)]
 pub struct Executor {
-    arena: Arena,
+    pub(crate) arena: Arena,
     ghost empty: { arena.records ≡ [] },
 }
 
@@ -94,7 +95,7 @@ impl Executor {
 }
 
 /// Runs a job on threads over an arena, which comes back without records.
-fn run_over<R: Threads + Wait + Sync, G: Gate + Sync>(
+pub(crate) fn run_over<R: Threads + Wait + Sync, G: Gate + Sync>(
     rt: &R,
     alloc: Global,
     arena: Arena,
@@ -140,7 +141,7 @@ fn answer_by(answer: Result<Outcome, RunFault>, workers: usize) -> Result<Outcom
     }
 }
 
-/// The lock over a job's core at its start, and its workers' shares.
+/// The lock and the cell over a job's core at its start, and its workers' shares.
 fn share_out(
     alloc: Global,
     arena: Arena,
@@ -148,7 +149,8 @@ fn share_out(
     workers: usize,
 ) -> Result<(Shared, Vec<Share>), Arena>
     requires { (1 ≤ workers) × (workers ≤ 32) }
-    ensures { IfErr result (λ arena. arena.records ≡ []) }
+    ensures passes { IfOk result (λ made. All (λ share. IsPassOf made.0.cell share.pass) made.1.items) }
+    ensures back { IfErr result (λ arena. arena.records ≡ []) }
 {
     let Ok(job) = job.copy() else {
         let mut arena = arena;
@@ -167,30 +169,36 @@ fn run_threads<R: Threads + Wait + Sync, G: Gate + Sync>(
     shared: &Shared,
     shares: Vec<Share>,
     gate: &G,
-) -> Vec<Share> {
-    thread::scope(thread::scope_env(), rt, |scope| -> Vec<Share> {
-        let mut handles = Vec::new(alloc);
-        let mut back = Vec::new(alloc);
-        if handles.reserve(shares.len()).is_err() || back.reserve(shares.len()).is_err() {
-            shared.refuse(rt, OutsideFault::Memory);
-            return back;
-        }
-        for share in shares {
-            match scope.spawn(move || work(rt, alloc, shared, share, gate)) {
-                Ok(handle) => {
+) -> Vec<Share>
+    requires passes { All (λ share. IsPassOf shared.now.cell share.pass) shares.items }
+{
+    thread::scope(
+        thread::scope_env(),
+        rt,
+        |scope| -> Vec<Share>
+            requires { All (λ share. IsPassOf shared.now.cell share.pass) shares.items }
+        {
+            let (mut handles, mut back) = (Vec::new(alloc), Vec::new(alloc));
+            if handles.reserve(shares.len()).is_err() || back.reserve(shares.len()).is_err() {
+                shared.refuse(rt, OutsideFault::Memory);
+                return back;
+            }
+            for share in shares {
+                let working = move || -> Result<Share, RunFault>
+                    requires { IsPassOf shared.now.cell share.pass }
+                { work(rt, alloc, shared, share, gate) };
+                match scope.spawn(working) {
                     // There is room.
-                    let _ = handles.push(handle);
-                }
-                Err(_) => {
-                    shared.refuse(rt, OutsideFault::Spawn);
+                    Ok(handle) => drop(handles.push(handle)),
+                    Err(_) => drop(shared.refuse(rt, OutsideFault::Spawn)),
                 }
             }
-        }
-        for handle in handles {
-            if let Ok(share) = handle.join(rt) {
-                let _ = back.push(share);
+            for handle in handles {
+                if let Ok(share) = handle.join(rt) {
+                    let _ = back.push(share);
+                }
             }
-        }
-        back
-    })
+            back
+        },
+    )
 }

@@ -4,6 +4,8 @@
 
 pub mod answer;
 pub mod book;
+pub mod chain;
+pub mod done_cell;
 pub mod executor;
 pub mod fault;
 pub mod gate;
@@ -13,6 +15,8 @@ pub mod worker;
 
 pub use answer::settle;
 pub use book::Book;
+pub use chain::{Chain, ChainFault};
+pub use done_cell::{DoneCell, DonePass};
 pub use executor::Executor;
 pub use fault::RunFault;
 pub use gate::{Gate, Open};

@@ -1,23 +1,27 @@
-//! What a worker owns of the counts.
+//! What a worker owns: its share of the counts, and its pass of the block's cell.
 
 ghost use Rattle.std.specs.Prelude.{◌≡◌};
 
+use crate::done_cell::DonePass;
 use rv_ledger::Counts;
 
-/// A worker's share of the counts: zeros at first; the step calls of `Book` alone alter it.
+/// A worker's share of the counts: zeros at first; the step calls of `Book` alone alter it. Beside it stands the
+/// worker's pass of the block's cell.
 #[derive(Drop)]
 pub struct Share {
     pub(crate) worker: usize,
     pub(crate) counts: Counts,
     pub(crate) dones: u64,
+    pub(crate) pass: DonePass,
 }
 
 impl Share {
-    ghost use Rattle.workers.specs.Book.{new_share};
+    ghost use Rattle.workers.specs.Book.{new_tally, tally_of};
 
-    /// The share of a worker that did nothing yet.
-    pub(crate) fn new(worker: usize) -> Share
-        ensures { result ≡ new_share worker }
+    /// The share of a worker that did nothing yet, with its pass.
+    pub(crate) fn new(worker: usize, pass: DonePass) -> Share
+        ensures tally { tally_of result ≡ new_tally worker }
+        ensures pass { result.pass ≡ pass }
     {
         Share {
             worker,
@@ -28,6 +32,7 @@ impl Share {
                 validations: 0,
             },
             dones: 0,
+            pass,
         }
     }
 

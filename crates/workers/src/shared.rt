@@ -1,9 +1,11 @@
 //! What the threads of a block share.
 
-ghost use Rattle.std.specs.Prelude.{◌≡◌, IfOk};
-ghost use Rattle.workers.specs.Book.{new_shares};
+ghost use Rattle.std.specs.Prelude.{◌≡◌, All, IfOk, map};
+ghost use Rattle.workers.specs.Book.{new_tallies, tally_of};
+ghost use Rattle.workers.specs.DoneCell.{IsPassOf};
 
 use crate::book::Book;
+use crate::done_cell::DoneCell;
 use crate::fault::RunFault;
 use crate::share::Share;
 use rv_ledger::Block;
@@ -12,30 +14,38 @@ use std::sync::{Mutex, Wait};
 use stm_core::Core;
 use version_arena::Arena;
 
-/// What the threads of a block share: the lock, and beside it the calls, which they run without it.
+/// What the threads of a block share: the lock, and beside it the calls, which they run without it, and the
+/// cell, at which they look without it.
 #[derive(Drop)]
 pub struct Shared {
     pub(crate) lock: Mutex<Book>,
     pub(crate) block: Block,
+    pub(crate) cell: DoneCell,
 }
 
 impl Shared {
-    ghost use Rattle.std.specs.Prelude.{◌≡◌, [], length, IfErr, IfOk};
-    ghost use Rattle.workers.specs.Book.{new_shares};
+    ghost use Rattle.std.specs.Prelude.{◌≡◌, [], length, map, All, IfErr, IfOk};
+    ghost use Rattle.workers.specs.Book.{new_tallies, tally_of};
+    ghost use Rattle.workers.specs.DoneCell.{IsPassOf};
 
-    /// The lock over a core at its start, and one share of zeros for each of its workers, in their order.
+    /// The lock over a core at its start, with a cell that shows running, and one share of zeros for each of its
+    /// workers, in their order, each with a pass of the cell.
     /// Where memory ran out the core's arena is handed back, without records.
     pub fn new(alloc: Global, core: Core) -> Result<(Shared, Vec<Share>), Arena>
-        ensures shares { IfOk result (λ made. made.1.items ≡ new_shares (length core.state.tasks)) }
+        ensures shares { IfOk result (λ made. map tally_of made.1.items ≡ new_tallies (length core.state.tasks)) }
+        ensures passes { IfOk result (λ made. All (λ share. IsPassOf made.0.cell share.pass) made.1.items) }
         ensures back { IfErr result (λ arena. arena.records ≡ []) }
     {
         let Ok(block) = core.job().block.copy() else {
             return Err(core.into_arena());
         };
-        match new_shares(alloc, core.workers()) {
+        let Ok(cell) = DoneCell::new(alloc) else {
+            return Err(core.into_arena());
+        };
+        match new_shares(alloc, core.workers(), &cell) {
             Ok(shares) => {
                 let lock = Mutex::new(Book::new(core));
-                Ok((Shared { lock, block }, shares))
+                Ok((Shared { lock, block, cell }, shares))
             }
             Err(_) => Err(core.into_arena()),
         }
@@ -43,7 +53,11 @@ impl Shared {
 
     /// What stands under the lock, once no thread has it any more.
     pub fn into_book(self) -> Book {
-        let Shared { lock, block: _ } = self;
+        let Shared {
+            lock,
+            block: _,
+            cell: _,
+        } = self;
         lock.into_inner()
     }
 
@@ -69,14 +83,15 @@ pub(crate) enum OutsideFault {
     Foreign,
 }
 
-/// One share of zeros for each of so many workers.
-#[tactic(auto, using(crate::proofs::Zeros::no_shares, crate::proofs::Zeros::one_share_more))]
-fn new_shares(alloc: Global, workers: usize) -> Result<Vec<Share>, AllocError>
-    ensures { IfOk result (λ shares. shares.items ≡ new_shares workers) }
+/// One share of zeros for each of so many workers, with a pass of the cell.
+#[tactic(auto, using(crate::proofs::Zeros::no_shares))]
+fn new_shares(alloc: Global, workers: usize, cell: &DoneCell) -> Result<Vec<Share>, AllocError>
+    ensures shares { IfOk result (λ shares. map tally_of shares.items ≡ new_tallies workers) }
+    ensures passes { IfOk result (λ shares. All (λ share. IsPassOf cell.now share.pass) shares.items) }
 {
     let mut shares = Vec::with_capacity(alloc, workers)?;
     for worker in 0..workers {
-        shares.push(Share::new(worker))?;
+        shares.push(Share::new(worker, cell.pass()))?;
     }
     Ok(shares)
 }

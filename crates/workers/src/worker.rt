@@ -1,6 +1,8 @@
 //! What one thread does: it asks for work, runs calls outside the lock, and makes their steps under it.
 
-ghost use Rattle.std.specs.Prelude.{◌≡◌, ◌+◌, IfOk, OnOk};
+ghost use Rattle.std.specs.Prelude.{◌≡◌, ◌+◌, None, IfOk, MatchOption, OnOk};
+ghost use Rattle.crossbeam_utils.specs.Seq.{cell_view};
+ghost use Rattle.workers.specs.DoneCell.{IsPassOf};
 
 use crate::fault::RunFault;
 use crate::gate::Gate;
@@ -13,7 +15,8 @@ use stm_core::{NextStep, ReadResult};
 
 /// The work of one thread, whose worker's share tells what the core counts of it: it makes this worker's steps
 /// until an asking is answered Done, and then hands back its own share. Refused as the step that was refused,
-/// and as Memory where memory ran out; the fault is written then, and the steps that were made stand.
+/// and as Memory where memory ran out; the fault is written then, and the steps that were made stand. Where it
+/// is not refused the cell shows done.
 pub fn work<R: Wait, G: Gate>(
     rt: &R,
     alloc: Global,
@@ -21,20 +24,19 @@ pub fn work<R: Wait, G: Gate>(
     share: Share,
     gate: &G,
 ) -> Result<Share, RunFault>
+    requires cell { IsPassOf shared.now.cell share.pass }
     ensures worker { IfOk result (λ told. told.worker ≡ share.worker) }
     ensures dones { IfOk result (λ told. told.dones ≡ share.dones + 1) }
+    ensures shown { IfOk result (λ told. cell_view told.pass ≡ 1) }
 {
     let mut share = share;
     let mut next = NextStep::Ask;
     for _ in rt.forever() {
         next = match next {
-            NextStep::Ask => {
-                let asked = shared.lock.lock(rt).ask(&mut share)?;
-                match asked {
-                    None => return Ok(share),
-                    Some(next) => next,
-                }
-            }
+            NextStep::Ask => match ask(rt, shared, &mut share)? {
+                None => return Ok(share),
+                Some(next) => next,
+            },
             NextStep::Run { call, incarnation } => {
                 run_call(rt, alloc, shared, &mut share, call, incarnation, gate)?
             }
@@ -52,6 +54,24 @@ pub fn work<R: Wait, G: Gate>(
     unreachable!()
 }
 
+/// Asks for work, and gives the step that the worker owes then: None where all is done, and then the cell shows
+/// it. A worker that gets no task looks at the cell before it asks again.
+fn ask<R: Wait>(rt: &R, shared: &Shared, share: &mut Share) -> Result<Option<NextStep>, RunFault>
+    requires cell { IsPassOf shared.now.cell share.old.pass }
+    ensures cell { IsPassOf shared.now.cell share.new.pass }
+    ensures worker { share.new.worker ≡ share.old.worker }
+    ensures dones { IfOk result (λ next. MatchOption next (share.new.dones ≡ share.old.dones + 1) (λ _. share.new.dones ≡ share.old.dones)) }
+    ensures shown { IfOk result (λ next. next ≡ None → cell_view share.new.pass ≡ 1) }
+{
+    let asked = shared.lock.lock(rt).ask(share)?;
+    match asked {
+        None => shared.cell.set_done(rt, &mut share.pass),
+        Some(NextStep::Ask) => shared.cell.look(rt, &mut share.pass),
+        Some(_) => {}
+    }
+    Ok(asked)
+}
+
 /// Runs a call outside the lock up to its record, or to a read that meets an estimate, and gives the step that
 /// the worker owes then.
 fn run_call<R: Wait, G: Gate>(
@@ -64,6 +84,7 @@ fn run_call<R: Wait, G: Gate>(
     gate: &G,
 ) -> Result<NextStep, RunFault>
     ensures worker { share.new.worker ≡ share.old.worker }
+    ensures pass { share.new.pass ≡ share.old.pass }
     ensures dones { OnOk result (share.new.dones ≡ share.old.dones) }
 {
     let mut run = start(rt, alloc, shared, call)?;

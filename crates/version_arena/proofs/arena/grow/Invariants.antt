@@ -1,11 +1,10 @@
-use Rattle.std.proofs.Common.{◌≡◌, ◌≤◌, ◌-◌, length, take, vec_capacity}
-use Rattle.version_arena.specs.declared.arena.TheConstants.{RECORD_LIMIT}
+use Rattle.std.proofs.Common.{◌≡◌, ◌≤◌, ◌-◌, length, max, take, vec_capacity}
 use Rattle.version_arena.proofs.arena.grow.Given as goal
 
 abbrev pub invariant-loop-slots : goal.invariant-loop-slots
 invariant-loop-slots l = record {
   grows : length l.fn.slots.items ≤ length l.slots.items;
-  limit : length l.slots.items ≤ RECORD_LIMIT;
+  limit : length l.slots.items ≤ max l.count (length l.fn.slots.items);
   room : l.count ≤ vec_capacity l.slots;
   begins : take (length l.fn.slots.items) l.slots.items ≡ l.fn.slots.items;
 }

@@ -4,4 +4,4 @@ use Rattle.workers.proofs.worker.run_call.Given as goal
 abbrev pub invariant-loop : goal.invariant-loop
 invariant-loop g l =
     (goal.iterator-loop g).can_next l.iterator' × (goal.iterator-loop g).is_finite l.iterator'
-    × (l.share.worker ≡ l.fn.share.worker) × (l.share.dones ≡ l.fn.share.dones)
+    × (l.share.worker ≡ l.fn.share.worker) × (l.share.pass ≡ l.fn.share.pass) × (l.share.dones ≡ l.fn.share.dones)

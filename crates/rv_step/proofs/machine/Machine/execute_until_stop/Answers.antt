@@ -8,7 +8,7 @@ pub loop-outcome-preserved : goal.loop-outcome-preserved
 loop-outcome-preserved c = further c.args.self.now c.loop-outcome.self _ c.loop-outcome.invariant (rw c.in-Next.is at c.in-Ok.ensures)
 
 pub loop-outcome-smaller : goal.loop-outcome-smaller
-loop-outcome-smaller c = next_takes_gas c.loop-outcome.self c.execute_instruction.new.self (rw c.in-Next.is at c.in-Ok.ensures)
+loop-outcome-smaller c = next_takes_gas c.loop-outcome.self c.execute_next.new.self (rw c.in-Next.is at c.in-Ok.ensures)
 
 pub returns-in_default : goal.returns-in_default
 returns-in_default c = record {

@@ -1,0 +1,120 @@
+-- What the chunks of a pool hold, and have room for, as one of them changes or one is added.
+use Rattle.std.proofs.Common.{◌≡◌, ℕ, zero, suc, ◌+◌, ◌-◌, ◌*◌, ◌/◌, ◌<◌, ◌≤◌, Bool, true, false, if◌then◌else◌, nat_le, max, List, [], ◌∷◌, ◌++◌, length, take, drop, map, get_or, set, refl, sym, ap, subst, ◌∙◌, arith}
+use Rattle.std.proofs.lemmas.Bool.{leb-true}
+use Rattle.std.proofs.lemmas.List.{append-nil, length-append, length-set}
+use Rattle.version_arena.specs.Chunks.{ChunkState, Grows, KeepsBytes, with_capacity, bytes_at, capacity_of, empty_chunk, spare, PoolState}
+
+abbrev emptied : ChunkState → ChunkState
+emptied c = empty_chunk c.size
+
+-- the first i chunks rewound
+abbrev front : ℕ → List ChunkState → List ChunkState
+front i cs = map emptied (take i cs) ++ drop i cs
+
+length-front : (i : ℕ) (cs : List ChunkState) → length (front i cs) ≡ length cs
+length-front zero cs = refl
+length-front (suc i) [] = refl
+length-front (suc i) (c ∷ cs) = ap suc (length-front i cs)
+
+get_or-front : (i : ℕ) (cs : List ChunkState) (d : ChunkState) → get_or (front i cs) i d ≡ get_or cs i d
+get_or-front zero cs d = refl
+get_or-front (suc i) [] d = refl
+get_or-front (suc i) (c ∷ cs) d = get_or-front i cs d
+
+set-front : (i : ℕ) (cs : List ChunkState) (d y : ChunkState) → i < length cs → y ≡ emptied (get_or cs i d) → set (front i cs) i y ≡ front (i + 1) cs
+set-front i [] d y within e = absurd (omega (arith, within))
+set-front zero (c ∷ cs) d y within e = ap (λ z. z ∷ cs) e
+set-front (suc i) (c ∷ cs) d y within e =
+    let inside : i < length cs = omega (arith, within) in let next : suc (i + 1) ≡ suc i + 1 = omega arith in
+    ap (λ zs. emptied c ∷ zs) (set-front i cs d y inside e) ∙ ap (λ k. front k (c ∷ cs)) next
+
+pub capacity-front : (i : ℕ) (cs : List ChunkState) → capacity_of (front i cs) ≡ capacity_of cs
+capacity-front zero cs = refl
+capacity-front (suc i) [] = refl
+capacity-front (suc i) (c ∷ cs) = ap (λ k. c.size / 64 + k) (capacity-front i cs)
+
+-- one more chunk is rewound
+pub rewind_more : (i : ℕ) (cs ds : List ChunkState) (x y : ChunkState) → i < length ds → ds ≡ front i cs → x ≡ get_or ds i x → y ≡ emptied x → set ds i y ≡ front (i + 1) cs
+rewind_more i cs ds x y within e at is =
+    let inside : i < length cs = omega (arith, within, ap length e, length-front i cs) in
+    ap (λ zs. set zs i y) e ∙ set-front i cs x y inside (is ∙ ap emptied (at ∙ ap (λ zs. get_or zs i x) e ∙ get_or-front i cs x))
+
+pub capacity-append : (cs ds : List ChunkState) → capacity_of (cs ++ ds) ≡ capacity_of cs + capacity_of ds
+capacity-append [] ds = omega arith
+capacity-append (c ∷ cs) ds = omega (arith, capacity-append cs ds)
+
+pub capacity-set : (cs : List ChunkState) (i : ℕ) (x y : ChunkState) → i < length cs → x ≡ get_or cs i x → y.size ≡ x.size → capacity_of (set cs i y) ≡ capacity_of cs
+capacity-set [] i x y within at e = refl
+capacity-set (c ∷ cs) zero x y within at e = ap (λ k. k / 64 + capacity_of cs) (e ∙ ap (λ (z : ChunkState). z.size) at)
+capacity-set (c ∷ cs) (suc i) x y within at e = let inside : i < length cs = omega (arith, within) in ap (λ k. c.size / 64 + k) (capacity-set cs i x y inside at e)
+
+pub capacity-rewound : (cs : List ChunkState) → capacity_of (map emptied cs) ≡ capacity_of cs
+capacity-rewound [] = refl
+capacity-rewound (c ∷ cs) = ap (λ k. c.size / 64 + k) (capacity-rewound cs)
+
+-- rewound chunks have room for all that they can hold
+pub spare-rewound : (cs : List ChunkState) → spare (map emptied cs) ≡ capacity_of cs
+spare-rewound [] = refl
+spare-rewound (c ∷ cs) =
+    let none : List ℕ = [] in let all : c.size - length none ≡ c.size = omega arith in
+    ap (λ k. k / 64 + spare (map emptied cs)) all ∙ ap (λ k. c.size / 64 + k) (spare-rewound cs)
+
+spare-append : (cs ds : List ChunkState) → spare (cs ++ ds) ≡ spare cs + spare ds
+spare-append [] ds = omega arith
+spare-append (c ∷ cs) ds = omega (arith, spare-append cs ds)
+
+-- one more chunk adds as much room as it has
+pub spare-more : (cs : List ChunkState) (i n : ℕ) → i ≤ length cs → spare (drop i (cs ++ empty_chunk n ∷ [])) ≡ spare (drop i cs) + n / 64
+spare-more cs zero n within =
+    let none : List ℕ = [] in let all : n - length none ≡ n = omega arith in
+    spare-append cs (empty_chunk n ∷ []) ∙ ap (λ k. spare cs + (k / 64 + 0)) all ∙ ap (λ k. spare cs + k) {y = n / 64} (omega arith)
+spare-more [] (suc i) n within = absurd (omega (arith, within))
+spare-more (c ∷ cs) (suc i) n within = let inside : i ≤ length cs = omega (arith, within) in spare-more cs i n inside
+
+begins-set : (cs : List ChunkState) (i : ℕ) (x y : ChunkState) (more : List ℕ) → i < length cs → x ≡ get_or cs i x → y.bytes ≡ x.bytes ++ more → (j : ℕ) → (rest : List ℕ) × (bytes_at (set cs i y) j ≡ bytes_at cs j ++ rest)
+begins-set [] i x y more within at e j = absurd (omega (arith, within))
+begins-set (c ∷ cs) zero x y more within at e zero = (more, e ∙ ap (λ (z : ChunkState). z.bytes ++ more) at)
+begins-set (c ∷ cs) zero x y more within at e (suc j) = ([], sym (append-nil (bytes_at cs j)))
+begins-set (c ∷ cs) (suc i) x y more within at e zero = ([], sym (append-nil c.bytes))
+begins-set (c ∷ cs) (suc i) x y more within at e (suc j) = let inside : i < length cs = omega (arith, within) in begins-set cs i x y more inside at e j
+
+-- a chunk to which bytes are appended keeps those that it had
+pub keeps-set : (cs : List ChunkState) (i : ℕ) (x y : ChunkState) (more : List ℕ) → i < length cs → x ≡ get_or cs i x → y.bytes ≡ x.bytes ++ more → KeepsBytes cs (set cs i y)
+keeps-set cs i x y more within at e = (omega (arith, length-set cs i y), begins-set cs i x y more within at e)
+
+begins-append : (cs : List ChunkState) (n j : ℕ) → (rest : List ℕ) × (bytes_at (cs ++ empty_chunk n ∷ []) j ≡ bytes_at cs j ++ rest)
+begins-append [] n zero = ([], refl)
+begins-append [] n (suc j) = ([], refl)
+begins-append (c ∷ cs) n zero = ([], sym (append-nil c.bytes))
+begins-append (c ∷ cs) n (suc j) = begins-append cs n j
+
+-- and so do all where one is added
+pub keeps-append : (cs : List ChunkState) (n : ℕ) → KeepsBytes cs (cs ++ empty_chunk n ∷ [])
+keeps-append cs n = (omega (arith, length-append cs (empty_chunk n ∷ [])), begins-append cs n)
+
+pub keeps-same : (cs : List ChunkState) → KeepsBytes cs cs
+keeps-same cs = (omega arith, λ j. ([], sym (append-nil (bytes_at cs j))))
+
+pub grows_same : (p q : PoolState) → q ≡ p → Grows p q
+grows_same p q e = subst (Grows p) (sym e) (keeps-same p.chunks, omega arith, refl)
+
+pub grows_more : (p q : PoolState) (n : ℕ) → p.current ≤ length p.chunks → q.chunks ≡ p.chunks ++ empty_chunk n ∷ [] → q.current ≡ p.current → Grows p q
+grows_more p q n within chunks current =
+    let one = empty_chunk n ∷ [] in
+    let more = capacity-append p.chunks one in (
+      subst (KeepsBytes p.chunks) (sym chunks) (keeps-append p.chunks n),
+      omega (arith, ap capacity_of chunks, more),
+      omega (arith, ap capacity_of chunks, more, ap (λ k. spare (drop k q.chunks)) current, ap (λ cs. spare (drop p.current cs)) chunks, spare-more p.chunks p.current n within),
+    )
+
+extended : (b : Bool) (n : ℕ) (p q : PoolState) → nat_le n (capacity_of p.chunks) ≡ b
+    → q ≡ (if b then p else record { chunks = p.chunks ++ empty_chunk (max ((n - capacity_of p.chunks) * 64) 65536) ∷ []; current = p.current }) → n ≤ capacity_of q.chunks
+extended true n p q enough e = omega (arith, leb-true n (capacity_of p.chunks) enough, ap (λ (r : PoolState). capacity_of r.chunks) e)
+extended false n p q enough e =
+    let size = max ((n - capacity_of p.chunks) * 64) 65536 in
+    let large : n - capacity_of p.chunks ≤ size / 64 = omega arith in
+    omega (arith, large, ap (λ (r : PoolState). capacity_of r.chunks) e, capacity-append p.chunks (empty_chunk size ∷ []))
+
+-- the room that was asked for is there
+pub has_capacity : (n : ℕ) (p q : PoolState) → q ≡ with_capacity n p → n ≤ capacity_of q.chunks
+has_capacity n p q e = extended (nat_le n (capacity_of p.chunks)) n p q refl e

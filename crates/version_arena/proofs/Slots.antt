@@ -1,0 +1,53 @@
+-- The records of an arena stay as they are where the chunks keep their bytes.
+use Rattle.std.proofs.Common.{◌≡◌, ◌≤◌, List, [], ◌∷◌, ◌++◌, All, IfSome, Option, None, Some, Result, Ok, Err, OnErr, length, take, drop, map, refl, ap, ◌∙◌, arith}
+use Rattle.std.proofs.lemmas.List.{length-append, take-append-le, drop-append-le, length-drop}
+use Rattle.std.proofs.lemmas.List.Elements.{All-nil, All-cons, All-head, All-tail}
+use Rattle.std.specs.Option.{option_map}
+use Rattle.version_arena.specs.Chunks.{ChunkState, KeepsBytes, LiesWithin, bytes_at, part}
+use Rattle.version_arena.specs.Slots.{IsShortSpan, IsStored, record_of}
+use Rattle.version_arena.specs.declared.pool.Span.{Span}
+use Rattle.version_arena.specs.declared.slot.Slot.{Slot}
+use Rattle.version_arena.specs.ArenaState.{ArenaState}
+
+module _ (cs ds : List ChunkState) (keeps : KeepsBytes cs ds) where
+  within_same : (s : Span) → LiesWithin cs s → LiesWithin ds s
+  within_same s h =
+      let kept = keeps.1 s.chunk in
+      (omega (arith, h.0, keeps.0), omega (arith, h.1, ap length kept.1, length-append (bytes_at cs s.chunk) kept.0))
+
+  part_same : (s : Span) → LiesWithin cs s → part ds s ≡ part cs s
+  part_same s h =
+      let old = bytes_at cs s.chunk in let kept = keeps.1 s.chunk in
+      let begins : s.start ≤ length old = omega (arith, h.1) in let ends : s.len ≤ length (drop s.start old) = omega (arith, h.1, length-drop s.start old) in
+      ap (λ xs. take s.len (drop s.start xs)) kept.1 ∙ ap (take s.len) (drop-append-le s.start old kept.0 begins) ∙ take-append-le s.len (drop s.start old) kept.0 ends
+
+  content_same : (o : Option Span) → IfSome o (IsShortSpan cs) → option_map (part ds) o ≡ option_map (part cs) o
+  content_same None h = refl
+  content_same (Some s) h = ap Some (part_same s h.0)
+
+  short_same : (o : Option Span) → IfSome o (IsShortSpan cs) → IfSome o (IsShortSpan ds)
+  short_same None h = tt
+  short_same (Some s) h = (within_same s h.0, h.1)
+
+  record_same : (s : Slot) → IsStored cs s → record_of ds s ≡ record_of cs s
+  record_same s h = ap (λ content. record { writer = s.writer; incarnation = s.incarnation; content = content }) (content_same s.content h)
+
+  pub records_same : (ss : List Slot) → All (IsStored cs) ss → map (record_of ds) ss ≡ map (record_of cs) ss
+  records_same [] h = refl
+  records_same (s ∷ ss) h =
+      ap (λ r. r ∷ map (record_of ds) ss) (record_same s (All-head (IsStored cs) s ss h)) ∙ ap (λ rs. record_of cs s ∷ rs) (records_same ss (All-tail (IsStored cs) s ss h))
+
+  pub all_stored : (ss : List Slot) → All (IsStored cs) ss → All (IsStored ds) ss
+  all_stored [] h = All-nil (IsStored ds)
+  all_stored (s ∷ ss) h = All-cons (IsStored ds) s ss (short_same s.content (All-head (IsStored cs) s ss h)) (all_stored ss (All-tail (IsStored cs) s ss h))
+
+pub map_push : {X Y : Type 0} (f : X → Y) (xs : List X) (x : X) → map f (xs ++ x ∷ []) ≡ map f xs ++ f x ∷ []
+map_push f [] x = refl
+map_push f (y ∷ ys) x = ap (λ zs. f y ∷ zs) (map_push f ys x)
+
+pub state_is : (a b : ArenaState) → a.records ≡ b.records → a.room ≡ b.room → a.bytes ≡ b.bytes → a ≡ b
+state_is a b records room bytes = λ i. record { records = records i; room = room i; bytes = bytes i }
+
+pub on_err : {X E : Type 0} (r : Result X E) (P : Type 0) → P → OnErr r P
+on_err (Ok x) P p = tt
+on_err (Err e) P p = p

@@ -1,0 +1,30 @@
+use Rattle.std.proofs.Common.{◌+◌, ◌<◌, ◌∷◌, [], ◌++◌, All, length, map, set, take, ap, ◌∙◌, arith}
+use Rattle.std.proofs.lemmas.List.{length-set, take_more_set}
+use Rattle.std.proofs.lemmas.List.Elements.{All-push, All-same}
+use Rattle.version_arena.specs.ArenaState.{ArenaState}
+use Rattle.version_arena.specs.Slots.{IsStored, record_of}
+use Rattle.version_arena.proofs.Slots.{all_stored, map_push, records_same, state_is}
+use Rattle.version_arena.proofs.arena.Arena.place.Goals as goal
+
+-- there is a place
+there : (c : goal.After-self-3-1) → c.self.inside.len < length c.self.inside.slots.items
+there c = omega (arith, c.requires.room, ap (λ (a : ArenaState). a.room) c.self.view_is)
+
+pub invariant_of-self : goal.invariant_of-self
+invariant_of-self c =
+    let before = c.self.invariant in let slots = c.self.inside.slots.items in let len = c.self.inside.len in let slot = c.of.result in
+    let cs = c.self.inside.pool.chunks in let ds = c.of.new.pool.chunks in
+    let long = length-set slots len slot in
+    let stored : All (IsStored ds) (take (len + 1) (set slots len slot)) =
+    All-same (IsStored ds) (take (len + 1) (set slots len slot)) (take len slots ++ slot ∷ []) (take_more_set slots len slot (there c))
+    (All-push (IsStored ds) (take len slots) slot (all_stored cs ds c.of.ensures.keeps (take len slots) before.4) c.of.ensures.stored) in
+    (omega (arith, long, there c), omega (arith, long, before.1), omega (arith, long, before.2, c.of.ensures.capacity), omega (arith, before.3, c.of.ensures.capacity, c.of.ensures.room), stored)
+
+pub returns-clause-placed : goal.returns-clause-placed
+returns-clause-placed c =
+    let slots = c.self.inside.slots.items in let len = c.self.inside.len in let slot = c.of.result in
+    let cs = c.self.inside.pool.chunks in let ds = c.of.new.pool.chunks in
+    let records = ap (map (record_of ds)) (take_more_set slots len slot (there c)) ∙ map_push (record_of ds) (take len slots) slot
+    ∙ ap (λ rs. rs ++ record_of ds slot ∷ []) (records_same cs ds c.of.ensures.keeps (take len slots) c.self.invariant.4 ∙ ap (λ (a : ArenaState). a.records) c.self.view_is)
+    ∙ ap (λ r. c.args.self.now.records ++ r ∷ []) c.of.ensures.record in
+    state_is _ _ records (omega (arith, length-set slots len slot, ap (λ (a : ArenaState). a.room) c.self.view_is)) (omega (arith, c.len_of.ensures, ap (λ (a : ArenaState). a.bytes) c.self.view_is))

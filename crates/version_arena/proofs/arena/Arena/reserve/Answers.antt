@@ -1,0 +1,67 @@
+use Rattle.std.proofs.Common.{◌≡◌, ◌+◌, ◌-◌, ◌≤◌, length, map, take, sym, ap, ◌∙◌, arith}
+use Rattle.std.proofs.lemmas.Bool.{ltb-false}
+use Rattle.std.proofs.lemmas.List.{length-map, length-take, take-take}
+use Rattle.std.proofs.lemmas.List.Elements.{All-same}
+use Rattle.version_arena.specs.ArenaState.{ArenaState}
+use Rattle.version_arena.specs.Slots.{IsStored, record_of}
+use Rattle.version_arena.specs.Chunks.{capacity_of}
+use Rattle.version_arena.specs.declared.arena.TheConstants.{RECORD_LIMIT}
+use Rattle.version_arena.proofs.Chunks.{has_capacity}
+use Rattle.version_arena.proofs.Slots.{all_stored, records_same, on_err, state_is}
+use Rattle.version_arena.proofs.arena.Arena.reserve.Goals as goal
+
+pub invariant_of-self-in_err-grow : goal.invariant_of-self-in_err-grow
+invariant_of-self-in_err-grow c =
+    let before = c.self.invariant in let slots = c.self.inside.slots.items in let len = c.self.inside.len in let after = c.grow.new.slots.items in
+    let cs = c.self.inside.pool.chunks in let ds = c.reserve.new.self.chunks in let grows = c.reserve.ensures.grows in
+    let same = c.in_err-grow.ensures.unchanged in let long = ap length same in (
+      omega (arith, before.0, long),
+      omega (arith, before.1, long),
+      omega (arith, before.2, long, grows.1),
+      omega (arith, before.3, grows.2),
+      All-same (IsStored ds) (take len after) (take len slots) (ap (take len) same) (all_stored cs ds grows.0 (take len slots) before.4),
+    )
+
+pub returns-in_err-grow-clause-records : goal.returns-in_err-grow-clause-records
+returns-in_err-grow-clause-records c =
+    let slots = c.self.inside.slots.items in let len = c.self.inside.len in let cs = c.self.inside.pool.chunks in let ds = c.reserve.new.self.chunks in
+    ap (λ ss. map (record_of ds) (take len ss)) c.in_err-grow.ensures.unchanged ∙ records_same cs ds c.reserve.ensures.grows.0 (take len slots) c.self.invariant.4 ∙ ap (λ (a : ArenaState). a.records) c.self.view_is
+
+pub returns-in_err-grow-clause-unchanged : goal.returns-in_err-grow-clause-unchanged
+returns-in_err-grow-clause-unchanged c =
+    let room = ap (λ ss. length ss - c.self.inside.len) c.in_err-grow.ensures.unchanged ∙ ap (λ (a : ArenaState). a.room) c.self.view_is in
+    on_err c.from_residual-in_err-grow.result _ (state_is _ _ (returns-in_err-grow-clause-records c) room (ap (λ (a : ArenaState). a.bytes) c.self.view_is))
+
+-- the places with a record are as they were
+front : (c : goal.After-self-1) → take c.self.inside.len c.grow.new.slots.items ≡ take c.self.inside.len c.self.inside.slots.items
+front c =
+    let slots = c.self.inside.slots.items in let len = c.self.inside.len in
+    sym (take-take len (length slots) c.grow.new.slots.items c.self.invariant.0) ∙ ap (take len) c.grow.ensures.begins
+
+pub invariant_of-self-2 : goal.invariant_of-self-2
+invariant_of-self-2 c =
+    let before = c.self.invariant in let slots = c.self.inside.slots.items in let len = c.self.inside.len in let after = c.grow.new.slots.items in
+    let cs = c.self.inside.pool.chunks in let ds = c.reserve.new.self.chunks in let grows = c.reserve.ensures.grows in
+    let long = c.in_ok-grow.ensures.ok in let count = len + c.args.records in
+    let enough : count ≤ capacity_of ds = has_capacity count c.self.inside.pool c.reserve.new.self c.in_ok-reserve.ensures.ok in
+    let limit : count ≤ RECORD_LIMIT =
+    let records = c.args.self.now.records in
+    omega (
+      arith,
+      ltb-false RECORD_LIMIT (length records + c.args.records) (sym c.if-is_full_for.ensures.full),
+      ap (λ (a : ArenaState). length a.records) c.self.view_is,
+      length-map (take len slots) (record_of cs),
+      length-take len slots,
+      before.0,
+    ) in (
+      omega (arith, before.0, long),
+      omega (arith, before.1, long, limit),
+      omega (arith, before.2, long, grows.1, enough),
+      omega (arith, before.3, grows.2),
+      All-same (IsStored ds) (take len after) (take len slots) (front c) (all_stored cs ds grows.0 (take len slots) before.4),
+    )
+
+pub returns-clause-records : goal.returns-clause-records
+returns-clause-records c =
+    let slots = c.self.inside.slots.items in let len = c.self.inside.len in let cs = c.self.inside.pool.chunks in let ds = c.reserve.new.self.chunks in
+    ap (map (record_of ds)) (front c) ∙ records_same cs ds c.reserve.ensures.grows.0 (take len slots) c.self.invariant.4 ∙ ap (λ (a : ArenaState). a.records) c.self.view_is

@@ -1,0 +1,19 @@
+-- The records that stand in the places of an arena.
+use Rattle.std.specs.Prelude.{◌≤◌, IfSome, List}
+use Rattle.std.specs.Option.{option_map}
+use Rattle.version_arena.specs.ArenaState.{Record}
+use Rattle.version_arena.specs.Chunks.{ChunkState, LiesWithin, part}
+use Rattle.version_arena.specs.declared.pool.Span.{Span}
+use Rattle.version_arena.specs.declared.slot.Slot.{Slot}
+
+-- the record of a place
+abbrev pub record_of : List ChunkState → Slot → Record
+record_of cs s = record { writer = s.writer; incarnation = s.incarnation; content = option_map (part cs) s.content }
+
+-- bytes in the chunks, at most 64
+abbrev pub IsShortSpan : List ChunkState → Span → Type 0
+IsShortSpan cs span = LiesWithin cs span × (span.len ≤ 64)
+
+-- so are those of a place's record
+abbrev pub IsStored : List ChunkState → Slot → Type 0
+IsStored cs s = IfSome s.content (IsShortSpan cs)

@@ -1,0 +1,49 @@
+-- A chain of blocks, and one block more.
+use Rattle.std.proofs.Common.{◌≡◌, ℕ, List, [], ◌∷◌, ◌++◌, Result, Ok, Err, sym, subst, refl, ◌∙◌}
+use Rattle.std.specs.Global.{Vec}
+use Rattle.rv_ledger.specs.Key.{Storage}
+use Rattle.rv_ledger.specs.Call.{Invocation}
+use Rattle.rv_ledger.specs.declared.receipt.Receipt.{Receipt}
+use Rattle.rv_step.specs.Fold.{store_after, store_after_call}
+use Rattle.workers.specs.declared.chain.ChainFault.{ChainFault}
+use Rattle.workers.specs.Chain.{IsBlockAnswer, IsChain, calls_run, store_left}
+
+-- no block leaves the storage
+pub no_blocks : (store : Storage) → IsChain store [] [] store
+unfolding IsChain
+no_blocks store = refl
+
+-- blocks after blocks
+chain_append : (blocks more : List (Vec Invocation × ℕ)) (answers others : List (Result (Vec Receipt) ChainFault)) (store middle last : Storage)
+    → IsChain store blocks answers middle → IsChain middle more others last → IsChain store (blocks ++ more) (answers ++ others) last
+unfolding IsChain
+chain_append [] more [] others store middle last first then = subst (λ (s : Storage). IsChain s more others last) first then
+chain_append [] more (answer ∷ answers) others store middle last first then = absurd first
+chain_append (block ∷ blocks) more [] others store middle last first then = absurd first
+chain_append (block ∷ blocks) more (answer ∷ answers) others store middle last first then =
+    (first.0, chain_append blocks more answers others (store_left store block.0.items answer) middle last first.1 then)
+
+-- one block more
+pub one_block_more : (blocks : List (Vec Invocation × ℕ)) (answers : List (Result (Vec Receipt) ChainFault)) (store middle last : Storage) (calls : Vec Invocation) (workers : ℕ)
+    (answer : Result (Vec Receipt) ChainFault) → IsChain store blocks answers middle → IsBlockAnswer middle calls.items workers answer
+    → last ≡ store_left middle calls.items answer → IsChain store (blocks ++ (calls, workers) ∷ []) (answers ++ answer ∷ []) last
+unfolding IsChain
+one_block_more blocks answers store middle last calls workers answer first fits left =
+    chain_append blocks ((calls, workers) ∷ []) answers (answer ∷ []) store middle last first (fits, left)
+
+-- calls after calls
+after_append : (first rest : List Invocation) (store : Storage) → store_after (first ++ rest) store ≡ store_after rest (store_after first store)
+unfolding store_after
+after_append [] rest store = refl
+after_append (call ∷ calls) rest store = after_append calls rest (store_after_call call store)
+
+-- the last storage is the one after all calls of the blocks answered Ok
+pub chain_store : (blocks : List (Vec Invocation × ℕ)) (answers : List (Result (Vec Receipt) ChainFault)) (store last : Storage)
+    → IsChain store blocks answers last → last ≡ store_after (calls_run blocks answers) store
+unfolding IsChain calls_run store_after
+chain_store [] [] store last chain = chain
+chain_store [] (answer ∷ answers) store last chain = absurd chain
+chain_store (block ∷ blocks) [] store last chain = absurd chain
+chain_store (block ∷ blocks) (Ok receipts ∷ answers) store last chain =
+    chain_store blocks answers (store_after block.0.items store) last chain.1 ∙ sym (after_append block.0.items (calls_run blocks answers) store)
+chain_store (block ∷ blocks) (Err fault ∷ answers) store last chain = chain_store blocks answers store last chain.1

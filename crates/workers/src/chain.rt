@@ -1,0 +1,123 @@
+//! Blocks run one after another, each over the storage that the last one answered Ok left.
+
+use crate::executor::{Executor, run_over};
+use crate::fault::RunFault;
+use crate::gate::Open;
+use rv_ledger::job::CALL_LIMIT;
+use rv_ledger::{Call, Job, Outcome, Receipt, Store};
+use std::alloc::{AllocError, Global};
+use std::sync::Wait;
+use std::thread::Threads;
+use std::{fmt, mem};
+use stm_core::WORKER_LIMIT;
+use thiserror::Error;
+use version_arena::Arena;
+
+/// Why a block of a chain comes to no receipts.
+#[derive(Clone, Copy, Debug, PartialEq, Eq, Error)]
+pub enum ChainFault {
+    /// Its run was refused.
+    Run(RunFault),
+    /// There are more than 1,024 calls.
+    TooManyCalls,
+}
+
+impl fmt::Display for ChainFault {
+    ghost use Rattle.std.specs.Prelude.{Some};
+    ghost use Rattle.workers.specs.Faults.{chain_fault_text};
+
+    ghost output = { λ fault. Some (chain_fault_text fault) };
+
+    /// The name and the number.
+    fn fmt<W: fmt::Write>(&self, f: &mut fmt::Formatter<W>) -> fmt::Result {
+        match self {
+            ChainFault::Run(fault) => fault.fmt(f),
+            ChainFault::TooManyCalls => f.write_str("TooManyCalls 8"),
+        }
+    }
+}
+
+/// What running a chain of blocks leaves.
+#[derive(Drop)]
+pub struct Chain {
+    /// The answer to each block, in their order: the receipts of its calls, or why there are none.
+    pub blocks: Vec<Result<Vec<Receipt>, ChainFault>>,
+    /// The storage after the last block answered Ok.
+    pub store: Store,
+}
+
+impl Executor {
+    ghost use Rattle.std.specs.Prelude.{◌≡◌, IfOk};
+    ghost use Rattle.rv_step.specs.Fold.{store_after};
+    ghost use Rattle.workers.specs.Chain.{IsBlockAnswer, IsChain, calls_run, store_left};
+
+    /// Runs blocks in their order, each with its number of workers, each over the storage that the last block
+    /// answered Ok left. A block of more than 1,024 calls is answered TooManyCalls, before its number of
+    /// workers is looked at; any other as `run_block` answers. A refused block leaves the storage as it was,
+    /// and the chain goes on. Refused where memory ran out before the first block; then none is run.
+    #[tactic(auto, using(crate::proofs::Chains::no_blocks, crate::proofs::Chains::one_block_more, crate::proofs::Chains::chain_store))]
+    pub fn run_chain<R: Threads + Wait + Sync>(
+        &mut self,
+        rt: &R,
+        alloc: Global,
+        store: Store,
+        blocks: Vec<(Vec<Call>, usize)>,
+    ) -> Result<Chain, AllocError>
+        ensures chain { IfOk result (λ chain. IsChain store blocks.items chain.blocks.items chain.store) }
+        ensures store { IfOk result (λ chain. chain.store ≡ store_after (calls_run blocks.items chain.blocks.items) store) }
+    {
+        let mut answers = Vec::with_capacity(alloc, blocks.len())?;
+        let mut left = store;
+        for block in blocks {
+            let (calls, workers) = block;
+            let (answer, after) = self.run_next_block(rt, alloc, left, calls, workers);
+            answers.push_reserved(answer);
+            left = after;
+        }
+        Ok(Chain {
+            blocks: answers,
+            store: left,
+        })
+    }
+
+    /// Runs one block of a chain over a storage. Gives its answer, and the storage that it leaves.
+    fn run_next_block<R: Threads + Wait + Sync>(
+        &mut self,
+        rt: &R,
+        alloc: Global,
+        store: Store,
+        calls: Vec<Call>,
+        workers: usize,
+    ) -> (Result<Vec<Receipt>, ChainFault>, Store)
+        ensures answer { IsBlockAnswer store calls.items workers result.0 }
+        ensures left { result.1 ≡ store_left store calls.items result.0 }
+    {
+        if calls.len() > CALL_LIMIT {
+            return (Err(ChainFault::TooManyCalls), store);
+        }
+        if workers == 0 || workers > WORKER_LIMIT {
+            return (Err(ChainFault::Run(RunFault::BadCount)), store);
+        }
+        let Ok(job) = Job::new(calls, store) else {
+            unreachable!()
+        };
+        let arena = mem::replace(&mut self.arena, Arena::new(alloc));
+        let (answer, arena) = run_over(rt, alloc, arena, &job, workers, &Open);
+        self.arena = arena;
+        match answer {
+            Ok(outcome) => {
+                let Outcome {
+                    job: _,
+                    receipts,
+                    store,
+                    counts: _,
+                } = outcome;
+                (Ok(receipts), store)
+            }
+            Err(fault) => {
+                let Job { block: _, store } = job;
+                (Err(ChainFault::Run(fault)), store)
+            }
+        }
+    }
+}

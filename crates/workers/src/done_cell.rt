@@ -1,0 +1,101 @@
+//! The cell of a block, at which idle workers look outside the lock: whether an asking was answered Done.
+
+ghost use Rattle.std.specs.Prelude.{◌≡◌, ◌≤◌, slice_index};
+ghost use Rattle.workers.specs.DoneCell.{IsOneWay, IsSeen};
+
+use crossbeam_utils::atomic::seq_cell::{Pass, RuledSeqCell};
+use crossbeam_utils::rule::{Outcome, Protocol};
+use std::alloc::{AllocError, Global};
+use std::hint::spin_loop;
+use std::sync::Wait;
+use std::thread::yield_now;
+
+/// How often an idle worker looks at the cell before it asks for work again.
+pub const LOOK_LIMIT: usize = 64;
+
+/// What the cell shows while its block runs.
+const RUNNING: u64 = 0;
+
+/// What the cell shows once the block is done.
+const DONE: u64 = 1;
+
+/// The rule of the cell: running or done, and no way back from done. A pass knows what it saw last.
+pub struct OneWay;
+
+impl Protocol<[u64; 1], u64> for OneWay {
+    ghost holds = { IsOneWay };
+
+    ghost first = { 0 };
+}
+
+/// After a call the pass has seen what the cell shows, and it is no less than what it had seen before.
+struct Sees;
+
+impl Outcome<[u64; 1], u64> for Sees {
+    ghost then = { IsSeen };
+}
+
+/// A worker's pass of the cell. It takes no room.
+pub type DonePass = Pass<[u64; 1], u64>;
+
+/// A cell that shows whether its block is done.
+#[derive(Drop)]
+pub struct DoneCell {
+    cell: RuledSeqCell<[u64; 1], u64, OneWay, 1>,
+}
+
+impl DoneCell {
+    ghost use Rattle.std.specs.Prelude.{◌≡◌, ◌↔◌, true, IfOk};
+    ghost use Rattle.crossbeam_utils.specs.Seq.{IsSamePass, cell_view};
+    ghost use Rattle.workers.specs.DoneCell.{IsPassOf};
+
+    /// A cell that shows running; refused where memory ran out.
+    pub fn new(alloc: Global) -> Result<DoneCell, AllocError> {
+        let (cell, _) = RuledSeqCell::<[u64; 1], u64, OneWay, 1>::ruled(alloc, [RUNNING])?;
+        Ok(DoneCell { cell })
+    }
+
+    /// A pass that has seen running.
+    #[tactic(auto, using(crate::proofs::Ways::admits))]
+    pub fn pass(&self) -> DonePass
+        ensures cell { IsPassOf self.now result }
+        ensures seen { cell_view result ≡ 0 }
+    {
+        self.cell.pass()
+    }
+
+    /// Whether the cell shows done. A pass that has seen done sees done at every later look.
+    #[tactic(auto, using(crate::proofs::Ways::looks))]
+    pub fn shows_done<R: Wait>(&self, rt: &R, pass: &mut DonePass) -> bool
+        requires cell { IsPassOf self.now pass.old }
+        ensures cell { IsSamePass pass.old pass.new }
+        ensures stays { cell_view pass.old ≡ 1 → result ≡ true }
+        ensures told { (result ≡ true) ↔ (cell_view pass.new ≡ 1) }
+    {
+        self.cell.load_as::<Sees, R>(rt, pass)[0] == DONE
+    }
+
+    /// Writes done into the cell.
+    #[tactic(auto, using(crate::proofs::Ways::ends))]
+    pub fn set_done<R: Wait>(&self, rt: &R, pass: &mut DonePass)
+        requires cell { IsPassOf self.now pass.old }
+        ensures cell { IsSamePass pass.old pass.new }
+        ensures told { cell_view pass.new ≡ 1 }
+    {
+        let _ = self.cell.swap_as::<Sees, R>(rt, pass, [DONE]);
+    }
+
+    /// Looks at the cell until it shows done, at most 64 times, and then lets another thread run.
+    pub(crate) fn look<R: Wait>(&self, rt: &R, pass: &mut DonePass)
+        requires cell { IsPassOf self.now pass.old }
+        ensures cell { IsSamePass pass.old pass.new }
+    {
+        for _ in 0..LOOK_LIMIT {
+            if self.shows_done(rt, pass) {
+                return;
+            }
+            spin_loop();
+        }
+        yield_now();
+    }
+}
