@@ -1,7 +1,7 @@
 //! Bytes side by side.
 
 ghost use Rattle.std.specs.Prelude.{◌≡◌, ◌+◌, ◌≤◌, length};
-ghost use Rattle.elf32.specs.Pages.{over, zeros};
+ghost use Rattle.elf32.specs.Pages.{over};
 
 /// Writes `new` over the bytes from the place `at` on.
 #[inline(always)]
@@ -12,12 +12,4 @@ pub fn put(bytes: &mut [u8], at: usize, new: &[u8])
     ensures len { length bytes.new ≡ length bytes.old }
 {
     bytes[at..at + new.len()].copy_from_slice(new);
-}
-
-/// N zeros.
-#[tactic(auto, unfolding(crate::specs::Pages::zeros))]
-pub fn zeros<const N: usize>() -> [u8; N]
-    ensures { result ≡ zeros N }
-{
-    [0; N]
 }

@@ -7,6 +7,8 @@ mod ecalls_calls;
 #[cfg(test)]
 mod elf32_calls;
 #[cfg(test)]
+mod program_file;
+#[cfg(test)]
 mod rv_ledger_calls;
 #[cfg(test)]
 mod rv_mem_calls;

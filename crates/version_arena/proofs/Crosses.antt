@@ -1,4 +1,4 @@
--- The parts of a chunk may cross threads, a deed as its allocator may.
+-- The parts of a chunk may cross threads, a allocation as its allocator may.
 use Rattle.std.specs.Prelude.{ℕ, ◌+◌, List, [], ◌∷◌}
 use base.Fraction.{full_share}
 use base.Shift.{Keyless}
@@ -11,9 +11,9 @@ use denote.Struct.Struct.{exits_of}
 use denote.Struct.Owning.{shape, fields, to}
 use denote.Param.Send.{IsSend, IsSync, Quiet, Common, Frees, AllSend, part_keyless, owning_send, struct_send, struct_sync, sendable}
 use Rattle.std.specs.declared.alloc.Allocator.{Ghosts}
-use Rattle.version_arena.specs.Ownership.{run, bytes_own, bytes_lent}
+use Rattle.version_arena.specs.Ownership.{bytes_at, bytes_own, bytes_lent}
 use Rattle.version_arena.specs.contracts.raw.Bytes as Bytes
-use Rattle.version_arena.specs.contracts.raw.Deed as Deed
+use Rattle.version_arena.specs.contracts.raw.Allocation as Allocation
 
 quiet : {D X : Type 0} (to : D → X) (e : Exit X) → Quiet e → Quiet (hidden (under to e))
 quiet to unchanged q = λ x w. tt
@@ -25,16 +25,16 @@ byte-send = search sendable
 byte-sync : IsSync u8
 byte-sync = search sendable
 
-run-Keyless : (b o : ℕ) (xs : List ℕ) → Keyless (run b o xs)
-run-Keyless b o [] = tt
-run-Keyless b o (x ∷ xs) = (part_keyless u8 byte-send full_share x b o, run-Keyless b (o + 1) xs)
+bytes_at-Keyless : (b o : ℕ) (xs : List ℕ) → Keyless (bytes_at b o xs)
+bytes_at-Keyless b o [] = tt
+bytes_at-Keyless b o (x ∷ xs) = (part_keyless u8 byte-send full_share x b o, bytes_at-Keyless b (o + 1) xs)
 
 elements-Common : (b o : ℕ) (xs : List ℕ) → Common (elements_shared u8 xs b o)
 elements-Common b o [] κ = tt
 elements-Common b o (x ∷ xs) κ = (byte-sync.shared x b o κ, elements-Common b (o + 1) xs κ)
 
 bytes-Keyless : (p : Ptr) (xs : List ℕ) (n : ℕ) → Keyless (bytes_own p xs n)
-bytes-Keyless (block_ptr b o) xs n = (tt, (run-Keyless b o xs, tt))
+bytes-Keyless (block_ptr b o) xs n = (tt, (bytes_at-Keyless b o xs, tt))
 bytes-Keyless null_ptr xs n = tt
 
 bytes-Common : (p : Ptr) (xs : List ℕ) (n : ℕ) → Common (bytes_lent p xs n)
@@ -52,10 +52,10 @@ Bytes-sync =
     record { shared = λ d b o κ. ((struct_sync (shape O) tt).shared (to O d) b o κ, bytes-Common d.at d.bytes d.room κ) }
 
 module _ (A : RattleType) (g : Ghosts A.Denot) where
-  pub Deed-send : IsSend A → Frees g g.dealloc_token → IsSend (Deed.the_row A g)
-  Deed-send s f =
-      let O = Deed.the_type A g in let all : AllSend (fields O) = (search sendable, tt) in
+  pub Allocation-send : IsSend A → Frees g g.dealloc_token → IsSend (Allocation.the_row A g)
+  Allocation-send s f =
+      let O = Allocation.the_type A g in let all : AllSend (fields O) = (search sendable, tt) in
       owning_send O all (λ d. f.frees d.alloc _ d.at) (λ k. quiet (to O) (exits_of k (fields O)) ((struct_send (shape O) all).leaving k))
 
-  pub Deed-sync : IsSync (Deed.the_row A g)
-  Deed-sync = let O = Deed.the_type A g in record { shared = λ d b o κ. ((struct_sync (shape O) (search sendable, tt)).shared (to O d) b o κ, tt) }
+  pub Allocation-sync : IsSync (Allocation.the_row A g)
+  Allocation-sync = let O = Allocation.the_type A g in record { shared = λ d b o κ. ((struct_sync (shape O) (search sendable, tt)).shared (to O d) b o κ, tt) }

@@ -14,9 +14,9 @@ abbrev pub bytes_type : ℕ → Ty
 bytes_type n = ty_array (ty_int w8) n
 
 -- written bytes side by side, the first of them o bytes into the block b
-abbrev pub run : ℕ → ℕ → List ℕ → Fml
-run b o [] = ftrue
-run b o (x ∷ xs) = fsep (part_at u8 full_share x b o) (run b (o + 1) xs)
+abbrev pub bytes_at : ℕ → ℕ → List ℕ → Fml
+bytes_at b o [] = ftrue
+bytes_at b o (x ∷ xs) = fsep (part_at u8 full_share x b o) (bytes_at b (o + 1) xs)
 
 -- the bytes together are fewer than 2 ^ 63
 abbrev pub fit : List ℕ → ℕ → Fml
@@ -24,7 +24,7 @@ fit xs n = flt (length xs + n) (2 ^ 63)
 
 -- written bytes, and room for n more behind them
 abbrev pub bytes_own : Ptr → List ℕ → ℕ → Fml
-bytes_own (block_ptr b o) xs n = fsep (fit xs n) (fsep (run b o xs) (froom (bytes_type n) b (o + length xs)))
+bytes_own (block_ptr b o) xs n = fsep (fit xs n) (fsep (bytes_at b o xs) (froom (bytes_type n) b (o + length xs)))
 bytes_own null_ptr xs n = ffalse
 
 -- the written bytes, lent
@@ -33,5 +33,5 @@ bytes_lent (block_ptr b o) xs n = beside (said (fit xs n)) (elements_shared u8 x
 bytes_lent null_ptr xs n = said ffalse
 
 -- the allocator's token for a block of n bytes
-abbrev pub deed_owns : (Ty → Ptr → Fml) → Ptr → ℕ → Fml
-deed_owns token p n = token (bytes_type n) p
+abbrev pub allocation_owns : (Ty → Ptr → Fml) → Ptr → ℕ → Fml
+allocation_owns token p n = token (bytes_type n) p

@@ -3,15 +3,15 @@
 ghost use Rattle.std.specs.Prelude.{◌≡◌, ◌+◌, ◌^◌, ◌<◌, ◌≤◌, ◌++◌, ◌∷◌, [], IfOk, drop, length, take};
 ghost use Rattle.version_arena.specs.Chunks.{empty_chunk, free};
 
-use crate::raw::{Base, Bytes, Deed, allocate, deallocate};
+use crate::raw::{Allocation, BaseAddress, Bytes, allocate, deallocate};
 use std::alloc::{AllocError, Global};
 use std::marker::Model;
 
 /// A block of `size` bytes, of which the first `used` are in use.
 pub(crate) struct Chunk {
-    base: Base,
+    base: BaseAddress,
     bytes: Bytes,
-    deed: Deed<Global>,
+    allocation: Allocation<Global>,
     used: usize,
     size: usize,
     alloc: Global,
@@ -25,7 +25,7 @@ impl Model for Chunk {
 
     ghost view = { λ c. record { bytes = c.bytes.bytes; size = c.size } };
 
-    ghost invariant = { λ c. (c.bytes.at ≡ c.base.ptr) × (length c.bytes.bytes ≡ c.used) × (c.used + c.bytes.room ≡ c.size) × (c.deed.at ≡ c.base.ptr) × (c.deed.size ≡ c.size) × (c.deed.alloc ≡ c.alloc) };
+    ghost invariant = { λ c. (c.bytes.at ≡ c.base.ptr) × (length c.bytes.bytes ≡ c.used) × (c.used + c.bytes.room ≡ c.size) × (c.allocation.at ≡ c.base.ptr) × (c.allocation.size ≡ c.size) × (c.allocation.alloc ≡ c.alloc) };
 }
 
 impl Chunk {
@@ -34,11 +34,11 @@ impl Chunk {
         requires { size < 2 ^ 63 }
         ensures { IfOk result (λ c. c ≡ empty_chunk size) }
     {
-        let (base, bytes, deed) = allocate(&alloc, size)?;
+        let (base, bytes, allocation) = allocate(&alloc, size)?;
         Ok(Chunk {
             base,
             bytes,
-            deed,
+            allocation,
             used: 0,
             size,
             alloc,
@@ -104,12 +104,12 @@ impl Drop for Chunk {
         let Chunk {
             base,
             mut bytes,
-            deed,
+            allocation,
             used: _,
             size,
             alloc,
         } = self;
         bytes.clear();
-        deallocate(&alloc, base, size, bytes, deed);
+        deallocate(&alloc, base, size, bytes, allocation);
     }
 }

@@ -3,32 +3,32 @@
 ghost use Rattle.std.specs.Prelude.{◌≡◌, ℕ, ◌+◌, ◌<◌, ◌^◌, List, [], ◌∷◌, ◌++◌, length, IfOk, ⊤};
 ghost use base.Fml.{ftrue};
 ghost use denote.RawPtr.{Ptr};
-ghost use Rattle.version_arena.specs.Ownership.{bytes_own, bytes_lent, deed_owns};
+ghost use Rattle.version_arena.specs.Ownership.{bytes_own, bytes_lent, allocation_owns};
 
 use std::alloc::{AllocError, Allocator};
 use std::marker::{Model, PhantomData, Send, Sync};
 use std::slice;
 
 /// Where a block begins. It owns nothing.
-pub(crate) struct Base {
+pub(crate) struct BaseAddress {
     ptr: *mut u8,
 }
 
-impl Clone for Base {
+impl Clone for BaseAddress {
     ghost is_clone = { λ x y. y ≡ x };
 
     ghost is_infallible = { λ _. ⊤ };
 
-    fn clone(&self) -> Result<Base, AllocError> {
+    fn clone(&self) -> Result<BaseAddress, AllocError> {
         Ok(*self)
     }
 }
 
-impl Copy for Base {}
+impl Copy for BaseAddress {}
 
-unsafe impl Send for Base {}
+unsafe impl Send for BaseAddress {}
 
-unsafe impl Sync for Base {}
+unsafe impl Sync for BaseAddress {}
 
 /// The owner of a block's memory: the written bytes from `at` on, and room for `room` more behind
 /// them. It takes no space.
@@ -49,36 +49,36 @@ unsafe impl Send for Bytes {}
 unsafe impl Sync for Bytes {}
 
 /// The right to give the block of `size` bytes at `at` back to `alloc`. It takes no space.
-pub(crate) struct Deed<A: Allocator> {
+pub(crate) struct Allocation<A: Allocator> {
     mark: PhantomData<A>,
     ghost at: { Ptr },
     ghost size: { ℕ },
     ghost alloc: { A },
 }
 
-impl<A: Allocator> Model for Deed<A> {
-    ghost also_owns = { λ d. deed_owns (A.dealloc_token d.alloc) d.at d.size };
+impl<A: Allocator> Model for Allocation<A> {
+    ghost also_owns = { λ d. allocation_owns (A.dealloc_token d.alloc) d.at d.size };
 
     ghost also_shares = { λ _ _ _. ftrue };
 }
 
-unsafe impl<A: Allocator + Send> Send for Deed<A> {}
+unsafe impl<A: Allocator + Send> Send for Allocation<A> {}
 
 // A `&` to it holds nothing.
-unsafe impl<A: Allocator> Sync for Deed<A> {}
+unsafe impl<A: Allocator> Sync for Allocation<A> {}
 
 /// Takes a block of `size` bytes, none of them written; refused where memory ran out.
 pub(crate) fn allocate<A: Allocator>(
     alloc: &A,
     size: usize,
-) -> Result<(Base, Bytes, Deed<A>), AllocError>
+) -> Result<(BaseAddress, Bytes, Allocation<A>), AllocError>
     requires { size < 2 ^ 63 }
     ensures { IfOk result (λ r. (r.1.at ≡ r.0.ptr) × (r.1.bytes ≡ []) × (r.1.room ≡ size) × (r.2.at ≡ r.0.ptr) × (r.2.size ≡ size) × (r.2.alloc ≡ alloc.now)) }
 {
     match alloc.allocate(size, 1) {
         Ok(ptr) => {
             let mark = PhantomData;
-            Ok((Base { ptr }, Bytes {}, Deed { mark }))
+            Ok((BaseAddress { ptr }, Bytes {}, Allocation { mark }))
         }
         Err(error) => Err(error),
     }
@@ -87,21 +87,21 @@ pub(crate) fn allocate<A: Allocator>(
 /// Gives a block with no written byte back.
 pub(crate) fn deallocate<A: Allocator>(
     alloc: &A,
-    base: Base,
+    base: BaseAddress,
     size: usize,
     bytes: Bytes,
-    deed: Deed<A>,
+    allocation: Allocation<A>,
 )
-    requires { (bytes.at ≡ base.ptr) × (bytes.bytes ≡ []) × (bytes.room ≡ size) × (deed.at ≡ base.ptr) × (deed.size ≡ size) × (deed.alloc ≡ alloc.now) }
+    requires { (bytes.at ≡ base.ptr) × (bytes.bytes ≡ []) × (bytes.room ≡ size) × (allocation.at ≡ base.ptr) × (allocation.size ≡ size) × (allocation.alloc ≡ alloc.now) }
 {
     let Bytes {} = bytes;
-    let Deed { mark: _ } = deed;
+    let Allocation { mark: _ } = allocation;
     unsafe { alloc.deallocate(base.ptr, size, 1) }
 }
 
 impl Bytes {
     /// Writes a byte behind the written ones.
-    pub(crate) fn put(&mut self, base: Base, at: usize, byte: u8)
+    pub(crate) fn put(&mut self, base: BaseAddress, at: usize, byte: u8)
         requires { (base.ptr ≡ self.old.at) × (at ≡ length self.old.bytes) × (0 < self.old.room) }
         ensures { (self.new.at ≡ self.old.at) × (self.new.bytes ≡ self.old.bytes ++ byte ∷ []) × (self.new.room + 1 ≡ self.old.room) }
     {
@@ -109,7 +109,7 @@ impl Bytes {
     }
 
     /// Lends the written bytes, of which there are `len`.
-    pub(crate) fn lend(&self, base: Base, len: usize) -> &[u8]
+    pub(crate) fn lend(&self, base: BaseAddress, len: usize) -> &[u8]
         requires { (base.ptr ≡ self.now.at) × (len ≡ length self.now.bytes) }
         ensures { result.now ≡ self.now.bytes }
     {

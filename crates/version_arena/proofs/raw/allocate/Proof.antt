@@ -36,9 +36,9 @@ use denote.Triple.Walked.{Stays, stay_dropped, walk_of, Goes-dropped}
 use Rattle.std.specs.contracts.alloc.AllocError as refusal
 use Rattle.version_arena.specs.Ownership.{bytes_type}
 use Rattle.version_arena.proofs.Walks.{slot_at, then_runs, base_val, base_own, base_made, bytes_val, bytes_fields, bytes_made, deed_val, deed_fields, deed_made, three_val, three_of}
-use Rattle.version_arena.specs.contracts.raw.Base as base_type
+use Rattle.version_arena.specs.contracts.raw.BaseAddress as base_type
 use Rattle.version_arena.specs.contracts.raw.Bytes as bytes_row
-use Rattle.version_arena.specs.contracts.raw.Deed as deed_row
+use Rattle.version_arena.specs.contracts.raw.Allocation as allocation_row
 use Rattle.version_arena.specs.contracts.raw.allocate.{ended, clauses}
 use Rattle.version_arena.specs.contracts.raw.allocate.Key.{name as #self}
 use Rattle.version_arena.proofs.raw.allocate.Statement.{statement}
@@ -68,7 +68,7 @@ allocate_spec 𝓤 𝓛 𝓜 𝓡 wired A L g d dd met md =
     let n = a.1.0 in
     let τ : Ty = bytes_type n in
     let y = at_takes Y 𝓛 𝓜.mem 𝓡.returns κ q at h n 1 τ in
-    let B = base_type.the_row in let R = bytes_row.the_row in let D = deed_row.the_row Z g in
+    let B = base_type.the_row in let R = bytes_row.the_row in let D = allocation_row.the_row Z g in
     let Three : RattleType = Tuple (B ∷ R ∷ D ∷ []) in
     let Out : RattleType = type_at T.signature.result z.0.0 in
     let Asked : Type 0 = n < 2 ^ 63 in
@@ -89,7 +89,7 @@ allocate_spec 𝓤 𝓛 𝓜 𝓡 wired A L g d dd met md =
     let p : Ptr = block_ptr b o in
     let base : B.Denot = record { ptr = p } in
     let bytes : R.Denot = record { at = p; bytes = []; room = n } in
-    let deed : D.Denot = record { mark = record {}; at = p; size = n; alloc = h } in
+    let allocation : D.Denot = record { mark = record {}; at = p; size = n; alloc = h } in
     let made : Val = three_val (base_val p) bytes_val deed_val in
     let typed : Good (layout Three) made = (tt, ((tt, tt), (tt, ((tt, tt), tt)))) in
     let ok = first_Good (layout Three) made typed in
@@ -110,11 +110,11 @@ allocate_spec 𝓤 𝓛 𝓜 𝓡 wired A L g d dd met md =
     use0 𝓛 (‵ (bytes_fields (bytes_val ∷ []))) (bytes_made 𝓛) $ fjoin ! $ move ! (1 ∷ []) $
     use0 𝓛 (‵ (deed_fields (deed_val ∷ []))) (deed_made 𝓛) $ fjoin ! $ move ! (1 ∷ 0 ∷ []) $
     use0 𝓛 (‵ (base_own p (base_val p ∷ []))) (base_made 𝓛 p) $
-    use3 𝓛 (‵ (Three.own_val (base, bytes, deed) (made ∷ []))) (three_of 𝓛 B R D base bytes deed (base_val p) bytes_val deed_val) $
-    use1 𝓛 (‵ (Out.own_val (Ok (base, bytes, deed)) (live 0 (vcons made vnil) ∷ []))) (ok_of 𝓛 Three refusal.the_row (base, bytes, deed) made) $
+    use3 𝓛 (‵ (Three.own_val (base, bytes, allocation) (made ∷ []))) (three_of 𝓛 B R D base bytes allocation (base_val p) bytes_val deed_val) $
+    use1 𝓛 (‵ (Out.own_val (Ok (base, bytes, allocation)) (live 0 (vcons made vnil) ∷ []))) (ok_of 𝓛 Three refusal.the_row (base, bytes, allocation) made) $
     let Said : Type 0 = (p ≡ p) × (none ≡ none) × (n ≡ n) × (p ≡ p) × (n ≡ n) × (h ≡ h) in
     use0 𝓛 (raw (fact 𝓤 Said)) (fact_i 𝓤 Said (emp 𝓤) (refl, refl, refl, refl, refl, refl)) $ nothing ! $ nothing ! $ fjoin ! $ nothing ! $ fjoin ! $ move ! (3 ∷ 0 ∷ 2 ∷ 1 ∷ []) $
-    by ! (leaves 𝓛 T stays c z (live 0 (vcons made vnil)) (Ok (base, bytes, deed)) (tt, (tt, tt)) (tt, (tt, tt))))
+    by ! (leaves 𝓛 T stays c z (live 0 (vcons made vnil)) (Ok (base, bytes, allocation)) (tt, (tt, tt)) (tt, (tt, tt))))
     (λ e. join ! $
     let Refusal : RattleType = Struct (Declared.shape refusal.the_type) in
     let none : Val = live 1 (vcons (vstruct vnil) vnil) in

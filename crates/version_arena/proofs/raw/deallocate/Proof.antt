@@ -29,8 +29,8 @@ use denote.Triple.Table.{framed}
 use denote.Triple.Walked.{Stays, stay_dropped, walk_of, Goes-dropped}
 use Rattle.version_arena.specs.Ownership.{bytes_type, bytes_own}
 use Rattle.version_arena.proofs.Walks.{slot_at, then_runs, out_of_block, base_val, bytes_val, bytes_told, deed_val, deed_told}
-use Rattle.version_arena.specs.contracts.raw.Base as base_type
-use Rattle.version_arena.proofs.raw.Base.TheLaws as base_laws
+use Rattle.version_arena.specs.contracts.raw.BaseAddress as base_type
+use Rattle.version_arena.proofs.raw.BaseAddress.TheLaws as base_laws
 use Rattle.version_arena.specs.contracts.raw.deallocate.{ended, clauses}
 use Rattle.version_arena.specs.contracts.raw.deallocate.Key.{name as #self}
 use Rattle.version_arena.proofs.raw.deallocate.Statement.{statement}
@@ -77,16 +77,16 @@ deallocate_spec 𝓤 𝓛 𝓜 𝓡 wired A L g d dd met md =
     let base = a.1.0 in
     let n = a.1.1.0 in
     let bytes = a.1.1.1.0 in
-    let deed = a.1.1.1.1.0 in
+    let allocation = a.1.1.1.1.0 in
     let fits : n < 2 ^ 64 = are.1.1.0.1 in
     let τ : Ty = bytes_type n in
     let none : List ℕ = [] in
-    let Asked : Type 0 = (bytes.at ≡ base.ptr) × (bytes.bytes ≡ none) × (bytes.room ≡ n) × (deed.at ≡ base.ptr) × (deed.size ≡ n) × (deed.alloc ≡ h) in
+    let Asked : Type 0 = (bytes.at ≡ base.ptr) × (bytes.bytes ≡ none) × (bytes.room ≡ n) × (allocation.at ≡ base.ptr) × (allocation.size ≡ n) × (allocation.alloc ≡ h) in
     qed 𝓛 ((raw (alive 𝓛 T.signature z.0.0 z.0.1) ⊛ ‵ (owns (types_at T.signature.params z.0.0) a vss)) ∷ (raw (fact 𝓤 (z.0.0.1.0 ⊑ A.lives)) ⊛ raw (fact 𝓤 Asked)) ∷ []) ∵
     move ! (1 ∷ []) $ split ! $ heard ! (z.0.0.1.0 ⊑ A.lives) (λ le. heard ! Asked (λ asked. split ! $ move ! (1 ∷ []) $
     fsplit ! $ fsplit ! $ drop ! $ use1 𝓛 (‵ (seen Y κ handle h)) (id⊢ 𝓤 _) $ move ! (1 ∷ []) $
     fsplit ! $ drop ! $ fsplit ! $ drop ! $ fsplit ! $ fsplit ! $ drop ! $
-    -- [the bytes; the deed; the handle; what is alive]
+    -- [the bytes; the allocation; the handle; what is alive]
     rewrite ! 0 (λ (u : Ptr × List ℕ × ℕ). ‵ (bytes_own u.0 u.1 u.2)) (λ i. (asked.0 i, asked.1 i, asked.2 i)) refl $
     in_a_block ! base.ptr (λ p. bytes_own p none n) (id⊢ 𝓤 (never 𝓤)) (λ b o e. fsplit ! $ flt_l ! (λ small. fsplit ! $ drop ! $
     let start : o + length none ≡ o = omega arith in

@@ -29,8 +29,8 @@ use denote.Struct.Laws as struct_law
 use denote.Triple.Walked.{Stays, walk_of, says, stay_dropped, Goes-dropped, ends_at}
 use Rattle.version_arena.specs.Ownership.{bytes_lent}
 use Rattle.version_arena.specs.contracts.raw.Bytes as bytes
-use Rattle.version_arena.specs.contracts.raw.Base as base_type
-use Rattle.version_arena.proofs.raw.Base.TheLaws as base_laws
+use Rattle.version_arena.specs.contracts.raw.BaseAddress as base_type
+use Rattle.version_arena.proofs.raw.BaseAddress.TheLaws as base_laws
 use Rattle.version_arena.specs.contracts.raw.Bytes.lend as f
 use Rattle.version_arena.proofs.raw.Bytes.lend.Statement.{statement}
 use Rattle.version_arena.proofs.raw.Bytes.lend.Code as code

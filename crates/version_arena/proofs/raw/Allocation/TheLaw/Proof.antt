@@ -1,4 +1,4 @@
--- A `&` to a deed holds nothing. Assumes `Logic`.
+-- A `&` to a allocation holds nothing. Assumes `Logic`.
 use denote.RattleType.{RattleType}
 use denote.Param.Laws.{Laws}
 use denote.Param.Shared.{copy_shared}
@@ -7,8 +7,8 @@ use denote.Struct.Laws.{field_copy}
 use denote.Struct.Lending.{of_Lends, Lends-nothing}
 use Rattle.std.specs.declared.alloc.Allocator.{Ghosts}
 use Rattle.std.specs.contracts.marker.PhantomData as marker
-use Rattle.version_arena.specs.contracts.raw.Deed as D
-use Rattle.version_arena.proofs.raw.Deed.TheLaw.Statement.{statement}
+use Rattle.version_arena.specs.contracts.raw.Allocation as D
+use Rattle.version_arena.proofs.raw.Allocation.TheLaw.Statement.{statement}
 
 pub shares : (A : RattleType) (g : Ghosts A.Denot) (P : Laws A) → statement A g P
 shares A g P =
