@@ -32,7 +32,7 @@ fn disk_of_echo(alloc: Global) -> io::Result<Stored> {
     stored.put(alloc, "echo.s", ECHO_SOURCE.as_bytes())?;
     stored.put(alloc, "echo.block", BLOCK.as_bytes())?;
     stored.put(alloc, "wrong.block", b"rvblock 2\n")?;
-    stored.put(alloc, "one.schedule", b"0\n0\n0\n0\n")?;
+    stored.put(alloc, "one.schedule", b"0\n0\n0\n0\n0\n")?;
     stored.put(alloc, "short.schedule", b"0\n")?;
     stored.put(
         alloc,

@@ -220,7 +220,7 @@ fn coarse_one_share_alone(rt: HostRuntime) -> Result<(), Fail> {
         assert!(rt; first < shares.len());
         let alone = work(&rt, alloc, &shared, shares.remove(first), &Open)?;
         assert_eq!(rt; alone.worker(), first);
-        assert_eq!(rt; alone.counts(), counts(13, 7, 3));
+        assert_eq!(rt; alone.counts(), counts(16, 7, 3));
         assert_eq!(rt; alone.dones(), 1);
         let mut back = work_in_turn(&rt, alloc, &shared, shares)?;
         for share in &back {

@@ -1,10 +1,14 @@
 -- What each step comes to, by its tests.
-use Rattle.std.proofs.Common.{◌≡◌, ◌+◌, nat_lt, min, ℕ, Bool, true, false, [], length, map, Some, None, refl, sym, ap, ◌∙◌}
+use Rattle.std.proofs.Common.{◌≡◌, ◌+◌, nat_lt, min, ℕ, Bool, true, false, List, [], length, map, Some, None, refl, sym, ap, ◌∙◌}
+use Rattle.std.specs.FinMap.{len}
+use Rattle.read_set.specs.declared.Read.{Read}
+use Rattle.rv_step.specs.declared.answer.StorageAnswer.{StorageAnswer}
 use Rattle.stm_state.specs.declared.state.Status.TheVariants.{Executing, Aborting}
+use Rattle.stm_state.specs.declared.state.Recorded.{Recorded}
 use Rattle.stm_state.specs.declared.state.Task.{Task}
-use Rattle.stm_state.specs.declared.state.Task.TheVariants.{Idle, Running, Validating}
+use Rattle.stm_state.specs.declared.state.Task.TheVariants.{Idle, Running, Moving, Validating}
 use Rattle.stm_state.specs.State.{State, call_at, with_call, with_task, is_executed, is_ready, is_done}
-use Rattle.stm_state.specs.Steps.{asked, ask_execution, ask_validation, lowered, parked, next_incarnation, resume_if_parked, reads_of, to_validate, count_done, resume_dependents}
+use Rattle.stm_state.specs.Steps.{asked, ask_execution, ask_validation, has_new_key, keys_to_move, lowered, parked, next_incarnation, read_of, recorded, recorded_run, resume_if_parked, reads_of, to_validate, count_done, resume_dependents}
 use Rattle.scheduler.specs.Parts.{abort_finished}
 
 module _ (w : ℕ) (s : State) where
@@ -49,6 +53,15 @@ module _ (w : ℕ) (s : State) where
   parked_there i b e = rw e refl
 
   -- record
+  pub recorded_is : (i : ℕ) (run : Recorded) (keys : List (List ℕ)) (new : Bool) (answers : List StorageAnswer) → run.reads ≡ map read_of answers → keys ≡ keys_to_move (call_at s i).last run.receipt.writes → new ≡ has_new_key (call_at s i).last run.receipt.writes
+      → with_task w (Moving i keys new) (with_call i (record (call_at s i) { last = Some run }) (record s { placed = s.placed + len run.receipt.writes })) ≡ recorded w i answers run.receipt s
+  recorded_is i run keys new answers e f g =
+      let kept : State = with_call i (record (call_at s i) { last = Some (recorded_run answers run.receipt) }) (record s { placed = s.placed + len run.receipt.writes }) in
+      ap (λ (reads : List Read). with_task w (Moving i keys new) (with_call i (record (call_at s i) { last = Some (record { receipt = run.receipt; reads = reads }) }) (record s { placed = s.placed + len run.receipt.writes }))) e
+      ∙ ap (λ (ks : List (List ℕ)). with_task w (Moving i ks new) kept) f
+      ∙ ap (λ (b : Bool). with_task w (Moving i (keys_to_move (call_at s i).last run.receipt.writes) b) kept) g
+
+  -- finish execution
   pub nothing_again : (i : ℕ) (new : Bool) (task : Task) → nat_lt i s.validation ≡ false → with_task w Idle s ≡ to_validate w i new task s
   unfolding to_validate
   nothing_again i new task e = rw e refl

@@ -1,13 +1,11 @@
 -- What is counted for a worker and what its step does go in any order.
-use Rattle.std.proofs.Common.{◌≡◌, nat_lt, ℕ, Bool, true, false, cond, length, Some, refl, sym, ap, ◌∙◌}
+use Rattle.std.proofs.Common.{◌≡◌, nat_lt, ℕ, Bool, true, false, cond, length, refl, sym, ap, ◌∙◌}
 use Rattle.rv_ledger.specs.declared.outcome.Counts.{Counts}
 use Rattle.stm_state.specs.declared.state.Status.TheVariants.{Executed}
-use Rattle.stm_state.specs.declared.state.Recorded.{Recorded}
 use Rattle.stm_state.specs.declared.state.Task.{Task}
 use Rattle.stm_state.specs.declared.state.Task.TheVariants.{Validating}
 use Rattle.stm_state.specs.State.{State, call_at, with_call, is_executed, is_ready, is_done}
-use Rattle.stm_state.specs.Steps.{counted, ask_validation, ask_execution, has_new_key, to_validate, resume_dependents}
-use Rattle.scheduler.specs.Parts.{execution_finished}
+use Rattle.stm_state.specs.Steps.{counted, ask_validation, ask_execution, executed, reads_of, to_validate, resume_dependents}
 
 module _ (add : Counts → Counts) (w : ℕ) where
   over_cond : (b : Bool) (x y : State) → counted add w (cond b x y) ≡ cond b (counted add w x) (counted add w y)
@@ -32,7 +30,7 @@ module _ (add : Counts → Counts) (w : ℕ) where
   unfolding ask_execution
   counted_execution s = sym (over_cond (is_ready (call_at s s.execution).status) _ _)
 
-  -- recording
+  -- the end of a run
   counted_again : (i : ℕ) (new : Bool) (task : Task) (s : State) → to_validate w i new task (counted add w s) ≡ counted add w (to_validate w i new task s)
   unfolding to_validate
   counted_again i new task s = sym (over_two (nat_lt i s.validation) new _ _ _)
@@ -41,15 +39,13 @@ module _ (add : Counts → Counts) (w : ℕ) where
   unfolding resume_dependents
   counted_waking i s = refl
 
-  -- the run that is kept, in a state
-  abbrev kept_in : ℕ → Recorded → State → State
-  kept_in i run s = with_call i (record (call_at s i) { status = Executed; last = Some run }) s
+  -- a state where a call is EXECUTED
+  abbrev executed_in : ℕ → State → State
+  executed_in i s = with_call i (record (call_at s i) { status = Executed }) s
 
-  pub counted_finish : (i : ℕ) (run : Recorded) (new : Bool) (n left : ℕ) (s : State) → new ≡ has_new_key (call_at s i).last run.receipt.writes → n ≡ (call_at s i).incarnation → left ≡ length run.reads →
-      to_validate w i new (Validating i n left) (resume_dependents i (with_call i (record (call_at s i) { status = Executed; last = Some run }) (counted add w s))) ≡ counted add w (execution_finished w i run s)
-  counted_finish i run new n left s e f g =
-      ap (to_validate w i new (Validating i n left)) (counted_waking i (kept_in i run s))
-      ∙ counted_again i new (Validating i n left) (resume_dependents i (kept_in i run s))
-      ∙ ap (λ (b : Bool). counted add w (to_validate w i b (Validating i n left) (resume_dependents i (kept_in i run s)))) e
-      ∙ ap (λ (m : ℕ). counted add w (to_validate w i (has_new_key (call_at s i).last run.receipt.writes) (Validating i m left) (resume_dependents i (kept_in i run s)))) f
-      ∙ ap (λ (m : ℕ). counted add w (to_validate w i (has_new_key (call_at s i).last run.receipt.writes) (Validating i (call_at s i).incarnation m) (resume_dependents i (kept_in i run s)))) g
+  pub counted_finish : (i : ℕ) (new : Bool) (task : Task) (s : State) → task ≡ Validating i (call_at s i).incarnation (length (reads_of (call_at s i).last)) →
+      to_validate w i new task (resume_dependents i (with_call i (record (call_at s i) { status = Executed }) (counted add w s))) ≡ counted add w (executed w i new s)
+  counted_finish i new task s e =
+      ap (to_validate w i new task) (counted_waking i (executed_in i s))
+      ∙ counted_again i new task (resume_dependents i (executed_in i s))
+      ∙ ap (λ (t : Task). counted add w (to_validate w i new t (resume_dependents i (executed_in i s)))) e

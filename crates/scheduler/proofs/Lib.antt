@@ -1,4 +1,5 @@
 pub mod Awaited
 pub mod Cases
 pub mod Counted
+pub mod Keys
 pub mod Seen

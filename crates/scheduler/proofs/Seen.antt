@@ -66,6 +66,10 @@ module _ (calls : List CallState) (execution validation : ℕ) (workers : List W
       rw (seen_same task_of workers w old new is (ap task_of e), seen_same counts_of workers w old new is (ap counts_of e), seen_step dones_of workers w g old new 0 within is (ap dones_of e), seen_same room_of workers w old new is (ap room_of e)) refl
       ∙ ap (λ (t : Schedule). record t { dones = set t.dones w (g (get_or t.dones w 0)) }) was
 
+  -- its task before
+  pub task_before : get_or s.tasks w Idle ≡ old.task
+  task_before = ap (λ (t : Schedule). get_or t.tasks w Idle) (sym was) ∙ seen_at task_of workers w old Idle within is
+
   -- the rooms
   pub rooms_kept : KeepsRooms w s.rooms after.rooms
   rooms_kept u ne = ap (λ rooms. get_or rooms u 0) (map-set room_of workers w new) ∙ get_or-set_other (map room_of workers) w u new.room 0 ne ∙ ap (λ (t : Schedule). get_or t.rooms u 0) was

@@ -1,17 +1,9 @@
 -- The parts of a worker step that the scheduler makes.
-use Rattle.std.specs.Prelude.{ℕ, ◌+◌, min, nat_lt, if◌then◌else◌, [], length, Some, None}
-use Rattle.stm_state.specs.declared.state.Status.TheVariants.{Executing, Executed, Aborting}
-use Rattle.stm_state.specs.declared.state.Recorded.{Recorded}
-use Rattle.stm_state.specs.declared.state.Task.TheVariants.{Idle, Running, Validating}
+use Rattle.std.specs.Prelude.{ℕ, ◌+◌, min, nat_lt, if◌then◌else◌, [], None}
+use Rattle.stm_state.specs.declared.state.Status.TheVariants.{Executing, Aborting}
+use Rattle.stm_state.specs.declared.state.Task.TheVariants.{Idle, Running}
 use Rattle.stm_state.specs.State.{State, call_at, with_call, with_task}
-use Rattle.stm_state.specs.Steps.{has_new_key, is_executed_at, next_incarnation, to_validate, resume_dependents}
-
--- record: the run is kept, all that are parked on its call are readied, and what is to be validated again is settled
-abbrev pub execution_finished : ℕ → ℕ → Recorded → State → State
-execution_finished w i run s =
-    let call = call_at s i in
-    to_validate w i (has_new_key call.last run.receipt.writes) (Validating i call.incarnation (length run.reads))
-    (resume_dependents i (with_call i (record call { status = Executed; last = Some run }) s))
+use Rattle.stm_state.specs.Steps.{is_executed_at, next_incarnation}
 
 -- validate: a call is taken back where it is EXECUTED at that incarnation
 abbrev pub abort_tried : ℕ → ℕ → State → State

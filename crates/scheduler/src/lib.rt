@@ -4,7 +4,9 @@
 
 pub mod calls;
 pub mod counting;
+pub mod moving;
 pub mod scheduler;
+pub mod validating;
 pub mod worker;
 
 pub use calls::{INCARNATION_LIMIT, LAST_INCARNATION, is_executed_at};

@@ -4,8 +4,8 @@ use crate::calls::{INCARNATION_LIMIT, LAST_INCARNATION};
 use crate::counting::COUNT_LIMIT;
 use crate::worker::{TaskKind, Worker};
 use crate::{calls, worker};
-use rv_ledger::Counts;
 use rv_ledger::job::CALL_LIMIT;
+use rv_ledger::{Counts, Key};
 use rv_step::StorageAnswer;
 use std::alloc::{AllocError, Global};
 use std::marker::Model;
@@ -41,17 +41,17 @@ impl Model for Scheduler {
 }
 
 impl Scheduler {
-    ghost use Rattle.std.specs.Prelude.{◌≡◌, ◌≤◌, ◌<◌, ◌+◌, ℕ, [], List, Option, Some, None, IfOk, OnErr, OnOk, Ok, nat_lt, min, map, set, get_or, length, if◌then◌else◌, ◌==◌, ◌&&◌};
+    ghost use Rattle.std.specs.Prelude.{◌≡◌, ◌≤◌, ◌<◌, ◌+◌, ◌∷◌, ℕ, [], Bool, List, Option, Some, None, IfOk, OnErr, OnOk, Ok, nat_lt, min, map, set, get_or, length, slice_get, ◌==◌, ◌&&◌};
     ghost use Rattle.std.specs.List.{list_all};
+    ghost use Rattle.std.specs.Option.{option_copied};
     ghost use Rattle.mvmap.specs.Versions.{Versions};
     ghost use Rattle.rv_step.specs.declared.answer.StorageAnswer.{StorageAnswer};
     ghost use Rattle.stm_state.specs.State.{fresh, is_done, is_idle, no_counts, start, with_task};
-    ghost use Rattle.stm_state.specs.Steps.{ask_execution, ask_validation, asked, counted, is_executed_at, lowered, one_asking, one_execution, one_step, one_validation, parked, next_incarnation, resume_if_parked, to_validate};
+    ghost use Rattle.stm_state.specs.Steps.{ask_execution, ask_validation, asked, counted, lowered, one_asking, one_step, parked, next_incarnation, resume_if_parked};
     ghost use Rattle.stm_state.specs.declared.state.Status.TheVariants as Status;
     ghost use Rattle.stm_state.specs.declared.state.Task.TheVariants as Task;
-    ghost use Rattle.scheduler.specs.Parts.{abort_finished, abort_tried, execution_finished};
     ghost use Rattle.scheduler.specs.Schedule.{KeepsRooms, MayCount, state_of};
-    ghost use Rattle.scheduler.specs.Workers.{IsTaskKindOf, IsRunning, answered, blocked_on, task_with};
+    ghost use Rattle.scheduler.specs.Workers.{HasKeyToMove, IsTaskKindOf, IsRunning, answered, blocked_on, task_with};
 
     /// The scheduler of this many calls at the start, each READY at incarnation 0, and of this many
     /// workers without a task. Refused where memory ran out.
@@ -137,73 +137,6 @@ impl Scheduler {
         }
     }
 
-    /// Keeps the run of a call that a worker hands in (Block-STM, `finish_execution`). Takes no memory.
-    pub fn finish_execution(&mut self, worker: usize, call: u16, run: Recorded)
-        requires counts { MayCount worker self.old }
-        requires within { call < length self.old.calls }
-        requires incarnations { (i : ℕ) → (get_or self.old.calls i fresh).status ≡ Status.Aborting → (get_or self.old.calls i fresh).incarnation ≤ LAST_INCARNATION }
-        ensures state { (v : Versions) (p : ℕ) → state_of v p self.new ≡ counted one_execution worker (execution_finished worker call run (state_of v p self.old)) }
-        ensures rooms { KeepsRooms worker self.old.rooms self.new.rooms }
-    {
-        self.count_execution(worker);
-        let left = run.reads.reads().len();
-        let new_key = calls::has_new_key(&self.call(call).last, &run.receipt.writes);
-        let task_kind = TaskKind::Validating {
-            call,
-            incarnation: self.call(call).incarnation,
-            left,
-        };
-        self.keep(call, run);
-        self.resume_dependents(call);
-        self.to_validate(worker, call, new_key, task_kind);
-    }
-
-    /// Takes a call back where it is EXECUTED at this incarnation, and tells so (Block-STM,
-    /// `try_validation_abort`). Takes no memory.
-    pub fn try_abort(&mut self, call: u16, incarnation: u16) -> bool
-        requires within { call < length self.old.calls }
-        ensures tells { result ≡ is_executed_at incarnation (get_or self.old.calls call fresh) }
-        ensures state { (v : Versions) (p : ℕ) → state_of v p self.new ≡ abort_tried call incarnation (state_of v p self.old) }
-        ensures rooms { self.new.rooms ≡ self.old.rooms }
-    {
-        let taken = calls::is_executed_at(self.call(call), incarnation);
-        if taken {
-            self.set_status(call, Status::Aborting);
-        }
-        taken
-    }
-
-    /// Readies a call that was taken back; the worker runs it where the execution index is past it.
-    /// Takes no memory.
-    pub fn finish_abort(&mut self, worker: usize, call: u16)
-        requires counts { MayCount worker self.old }
-        requires within { call < length self.old.calls }
-        requires incarnation { (get_or self.old.calls call fresh).incarnation < INCARNATION_LIMIT }
-        ensures state { (v : Versions) (p : ℕ) → state_of v p self.new ≡ counted one_validation worker (abort_finished worker call (state_of v p self.old)) }
-        ensures rooms { KeepsRooms worker self.old.rooms self.new.rooms }
-    {
-        self.count_validation(worker);
-        self.lower_validation(call);
-        if self.is_execution_past(call) {
-            self.restart(call);
-            self.run_again(worker, call);
-        } else {
-            self.ready(call);
-            self.begin(worker, TaskKind::Idle);
-        }
-    }
-
-    /// Ends the validation of a worker without an abort; it counts as a decision or as a step alone
-    /// (Block-STM, `finish_validation`). Takes no memory.
-    pub fn finish_validation(&mut self, worker: usize, decided: bool)
-        requires counts { MayCount worker self.old }
-        ensures state { (v : Versions) (p : ℕ) → state_of v p self.new ≡ counted (if decided then one_validation else one_step) worker (with_task worker Task.Idle (state_of v p self.old)) }
-        ensures rooms { KeepsRooms worker self.old.rooms self.new.rooms }
-    {
-        self.count_decision(worker, decided);
-        self.begin(worker, TaskKind::Idle);
-    }
-
     /// Whether nobody has a task and both indices are past the last call. Takes no memory.
     #[tactic(auto, unfolding(stm_state::specs::State::is_done))]
     pub fn done(&self) -> bool
@@ -227,6 +160,14 @@ impl Scheduler {
         ensures { (i : ℕ) (answers : List StorageAnswer) (blocked : Option ℕ) → get_or self.now.tasks worker Task.Idle ≡ Task.Running i answers blocked → result.now ≡ answers }
     {
         self.workers[worker].answers()
+    }
+
+    /// The next key that a worker is to move; None where it has moved all.
+    pub fn next_key(&self, worker: usize) -> Option<&Key>
+        requires { worker < length self.now.tasks }
+        ensures { (i : ℕ) (keys : List (List ℕ)) (new : Bool) → get_or self.now.tasks worker Task.Idle ≡ Task.Moving i keys new → option_copied result ≡ slice_get keys 0 }
+    {
+        self.workers[worker].next_key()
     }
 
     /// What is kept of the call of an index.
@@ -296,7 +237,7 @@ impl Scheduler {
     }
 
     /// Whether the execution index is past a call.
-    fn is_execution_past(&self, call: u16) -> bool
+    pub(crate) fn is_execution_past(&self, call: u16) -> bool
         ensures { result ≡ nat_lt call self.now.execution }
     {
         call < self.execution
@@ -356,14 +297,14 @@ impl Scheduler {
     }
 
     /// Sets the validation index.
-    fn set_validation(&mut self, to: u16)
+    pub(crate) fn set_validation(&mut self, to: u16)
         ensures { self.new ≡ record self.old { validation = to } }
     {
         self.validation = to;
     }
 
     /// Lowers the validation index to the call behind a call.
-    fn lower_validation(&mut self, call: u16)
+    pub(crate) fn lower_validation(&mut self, call: u16)
         requires { call < length self.old.calls }
         ensures { self.new ≡ record self.old { validation = min self.old.validation (call + 1) } }
     {
@@ -372,33 +313,15 @@ impl Scheduler {
         self.validation = self.validation.min(call + 1);
     }
 
-    /// Settles what is validated again after a run of a call: all from the call on, the call by this
-    /// task, or nothing.
-    #[tactic(auto, unfolding(stm_state::specs::Steps::to_validate))]
-    fn to_validate(&mut self, worker: usize, call: u16, new_key: bool, task_kind: TaskKind)
-        requires { worker < length self.old.tasks }
-        ensures state { (v : Versions) (p : ℕ) → state_of v p self.new ≡ to_validate worker call new_key (task_with task_kind []) (state_of v p self.old) }
-        ensures rooms { KeepsRooms worker self.old.rooms self.new.rooms }
-    {
-        if !self.is_validation_past(call) {
-            self.begin(worker, TaskKind::Idle);
-        } else if new_key {
-            self.set_validation(call);
-            self.begin(worker, TaskKind::Idle);
-        } else {
-            self.begin(worker, task_kind);
-        }
-    }
-
     /// Whether the validation index is past a call.
-    fn is_validation_past(&self, call: u16) -> bool
+    pub(crate) fn is_validation_past(&self, call: u16) -> bool
         ensures { result ≡ nat_lt call self.now.validation }
     {
         call < self.validation
     }
 
     /// Sets how far a call is.
-    fn set_status(&mut self, call: u16, status: Status)
+    pub(crate) fn set_status(&mut self, call: u16, status: Status)
         requires { call < length self.old.calls }
         ensures { self.new ≡ record self.old { calls = set self.old.calls call (record (get_or self.old.calls call fresh) { status = status }) } }
     {
@@ -417,18 +340,16 @@ impl Scheduler {
         parked.parked = Some(on);
     }
 
-    /// Keeps the run of a call, which is EXECUTED from now on.
-    fn keep(&mut self, call: u16, run: Recorded)
+    /// Keeps the run of a call; its status stays.
+    pub(crate) fn keep(&mut self, call: u16, run: Recorded)
         requires { call < length self.old.calls }
-        ensures { self.new ≡ record self.old { calls = set self.old.calls call (record (get_or self.old.calls call fresh) { status = Status.Executed; last = Some run }) } }
+        ensures { self.new ≡ record self.old { calls = set self.old.calls call (record (get_or self.old.calls call fresh) { last = Some run }) } }
     {
-        let kept = &mut self.calls[usize::from(call)];
-        kept.status = Status::Executed;
-        kept.last = Some(run);
+        self.calls[usize::from(call)].last = Some(run);
     }
 
     /// Readies a call.
-    fn ready(&mut self, call: u16)
+    pub(crate) fn ready(&mut self, call: u16)
         requires within { call < length self.old.calls }
         requires incarnation { (get_or self.old.calls call fresh).incarnation < INCARNATION_LIMIT }
         ensures { self.new ≡ record self.old { calls = set self.old.calls call (next_incarnation (get_or self.old.calls call fresh)) } }
@@ -437,7 +358,7 @@ impl Scheduler {
     }
 
     /// Readies a call, and runs it at once.
-    fn restart(&mut self, call: u16)
+    pub(crate) fn restart(&mut self, call: u16)
         requires within { call < length self.old.calls }
         requires incarnation { (get_or self.old.calls call fresh).incarnation < INCARNATION_LIMIT }
         ensures { self.new ≡ record self.old { calls = set self.old.calls call (record (next_incarnation (get_or self.old.calls call fresh)) { status = Status.Executing }) } }
@@ -449,7 +370,7 @@ impl Scheduler {
 
     /// Readies all calls that are parked on a call, and lowers the execution index to the least. Looks
     /// at no call where none is parked on it.
-    fn resume_dependents(&mut self, on: u16)
+    pub(crate) fn resume_dependents(&mut self, on: u16)
         requires within { on < length self.old.calls }
         requires incarnations { (i : ℕ) → (get_or self.old.calls i fresh).status ≡ Status.Aborting → (get_or self.old.calls i fresh).incarnation ≤ LAST_INCARNATION }
         ensures { self.new ≡ record self.old { calls = map (resume_if_parked on) self.old.calls; execution = lowered on self.old.execution 0 self.old.calls } }
@@ -461,16 +382,35 @@ impl Scheduler {
     }
 
     /// Gives a worker a task, and no answers.
-    fn begin(&mut self, worker: usize, task_kind: TaskKind)
+    pub(crate) fn begin(&mut self, worker: usize, task_kind: TaskKind)
         requires { worker < length self.old.tasks }
-        ensures state { (v : Versions) (p : ℕ) → state_of v p self.new ≡ with_task worker (task_with task_kind []) (state_of v p self.old) }
+        ensures state { (v : Versions) (p : ℕ) → state_of v p self.new ≡ with_task worker (task_with task_kind [] []) (state_of v p self.old) }
         ensures rooms { KeepsRooms worker self.old.rooms self.new.rooms }
     {
         self.workers[worker].begin(task_kind);
     }
 
+    /// Gives a worker the keys of a call's run to move, and no answers.
+    pub(crate) fn begin_moving(&mut self, worker: usize, call: u16, new_key: bool, keys: Vec<Key>)
+        requires { worker < length self.old.tasks }
+        ensures state { (v : Versions) (p : ℕ) → state_of v p self.new ≡ with_task worker (Task.Moving call keys.items new_key) (state_of v p self.old) }
+        ensures rooms { KeepsRooms worker self.old.rooms self.new.rooms }
+    {
+        self.workers[worker].begin_moving(call, new_key, keys);
+    }
+
+    /// Lets a worker go on to the key behind its next one.
+    pub(crate) fn drop_next_key(&mut self, worker: usize)
+        requires within { worker < length self.old.tasks }
+        requires moving { HasKeyToMove (get_or self.old.tasks worker Task.Idle) }
+        ensures state { (i : ℕ) (key : List ℕ) (keys : List (List ℕ)) (new : Bool) → get_or self.old.tasks worker Task.Idle ≡ Task.Moving i (key ∷ keys) new → (v : Versions) (p : ℕ) → state_of v p self.new ≡ with_task worker (Task.Moving i keys new) (state_of v p self.old) }
+        ensures rooms { KeepsRooms worker self.old.rooms self.new.rooms }
+    {
+        self.workers[worker].drop_key();
+    }
+
     /// Gives a worker a call to run, without answers.
-    fn run_again(&mut self, worker: usize, call: u16)
+    pub(crate) fn run_again(&mut self, worker: usize, call: u16)
         requires { worker < length self.old.tasks }
         ensures state { (v : Versions) (p : ℕ) → state_of v p self.new ≡ with_task worker (Task.Running call [] None) (state_of v p self.old) }
         ensures rooms { KeepsRooms worker self.old.rooms self.new.rooms }

@@ -1,14 +1,15 @@
 //! What the scheduler keeps of a worker.
 
-ghost use Rattle.std.specs.Prelude.{◌≡◌, ◌≤◌, ◌<◌, ◌+◌, ◌-◌, ℕ, [], IfOk, List, OnErr, OnOk, Option, map, replicate};
+ghost use Rattle.std.specs.Prelude.{◌≡◌, ◌≤◌, ◌<◌, ◌+◌, ◌-◌, ◌∷◌, ℕ, [], Bool, IfOk, List, OnErr, OnOk, Option, map, replicate, slice_get};
+ghost use Rattle.std.specs.Option.{option_copied};
 ghost use Rattle.std.specs.List.{list_all};
 ghost use Rattle.rv_step.specs.declared.answer.StorageAnswer.{StorageAnswer};
 ghost use Rattle.stm_state.specs.State.{is_idle};
 ghost use Rattle.stm_state.specs.declared.state.Task.TheVariants as task;
-ghost use Rattle.scheduler.specs.Workers.{IsRunning, IsTaskKindOf, answered, blocked_on, idle_worker, task_of, task_with};
+ghost use Rattle.scheduler.specs.Workers.{HasKeyToMove, IsRunning, IsTaskKindOf, answered, blocked_on, idle_worker, task_of, task_with};
 
 use crate::counting::COUNT_LIMIT;
-use rv_ledger::Counts;
+use rv_ledger::{Counts, Key};
 use rv_step::StorageAnswer;
 use std::alloc::{AllocError, Global};
 use std::marker::Model;
@@ -25,6 +26,13 @@ pub enum TaskKind {
         /// The call whose estimate the run met, where it met one.
         blocked: Option<u16>,
     },
+    /// It moves the keys of a run that it handed in.
+    Moving {
+        /// The call's index.
+        call: u16,
+        /// Whether the run wrote a key that the run before it did not write.
+        new_key: bool,
+    },
     /// It validates a call.
     Validating {
         /// The call's index.
@@ -36,18 +44,20 @@ pub enum TaskKind {
     },
 }
 
-/// A worker: what it is about, the answers that its run was given, what it did, and how often it
-/// was told that all is done.
+/// A worker: what it is about, the answers that its run was given, the keys of the run that it moves and
+/// how many of them it moved, what it did, and how often it was told that all is done.
 #[derive(Drop)]
 pub(crate) struct Worker {
     task_kind: TaskKind,
     answers: Vec<StorageAnswer>,
+    keys: Vec<Key>,
+    moved: usize,
     counts: Counts,
     dones: u64,
 }
 
 impl Model for Worker {
-    ghost use Rattle.std.specs.Prelude.{◌-◌, vec_capacity, vec_len};
+    ghost use Rattle.std.specs.Prelude.{◌-◌, drop, vec_capacity, vec_len};
     ghost use Rattle.std.specs.Coded.{codes};
     ghost use Rattle.stm_state.specs.contracts.state.Task.{the_row as task_row};
     ghost use Rattle.scheduler.specs.Workers.{WorkerState, task_with};
@@ -56,7 +66,7 @@ impl Model for Worker {
 
     ghost coded = { Prim.hlevel (codes, task_row.coded) };
 
-    ghost view = { λ w. record { task = task_with w.task_kind w.answers.items; counts = w.counts; dones = w.dones; room = vec_capacity w.answers - vec_len w.answers } };
+    ghost view = { λ w. record { task = task_with w.task_kind w.answers.items (drop w.moved w.keys.items); counts = w.counts; dones = w.dones; room = vec_capacity w.answers - vec_len w.answers } };
 }
 
 impl Worker {
@@ -67,6 +77,8 @@ impl Worker {
         Worker {
             task_kind: TaskKind::Idle,
             answers: Vec::new(alloc),
+            keys: Vec::new(alloc),
+            moved: 0,
             counts: Counts {
                 steps: 0,
                 asks: 0,
@@ -115,10 +127,37 @@ impl Worker {
 
     /// Gives it a task, and no answers.
     pub(crate) fn begin(&mut self, task_kind: TaskKind)
-        ensures { self.new ≡ record self.old { task = task_with task_kind []; room = self.new.room } }
+        ensures { self.new ≡ record self.old { task = task_with task_kind [] []; room = self.new.room } }
     {
         self.task_kind = task_kind;
         self.answers.clear();
+        self.keys.clear();
+        self.moved = 0;
+    }
+
+    /// Gives it the keys of a run of a call to move, and no answers.
+    pub(crate) fn begin_moving(&mut self, call: u16, new_key: bool, keys: Vec<Key>)
+        ensures { self.new ≡ record self.old { task = task.Moving call keys.items new_key; room = self.new.room } }
+    {
+        self.task_kind = TaskKind::Moving { call, new_key };
+        self.answers.clear();
+        self.keys = keys;
+        self.moved = 0;
+    }
+
+    /// The next key that it is to move; None where it has moved all.
+    pub(crate) fn next_key(&self) -> Option<&Key>
+        ensures { (call : ℕ) (keys : List (List ℕ)) (new : Bool) → self.now.task ≡ task.Moving call keys new → option_copied result ≡ slice_get keys 0 }
+    {
+        self.keys.as_slice().get(self.moved)
+    }
+
+    /// Lets it go on to the key behind its next one.
+    pub(crate) fn drop_key(&mut self)
+        requires { HasKeyToMove self.old.task }
+        ensures { (call : ℕ) (key : List ℕ) (keys : List (List ℕ)) (new : Bool) → self.old.task ≡ task.Moving call (key ∷ keys) new → self.new ≡ record self.old { task = task.Moving call keys new } }
+    {
+        self.moved += 1;
     }
 
     /// Makes room for one more answer; refused where memory ran out.

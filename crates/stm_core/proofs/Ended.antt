@@ -26,17 +26,17 @@ all_receipts (call ∷ calls) (r ∷ receipts) h =
     let rest : map last_receipt calls ≡ map Some receipts = cc in
     rw first (ap (λ xs. r ∷ xs) (all_receipts calls receipts rest))
 
-module _ (job : Job) (table : Table) (schedule : Schedule) (h : IsReached job table schedule) (done : is_done (state_in table schedule) ≡ true) where
+module _ (job : Job) (table : Table) (promised : ℕ) (schedule : Schedule) (h : IsReached job table promised schedule) (done : is_done (state_in table promised schedule) ≡ true) where
   -- no entry is an estimate, and no call past the last one has an entry
-  pub versions_alone : DoneHasVersionsAlone → HasVersionsAlone (block_of job.block job.store) (state_in table schedule)
-  versions_alone law = law (block_of job.block job.store) (length schedule.tasks) (state_in table schedule) h.reached done
+  pub versions_alone : DoneHasVersionsAlone → HasVersionsAlone (block_of job.block job.store) (state_in table promised schedule)
+  versions_alone law = law (block_of job.block job.store) (length schedule.tasks) (state_in table promised schedule) h.reached done
 
   -- the receipts are those of running the calls in order
   pub receipts_are : DoneIsInOrder → filter_map last_receipt schedule.calls ≡ receipts_of job.block job.store
-  receipts_are law = all_receipts schedule.calls (receipts_of job.block job.store) (law job.block job.store (length schedule.tasks) (state_in table schedule) h.reached done).0
+  receipts_are law = all_receipts schedule.calls (receipts_of job.block job.store) (law job.block job.store (length schedule.tasks) (state_in table promised schedule) h.reached done).0
 
   -- so is the storage
   pub store_is : DoneIsInOrder → DoneHasVersionsAlone → (store : Storage)
       → ((key : List ℕ) (i : ℕ) → ((w : ℕ) → i ≤ w → entry_at table.versions key w ≡ None) → get store key ≡ value_seen (get job.store key) (reading table.versions key i)) → store ≡ store_after job.block job.store
   store_is order alone store apply_writes = same_map nat_list_cmp_total (slice_cmp-IsAntisymmetric nat_cmp-IsAntisymmetric) store (store_after job.block job.store)
-      (λ key. apply_writes key (length job.block) ((versions_alone alone).0 key) ∙ (order job.block job.store (length schedule.tasks) (state_in table schedule) h.reached done).1 key)
+      (λ key. apply_writes key (length job.block) ((versions_alone alone).0 key) ∙ (order job.block job.store (length schedule.tasks) (state_in table promised schedule) h.reached done).1 key)

@@ -1,7 +1,9 @@
 pub mod Open
 pub mod Parted
 pub mod Made
+pub mod Handed
 pub mod Ended
 pub mod Turns
+pub mod Promises
 pub mod Fits
 pub mod Drives

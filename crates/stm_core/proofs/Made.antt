@@ -1,5 +1,5 @@
 -- Steps that are due and that are made, over the parts of a job's run.
-use Rattle.std.proofs.Common.{◌≡◌, ◌<◌, ◌≤◌, ◌+◌, nat_lt, nat_le, ℕ, true, false, cond, if◌then◌else◌, IsSome, IfErr, OnOk, List, [], length, get_or, slice_get, Option, None, Some, Result, Ok, Err, arith, refl, sym, ap, subst, ◌∙◌}
+use Rattle.std.proofs.Common.{◌≡◌, ◌<◌, ◌≤◌, ◌+◌, nat_lt, nat_le, ℕ, Bool, true, false, cond, if◌then◌else◌, IsSome, IfErr, OnOk, List, [], ◌∷◌, length, get_or, slice_get, Option, None, Some, Result, Ok, Err, arith, refl, sym, ap, subst, ◌∙◌}
 use Rattle.std.specs.FinMap.{empty, get, get-empty, len}
 use Rattle.std.proofs.lemmas.List.{length-replicate}
 use Rattle.rv_ledger.specs.Key.{Storage}
@@ -12,24 +12,34 @@ use Rattle.rv_step.specs.declared.ended_run.EndedRun.{EndedRun}
 use Rattle.version_arena.specs.ArenaState.{Record as Placing}
 use Rattle.mvmap.specs.Table.{Table}
 use Rattle.mvmap.specs.Versions.{Entry, Versions, place_cmp}
-use Rattle.stm_state.specs.declared.state.Status.TheVariants.{Aborting}
-use Rattle.stm_state.specs.declared.state.Task.TheVariants.{Idle, Running, Validating}
+use Rattle.stm_state.specs.declared.state.Status.TheVariants.{Executed, Aborting}
+use Rattle.stm_state.specs.declared.state.Task.{Task}
+use Rattle.stm_state.specs.declared.state.Task.TheVariants.{Idle, Running, Moving, Validating}
 use Rattle.stm_state.specs.State.{State, fresh, start, call_at, task_at}
-use Rattle.stm_state.specs.Steps.{Block, Step, Ask, Read_key, Park, Record, Validate, ArenaFull, IncarnationLimit, counted, one_asking, one_step, one_execution, one_validation, asked, read_at, parked, recorded, record_within, decided, validated, written_by, is_executed_at, step_with, worker_step}
+use Rattle.stm_state.specs.Steps.{Block, Step, Ask, Read_key, Park, Record, Move_key, Finish_execution, Validate, ArenaFull, IncarnationLimit, counted, one_asking, one_step, one_execution, one_validation, asked, read_at, parked, recorded, moved, executed, record_within, decided, validated, written_by, is_executed_at, step_with, worker_step}
 use Rattle.stm_state.specs.Done.{Reached, started, stepped, block_of, borne_out_by}
-use Rattle.stm_state.specs.Invariant.{Invariant, named_by}
+use Rattle.stm_state.specs.Invariant.{Invariant, IsUnmoved, named_by, moved_by, run_by, view_of}
 use Rattle.stm_state.proofs.Whole.{invariant_kept}
 use Rattle.stm_state.proofs.Counted.{counts_within}
 use Rattle.scheduler.specs.Schedule.{KeepsRooms, Schedule, MayCount, state_of}
 use Rattle.stm_core.specs.CoreState.{CoreState, IsDue, Makes}
-use Rattle.stm_core.specs.Inner.{AreOpen, HasPlaces, IsHanded, IsReached, core_state_of, state_in}
+use Rattle.stm_core.specs.Inner.{AreOpen, HasPlaces, IsGrown, IsHanded, IsReached, KeepsPromises, core_state_of, state_in}
 use Rattle.stm_core.proofs.Open.{open_last}
 use Rattle.stm_core.proofs.Parted.{at_says}
+use Rattle.stm_core.proofs.Turns.{turn}
+use Rattle.stm_core.proofs.Promises.{IsQuiet, grown_kept, none_promised, quiet_kept}
 
-module _ (job : Job) (table : Table) (schedule : Schedule) (h : IsReached job table schedule) where
+-- who moves the keys of a call runs it
+moved_is_run : (task : Task) (i : ℕ) → moved_by task ≡ Some i → run_by task ≡ Some i
+moved_is_run Idle i h = cc
+moved_is_run (Running j answers blocked) i h = cc
+moved_is_run (Moving j keys new) i h = h
+moved_is_run (Validating j n left) i h = cc
+
+module _ (job : Job) (table : Table) (promised : ℕ) (schedule : Schedule) (h : IsReached job table promised schedule) where
   -- the invariant holds
-  pub invariant_at : Invariant (block_of job.block job.store) (length schedule.tasks) (state_in table schedule)
-  invariant_at = invariant_kept (block_of job.block job.store) (length schedule.tasks) (state_in table schedule) h.reached
+  pub invariant_at : Invariant (block_of job.block job.store) (length schedule.tasks) (state_in table promised schedule)
+  invariant_at = invariant_kept (block_of job.block job.store) (length schedule.tasks) (state_in table promised schedule) h.reached
 
   -- the execution index is within the calls
   pub execution_in : schedule.execution ≤ length schedule.calls
@@ -55,26 +65,51 @@ module _ (job : Job) (table : Table) (schedule : Schedule) (h : IsReached job ta
   pub limit_at : (i : ℕ) → (get_or schedule.calls i fresh).incarnation ≤ 65535
   limit_at i = invariant_at.facts.limit i
 
-  -- a call has places at the keys that its last recorded run wrote
-  pub places_of_last : (i : ℕ) → AreOpen table.places i (written_by (get_or schedule.calls i fresh).last)
-  places_of_last i = open_last table.places i (get_or schedule.calls i fresh) table.versions h.places (invariant_at.facts.entries i)
+  -- nobody moves the keys of an EXECUTED call
+  executed_rests : (i : ℕ) → (get_or schedule.calls i fresh).status ≡ Executed → IsUnmoved (view_of (state_in table promised schedule)) i
+  executed_rests i done w moves = let runs = invariant_at.facts.running w i (moved_is_run (get_or schedule.tasks w Idle) i moves) in cc
 
-  -- the same state is reached where the parts are others
-  pub same_reached : (after_table : Table) (after : Schedule) → state_in after_table after ≡ state_in table schedule → HasPlaces after_table → IsReached job after_table after
-  same_reached after_table after same places = record {
+  -- a call that is EXECUTED at an incarnation has places at the keys that its last recorded run wrote
+  pub places_of_last : (i n : ℕ) → is_executed_at n (get_or schedule.calls i fresh) ≡ true → AreOpen table.places i (written_by (get_or schedule.calls i fresh).last)
+  places_of_last i n at =
+      let says = at_says n (get_or schedule.calls i fresh) at in
+      open_last table.places i (get_or schedule.calls i fresh) table.versions h.places (λ key. invariant_at.facts.entries i key (executed_rests i says.0))
+
+  -- what was promised is within the arena's limit
+  pub placed_within : length table.arena.records + promised ≤ 1048576
+  placed_within = h.promises.limit
+
+  -- the same state is reached with a schedule that is the same but for its rooms
+  pub same_reached : (after : Schedule) → state_in table promised after ≡ state_in table promised schedule → IsReached job table promised after
+  same_reached after same = record {
     reached = subst (λ (s : State). Reached (block_of job.block job.store) (length s.tasks) s) (sym same) h.reached;
-    places = places;
+    places = h.places;
+    promises = subst (KeepsPromises table promised) (sym same) h.promises;
   }
 
-  module _ (b : CoreState) (is : core_state_of job table schedule ≡ b) (w : ℕ) (step : Step) (due : IsDue w step b) where
+  -- so is it over a table with more room
+  pub grown_reached : (grown : Table) (more : ℕ) (after : Schedule) → IsGrown table grown → more ≡ promised → after ≡ schedule → IsReached job grown more after
+  grown_reached grown more after grows count same =
+      subst (λ n. IsReached job grown n after) (sym count) (subst (IsReached job grown promised) (sym same) (record {
+        reached = subst (λ (s : State). Reached (block_of job.block job.store) (length schedule.tasks) s) (sym one) h.reached;
+        places = λ place there. grows.places place (h.places place (subst (λ (v : Versions). IsSome (get v place)) grows.versions there));
+        promises = subst (KeepsPromises grown promised) (sym one) (grown_kept table promised (state_in table promised schedule) h.promises grown grows);
+      }))
+    where
+      one : state_in grown promised schedule ≡ state_in table promised schedule
+      one =
+          ap (λ v. state_of v (length grown.arena.records + promised) schedule) grows.versions
+          ∙ ap (λ (rs : List Placing). state_of table.versions (length rs + promised) schedule) grows.records
+
+  module _ (b : CoreState) (is : core_state_of job table promised schedule ≡ b) (w : ℕ) (step : Step) (due : IsDue w step b) where
     -- what is due of the parts
-    pub due_at : IsDue w step (core_state_of job table schedule)
+    pub due_at : IsDue w step (core_state_of job table promised schedule)
     due_at = subst (IsDue w step) (sym is) due
 
     -- a worker whose step is due may count it
     pub may_count : MayCount w schedule
     may_count =
-        let few = counts_within (block_of job.block job.store) (length schedule.tasks) (state_in table schedule) h.reached w in
+        let few = counts_within (block_of job.block job.store) (length schedule.tasks) (state_in table promised schedule) h.reached w in
         record {
           within = due_at.worker;
           steps = due_at.steps;
@@ -84,41 +119,51 @@ module _ (job : Job) (table : Table) (schedule : Schedule) (h : IsReached job ta
           dones = let d = due_at.steps in let low = few.asks in let done = few.dones in omega (arith, d, low, done);
         }
 
-    module _ (after_table : Table) (after : Schedule) (made : worker_step (block_of job.block job.store) w step (state_in table schedule) ≡ Some (Ok (state_in after_table after))) where
+    module _ (after_table : Table) (more : ℕ) (after : Schedule) (made : worker_step (block_of job.block job.store) w step (state_in table promised schedule) ≡ Some (Ok (state_in after_table more after))) where
       -- the state after a step is reached
-      pub goes_on : HasPlaces after_table → IsReached job after_table after
-      goes_on places =
+      pub goes_on : HasPlaces after_table → KeepsPromises after_table more (state_in after_table more after) → IsReached job after_table more after
+      goes_on places promises =
           let next = stepped w step h.reached due_at.worker made in
-          let same = (invariant_kept (block_of job.block job.store) (length schedule.tasks) (state_in after_table after) next).sized.tasks in
+          let same = (invariant_kept (block_of job.block job.store) (length schedule.tasks) (state_in after_table more after) next).sized.tasks in
           record {
-            reached = subst (λ n. Reached (block_of job.block job.store) n (state_in after_table after)) (sym same) next;
+            reached = subst (λ n. Reached (block_of job.block job.store) n (state_in after_table more after)) (sym same) next;
             places = places;
+            promises = promises;
           }
 
       -- the step is made
-      pub makes : KeepsRooms w schedule.rooms after.rooms → Makes w step b (core_state_of job after_table after)
-      makes rooms = subst (λ x. Makes w step x (core_state_of job after_table after)) is (made, refl, rooms)
+      pub makes : KeepsRooms w schedule.rooms after.rooms → Makes w step b (core_state_of job after_table more after)
+      makes rooms = subst (λ x. Makes w step x (core_state_of job after_table more after)) is (made, refl, rooms)
+
+    -- so it is where the step neither hands a run in nor moves a key
+    pub goes_on_quietly : (after_table : Table) (after : Schedule) → IsQuiet step → worker_step (block_of job.block job.store) w step (state_in table promised schedule) ≡ Some (Ok (state_in after_table promised after))
+        → HasPlaces after_table → after_table.places ≡ table.places → after_table.arena ≡ table.arena → IsReached job after_table promised after
+    goes_on_quietly after_table after quiet made places same_places same_arena =
+        goes_on after_table promised after made places
+        (quiet_kept (block_of job.block job.store) (length schedule.tasks) w (state_in table promised schedule) invariant_at due_at.worker table promised h.promises (state_in after_table promised after) step after_table quiet due_at.due_step
+        (turn (block_of job.block job.store) w (state_in table promised schedule) (state_in after_table promised after) step made) same_places same_arena)
 
 -- ---- the start
 
 -- the parts of a run at its start are the start of its block
 pub start_is : (n workers : ℕ) (table : Table) (schedule : Schedule) → table.versions ≡ empty → table.arena.records ≡ [] → ((v : Versions) (p : ℕ) → state_of v p schedule ≡ record (start n workers) { versions = v; placed = p })
-    → state_in table schedule ≡ start n workers
+    → state_in table 0 schedule ≡ start n workers
 start_is n workers table schedule none records is =
-    is table.versions (length table.arena.records)
-    ∙ ap (λ v. record (start n workers) { versions = v; placed = length table.arena.records }) none
-    ∙ ap (λ (rs : List Placing). record (start n workers) { placed = length rs }) records
+    is table.versions (length table.arena.records + 0)
+    ∙ ap (λ v. record (start n workers) { versions = v; placed = length table.arena.records + 0 }) none
+    ∙ ap (λ (rs : List Placing). record (start n workers) { placed = length rs + 0 }) records
 
 -- it is reached
 pub start_reached : (job : Job) (n workers : ℕ) (table : Table) (schedule : Schedule) → n ≡ length job.block → table.versions ≡ empty → table.arena.records ≡ [] → ((v : Versions) (p : ℕ) → state_of v p schedule ≡ record (start n workers) { versions = v; placed = p })
-    → IsReached job table schedule
+    → IsReached job table 0 schedule
 start_reached job n workers table schedule count none records is =
-    let same : state_in table schedule ≡ start (length job.block) workers = start_is n workers table schedule none records is ∙ ap (λ x. start x workers) count in
+    let same : state_in table 0 schedule ≡ start (length job.block) workers = start_is n workers table schedule none records is ∙ ap (λ x. start x workers) count in
     let size : length schedule.tasks ≡ workers = ap (λ (s : State). length s.tasks) same ∙ length-replicate workers Idle in
     record {
-      reached = subst (λ m. Reached (block_of job.block job.store) m (state_in table schedule)) (sym size)
+      reached = subst (λ m. Reached (block_of job.block job.store) m (state_in table 0 schedule)) (sym size)
           (subst (λ (s : State). Reached (block_of job.block job.store) workers s) (sym same) started);
       places = λ place there. let gone : get table.versions place ≡ None = ap (λ (v : Versions). get v place) none ∙ get-empty place_cmp place in absurd (not_there (get table.versions place) gone there);
+      promises = none_promised table workers (state_in table 0 schedule) (ap (λ (s : State). s.tasks) same) records;
     }
   where
     not_there : (o : Option Entry) → o ≡ None → IsSome o → ⊥
@@ -150,6 +195,12 @@ module _ (block : Block) (w : ℕ) (s : State) where
   park_made i b answers runs low =
       ap (λ t. step_with block w t Park s) runs
       ∙ ap (λ spent. cond spent (Some (Err IncarnationLimit)) (Some (Ok (counted one_step w (parked w i b s))))) (not_le 65535 (call_at s i).incarnation low)
+
+  pub move_made : (i : ℕ) (key : List ℕ) (keys : List (List ℕ)) (new : Bool) → task_at s w ≡ Moving i (key ∷ keys) new → worker_step block w Move_key s ≡ Some (Ok (counted one_step w (moved w i key keys new s)))
+  move_made i key keys new at = ap (λ t. step_with block w t Move_key s) at
+
+  pub finish_made : (i : ℕ) (new : Bool) → task_at s w ≡ Moving i [] new → worker_step block w Finish_execution s ≡ Some (Ok (counted one_step w (executed w i new s)))
+  finish_made i new at = ap (λ t. step_with block w t Finish_execution s) at
 
   pub validate_made : (i n left : ℕ) → task_at s w ≡ Validating i n left → worker_step block w Validate s ≡ Some (Ok (counted (if decided i n left s then one_validation else one_step) w (validated w i n s)))
   validate_made i n left at = ap (λ t. step_with block w t Validate s) at
@@ -200,6 +251,6 @@ module _ (calls : List Invocation) (store : Storage) (w i : ℕ) (answers : List
 -- ---- results
 
 -- what holds in both cases holds
-pub both_ways : {T E : Type 0} (r : Result T E) {P R : Type 0} {Q : E → Type 0} → OnOk r P → IfErr r Q → (P → R) → ((e : E) → Q e → R) → R
-both_ways (Ok x) h k f g = f h
-both_ways (Err e) h k f g = g e k
+pub both_ways : {T E : Type 0} (r : Result T E) {P Q S R : Type 0} {B : E → Type 0} → OnOk r P → OnOk r Q → OnOk r S → IfErr r B → (P → Q → S → R) → ((e : E) → B e → R) → R
+both_ways (Ok x) h k l b f g = f h k l
+both_ways (Err e) h k l b f g = g e b

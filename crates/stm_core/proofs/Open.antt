@@ -1,21 +1,23 @@
 -- Each entry of the versions keeps a place.
-use Rattle.std.proofs.Common.{◌≡◌, ℕ, Bool, true, false, cond, is_some, List, [], ◌∷◌, Option, None, Some, IsSome, IsTrue, refl, sym, ap, subst, ◌∙◌}
+use Rattle.std.proofs.Common.{◌≡◌, ℕ, Bool, true, false, cond, is_some, List, [], ◌∷◌, ◌++◌, length, take, Option, None, Some, IsSome, IsTrue, refl, sym, ap, subst, ◌∙◌}
 use Rattle.std.specs.List.{All, AllByRecursion}
+use Rattle.std.proofs.Math.Seq.{take-append_seam}
+use Rattle.std.proofs.lemmas.List.{length-map}
 use Rattle.std.proofs.lemmas.List.Elements.{All-head, All-tail}
+use Rattle.std.specs.Option.{option_map}
 use Rattle.std.specs.Ordering.{eq_by_cmp}
-use Rattle.std.specs.FinMap.{get, insert, remove, entries}
+use Rattle.std.specs.FinMap.{get, insert, entries}
 use Rattle.std.specs.FinSet.{FinSet, contains}
 use Rattle.version_arena.specs.ArenaState.{Content}
-use Rattle.rv_ledger.specs.Key.{WriteMap}
 use Rattle.mvmap.specs.Versions.{Entry, Stands, Estimate, Place, Versions, changed, entry_at, place_cmp}
 use Rattle.mvmap.proofs.Places.{get_changed, same_place}
 use Rattle.stm_state.specs.declared.state.CallState.{CallState}
 use Rattle.stm_state.specs.declared.state.Recorded.{Recorded}
 use Rattle.stm_state.specs.State.{is_executed}
-use Rattle.stm_state.specs.Steps.{written_by, published, withdrawn, estimated, left_over, recorded_versions}
-use Rattle.stm_state.specs.Invariant.{entry_by, entry_of, write_of}
+use Rattle.stm_state.specs.Steps.{written_by, estimated, keys_of, version_of, write_of}
+use Rattle.stm_state.specs.Invariant.{entry_by, entry_of}
 use Rattle.stm_state.proofs.Writes.{entries_found}
-use Rattle.stm_core.specs.Inner.{AreOpen, keys_of}
+use Rattle.stm_core.specs.Inner.{AreOpen, with_write, writes_at}
 
 -- each entry of versions has one of these places
 abbrev pub Within : FinSet place_cmp → Versions → Type 0
@@ -32,24 +34,24 @@ module _ (places : FinSet place_cmp) where
   changed_within v p x h within q there =
       chosen (eq_by_cmp place_cmp q p) p q x (get v q) (same_place q p) h (within q) (ap is_some (sym (get_changed v p x q)) ∙ there)
 
-  -- so do writes that are published, writes that are withdrawn, and writes that turn to estimates
-  pub published_within : (i n : ℕ) (es : List (List ℕ × Content)) (v : Versions) → AreOpen places i es → Within places v → Within places (published i n es v)
-  published_within i n [] v open_ within = within
-  published_within i n (e ∷ es) v open_ within =
-      published_within i n es (insert v (e.0, i) (Stands n e.1)) open_.1 (changed_within v (e.0, i) (Some (Stands n e.1)) (λ _. open_.0) within)
-
-  pub withdrawn_within : (i : ℕ) (es : List (List ℕ × Content)) (v : Versions) → Within places v → Within places (withdrawn i es v)
-  withdrawn_within i [] v within = within
-  withdrawn_within i (e ∷ es) v within = withdrawn_within i es (remove v (e.0, i)) (changed_within v (e.0, i) None (λ h. cc) within)
-
+  -- so do writes that turn to estimates
   pub estimated_within : (i : ℕ) (es : List (List ℕ × Content)) (v : Versions) → AreOpen places i es → Within places v → Within places (estimated i es v)
   estimated_within i [] v open_ within = within
   estimated_within i (e ∷ es) v open_ within =
       estimated_within i es (insert v (e.0, i) Estimate) open_.1 (changed_within v (e.0, i) (Some Estimate) (λ _. open_.0) within)
 
-  pub moved_within : (i n : ℕ) (last : Option Recorded) (writes : WriteMap) (v : Versions) → AreOpen places i (entries writes) → Within places v → Within places (recorded_versions i n last writes v)
-  moved_within i n last writes v open_ within =
-      withdrawn_within i (left_over last writes) (published i n (entries writes) v) (published_within i n (entries writes) v open_ within)
+  -- and a key that is moved
+  pub moved_within : (i : ℕ) (call : CallState) (key : List ℕ) (v : Versions) → AreOpen places i (writes_at call.last (key ∷ [])) → Within places v → Within places (changed v (key, i) (version_of call key))
+  moved_within i call key v open_ within = changed_within v (key, i) (version_of call key) (go (write_of call.last key) open_) within
+    where
+      go : (o : Option Content) → AreOpen places i (with_write key o []) → IsSome (option_map (λ content. Stands call.incarnation content) o) → IsTrue (contains places (key, i))
+      go None open_ there = cc
+      go (Some content) open_ there = open_.0
+
+  -- places that are open stay so where there are more
+  pub open_grown : (more : FinSet place_cmp) → ((place : Place) → IsTrue (contains places place) → IsTrue (contains more place)) → (i : ℕ) (es : List (List ℕ × Content)) → AreOpen places i es → AreOpen more i es
+  open_grown more grows i [] open_ = tt
+  open_grown more grows i (e ∷ es) open_ = (grows (e.0, i) open_.0, open_grown more grows i es open_.1)
 
   -- an entry is there where there is a write
   entry_there : (done : Bool) (n : ℕ) (content : Option Content) → IsSome content → IsSome (entry_by done n content)
@@ -85,3 +87,10 @@ module _ (places : FinSet place_cmp) where
     All-head (λ key. IsTrue (contains places (key, i))) e.0 (keys_of es) h,
     open_keys i es (All-tail (λ key. IsTrue (contains places (key, i))) e.0 (keys_of es) h),
   )
+
+  -- so are places at keys that begin with those of the writes
+  pub open_first : (i n : ℕ) (es : List (List ℕ × Content)) (keys more : List (List ℕ)) → n ≡ length es → keys ≡ keys_of es ++ more → All (λ key. IsTrue (contains places (key, i))) (take n keys) → AreOpen places i es
+  open_first i n es keys more size same h =
+      let first : take n keys ≡ keys_of es =
+      ap (λ m. take m keys) (size ∙ sym (length-map es (λ e. e.0))) ∙ ap (take (length (keys_of es))) same ∙ take-append_seam (keys_of es) more in
+      open_keys i es (subst (λ ks. All (λ key. IsTrue (contains places (key, i))) ks) first h)

@@ -1,50 +1,86 @@
 -- What a worker's step changes: the worker's own task, and its own counts by one step.
-use Rattle.std.proofs.Common.{◌≡◌, ◌≢◌, ◌<◌, ◌≤◌, ◌+◌, nat_lt, nat_le, ℕ, zero, suc, Bool, true, false, not, ◌&&◌, cond, if◌then◌else◌, List, [], ◌∷◌, length, get_or, set, Option, None, Some, Ok, Err, arith, refl, sym, ap, subst, ◌∙◌, length-set}
+use Rattle.std.proofs.Common.{◌≡◌, ◌≢◌, ◌<◌, ◌≤◌, ◌+◌, nat_lt, nat_le, ℕ, zero, suc, Bool, true, false, not, ◌&&◌, cond, if◌then◌else◌, List, [], ◌∷◌, length, map, get_or, set, Option, None, Some, Ok, Err, arith, refl, sym, ap, subst, ◌∙◌, length-set}
 use Rattle.std.specs.FinMap.{len}
 use Rattle.std.proofs.lemmas.List.{set-get_or, get_or-set_same, get_or-set_other}
+use Rattle.rv_ledger.specs.Key.{Storage}
 use Rattle.rv_ledger.specs.declared.receipt.Receipt.{Receipt}
 use Rattle.rv_ledger.specs.declared.outcome.Counts.{Counts}
 use Rattle.rv_step.specs.Replies.{replies_of}
 use Rattle.rv_step.specs.declared.answer.StorageAnswer.{StorageAnswer}
+use Rattle.mvmap.specs.Reading.{Visible, Base, Found, Blocked, reading}
 use Rattle.stm_state.specs.declared.state.Task.{Task}
-use Rattle.stm_state.specs.declared.state.Task.TheVariants.{Idle, Running, Validating}
-use Rattle.stm_state.specs.State.{State, call_at, task_at, with_task, no_counts, is_ready, is_executed, is_done}
-use Rattle.stm_state.specs.Steps.{Block, Step, Ask, Read_key, Park, Record, Validate, ArenaFull, IncarnationLimit, counted, one_step, one_asking, one_execution, one_validation, decided, asked, ask_validation, ask_execution, count_done, parked, recorded, to_validate, resume_dependents, validated, aborted, is_executed_at, all_stand, record_within, step_with, worker_step}
+use Rattle.stm_state.specs.declared.state.Task.TheVariants.{Idle, Running, Moving, Validating}
+use Rattle.stm_state.specs.declared.state.CallState.{CallState}
+use Rattle.stm_state.specs.State.{State, fresh, call_at, task_at, with_task, no_counts, is_ready, is_executed, is_done}
+use Rattle.stm_state.specs.Steps.{Block, Step, Ask, Read_key, Park, Record, Move_key, Finish_execution, Validate, ArenaFull, IncarnationLimit, counted, one_step, one_asking, one_execution, one_validation, decided, asked, ask_validation, ask_execution, count_done, answered_with, read_at, parked, recorded, moved, executed, next_incarnation, is_parked_on, resume_if_parked, resume_dependents, to_validate, validated, aborted, is_executed_at, all_stand, record_within, step_with, worker_step}
+use Rattle.stm_state.specs.Invariant.{moved_by, run_by}
 use Rattle.stm_state.proofs.Whole.{same_state, none_ok, err_ok}
 use Rattle.stm_core.specs.Driving.{HasNoAnswers}
 
+-- each call but the one that worker w has keeps its last recorded run
+abbrev pub KeepsLasts : ℕ → State → State → Type 0
+KeepsLasts w s t = (i : ℕ) → run_by (task_at s w) ≢ Some i → (call_at t i).last ≡ (call_at s i).last
+
 -- worker w's task becomes one of which P holds, and no other task changes; and no counts
-record TaskTurn (w : ℕ) (P : Task → Type 0) (s t : State) : Type 0 where
-  task : Task
-  fits : P task
-  tasks : t.tasks ≡ set s.tasks w task
-  counts : t.counts ≡ s.counts
+pub record TaskTurn (w : ℕ) (P : Task → Type 0) (s t : State) : Type 0 where
+  pub task : Task
+  pub fits : P task
+  pub tasks : t.tasks ≡ set s.tasks w task
+  pub counts : t.counts ≡ s.counts
+  pub lasts : KeepsLasts w s t
 
 -- and worker w has made one step more
-record Turn (w : ℕ) (P : Task → Type 0) (s t : State) : Type 0 where
-  task : Task
-  fits : P task
-  tasks : t.tasks ≡ set s.tasks w task
-  count : Counts
-  one_more : count.steps ≡ (get_or s.counts w no_counts).steps + 1
-  counts : t.counts ≡ set s.counts w count
+pub record Turn (w : ℕ) (P : Task → Type 0) (s t : State) : Type 0 where
+  pub task : Task
+  pub fits : P task
+  pub tasks : t.tasks ≡ set s.tasks w task
+  pub count : Counts
+  pub one_more : count.steps ≡ (get_or s.counts w no_counts).steps + 1
+  pub counts : t.counts ≡ set s.counts w count
+  pub lasts : KeepsLasts w s t
 
--- what a step leaves of a task: where it is no read there are no answers
+-- a task moves no keys, and its run, where it is not blocked, has no answers
+abbrev pub Rests : Task → Type 0
+Rests task = HasNoAnswers task × (moved_by task ≡ None)
+
+-- what a step leaves of a task: keys to move where it is a record or a move, answers where it is a read, and else neither
 abbrev pub Leaves : Step → Task → Type 0
-Leaves Ask task = HasNoAnswers task
-Leaves (Read_key key) task = Unit {0}
-Leaves Park task = HasNoAnswers task
+Leaves Ask task = Rests task
+Leaves (Read_key key) task = moved_by task ≡ None
+Leaves Park task = Rests task
 Leaves Record task = HasNoAnswers task
-Leaves Validate task = HasNoAnswers task
+Leaves Move_key task = HasNoAnswers task
+Leaves Finish_execution task = Rests task
+Leaves Validate task = Rests task
+
+-- ---- last recorded runs
+
+-- where a call is changed that keeps its last recorded run, all calls keep it
+set_last : (calls : List CallState) (j i : ℕ) (call : CallState) → call.last ≡ (get_or calls j fresh).last → (get_or (set calls j call) i fresh).last ≡ (get_or calls i fresh).last
+set_last [] j i call e = refl
+set_last (x ∷ xs) zero zero call e = e
+set_last (x ∷ xs) zero (suc i) call e = refl
+set_last (x ∷ xs) (suc j) zero call e = refl
+set_last (x ∷ xs) (suc j) (suc i) call e = set_last xs j i call e
+
+-- so do they where those that are parked on a call are readied
+resumed_last : (k : ℕ) (calls : List CallState) (i : ℕ) → (get_or (map (resume_if_parked k) calls) i fresh).last ≡ (get_or calls i fresh).last
+resumed_last k [] i = refl
+resumed_last k (call ∷ calls) zero = go (is_parked_on k call)
+  where
+    go : (b : Bool) → (cond b (next_incarnation call) call).last ≡ call.last
+    go true = refl
+    go false = refl
+resumed_last k (call ∷ calls) (suc i) = resumed_last k calls i
 
 module _ (w : ℕ) (s : State) where
   -- a task is given
-  given : (P : Task → Type 0) (task : Task) (t : State) → P task → t.tasks ≡ set s.tasks w task → t.counts ≡ s.counts → TaskTurn w P s t
-  given P task t p e c = record { task = task; fits = p; tasks = e; counts = c }
+  given : (P : Task → Type 0) (task : Task) (t : State) → P task → t.tasks ≡ set s.tasks w task → t.counts ≡ s.counts → KeepsLasts w s t → TaskTurn w P s t
+  given P task t p e c l = record { task = task; fits = p; tasks = e; counts = c; lasts = l }
 
   -- nothing changes
-  same : (t : State) → task_at s w ≡ Idle → t.tasks ≡ s.tasks → t.counts ≡ s.counts → TaskTurn w HasNoAnswers s t
-  same t at e c = given HasNoAnswers Idle t tt (e ∙ sym (ap (set s.tasks w) (sym at) ∙ set-get_or s.tasks w Idle)) c
+  same : (t : State) → task_at s w ≡ Idle → t.tasks ≡ s.tasks → t.counts ≡ s.counts → KeepsLasts w s t → TaskTurn w Rests s t
+  same t at e c l = given Rests Idle t (tt, refl) (e ∙ sym (ap (set s.tasks w) (sym at) ∙ set-get_or s.tasks w Idle)) c l
 
   -- a step is counted
   counts_one : (P : Task → Type 0) (add : Counts → Counts) (t : State) → ((c : Counts) → (add c).steps ≡ c.steps + 1) → TaskTurn w P s t → Turn w P s (counted add w t)
@@ -55,124 +91,152 @@ module _ (w : ℕ) (s : State) where
     count = add (get_or s.counts w no_counts);
     one_more = more (get_or s.counts w no_counts);
     counts = ap (λ c. set c w (add (get_or c w no_counts))) h.counts;
+    lasts = h.lasts;
   }
 
   -- ---- ask
 
-  validation_asked : task_at s w ≡ Idle → TaskTurn w HasNoAnswers s (ask_validation w s)
+  validation_asked : task_at s w ≡ Idle → TaskTurn w Rests s (ask_validation w s)
   unfolding ask_validation
   validation_asked at = go (is_executed (call_at s s.validation).status) refl
     where
-      go : (b : Bool) → is_executed (call_at s s.validation).status ≡ b → TaskTurn w HasNoAnswers s (ask_validation w s)
-      go true e = rw e (given HasNoAnswers _ _ tt refl refl)
-      go false e = rw e (same _ at refl refl)
+      go : (b : Bool) → is_executed (call_at s s.validation).status ≡ b → TaskTurn w Rests s (ask_validation w s)
+      go true e = rw e (given Rests _ _ (tt, refl) refl refl (λ i _. refl))
+      go false e = rw e (same _ at refl refl (λ i _. refl))
 
-  execution_asked : task_at s w ≡ Idle → TaskTurn w HasNoAnswers s (ask_execution w s)
+  execution_asked : task_at s w ≡ Idle → TaskTurn w Rests s (ask_execution w s)
   unfolding ask_execution
   execution_asked at = go (is_ready (call_at s s.execution).status) refl
     where
-      go : (b : Bool) → is_ready (call_at s s.execution).status ≡ b → TaskTurn w HasNoAnswers s (ask_execution w s)
-      go true e = rw e (given HasNoAnswers _ _ refl refl refl)
-      go false e = rw e (same _ at refl refl)
+      go : (b : Bool) → is_ready (call_at s s.execution).status ≡ b → TaskTurn w Rests s (ask_execution w s)
+      go true e = rw e (given Rests _ _ (refl, refl) refl refl (λ i _. set_last s.calls s.execution i _ refl))
+      go false e = rw e (same _ at refl refl (λ i _. refl))
 
   -- what an asking comes to by its tests
   asked_by_tests : (done late more : Bool) → task_at s w ≡ Idle
-      → TaskTurn w HasNoAnswers s (cond done (count_done w s) (cond late (ask_validation w s) (cond more (ask_execution w s) s)))
-  asked_by_tests true late more at = same _ at refl refl
+      → TaskTurn w Rests s (cond done (count_done w s) (cond late (ask_validation w s) (cond more (ask_execution w s) s)))
+  asked_by_tests true late more at = same _ at refl refl (λ i _. refl)
   asked_by_tests false true more at = validation_asked at
   asked_by_tests false false true at = execution_asked at
-  asked_by_tests false false false at = same _ at refl refl
+  asked_by_tests false false false at = same _ at refl refl (λ i _. refl)
 
-  has_asked : task_at s w ≡ Idle → TaskTurn w HasNoAnswers s (asked w s)
+  has_asked : task_at s w ≡ Idle → TaskTurn w Rests s (asked w s)
   has_asked at = asked_by_tests (is_done s) (nat_lt s.validation s.execution) (nat_lt s.execution (length s.calls)) at
+
+  -- ---- read
+
+  has_read : (base : Storage) (key : List ℕ) (i : ℕ) (answers : List StorageAnswer) → TaskTurn w (λ task. moved_by task ≡ None) s (read_at base key w i answers s)
+  has_read base key i answers = given (λ task. moved_by task ≡ None) _ _ (go (reading s.versions key i)) refl refl (λ j _. refl)
+    where
+      go : (seen : Visible) → moved_by (answered_with base key i answers seen) ≡ None
+      go Base = refl
+      go (Found u n content) = refl
+      go (Blocked b) = refl
 
   -- ---- park
 
-  has_parked : (i b : ℕ) → TaskTurn w HasNoAnswers s (parked w i b s)
+  has_parked : (i b : ℕ) → TaskTurn w Rests s (parked w i b s)
   unfolding parked
   has_parked i b = go (is_executed (call_at s b).status) refl
     where
-      go : (d : Bool) → is_executed (call_at s b).status ≡ d → TaskTurn w HasNoAnswers s (parked w i b s)
-      go true e = rw e (given HasNoAnswers _ _ refl refl refl)
-      go false e = rw e (given HasNoAnswers _ _ tt refl refl)
+      go : (d : Bool) → is_executed (call_at s b).status ≡ d → TaskTurn w Rests s (parked w i b s)
+      go true e = rw e (given Rests _ _ (refl, refl) refl refl (λ j _. refl))
+      go false e = rw e (given Rests _ _ (tt, refl) refl refl (λ j _. set_last s.calls i j _ refl))
 
   -- ---- record
 
-  -- all that are parked on it are woken, and no task changes
-  woken_tasks : (i : ℕ) (t : State) → (resume_dependents i t).tasks ≡ t.tasks
-  unfolding resume_dependents
-  woken_tasks i t = refl
+  pub has_recorded : (i : ℕ) (answers : List StorageAnswer) (receipt : Receipt) → task_at s w ≡ Running i answers None → TaskTurn w HasNoAnswers s (recorded w i answers receipt s)
+  has_recorded i answers receipt at = given HasNoAnswers _ _ tt refl refl
+      (λ j ne. ap (λ (call : CallState). call.last) (get_or-set_other s.calls i j _ fresh (λ e. ne (ap run_by at ∙ ap Some (sym e)))))
 
-  woken_counts : (i : ℕ) (t : State) → (resume_dependents i t).counts ≡ t.counts
-  unfolding resume_dependents
-  woken_counts i t = refl
+  -- ---- move key
 
-  -- what a record leaves to validate
-  left_to_validate : (i n left : ℕ) (new : Bool) (t : State) → t.tasks ≡ s.tasks → t.counts ≡ s.counts → TaskTurn w HasNoAnswers s (to_validate w i new (Validating i n left) t)
+  pub has_moved : (i : ℕ) (key : List ℕ) (keys : List (List ℕ)) (new : Bool) → TaskTurn w HasNoAnswers s (moved w i key keys new s)
+  has_moved i key keys new = given HasNoAnswers _ _ tt refl refl (λ j _. refl)
+
+  -- ---- finish execution
+
+  -- all that are parked on it are readied, and no task changes
+  resumed_tasks : (i : ℕ) (t : State) → (resume_dependents i t).tasks ≡ t.tasks
+  unfolding resume_dependents
+  resumed_tasks i t = refl
+
+  resumed_counts : (i : ℕ) (t : State) → (resume_dependents i t).counts ≡ t.counts
+  unfolding resume_dependents
+  resumed_counts i t = refl
+
+  resumed_lasts : (i : ℕ) (t : State) → (j : ℕ) → (call_at (resume_dependents i t) j).last ≡ (call_at t j).last
+  unfolding resume_dependents
+  resumed_lasts i t j = resumed_last i t.calls j
+
+  -- what is left to validate
+  left_to_validate : (i n left : ℕ) (new : Bool) (t : State) → t.tasks ≡ s.tasks → t.counts ≡ s.counts → KeepsLasts w s t → TaskTurn w Rests s (to_validate w i new (Validating i n left) t)
   unfolding to_validate
-  left_to_validate i n left new t e c = go (nat_lt i t.validation) new
+  left_to_validate i n left new t e c l = go (nat_lt i t.validation) new
     where
-      go : (past fresh : Bool) → TaskTurn w HasNoAnswers s (cond past (cond fresh (with_task w Idle (record t { validation = i })) (with_task w (Validating i n left) t)) (with_task w Idle t))
-      go true true = given HasNoAnswers Idle _ tt (ap (λ l. set l w Idle) e) c
-      go true false = given HasNoAnswers (Validating i n left) _ tt (ap (λ l. set l w (Validating i n left)) e) c
-      go false fresh = given HasNoAnswers Idle _ tt (ap (λ l. set l w Idle) e) c
+      go : (past anew : Bool) → TaskTurn w Rests s (cond past (cond anew (with_task w Idle (record t { validation = i })) (with_task w (Validating i n left) t)) (with_task w Idle t))
+      go true true = given Rests Idle _ (tt, refl) (ap (λ l. set l w Idle) e) c l
+      go true false = given Rests (Validating i n left) _ (tt, refl) (ap (λ l. set l w (Validating i n left)) e) c l
+      go false anew = given Rests Idle _ (tt, refl) (ap (λ l. set l w Idle) e) c l
 
-  has_recorded : (i : ℕ) (answers : List StorageAnswer) (receipt : Receipt) → TaskTurn w HasNoAnswers s (recorded w i answers receipt s)
-  has_recorded i answers receipt = left_to_validate i _ _ _ _ (woken_tasks i _) (woken_counts i _)
+  has_executed : (i : ℕ) (new : Bool) → TaskTurn w Rests s (executed w i new s)
+  has_executed i new = left_to_validate i _ _ new _ (resumed_tasks i _) (resumed_counts i _) (λ j _. resumed_lasts i _ j ∙ set_last s.calls i j _ refl)
 
   -- ---- validate
 
-  has_aborted : (i : ℕ) → TaskTurn w HasNoAnswers s (aborted w i s)
+  has_aborted : (i : ℕ) → TaskTurn w Rests s (aborted w i s)
   unfolding aborted
   has_aborted i = go (nat_lt i s.execution) refl
     where
-      go : (d : Bool) → nat_lt i s.execution ≡ d → TaskTurn w HasNoAnswers s (aborted w i s)
-      go true e = rw e (given HasNoAnswers _ _ refl refl refl)
-      go false e = rw e (given HasNoAnswers _ _ tt refl refl)
+      go : (d : Bool) → nat_lt i s.execution ≡ d → TaskTurn w Rests s (aborted w i s)
+      go true e = rw e (given Rests _ _ (refl, refl) refl refl (λ j _. set_last s.calls i j _ refl))
+      go false e = rw e (given Rests _ _ (tt, refl) refl refl (λ j _. set_last s.calls i j _ refl))
 
-  has_validated : (i n : ℕ) → TaskTurn w HasNoAnswers s (validated w i n s)
+  has_validated : (i n : ℕ) → TaskTurn w Rests s (validated w i n s)
   unfolding validated
   has_validated i n = go (is_executed_at n (call_at s i) && not (all_stand i s)) refl
     where
-      go : (d : Bool) → (is_executed_at n (call_at s i) && not (all_stand i s)) ≡ d → TaskTurn w HasNoAnswers s (validated w i n s)
+      go : (d : Bool) → (is_executed_at n (call_at s i) && not (all_stand i s)) ≡ d → TaskTurn w Rests s (validated w i n s)
       go true e = rw e (has_aborted i)
-      go false e = rw e (given HasNoAnswers _ _ tt refl refl)
+      go false e = rw e (given Rests _ _ (tt, refl) refl refl (λ j _. refl))
 
 -- ---- each step
 
 module _ (block : Block) (w : ℕ) (s t : State) where
   -- a record within the limits
-  recorded_within : (i : ℕ) (answers : List StorageAnswer) (o : Option Receipt) → record_within i answers w o s ≡ Some (Ok t) → Turn w HasNoAnswers s t
-  recorded_within i answers None k = absurd (none_ok t k)
-  recorded_within i answers (Some receipt) k = go (nat_lt 1048576 (s.placed + len receipt.writes)) (nat_le 65535 (call_at s i).incarnation) k
+  recorded_within : (i : ℕ) (answers : List StorageAnswer) (o : Option Receipt) → task_at s w ≡ Running i answers None → record_within i answers w o s ≡ Some (Ok t) → Turn w HasNoAnswers s t
+  recorded_within i answers None at k = absurd (none_ok t k)
+  recorded_within i answers (Some receipt) at k = go (nat_lt 1048576 (s.placed + len receipt.writes)) (nat_le 65535 (call_at s i).incarnation) k
     where
       go : (full spent : Bool) → cond full (Some (Err ArenaFull)) (cond spent (Some (Err IncarnationLimit)) (Some (Ok (counted one_execution w (recorded w i answers receipt s))))) ≡ Some (Ok t) → Turn w HasNoAnswers s t
       go true spent k = absurd (err_ok ArenaFull t k)
       go false true k = absurd (err_ok IncarnationLimit t k)
-      go false false k = subst (λ x. Turn w HasNoAnswers s x) (same_state _ t k) (counts_one w s HasNoAnswers one_execution _ (λ c. refl) (has_recorded w s i answers receipt))
+      go false false k = subst (λ x. Turn w HasNoAnswers s x) (same_state _ t k) (counts_one w s HasNoAnswers one_execution _ (λ c. refl) (has_recorded w s i answers receipt at))
 
   -- parking within the limit
-  parked_within : (i b : ℕ) (spent : Bool) → cond spent (Some (Err IncarnationLimit)) (Some (Ok (counted one_step w (parked w i b s)))) ≡ Some (Ok t) → Turn w HasNoAnswers s t
+  parked_within : (i b : ℕ) (spent : Bool) → cond spent (Some (Err IncarnationLimit)) (Some (Ok (counted one_step w (parked w i b s)))) ≡ Some (Ok t) → Turn w Rests s t
   parked_within i b true k = absurd (err_ok IncarnationLimit t k)
-  parked_within i b false k = subst (λ x. Turn w HasNoAnswers s x) (same_state _ t k) (counts_one w s HasNoAnswers one_step _ (λ c. refl) (has_parked w s i b))
+  parked_within i b false k = subst (λ x. Turn w Rests s x) (same_state _ t k) (counts_one w s Rests one_step _ (λ c. refl) (has_parked w s i b))
 
   -- a validation that counts as a decision or as a step alone
-  validated_once : (i n : ℕ) (decides : Bool) → Turn w HasNoAnswers s (counted (if decides then one_validation else one_step) w (validated w i n s))
-  validated_once i n true = counts_one w s HasNoAnswers one_validation _ (λ c. refl) (has_validated w s i n)
-  validated_once i n false = counts_one w s HasNoAnswers one_step _ (λ c. refl) (has_validated w s i n)
+  validated_once : (i n : ℕ) (decides : Bool) → Turn w Rests s (counted (if decides then one_validation else one_step) w (validated w i n s))
+  validated_once i n true = counts_one w s Rests one_validation _ (λ c. refl) (has_validated w s i n)
+  validated_once i n false = counts_one w s Rests one_step _ (λ c. refl) (has_validated w s i n)
 
   -- each step, by the task
   step_turn : (task : Task) → task_at s w ≡ task → (step : Step) → step_with block w task step s ≡ Some (Ok t) → Turn w (Leaves step) s t
-  step_turn Idle at Ask k = subst (λ x. Turn w HasNoAnswers s x) (same_state _ t k) (counts_one w s HasNoAnswers one_asking _ (λ c. refl) (has_asked w s at))
+  step_turn Idle at Ask k = subst (λ x. Turn w Rests s x) (same_state _ t k) (counts_one w s Rests one_asking _ (λ c. refl) (has_asked w s at))
   step_turn (Running i answers None) at (Read_key key) k =
-      subst (λ x. Turn w (Leaves (Read_key key)) s x) (same_state _ t k) (counts_one w s (Leaves (Read_key key)) one_step _ (λ c. refl) (given w s (Leaves (Read_key key)) _ _ tt refl refl))
+      subst (λ x. Turn w (Leaves (Read_key key)) s x) (same_state _ t k) (counts_one w s (Leaves (Read_key key)) one_step _ (λ c. refl) (has_read w s block.base key i answers))
   step_turn (Running i answers (Some b)) at Park k = parked_within i b (nat_le 65535 (call_at s i).incarnation) k
-  step_turn (Running i answers None) at Record k = recorded_within i answers (block.borne_out i (replies_of answers)) k
-  step_turn (Validating i n left) at Validate k = subst (λ x. Turn w HasNoAnswers s x) (same_state _ t k) (validated_once i n (decided i n left s))
+  step_turn (Running i answers None) at Record k = recorded_within i answers (block.borne_out i (replies_of answers)) at k
+  step_turn (Moving i (key ∷ keys) new) at Move_key k = subst (λ x. Turn w HasNoAnswers s x) (same_state _ t k) (counts_one w s HasNoAnswers one_step _ (λ c. refl) (has_moved w s i key keys new))
+  step_turn (Moving i [] new) at Finish_execution k = subst (λ x. Turn w Rests s x) (same_state _ t k) (counts_one w s Rests one_step _ (λ c. refl) (has_executed w s i new))
+  step_turn (Validating i n left) at Validate k = subst (λ x. Turn w Rests s x) (same_state _ t k) (validated_once i n (decided i n left s))
   step_turn task at step k = absurd (none_ok t k)
 
   -- each step
-  turn : (step : Step) → worker_step block w step s ≡ Some (Ok t) → Turn w (Leaves step) s t
+  pub turn : (step : Step) → worker_step block w step s ≡ Some (Ok t) → Turn w (Leaves step) s t
   turn step k = step_turn (task_at s w) refl step k
 
 -- ---- what a turn says

@@ -1,5 +1,5 @@
 -- The state of a job's run, and what its calls owe to worker steps.
-use Rattle.std.specs.Prelude.{◌≡◌, ◌<◌, ◌==◌, ℕ, Bool, true, false, List, [], length, get_or, None, Some, Ok, Err, slice_get}
+use Rattle.std.specs.Prelude.{◌≡◌, ◌<◌, ◌==◌, ℕ, Bool, true, false, List, [], ◌∷◌, length, get_or, None, Some, Ok, Err, slice_get}
 use Rattle.std.specs.FinMap as map
 use Rattle.rv_ledger.specs.Key.{Storage}
 use Rattle.rv_ledger.specs.declared.job.Job.{Job}
@@ -8,9 +8,9 @@ use Rattle.rv_step.specs.declared.answer.StorageAnswer.{StorageAnswer}
 use Rattle.rv_step.specs.declared.ended_run.EndedRun.{EndedRun}
 use Rattle.mvmap.specs.Reading.{Visible, Base, Found, Blocked}
 use Rattle.stm_state.specs.declared.state.Task.{Task}
-use Rattle.stm_state.specs.declared.state.Task.TheVariants.{Idle, Running, Validating}
+use Rattle.stm_state.specs.declared.state.Task.TheVariants.{Idle, Running, Moving, Validating}
 use Rattle.stm_state.specs.State.{State, call_at, task_at, no_counts}
-use Rattle.stm_state.specs.Steps.{Block, Step, Ask, Read_key, Park, Record, Validate, Limit, worker_step}
+use Rattle.stm_state.specs.Steps.{Block, Step, Ask, Read_key, Park, Record, Move_key, Finish_execution, Validate, Limit, worker_step}
 use Rattle.stm_state.specs.Done.{block_of}
 use Rattle.scheduler.specs.declared.counting.TheConstants.{COUNT_LIMIT}
 use Rattle.scheduler.specs.Schedule.{KeepsRooms}
@@ -36,6 +36,8 @@ is_due Ask Idle = true
 is_due (Read_key key) (Running i answers None) = true
 is_due Record (Running i answers None) = true
 is_due Park (Running i answers (Some b)) = true
+is_due Move_key (Moving i (key ∷ keys) new) = true
+is_due Finish_execution (Moving i [] new) = true
 is_due Validate (Validating i n left) = true
 is_due step task = false
 
@@ -62,6 +64,8 @@ abbrev pub next_step_of : State → Task → NextStep
 next_step_of s Idle = next_step.Ask
 next_step_of s (Running i answers None) = next_step.Run i (call_at s i).incarnation
 next_step_of s (Running i answers (Some b)) = next_step.Park i (call_at s i).incarnation
+next_step_of s (Moving i (key ∷ keys) new) = next_step.MoveKey i (call_at s i).incarnation
+next_step_of s (Moving i [] new) = next_step.FinishExecution i (call_at s i).incarnation
 next_step_of s (Validating i n left) = next_step.Validate i n
 
 -- the call that a task names is one of so many
@@ -69,6 +73,8 @@ abbrev pub IsWithin : ℕ → NextStep → Type 0
 IsWithin count next_step.Ask = Unit {0}
 IsWithin count (next_step.Run i n) = i < count
 IsWithin count (next_step.Park i n) = i < count
+IsWithin count (next_step.MoveKey i n) = i < count
+IsWithin count (next_step.FinishExecution i n) = i < count
 IsWithin count (next_step.Validate i n) = i < count
 
 -- what an asking is answered, where all was done before it or not, by the task that the worker has after it
@@ -76,6 +82,7 @@ abbrev pub ask_result_of : Bool → Task → AskResult
 ask_result_of true task = ask_result.Done
 ask_result_of false Idle = ask_result.Nothing
 ask_result_of false (Running i answers blocked) = ask_result.Task
+ask_result_of false (Moving i keys new) = ask_result.Task
 ask_result_of false (Validating i n left) = ask_result.Task
 
 -- what a read is told where this is seen of its key over a storage
@@ -88,12 +95,14 @@ read_result_of base key (Blocked b) = read_result.Blocked
 abbrev pub answers_of : Task → List StorageAnswer
 answers_of Idle = []
 answers_of (Running i answers blocked) = answers
+answers_of (Moving i keys new) = []
 answers_of (Validating i n left) = []
 
 -- the call that a task runs
 abbrev pub runs : Task → ℕ → Bool
 runs Idle i = false
 runs (Running j answers blocked) i = j == i
+runs (Moving j keys new) i = false
 runs (Validating j n left) i = false
 
 -- a run is of the call that a worker's task runs, and was given just the answers of that task

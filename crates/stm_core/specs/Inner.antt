@@ -1,28 +1,29 @@
--- The parts of a job's run, for the invariant and the private functions: what runs wrote, the places of the versions, and the state.
-use Rattle.std.specs.Prelude.{◌≡◌, ℕ, List, Some, length, map, slice_get, sum_by, IsSome, IsTrue}
+-- The parts of a job's run, for the invariant and the private functions: what runs wrote, the places of the versions, what is
+-- promised to runs whose keys are moved, and the state.
+use Rattle.std.specs.Prelude.{◌≡◌, ◌≤◌, ◌+◌, ◌*◌, ℕ, Bool, List, [], ◌∷◌, Option, None, Some, get_or, length, map, slice_get, sum_by, IsSome, IsTrue}
 use Rattle.std.specs.List.{AllByRecursion}
-use Rattle.std.specs.FinMap.{get}
+use Rattle.std.specs.FinMap.{entries, get, len}
 use Rattle.std.specs.FinSet.{FinSet, contains}
-use Rattle.version_arena.specs.ArenaState.{Content, bytes_of}
+use Rattle.version_arena.specs.ArenaState.{Content}
 use Rattle.mvmap.specs.Versions.{Place, place_cmp}
 use Rattle.mvmap.specs.Table.{Table}
+use Rattle.rv_ledger.specs.Key.{WriteMap}
 use Rattle.rv_ledger.specs.Call.{Invocation}
 use Rattle.rv_ledger.specs.declared.job.Job.{Job}
 use Rattle.rv_step.specs.declared.answer.StorageAnswer.{StorageAnswer}
 use Rattle.rv_step.specs.declared.ended_run.EndedRun.{EndedRun}
 use Rattle.read_set.specs.declared.Read.{Read}
-use Rattle.stm_state.specs.State.{State}
-use Rattle.stm_state.specs.Steps.{read_of}
+use Rattle.rv_ledger.specs.declared.inline_bytes.TheConstants.{VALUE_LIMIT}
+use Rattle.stm_state.specs.declared.state.CallState.{CallState}
+use Rattle.stm_state.specs.declared.state.Recorded.{Recorded}
+use Rattle.stm_state.specs.declared.state.Task.{Task}
+use Rattle.stm_state.specs.declared.state.Task.TheVariants.{Idle, Running, Moving, Validating}
+use Rattle.stm_state.specs.Limits.{record_limit}
+use Rattle.stm_state.specs.State.{State, fresh, call_at, task_at}
+use Rattle.stm_state.specs.Steps.{read_of, write_of}
 use Rattle.stm_state.specs.Done.{Reached, block_of}
 use Rattle.scheduler.specs.Schedule.{Schedule, state_of}
 use Rattle.stm_core.specs.CoreState.{CoreState}
-
--- the keys of writes, and how many bytes of values they have
-abbrev pub keys_of : List (List ℕ × Content) → List (List ℕ)
-keys_of writes = map (λ write. write.0) writes
-
-abbrev pub size_of : List (List ℕ × Content) → ℕ
-size_of writes = sum_by (λ write. bytes_of write.1) writes
 
 -- a call has a place at the key of each write
 abbrev pub AreOpen : FinSet place_cmp → ℕ → List (List ℕ × Content) → Type 0
@@ -32,21 +33,62 @@ AreOpen places i writes = AllByRecursion (λ write. IsTrue (contains places (wri
 abbrev pub HasPlaces : Table → Type 0
 HasPlaces table = (place : Place) → IsSome (get table.versions place) → IsTrue (contains table.places place)
 
+-- a table with the same versions and records, and no less room
+pub record IsGrown (old new : Table) : Type 0 where
+  pub versions : new.versions ≡ old.versions
+  pub records : new.arena.records ≡ old.arena.records
+  pub places : (place : Place) → IsTrue (contains old.places place) → IsTrue (contains new.places place)
+  pub room : old.arena.room ≤ new.arena.room
+  pub bytes : old.arena.bytes ≤ new.arena.bytes
+
 -- a run is of the call at an index and was given these answers
 abbrev pub IsHanded : List Invocation → ℕ → List StorageAnswer → EndedRun → Type 0
 IsHanded calls i answers run = (slice_get calls i ≡ Some run.call) × (run.answers.items ≡ answers)
 
--- the state that versions and a schedule are
-abbrev pub state_in : Table → Schedule → State
-state_in table schedule = state_of table.versions (length table.arena.records) schedule
+-- the writes at some keys, in their order; none at a key without one
+abbrev pub with_write : List ℕ → Option Content → List (List ℕ × Content) → List (List ℕ × Content)
+with_write key None writes = writes
+with_write key (Some content) writes = (key, content) ∷ writes
 
-abbrev pub core_state_of : Job → Table → Schedule → CoreState
-core_state_of job table schedule = record { job = job; state = state_in table schedule; rooms = schedule.rooms }
+abbrev pub writes_at : Option Recorded → List (List ℕ) → List (List ℕ × Content)
+writes_at last [] = []
+writes_at last (key ∷ keys) = with_write key (write_of last key) (writes_at last keys)
 
--- some list of worker steps leads to the state, and the versions have places
-pub record IsReached (job : Job) (table : Table) (schedule : Schedule) : Type 0 where
-  pub reached : Reached (block_of job.block job.store) (length schedule.tasks) (state_in table schedule)
+-- the writes that a task is yet to publish
+abbrev pub unpublished : List CallState → Task → List (List ℕ × Content)
+unpublished calls Idle = []
+unpublished calls (Running i answers blocked) = []
+unpublished calls (Moving i keys new) = writes_at (get_or calls i fresh).last keys
+unpublished calls (Validating i n left) = []
+
+-- what was promised to the tasks is kept: each write that is yet to be published has a place, and for so many more records,
+-- however long their values are, there is room
+pub record KeepsPromises (table : Table) (promised : ℕ) (s : State) : Type 0 where
+  pub places : (w i : ℕ) (keys : List (List ℕ)) (new : Bool) → task_at s w ≡ Moving i keys new → AreOpen table.places i (writes_at (call_at s i).last keys)
+  pub count : sum_by (λ task. length (unpublished s.calls task)) s.tasks ≡ promised
+  pub limit : length table.arena.records + promised ≤ record_limit
+  pub room : promised ≤ table.arena.room
+  pub bytes : promised * VALUE_LIMIT ≤ table.arena.bytes
+
+-- room is promised for the writes of a call's run, beside what was promised before
+pub record IsPromised (i : ℕ) (writes : WriteMap) (table : Table) (before after : ℕ) : Type 0 where
+  pub count : after ≡ before + len writes
+  pub places : AreOpen table.places i (entries writes)
+  pub room : after ≤ table.arena.room
+  pub bytes : after * VALUE_LIMIT ≤ table.arena.bytes
+
+-- the state that versions, the records that are promised, and a schedule are
+abbrev pub state_in : Table → ℕ → Schedule → State
+state_in table promised schedule = state_of table.versions (length table.arena.records + promised) schedule
+
+abbrev pub core_state_of : Job → Table → ℕ → Schedule → CoreState
+core_state_of job table promised schedule = record { job = job; state = state_in table promised schedule; rooms = schedule.rooms }
+
+-- some list of worker steps leads to the state, the versions have places, and what was promised is kept
+pub record IsReached (job : Job) (table : Table) (promised : ℕ) (schedule : Schedule) : Type 0 where
+  pub reached : Reached (block_of job.block job.store) (length schedule.tasks) (state_in table promised schedule)
   pub places : HasPlaces table
+  pub promises : KeepsPromises table promised (state_in table promised schedule)
 
 -- the reads of a run that was given these answers
 abbrev pub reads_in : List StorageAnswer → List Read

@@ -161,6 +161,8 @@ fn step(
         }
         NextStep::Run { call, .. } => *run = run_on(alloc, core, worker, call, run.take())?,
         NextStep::Park { .. } => park(core, worker)?,
+        NextStep::MoveKey { .. } => core.move_key(worker),
+        NextStep::FinishExecution { .. } => core.finish_execution(worker),
         NextStep::Validate { .. } => core.validate(worker),
     }
     Ok(())

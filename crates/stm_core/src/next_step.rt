@@ -22,6 +22,20 @@ pub enum NextStep {
         /// The call's incarnation.
         incarnation: u16,
     },
+    /// `move_key`.
+    MoveKey {
+        /// The call's index.
+        call: u16,
+        /// The call's incarnation.
+        incarnation: u16,
+    },
+    /// `finish_execution`.
+    FinishExecution {
+        /// The call's index.
+        call: u16,
+        /// The call's incarnation.
+        incarnation: u16,
+    },
     /// `validate`.
     Validate {
         /// The call's index.

@@ -1,6 +1,6 @@
 //! What a worker is about, and a read of its run.
 
-ghost use Rattle.std.specs.Prelude.{◌≡◌, ◌<◌, ◌≤◌, ℕ, List, length, get_or, IfSome, None, Some};
+ghost use Rattle.std.specs.Prelude.{◌≡◌, ◌<◌, ◌≤◌, ℕ, Bool, List, length, get_or, IfSome, None, Some};
 ghost use Rattle.std.specs.Option.{option_copied};
 ghost use Rattle.rv_step.specs.declared.answer.StorageAnswer.{StorageAnswer};
 ghost use Rattle.mvmap.specs.Versions.{Versions};
@@ -44,11 +44,25 @@ pub(crate) fn next_step_of(scheduler: &Scheduler, worker: usize) -> NextStep
             call,
             incarnation: scheduler.call(call).incarnation,
         },
+        TaskKind::Moving { call, .. } => moving_step(scheduler, worker, call),
         TaskKind::Validating {
             call,
             incarnation,
             ..
         } => NextStep::Validate { call, incarnation },
+    }
+}
+
+/// The step that a worker owes that moves the keys of a call's run.
+fn moving_step(scheduler: &Scheduler, worker: usize, call: u16) -> NextStep
+    requires worker { worker < length scheduler.now.tasks }
+    requires within { call < length scheduler.now.calls }
+    ensures { (keys : List (List ℕ)) (new : Bool) → get_or scheduler.now.tasks worker task.Idle ≡ task.Moving call keys new → (v : Versions) (p : ℕ) → result ≡ next_step_of (state_of v p scheduler.now) (task.Moving call keys new) }
+{
+    let incarnation = scheduler.call(call).incarnation;
+    match scheduler.next_key(worker) {
+        Some(_) => NextStep::MoveKey { call, incarnation },
+        None => NextStep::FinishExecution { call, incarnation },
     }
 }
 

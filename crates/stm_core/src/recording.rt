@@ -1,28 +1,26 @@
 //! A run that is handed in.
 
-ghost use Rattle.std.specs.Prelude.{◌≡◌, ◌≢◌, ◌<◌, ◌≤◌, ◌+◌, ◌↔◌, ℕ, List, length, get_or, true, Some, None, IfOk, IfErr, OnOk, IsTrue};
+ghost use Rattle.std.specs.Prelude.{◌≡◌, ◌≢◌, ◌<◌, ◌≤◌, ◌+◌, ◌*◌, ◌↔◌, ℕ, List, length, get_or, true, Some, None, IfOk, IfErr, OnOk};
 ghost use Rattle.std.specs.FinMap.{entries, len};
-ghost use Rattle.std.specs.FinSet as set;
 ghost use Rattle.rv_step.specs.declared.answer.StorageAnswer.{StorageAnswer};
-ghost use Rattle.mvmap.specs.Versions.{Place};
-ghost use Rattle.stm_state.specs.declared.state.Status.TheVariants as status;
 ghost use Rattle.stm_state.specs.declared.state.Task.TheVariants as task;
 ghost use Rattle.stm_state.specs.State.{fresh};
-ghost use Rattle.stm_state.specs.Steps.{counted, one_execution, recorded};
+ghost use Rattle.stm_state.specs.Steps.{counted, keys_to_move, one_execution, recorded};
 ghost use Rattle.scheduler.specs.Schedule.{KeepsRooms, MayCount};
 ghost use Rattle.scheduler.specs.Workers.{IsRunning};
 ghost use Rattle.stm_core.specs.declared.fault.RecordFault.TheVariants as fault;
-ghost use Rattle.stm_core.specs.Inner.{AreOpen, HasPlaces, IsHanded, reads_in, size_of, state_in};
+ghost use Rattle.stm_core.specs.Inner.{AreOpen, IsGrown, IsHanded, IsPromised, reads_in, state_in};
 
 use crate::fault::{RecordFault, Refused};
 use crate::reads::reads_of;
 use crate::same::same_answers;
-use crate::versions::{move_all, written_bytes, written_count, written_keys};
+use crate::versions::{keys_to_move, written_count};
 use mvmap::MvMap;
 use read_set::ReadSet;
-use rv_ledger::{Job, same_call};
+use rv_ledger::inline_bytes::VALUE_LIMIT;
+use rv_ledger::{Job, Key, same_call};
 use rv_step::EndedRun;
-use scheduler::{INCARNATION_LIMIT, LAST_INCARNATION, Scheduler};
+use scheduler::{INCARNATION_LIMIT, Scheduler};
 use std::alloc::Global;
 use stm_state::Recorded;
 use version_arena::{RECORD_LIMIT, ReserveFault};
@@ -49,11 +47,13 @@ pub(crate) fn is_own(
     }
 }
 
-/// Records a worker's own run of a call: all that takes memory comes before any change. Where it is
-/// refused the run is handed back, and nothing changes.
+/// Records a worker's own run of a call: the run is kept, its keys are to be moved, and room for what it
+/// wrote is promised. `promised` is how many records are promised. All that takes memory comes before any
+/// change; where it is refused the run is handed back, and nothing changes.
 pub(crate) fn record_run(
     alloc: Global,
     map: &mut MvMap,
+    promised: &mut usize,
     scheduler: &mut Scheduler,
     worker: usize,
     call: u16,
@@ -61,42 +61,43 @@ pub(crate) fn record_run(
 ) -> Result<(), Refused>
     requires counts { MayCount worker scheduler.old }
     requires within { call < length scheduler.old.calls }
-    requires incarnations { (i : ℕ) → (get_or scheduler.old.calls i fresh).status ≡ status.Aborting → (get_or scheduler.old.calls i fresh).incarnation ≤ LAST_INCARNATION }
-    ensures state { OnOk result (state_in map.new scheduler.new ≡ counted one_execution worker (recorded worker call run.answers.items run.receipt (state_in map.old scheduler.old))) }
-    ensures within { OnOk result ((length map.old.arena.records + len run.receipt.writes ≤ RECORD_LIMIT) × ((get_or scheduler.old.calls call fresh).incarnation < INCARNATION_LIMIT)) }
-    ensures full { IfErr result (λ e. e.fault ≡ fault.ArenaFull → RECORD_LIMIT < length map.old.arena.records + len run.receipt.writes) }
-    ensures limit { IfErr result (λ e. e.fault ≡ fault.IncarnationLimit → (length map.old.arena.records + len run.receipt.writes ≤ RECORD_LIMIT) × (INCARNATION_LIMIT ≤ (get_or scheduler.old.calls call fresh).incarnation)) }
-    ensures memory { IfErr result (λ e. e.fault ≡ fault.Memory → (length map.old.arena.records + len run.receipt.writes ≤ RECORD_LIMIT) × ((get_or scheduler.old.calls call fresh).incarnation < INCARNATION_LIMIT)) }
+    requires placed { length map.old.arena.records + promised.old ≤ RECORD_LIMIT }
+    ensures state { OnOk result (state_in map.new promised.new scheduler.new ≡ counted one_execution worker (recorded worker call run.answers.items run.receipt (state_in map.old promised.old scheduler.old))) }
+    ensures within { OnOk result ((length map.old.arena.records + promised.old + len run.receipt.writes ≤ RECORD_LIMIT) × ((get_or scheduler.old.calls call fresh).incarnation < INCARNATION_LIMIT)) }
+    ensures full { IfErr result (λ e. e.fault ≡ fault.ArenaFull → RECORD_LIMIT < length map.old.arena.records + promised.old + len run.receipt.writes) }
+    ensures limit { IfErr result (λ e. e.fault ≡ fault.IncarnationLimit → (length map.old.arena.records + promised.old + len run.receipt.writes ≤ RECORD_LIMIT) × (INCARNATION_LIMIT ≤ (get_or scheduler.old.calls call fresh).incarnation)) }
+    ensures memory { IfErr result (λ e. e.fault ≡ fault.Memory → (length map.old.arena.records + promised.old + len run.receipt.writes ≤ RECORD_LIMIT) × ((get_or scheduler.old.calls call fresh).incarnation < INCARNATION_LIMIT)) }
     ensures own { IfErr result (λ e. e.fault ≢ fault.Foreign) }
-    ensures back { IfErr result (λ e. (e.run ≡ run) × (state_in map.new scheduler.new ≡ state_in map.old scheduler.old) × (scheduler.new ≡ scheduler.old)) }
-    ensures places { HasPlaces map.old → HasPlaces map.new }
+    ensures back { IfErr result (λ e. (e.run ≡ run) × (promised.new ≡ promised.old) × (scheduler.new ≡ scheduler.old)) }
+    ensures promised { OnOk result (IsPromised call run.receipt.writes map.new promised.old promised.new) }
+    ensures grown { IsGrown map.old map.new }
     ensures rooms { KeepsRooms worker scheduler.old.rooms scheduler.new.rooms }
 {
     let count = written_count(&run.receipt.writes);
-    if count > RECORD_LIMIT - map.placed() {
+    if count > RECORD_LIMIT - map.placed() - *promised {
         return Err(Refused {
             fault: RecordFault::ArenaFull,
             run,
         });
     }
-    let incarnation = scheduler.call(call).incarnation;
-    if incarnation == u16::MAX {
+    if scheduler.call(call).incarnation == u16::MAX {
         return Err(Refused {
             fault: RecordFault::IncarnationLimit,
             run,
         });
     }
-    match make_room(alloc, map, call, &run) {
-        Ok(reads) => {
+    match make_room(
+        alloc,
+        map,
+        *promised + count,
+        call,
+        &scheduler.call(call).last,
+        &run,
+    ) {
+        Ok((reads, keys)) => {
+            *promised += count;
             let EndedRun { receipt, .. } = run;
-            move_all(
-                map,
-                call,
-                incarnation,
-                &scheduler.call(call).last,
-                &receipt.writes,
-            );
-            scheduler.finish_execution(worker, call, Recorded { receipt, reads });
+            scheduler.keep_run(worker, call, Recorded { receipt, reads }, keys);
             Ok(())
         }
         Err(_) => Err(Refused {
@@ -106,26 +107,27 @@ pub(crate) fn record_run(
     }
 }
 
-/// Makes room for what a run wrote, and gives the reads that it made; refused where memory ran out.
-/// The versions stay.
+/// Makes room for so many records and for what a run wrote, and gives the reads that it made and the keys
+/// that it is to move; refused where memory ran out. The versions stay.
 fn make_room(
     alloc: Global,
     map: &mut MvMap,
+    records: usize,
     call: u16,
+    last: &Option<Recorded>,
     run: &EndedRun,
-) -> Result<ReadSet, ReserveFault>
-    requires { length map.old.arena.records + length (entries run.now.receipt.writes) ≤ RECORD_LIMIT }
-    ensures reads { IfOk result (λ reads. reads ≡ reads_in run.now.answers.items) }
+) -> Result<(ReadSet, Vec<Key>), ReserveFault>
+    requires { length map.old.arena.records + records ≤ RECORD_LIMIT }
+    ensures reads { IfOk result (λ made. made.0 ≡ reads_in run.now.answers.items) }
+    ensures keys { IfOk result (λ made. made.1.items ≡ keys_to_move last.now run.now.receipt.writes) }
     ensures open_ { OnOk result (AreOpen map.new.places call (entries run.now.receipt.writes)) }
-    ensures room { OnOk result (length (entries run.now.receipt.writes) ≤ map.new.arena.room) }
-    ensures bytes { OnOk result (size_of (entries run.now.receipt.writes) ≤ map.new.arena.bytes) }
-    ensures versions { map.new.versions ≡ map.old.versions }
-    ensures records { map.new.arena.records ≡ map.old.arena.records }
-    ensures places { (place : Place) → IsTrue (set.contains map.old.places place) → IsTrue (set.contains map.new.places place) }
+    ensures room { OnOk result (records ≤ map.new.arena.room) }
+    ensures bytes { OnOk result (records * VALUE_LIMIT ≤ map.new.arena.bytes) }
+    ensures grown { IsGrown map.old map.new }
 {
     let reads = reads_of(alloc, run.answers.as_slice())?;
-    let keys = written_keys(alloc, &run.receipt.writes)?;
-    let bytes = written_bytes(&run.receipt.writes);
-    map.reserve_for(keys.as_slice(), call, keys.len(), bytes)?;
-    Ok(reads)
+    let keys = keys_to_move(alloc, last, &run.receipt.writes)?;
+    let written = &keys.as_slice()[..written_count(&run.receipt.writes)];
+    map.reserve_for(written, call, records, records * VALUE_LIMIT)?;
+    Ok((reads, keys))
 }

@@ -11,6 +11,7 @@ use crate::outcome::outcome_of;
 use crate::reading::{next_step_of, read_at};
 use crate::recording::{is_own, record_run};
 use crate::validating::validate_call;
+use crate::versions::move_key;
 use mvmap::MvMap;
 use rv_ledger::{Counts, Job, Key, Outcome};
 use rv_step::EndedRun;
@@ -26,6 +27,8 @@ pub struct Core {
     job: Job,
     map: MvMap,
     scheduler: Scheduler,
+    /// How many records are promised to runs whose keys are moved.
+    promised: usize,
 }
 
 impl Model for Core {
@@ -43,9 +46,9 @@ impl Model for Core {
 
     ghost coded = { Prim.hlevel (codes, job_row.coded, call_row.coded, task_row.coded, finite.code {R = place_cmp} coded_place coded_entry) };
 
-    ghost view = { λ c. core_state_of c.job c.map c.scheduler };
+    ghost view = { λ c. core_state_of c.job c.map c.promised c.scheduler };
 
-    ghost invariant = { λ c. IsReached c.job c.map c.scheduler };
+    ghost invariant = { λ c. IsReached c.job c.map c.promised c.scheduler };
 }
 
 impl Core {
@@ -87,6 +90,7 @@ impl Core {
                 job,
                 map,
                 scheduler,
+                promised: 0,
             }),
             Err(_) => Err(map.into_arena()),
         }
@@ -213,9 +217,10 @@ impl Core {
         Ok(())
     }
 
-    /// A worker hands in its ended run. Refused as Foreign exactly where the run's call is not the
-    /// job's call at that index or its answers are not those that were given; else as ArenaFull,
-    /// IncarnationLimit or Memory, tested in this order. The run is handed back then, and nothing changes.
+    /// A worker hands in its ended run, whose keys it is to move then. Refused as Foreign exactly where
+    /// the run's call is not the job's call at that index or its answers are not those that were given;
+    /// else as ArenaFull, IncarnationLimit or Memory, tested in this order. The run is handed back then,
+    /// and nothing changes.
     pub fn record(&mut self, alloc: Global, worker: usize, run: EndedRun) -> Result<(), Refused>
         requires { IsDue worker steps.Record self.old }
         ensures makes { OnOk result (Makes worker steps.Record self.old self.new) }
@@ -234,7 +239,49 @@ impl Core {
                 run,
             });
         }
-        record_run(alloc, &mut self.map, &mut self.scheduler, worker, call, run)
+        record_run(
+            alloc,
+            &mut self.map,
+            &mut self.promised,
+            &mut self.scheduler,
+            worker,
+            call,
+            run,
+        )
+    }
+
+    /// A worker moves the next key of the run that it handed in: what the run wrote there is published; a
+    /// key that only the call's run before it wrote is withdrawn. Takes no memory.
+    pub fn move_key(&mut self, worker: usize)
+        requires { IsDue worker steps.Move_key self.old }
+        ensures { Makes worker steps.Move_key self.old self.new }
+    {
+        let TaskKind::Moving { call, .. } = self.scheduler.task_kind(worker) else {
+            unreachable!();
+        };
+        let Some(key) = self.scheduler.next_key(worker) else {
+            unreachable!();
+        };
+        move_key(
+            &mut self.map,
+            &mut self.promised,
+            key,
+            call,
+            self.scheduler.call(call),
+        );
+        self.scheduler.drop_key(worker);
+    }
+
+    /// The call whose keys a worker has moved is EXECUTED: all that are parked on it are readied, and
+    /// what is validated again is settled. Takes no memory.
+    pub fn finish_execution(&mut self, worker: usize)
+        requires { IsDue worker steps.Finish_execution self.old }
+        ensures { Makes worker steps.Finish_execution self.old self.new }
+    {
+        let TaskKind::Moving { call, new_key } = self.scheduler.task_kind(worker) else {
+            unreachable!();
+        };
+        self.scheduler.finish_execution(worker, call, new_key);
     }
 
     /// A worker checks all the reads of the run that it validates, and takes the run back where one
@@ -280,6 +327,7 @@ impl Core {
             job: _,
             map,
             scheduler: _,
+            promised: _,
         } = self;
         map.into_arena()
     }
@@ -292,6 +340,8 @@ fn answered(done: bool, task: TaskKind) -> AskResult
     match task {
         _ if done => AskResult::Done,
         TaskKind::Idle => AskResult::Nothing,
-        TaskKind::Running { .. } | TaskKind::Validating { .. } => AskResult::Task,
+        TaskKind::Running { .. } | TaskKind::Moving { .. } | TaskKind::Validating { .. } => {
+            AskResult::Task
+        },
     }
 }

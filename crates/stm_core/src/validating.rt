@@ -1,6 +1,6 @@
 //! A validation of a call.
 
-ghost use Rattle.std.specs.Prelude.{◌≡◌, ◌<◌, ◌≤◌, length, get_or, true, if◌then◌else◌};
+ghost use Rattle.std.specs.Prelude.{◌≡◌, ◌<◌, ◌≤◌, ℕ, length, get_or, true, if◌then◌else◌};
 ghost use Rattle.stm_state.specs.State.{fresh};
 ghost use Rattle.stm_state.specs.Steps.{aborted, counted, decided, is_executed_at, one_step, one_validation, validated, written_by};
 ghost use Rattle.scheduler.specs.Schedule.{KeepsRooms, MayCount};
@@ -24,9 +24,10 @@ pub(crate) fn validate_call(
     requires counts { MayCount worker scheduler.old }
     requires within { call < length scheduler.old.calls }
     requires limit { is_executed_at incarnation (get_or scheduler.old.calls call fresh) ≡ true → incarnation ≤ LAST_INCARNATION }
-    requires places { AreOpen map.old.places call (written_by (get_or scheduler.old.calls call fresh).last) }
-    ensures state { state_in map.new scheduler.new ≡ counted (if decided call incarnation left (state_in map.old scheduler.old) then one_validation else one_step) worker (validated worker call incarnation (state_in map.old scheduler.old)) }
+    requires places { is_executed_at incarnation (get_or scheduler.old.calls call fresh) ≡ true → AreOpen map.old.places call (written_by (get_or scheduler.old.calls call fresh).last) }
+    ensures state { (promised : ℕ) → state_in map.new promised scheduler.new ≡ counted (if decided call incarnation left (state_in map.old promised scheduler.old) then one_validation else one_step) worker (validated worker call incarnation (state_in map.old promised scheduler.old)) }
     ensures places { HasPlaces map.old → HasPlaces map.new }
+    ensures room { (map.new.places ≡ map.old.places) × (map.new.arena ≡ map.old.arena) }
     ensures rooms { KeepsRooms worker scheduler.old.rooms scheduler.new.rooms }
 {
     let current = is_executed_at(scheduler.call(call), incarnation);
@@ -45,8 +46,9 @@ fn abort(map: &mut MvMap, scheduler: &mut Scheduler, worker: usize, call: u16, i
     requires current { is_executed_at incarnation (get_or scheduler.old.calls call fresh) ≡ true }
     requires limit { incarnation ≤ LAST_INCARNATION }
     requires places { AreOpen map.old.places call (written_by (get_or scheduler.old.calls call fresh).last) }
-    ensures state { state_in map.new scheduler.new ≡ counted one_validation worker (aborted worker call (state_in map.old scheduler.old)) }
+    ensures state { (promised : ℕ) → state_in map.new promised scheduler.new ≡ counted one_validation worker (aborted worker call (state_in map.old promised scheduler.old)) }
     ensures places { HasPlaces map.old → HasPlaces map.new }
+    ensures room { (map.new.places ≡ map.old.places) × (map.new.arena ≡ map.old.arena) }
     ensures rooms { KeepsRooms worker scheduler.old.rooms scheduler.new.rooms }
 {
     if scheduler.try_abort(call, incarnation) {

@@ -1,16 +1,18 @@
-//! What a run wrote, published, withdrawn or made estimates at all its keys.
+//! The keys that a run moves, and what stands at them: versions, estimates or nothing.
 
-ghost use Rattle.std.specs.Prelude.{◌≡◌, ◌≤◌, ◌+◌, length, not, IfOk};
+ghost use Rattle.std.specs.Prelude.{◌≡◌, ◌≤◌, ◌+◌, ◌*◌, ◌∷◌, ◌++◌, [], length, not, IfOk, IfSome, OnOk};
 ghost use Rattle.std.specs.List.{filter};
+ghost use Rattle.std.specs.Option.{option_copied};
 ghost use Rattle.std.specs.FinMap.{contains_key, entries};
-ghost use Rattle.stm_state.specs.Steps.{estimated, left_over, recorded_versions, published, withdrawn, written_by};
-ghost use Rattle.stm_core.specs.Inner.{AreOpen, keys_of, size_of};
+ghost use Rattle.mvmap.specs.Versions.{changed};
+ghost use Rattle.stm_state.specs.Steps.{estimated, keys_of, keys_to_move, version_of, write_of, written_by};
+ghost use Rattle.stm_core.specs.Inner.{AreOpen, writes_at};
 
 use mvmap::MvMap;
-use rv_ledger::{Key, Writes};
+use rv_ledger::inline_bytes::VALUE_LIMIT;
+use rv_ledger::{Key, Value, Writes};
 use std::alloc::{AllocError, Global};
-use stm_state::Recorded;
-use version_arena::RECORD_LIMIT;
+use stm_state::{CallState, Recorded};
 
 /// How many keys are written.
 pub(crate) fn written_count(writes: &Writes) -> usize
@@ -19,62 +21,83 @@ pub(crate) fn written_count(writes: &Writes) -> usize
     writes.iter().len()
 }
 
-/// The written keys; refused where memory ran out.
-pub(crate) fn written_keys(alloc: Global, writes: &Writes) -> Result<Vec<Key>, AllocError>
-    ensures { IfOk result (λ keys. keys.items ≡ keys_of (entries writes.now)) }
+/// The keys that a run is to move: those that it wrote, then those that only the call's last recorded
+/// run wrote; refused where memory ran out.
+pub(crate) fn keys_to_move(
+    alloc: Global,
+    last: &Option<Recorded>,
+    writes: &Writes,
+) -> Result<Vec<Key>, AllocError>
+    ensures { IfOk result (λ keys. keys.items ≡ keys_to_move last.now writes.now) }
 {
     let mut keys = Vec::with_capacity(alloc, written_count(writes))?;
     for (key, _) in writes.iter() {
         keys.push(*key)?;
     }
+    if let Some(run) = last {
+        push_left_over(&mut keys, &run.receipt.writes, writes)?;
+    }
     Ok(keys)
 }
 
-/// How many bytes the written values have together.
-pub(crate) fn written_bytes(writes: &Writes) -> usize
-    requires { length (entries writes.now) ≤ RECORD_LIMIT }
-    ensures { result ≡ size_of (entries writes.now) }
-{
-    let mut bytes = 0;
-    for (_, value) in writes.iter() {
-        if let Some(value) = value {
-            bytes += value.bytes().len();
-        }
-    }
-    bytes
-}
-
-/// Publishes all writes of a call's run, in room that was made. Takes no memory.
-pub(crate) fn publish_all(map: &mut MvMap, call: u16, incarnation: u16, writes: &Writes)
-    requires places { AreOpen map.old.places call (entries writes.now) }
-    requires room { length (entries writes.now) ≤ map.old.arena.room }
-    requires bytes { size_of (entries writes.now) ≤ map.old.arena.bytes }
-    ensures versions { map.new.versions ≡ published call incarnation (entries writes.now) map.old.versions }
-    ensures places { map.new.places ≡ map.old.places }
-    ensures records { length map.new.arena.records ≡ length map.old.arena.records + length (entries writes.now) }
-{
-    for (key, value) in writes.iter() {
-        map.publish(key, call, incarnation, value.as_ref());
-    }
-}
-
-/// Withdraws what the call's last recorded run wrote and this one did not. Takes no memory.
-pub(crate) fn withdraw_left(map: &mut MvMap, call: u16, last: &Option<Recorded>, writes: &Writes)
-    ensures { map.new ≡ record map.old { versions = withdrawn call (left_over last.now writes.now) map.old.versions } }
-{
-    if let Some(run) = last {
-        withdraw_others(map, call, &run.receipt.writes, writes);
-    }
-}
-
-/// Withdraws what is written among some writes and not among others.
-fn withdraw_others(map: &mut MvMap, call: u16, before: &Writes, writes: &Writes)
-    ensures { map.new ≡ record map.old { versions = withdrawn call (filter (λ write. not (contains_key writes.now write.0)) (entries before.now)) map.old.versions } }
+/// Adds the keys that are written before and are not written now; refused where memory ran out.
+fn push_left_over(keys: &mut Vec<Key>, before: &Writes, writes: &Writes) -> Result<(), AllocError>
+    ensures { OnOk result (keys.new.items ≡ keys.old.items ++ keys_of (filter (λ write. not (contains_key writes.now write.0)) (entries before.now))) }
 {
     for (key, _) in before.iter() {
         if writes.get(key).is_none() {
-            map.withdraw(key, call);
+            keys.push(*key)?;
         }
+    }
+    Ok(())
+}
+
+/// Publishes what a call's run wrote at a key, in room that was promised, or withdraws the key where the
+/// run did not write it. `promised` is how many records are promised. Takes no memory.
+pub(crate) fn move_key(
+    map: &mut MvMap,
+    promised: &mut usize,
+    key: &Key,
+    call: u16,
+    state: &CallState,
+)
+    requires places { AreOpen map.old.places call (writes_at state.now.last (key.now ∷ [])) }
+    requires promised { length (writes_at state.now.last (key.now ∷ [])) ≤ promised.old }
+    requires room { promised.old ≤ map.old.arena.room }
+    requires bytes { promised.old * VALUE_LIMIT ≤ map.old.arena.bytes }
+    ensures versions { map.new.versions ≡ changed map.old.versions (key.now, call) (version_of state.now key.now) }
+    ensures places { map.new.places ≡ map.old.places }
+    ensures placed { length map.new.arena.records + promised.new ≡ length map.old.arena.records + promised.old }
+    ensures promised { promised.new + length (writes_at state.now.last (key.now ∷ [])) ≡ promised.old }
+    ensures room { promised.new ≤ map.new.arena.room }
+    ensures bytes { promised.new * VALUE_LIMIT ≤ map.new.arena.bytes }
+{
+    match written(&state.last, key) {
+        Some(value) => {
+            see_short(value);
+            map.publish(key, call, state.incarnation, value.as_ref());
+            *promised -= 1;
+        }
+        None => map.withdraw(key, call),
+    }
+}
+
+/// What a run wrote at a key; None where it did not write it, and where there is no run.
+fn written<'a>(last: &'a Option<Recorded>, key: &Key) -> Option<&'a Option<Value>>
+    ensures { option_copied result ≡ write_of last.now key.now }
+{
+    match last {
+        Some(run) => run.receipt.writes.get(key),
+        None => None,
+    }
+}
+
+/// That a written value is not too long.
+fn see_short(value: &Option<Value>)
+    ensures { IfSome value.now (λ bytes. length bytes ≤ VALUE_LIMIT) }
+{
+    if let Some(value) = value {
+        let _ = value.bytes();
     }
 }
 
@@ -96,24 +119,4 @@ fn estimate_keys(map: &mut MvMap, call: u16, writes: &Writes)
     for (key, _) in writes.iter() {
         map.to_estimate(key, call);
     }
-}
-
-/// Publishes what a call's run wrote, in room that was made, and withdraws what its last recorded run
-/// wrote and this one did not. Takes no memory.
-pub(crate) fn move_all(
-    map: &mut MvMap,
-    call: u16,
-    incarnation: u16,
-    last: &Option<Recorded>,
-    writes: &Writes,
-)
-    requires places { AreOpen map.old.places call (entries writes.now) }
-    requires room { length (entries writes.now) ≤ map.old.arena.room }
-    requires bytes { size_of (entries writes.now) ≤ map.old.arena.bytes }
-    ensures versions { map.new.versions ≡ recorded_versions call incarnation last.now writes.now map.old.versions }
-    ensures places { map.new.places ≡ map.old.places }
-    ensures records { length map.new.arena.records ≡ length map.old.arena.records + length (entries writes.now) }
-{
-    publish_all(map, call, incarnation, writes);
-    withdraw_left(map, call, last, writes);
 }

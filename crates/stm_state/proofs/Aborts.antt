@@ -1,5 +1,5 @@
 -- Validating a call keeps the invariant.
-use Rattle.std.proofs.Common.{◌≡◌, ◌<◌, ◌≤◌, ◌≢◌, ◌⊎◌, ◌+◌, ◌&&◌, ◌==◌, not, min, nat_lt, ℕ, true, false, option_map, List, [], length, Option, None, Some, arith, refl, sym, ap, subst, ◌∙◌, inl, inr, length-set}
+use Rattle.std.proofs.Common.{◌≡◌, ◌<◌, ◌≤◌, ◌≢◌, ◌⊎◌, ◌+◌, ◌&&◌, ◌==◌, not, min, nat_lt, ℕ, Bool, true, false, option_map, List, [], length, Option, None, Some, arith, refl, sym, ap, subst, ◌∙◌, inl, inr, length-set}
 use Rattle.std.specs.List.{AllByRecursion}
 use Rattle.std.proofs.lemmas.Bool.{cases_eq, cond_both, and_parts, and_cases, and_from, not-false}
 use Rattle.std.proofs.lemmas.List.{get_or-set_same, get_or-set_other}
@@ -11,20 +11,21 @@ use Rattle.stm_state.specs.declared.state.Status.{Status}
 use Rattle.stm_state.specs.declared.state.Status.TheVariants.{Ready, Executing, Executed, Aborting}
 use Rattle.stm_state.specs.declared.state.CallState.{CallState}
 use Rattle.stm_state.specs.declared.state.Task.{Task}
-use Rattle.stm_state.specs.declared.state.Task.TheVariants.{Idle, Running, Validating}
+use Rattle.stm_state.specs.declared.state.Task.TheVariants.{Idle, Running, Moving, Validating}
 use Rattle.stm_state.specs.State.{State, fresh, call_at, task_at, with_call, with_task, is_executed}
-use Rattle.stm_state.specs.Steps.{Block, reads_of, written_by, estimated, next_incarnation, is_executed_at, all_stand, aborted, validated}
-use Rattle.stm_state.specs.Invariant.{View, view_of, ViewInvariant, IsRightAnswer, Invariant, IsSized, write_of, entry_by, run_by, named_by}
-use Rattle.stm_state.proofs.Frames.{Frame, recorded_versions}
+use Rattle.stm_state.specs.Steps.{Block, reads_of, written_by, estimated, next_incarnation, is_executed_at, all_stand, aborted, validated, write_of}
+use Rattle.stm_state.specs.Invariant.{View, view_of, ViewInvariant, IsRightAnswer, Invariant, IsSized, IsAhead, entry_by, run_by, moved_by, named_by}
+use Rattle.stm_state.proofs.Frames.{Frame, frame_kept}
 use Rattle.stm_state.proofs.Rests.{rested_facts}
-use Rattle.stm_state.proofs.Safes.{IsValidated, on_below, safe_all, safe_other, stand_each}
+use Rattle.stm_state.proofs.Safes.{IsValidated, IsSeenTo, on_below, safe_all, safe_other, stand_each}
+use Rattle.stm_state.proofs.Asks.{executed_entries}
 use Rattle.stm_state.proofs.Tests.{is_executed_says, not_lt_says, equal_itself, resized}
 use Rattle.stm_state.proofs.Writes.{estimated_other, estimated_at}
 
--- the incarnation of a version of an EXECUTED call
-pub version_is : (o : Option Content) (m n : ℕ) (x : Content) → option_map (λ c. Stands m c) o ≡ Some (Stands n x) → n ≡ m
+-- the incarnation of a version of a recorded run, and what the run wrote
+pub version_is : (o : Option Content) (m n : ℕ) (x : Content) → option_map (λ c. Stands m c) o ≡ Some (Stands n x) → (n ≡ m) × (o ≡ Some x)
 version_is None m n x h = cc
-version_is (Some c) m n x h = cc
+version_is (Some c) m n x h = (cc, let same : c ≡ x = cc in ap Some same)
 
 module _ (block : Block) (s : State) (w i n left : ℕ) (f : ViewInvariant block (view_of s)) (checks : task_at s w ≡ Validating i n left) (w_in : w < length s.tasks) where
   -- the worker runs no call
@@ -60,10 +61,27 @@ module _ (block : Block) (s : State) (w i n left : ℕ) (f : ViewInvariant block
         inl (stand_each (view_of s) j (reads_of (call_at s j).last) all)
   ]
 
+  -- the worker moves no keys
+  moves_none : (j : ℕ) (keys : List (List ℕ)) (new : Bool) → task_at s w ≢ Moving j keys new
+  moves_none j keys new h = cc
+
+  -- a lower call's unfinished record goes on
+  ahead_still : (j : ℕ) → IsAhead (task_at s) j → IsAhead (task_at after_end) j
+  ahead_still j q = elim (cases_eq q.worker w) [
+    | inl e ↦ absurd (moves_none q.call q.keys true (ap (task_at s) (sym e) ∙ q.task))
+    | inr ne ↦ record { worker = q.worker; call = q.call; keys = q.keys; task = get_or-set_other s.tasks w q.worker Idle Idle ne ∙ q.task; lower = q.lower }
+  ]
+
+  -- what is seen to stays so, or its reads stand
+  still_seen : (is_executed_at n (call_at s i) ≡ true → all_stand i s ≡ true) → (j : ℕ) → (call_at s j).status ≡ Executed → IsSeenTo (view_of s) j
+      → AllByRecursion (λ read. stands_among (entry_at s.versions) j read ≡ true) (reads_of (call_at s j).last) ⊎ IsSeenTo (view_of after_end) j
+  still_seen stand j h (inl checked) = elim (still_covered stand j h checked) [ inl all ↦ inl all | inr on ↦ inr (inl on) ]
+  still_seen stand j h (inr on) = inr (inr (ahead_still j on))
+
   -- the task may end where the call is stale or all its reads stand
   ends : (is_executed_at n (call_at s i) ≡ true → all_stand i s ≡ true) → ViewInvariant block (view_of after_end)
   ends stand = rested_facts block (view_of s) (task_at after_end) s.execution s.validation f ended_tasks f.execution_within f.validation_within f.ready
-      (λ j h l. safe_all (view_of s) (view_of after_end) j (reads_of (call_at s j).last) (λ read k. k) (still_covered stand j h) (f.safe j h l))
+      (λ j h l. safe_all (view_of s) (view_of after_end) j (reads_of (call_at s j).last) (λ read k. k) (still_seen stand j h) (f.safe j h l))
 
   -- ---- the call is aborted
 
@@ -79,16 +97,12 @@ module _ (block : Block) (s : State) (w i n left : ℕ) (f : ViewInvariant block
   abbrev after : Task → Status → State
   after task status = with_task w task (with_call i (again status) turned)
 
-  -- an EXECUTED call has the versions that its run wrote
-  own_versions : (call_at s i).status ≡ Executed → (key : List ℕ) → entry_at s.versions key i ≡ option_map (λ c. Stands (call_at s i).incarnation c) (write_of (call_at s i).last key)
-  own_versions done key = f.entries i key ∙ ap (λ st. entry_by (is_executed st) (call_at s i).incarnation (write_of (call_at s i).last key)) done
-
   -- what an abort changes
   abort_move : (task : Task) (status : Status) → (call_at s i).status ≡ Executed → i < length s.calls → is_executed status ≡ false → status ≢ Aborting → (status ≡ Ready → s.execution ≤ i)
       → ((run_by task ≡ Some i) × (status ≡ Executing)) ⊎ ((run_by task ≡ None) × (status ≢ Executing)) → ((j : ℕ) → named_by task ≡ Some j → j ≡ i)
-      → ((j : ℕ) (answers : List StorageAnswer) (waits : Option ℕ) → task ≡ Running j answers waits → (answers ≡ []) × (waits ≡ None)) → ((j m k : ℕ) → task ≢ Validating j m k)
+      → ((j : ℕ) (answers : List StorageAnswer) (waits : Option ℕ) → task ≡ Running j answers waits → (answers ≡ []) × (waits ≡ None)) → ((j m k : ℕ) → task ≢ Validating j m k) → moved_by task ≡ None
       → Frame block (view_of s) (view_of (after task status)) i w (again status) task
-  abort_move task status done i_in open_ not_aborting ready now name begins not_checks = record {
+  abort_move task status done i_in open_ not_aborting ready now name begins not_checks moves_no = record {
     calls = λ j ne. get_or-set_other s.calls i j (again status) fresh ne;
     tasks = λ x ne. get_or-set_other s.tasks w x task Idle ne;
     entries = λ j key ne. estimated_other i (call_at s i).last s.versions key j ne;
@@ -109,9 +123,10 @@ module _ (block : Block) (s : State) (w i n left : ℕ) (f : ViewInvariant block
     executed_limit = λ h. let r : is_executed status ≡ true = ap is_executed h in cc;
     aborting_limit = λ h. absurd (not_aborting h);
     grows = omega arith;
-    versions = λ key m x h. inl (let same = version_is (write_of (call_at s i).last key) (call_at s i).incarnation m x (sym (own_versions done key) ∙ h) in omega (arith, same));
-    own_entries = λ key. estimated_at i (call_at s i).incarnation (call_at s i).last s.versions key (own_versions done key)
+    versions = λ key m x h. inl (let same = version_is (write_of (call_at s i).last key) (call_at s i).incarnation m x (sym (executed_entries block (view_of s) f i done key) ∙ h) in let is = same.0 in omega (arith, is));
+    own_entries = λ _ key. estimated_at i (call_at s i).incarnation (call_at s i).last s.versions key (executed_entries block (view_of s) f i done key)
         ∙ ap (λ b. entry_by b ((call_at s i).incarnation + 1) (write_of (call_at s i).last key)) (sym open_);
+    own_moving = λ j keys new h. let r : moved_by task ≡ Some j = ap moved_by h in cc;
     executed = λ h. let r : is_executed status ≡ true = ap is_executed h in cc;
     recorded = f.recorded i;
     answered = λ j answers waits h. subst (λ xs. AllByRecursion (IsRightAnswer block (view_of s) j) xs) (sym (begins j answers waits h).0) tt;
@@ -123,7 +138,7 @@ module _ (block : Block) (s : State) (w i n left : ℕ) (f : ViewInvariant block
   aborts : (task : Task) (status : Status) → Frame block (view_of s) (view_of (after task status)) i w (again status) task → is_executed status ≡ false → ViewInvariant block (view_of (after task status))
   aborts task status m open_ =
       let u : View = view_of (after task status) in
-      recorded_versions block (view_of s) u i w (again status) task m f (λ j h l. elim (cases_eq j i) [
+      frame_kept block (view_of s) u i w (again status) task m f (λ j h l. elim (cases_eq j i) [
         | inl e ↦
             let st : (u.calls j).status ≡ status = ap (λ x. (u.calls x).status) e ∙ ap (λ (call : CallState). call.status) m.call in
             let r : is_executed status ≡ true = ap is_executed (sym st ∙ h) in cc
@@ -131,7 +146,7 @@ module _ (block : Block) (s : State) (w i n left : ℕ) (f : ViewInvariant block
             let below : j < min s.validation (i + 1) = l in
             let at : j < s.validation = omega (arith, below) in
             let low : j < i = omega (arith, below, ne) in
-            safe_other block (view_of s) u i w (again status) task m j ne (λ k h2. ne (other_call j (call_at s j).incarnation k h2).0)
+            safe_other block (view_of s) u i w (again status) task m j ne (λ k h2. ne (other_call j (call_at s j).incarnation k h2).0) (λ keys k _. absurd (moves_none i keys true k))
             (on_below (view_of s) u j (λ key x lower. estimated_other i (call_at s i).last s.versions key x (omega (arith, lower, low))))
             (f.safe j (ap (λ (call : CallState). call.status) (sym (m.calls j ne)) ∙ h) at)
       ])
@@ -141,9 +156,9 @@ module _ (block : Block) (s : State) (w i n left : ℕ) (f : ViewInvariant block
   unfolding aborted
   aborted_facts done i_in = cond_both (nat_lt i s.execution) _ _ (λ t. ViewInvariant block (view_of t))
       (λ l. aborts (Running i [] None) Executing
-      (abort_move (Running i [] None) Executing done i_in refl (λ h. cc) (λ h. cc) (inl (refl, refl)) (λ j h. cc) (λ j answers waits h. (cc, cc)) (λ j m k h. cc)) refl)
+      (abort_move (Running i [] None) Executing done i_in refl (λ h. cc) (λ h. cc) (inl (refl, refl)) (λ j h. cc) (λ j answers waits h. (cc, cc)) (λ j m k h. cc) refl) refl)
       (λ l. aborts Idle Ready
-      (abort_move Idle Ready done i_in refl (λ h. cc) (λ _. not_lt_says i s.execution l) (inr (refl, λ h. cc)) (λ j h. cc) (λ j answers waits h. cc) (λ j m k h. cc)) refl)
+      (abort_move Idle Ready done i_in refl (λ h. cc) (λ _. not_lt_says i s.execution l) (inr (refl, λ h. cc)) (λ j h. cc) (λ j answers waits h. cc) (λ j m k h. cc) refl) refl)
 
   -- a validation keeps the invariant
   pub validated_facts : i < length s.calls → ViewInvariant block (view_of (validated w i n s))

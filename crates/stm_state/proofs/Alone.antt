@@ -1,42 +1,50 @@
 -- One worker goes through the rounds of all calls, and is then told that all is done.
-use Rattle.std.proofs.Common.{◌≡◌, ◌<◌, ◌≤◌, ◌+◌, ◌-◌, ◌*◌, ℕ, zero, suc, true, if◌then◌else◌, List, [], ◌∷◌, length, get_or, slice_get, Some, Ok, Err, arith, refl, ap, subst, ◌∙◌, inl, inr}
+use Rattle.std.proofs.Common.{◌≡◌, ◌<◌, ◌≤◌, ◌+◌, ◌-◌, ◌*◌, ℕ, zero, suc, Bool, true, if◌then◌else◌, List, [], ◌∷◌, length, get_or, slice_get, None, Some, Ok, Err, arith, refl, ap, subst, ◌∙◌, inl, inr}
+use Rattle.std.specs.FinMap.{len}
 use Rattle.std.proofs.lemmas.Bool.{cases_lt, cond-true}
 use Rattle.std.proofs.lemmas.Grind.{get_or-set_at}
 use Rattle.rv_ledger.specs.Key.{Storage}
 use Rattle.rv_ledger.specs.Call.{Invocation}
+use Rattle.rv_ledger.specs.declared.receipt.Receipt.{Receipt}
+use Rattle.rv_step.specs.Chain.{ends}
 use Rattle.rv_step.specs.Fold.{store_after, store_after_call, store_before}
 use Rattle.rv_step.proofs.Receipts.{one_receipt_lem}
+use Rattle.stm_state.specs.declared.state.Recorded.{Recorded}
 use Rattle.stm_state.specs.declared.state.Task.TheVariants.{Idle}
 use Rattle.stm_state.specs.State.{State, fresh, no_counts, start, call_at, is_done}
-use Rattle.stm_state.specs.Steps.{counted, one_asking, count_done, step_with, reads_of}
+use Rattle.stm_state.specs.Steps.{counted, one_asking, count_done, keys_to_move, has_new_key, recorded_run, step_with, reads_of}
 use Rattle.stm_state.specs.Done.{block_of}
 use Rattle.stm_state.specs.Drive.{NotDone, due_step, due_result}
-use Rattle.stm_state.specs.OneWorker.{IsReads, rounds, MeetsNoEstimate, OneWorkerDid, HasOneWorkerCounts}
+use Rattle.stm_state.specs.OneWorker.{Work, no_work, IsWork, rounds, MeetsNoEstimate, OneWorkerDid, HasOneWorkerCounts}
 use Rattle.stm_state.proofs.Lists.{replicated, one_element}
 use Rattle.stm_state.proofs.Paths.{alone, Leads, Free, free_now, free_on, used_up, one_step_on, leads_none, leads_next, leads_join}
 use Rattle.stm_state.proofs.Rounds.{Stage, first_stage, all_first, is_over, told_stage}
 use Rattle.stm_state.proofs.Phases.{call_there, did, Now, unblocked, still, one_more, run_begins}
-use Rattle.stm_state.proofs.Turns.{read_all, record_one, check_begins, check_one}
+use Rattle.stm_state.proofs.Turns.{first_keys, read_all, record_one, move_all, finish_one, check_begins, check_one}
 
--- ---- each call has a number of reads
+-- ---- what each call takes
 
--- the numbers of all calls
-abbrev reads_in_order : List Invocation → Storage → List ℕ
-reads_in_order [] store = []
-reads_in_order (call ∷ calls) store = length (one_receipt_lem call store).some_answers.0 ∷ reads_in_order calls (store_after_call call store)
+-- so many reads and writes
+abbrev work_of : Invocation → Storage → Work
+work_of call store = record { reads = length (one_receipt_lem call store).some_answers.0; writes = len (ends call store).writes }
 
-sized_reads : (calls : List Invocation) (store : Storage) → length (reads_in_order calls store) ≡ length calls
-sized_reads [] store = refl
-sized_reads (call ∷ calls) store = ap suc (sized_reads calls (store_after_call call store))
+-- what all calls take
+abbrev works_in_order : List Invocation → Storage → List Work
+works_in_order [] store = []
+works_in_order (call ∷ calls) store = work_of call store ∷ works_in_order calls (store_after_call call store)
 
-each_reads : (calls : List Invocation) (store : Storage) (i : ℕ) (call : Invocation) → slice_get calls i ≡ Some call → IsReads call (store_before calls i store) (get_or (reads_in_order calls store) i 0)
+sized_works : (calls : List Invocation) (store : Storage) → length (works_in_order calls store) ≡ length calls
+sized_works [] store = refl
+sized_works (call ∷ calls) store = ap suc (sized_works calls (store_after_call call store))
+
+each_work : (calls : List Invocation) (store : Storage) (i : ℕ) (call : Invocation) → slice_get calls i ≡ Some call → IsWork call (store_before calls i store) (get_or (works_in_order calls store) i no_work)
 unfolding store_after
-each_reads [] store i call h = cc
-each_reads (c ∷ calls) store zero call h =
+each_work [] store i call h = cc
+each_work (c ∷ calls) store zero call h =
     let some = (one_receipt_lem c store).some_answers in
     let same : c ≡ call = cc in
-    subst (λ x. IsReads x store (length some.0)) same (record { replies = some.0; size = refl; from = some.1; borne_out = some.2 })
-each_reads (c ∷ calls) store (suc i) call h = each_reads calls (store_after_call c store) i call h
+    subst (λ x. IsWork x store (work_of c store)) same (record { replies = some.0; size = refl; from = some.1; borne_out = some.2; writes = refl })
+each_work (c ∷ calls) store (suc i) call h = each_work calls (store_after_call c store) i call h
 
 -- ---- the rounds
 
@@ -46,50 +54,60 @@ module _ (calls : List Invocation) (store : Storage) (short : length calls ≤ 1
   At d steps asks s = Now calls store d fresh d d Idle (did steps asks d d) s
 
   -- the round of call d
-  round : (d steps asks r : ℕ) (s : State) (call : Invocation) → slice_get calls d ≡ Some call → d < length calls → IsReads call (store_before calls d store) r → At d steps asks s
-      → (t : State) × Leads calls store s (4 + r) t × At (d + 1) (steps + (4 + r)) (asks + 2) t
-  round d steps asks r s call there within reads now =
+  round : (d steps asks : ℕ) (work : Work) (s : State) (call : Invocation) → slice_get calls d ≡ Some call → d < length calls → IsWork call (store_before calls d store) work → At d steps asks s
+      → (t : State) × Leads calls store s (5 + work.reads + work.writes) t × At (d + 1) (steps + (5 + work.reads + work.writes)) (asks + 2) t
+  round d steps asks work s call there within takes now =
+      let receipt : Receipt = ends call (store_before calls d store) in
+      let keys : List (List ℕ) = keys_to_move None receipt.writes in
+      let new : Bool = has_new_key None receipt.writes in
+      let n : ℕ = length takes.replies in
+      let m : ℕ = length keys in
       let a = run_begins calls store d s (did steps asks d d) now within in
-      let b = read_all calls store d call there within reads.replies [] (steps + 1) (asks + 1) d d a.0 (record { now = a.2; bears = reads.borne_out; from = reads.from; stand = refl }) in
-      let c = record_one calls store d call there within b.1 (did (steps + 1 + length reads.replies) (asks + 1) d d) b.0 short b.3 in
-      let e = check_begins calls store d call there within (did (steps + 1 + length reads.replies + 1) (asks + 1) (d + 1) d) c.0 c.2 c.3 in
-      let g = check_one calls store d call there within (did (steps + 1 + length reads.replies + 1 + 1) (asks + 1 + 1) (d + 1) d) e.0 (length (reads_of (call_at c.0 d).last)) e.2 e.3 in
-      let last = leads_next calls store e.0 g.0 g.0 0 g.1.before g.1.step g.1.free (leads_none calls store g.0) in
-      let end = leads_next calls store b.0 c.0 g.0 (0 + 1 + 1) c.1.before c.1.step c.1.free (leads_next calls store c.0 e.0 g.0 (0 + 1) e.1.before e.1.step e.1.free last) in
-      let all = leads_next calls store s a.0 g.0 (length reads.replies + (0 + 1 + 1 + 1)) a.1.before a.1.step a.1.free (leads_join calls store a.0 b.0 g.0 (length reads.replies) (0 + 1 + 1 + 1) b.2 end) in
-      let size = reads.size in
-      let length_is : length reads.replies + (0 + 1 + 1 + 1) + 1 ≡ 4 + r = omega (arith, size) in
-      let steps_are : steps + 1 + length reads.replies + 1 + 1 + 1 ≡ steps + (4 + r) = omega (arith, size) in
+      let b = read_all calls store d call there within takes.replies [] (steps + 1) (asks + 1) d d a.0 (record { now = a.2; bears = takes.borne_out; from = takes.from; stand = refl }) in
+      let run : Recorded = recorded_run b.1 receipt in
+      let c = record_one calls store d call there within b.1 (did (steps + 1 + n) (asks + 1) d d) b.0 short b.3 in
+      let e = move_all calls store d call there within run new keys (steps + 1 + n + 1) (asks + 1) (d + 1) d c.0 c.2 in
+      let g = finish_one calls store d call there within run new (did (steps + 1 + n + 1 + m) (asks + 1) (d + 1) d) e.0 e.2 in
+      let h = check_begins calls store d call there within (did (steps + 1 + n + 1 + m + 1) (asks + 1) (d + 1) d) g.0 g.2 g.3 in
+      let k = check_one calls store d call there within (did (steps + 1 + n + 1 + m + 1 + 1) (asks + 1 + 1) (d + 1) d) h.0 (length (reads_of (call_at g.0 d).last)) h.2 h.3 in
+      let last = leads_next calls store h.0 k.0 k.0 0 k.1.before k.1.step k.1.free (leads_none calls store k.0) in
+      let end = leads_next calls store e.0 g.0 k.0 (0 + 1 + 1) g.1.before g.1.step g.1.free (leads_next calls store g.0 h.0 k.0 (0 + 1) h.1.before h.1.step h.1.free last) in
+      let moved = leads_next calls store b.0 c.0 k.0 (m + (0 + 1 + 1 + 1)) c.1.before c.1.step c.1.free (leads_join calls store c.0 e.0 k.0 m (0 + 1 + 1 + 1) e.1 end) in
+      let all = leads_next calls store s a.0 k.0 (n + (m + (0 + 1 + 1 + 1) + 1)) a.1.before a.1.step a.1.free (leads_join calls store a.0 b.0 k.0 n (m + (0 + 1 + 1 + 1) + 1) b.2 moved) in
+      let size : n ≡ work.reads = takes.size in
+      let keys_are : m ≡ work.writes = first_keys receipt.writes ∙ takes.writes in
+      let length_is : n + (m + (0 + 1 + 1 + 1) + 1) + 1 ≡ 5 + work.reads + work.writes = omega (arith, size, keys_are) in
+      let steps_are : steps + 1 + n + 1 + m + 1 + 1 + 1 ≡ steps + (5 + work.reads + work.writes) = omega (arith, size, keys_are) in
       let asks_are : asks + 1 + 1 ≡ asks + 2 = omega arith in (
-        g.0,
-        subst (λ n. Leads calls store s n g.0) length_is all,
-        subst (λ n. At (d + 1) n (asks + 2) g.0) steps_are (subst (λ n. At (d + 1) (steps + 1 + length reads.replies + 1 + 1 + 1) n g.0) asks_are g.2),
+        k.0,
+        subst (λ x. Leads calls store s x k.0) length_is all,
+        subst (λ x. At (d + 1) x (asks + 2) k.0) steps_are (subst (λ x. At (d + 1) (steps + 1 + n + 1 + m + 1 + 1 + 1) x k.0) asks_are k.2),
       )
 
-  -- the number of reads of the call of an index
-  abbrev IsReadsAt : ℕ → ℕ → Type 0
-  IsReadsAt i r = (call : Invocation) → slice_get calls i ≡ Some call → IsReads call (store_before calls i store) r
+  -- what the call of an index takes
+  abbrev IsWorkAt : ℕ → Work → Type 0
+  IsWorkAt i work = (call : Invocation) → slice_get calls i ≡ Some call → IsWork call (store_before calls i store) work
 
   -- the rounds from call d on
-  walk : (reads : List ℕ) (d steps asks : ℕ) (s : State) → d + length reads ≡ length calls → ((i : ℕ) → i < length reads → IsReadsAt (d + i) (get_or reads i 0)) → At d steps asks s
-      → (t : State) × Leads calls store s (rounds reads) t × At (length calls) (steps + rounds reads) (asks + 2 * length reads) t
+  walk : (works : List Work) (d steps asks : ℕ) (s : State) → d + length works ≡ length calls → ((i : ℕ) → i < length works → IsWorkAt (d + i) (get_or works i no_work)) → At d steps asks s
+      → (t : State) × Leads calls store s (rounds works) t × At (length calls) (steps + rounds works) (asks + 2 * length works) t
   walk [] d steps asks s size each now =
       let d_is : d ≡ length calls = omega (arith, size) in
       let steps_are : steps ≡ steps + 0 = omega arith in
       let asks_are : asks ≡ asks + 2 * 0 = omega arith in
       (s, leads_none calls store s, subst (λ n. At (length calls) n (asks + 2 * 0) s) steps_are (subst (λ n. At (length calls) steps n s) asks_are (subst (λ n. At n steps asks s) d_is now)))
-  walk (r ∷ reads) d steps asks s size each now =
+  walk (work ∷ works) d steps asks s size each now =
       let within : d < length calls = omega (arith, size) in
       let there = call_there calls d within in
       let d_is : d + 0 ≡ d = omega arith in
-      let one = round d steps asks r s there.0 there.1 within (subst (λ n. IsReadsAt n r) d_is (each 0 (omega arith)) there.0 there.1) now in
-      let more = walk reads (d + 1) (steps + (4 + r)) (asks + 2) one.0 (omega (arith, size))
-      (λ i l. let next : d + suc i ≡ d + 1 + i = omega arith in subst (λ n. IsReadsAt n (get_or reads i 0)) next (each (suc i) (omega (arith, l)))) one.2 in
-      let steps_are : steps + (4 + r) + rounds reads ≡ steps + (4 + r + rounds reads) = omega arith in
-      let asks_are : asks + 2 + 2 * length reads ≡ asks + 2 * suc (length reads) = omega arith in (
+      let one = round d steps asks work s there.0 there.1 within (subst (λ n. IsWorkAt n work) d_is (each 0 (omega arith)) there.0 there.1) now in
+      let more = walk works (d + 1) (steps + (5 + work.reads + work.writes)) (asks + 2) one.0 (omega (arith, size))
+      (λ i l. let next : d + suc i ≡ d + 1 + i = omega arith in subst (λ n. IsWorkAt n (get_or works i no_work)) next (each (suc i) (omega (arith, l)))) one.2 in
+      let steps_are : steps + (5 + work.reads + work.writes) + rounds works ≡ steps + (5 + work.reads + work.writes + rounds works) = omega arith in
+      let asks_are : asks + 2 + 2 * length works ≡ asks + 2 * suc (length works) = omega arith in (
         more.0,
-        leads_join calls store s one.0 more.0 (4 + r) (rounds reads) one.1 more.1,
-        subst (λ n. At (length calls) n (asks + 2 * suc (length reads)) more.0) steps_are (subst (λ n. At (length calls) (steps + (4 + r) + rounds reads) n more.0) asks_are more.2),
+        leads_join calls store s one.0 more.0 (5 + work.reads + work.writes) (rounds works) one.1 more.1,
+        subst (λ n. At (length calls) n (asks + 2 * suc (length works)) more.0) steps_are (subst (λ n. At (length calls) (steps + (5 + work.reads + work.writes) + rounds works) n more.0) asks_are more.2),
       )
 
   -- ---- the end
@@ -173,21 +191,21 @@ module _ (calls : List Invocation) (store : Storage) (short : length calls ≤ 1
     untold = replicated 1 0 0;
   }
 
-  -- the numbers of reads
-  abbrev all_reads : List ℕ
-  all_reads = reads_in_order calls store
+  -- what all calls take
+  abbrev all_works : List Work
+  all_works = works_in_order calls store
 
   -- the steps of all rounds
   abbrev all_rounds : ℕ
-  all_rounds = rounds all_reads
+  all_rounds = rounds all_works
 
   -- all rounds from the start
   way : (t : State) × Leads calls store (start (length calls) 1) all_rounds t × At (length calls) all_rounds (2 * length calls) t
   way =
-      let size = sized_reads calls store in
-      let rest = walk all_reads 0 0 0 (start (length calls) 1) (omega (arith, size)) (λ i l. let e : i ≡ 0 + i = omega arith in subst (λ n. IsReadsAt n (get_or all_reads i 0)) e (each_reads calls store i)) first in
+      let size = sized_works calls store in
+      let rest = walk all_works 0 0 0 (start (length calls) 1) (omega (arith, size)) (λ i l. let e : i ≡ 0 + i = omega arith in subst (λ n. IsWorkAt n (get_or all_works i no_work)) e (each_work calls store i)) first in
       let steps_are : 0 + all_rounds ≡ all_rounds = omega arith in
-      let asks_are : 0 + 2 * length all_reads ≡ 2 * length calls = omega (arith, size) in
+      let asks_are : 0 + 2 * length all_works ≡ 2 * length calls = omega (arith, size) in
       (rest.0, rest.1, subst (λ n. At (length calls) n (2 * length calls) rest.0) steps_are (subst (λ n. At (length calls) (0 + all_rounds) n rest.0) asks_are rest.2))
 
   -- further askings
@@ -228,8 +246,8 @@ module _ (calls : List Invocation) (store : Storage) (short : length calls ≤ 1
   -- one worker's counts
   pub counts_alone : HasOneWorkerCounts calls store
   counts_alone = record {
-    reads = all_reads;
-    are_reads = record { size = sized_reads calls store; each = each_reads calls store };
+    works = all_works;
+    are_works = record { size = sized_works calls store; each = each_work calls store };
     before = way.1.early;
     after = after_all;
     free = free_way;

@@ -6,22 +6,27 @@ use Rattle.std.proofs.lemmas.List.{get_or-set_same, get_or-set_other}
 use Rattle.stm_state.specs.declared.state.Status.TheVariants.{Ready, Executing, Executed}
 use Rattle.stm_state.specs.declared.state.CallState.{CallState}
 use Rattle.stm_state.specs.declared.state.Task.{Task}
-use Rattle.stm_state.specs.declared.state.Task.TheVariants.{Idle, Running, Validating}
+use Rattle.stm_state.specs.declared.state.Task.TheVariants.{Idle, Running, Moving, Validating}
 use Rattle.stm_state.specs.State.{State, fresh, call_at, task_at, with_call, with_task, is_ready, is_executed, is_done}
-use Rattle.stm_state.specs.Steps.{Block, reads_of, count_done, ask_validation, ask_execution, asked}
-use Rattle.stm_state.specs.Invariant.{View, view_of, ViewInvariant, IsRightAnswer, Invariant, IsSized, entry_by, write_of, run_by}
-use Rattle.stm_state.proofs.Frames.{Frame, recorded_versions}
+use Rattle.stm_state.specs.Steps.{Block, reads_of, count_done, ask_validation, ask_execution, asked, version_of, write_of}
+use Rattle.stm_state.specs.Invariant.{View, view_of, ViewInvariant, IsRightAnswer, Invariant, IsSized, IsUnmoved, entry_by, run_by}
+use Rattle.stm_state.proofs.Frames.{Frame, frame_kept, unmoved}
 use Rattle.stm_state.proofs.Rests.{rested_facts}
-use Rattle.stm_state.proofs.Safes.{safe_all, safe_other, safe_validated}
+use Rattle.stm_state.proofs.Safes.{safe_all, safe_other, safe_attended}
 use Rattle.stm_state.proofs.Tests.{is_ready_says, not_ready_says, is_executed_says, not_executed_says, lt_says, resized}
 
--- what a call that isn't EXECUTED has as entries stays where only its status changes
-pub same_entries : (block : Block) (v : View) (f : ViewInvariant block v) (i : ℕ) → (v.calls i).status ≢ Executed → (key : List ℕ) → v.entries key i ≡ entry_by false (v.calls i).incarnation (write_of (v.calls i).last key)
-same_entries block v f i ne key = f.entries i key ∙ ap (λ b. entry_by b (v.calls i).incarnation (write_of (v.calls i).last key)) (go (is_executed (v.calls i).status) refl)
+-- what a call that isn't EXECUTED has as entries, where nobody moves its keys, stays where only its status changes
+pub same_entries : (block : Block) (v : View) (f : ViewInvariant block v) (i : ℕ) → (v.calls i).status ≢ Executed → IsUnmoved v i → (key : List ℕ) → v.entries key i ≡ entry_by false (v.calls i).incarnation (write_of (v.calls i).last key)
+same_entries block v f i ne free key = f.entries i key free ∙ ap (λ b. entry_by b (v.calls i).incarnation (write_of (v.calls i).last key)) (go (is_executed (v.calls i).status) refl)
   where
     go : (b : Bool) → is_executed (v.calls i).status ≡ b → b ≡ false
     go true h = absurd (ne (is_executed_says (v.calls i).status h))
     go false h = refl
+
+-- the entries of an EXECUTED call are the versions of its recorded run
+pub executed_entries : (block : Block) (v : View) (f : ViewInvariant block v) (i : ℕ) → (v.calls i).status ≡ Executed → (key : List ℕ) → v.entries key i ≡ version_of (v.calls i) key
+executed_entries block v f i done key =
+    f.entries i key (unmoved block v f i (λ h. cc)) ∙ ap (λ st. entry_by (is_executed st) (v.calls i).incarnation (write_of (v.calls i).last key)) done
 
 module _ (block : Block) (s : State) (w : ℕ) (f : ViewInvariant block (view_of s)) (idle : task_at s w ≡ Idle) (w_in : w < length s.tasks) where
   -- the worker validates nothing
@@ -31,6 +36,10 @@ module _ (block : Block) (s : State) (w : ℕ) (f : ViewInvariant block (view_of
   -- the worker runs nothing
   runs_none : (j : ℕ) → run_by (task_at s w) ≢ Some j
   runs_none j h = let none : run_by (task_at s w) ≡ None = ap run_by idle in cc
+
+  -- nor does it move keys
+  moves_none : (j : ℕ) (keys : List (List ℕ)) (new : Bool) → task_at s w ≢ Moving j keys new
+  moves_none j keys new h = cc
 
   -- a call to validate
   abbrev to_check : ℕ → Task
@@ -61,7 +70,8 @@ module _ (block : Block) (s : State) (w : ℕ) (f : ViewInvariant block (view_of
     aborting_limit = f.aborting_limit i;
     grows = omega arith;
     versions = λ key n x h. inr h;
-    own_entries = f.entries i;
+    own_entries = λ _ key. f.entries i key (unmoved block (view_of s) f i (λ h. cc));
+    own_moving = λ j keys new h. cc;
     executed = f.executed i;
     recorded = f.recorded i;
     answered = λ j answers waits h. cc;
@@ -74,9 +84,9 @@ module _ (block : Block) (s : State) (w : ℕ) (f : ViewInvariant block (view_of
   validation_begun i at below done =
       let m = validation_move i at below done in
       let u : View = view_of (with_task w (to_check i) (record s { validation = i + 1 })) in
-      recorded_versions block (view_of s) u i w (call_at s i) (to_check i) m f (λ j h l. elim (cases_eq j i) [
-        | inl e ↦ safe_validated u j (reads_of (call_at s j).last) (w, (length (reads_of (call_at s i).last), m.task ∙ ap (λ x. Validating x (call_at s x).incarnation (length (reads_of (call_at s i).last))) (sym e)))
-        | inr ne ↦ safe_other block (view_of s) u i w (call_at s i) (to_check i) m j ne (λ left. free j (call_at s j).incarnation left) (λ read k. k) (f.safe j h (omega (arith, at)))
+      frame_kept block (view_of s) u i w (call_at s i) (to_check i) m f (λ j h l. elim (cases_eq j i) [
+        | inl e ↦ safe_attended u j (reads_of (call_at s j).last) (inl (w, (length (reads_of (call_at s i).last), m.task ∙ ap (λ x. Validating x (call_at s x).incarnation (length (reads_of (call_at s i).last))) (sym e))))
+        | inr ne ↦ safe_other block (view_of s) u i w (call_at s i) (to_check i) m j ne (λ left. free j (call_at s j).incarnation left) (λ keys k _. absurd (moves_none i keys true k)) (λ read k. k) (f.safe j h (omega (arith, at)))
       ])
 
   -- the validation index passes a call that is not EXECUTED
@@ -126,7 +136,8 @@ module _ (block : Block) (s : State) (w : ℕ) (f : ViewInvariant block (view_of
     aborting_limit = λ h. cc;
     grows = omega arith;
     versions = λ key n x h. inr h;
-    own_entries = same_entries block (view_of s) f i (λ h. cc);
+    own_entries = λ _. same_entries block (view_of s) f i (λ h. cc) (unmoved block (view_of s) f i (λ h. cc));
+    own_moving = λ j keys new h. cc;
     executed = λ h. cc;
     recorded = f.recorded i;
     answered = λ j answers waits h. let none : answers ≡ [] = cc in subst (λ xs. AllByRecursion (IsRightAnswer block (view_of s) j) xs) (sym none) tt;
@@ -139,9 +150,9 @@ module _ (block : Block) (s : State) (w : ℕ) (f : ViewInvariant block (view_of
   execution_begun i at i_in within ready =
       let m = execution_move i at i_in within ready in
       let u : View = view_of (after_begin i) in
-      recorded_versions block (view_of s) u i w (begun i) (Running i [] None) m f (λ j h l. elim (cases_eq j i) [
+      frame_kept block (view_of s) u i w (begun i) (Running i [] None) m f (λ j h l. elim (cases_eq j i) [
         | inl e ↦ let c : u.calls j ≡ begun i = ap u.calls e ∙ m.call in let r : (u.calls j).status ≡ Executing = ap (λ (call : CallState). call.status) c in cc
-        | inr ne ↦ safe_other block (view_of s) u i w (begun i) (Running i [] None) m j ne (λ left. free j (call_at s j).incarnation left) (λ read k. k)
+        | inr ne ↦ safe_other block (view_of s) u i w (begun i) (Running i [] None) m j ne (λ left. free j (call_at s j).incarnation left) (λ keys k _. absurd (moves_none i keys true k)) (λ read k. k)
             (f.safe j (ap (λ (call : CallState). call.status) (sym (m.calls j ne)) ∙ h) l)
       ])
 

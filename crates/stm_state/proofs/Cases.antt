@@ -1,14 +1,14 @@
 -- The steps that are made, by the worker's task.
-use Rattle.std.proofs.Common.{◌≡◌, ◌<◌, ◌+◌, nat_lt, nat_le, ℕ, Bool, true, false, cond, if◌then◌else◌, List, Option, None, Some, Result, Ok, Err, refl, subst}
+use Rattle.std.proofs.Common.{◌≡◌, ◌<◌, ◌+◌, nat_lt, nat_le, ℕ, Bool, true, false, cond, if◌then◌else◌, List, [], ◌∷◌, Option, None, Some, Result, Ok, Err, refl, subst}
 use Rattle.std.specs.FinMap.{len}
 use Rattle.rv_ledger.specs.declared.receipt.Receipt.{Receipt}
 use Rattle.rv_step.specs.Replies.{replies_of}
 use Rattle.rv_step.specs.declared.answer.StorageAnswer.{StorageAnswer}
 use Rattle.stm_state.specs.declared.state.Task.{Task}
-use Rattle.stm_state.specs.declared.state.Task.TheVariants.{Idle, Running, Validating}
+use Rattle.stm_state.specs.declared.state.Task.TheVariants.{Idle, Running, Moving, Validating}
 use Rattle.stm_state.specs.Limits.{record_limit, incarnation_limit}
 use Rattle.stm_state.specs.State.{State, call_at, task_at}
-use Rattle.stm_state.specs.Steps.{Block, Step, Ask, Read_key, Park, Record, Validate, Limit, ArenaFull, IncarnationLimit, counted, one_step, one_asking, one_execution, one_validation, asked, read_at, decided, parked, recorded, validated, record_within, step_with, worker_step}
+use Rattle.stm_state.specs.Steps.{Block, Step, Ask, Read_key, Park, Record, Move_key, Finish_execution, Validate, Limit, ArenaFull, IncarnationLimit, counted, one_step, one_asking, one_execution, one_validation, asked, read_at, decided, parked, recorded, moved, executed, validated, record_within, step_with, worker_step}
 use Rattle.stm_state.proofs.Tests.{not_le_says}
 
 -- a step has one result
@@ -30,6 +30,8 @@ pub data IsMade (block : Block) (w : ℕ) (s : State) : Step → State → Type 
   by_park : (i b : ℕ) (answers : List StorageAnswer) → task_at s w ≡ Running i answers (Some b) → (call_at s i).incarnation < incarnation_limit → IsMade block w s Park (counted one_step w (parked w i b s))
   by_record : (i : ℕ) (answers : List StorageAnswer) (receipt : Receipt) → task_at s w ≡ Running i answers None → block.borne_out i (replies_of answers) ≡ Some receipt → (call_at s i).incarnation < incarnation_limit
       → IsMade block w s Record (counted one_execution w (recorded w i answers receipt s))
+  by_move : (i : ℕ) (key : List ℕ) (keys : List (List ℕ)) (new : Bool) → task_at s w ≡ Moving i (key ∷ keys) new → IsMade block w s Move_key (counted one_step w (moved w i key keys new s))
+  by_finish : (i : ℕ) (new : Bool) → task_at s w ≡ Moving i [] new → IsMade block w s Finish_execution (counted one_step w (executed w i new s))
   by_validate : (i n left : ℕ) → task_at s w ≡ Validating i n left → IsMade block w s Validate (counted (if decided i n left s then one_validation else one_step) w (validated w i n s))
 
 module _ (block : Block) (w : ℕ) (s t : State) where
@@ -59,6 +61,8 @@ module _ (block : Block) (w : ℕ) (s t : State) where
   made_by (Running i answers None) at (Read_key key) k = comes (Read_key key) _ (by_read i answers key at) k
   made_by (Running i answers (Some b)) at Park k = park_made i b answers at (nat_le incarnation_limit (call_at s i).incarnation) refl k
   made_by (Running i answers None) at Record k = record_made i answers (block.borne_out i (replies_of answers)) at refl k
+  made_by (Moving i (key ∷ keys) new) at Move_key k = comes Move_key _ (by_move i key keys new at) k
+  made_by (Moving i [] new) at Finish_execution k = comes Finish_execution _ (by_finish i new at) k
   made_by (Validating i n left) at Validate k = comes Validate _ (by_validate i n left at) k
   made_by task at step k = absurd (none_ok t k)
 

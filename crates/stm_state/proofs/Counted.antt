@@ -1,15 +1,13 @@
 -- What a worker's counts say of each other.
-use Rattle.std.proofs.Common.{◌≡◌, ◌<◌, ◌≤◌, ◌+◌, ◌&&◌, not, nat_lt, ℕ, Bool, true, false, if◌then◌else◌, List, length, replicate, get_or, set, arith, refl, sym, subst, inl, inr}
+use Rattle.std.proofs.Common.{◌≡◌, ◌<◌, ◌≤◌, ◌+◌, ◌&&◌, not, nat_lt, ℕ, Bool, true, false, if◌then◌else◌, length, replicate, get_or, set, arith, refl, sym, subst, inl, inr}
 use Rattle.std.proofs.lemmas.Bool.{cases_eq, cond_both}
 use Rattle.std.proofs.lemmas.List.{get_or-set_same, get_or-set_other}
-use Rattle.rv_ledger.specs.declared.receipt.Receipt.{Receipt}
 use Rattle.rv_ledger.specs.declared.outcome.Counts.{Counts}
-use Rattle.rv_step.specs.declared.answer.StorageAnswer.{StorageAnswer}
 use Rattle.stm_state.specs.declared.state.Task.{Task}
 use Rattle.stm_state.specs.State.{State, no_counts, start, call_at, is_executed, is_ready, is_done}
-use Rattle.stm_state.specs.Steps.{Block, Step, counted, one_step, one_asking, one_execution, one_validation, ask_validation, ask_execution, asked, count_done, read_at, decided, parked, has_new_key, resume_dependents, to_validate, recorded, aborted, validated, is_executed_at, all_stand}
+use Rattle.stm_state.specs.Steps.{Block, Step, counted, one_step, one_asking, one_execution, one_validation, ask_validation, ask_execution, asked, count_done, read_at, decided, parked, resume_dependents, to_validate, recorded, moved, executed, aborted, validated, is_executed_at, all_stand}
 use Rattle.stm_state.specs.Done.{Reached, started, stepped}
-use Rattle.stm_state.proofs.Cases.{IsMade, by_ask, by_read, by_park, by_record, by_validate, made}
+use Rattle.stm_state.proofs.Cases.{IsMade, by_ask, by_read, by_park, by_record, by_move, by_finish, by_validate, made}
 use Rattle.stm_state.proofs.Lists.{replicated}
 use Rattle.stm_state.proofs.Whole.{invariant_kept}
 
@@ -46,9 +44,9 @@ to_validate_silent : (w i : ℕ) (new : Bool) (task : Task) (s : State) → IsSi
 unfolding to_validate
 to_validate_silent w i new task s = cond_both (nat_lt i s.validation) _ _ (λ t. IsSilent s t) (λ _. cond_both new _ _ (λ t. IsSilent s t) (λ _. (refl, refl)) (λ _. (refl, refl))) (λ _. (refl, refl))
 
-pub recorded_silent : (w i : ℕ) (answers : List StorageAnswer) (receipt : Receipt) (s : State) → IsSilent s (recorded w i answers receipt s)
+pub executed_silent : (w i : ℕ) (new : Bool) (s : State) → IsSilent s (executed w i new s)
 unfolding resume_dependents
-recorded_silent w i answers receipt s = to_validate_silent w i (has_new_key (call_at s i).last receipt.writes) _ _
+executed_silent w i new s = to_validate_silent w i new _ _
 
 aborted_silent : (w i : ℕ) (s : State) → IsSilent s (aborted w i s)
 unfolding aborted
@@ -119,7 +117,9 @@ module _ (block : Block) (w : ℕ) (s : State) (h : CountsWithin s) (w_in : w < 
   made_keeps step t (by_ask at) = asked_kept s w h w_in w_told
   made_keeps step t (by_read i answers key at) = silent_kept s w h w_in one_step (read_at block.base key w i answers s) step_keeps (refl, refl)
   made_keeps step t (by_park i b answers at below) = silent_kept s w h w_in one_step (parked w i b s) step_keeps (parked_silent w i b s)
-  made_keeps step t (by_record i answers receipt at bears below) = silent_kept s w h w_in one_execution (recorded w i answers receipt s) execution_keeps (recorded_silent w i answers receipt s)
+  made_keeps step t (by_record i answers receipt at bears below) = silent_kept s w h w_in one_execution (recorded w i answers receipt s) execution_keeps (refl, refl)
+  made_keeps step t (by_move i key keys new at) = silent_kept s w h w_in one_step (moved w i key keys new s) step_keeps (refl, refl)
+  made_keeps step t (by_finish i new at) = silent_kept s w h w_in one_step (executed w i new s) step_keeps (executed_silent w i new s)
   made_keeps step t (by_validate i n left at) = silent_kept s w h w_in (if decided i n left s then one_validation else one_step) (validated w i n s) (decision_keeps (decided i n left s)) (validated_silent w i n s)
 
 -- ---- all states

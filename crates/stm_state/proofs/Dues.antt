@@ -14,14 +14,14 @@ use Rattle.rv_step.specs.Replies.{reply_of, replies_of}
 use Rattle.rv_step.specs.declared.answer.StorageAnswer.{StorageAnswer}
 use Rattle.mvmap.specs.Reading.{Visible, Base, Found, Blocked, reading}
 use Rattle.stm_state.specs.declared.state.Task.{Task}
-use Rattle.stm_state.specs.declared.state.Task.TheVariants.{Idle, Running, Validating}
+use Rattle.stm_state.specs.declared.state.Task.TheVariants.{Idle, Running, Moving, Validating}
 use Rattle.stm_state.specs.Limits.{record_limit, incarnation_limit}
 use Rattle.stm_state.specs.State.{State, call_at, task_at, is_executed, is_ready, is_done}
-use Rattle.stm_state.specs.Steps.{Step, Read_key, ask_validation, ask_execution, asked, answered_with, parked, has_new_key, resume_dependents, to_validate, recorded, aborted, validated, is_executed_at, all_stand, record_within, step_with}
+use Rattle.stm_state.specs.Steps.{Step, Read_key, ask_validation, ask_execution, asked, answered_with, parked, resume_dependents, to_validate, executed, aborted, validated, is_executed_at, all_stand, record_within, step_with}
 use Rattle.stm_state.specs.Done.{Reached, started, stepped, borne_out_by, block_of}
 use Rattle.stm_state.specs.Drive.{due_step_of_run, asked_at, due_step, DrivenTo, at_start, made_step, DueStepHasResult}
 use Rattle.stm_state.specs.Invariant.{Invariant, named_by}
-use Rattle.stm_state.proofs.Cases.{IsMade, by_ask, by_read, by_park, by_record, by_validate, made}
+use Rattle.stm_state.proofs.Cases.{IsMade, by_ask, by_read, by_park, by_record, by_move, by_finish, by_validate, made}
 use Rattle.stm_state.proofs.Whole.{invariant_kept}
 use Rattle.stm_state.proofs.Phases.{call_there}
 use Rattle.stm_state.proofs.Goings.{GoesOn, goes_first, goes_next, goes_last}
@@ -35,6 +35,7 @@ reached_where_led calls store workers t (made_step {s} w before w_in k) = steppe
 abbrev Goes : List Invocation → Task → Type 0
 Goes calls Idle = Unit {0}
 Goes calls (Running i answers waits) = (call : Invocation) → slice_get calls i ≡ Some call → GoesOn call (replies_of answers)
+Goes calls (Moving i keys new) = Unit {0}
 Goes calls (Validating i n left) = Unit {0}
 
 -- so with each task
@@ -63,6 +64,8 @@ module _ (calls : List Invocation) (store : Storage) (w : ℕ) (s : State) where
   owed_due Idle named g = refl
   owed_due (Running i answers None) named g = run_due i answers (named i refl) g (asked_at (slice_get calls i) (replies_of answers)) refl
   owed_due (Running i answers (Some b)) named g = cond_both (nat_le incarnation_limit (call_at s i).incarnation) _ _ (λ o. IsSome o) (λ _. refl) (λ _. refl)
+  owed_due (Moving i (key ∷ keys) new) named g = refl
+  owed_due (Moving i [] new) named g = refl
   owed_due (Validating i n left) named g = refl
 
 -- ---- what a step changes leaves each task's call going on
@@ -104,7 +107,7 @@ module _ (calls : List Invocation) (store : Storage) (w : ℕ) (s : State) (h : 
   unfolding validated
   validated_goes i n = cond_both (is_executed_at n (call_at s i) && not (all_stand i s)) _ _ (λ t. AllGo calls t) (λ _. aborted_goes i) (λ _. takes _ tt)
 
-  -- what is validated again after a record
+  -- what is validated again after an execution
   to_validate_goes : (i n left : ℕ) (new : Bool) → AllGo calls (to_validate w i new (Validating i n left) s)
   unfolding to_validate
   to_validate_goes i n left new = cond_both (nat_lt i s.validation) _ _ (λ t. AllGo calls t)
@@ -123,10 +126,10 @@ module _ (calls : List Invocation) (store : Storage) (w : ℕ) (s : State) (h : 
   seen_goes i answers key asks g (Found v n content) = answered_goes i answers key content (origin.Version v n) asks
   seen_goes i answers key asks g (Blocked b) = g
 
--- a record
-recorded_goes : (calls : List Invocation) (store : Storage) (w : ℕ) (s : State) → AllGo calls s → (i : ℕ) (answers : List StorageAnswer) (receipt : Receipt) → AllGo calls (recorded w i answers receipt s)
+-- an execution that is finished
+executed_goes : (calls : List Invocation) (store : Storage) (w : ℕ) (s : State) → AllGo calls s → (i : ℕ) (new : Bool) → AllGo calls (executed w i new s)
 unfolding resume_dependents
-recorded_goes calls store w s h i answers receipt = to_validate_goes calls store w _ h i (call_at s i).incarnation (length answers) (has_new_key (call_at s i).last receipt.writes)
+executed_goes calls store w s h i new = to_validate_goes calls store w _ h i (call_at s i).incarnation _ new
 
 -- ---- a due step
 
@@ -142,7 +145,9 @@ module _ (calls : List Invocation) (store : Storage) (w : ℕ) (s : State) (h : 
   made_goes step t (by_read i answers key at) due = takes calls store w s h _
       (seen_goes calls store w s h i answers key (asks_for _ key (due ∙ ap (due_step calls) at)) (subst (Goes calls) at own) (reading s.versions key i))
   made_goes step t (by_park i b answers at below) due = parked_goes calls store w s h i b
-  made_goes step t (by_record i answers receipt at bears below) due = recorded_goes calls store w s h i answers receipt
+  made_goes step t (by_record i answers receipt at bears below) due = takes calls store w s h _ tt
+  made_goes step t (by_move i key keys new at) due = takes calls store w s h _ tt
+  made_goes step t (by_finish i new at) due = executed_goes calls store w s h i new
   made_goes step t (by_validate i n left at) due = validated_goes calls store w s h i n
 
 -- ---- all states

@@ -1,20 +1,20 @@
 -- A change of one call, of its entries and of one worker's task keeps the invariant where it owes what `Move` lists.
-use Rattle.std.proofs.Common.{◌≡◌, ◌<◌, ◌≤◌, ◌-◌, ◌≢◌, ◌⊎◌, ℕ, List, [], ◌∷◌, length, Option, None, Some, arith, sym, ap, subst, ◌∙◌, inl, inr}
+use Rattle.std.proofs.Common.{◌≡◌, ◌<◌, ◌≤◌, ◌-◌, ◌≢◌, ◌⊎◌, ℕ, Bool, true, List, [], ◌∷◌, length, Option, None, Some, arith, sym, ap, subst, ◌∙◌, inl, inr}
 use Rattle.std.specs.List.{AllByRecursion}
 use Rattle.std.proofs.lemmas.Bool.{cases_eq}
 use Rattle.version_arena.specs.ArenaState.{Content}
 use Rattle.read_set.specs.declared.Origin.{Origin}
 use Rattle.read_set.specs.declared.Origin.TheVariants as origin
 use Rattle.rv_step.specs.declared.answer.StorageAnswer.{StorageAnswer}
-use Rattle.mvmap.specs.Versions.{Stands}
+use Rattle.mvmap.specs.Versions.{Entry, Stands}
 use Rattle.stm_state.specs.declared.state.Status.TheVariants.{Ready, Executing, Executed, Aborting}
 use Rattle.stm_state.specs.declared.state.CallState.{CallState}
 use Rattle.stm_state.specs.declared.state.Recorded.{Recorded}
 use Rattle.stm_state.specs.declared.state.Task.{Task}
-use Rattle.stm_state.specs.declared.state.Task.TheVariants.{Running, Validating}
+use Rattle.stm_state.specs.declared.state.Task.TheVariants.{Idle, Running, Moving, Validating}
 use Rattle.stm_state.specs.Limits.{incarnation_limit}
-use Rattle.stm_state.specs.Steps.{Block, reads_of}
-use Rattle.stm_state.specs.Invariant.{View, ViewInvariant, IsWaiting, IsRight, IsRightAnswer, IsBorneOut, IsSafe, entry_of, run_by, named_by}
+use Rattle.stm_state.specs.Steps.{Block, reads_of, version_of}
+use Rattle.stm_state.specs.Invariant.{View, ViewInvariant, IsWaiting, IsRight, IsRightAnswer, IsBorneOut, IsSafe, IsMoved, IsUnmoved, IsUnmovedEntry, entry_of, has_key, run_by, moved_by, named_by}
 
 -- ---- answers stay right
 
@@ -42,6 +42,33 @@ right_all block v u g i (x ∷ xs) h = (right_origin block v u g i x.key x.value
 -- a recorded run stays borne out by right answers
 pub borne_still : (block : Block) (v u : View) (g : Grows v u) (i : ℕ) (run : Recorded) → IsBorneOut block v i run → IsBorneOut block u i run
 borne_still block v u g i run h = record { answers = h.answers; reads = h.reads; borne_out = h.borne_out; right = right_all block v u g i h.answers h.right }
+
+-- ---- calls whose keys are moved
+
+-- whose keys a task moves, that call it has
+pub moved_runs : (t : Task) (j : ℕ) → moved_by t ≡ Some j → run_by t ≡ Some j
+moved_runs Idle j h = cc
+moved_runs (Running i answers blocked) j h = cc
+moved_runs (Moving i keys new) j h = h
+moved_runs (Validating i n left) j h = cc
+
+-- nobody moves the keys of a call that is not EXECUTING
+pub unmoved : (block : Block) (v : View) → ViewInvariant block v → (i : ℕ) → (v.calls i).status ≢ Executing → IsUnmoved v i
+unmoved block v f i ne x h = ne (f.running x i (moved_runs (v.tasks x) i h))
+
+-- nor of one that a worker runs
+pub unmoved_run : (block : Block) (v : View) → ViewInvariant block v → (i w : ℕ) → run_by (v.tasks w) ≡ Some i → moved_by (v.tasks w) ≡ None → IsUnmoved v i
+unmoved_run block v f i w runs none x h =
+    let one : x ≡ w = f.alone x w i (moved_runs (v.tasks x) i h) runs in
+    let here : moved_by (v.tasks w) ≡ Some i = ap (λ y. moved_by (v.tasks y)) (sym one) ∙ h in cc
+
+-- a move whose call has the same entries goes on
+moved_same : (c : CallState) (a b : List ℕ → Option Entry) (keys : List (List ℕ)) (new : Bool) → ((key : List ℕ) → b key ≡ a key) → IsMoved c a keys new → IsMoved c b keys new
+moved_same c a b keys new same h = record {
+  run = h.run;
+  below = h.below;
+  amid = λ key. subst (λ o. (o ≡ version_of c key) ⊎ ((has_key key keys ≡ true) × IsUnmovedEntry new o)) (sym (same key)) (h.amid key);
+}
 
 -- ---- one call and one task change
 
@@ -72,7 +99,9 @@ pub record Frame (block : Block) (v u : View) (i w : ℕ) (c : CallState) (t : T
   pub aborting_limit : c.status ≡ Aborting → c.incarnation ≤ incarnation_limit - 1
   pub grows : (v.calls i).incarnation ≤ c.incarnation
   pub versions : (key : List ℕ) (n : ℕ) (x : Content) → v.entries key i ≡ Some (Stands n x) → (n < c.incarnation) ⊎ (u.entries key i ≡ Some (Stands n x))
-  pub own_entries : (key : List ℕ) → u.entries key i ≡ entry_of c key
+  -- the entries of call i: those of c, or on their way to what c's run wrote where the task moves its keys
+  pub own_entries : moved_by t ≢ Some i → (key : List ℕ) → u.entries key i ≡ entry_of c key
+  pub own_moving : (j : ℕ) (keys : List (List ℕ)) (new : Bool) → t ≡ Moving j keys new → (j ≡ i) × IsMoved c (λ key. u.entries key i) keys new
   -- the recorded run and the answers, as far as they were right before
   pub executed : c.status ≡ Executed → (run : Recorded) × (c.last ≡ Some run)
   pub recorded : (run : Recorded) → c.last ≡ Some run → IsBorneOut block v i run
@@ -161,9 +190,27 @@ module _ (block : Block) (v u : View) (i w : ℕ) (c : CallState) (t : Task) (m 
   pub moved_aborting_limit : (j : ℕ) → (u.calls j).status ≡ Aborting → (u.calls j).incarnation ≤ incarnation_limit - 1
   moved_aborting_limit j = moved_calls j (λ call. call.status ≡ Aborting → call.incarnation ≤ incarnation_limit - 1) (λ e. m.aborting_limit) (λ ne. f.aborting_limit j)
 
-  -- entries are those of the calls
-  pub moved_entries : (j : ℕ) (key : List ℕ) → u.entries key j ≡ entry_of (u.calls j) key
-  moved_entries j key = moved_calls j (λ call. u.entries key j ≡ entry_of call key) (λ e. ap (u.entries key) e ∙ m.own_entries key) (λ ne. m.entries j key ne ∙ f.entries j key)
+  -- another call whose keys nobody moves now was so
+  was_unmoved : (j : ℕ) → j ≢ i → IsUnmoved u j → IsUnmoved v j
+  was_unmoved j ne free x h = elim (cases_eq x w) [
+    | inl e ↦ ne (m.was j (moved_runs (v.tasks w) j (ap (λ y. moved_by (v.tasks y)) (sym e) ∙ h)))
+    | inr other ↦ free x (ap moved_by (m.tasks x other) ∙ h)
+  ]
+
+  -- entries are those of the calls, where nobody moves their keys
+  pub moved_entries : (j : ℕ) (key : List ℕ) → IsUnmoved u j → u.entries key j ≡ entry_of (u.calls j) key
+  moved_entries j key free = moved_calls j (λ call. u.entries key j ≡ entry_of call key)
+      (λ e. ap (u.entries key) e ∙ m.own_entries (λ h. free w (ap moved_by m.task ∙ h ∙ ap Some (sym e))) key)
+      (λ ne. m.entries j key ne ∙ f.entries j key (was_unmoved j ne free))
+
+  -- entries of a call whose keys are moved are on their way
+  pub moved_moving : (x j : ℕ) (keys : List (List ℕ)) (new : Bool) → u.tasks x ≡ Moving j keys new → IsMoved (u.calls j) (λ key. u.entries key j) keys new
+  moved_moving x j keys new = moved_tasks x (λ task. task ≡ Moving j keys new → IsMoved (u.calls j) (λ key. u.entries key j) keys new)
+      (λ e h. let own = m.own_moving j keys new h in
+      subst (λ y. IsMoved (u.calls y) (λ key. u.entries key y) keys new) (sym own.0) (subst (λ call. IsMoved call (λ key. u.entries key i) keys new) (sym m.call) own.1))
+      (λ ne h. let other : j ≢ i = λ e. ne (m.alone x (ap run_by h ∙ ap Some e)) in
+      subst (λ call. IsMoved call (λ key. u.entries key j) keys new) (sym (m.calls j other))
+      (moved_same (v.calls j) (λ key. v.entries key j) (λ key. u.entries key j) keys new (λ key. m.entries j key other) (f.moving x j keys new h)))
 
   -- incarnations grow, and versions stand on or are older
   pub moved_grows : Grows v u
@@ -205,8 +252,8 @@ module _ (block : Block) (v u : View) (i w : ℕ) (c : CallState) (t : Task) (m 
       (λ ne2 h. f.current x j left h))
 
   -- the invariant is kept, where the reads are seen to
-  pub recorded_versions : ((j : ℕ) → (u.calls j).status ≡ Executed → j < u.validation → AllByRecursion (IsSafe u j) (reads_of (u.calls j).last)) → ViewInvariant block u
-  recorded_versions safe = record {
+  pub frame_kept : ((j : ℕ) → (u.calls j).status ≡ Executed → j < u.validation → AllByRecursion (IsSafe u j) (reads_of (u.calls j).last)) → ViewInvariant block u
+  frame_kept safe = record {
     execution_within = m.execution_within;
     validation_within = m.validation_within;
     named = moved_named;
@@ -220,6 +267,7 @@ module _ (block : Block) (v u : View) (i w : ℕ) (c : CallState) (t : Task) (m 
     executed_limit = moved_executed_limit;
     aborting_limit = moved_aborting_limit;
     entries = moved_entries;
+    moving = moved_moving;
     executed = moved_executed;
     recorded = moved_recorded;
     answered = moved_answered;

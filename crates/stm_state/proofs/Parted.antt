@@ -1,5 +1,5 @@
 -- The four parts of the invariant, from its facts.
-use Rattle.std.proofs.Common.{◌≡◌, ◌⊎◌, ℕ, Bool, true, false, option_map, List, [], ◌∷◌, Option, Some, arith, refl, sym, ap, ◌∙◌, inl, inr}
+use Rattle.std.proofs.Common.{◌≡◌, ◌≢◌, ◌⊎◌, ℕ, Bool, true, option_map, List, [], ◌∷◌, Option, None, Some, arith, refl, sym, ap, ◌∙◌, inl, inr}
 use Rattle.std.specs.List.{AllByRecursion}
 use Rattle.std.proofs.lemmas.Bool.{cases_lt}
 use Rattle.version_arena.specs.ArenaState.{Content}
@@ -7,29 +7,39 @@ use Rattle.read_set.specs.declared.Origin.{Origin}
 use Rattle.read_set.specs.declared.Origin.TheVariants as origin
 use Rattle.read_set.specs.declared.Read.{Read}
 use Rattle.rv_step.specs.declared.answer.StorageAnswer.{StorageAnswer}
-use Rattle.mvmap.specs.Versions.{Stands, entry_at}
+use Rattle.mvmap.specs.Versions.{Estimate, Stands, entry_at}
 use Rattle.mvmap.specs.Reading.{stands}
+use Rattle.stm_state.specs.declared.state.Status.{Status}
+use Rattle.stm_state.specs.declared.state.Status.TheVariants.{Ready, Executing, Executed, Aborting}
 use Rattle.stm_state.specs.declared.state.Task.{Task}
-use Rattle.stm_state.specs.declared.state.Task.TheVariants.{Idle, Running, Validating}
-use Rattle.stm_state.specs.State.{State, call_at, task_at, is_executed}
-use Rattle.stm_state.specs.Steps.{Block, reads_of}
-use Rattle.stm_state.specs.Invariant.{view_of, run_by, ViewInvariant, IsRight, IsRightAnswer, IsSafe, validated, write_of, entry_by}
-use Rattle.stm_state.specs.Parts.{HoldsWhereReached, IsRun, CallsAreAttended, OthersHaveEstimates, IsValidated, ReadsAreWatched, IsContent, IsKnown, IsTrueAnswer, RunsAreBorneOut}
-use Rattle.stm_state.proofs.Asks.{same_entries}
-use Rattle.stm_state.proofs.Records.{no_version}
+use Rattle.stm_state.specs.declared.state.Task.TheVariants.{Idle, Running, Moving, Validating}
+use Rattle.stm_state.specs.State.{State, call_at, task_at}
+use Rattle.stm_state.specs.Steps.{Block, reads_of, write_of}
+use Rattle.stm_state.specs.Invariant.{view_of, run_by, moved_by, ViewInvariant, IsRight, IsRightAnswer, IsSafe, IsUnmoved, validated, ahead}
+use Rattle.stm_state.specs.Parts.{HoldsWhereReached, IsRun, runs, moves, CallsAreAttended, IsOfUnfinishedRecord, OthersHaveEstimates, IsValidated, IsBehindNewKey, ReadsAreWatched, IsContent, IsKnown, IsTrueAnswer, RunsAreBorneOut}
+use Rattle.stm_state.proofs.Frames.{unmoved, unmoved_run}
+use Rattle.stm_state.proofs.Asks.{same_entries, executed_entries}
 use Rattle.stm_state.proofs.Aborts.{version_is}
 use Rattle.stm_state.proofs.Whole.{invariant_kept}
 
--- a worker that runs a call has a task that says so
+-- a worker that has a call runs it or moves its keys
 run_of : (s : State) (w i : ℕ) (task : Task) → task_at s w ≡ task → run_by task ≡ Some i → IsRun s i
 run_of s w i Idle at h = cc
-run_of s w i (Running j answers waits) at h = record { worker = w; answers = answers; waits = waits; task = let same : j ≡ i = cc in at ∙ ap (λ x. Running x answers waits) same }
+run_of s w i (Running j answers waits) at h = runs w answers waits (let same : j ≡ i = cc in at ∙ ap (λ x. Running x answers waits) same)
+run_of s w i (Moving j keys new) at h = moves w keys new (let same : j ≡ i = cc in at ∙ ap (λ x. Moving x keys new) same)
 run_of s w i (Validating j n left) at h = cc
 
--- a version of an EXECUTED call is at its incarnation, and no other call has one
-at_incarnation : (done : Bool) (o : Option Content) (n m : ℕ) (content : Content) → entry_by done n o ≡ Some (Stands m content) → m ≡ n
-at_incarnation true o n m content h = version_is o n m content h
-at_incarnation false o n m content h = absurd (no_version o m content h)
+-- an estimate is no version
+no_version : (o : Option Content) (n : ℕ) (x : Content) → option_map (λ c. Estimate) o ≡ Some (Stands n x) → ⊥
+no_version None n x h = cc
+no_version (Some c) n x h = cc
+
+-- a status is EXECUTED or another
+cases_status : (st : Status) → (st ≡ Executed) ⊎ (st ≢ Executed)
+cases_status Ready = inr (λ h. cc)
+cases_status Executing = inr (λ h. cc)
+cases_status Executed = inl refl
+cases_status Aborting = inr (λ h. cc)
 
 -- where each is so or something holds anyway, all are so or it holds
 all_or : {X : Type 0} (P : X → Type 0) (Q : Type 0) (xs : List X) → AllByRecursion (λ x. P x ⊎ Q) xs → AllByRecursion P xs ⊎ Q
@@ -48,23 +58,49 @@ module _ (block : Block) (s : State) (f : ViewInvariant block (view_of s)) where
     aborting = λ i h. let wait = f.aborting i h in record { on = wait.on; parked = wait.parked; lower = wait.lower; not_done = wait.not_done };
   }
 
+  -- a call that is not EXECUTED and whose keys nobody moves has no version
+  none_unmoved : (i : ℕ) → (call_at s i).status ≢ Executed → IsUnmoved (view_of s) i → (key : List ℕ) (n : ℕ) (content : Content) → entry_at s.versions key i ≢ Some (Stands n content)
+  none_unmoved i ne free key n content h = no_version (write_of (call_at s i).last key) n content (sym (same_entries block (view_of s) f i ne free key) ∙ h)
+
+  -- a version of a call whose keys are moved is of its run
+  of_unfinished : (w i : ℕ) (keys : List (List ℕ)) (new : Bool) → task_at s w ≡ Moving i keys new → (key : List ℕ) (n : ℕ) (content : Content) → entry_at s.versions key i ≡ Some (Stands n content) → IsOfUnfinishedRecord s i key n content
+  of_unfinished w i keys new at key n content h = elim ((f.moving w i keys new at).amid key) [
+    | inl there ↦ let is = version_is (write_of (call_at s i).last key) (call_at s i).incarnation n content (sym there ∙ h) in record { worker = w; keys = keys; new = new; task = at; incarnation = is.0; written = is.1 }
+    | inr q ↦ elim q.1 [ inl estimate ↦ cc | inr none ↦ let is_none = none.0 in cc ]
+  ]
+
+  -- a version of an EXECUTING call is so
+  of_executing : (i : ℕ) → (call_at s i).status ≡ Executing → IsRun s i → (key : List ℕ) (n : ℕ) (content : Content) → entry_at s.versions key i ≡ Some (Stands n content) → IsOfUnfinishedRecord s i key n content
+  of_executing i is (runs w answers waits at) key n content h = absurd (none_unmoved i (λ done. cc) (unmoved_run block (view_of s) f i w (ap run_by at) (ap moved_by at)) key n content h)
+  of_executing i is (moves w keys new at) key n content h = of_unfinished w i keys new at key n content h
+
   -- part 2
   pub estimates : OthersHaveEstimates block s
-  estimates i ne key n content h = no_version (write_of (call_at s i).last key) n content (sym (same_entries block (view_of s) f i ne key) ∙ h)
+  estimates i ne key n content h = go (call_at s i).status refl
+    where
+      free : (call_at s i).status ≢ Executing → IsOfUnfinishedRecord s i key n content
+      free other = absurd (none_unmoved i ne (unmoved block (view_of s) f i other) key n content h)
 
-  -- what is safe stands, or is validated
-  watched_reads : (i : ℕ) (reads : List Read) → AllByRecursion (IsSafe (view_of s) i) reads → AllByRecursion (λ read. (stands s.versions i read ≡ true) ⊎ IsValidated s i) reads
+      go : (st : Status) → (call_at s i).status ≡ st → IsOfUnfinishedRecord s i key n content
+      go Ready is = free (λ e. cc)
+      go Executing is = of_executing i is (attended.executing i is) key n content h
+      go Executed is = absurd (ne is)
+      go Aborting is = free (λ e. cc)
+
+  -- what is safe stands, or is seen to
+  watched_reads : (i : ℕ) (reads : List Read) → AllByRecursion (IsSafe (view_of s) i) reads → AllByRecursion (λ read. (stands s.versions i read ≡ true) ⊎ (IsValidated s i ⊎ IsBehindNewKey s i)) reads
   watched_reads i [] h = tt
   watched_reads i (read ∷ reads) h = (one h.0, watched_reads i reads h.1)
     where
-      one : IsSafe (view_of s) i read → (stands s.versions i read ≡ true) ⊎ IsValidated s i
+      one : IsSafe (view_of s) i read → (stands s.versions i read ≡ true) ⊎ (IsValidated s i ⊎ IsBehindNewKey s i)
       one (inl stand) = inl stand
-      one (inr (validated w left task)) = inr (record { worker = w; left = left; task = task })
+      one (inr (validated w left task)) = inr (inl (record { worker = w; left = left; task = task }))
+      one (inr (ahead q)) = inr (inr (record { worker = q.worker; call = q.call; keys = q.keys; task = q.task; lower = q.lower }))
 
   -- part 3
   pub watched : ReadsAreWatched block s
   watched i h = elim (cases_lt i s.validation) [
-    | inl low ↦ elim (all_or (λ read. stands s.versions i read ≡ true) (IsValidated s i) (reads_of (call_at s i).last) (watched_reads i (reads_of (call_at s i).last) (f.safe i h low))) [
+    | inl low ↦ elim (all_or (λ read. stands s.versions i read ≡ true) (IsValidated s i ⊎ IsBehindNewKey s i) (reads_of (call_at s i).last) (watched_reads i (reads_of (call_at s i).last) (f.safe i h low))) [
       | inl all ↦ inl all
       | inr task ↦ inr (inr task)
     ]
@@ -73,7 +109,10 @@ module _ (block : Block) (s : State) (f : ViewInvariant block (view_of s)) where
 
   -- a version that stands is at its writer's incarnation
   version_at : (w n : ℕ) (key : List ℕ) (content : Content) → entry_at s.versions key w ≡ Some (Stands n content) → n ≡ (call_at s w).incarnation
-  version_at w n key content h = at_incarnation (is_executed (call_at s w).status) (write_of (call_at s w).last key) (call_at s w).incarnation n content (sym (f.entries w key) ∙ h)
+  version_at w n key content h = elim (cases_status (call_at s w).status) [
+    | inl done ↦ (version_is (write_of (call_at s w).last key) (call_at s w).incarnation n content (sym (executed_entries block (view_of s) f w done key) ∙ h)).0
+    | inr ne ↦ (estimates w ne key n content h).incarnation
+  ]
 
   -- a right answer has the content of its origin
   content_is : (i : ℕ) (key : List ℕ) (value : Content) (o : Origin) → IsRight block (view_of s) i key value o → IsContent block s key value o
@@ -101,9 +140,7 @@ module _ (block : Block) (s : State) (f : ViewInvariant block (view_of s)) where
     published = λ i h. let run = f.executed i h in record {
       run = run.0;
       last = run.1;
-      entries = λ key. f.entries i key
-          ∙ ap (λ st. entry_by (is_executed st) (call_at s i).incarnation (write_of (call_at s i).last key)) h
-          ∙ ap (λ last. option_map (λ c. Stands (call_at s i).incarnation c) (write_of last key)) run.1;
+      entries = λ key. executed_entries block (view_of s) f i h key ∙ ap (λ last. option_map (λ c. Stands (call_at s i).incarnation c) (write_of last key)) run.1;
     };
   }
 

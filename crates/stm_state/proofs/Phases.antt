@@ -1,5 +1,5 @@
 -- One worker on a job: what call d sees where the calls below it are recorded in order, and the asking for its execution.
-use Rattle.std.proofs.Common.{◌≡◌, ◌<◌, ◌≤◌, ◌≢◌, ◌+◌, ◌*◌, ℕ, zero, suc, true, false, option_map, List, [], ◌∷◌, length, get_or, set, slice_get, Option, None, Some, Ok, arith, refl, sym, ap, subst, ◌∙◌, inl, inr}
+use Rattle.std.proofs.Common.{◌≡◌, ◌<◌, ◌≤◌, ◌≢◌, ◌+◌, ◌*◌, ℕ, zero, suc, false, is_some, if◌then◌else◌, option_map, List, [], ◌∷◌, length, get_or, set, slice_get, Option, None, Some, Ok, arith, refl, sym, ap, subst, ◌∙◌, inl, inr}
 use Rattle.std.specs.FinMap.{get}
 use Rattle.std.proofs.lemmas.Grind.{get_or-set_at}
 use Rattle.std.proofs.lemmas.List.{get_or_past}
@@ -18,12 +18,13 @@ use Rattle.stm_state.specs.declared.state.CallState.{CallState}
 use Rattle.stm_state.specs.declared.state.Recorded.{Recorded}
 use Rattle.stm_state.specs.declared.state.Task.{Task}
 use Rattle.stm_state.specs.declared.state.Task.TheVariants.{Idle, Running}
-use Rattle.stm_state.specs.State.{State, fresh, no_counts, call_at, task_at, is_executed, is_done}
-use Rattle.stm_state.specs.Steps.{Block, counted, one_asking, step_with}
-use Rattle.stm_state.specs.Invariant.{view_of, ViewInvariant, Invariant, write_of, entry_by}
+use Rattle.stm_state.specs.State.{State, fresh, no_counts, call_at, task_at, is_done}
+use Rattle.stm_state.specs.Steps.{Block, counted, one_asking, step_with, write_of}
+use Rattle.stm_state.specs.Invariant.{view_of, ViewInvariant, Invariant}
 use Rattle.stm_state.specs.Done.{last_receipt, block_of}
 use Rattle.stm_state.specs.Drive.{due_step, due_result}
 use Rattle.stm_state.specs.OneWorker.{MeetsNoEstimate}
+use Rattle.stm_state.proofs.Asks.{executed_entries}
 use Rattle.stm_state.proofs.Writes.{over, laid_get}
 use Rattle.stm_state.proofs.Whole.{worker_kept}
 use Rattle.stm_state.proofs.Serials.{held_see}
@@ -56,9 +57,8 @@ module _ (calls : List Invocation) (store : Storage) (d : ℕ) (s : State) (f : 
   own_entry : (j : ℕ) (l : j < d) (call : Invocation) → slice_get calls j ≡ Some call → (key : List ℕ) → entry_at s.versions key j ≡ option_map (λ c. Stands 0 c) (get (ends call (store_before calls j store)).writes key)
   own_entry j l call at key =
       let once = below j l in
-      f.entries j key
-      ∙ ap (λ st. entry_by (is_executed st) (call_at s j).incarnation (write_of (call_at s j).last key)) once.status
-      ∙ ap (λ n. entry_by true n (write_of (call_at s j).last key)) once.incarnation
+      executed_entries (block_of calls store) (view_of s) f j once.status key
+      ∙ ap (λ n. option_map (λ c. Stands n c) (write_of (call_at s j).last key)) once.incarnation
       ∙ ap (option_map (λ c. Stands 0 c)) (written (call_at s j).last _ key (receipts j l call at))
 
   -- what is seen is the storage in order
@@ -82,11 +82,15 @@ module _ (calls : List Invocation) (store : Storage) (d : ℕ) (s : State) (f : 
 abbrev pub did : ℕ → ℕ → ℕ → ℕ → Counts
 did steps asks executions validations = record { steps = steps; asks = asks; executions = executions; validations = validations }
 
+-- one for a call that has a recorded run
+abbrev pub runs_recorded : CallState → ℕ
+runs_recorded c = if is_some c.last then 1 else 0
+
 -- the calls below d are recorded in order, call d is as told, and those above are as at the start
 pub record Now (calls : List Invocation) (store : Storage) (d : ℕ) (own : CallState) (execution validation : ℕ) (task : Task) (counts : Counts) (s : State) : Type 0 where
   pub stage : Stage (block_of calls store) d own execution validation task s
   pub receipts : (j : ℕ) → j < d → HasReceipt calls store j (call_at s j)
-  pub room : s.placed ≤ 256 * d
+  pub room : s.placed ≤ 256 * (d + runs_recorded own)
   pub worked : get_or s.counts 0 no_counts ≡ counts
   pub untold : get_or s.dones 0 0 ≡ 0
 

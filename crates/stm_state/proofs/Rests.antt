@@ -1,13 +1,13 @@
 -- Changes of the indices, and workers that end a task that runs nothing.
-use Rattle.std.proofs.Common.{◌≡◌, ◌<◌, ◌≤◌, ◌⊎◌, ℕ, List, length, Option, None, Some, arith, sym, ap, subst, ◌∙◌, inl, inr}
+use Rattle.std.proofs.Common.{◌≡◌, ◌<◌, ◌≤◌, ◌⊎◌, ℕ, Bool, List, length, Option, None, Some, arith, sym, ap, subst, ◌∙◌, inl, inr}
 use Rattle.std.specs.List.{AllByRecursion}
 use Rattle.rv_step.specs.declared.answer.StorageAnswer.{StorageAnswer}
 use Rattle.stm_state.specs.declared.state.Status.TheVariants.{Ready, Executing, Executed, Aborting}
 use Rattle.stm_state.specs.declared.state.Task.{Task}
-use Rattle.stm_state.specs.declared.state.Task.TheVariants.{Idle, Running, Validating}
+use Rattle.stm_state.specs.declared.state.Task.TheVariants.{Idle, Running, Moving, Validating}
 use Rattle.stm_state.specs.Steps.{Block, reads_of}
-use Rattle.stm_state.specs.Invariant.{View, ViewInvariant, IsWaiting, IsRightAnswer, IsSafe, run_by, named_by}
-use Rattle.stm_state.proofs.Frames.{Grows, right_all, borne_still}
+use Rattle.stm_state.specs.Invariant.{View, ViewInvariant, IsWaiting, IsRightAnswer, IsSafe, IsMoved, IsUnmoved, run_by, moved_by, named_by}
+use Rattle.stm_state.proofs.Frames.{Grows, right_all, borne_still, moved_runs}
 
 -- a view with other tasks and other indices
 abbrev pub rested : View → (ℕ → Task) → ℕ → ℕ → View
@@ -65,6 +65,14 @@ module _ (block : Block) (v : View) (tasks : ℕ → Task) (execution validation
   rested_current : (x i left : ℕ) → tasks x ≡ Validating i (v.calls i).incarnation left → ((v.calls i).status ≡ Executed) × (left ≡ length (reads_of (v.calls i).last))
   rested_current x i left = rested_tasks x (λ task. task ≡ Validating i (v.calls i).incarnation left → ((v.calls i).status ≡ Executed) × (left ≡ length (reads_of (v.calls i).last))) (f.current x i left) (λ h. cc)
 
+  -- a call whose keys nobody moves now was so
+  rested_unmoved : (i : ℕ) → IsUnmoved now i → IsUnmoved v i
+  rested_unmoved i free x h = elim (rest x) [ inl e ↦ free x (ap moved_by e ∙ h) | inr q ↦ let none = q.1 in let some = moved_runs (v.tasks x) i h in cc ]
+
+  -- entries of a call whose keys are moved are on their way
+  rested_moving : (x i : ℕ) (keys : List (List ℕ)) (new : Bool) → tasks x ≡ Moving i keys new → IsMoved (v.calls i) (λ key. v.entries key i) keys new
+  rested_moving x i keys new = rested_tasks x (λ task. task ≡ Moving i keys new → IsMoved (v.calls i) (λ key. v.entries key i) keys new) (f.moving x i keys new) (λ h. cc)
+
   -- the invariant is kept, where the indices stay in range and the reads are seen to
   pub rested_facts : execution ≤ block.count → validation ≤ block.count → ((i : ℕ) → (v.calls i).status ≡ Ready → execution ≤ i)
       → ((i : ℕ) → (v.calls i).status ≡ Executed → i < validation → AllByRecursion (IsSafe (rested v tasks execution validation) i) (reads_of (v.calls i).last)) → ViewInvariant block (rested v tasks execution validation)
@@ -81,7 +89,8 @@ module _ (block : Block) (v : View) (tasks : ℕ → Task) (execution validation
     limit = f.limit;
     executed_limit = f.executed_limit;
     aborting_limit = f.aborting_limit;
-    entries = f.entries;
+    entries = λ i key free. f.entries i key (rested_unmoved i free);
+    moving = rested_moving;
     executed = f.executed;
     recorded = λ i run h. borne_still block v now rested_grows i run (f.recorded i run h);
     answered = rested_answered;

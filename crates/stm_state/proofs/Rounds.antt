@@ -1,35 +1,36 @@
 -- One worker on a block: where each of its calls is, and what its next step comes to, whatever keys its runs read.
-use Rattle.std.proofs.Common.{◌≡◌, ◌<◌, ◌≢◌, ◌+◌, ◌&&◌, ◌==◌, not, nat_lt, min, ℕ, suc, Bool, true, false, cond, List, [], ◌∷◌, ◌++◌, length, map, get_or, set, Option, None, Some, arith, refl, sym, ap, subst, ◌∙◌, inl, inr}
+use Rattle.std.proofs.Common.{◌≡◌, ◌<◌, ◌≢◌, ◌+◌, ◌&&◌, ◌==◌, not, nat_lt, min, ℕ, suc, Bool, true, false, cond, List, [], ◌∷◌, ◌++◌, length, map, get_or, set, None, Some, arith, refl, sym, ap, subst, ◌∙◌, inl, inr}
 use Rattle.std.specs.Cmp.Derive.{both_true}
 use Rattle.std.specs.List.{list_all}
-use Rattle.std.specs.FinMap.{get, len}
+use Rattle.std.specs.FinMap.{get}
 use Rattle.std.proofs.lemmas.Bool.{cases_eq, cases_lt, cond-true, cond-false}
 use Rattle.std.proofs.lemmas.Grind.{get_or-set_at}
 use Rattle.std.proofs.lemmas.List.{get_or-set_other, map-append}
 use Rattle.std.proofs.lemmas.List.Folds.{list_all-append}
-use Rattle.version_arena.specs.ArenaState.{Content}
 use Rattle.rv_ledger.specs.Key.{Storage}
 use Rattle.rv_ledger.specs.declared.outcome.Counts.{Counts}
 use Rattle.rv_ledger.specs.declared.receipt.Receipt.{Receipt}
 use Rattle.read_set.specs.declared.Origin.TheVariants as origin
 use Rattle.read_set.specs.declared.Read.{Read}
 use Rattle.rv_step.specs.declared.answer.StorageAnswer.{StorageAnswer}
-use Rattle.mvmap.specs.Versions.{Estimate, entry_at}
+use Rattle.mvmap.specs.Versions.{entry_at}
 use Rattle.mvmap.specs.Reading.{Visible, Base, Found, Blocked, visible_below, is_origin, stands, value_seen}
 use Rattle.mvmap.proofs.Readings.{is_blocked, blocked_at, seen_same}
 use Rattle.stm_state.specs.declared.state.Status.{Status}
 use Rattle.stm_state.specs.declared.state.Status.TheVariants.{Ready, Executing, Executed}
 use Rattle.stm_state.specs.declared.state.CallState.{CallState}
+use Rattle.stm_state.specs.declared.state.Recorded.{Recorded}
 use Rattle.stm_state.specs.declared.state.Task.{Task}
-use Rattle.stm_state.specs.declared.state.Task.TheVariants.{Idle, Running, Validating}
+use Rattle.stm_state.specs.declared.state.Task.TheVariants.{Idle, Running, Moving, Validating}
 use Rattle.stm_state.specs.State.{State, fresh, start, call_at, task_at, with_call, with_task, is_ready, is_executed, is_aborting, is_idle, is_done}
-use Rattle.stm_state.specs.Steps.{Block, read_of, reads_of, counted, one_asking, one_execution, ask_validation, ask_execution, asked, count_done, answered_with, recorded_versions, is_some_of, is_parked_on, resume_if_parked, lowered, resume_dependents, to_validate, recorded_run, has_new_key, recorded, is_executed_at, all_stand, validated}
-use Rattle.stm_state.specs.Invariant.{view_of, ViewInvariant, Invariant, write_of, entry_by}
+use Rattle.stm_state.specs.Steps.{Block, read_of, reads_of, counted, one_step, one_asking, one_execution, ask_validation, ask_execution, asked, count_done, answered_with, is_some_of, is_parked_on, resume_if_parked, lowered, resume_dependents, to_validate, recorded_run, has_new_key, keys_to_move, recorded, moved, executed, is_executed_at, all_stand, validated, version_of, write_of}
+use Rattle.stm_state.specs.Invariant.{view_of, ViewInvariant, Invariant}
 use Rattle.stm_state.proofs.Tests.{equal_itself, lt_is, not_lt_is}
-use Rattle.stm_state.proofs.Writes.{moved_other}
+use Rattle.stm_state.proofs.Asks.{executed_entries}
+use Rattle.stm_state.proofs.Writes.{changed_other}
 use Rattle.stm_state.proofs.Lists.{replicated, all_same}
 use Rattle.stm_state.proofs.Whole.{start_kept}
-use Rattle.stm_state.proofs.Serials.{IsOver, over_at_done}
+use Rattle.stm_state.proofs.Serials.{IsOver, over_at_done, no_estimate}
 
 -- ---- where each call is
 
@@ -41,6 +42,13 @@ pub record IsRunOnce (c : CallState) : Type 0 where
 -- a call that is run for the first time
 abbrev pub begun : CallState
 begun = record { status = Executing; incarnation = 0; parked = None; last = None }
+
+-- a call whose first run is kept, and the task to move the keys of that run
+abbrev pub kept : Recorded → CallState
+kept run = record { status = Executing; incarnation = 0; parked = None; last = Some run }
+
+abbrev pub first_move : ℕ → Receipt → Task
+first_move d receipt = Moving d (keys_to_move None receipt.writes) (has_new_key None receipt.writes)
 
 -- the calls below m were run once, call m is as told, and those above are as at the start
 pub record Stage (block : Block) (m : ℕ) (own : CallState) (execution validation : ℕ) (task : Task) (s : State) : Type 0 where
@@ -144,18 +152,12 @@ module _ (block : Block) (s : State) where
   pub clear_below : ViewInvariant block (view_of s) → (d : ℕ) → ((j : ℕ) → j < d → IsRunOnce (call_at s j)) → (key : List ℕ) → is_blocked (visible_below (entry_at s.versions key) d) ≡ false
   clear_below f d below key = go (visible_below (entry_at s.versions key) d) refl
     where
-      no_estimate : (n : ℕ) (o : Option Content) → entry_by true n o ≡ Some Estimate → ⊥
-      no_estimate n None h = cc
-      no_estimate n (Some content) h = cc
-
       go : (seen : Visible) → visible_below (entry_at s.versions key) d ≡ seen → is_blocked seen ≡ false
       go Base e = refl
       go (Found w n content) e = refl
       go (Blocked b) e =
           let from = blocked_at (entry_at s.versions key) d b e in
-          let done = below b from.0 in
-          absurd (no_estimate (call_at s b).incarnation (write_of (call_at s b).last key)
-          (ap (λ st. entry_by (is_executed st) (call_at s b).incarnation (write_of (call_at s b).last key)) (sym done.status) ∙ sym (f.entries b key) ∙ from.1))
+          absurd (no_estimate (write_of (call_at s b).last key) (call_at s b).incarnation (sym (executed_entries block (view_of s) f b (below b from.0).status key) ∙ from.1))
 
   -- another task
   pub new_task : Invariant block 1 s → (task : Task) → get_or (set s.tasks 0 task) 0 Idle ≡ task
@@ -235,49 +237,101 @@ module _ (block : Block) (s : State) where
   -- ---- the record of call d
 
   module _ (d : ℕ) (answers : List StorageAnswer) (receipt : Receipt) (now : Stage block d begun (d + 1) d (Running d answers None) s) (within : d < block.count) where
-    abbrev pub done_call : CallState
-    done_call = record (call_at s d) { status = Executed; last = Some (recorded_run answers receipt) }
+    abbrev kept_call : CallState
+    kept_call = record (call_at s d) { last = Some (recorded_run answers receipt) }
 
-    abbrev pub moved_on : State
-    moved_on = with_call d done_call (record s { versions = recorded_versions d (call_at s d).incarnation (call_at s d).last receipt.writes s.versions; placed = s.placed + len receipt.writes })
+    abbrev pub after_record : State
+    after_record = recorded 0 d answers receipt s
 
-    pub done_here : call_at moved_on d ≡ done_call
+    -- the other calls stay
+    pub kept_else : (j : ℕ) → j ≢ d → call_at after_record j ≡ call_at s j
+    kept_else j ne = get_or-set_other s.calls d j kept_call fresh ne
+
+    -- the run is kept, and its keys are to move
+    pub record_stage : Invariant block 1 (counted one_execution 0 after_record) → Stage block d (kept (recorded_run answers receipt)) (d + 1) d (first_move d receipt) (counted one_execution 0 after_record)
+    record_stage inv = record {
+      inv = inv;
+      runs_from = now.runs_from;
+      checks_from = now.checks_from;
+      does = new_task now.inv (Moving d (keys_to_move (call_at s d).last receipt.writes) (has_new_key (call_at s d).last receipt.writes))
+          ∙ ap (λ (x : CallState). Moving d (keys_to_move x.last receipt.writes) (has_new_key x.last receipt.writes)) now.here;
+      below = λ j l. subst (λ x. IsRunOnce x) (sym (kept_else j (λ e. omega (arith, l, e)))) (now.below j l);
+      here = get_or-set_at s.calls d d kept_call fresh refl (let n = now.inv.sized.calls in omega (arith, n, within))
+          ∙ ap (λ (x : CallState). record x { last = Some (recorded_run answers receipt) }) now.here;
+      above = λ j l. kept_else j (λ e. omega (arith, l, e)) ∙ now.above j l;
+    }
+
+  -- ---- a key of call d is moved
+
+  module _ (d : ℕ) (run : Recorded) (key : List ℕ) (keys : List (List ℕ)) (new : Bool) (now : Stage block d (kept run) (d + 1) d (Moving d (key ∷ keys) new) s) where
+    abbrev pub after_move : State
+    after_move = moved 0 d key keys new s
+
+    -- what call d sees is as before
+    seen_still : (read : Read) → stands after_move.versions d read ≡ stands s.versions d read
+    seen_still read = ap (is_origin read.origin) (seen_same (entry_at after_move.versions read.key) (entry_at s.versions read.key) d (λ j l. changed_other s.versions key d (version_of (call_at s d) key) read.key j (λ e. omega (arith, l, e))))
+
+    -- so its reads stand
+    pub moved_stands : (reads : List Read) → list_all (stands s.versions d) reads ≡ true → list_all (stands after_move.versions d) reads ≡ true
+    moved_stands reads stand = all_same (stands after_move.versions d) (stands s.versions d) seen_still reads ∙ stand
+
+    pub moved_stage : Invariant block 1 (counted one_step 0 after_move) → Stage block d (kept run) (d + 1) d (Moving d keys new) (counted one_step 0 after_move)
+    moved_stage inv = record {
+      inv = inv;
+      runs_from = now.runs_from;
+      checks_from = now.checks_from;
+      does = new_task now.inv (Moving d keys new);
+      below = now.below;
+      here = now.here;
+      above = now.above;
+    }
+
+  -- ---- the execution of call d is finished
+
+  module _ (d : ℕ) (run : Recorded) (new : Bool) (now : Stage block d (kept run) (d + 1) d (Moving d [] new) s) (within : d < block.count) where
+    abbrev done_call : CallState
+    done_call = record (call_at s d) { status = Executed }
+
+    abbrev pub finished : State
+    finished = with_call d done_call s
+
+    done_here : call_at finished d ≡ done_call
     done_here = get_or-set_at s.calls d d done_call fresh refl (let n = now.inv.sized.calls in omega (arith, n, within))
 
-    pub done_else : (j : ℕ) → j ≢ d → call_at moved_on j ≡ call_at s j
+    -- the run is still kept
+    pub done_last : (call_at finished d).last ≡ Some run
+    done_last = ap (λ (x : CallState). x.last) done_here ∙ ap (λ (x : CallState). x.last) now.here
+
+    pub done_else : (j : ℕ) → j ≢ d → call_at finished j ≡ call_at s j
     done_else j ne = get_or-set_other s.calls d j done_call fresh ne
 
-    none_on : (j : ℕ) → is_parked_on d (call_at moved_on j) ≡ false
+    none_on : (j : ℕ) → is_parked_on d (call_at finished j) ≡ false
     none_on j = elim (cases_eq j d) [
-      | inl e ↦ calm d (call_at moved_on j) Executed (ap (λ (x : CallState). x.status) (ap (call_at moved_on) e ∙ done_here)) refl
+      | inl e ↦ calm d (call_at finished j) Executed (ap (λ (x : CallState). x.status) (ap (call_at finished) e ∙ done_here)) refl
       | inr ne ↦ elim (cases_lt j d) [
-        | inl low ↦ calm d (call_at moved_on j) Executed (ap (λ (x : CallState). x.status) (done_else j ne) ∙ (now.below j low).status) refl
-        | inr high ↦ calm d (call_at moved_on j) Ready (ap (λ (x : CallState). x.status) (done_else j ne ∙ now.above j (omega (arith, ne, high)))) refl
+        | inl low ↦ calm d (call_at finished j) Executed (ap (λ (x : CallState). x.status) (done_else j ne) ∙ (now.below j low).status) refl
+        | inr high ↦ calm d (call_at finished j) Ready (ap (λ (x : CallState). x.status) (done_else j ne ∙ now.above j (omega (arith, ne, high)))) refl
       ]
     ]
 
-    pub recorded_is : recorded 0 d answers receipt s ≡ with_task 0 Idle moved_on
+    pub executed_is : executed 0 d new s ≡ with_task 0 Idle finished
     unfolding to_validate
-    recorded_is =
-        ap (to_validate 0 d (has_new_key (call_at s d).last receipt.writes) (Validating d (call_at s d).incarnation (length answers))) (none_resumed d moved_on none_on)
+    executed_is =
+        ap (to_validate 0 d new (Validating d (call_at s d).incarnation (length (reads_of (call_at s d).last)))) (none_resumed d finished none_on)
         ∙ cond-false (nat_lt d s.validation) _ _ (let v = now.checks_from in not_lt_is d s.validation (omega (arith, v)))
 
-    -- what call d sees is as before its record
-    seen_still : (read : Read) → stands moved_on.versions d read ≡ stands s.versions d read
-    seen_still read = ap (is_origin read.origin) (seen_same (entry_at moved_on.versions read.key) (entry_at s.versions read.key) d (λ j l. moved_other d (call_at s d).incarnation (call_at s d).last receipt.writes s.versions read.key j (λ e. omega (arith, l, e))))
+    -- its reads stand
+    pub finished_stands : list_all (stands s.versions d) run.reads ≡ true → all_stand d finished ≡ true
+    finished_stands stand = ap (λ last. list_all (stands s.versions d) (reads_of last)) done_last ∙ stand
 
-    -- so its reads stand
-    pub recorded_stands : list_all (stands s.versions d) (map read_of answers) ≡ true → all_stand d moved_on ≡ true
-    recorded_stands stand = ap (λ (x : CallState). list_all (stands moved_on.versions d) (reads_of x.last)) done_here ∙ all_same (stands moved_on.versions d) (stands s.versions d) seen_still (map read_of answers) ∙ stand
-
-    pub record_stage : Invariant block 1 (counted one_execution 0 (with_task 0 Idle moved_on)) → Stage block (d + 1) fresh (d + 1) d Idle (counted one_execution 0 (with_task 0 Idle moved_on))
-    record_stage inv = record {
+    pub finish_stage : Invariant block 1 (counted one_step 0 (with_task 0 Idle finished)) → Stage block (d + 1) fresh (d + 1) d Idle (counted one_step 0 (with_task 0 Idle finished))
+    finish_stage inv = record {
       inv = inv;
       runs_from = now.runs_from;
       checks_from = now.checks_from;
       does = new_task now.inv Idle;
       below = λ j l. elim (cases_eq j d) [
-        | inl e ↦ subst (λ x. IsRunOnce (call_at moved_on x)) (sym e) (record {
+        | inl e ↦ subst (λ x. IsRunOnce (call_at finished x)) (sym e) (record {
           status = ap (λ (x : CallState). x.status) done_here;
           incarnation = ap (λ (x : CallState). x.incarnation) done_here ∙ ap (λ (x : CallState). x.incarnation) now.here;
         })

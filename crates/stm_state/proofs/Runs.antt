@@ -1,5 +1,5 @@
 -- A run that goes on, is answered, starts again or is parked keeps the invariant.
-use Rattle.std.proofs.Common.{◌≡◌, ◌<◌, ◌≢◌, ◌++◌, ℕ, List, [], ◌∷◌, length, Option, None, Some, arith, refl, sym, ap, subst, ◌∙◌, inl, inr, length-set}
+use Rattle.std.proofs.Common.{◌≡◌, ◌<◌, ◌≢◌, ◌++◌, ℕ, Bool, true, List, [], ◌∷◌, length, Option, None, Some, arith, refl, sym, ap, subst, ◌∙◌, inl, inr, length-set}
 use Rattle.std.specs.List.{AllByRecursion}
 use Rattle.std.specs.FinMap.{get}
 use Rattle.std.proofs.lemmas.Bool.{cases_eq, cond_both}
@@ -11,13 +11,13 @@ use Rattle.mvmap.specs.Reading.{Visible, Base, Found, Blocked, reading}
 use Rattle.mvmap.proofs.Readings.{found_at, blocked_at}
 use Rattle.stm_state.specs.declared.state.Status.TheVariants.{Executing, Executed, Aborting}
 use Rattle.stm_state.specs.declared.state.CallState.{CallState}
-use Rattle.stm_state.specs.declared.state.Task.TheVariants.{Idle, Running, Validating}
+use Rattle.stm_state.specs.declared.state.Task.TheVariants.{Idle, Running, Moving, Validating}
 use Rattle.stm_state.specs.Limits.{incarnation_limit}
 use Rattle.stm_state.specs.State.{State, fresh, call_at, task_at, with_call, with_task, is_executed}
 use Rattle.stm_state.specs.Steps.{Block, answered_with, read_at, parked}
-use Rattle.stm_state.specs.Invariant.{View, view_of, ViewInvariant, IsRightAnswer, Invariant, IsSized, run_by, named_by}
+use Rattle.stm_state.specs.Invariant.{View, view_of, ViewInvariant, IsRightAnswer, Invariant, IsSized, IsUnmoved, run_by, moved_by, named_by}
 use Rattle.stm_state.proofs.Lists.{all_append}
-use Rattle.stm_state.proofs.Frames.{Frame, recorded_versions}
+use Rattle.stm_state.proofs.Frames.{Frame, frame_kept, unmoved_run}
 use Rattle.stm_state.proofs.Safes.{safe_other}
 use Rattle.stm_state.proofs.Tests.{not_executed_says, resized}
 use Rattle.stm_state.proofs.Asks.{same_entries}
@@ -34,6 +34,13 @@ module _ (block : Block) (s : State) (w i : ℕ) (answers : List StorageAnswer) 
   -- the worker validates nothing
   free : (j n left : ℕ) → task_at s w ≢ Validating j n left
   free j n left h = cc
+
+  -- nor does it move keys, and nobody moves those of call i
+  moves_none : (j : ℕ) (keys : List (List ℕ)) (new : Bool) → task_at s w ≢ Moving j keys new
+  moves_none j keys new h = cc
+
+  is_unmoved : IsUnmoved (view_of s) i
+  is_unmoved = unmoved_run block (view_of s) f i w runs_i (ap moved_by runs)
 
   -- what a run that goes on changes
   goes_move : (xs : List StorageAnswer) (o : Option ℕ) → AllByRecursion (IsRightAnswer block (view_of s) i) xs → ((b : ℕ) → o ≡ Some b → b < i)
@@ -60,7 +67,8 @@ module _ (block : Block) (s : State) (w i : ℕ) (answers : List StorageAnswer) 
     aborting_limit = f.aborting_limit i;
     grows = omega arith;
     versions = λ key n x h. inr h;
-    own_entries = f.entries i;
+    own_entries = λ _ key. f.entries i key is_unmoved;
+    own_moving = λ j keys new h. cc;
     executed = f.executed i;
     recorded = f.recorded i;
     answered = λ j ys o2 h. let one : i ≡ j = cc in let two : xs ≡ ys = cc in subst (λ y. AllByRecursion (IsRightAnswer block (view_of s) y) ys) one (subst (λ zs. AllByRecursion (IsRightAnswer block (view_of s) i) zs) two right);
@@ -73,9 +81,9 @@ module _ (block : Block) (s : State) (w i : ℕ) (answers : List StorageAnswer) 
   goes xs o right low =
       let m = goes_move xs o right low in
       let u : View = view_of (with_task w (Running i xs o) s) in
-      recorded_versions block (view_of s) u i w (call_at s i) (Running i xs o) m f (λ j h l. elim (cases_eq j i) [
+      frame_kept block (view_of s) u i w (call_at s i) (Running i xs o) m f (λ j h l. elim (cases_eq j i) [
         | inl e ↦ let r : (call_at s j).status ≡ Executing = ap (λ x. (call_at s x).status) e ∙ is_executing in let q : (call_at s j).status ≡ Executed = h in cc
-        | inr ne ↦ safe_other block (view_of s) u i w (call_at s i) (Running i xs o) m j ne (λ left. free j (call_at s j).incarnation left) (λ read k. k) (f.safe j h l)
+        | inr ne ↦ safe_other block (view_of s) u i w (call_at s i) (Running i xs o) m j ne (λ left. free j (call_at s j).incarnation left) (λ keys k _. absurd (moves_none i keys true k)) (λ read k. k) (f.safe j h l)
       ])
 
   -- what the run was answered so far is right
@@ -122,7 +130,8 @@ module _ (block : Block) (s : State) (w i : ℕ) (answers : List StorageAnswer) 
     aborting_limit = λ h. omega arith;
     grows = omega arith;
     versions = λ key n x h. inr h;
-    own_entries = same_entries block (view_of s) f i (λ h. let r = is_executing in cc);
+    own_entries = λ _. same_entries block (view_of s) f i (λ h. let r = is_executing in cc) is_unmoved;
+    own_moving = λ j keys new h. cc;
     executed = λ h. cc;
     recorded = f.recorded i;
     answered = λ j ys o h. cc;
@@ -135,9 +144,9 @@ module _ (block : Block) (s : State) (w i : ℕ) (answers : List StorageAnswer) 
   parks b low not_done less i_in =
       let m = parks_move b low not_done less i_in in
       let u : View = view_of (after_park b) in
-      recorded_versions block (view_of s) u i w (waiting b) Idle m f (λ j h l. elim (cases_eq j i) [
+      frame_kept block (view_of s) u i w (waiting b) Idle m f (λ j h l. elim (cases_eq j i) [
         | inl e ↦ let c : u.calls j ≡ waiting b = ap u.calls e ∙ m.call in let r : (u.calls j).status ≡ Aborting = ap (λ (call : CallState). call.status) c in cc
-        | inr ne ↦ safe_other block (view_of s) u i w (waiting b) Idle m j ne (λ left. free j (call_at s j).incarnation left) (λ read k. k)
+        | inr ne ↦ safe_other block (view_of s) u i w (waiting b) Idle m j ne (λ left. free j (call_at s j).incarnation left) (λ keys k _. absurd (moves_none i keys true k)) (λ read k. k)
             (f.safe j (ap (λ (call : CallState). call.status) (sym (m.calls j ne)) ∙ h) l)
       ])
 

@@ -22,12 +22,13 @@ use Rattle.stm_state.specs.declared.state.Status.{Status}
 use Rattle.stm_state.specs.declared.state.Status.TheVariants.{Ready, Executing, Executed, Aborting}
 use Rattle.stm_state.specs.declared.state.Recorded.{Recorded}
 use Rattle.stm_state.specs.declared.state.Task.TheVariants.{Idle}
-use Rattle.stm_state.specs.State.{State, fresh, call_at, task_at, is_executed, is_idle, is_done}
-use Rattle.stm_state.specs.Steps.{Block, read_of, reads_of}
-use Rattle.stm_state.specs.Invariant.{view_of, ViewInvariant, IsRight, IsRightAnswer, validated, IsSafe, Invariant, write_of, entry_of, entry_by}
+use Rattle.stm_state.specs.State.{State, fresh, call_at, task_at, is_idle, is_done}
+use Rattle.stm_state.specs.Steps.{Block, read_of, reads_of, write_of}
+use Rattle.stm_state.specs.Invariant.{view_of, ViewInvariant, IsRight, IsRightAnswer, validated, ahead, IsSafe, Invariant, entry_of}
 use Rattle.stm_state.specs.Done.{HasVersionsAlone, Reached, IsSerial}
 use Rattle.stm_state.proofs.Tests.{equal_says, idle_at_done}
 use Rattle.stm_state.proofs.Writes.{over, laid_get}
+use Rattle.stm_state.proofs.Asks.{executed_entries}
 use Rattle.stm_state.proofs.Aborts.{version_is}
 use Rattle.stm_state.proofs.Whole.{invariant_kept}
 
@@ -72,7 +73,12 @@ pub held_see : (base : Option (List ℕ)) (i n : ℕ) (o : Option Content) (belo
 held_see base i n None below = refl
 held_see base i n (Some c) below = refl
 
--- where nobody validates, what is safe stands
+-- a version is no estimate
+pub no_estimate : (o : Option Content) (n : ℕ) → option_map (λ c. Stands n c) o ≢ Some Estimate
+no_estimate None n h = cc
+no_estimate (Some c) n h = cc
+
+-- where nobody has a task, what is safe stands
 safe_stands : (s : State) (i : ℕ) (reads : List Read) → ((w : ℕ) → task_at s w ≡ Idle) → AllByRecursion (IsSafe (view_of s) i) reads → AllByRecursion (λ read. stands_among (entry_at s.versions) i read ≡ true) reads
 safe_stands s i [] idle h = tt
 safe_stands s i (read ∷ reads) idle h = (one h.0, safe_stands s i reads idle h.1)
@@ -80,6 +86,7 @@ safe_stands s i (read ∷ reads) idle h = (one h.0, safe_stands s i reads idle h
     one : IsSafe (view_of s) i read → stands_among (entry_at s.versions) i read ≡ true
     one (inl stand) = stand
     one (inr (validated w left task)) = let none = idle w in cc
+    one (inr (ahead q)) = let none = idle q.worker in let task = q.task in cc
 
 module _ (block : Block) (s : State) (f : ViewInvariant block (view_of s)) (over_now : IsOver block s) where
   -- the receipt of a call
@@ -112,7 +119,7 @@ module _ (block : Block) (s : State) (f : ViewInvariant block (view_of s)) (over
 
   -- the entries of a call are its writes
   entry_is : (i : ℕ) → i < block.count → (key : List ℕ) → entry_at s.versions key i ≡ option_map (λ c. Stands (call_at s i).incarnation c) (write_of (call_at s i).last key)
-  entry_is i within key = f.entries i key ∙ ap (λ st. entry_by (is_executed st) (call_at s i).incarnation (write_of (call_at s i).last key)) (all_executed i within)
+  entry_is i within key = executed_entries block (view_of s) f i (all_executed i within) key
 
   -- the writes of a recorded run are those of its receipt
   write_is : (last : Option Recorded) (key : List ℕ) → write_of last key ≡ get (receipt_or last).writes key
@@ -144,8 +151,8 @@ module _ (block : Block) (s : State) (f : ViewInvariant block (view_of s)) (over
       elim right.1 [
         | inl old ↦
             let low = at.0 in
-            let same : n ≡ (call_at s v).incarnation = version_is (write_of (call_at s v).last key) (call_at s v).incarnation n shown.0 (sym (entry_is v (omega (arith, low, l)) key) ∙ there) in
-            absurd (omega (arith, same, old))
+            let same = version_is (write_of (call_at s v).last key) (call_at s v).incarnation n shown.0 (sym (entry_is v (omega (arith, low, l)) key) ∙ there) in
+            let is = same.0 in absurd (omega (arith, is, old))
         | inr stands_there ↦ let is : value ≡ shown.0 = cc in is ∙ content
       ]
 
@@ -181,11 +188,6 @@ module _ (block : Block) (s : State) (f : ViewInvariant block (view_of s)) (over
     last = λ key. seen_is_store block.count (omega arith) key;
   }
 
-  -- a version is no estimate
-  no_estimate : (o : Option Content) (n : ℕ) → option_map (λ c. Stands n c) o ≢ Some Estimate
-  no_estimate None n h = cc
-  no_estimate (Some c) n h = cc
-
   -- the versions hold what the calls wrote and nothing else
   pub versions_alone : length s.calls ≡ block.count → HasVersionsAlone block s
   versions_alone size = (
@@ -197,7 +199,7 @@ module _ (block : Block) (s : State) (f : ViewInvariant block (view_of s)) (over
   )
     where
       past : (key : List ℕ) (w : ℕ) → block.count ≤ w → entry_at s.versions key w ≡ None
-      past key w over = f.entries w key ∙ ap (λ call. entry_of call key) (get_or_past s.calls w fresh (omega (arith, size, over)))
+      past key w over = f.entries w key (λ x h. let none = over_now.idle x in cc) ∙ ap (λ call. entry_of call key) (get_or_past s.calls w fresh (omega (arith, size, over)))
 
 -- where workers are done, the result is that of the calls one after another
 pub serial_at_done : (block : Block) (workers : ℕ) (s : State) → Reached block workers s → is_done s ≡ true → IsSerial block s

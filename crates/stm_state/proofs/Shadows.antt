@@ -1,109 +1,84 @@
 -- What schedules of small blocks come to: a run of them that computes, as the runs of the definitions do.
-use Rattle.std.proofs.Common.{◌≡◌, ◌+◌, ◌++◌, ◌&&◌, not, nat_lt, nat_le, if◌then◌else◌, ℕ, Bool, true, false, cond, is_some, bytes_eq, List, [], ◌∷◌, length, get_or, Option, None, Some, Result, Ok, Err, refl, sym, ap, subst, ◌∙◌}
-use Rattle.std.specs.List.{list_any, list_all}
+use Rattle.std.proofs.Common.{◌≡◌, ◌≢◌, ◌+◌, ◌++◌, ◌==◌, ◌&&◌, not, nat_lt, nat_le, if◌then◌else◌, ℕ, Bool, true, false, cond, is_some, option_map, List, [], ◌∷◌, length, get_or, Option, None, Some, Result, Ok, Err, refl, sym, ap, subst, ◌∙◌}
+use Rattle.std.specs.List.{list_any, list_all, filter}
 use Rattle.std.specs.Ordering.{eq_by_cmp}
-use Rattle.std.specs.Cmp.Lexicographic.{nat_list_cmp_total}
-use Rattle.std.specs.FinMap.{get, empty, entries, len, get-empty, get-insert, entries-insert, len-empty, len-entries}
-use Rattle.std.specs.FinMap.Entries.{put}
-use Rattle.std.proofs.lemmas.Bool.{and_parts}
+use Rattle.std.specs.FinMap.{get, empty, entries, len, get-empty, len-entries, contains_key}
+use Rattle.std.proofs.lemmas.Bool.{and_parts, cond_both}
 use Rattle.version_arena.specs.ArenaState.{Content}
 use Rattle.rv_ledger.specs.Key.{key_cmp}
 use Rattle.rv_ledger.specs.declared.receipt.Receipt.{Receipt}
 use Rattle.read_set.specs.declared.Origin.TheVariants as origin
 use Rattle.read_set.specs.declared.Read.{Read}
-use Rattle.rv_step.specs.Chain.{Reply}
 use Rattle.rv_step.specs.Replies.{replies_of}
 use Rattle.rv_step.specs.declared.answer.StorageAnswer.{StorageAnswer}
-use Rattle.mvmap.specs.Versions.{entry_at}
-use Rattle.mvmap.specs.Reading.{Visible, Base, Found, Blocked, visible_below, reading, is_origin}
+use Rattle.mvmap.specs.Versions.{Entry, Versions, Stands, Estimate, changed, entry_at, place_cmp}
+use Rattle.mvmap.specs.Reading.{Visible, Base, Found, Blocked, visible_below, reading, is_origin, stands_among}
 use Rattle.mvmap.proofs.Readings.{seen_same}
-use Rattle.stm_state.specs.declared.state.Status.TheVariants.{Executed}
+use Rattle.stm_state.specs.declared.state.CallState.{CallState}
 use Rattle.stm_state.specs.declared.state.Recorded.{Recorded}
 use Rattle.stm_state.specs.declared.state.Task.{Task}
-use Rattle.stm_state.specs.declared.state.Task.TheVariants.{Idle, Running, Validating}
+use Rattle.stm_state.specs.declared.state.Task.TheVariants.{Idle, Running, Moving, Validating}
 use Rattle.stm_state.specs.Limits.{record_limit, incarnation_limit}
-use Rattle.stm_state.specs.State.{State, start, call_at, task_at, with_call, with_task, is_executed}
-use Rattle.stm_state.specs.Steps.{Step, Ask, Read_key, Park, Record, Validate, Limit, ArenaFull, IncarnationLimit, counted, one_step, one_asking, one_execution, one_validation, asked, answered_with, parked, wrote, has_new_key, recorded_versions, resume_dependents, to_validate, recorded_run, is_executed_at, aborted, all_stand, validated, decided, record_within, reads_of, step_with, worker_step}
-use Rattle.stm_state.specs.Invariant.{view_of, ViewInvariant, write_of, entry_by}
+use Rattle.stm_state.specs.State.{State, start, call_at, task_at, with_call, with_task, is_executed, is_ready, is_done}
+use Rattle.stm_state.specs.Steps.{Step, Ask, Read_key, Park, Record, Move_key, Finish_execution, Validate, Limit, ArenaFull, IncarnationLimit, counted, one_step, one_asking, one_execution, one_validation, ask_validation, ask_execution, asked, answered_with, parked, written_by, estimated, left_over, wrote, has_new_key, keys_of, keys_to_move, version_of, write_of, resume_dependents, to_validate, recorded_run, moved, executed, is_executed_at, aborted, all_stand, validated, decided, record_within, reads_of, step_with, worker_step}
+use Rattle.stm_state.specs.Invariant.{view_of, ViewInvariant}
 use Rattle.stm_state.specs.Done.{Reached, started, stepped}
-use Rattle.stm_state.specs.Rows.{Turn, Reads, Ends, Script, writes_of, at_end, on_reply, borne_from, block_of_scripts, due_step, after_schedule, echo}
+use Rattle.stm_state.specs.Rows.{Script, writes_of, borne_from, block_of_scripts, due_step, after_schedule, echo}
 use Rattle.stm_state.specs.Walk.{after_step}
 use Rattle.stm_state.proofs.Lists.{all_same}
-use Rattle.stm_state.proofs.Tests.{lt_says}
+use Rattle.stm_state.proofs.Tests.{lt_says, equal_says, equal_itself}
+use Rattle.stm_state.proofs.Cases.{IsMade, by_ask, by_read, by_park, by_record, by_move, by_finish, by_validate, made}
+use Rattle.stm_state.proofs.Writes.{changed_at, changed_other, estimated_over, estimated_other}
 use Rattle.stm_state.proofs.Whole.{invariant_kept}
+use Rattle.stm_state.proofs.Scripts.{entries_of, value_of, entries_are, value_is, shaped}
 
--- ---- what a call wrote, from the registers of its receipt
+-- ---- entries that compute
 
--- the entries of the writes that numbers tell
-abbrev entries_of : List ℕ → List (List ℕ × Content)
-entries_of [] = []
-entries_of (key ∷ value) = (key ∷ [], Some value) ∷ []
+-- the entry of each writer at each key
+abbrev pub Entries : Type 0
+Entries = List ℕ → ℕ → Option Entry
 
--- what those writes have at a key
-abbrev value_of : List ℕ → List ℕ → Option Content
-value_of [] key = None
-value_of (k ∷ value) key = cond (eq_by_cmp key_cmp key (k ∷ [])) (Some (Some value)) None
+-- at the start there is none
+abbrev pub no_entries_yet : Entries
+no_entries_yet key writer = None
 
--- a list of length 0 has no entry
-no_entries : {X : Type 0} (xs : List X) → length xs ≡ 0 → xs ≡ []
-no_entries [] h = refl
-no_entries (x ∷ xs) h = cc
+-- one changed
+abbrev changed_by : Entries → List ℕ → ℕ → Option Entry → Entries
+changed_by e k i o key j = cond (j == i) (cond (eq_by_cmp key_cmp key k) o (e key j)) (e key j)
 
--- no writes have no entries
-entries_empty : entries (empty {X = Content} {R = key_cmp}) ≡ []
-entries_empty = no_entries (entries (empty {X = Content} {R = key_cmp})) (sym (len-entries (empty {X = Content} {R = key_cmp})) ∙ len-empty key_cmp Content)
-
--- the entries of writes are those that their numbers tell
-entries_are : (write : List ℕ) → entries (writes_of write) ≡ entries_of write
-entries_are [] = entries_empty
-entries_are (key ∷ value) = entries-insert nat_list_cmp_total (empty {X = Content} {R = key_cmp}) (key ∷ []) (Some value) ∙ ap (put key_cmp (key ∷ []) (Some value)) entries_empty
-
--- and so is what they have at a key
-value_is : (write key : List ℕ) → get (writes_of write) key ≡ value_of write key
-value_is [] key = get-empty key_cmp key
-value_is (k ∷ value) key = get-insert nat_list_cmp_total (empty {X = Content} {R = key_cmp}) (k ∷ []) (Some value) key
-    ∙ ap (cond (eq_by_cmp key_cmp key (k ∷ [])) (Some (Some value))) (get-empty key_cmp key)
-
--- a receipt at an end is shaped so
-shaped_end : (turn : Turn) (r : Receipt) → at_end turn ≡ Some r → r.writes ≡ writes_of r.regs
-shaped_end (Reads key) r h = cc
-shaped_end (Ends end out write) r h = let same = some_same h in subst (λ (x : Receipt). x.writes ≡ writes_of x.regs) same refl
-  where
-    some_same : {x y : Receipt} → Some x ≡ Some y → x ≡ y
-    some_same h = cc
-
--- and so is one after a reply
-shaped_reply : (turn : Turn) (k : List ℕ) (rest : Option Receipt) (r : Receipt) → (rest ≡ Some r → r.writes ≡ writes_of r.regs) → on_reply turn k rest ≡ Some r → r.writes ≡ writes_of r.regs
-shaped_reply (Reads key) k rest r more h = go (bytes_eq k key) h
-  where
-    go : (b : Bool) → cond b rest None ≡ Some r → r.writes ≡ writes_of r.regs
-    go true h = more h
-    go false h = cc
-shaped_reply (Ends end out write) k rest r more h = cc
-
--- the writes of a receipt are what its registers tell
-shaped : (script : Script) (contents : List Content) (replies : List Reply) (r : Receipt) → borne_from script contents replies ≡ Some r → r.writes ≡ writes_of r.regs
-shaped script contents [] r h = shaped_end (script contents) r h
-shaped script contents (reply ∷ replies) r h = shaped_reply (script contents) reply.0 (borne_from script (contents ++ reply.1 ∷ []) replies) r (shaped script (contents ++ reply.1 ∷ []) replies r) h
-
--- ---- the same steps, with what they look at computed
-
--- what a recorded run wrote at a key
+-- what a recorded run wrote at a key, and which entries it wrote
 abbrev written : Option Recorded → List ℕ → Option Content
 written None key = None
 written (Some run) key = value_of run.receipt.regs key
 
--- what a call sees of a key
-abbrev seen_by : State → List ℕ → ℕ → Visible
-seen_by s key i = visible_below (λ w. entry_by (is_executed (call_at s w).status) (call_at s w).incarnation (written (call_at s w).last key)) i
+abbrev listed : Option Recorded → List (List ℕ × Content)
+listed None = []
+listed (Some run) = entries_of run.receipt.regs
+
+-- a writer's entries at the keys of a run made estimates
+abbrev estimated_by : Entries → ℕ → Option Recorded → Entries
+estimated_by e i last key j = cond (j == i) (cond (is_some (written last key)) (Some Estimate) (e key j)) (e key j)
+
+-- ---- the same steps, with what they look at computed
 
 -- whether all reads of a call stand
-abbrev stand_by : ℕ → State → Bool
-stand_by i s = list_all (λ read. is_origin read.origin (seen_by s read.key i)) (reads_of (call_at s i).last)
+abbrev stand_by : Entries → ℕ → State → Bool
+stand_by e i s = list_all (stands_among e i) (reads_of (call_at s i).last)
 
--- whether a run wrote a new key
+-- whether a call is aborted
+abbrev is_wrong : Entries → ℕ → ℕ → State → Bool
+is_wrong e i n s = is_executed_at n (call_at s i) && not (stand_by e i s)
+
+-- whether a run wrote a new key, and the keys that it is to move
 abbrev new_by : Option Recorded → List ℕ → Bool
 new_by last write = list_any (λ e. not (is_some (written last e.0))) (entries_of write)
+
+abbrev keys_by : Option Recorded → List ℕ → List (List ℕ)
+keys_by last write = keys_of (entries_of write) ++ keys_of (filter (λ e. not (is_some (value_of write e.0))) (listed last))
+
+-- the version of a call's run at a key
+abbrev version_by : CallState → List ℕ → Option Entry
+version_by call key = option_map (λ content. Stands call.incarnation content) (written call.last key)
 
 -- the task after an answer
 abbrev answered_by : List ℕ → ℕ → List StorageAnswer → Visible → Task
@@ -111,46 +86,58 @@ answered_by key i answers Base = Running i (answers ++ record { key = key; value
 answered_by key i answers (Found w n content) = Running i (answers ++ record { key = key; value = content; origin = origin.Version w n } ∷ []) None
 answered_by key i answers (Blocked b) = Running i answers (Some b)
 
--- a record, with how many keys it wrote and whether one is new
-abbrev recorded_by : ℕ → ℕ → List StorageAnswer → Receipt → State → ℕ → Bool → Option (Result State Limit)
-recorded_by w i answers receipt s writes new =
+-- a record, with how many keys it wrote, which it is to move, and whether one is new
+abbrev recorded_by : ℕ → ℕ → List StorageAnswer → Receipt → State → ℕ → List (List ℕ) → Bool → Option (Result State Limit)
+recorded_by w i answers receipt s writes keys new =
     if nat_lt record_limit (s.placed + writes) then Some (Err ArenaFull)
     else if nat_le incarnation_limit (call_at s i).incarnation then Some (Err IncarnationLimit)
-    else Some (Ok (counted one_execution w (to_validate w i new (Validating i (call_at s i).incarnation (length answers))
-    (resume_dependents i (with_call i (record (call_at s i) { status = Executed; last = Some (recorded_run answers receipt) })
-    (record s { versions = recorded_versions i (call_at s i).incarnation (call_at s i).last receipt.writes s.versions; placed = s.placed + writes }))))))
+    else Some (Ok (counted one_execution w (with_task w (Moving i keys new) (with_call i (record (call_at s i) { last = Some (recorded_run answers receipt) }) (record s { placed = s.placed + writes })))))
 
 -- a record of a receipt that is borne out
 abbrev within_by : ℕ → List StorageAnswer → ℕ → Option Receipt → State → Option (Result State Limit)
 within_by i answers w None s = None
-within_by i answers w (Some receipt) s = recorded_by w i answers receipt s (length (entries_of receipt.regs)) (new_by (call_at s i).last receipt.regs)
+within_by i answers w (Some receipt) s = recorded_by w i answers receipt s (length (entries_of receipt.regs)) (keys_by (call_at s i).last receipt.regs) (new_by (call_at s i).last receipt.regs)
 
 -- a validation, with whether the call is aborted
 abbrev validated_by : ℕ → ℕ → Bool → State → State
 validated_by w i wrong s = if wrong then aborted w i s else with_task w Idle s
 
 -- a step
-abbrev step_by : List Script → ℕ → Task → Step → State → Option (Result State Limit)
-step_by scripts w Idle Ask s = Some (Ok (counted one_asking w (asked w s)))
-step_by scripts w (Running i answers None) (Read_key key) s = Some (Ok (counted one_step w (with_task w (answered_by key i answers (seen_by s key i)) s)))
-step_by scripts w (Running i answers (Some b)) Park s =
+abbrev step_by : List Script → ℕ → Task → Step → Entries → State → Option (Result State Limit)
+step_by scripts w Idle Ask e s = Some (Ok (counted one_asking w (asked w s)))
+step_by scripts w (Running i answers None) (Read_key key) e s = Some (Ok (counted one_step w (with_task w (answered_by key i answers (visible_below (e key) i)) s)))
+step_by scripts w (Running i answers (Some b)) Park e s =
     if nat_le incarnation_limit (call_at s i).incarnation then Some (Err IncarnationLimit) else Some (Ok (counted one_step w (parked w i b s)))
-step_by scripts w (Running i answers None) Record s = within_by i answers w (borne_from (get_or scripts i echo) [] (replies_of answers)) s
-step_by scripts w (Validating i n left) Validate s =
-    Some (Ok (counted (if decided i n left s then one_validation else one_step) w (validated_by w i (is_executed_at n (call_at s i) && not (stand_by i s)) s)))
-step_by scripts w task step s = None
+step_by scripts w (Running i answers None) Record e s = within_by i answers w (borne_from (get_or scripts i echo) [] (replies_of answers)) s
+step_by scripts w (Moving i (key ∷ keys) new) Move_key e s = Some (Ok (counted one_step w (moved w i key keys new s)))
+step_by scripts w (Moving i [] new) Finish_execution e s = Some (Ok (counted one_step w (executed w i new s)))
+step_by scripts w (Validating i n left) Validate e s = Some (Ok (counted (if decided i n left s then one_validation else one_step) w (validated_by w i (is_wrong e i n s) s)))
+step_by scripts w task step e s = None
+
+-- the entries after it
+abbrev entries_by : Task → Step → Entries → State → Entries
+entries_by (Moving i (key ∷ keys) new) Move_key e s = changed_by e key i (version_by (call_at s i) key)
+entries_by (Validating i n left) Validate e s = if is_wrong e i n s then estimated_by e i (call_at s i).last else e
+entries_by task step e s = e
 
 -- a list of worker numbers
-unfoldable pub computed_after : List Script → List ℕ → State → Option State
-computed_after scripts [] s = Some s
-computed_after scripts (w ∷ ws) s = after_step (λ t. computed_after scripts ws t) (step_by scripts w (task_at s w) (due_step scripts (task_at s w)) s)
+unfoldable pub computed_after : List Script → List ℕ → Entries → State → Option State
+computed_after scripts [] e s = Some s
+computed_after scripts (w ∷ ws) e s =
+    let task = task_at s w in
+    let step = due_step scripts task in
+    after_step (λ t. computed_after scripts ws (entries_by task step e s) t) (step_by scripts w task step e s)
 
 -- ---- they are the same
 
--- like tests are met by some alike
+-- like tests are met by some alike, and pass the same elements
 any_same : {X : Type 0} (f g : X → Bool) → ((x : X) → f x ≡ g x) → (xs : List X) → list_any f xs ≡ list_any g xs
 any_same f g h [] = refl
 any_same f g h (x ∷ xs) = cc (h x, any_same f g h xs)
+
+filter_same : {X : Type 0} (f g : X → Bool) → ((x : X) → f x ≡ g x) → (xs : List X) → filter f xs ≡ filter g xs
+filter_same f g h [] = refl
+filter_same f g h (x ∷ xs) = ap (λ b. cond b (x ∷ filter f xs) (filter f xs)) (h x) ∙ ap (λ ys. cond (g x) (x ∷ ys) ys) (filter_same f g h xs)
 
 -- the task after an answer is that task
 answered_same : (key : List ℕ) (i : ℕ) (answers : List StorageAnswer) (seen : Visible) → answered_with empty key i answers seen ≡ answered_by key i answers seen
@@ -158,30 +145,67 @@ answered_same key i answers Base = ap (λ (c : Content). Running i (answers ++ r
 answered_same key i answers (Found w n content) = refl
 answered_same key i answers (Blocked b) = refl
 
+-- versions have these entries
+abbrev AreEntries : Entries → Versions → Type 0
+AreEntries e v = (key : List ℕ) (i : ℕ) → entry_at v key i ≡ e key i
+
+-- a choice by the writer
+by_writer : (o a b : Option Entry) (j i : ℕ) → (j ≡ i → o ≡ a) → (j ≢ i → o ≡ b) → o ≡ cond (j == i) a b
+by_writer o a b j i same other = go (j == i) refl
+  where
+    go : (t : Bool) → (j == i) ≡ t → o ≡ cond t a b
+    go true h = same (equal_says j i h)
+    go false h = other (λ e. let is : (j == i) ≡ true = ap (λ x. x == i) e ∙ equal_itself i in cc)
+
+-- so they have with one changed
+changed_same : (e : Entries) (v : Versions) (k : List ℕ) (i : ℕ) (o : Option Entry) → AreEntries e v → AreEntries (changed_by e k i o) (changed v (k, i) o)
+changed_same e v k i o are key j = by_writer _ _ _ j i
+    (λ same. subst (λ x. entry_at (changed v (k, i) o) key x ≡ cond (eq_by_cmp key_cmp key k) o (e key x)) (sym same) (changed_at v k i o key ∙ ap (cond (eq_by_cmp key_cmp key k) o) (are key i)))
+    (λ ne. changed_other v k i o key j ne ∙ are key j)
+
+-- steps that keep the versions
+asked_versions : (w : ℕ) (s : State) → (asked w s).versions ≡ s.versions
+unfolding ask_validation ask_execution
+asked_versions w s = cond_both (is_done s) _ _ (λ (t : State). t.versions ≡ s.versions) (λ _. refl)
+    (λ _. cond_both (nat_lt s.validation s.execution) _ _ (λ (t : State). t.versions ≡ s.versions)
+    (λ _. cond_both (is_executed (call_at s s.validation).status) _ _ (λ (t : State). t.versions ≡ s.versions) (λ _. refl) (λ _. refl))
+    (λ _. cond_both (nat_lt s.execution (length s.calls)) _ _ (λ (t : State). t.versions ≡ s.versions)
+    (λ _. cond_both (is_ready (call_at s s.execution).status) _ _ (λ (t : State). t.versions ≡ s.versions) (λ _. refl) (λ _. refl)) (λ _. refl)))
+
+parked_versions : (w i b : ℕ) (s : State) → (parked w i b s).versions ≡ s.versions
+unfolding parked
+parked_versions w i b s = cond_both (is_executed (call_at s b).status) _ _ (λ (t : State). t.versions ≡ s.versions) (λ _. refl) (λ _. refl)
+
+executed_versions : (w i : ℕ) (new : Bool) (s : State) → (executed w i new s).versions ≡ s.versions
+unfolding to_validate resume_dependents
+executed_versions w i new s = cond_both (nat_lt i s.validation) _ _ (λ (t : State). t.versions ≡ s.versions)
+    (λ _. cond_both new _ _ (λ (t : State). t.versions ≡ s.versions) (λ _. refl) (λ _. refl)) (λ _. refl)
+
+aborted_versions : (w i : ℕ) (s : State) → (aborted w i s).versions ≡ estimated i (written_by (call_at s i).last) s.versions
+unfolding aborted
+aborted_versions w i s = cond_both (nat_lt i s.execution) _ _ (λ (t : State). t.versions ≡ estimated i (written_by (call_at s i).last) s.versions) (λ _. refl) (λ _. refl)
+
 module _ (scripts : List Script) (workers : ℕ) (s : State) (reached : Reached (block_of_scripts scripts) workers s) where
   -- the invariant
   facts : ViewInvariant (block_of_scripts scripts) (view_of s)
   facts = (invariant_kept (block_of_scripts scripts) workers s reached).facts
 
-  -- what a recorded run wrote is what its registers tell
+  -- the writes of a recorded run are those that its registers tell
+  last_shaped : (i : ℕ) (run : Recorded) → (call_at s i).last ≡ Some run → run.receipt.writes ≡ writes_of run.receipt.regs
+  last_shaped i run h = let b = facts.recorded i run h in shaped (get_or scripts i echo) [] (replies_of b.answers) run.receipt b.borne_out
+
+  -- so is what it wrote at a key
   last_written : (i : ℕ) (key : List ℕ) (last : Option Recorded) → (call_at s i).last ≡ last → write_of last key ≡ written last key
   last_written i key None h = refl
-  last_written i key (Some run) h =
-      let b = facts.recorded i run h in
-      ap (λ (m : _). get m key) (shaped (get_or scripts i echo) [] (replies_of b.answers) run.receipt b.borne_out) ∙ value_is run.receipt.regs key
+  last_written i key (Some run) h = ap (λ (m : _). get m key) (last_shaped i run h) ∙ value_is run.receipt.regs key
 
-  -- so for each call
   write_same : (i : ℕ) (key : List ℕ) → write_of (call_at s i).last key ≡ written (call_at s i).last key
   write_same i key = last_written i key (call_at s i).last refl
 
-  -- what a call sees is what it sees there
-  seen_same_by : (key : List ℕ) (i : ℕ) → reading s.versions key i ≡ seen_by s key i
-  seen_same_by key i = seen_same (entry_at s.versions key) (λ w. entry_by (is_executed (call_at s w).status) (call_at s w).incarnation (written (call_at s w).last key)) i
-      (λ w l. facts.entries w key ∙ ap (entry_by (is_executed (call_at s w).status) (call_at s w).incarnation) (write_same w key))
-
-  -- its reads stand where they stand there
-  stand_same : (i : ℕ) → all_stand i s ≡ stand_by i s
-  stand_same i = all_same _ (λ (read : Read). is_origin read.origin (seen_by s read.key i)) (λ read. ap (is_origin read.origin) (seen_same_by read.key i)) (reads_of (call_at s i).last)
+  -- and so are its entries
+  last_listed : (i : ℕ) (last : Option Recorded) → (call_at s i).last ≡ last → written_by last ≡ listed last
+  last_listed i None h = refl
+  last_listed i (Some run) h = ap entries (last_shaped i run h) ∙ entries_are run.receipt.regs
 
   -- a run wrote a key where it has a write there
   wrote_is : (last : Option Recorded) (key : List ℕ) → wrote last key ≡ is_some (write_of last key)
@@ -194,6 +218,17 @@ module _ (scripts : List Script) (workers : ℕ) (s : State) (reached : Reached 
       any_same (λ e. not (wrote (call_at s i).last e.0)) (λ e. not (is_some (written (call_at s i).last e.0))) (λ e. ap not (wrote_is (call_at s i).last e.0 ∙ ap is_some (write_same i e.0))) (entries r.writes)
       ∙ ap (list_any (λ e. not (is_some (written (call_at s i).last e.0)))) (ap entries shape ∙ entries_are r.regs)
 
+  -- the same keys are to move
+  left_same : (i : ℕ) (r : Receipt) → r.writes ≡ writes_of r.regs → left_over (call_at s i).last r.writes ≡ filter (λ e. not (is_some (value_of r.regs e.0))) (listed (call_at s i).last)
+  left_same i r shape =
+      filter_same (λ e. not (contains_key r.writes e.0)) (λ e. not (is_some (value_of r.regs e.0))) (λ e. ap (λ o. not (is_some o)) (ap (λ (m : _). get m e.0) shape ∙ value_is r.regs e.0)) (written_by (call_at s i).last)
+      ∙ ap (filter (λ e. not (is_some (value_of r.regs e.0)))) (last_listed i (call_at s i).last refl)
+
+  keys_same : (i : ℕ) (r : Receipt) → r.writes ≡ writes_of r.regs → keys_to_move (call_at s i).last r.writes ≡ keys_by (call_at s i).last r.regs
+  keys_same i r shape =
+      ap (λ xs. keys_of xs ++ keys_of (left_over (call_at s i).last r.writes)) (ap entries shape ∙ entries_are r.regs)
+      ∙ ap (λ xs. keys_of (entries_of r.regs) ++ keys_of xs) (left_same i r shape)
+
   -- as many keys are written
   len_same : (r : Receipt) → r.writes ≡ writes_of r.regs → len r.writes ≡ length (entries_of r.regs)
   len_same r shape = len-entries r.writes ∙ ap length (ap entries shape ∙ entries_are r.regs)
@@ -203,39 +238,96 @@ module _ (scripts : List Script) (workers : ℕ) (s : State) (reached : Reached 
   within_same i answers w None h = refl
   within_same i answers w (Some r) h =
       let shape = shaped (get_or scripts i echo) [] (replies_of answers) r h in
-      ap (λ n. recorded_by w i answers r s n (has_new_key (call_at s i).last r.writes)) (len_same r shape)
-      ∙ ap (recorded_by w i answers r s (length (entries_of r.regs))) (new_same i r shape)
+      ap (λ n. recorded_by w i answers r s n (keys_to_move (call_at s i).last r.writes) (has_new_key (call_at s i).last r.writes)) (len_same r shape)
+      ∙ ap (λ keys. recorded_by w i answers r s (length (entries_of r.regs)) keys (has_new_key (call_at s i).last r.writes)) (keys_same i r shape)
+      ∙ ap (recorded_by w i answers r s (length (entries_of r.regs)) (keys_by (call_at s i).last r.regs)) (new_same i r shape)
 
-  -- a validation is that validation
-  validated_same : (w i n : ℕ) → validated w i n s ≡ validated_by w i (is_executed_at n (call_at s i) && not (stand_by i s)) s
-  unfolding validated
-  validated_same w i n = ap (λ b. validated_by w i (is_executed_at n (call_at s i) && not b) s) (stand_same i)
+  module _ (e : Entries) (are : AreEntries e s.versions) where
+    -- what a call sees is what it sees there
+    seen_same_by : (key : List ℕ) (i : ℕ) → reading s.versions key i ≡ visible_below (e key) i
+    seen_same_by key i = seen_same (entry_at s.versions key) (e key) i (λ w l. are key w)
 
-  -- a step is that step
-  step_same : (w : ℕ) (task : Task) (step : Step) → step_with (block_of_scripts scripts) w task step s ≡ step_by scripts w task step s
-  step_same w Idle Ask = refl
-  step_same w (Running i answers None) (Read_key key) =
-      ap (λ task. Some (Ok (counted one_step w (with_task w task s)))) (answered_same key i answers (reading s.versions key i) ∙ ap (answered_by key i answers) (seen_same_by key i))
-  step_same w (Running i answers (Some b)) Park = refl
-  step_same w (Running i answers None) Record = within_same i answers w (borne_from (get_or scripts i echo) [] (replies_of answers)) refl
-  step_same w (Validating i n left) Validate = ap (λ t. Some (Ok (counted (if decided i n left s then one_validation else one_step) w t))) (validated_same w i n)
-  step_same w task step = refl
+    -- its reads stand where they stand there
+    stand_same : (i : ℕ) → all_stand i s ≡ stand_by e i s
+    stand_same i = all_same _ (stands_among e i) (λ (read : Read). ap (is_origin read.origin) (seen_same_by read.key i)) (reads_of (call_at s i).last)
+
+    wrong_same : (i n : ℕ) → (is_executed_at n (call_at s i) && not (all_stand i s)) ≡ is_wrong e i n s
+    wrong_same i n = ap (λ b. is_executed_at n (call_at s i) && not b) (stand_same i)
+
+    -- a validation is that validation
+    validated_same : (w i n : ℕ) → validated w i n s ≡ validated_by w i (is_wrong e i n s) s
+    unfolding validated
+    validated_same w i n = ap (λ b. validated_by w i b s) (wrong_same i n)
+
+    -- a step is that step
+    step_same : (w : ℕ) (task : Task) (step : Step) → step_with (block_of_scripts scripts) w task step s ≡ step_by scripts w task step e s
+    step_same w Idle Ask = refl
+    step_same w (Running i answers None) (Read_key key) =
+        ap (λ task. Some (Ok (counted one_step w (with_task w task s)))) (answered_same key i answers (reading s.versions key i) ∙ ap (answered_by key i answers) (seen_same_by key i))
+    step_same w (Running i answers (Some b)) Park = refl
+    step_same w (Running i answers None) Record = within_same i answers w (borne_from (get_or scripts i echo) [] (replies_of answers)) refl
+    step_same w (Moving i (key ∷ keys) new) Move_key = refl
+    step_same w (Moving i [] new) Finish_execution = refl
+    step_same w (Validating i n left) Validate = ap (λ t. Some (Ok (counted (if decided i n left s then one_validation else one_step) w t))) (validated_same w i n)
+    step_same w task step = refl
+
+    -- ---- and so are the entries after it
+
+    -- where the versions stay
+    still : (v : Versions) → v ≡ s.versions → AreEntries e v
+    still v h = subst (AreEntries e) (sym h) are
+
+    -- after a move
+    move_entries : (w i : ℕ) (key : List ℕ) (keys : List (List ℕ)) (new : Bool) → AreEntries (changed_by e key i (version_by (call_at s i) key)) (moved w i key keys new s).versions
+    move_entries w i key keys new =
+        subst (λ o. AreEntries (changed_by e key i o) (changed s.versions (key, i) (version_of (call_at s i) key))) (ap (option_map (λ content. Stands (call_at s i).incarnation content)) (write_same i key))
+        (changed_same e s.versions key i (version_of (call_at s i) key) are)
+
+    -- after an abort
+    abort_entries : (w i : ℕ) → AreEntries (estimated_by e i (call_at s i).last) (aborted w i s).versions
+    abort_entries w i key j = ap (λ v. entry_at v key j) (aborted_versions w i s) ∙ by_writer _ _ _ j i
+        (λ same. subst (λ x. entry_at (estimated i (written_by (call_at s i).last) s.versions) key x ≡ cond (is_some (written (call_at s i).last key)) (Some Estimate) (e key x)) (sym same)
+        (estimated_over i (call_at s i).last s.versions key ∙ ap (λ o. cond (is_some o) (Some Estimate) (entry_at s.versions key i)) (write_same i key)
+        ∙ ap (cond (is_some (written (call_at s i).last key)) (Some Estimate)) (are key i)))
+        (λ ne. estimated_other i (call_at s i).last s.versions key j ne ∙ are key j)
+
+    -- after a validation
+    validate_entries : (w i n : ℕ) → AreEntries (if is_wrong e i n s then estimated_by e i (call_at s i).last else e) (validated w i n s).versions
+    validate_entries w i n = subst (λ (t : State). AreEntries (if is_wrong e i n s then estimated_by e i (call_at s i).last else e) t.versions) (sym (validated_same w i n)) (go (is_wrong e i n s))
+      where
+        go : (b : Bool) → AreEntries (if b then estimated_by e i (call_at s i).last else e) (validated_by w i b s).versions
+        go true = abort_entries w i
+        go false = are
+
+    -- after a step that is made
+    made_entries : (w : ℕ) (step : Step) (t : State) → IsMade (block_of_scripts scripts) w s step t → AreEntries (entries_by (task_at s w) step e s) t.versions
+    made_entries w step t (by_ask at) = subst (λ task. AreEntries (entries_by task Ask e s) (asked w s).versions) (sym at) (still _ (asked_versions w s))
+    made_entries w step t (by_read i answers key at) = subst (λ task. AreEntries (entries_by task (Read_key key) e s) s.versions) (sym at) are
+    made_entries w step t (by_park i b answers at below) = subst (λ task. AreEntries (entries_by task Park e s) (parked w i b s).versions) (sym at) (still _ (parked_versions w i b s))
+    made_entries w step t (by_record i answers receipt at bears below) = subst (λ task. AreEntries (entries_by task Record e s) s.versions) (sym at) are
+    made_entries w step t (by_move i key keys new at) = subst (λ task. AreEntries (entries_by task Move_key e s) (moved w i key keys new s).versions) (sym at) (move_entries w i key keys new)
+    made_entries w step t (by_finish i new at) = subst (λ task. AreEntries (entries_by task Finish_execution e s) (executed w i new s).versions) (sym at) (still _ (executed_versions w i new s))
+    made_entries w step t (by_validate i n left at) = subst (λ task. AreEntries (entries_by task Validate e s) (validated w i n s).versions) (sym at) (validate_entries w i n)
 
 -- what a list of worker numbers leads to is what it computes to
-computed_same : (scripts : List Script) (workers : ℕ) (ws : List ℕ) (s : State) → list_all (λ w. nat_lt w workers) ws ≡ true → Reached (block_of_scripts scripts) workers s → after_schedule scripts ws s ≡ computed_after scripts ws s
+computed_same : (scripts : List Script) (workers : ℕ) (ws : List ℕ) (e : Entries) (s : State) → list_all (λ w. nat_lt w workers) ws ≡ true → Reached (block_of_scripts scripts) workers s → AreEntries e s.versions → after_schedule scripts ws s ≡ computed_after scripts ws e s
 unfolding after_schedule computed_after
-computed_same scripts workers [] s within reached = refl
-computed_same scripts workers (w ∷ ws) s within reached =
+computed_same scripts workers [] e s within reached are = refl
+computed_same scripts workers (w ∷ ws) e s within reached are =
     let both = and_parts (nat_lt w workers) (list_all (λ w. nat_lt w workers) ws) within in
-    let e = step_same scripts workers s reached w (task_at s w) (due_step scripts (task_at s w)) in
-    ap (after_step (λ t. after_schedule scripts ws t)) e ∙ go (λ t k. computed_same scripts workers ws t both.1 (stepped w (due_step scripts (task_at s w)) reached (lt_says w workers both.0) k)) (step_by scripts w (task_at s w) (due_step scripts (task_at s w)) s) e
+    let step : Step = due_step scripts (task_at s w) in
+    let after : Entries = entries_by (task_at s w) step e s in
+    let same = step_same scripts workers s reached e are w (task_at s w) step in
+    ap (after_step (λ t. after_schedule scripts ws t)) same
+    ∙ go after (λ t k. computed_same scripts workers ws after t both.1 (stepped w step reached (lt_says w workers both.0) k) (made_entries scripts workers s reached e are w step t (made (block_of_scripts scripts) w s t step k)))
+    (step_by scripts w (task_at s w) step e s) same
   where
-    go : ((t : State) → worker_step (block_of_scripts scripts) w (due_step scripts (task_at s w)) s ≡ Some (Ok t) → after_schedule scripts ws t ≡ computed_after scripts ws t)
-        → (o : Option (Result State Limit)) → worker_step (block_of_scripts scripts) w (due_step scripts (task_at s w)) s ≡ o → after_step (λ t. after_schedule scripts ws t) o ≡ after_step (λ t. computed_after scripts ws t) o
-    go more None e = refl
-    go more (Some (Ok t)) e = more t e
-    go more (Some (Err limit)) e = refl
+    go : (after : Entries) → ((t : State) → worker_step (block_of_scripts scripts) w (due_step scripts (task_at s w)) s ≡ Some (Ok t) → after_schedule scripts ws t ≡ computed_after scripts ws after t)
+        → (o : Option (Result State Limit)) → worker_step (block_of_scripts scripts) w (due_step scripts (task_at s w)) s ≡ o → after_step (λ t. after_schedule scripts ws t) o ≡ after_step (λ t. computed_after scripts ws after t) o
+    go after more None h = refl
+    go after more (Some (Ok t)) h = more t h
+    go after more (Some (Err limit)) h = refl
 
 -- so from the start
-pub from_start : (scripts : List Script) (workers : ℕ) (ws : List ℕ) → list_all (λ w. nat_lt w workers) ws ≡ true → after_schedule scripts ws (start (length scripts) workers) ≡ computed_after scripts ws (start (length scripts) workers)
-from_start scripts workers ws within = computed_same scripts workers ws (start (length scripts) workers) within started
+pub from_start : (scripts : List Script) (workers : ℕ) (ws : List ℕ) → list_all (λ w. nat_lt w workers) ws ≡ true → after_schedule scripts ws (start (length scripts) workers) ≡ computed_after scripts ws no_entries_yet (start (length scripts) workers)
+from_start scripts workers ws within = computed_same scripts workers ws no_entries_yet (start (length scripts) workers) within started (λ key i. get-empty place_cmp (key, i))

@@ -1,5 +1,5 @@
 -- What one worker did in each state that it reaches, whatever keys its runs read.
-use Rattle.std.proofs.Common.{◌≡◌, ◌<◌, ◌+◌, ◌*◌, ◌||◌, ◌==◌, ℕ, true, if◌then◌else◌, List, [], ◌∷◌, ◌++◌, length, map, get_or, Option, None, Some, arith, refl, sym, ap, subst, ◌∙◌, inl, inr}
+use Rattle.std.proofs.Common.{◌≡◌, ◌<◌, ◌+◌, ◌*◌, ◌||◌, ◌==◌, ℕ, Bool, true, if◌then◌else◌, List, [], ◌∷◌, ◌++◌, length, map, get_or, Option, None, Some, arith, refl, sym, ap, subst, ◌∙◌, inl, inr}
 use Rattle.std.specs.List.{list_all}
 use Rattle.std.proofs.lemmas.Bool.{cases_lt, cond-true}
 use Rattle.std.proofs.lemmas.Grind.{get_or-set_at}
@@ -7,19 +7,20 @@ use Rattle.rv_ledger.specs.declared.outcome.Counts.{Counts}
 use Rattle.rv_ledger.specs.declared.receipt.Receipt.{Receipt}
 use Rattle.rv_step.specs.declared.answer.StorageAnswer.{StorageAnswer}
 use Rattle.mvmap.specs.Reading.{reading, stands}
+use Rattle.stm_state.specs.declared.state.Recorded.{Recorded}
 use Rattle.stm_state.specs.declared.state.Task.{Task}
-use Rattle.stm_state.specs.declared.state.Task.TheVariants.{Idle, Running, Validating}
+use Rattle.stm_state.specs.declared.state.Task.TheVariants.{Idle, Running, Moving, Validating}
 use Rattle.stm_state.specs.State.{State, fresh, no_counts, start, call_at, task_at, with_task, is_done}
-use Rattle.stm_state.specs.Steps.{Block, Step, read_of, reads_of, counted, one_step, one_asking, one_execution, one_validation, asked, count_done, read_at, recorded, decided, validated, all_stand}
+use Rattle.stm_state.specs.Steps.{Block, Step, read_of, reads_of, counted, one_step, one_asking, one_execution, one_validation, asked, count_done, read_at, keys_to_move, has_new_key, recorded_run, recorded, moved, executed, decided, validated, all_stand}
 use Rattle.stm_state.specs.Invariant.{Invariant}
 use Rattle.stm_state.specs.Done.{Reached, started, stepped}
 use Rattle.stm_state.specs.Dones.{dones_of}
 use Rattle.stm_state.specs.OneWorker.{OneWorkerDid, OneWorkerCountsWhereReached}
-use Rattle.stm_state.proofs.Cases.{IsMade, by_ask, by_read, by_park, by_record, by_validate, made}
+use Rattle.stm_state.proofs.Cases.{IsMade, by_ask, by_read, by_park, by_record, by_move, by_finish, by_validate, made}
 use Rattle.stm_state.proofs.Lists.{one_element}
 use Rattle.stm_state.proofs.Whole.{worker_kept, invariant_kept}
 use Rattle.stm_state.proofs.Serials.{IsOver, over_at_done}
-use Rattle.stm_state.proofs.Rounds.{Stage, first_stage, begun, all_first, is_over, told_stage, answered_by, clear_below, task_stage, to_run, run_asked, run_stage, read_stands, moved_on, recorded_is, recorded_stands, record_stage, to_check, check_asked, check_stage, at_zero, not_aborted}
+use Rattle.stm_state.proofs.Rounds.{Stage, first_stage, begun, all_first, is_over, told_stage, answered_by, clear_below, task_stage, to_run, run_asked, run_stage, read_stands, kept, after_record, record_stage, after_move, moved_stands, moved_stage, finished, executed_is, finished_stands, finish_stage, to_check, check_asked, check_stage, at_zero, not_aborted}
 
 -- ---- what the worker did
 
@@ -86,7 +87,13 @@ module _ (block : Block) where
     did : Did (2 * d + 1) d d s
     stand : list_all (stands s.versions d) (map read_of answers) ≡ true
 
-  -- call d is recorded, and it asks for its validation
+  -- it moves the keys of call d's run, whose reads stand
+  record Moves (d : ℕ) (run : Recorded) (keys : List (List ℕ)) (new : Bool) (s : State) : Type 0 where
+    now : Stage block d (kept run) (d + 1) d (Moving d keys new) s
+    did : Did (2 * d + 1) (d + 1) d s
+    stand : list_all (stands s.versions d) run.reads ≡ true
+
+  -- call d is EXECUTED, and it asks for its validation
   record Waits (d : ℕ) (s : State) : Type 0 where
     now : Stage block (d + 1) fresh (d + 1) d Idle s
     did : Did (2 * d + 1) (d + 1) d s
@@ -101,6 +108,7 @@ module _ (block : Block) where
   data Phase (s : State) : Type 0 where
     rests : (d : ℕ) → Rests d s → Phase s
     runs : (d : ℕ) (answers : List StorageAnswer) → Runs d answers s → Phase s
+    moves : (d : ℕ) (run : Recorded) (keys : List (List ℕ)) (new : Bool) → Moves d run keys new s → Phase s
     waits : (d : ℕ) → Waits d s → Phase s
     checks : (d left : ℕ) → Checks d left s → Phase s
 
@@ -148,7 +156,7 @@ module _ (block : Block) where
           subst (Goes one_asking) (sym (cond-true (is_done s) (count_done 0 s) _ over)) (told_so d h)
     ]
 
-    -- where call d is recorded it is to validate it
+    -- where call d is EXECUTED it is to validate it
     wait_asks : (d : ℕ) → Waits d s → Goes one_asking (asked 0 s)
     wait_asks d h =
         let within : d < block.count = let all = h.now.inv.facts.execution_within in let e = h.now.runs_from in omega (arith, all, e) in
@@ -161,6 +169,7 @@ module _ (block : Block) where
     asks_on : Phase s → task_at s 0 ≡ Idle → Goes one_asking (asked 0 s)
     asks_on (rests d h) at = rest_asks d h
     asks_on (runs d answers h) at = let does = h.now.does in cc
+    asks_on (moves d run keys new h) at = let does = h.now.does in cc
     asks_on (waits d h) at = wait_asks d h
     asks_on (checks d left h) at = let does = h.now.does in cc
 
@@ -174,6 +183,7 @@ module _ (block : Block) where
         let call : d ≡ i = cc in
         let same : told ≡ answers = cc in
         (subst (λ x. Runs x answers s) call (subst (λ x. Runs d x s) same h), cc)
+    runs_call (moves d run keys new h) i answers blocked at = let does = h.now.does in cc
     runs_call (waits d h) i answers blocked at = let does = h.now.does in cc
     runs_call (checks d left h) i answers blocked at = let does = h.now.does in cc
 
@@ -191,10 +201,43 @@ module _ (block : Block) where
     record_on : (i : ℕ) (answers : List StorageAnswer) (receipt : Receipt) → Runs i answers s → Goes one_execution (recorded 0 i answers receipt s)
     record_on i answers receipt h =
         let within : i < block.count = let all = h.now.inv.facts.execution_within in let e = h.now.runs_from in omega (arith, all, e) in
-        subst (Goes one_execution) (sym (recorded_is block s i answers receipt h.now within)) (λ inv. waits i (record {
+        λ inv. moves i (recorded_run answers receipt) (keys_to_move None receipt.writes) (has_new_key None receipt.writes) (record {
           now = record_stage block s i answers receipt h.now within inv;
-          did = after_execution s (with_task 0 Idle (moved_on block s i answers receipt h.now within)) refl refl h.now.inv.sized.counts (2 * i + 1) i i h.did;
-          stand = recorded_stands block s i answers receipt h.now within h.stand;
+          did = after_execution s (after_record block s i answers receipt h.now within) refl refl h.now.inv.sized.counts (2 * i + 1) i i h.did;
+          stand = h.stand;
+        })
+
+    -- ---- the keys of a run
+
+    -- of which run it moves the keys
+    moves_call : Phase s → (i : ℕ) (keys : List (List ℕ)) (new : Bool) → task_at s 0 ≡ Moving i keys new → (run : Recorded) × Moves i run keys new s
+    moves_call (rests d h) i keys new at = let does = h.now.does in cc
+    moves_call (runs d told h) i keys new at = let does = h.now.does in cc
+    moves_call (moves d run left more h) i keys new at =
+        let does = h.now.does in
+        let call : d ≡ i = cc in
+        let same_keys : left ≡ keys = cc in
+        let same_new : more ≡ new = cc in
+        (run, subst (λ x. Moves x run keys new s) call (subst (λ x. Moves d run x new s) same_keys (subst (λ x. Moves d run left x s) same_new h)))
+    moves_call (waits d h) i keys new at = let does = h.now.does in cc
+    moves_call (checks d left h) i keys new at = let does = h.now.does in cc
+
+    -- a key
+    move_on : (i : ℕ) (run : Recorded) (key : List ℕ) (keys : List (List ℕ)) (new : Bool) → Moves i run (key ∷ keys) new s → Goes one_step (moved 0 i key keys new s)
+    move_on i run key keys new h inv = moves i run keys new (record {
+      now = moved_stage block s i run key keys new h.now inv;
+      did = after_step s (after_move block s i run key keys new h.now) refl refl h.now.inv.sized.counts (2 * i + 1) (i + 1) i h.did;
+      stand = moved_stands block s i run key keys new h.now run.reads h.stand;
+    })
+
+    -- the finish
+    finish_on : (i : ℕ) (run : Recorded) (new : Bool) → Moves i run [] new s → Goes one_step (executed 0 i new s)
+    finish_on i run new h =
+        let within : i < block.count = let all = h.now.inv.facts.execution_within in let e = h.now.runs_from in omega (arith, all, e) in
+        subst (Goes one_step) (sym (executed_is block s i run new h.now within)) (λ inv. waits i (record {
+          now = finish_stage block s i run new h.now within inv;
+          did = after_step s (with_task 0 Idle (finished block s i run new h.now within)) refl refl h.now.inv.sized.counts (2 * i + 1) (i + 1) i h.did;
+          stand = finished_stands block s i run new h.now within h.stand;
         }))
 
     -- ---- a validation
@@ -215,6 +258,7 @@ module _ (block : Block) where
     validates_on : Phase s → (i n left : ℕ) → task_at s 0 ≡ Validating i n left → Goes (if decided i n left s then one_validation else one_step) (validated 0 i n s)
     validates_on (rests d h) i n left at = let does = h.now.does in cc
     validates_on (runs d told h) i n left at = let does = h.now.does in cc
+    validates_on (moves d run keys new h) i n left at = let does = h.now.does in cc
     validates_on (waits d h) i n left at = let does = h.now.does in cc
     validates_on (checks d more h) i n left at =
         let does = h.now.does in
@@ -233,6 +277,8 @@ module _ (block : Block) where
     goes_on h step t (by_read i answers key at) inv = read_on i answers key (runs_call h i answers None at).0 inv
     goes_on h step t (by_park i b answers at below) inv = let none = (runs_call h i answers (Some b) at).1 in cc
     goes_on h step t (by_record i answers receipt at bears below) inv = record_on i answers receipt (runs_call h i answers None at).0 inv
+    goes_on h step t (by_move i key keys new at) inv = let found = moves_call h i (key ∷ keys) new at in move_on i found.0 key keys new found.1 inv
+    goes_on h step t (by_finish i new at) inv = let found = moves_call h i [] new at in finish_on i found.0 new found.1 inv
     goes_on h step t (by_validate i n left at) inv = validates_on h i n left at inv
 
   -- ---- all states
@@ -262,6 +308,7 @@ module _ (block : Block) where
       go : Phase s → Rests block.count s
       go (rests d h) = let e = h.now.runs_from in let all = over.execution in let last : d ≡ block.count = cc in subst (λ x. Rests x s) last h
       go (runs d answers h) = let does = h.now.does in let idle = over.idle 0 in cc
+      go (moves d run keys new h) = let does = h.now.does in let idle = over.idle 0 in cc
       go (waits d h) = let e = h.now.runs_from in let v = h.now.checks_from in let ran = over.execution in let checked = over.validation in absurd (omega (arith, e, v, ran, checked))
       go (checks d left h) = let does = h.now.does in let idle = over.idle 0 in cc
 

@@ -1,10 +1,10 @@
--- One worker on a job: the reads of call d's run, its record, and its validation.
-use Rattle.std.proofs.Common.{◌≡◌, ◌<◌, ◌≤◌, ◌+◌, ◌||◌, ◌==◌, nat_lt, nat_le, ℕ, suc, true, false, if◌then◌else◌, List, [], ◌∷◌, ◌++◌, length, map, slice_get, None, Some, Ok, arith, sym, ap, subst, ◌∙◌, inl, inr, append_assoc, append-nil}
+-- One worker on a job: the reads of call d's run, its record, the keys that it moves, its finish, and its validation.
+use Rattle.std.proofs.Common.{◌≡◌, ◌<◌, ◌≤◌, ◌+◌, ◌||◌, ◌==◌, nat_lt, nat_le, ℕ, suc, Bool, true, false, option_map, if◌then◌else◌, List, [], ◌∷◌, ◌++◌, length, map, slice_get, None, Some, Ok, arith, refl, sym, ap, subst, ◌∙◌, inl, inr, append_assoc, append-nil}
 use Rattle.std.specs.List.{list_all}
-use Rattle.std.specs.FinMap.{get, len}
+use Rattle.std.specs.FinMap.{get, entries, len, len-entries}
 use Rattle.std.proofs.lemmas.Bool.{cases_eq, cond-false}
-use Rattle.std.proofs.lemmas.List.{map-append}
-use Rattle.rv_ledger.specs.Key.{Storage}
+use Rattle.std.proofs.lemmas.List.{map-append, length-map}
+use Rattle.rv_ledger.specs.Key.{Storage, WriteMap}
 use Rattle.rv_ledger.specs.Call.{Invocation}
 use Rattle.rv_ledger.specs.declared.outcome.Counts.{Counts}
 use Rattle.rv_ledger.specs.declared.receipt.Receipt.{Receipt}
@@ -15,19 +15,20 @@ use Rattle.rv_step.specs.declared.answer.StorageAnswer.{StorageAnswer}
 use Rattle.mvmap.specs.Versions.{entry_at}
 use Rattle.mvmap.specs.Reading.{Visible, visible_below, stands, value_seen}
 use Rattle.stm_state.specs.declared.state.CallState.{CallState}
+use Rattle.stm_state.specs.declared.state.Recorded.{Recorded}
 use Rattle.stm_state.specs.declared.state.Task.{Task}
-use Rattle.stm_state.specs.declared.state.Task.TheVariants.{Idle, Running, Validating}
+use Rattle.stm_state.specs.declared.state.Task.TheVariants.{Idle, Running, Moving, Validating}
 use Rattle.stm_state.specs.Limits.{record_limit, incarnation_limit}
 use Rattle.stm_state.specs.State.{State, fresh, call_at, with_task, is_done}
-use Rattle.stm_state.specs.Steps.{read_of, reads_of, counted, one_step, one_asking, one_execution, one_validation, answered_with, read_at, all_stand, validated, record_within, step_with}
-use Rattle.stm_state.specs.Done.{last_receipt, borne_out_by, block_of}
+use Rattle.stm_state.specs.Steps.{read_of, reads_of, counted, one_step, one_asking, one_execution, one_validation, answered_with, read_at, keys_of, keys_to_move, has_new_key, recorded_run, all_stand, validated, record_within, step_with}
+use Rattle.stm_state.specs.Done.{borne_out_by, block_of}
 use Rattle.stm_state.specs.Drive.{due_step_of_run, asked_at, due_step, due_result}
 use Rattle.stm_state.proofs.Tests.{not_lt_is, not_le_is}
 use Rattle.stm_state.proofs.Askings.{asks_next, asks_none}
 use Rattle.stm_state.proofs.Rooms.{ends_few}
 use Rattle.stm_state.proofs.Paths.{Leads, leads_none, leads_next}
 use Rattle.stm_state.proofs.Phases.{HasReceipt, sees, did, Now, Takes, unblocked, still, one_more}
-use Rattle.stm_state.proofs.Rounds.{Stage, begun, not_done, Answered, answered_by, clear_below, task_stage, read_stands, moved_on, done_here, done_else, recorded_is, recorded_stands, record_stage, to_check, check_over, check_asked, check_stage, at_zero, not_aborted}
+use Rattle.stm_state.proofs.Rounds.{Stage, begun, kept, not_done, Answered, answered_by, clear_below, task_stage, read_stands, after_record, kept_else, record_stage, after_move, moved_stands, moved_stage, finished, done_last, done_else, executed_is, finished_stands, finish_stage, to_check, check_over, check_asked, check_stage, at_zero, not_aborted}
 
 -- the run of call d goes on: it was given the first of its replies, and these reads stand
 pub record Going (calls : List Invocation) (store : Storage) (d : ℕ) (call : Invocation) (answers : List StorageAnswer) (rest : List Reply) (counts : Counts) (s : State) : Type 0 where
@@ -35,6 +36,16 @@ pub record Going (calls : List Invocation) (store : Storage) (d : ℕ) (call : I
   pub bears : borne_out call (replies_of answers ++ rest) ≡ Some (ends call (store_before calls d store))
   pub from : AreFrom (store_before calls d store) rest
   pub stand : list_all (stands s.versions d) (map read_of answers) ≡ true
+
+-- the keys of a run of call d are moved: it was borne out, and its reads stand
+pub record Moves (calls : List Invocation) (store : Storage) (d : ℕ) (call : Invocation) (run : Recorded) (keys : List (List ℕ)) (new : Bool) (counts : Counts) (s : State) : Type 0 where
+  pub now : Now calls store d (kept run) (d + 1) d (Moving d keys new) counts s
+  pub ends_so : run.receipt ≡ ends call (store_before calls d store)
+  pub stand : list_all (stands s.versions d) run.reads ≡ true
+
+-- a first run moves just the keys that it wrote
+pub first_keys : (writes : WriteMap) → length (keys_to_move None writes) ≡ len writes
+first_keys writes = ap length (append-nil (keys_of (entries writes))) ∙ length-map (entries writes) (λ write. write.0) ∙ sym (len-entries writes)
 
 module _ (calls : List Invocation) (store : Storage) (d : ℕ) (call : Invocation) (there : slice_get calls d ≡ Some call) (within : d < length calls) where
   -- while call d is run workers are not done
@@ -118,7 +129,7 @@ module _ (calls : List Invocation) (store : Storage) (d : ℕ) (call : Invocatio
     receipt = ends call (store_before calls d store)
 
     abbrev recorded_state : State
-    recorded_state = counted one_execution 0 (with_task 0 Idle (moved_on (block_of calls store) s d answers receipt going.now.stage within))
+    recorded_state = counted one_execution 0 (after_record (block_of calls store) s d answers receipt going.now.stage within)
 
     bears_here : borne_out call (replies_of answers) ≡ Some receipt
     bears_here = ap (borne_out call) (sym (append-nil (replies_of answers))) ∙ going.bears
@@ -136,26 +147,95 @@ module _ (calls : List Invocation) (store : Storage) (d : ℕ) (call : Invocatio
         ∙ ap (λ o. record_within d answers 0 o s) (ap (λ o. borne_out_by o (replies_of answers)) there ∙ bears_here)
         ∙ cond-false (nat_lt record_limit (s.placed + len receipt.writes)) _ _ (not_lt_is record_limit (s.placed + len receipt.writes) (omega (arith, few, room, within, short)))
         ∙ cond-false (nat_le incarnation_limit (call_at s d).incarnation) _ _ (not_le_is incarnation_limit (call_at s d).incarnation (omega (arith, new)))
-        ∙ ap (λ u. Some (Ok (counted one_execution 0 u))) (recorded_is (block_of calls store) s d answers receipt going.now.stage within)
 
-    -- the run is recorded, and its reads stand
-    pub record_one : (t : State) × Takes calls store s t × Now calls store (d + 1) fresh (d + 1) d Idle (one_execution c) t × (all_stand d t ≡ true)
+    -- the run is recorded, its keys are to move, and its reads stand
+    pub record_one : (t : State) × Takes calls store s t × Moves calls store d call (recorded_run answers receipt) (keys_to_move None receipt.writes) (has_new_key None receipt.writes) (one_execution c) t
     record_one = (
       recorded_state,
       record { before = not_over d (Running d answers None) begun c (d + 1) s going.now; step = record_due; free = unblocked s (Running d answers None) going.now.stage.inv.sized.tasks going.now.stage.does (λ i b others h. cc) },
       record {
-        stage = record_stage (block_of calls store) s d answers receipt going.now.stage within (still calls store d s recorded_state going.now.stage.inv record_due);
-        receipts = λ j l. elim (cases_eq j d) [
-          | inl e ↦ subst (λ x. HasReceipt calls store x (call_at recorded_state x)) (sym e)
-              (λ other at. ap last_receipt (done_here (block_of calls store) s d answers receipt going.now.stage within) ∙ (let same : call ≡ other = cc in ap (λ x. Some (ends x (store_before calls d store))) same))
-          | inr ne ↦ subst (λ x. HasReceipt calls store j x) (sym (done_else (block_of calls store) s d answers receipt going.now.stage within j ne)) (going.now.receipts j (omega (arith, l, ne)))
-        ];
-        room = let few = ends_few call (store_before calls d store) in let room = going.now.room in omega (arith, few, room);
-        worked = one_more calls store d s going.now.stage.inv one_execution c going.now.worked;
-        untold = going.now.untold;
+        now = record {
+          stage = record_stage (block_of calls store) s d answers receipt going.now.stage within (still calls store d s recorded_state going.now.stage.inv record_due);
+          receipts = λ j l. subst (λ x. HasReceipt calls store j x) (sym (kept_else (block_of calls store) s d answers receipt going.now.stage within j (λ e. omega (arith, l, e)))) (going.now.receipts j l);
+          room = let few = ends_few call (store_before calls d store) in let room = going.now.room in omega (arith, few, room);
+          worked = one_more calls store d s going.now.stage.inv one_execution c going.now.worked;
+          untold = going.now.untold;
+        };
+        ends_so = refl;
+        stand = going.stand;
       },
-      recorded_stands (block_of calls store) s d answers receipt going.now.stage within going.stand,
     )
+
+  -- ---- the keys
+
+  module _ (run : Recorded) (new : Bool) where
+    module _ (key : List ℕ) (keys : List (List ℕ)) (c : Counts) (s : State) (moves : Moves calls store d call run (key ∷ keys) new c s) where
+      abbrev moved_state : State
+      moved_state = counted one_step 0 (after_move (block_of calls store) s d run key keys new moves.now.stage)
+
+      move_due : due_result calls store 0 s ≡ Some (Ok moved_state)
+      move_due = ap (λ task. step_with (block_of calls store) 0 task (due_step calls task) s) moves.now.stage.does
+
+      -- the next key is moved
+      move_one : (t : State) × Takes calls store s t × Moves calls store d call run keys new (one_step c) t
+      move_one = (
+        moved_state,
+        record { before = not_over d (Moving d (key ∷ keys) new) (kept run) c (d + 1) s moves.now; step = move_due; free = unblocked s (Moving d (key ∷ keys) new) moves.now.stage.inv.sized.tasks moves.now.stage.does (λ i b others h. cc) },
+        record {
+          now = record {
+            stage = moved_stage (block_of calls store) s d run key keys new moves.now.stage (still calls store d s moved_state moves.now.stage.inv move_due);
+            receipts = moves.now.receipts;
+            room = moves.now.room;
+            worked = one_more calls store d s moves.now.stage.inv one_step c moves.now.worked;
+            untold = moves.now.untold;
+          };
+          ends_so = moves.ends_so;
+          stand = moved_stands (block_of calls store) s d run key keys new moves.now.stage run.reads moves.stand;
+        },
+      )
+
+    -- all keys are moved
+    pub move_all : (keys : List (List ℕ)) (p q x y : ℕ) (s : State) → Moves calls store d call run keys new (did p q x y) s → (t : State) × Leads calls store s (length keys) t × Moves calls store d call run [] new (did (p + length keys) q x y) t
+    move_all [] p q x y s moves = (s, leads_none calls store s, let same : p ≡ p + 0 = omega arith in subst (λ n. Moves calls store d call run [] new (did n q x y) s) same moves)
+    move_all (key ∷ keys) p q x y s moves =
+        let one = move_one key keys (did p q x y) s moves in
+        let more = move_all keys (p + 1) q x y one.0 one.2 in
+        let length_is : length keys + 1 ≡ suc (length keys) = omega arith in
+        let count_is : p + 1 + length keys ≡ p + suc (length keys) = omega arith in (
+          more.0,
+          subst (λ n. Leads calls store s n more.0) length_is (leads_next calls store s one.0 more.0 (length keys) one.1.before one.1.step one.1.free more.1),
+          subst (λ n. Moves calls store d call run [] new (did n q x y) more.0) count_is more.2,
+        )
+
+    -- ---- the finish
+
+    module _ (c : Counts) (s : State) (moves : Moves calls store d call run [] new c s) where
+      abbrev finished_state : State
+      finished_state = counted one_step 0 (with_task 0 Idle (finished (block_of calls store) s d run new moves.now.stage within))
+
+      finish_due : due_result calls store 0 s ≡ Some (Ok finished_state)
+      finish_due =
+          ap (λ task. step_with (block_of calls store) 0 task (due_step calls task) s) moves.now.stage.does
+          ∙ ap (λ u. Some (Ok (counted one_step 0 u))) (executed_is (block_of calls store) s d run new moves.now.stage within)
+
+      -- the execution is finished, and its reads stand
+      pub finish_one : (t : State) × Takes calls store s t × Now calls store (d + 1) fresh (d + 1) d Idle (one_step c) t × (all_stand d t ≡ true)
+      finish_one = (
+        finished_state,
+        record { before = not_over d (Moving d [] new) (kept run) c (d + 1) s moves.now; step = finish_due; free = unblocked s (Moving d [] new) moves.now.stage.inv.sized.tasks moves.now.stage.does (λ i b others h. cc) },
+        record {
+          stage = finish_stage (block_of calls store) s d run new moves.now.stage within (still calls store d s finished_state moves.now.stage.inv finish_due);
+          receipts = λ j l. elim (cases_eq j d) [
+            | inl e ↦ subst (λ x. HasReceipt calls store x (call_at finished_state x)) (sym e)
+                (λ other at. ap (option_map (λ (run : Recorded). run.receipt)) (done_last (block_of calls store) s d run new moves.now.stage within) ∙ ap Some moves.ends_so ∙ (let same : call ≡ other = cc in ap (λ x. Some (ends x (store_before calls d store))) same))
+            | inr ne ↦ subst (λ x. HasReceipt calls store j x) (sym (done_else (block_of calls store) s d run new moves.now.stage within j ne)) (moves.now.receipts j (omega (arith, l, ne)))
+          ];
+          room = let room = moves.now.room in omega (arith, room);
+          worked = one_more calls store d s moves.now.stage.inv one_step c moves.now.worked;
+          untold = moves.now.untold;
+        },
+        finished_stands (block_of calls store) s d run new moves.now.stage within moves.stand,
+      )
 
   -- ---- the validation
 

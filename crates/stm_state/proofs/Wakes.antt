@@ -5,11 +5,11 @@ use Rattle.std.proofs.lemmas.Bool.{and_parts}
 use Rattle.stm_state.specs.declared.state.Status.TheVariants.{Ready, Executing, Executed, Aborting}
 use Rattle.stm_state.specs.declared.state.CallState.{CallState}
 use Rattle.stm_state.specs.declared.state.Recorded.{Recorded}
-use Rattle.stm_state.specs.declared.state.Task.TheVariants.{Validating}
+use Rattle.stm_state.specs.declared.state.Task.TheVariants.{Moving, Validating}
 use Rattle.stm_state.specs.Limits.{incarnation_limit}
 use Rattle.stm_state.specs.State.{fresh, is_aborting}
 use Rattle.stm_state.specs.Steps.{Block, reads_of, next_incarnation, is_parked_on, is_some_of, resume_if_parked, lowered}
-use Rattle.stm_state.specs.Invariant.{View, ViewInvariant, IsWaiting, IsBorneOut, IsSafe, entry_of, run_by}
+use Rattle.stm_state.specs.Invariant.{View, ViewInvariant, IsWaiting, IsBorneOut, IsSafe, IsMoved, IsUnmoved, entry_of, run_by}
 use Rattle.stm_state.proofs.Frames.{Grows, right_all, borne_still}
 use Rattle.stm_state.proofs.Safes.{safe_all}
 use Rattle.stm_state.proofs.Tests.{is_aborting_says, equal_itself}
@@ -128,9 +128,13 @@ module _ (block : Block) (v : View) (i execution : ℕ) (f : ViewInvariant block
   woken_aborting_limit : (j : ℕ) → (resume_if_parked i (v.calls j)).status ≡ Aborting → (resume_if_parked i (v.calls j)).incarnation ≤ incarnation_limit - 1
   woken_aborting_limit j = woken_calls j (λ call. call.status ≡ Aborting → call.incarnation ≤ incarnation_limit - 1) (f.aborting_limit j) (λ _ _ h. cc)
 
-  -- entries are those of the calls
-  woken_entries : (j : ℕ) (key : List ℕ) → v.entries key j ≡ entry_of (resume_if_parked i (v.calls j)) key
-  woken_entries j key = woken_calls j (λ call. v.entries key j ≡ entry_of call key) (f.entries j key) (λ _ aborts. same_entries block v f j (λ h. cc) key)
+  -- entries are those of the calls, where nobody moves their keys
+  woken_entries : (j : ℕ) (key : List ℕ) → IsUnmoved v j → v.entries key j ≡ entry_of (resume_if_parked i (v.calls j)) key
+  woken_entries j key free = woken_calls j (λ call. v.entries key j ≡ entry_of call key) (f.entries j key free) (λ _ aborts. same_entries block v f j (λ h. cc) free key)
+
+  -- a call whose keys are moved is EXECUTING, so it stays
+  woken_moving : (x j : ℕ) (keys : List (List ℕ)) (new : Bool) → v.tasks x ≡ Moving j keys new → IsMoved (resume_if_parked i (v.calls j)) (λ key. v.entries key j) keys new
+  woken_moving x j keys new h = woken_calls j (λ call. IsMoved call (λ key. v.entries key j) keys new) (f.moving x j keys new h) (λ _ aborts. let r = f.running x j (ap run_by h) in cc)
 
   -- EXECUTED calls have a recorded run
   woken_executed : (j : ℕ) → (resume_if_parked i (v.calls j)).status ≡ Executed → (run : Recorded) × ((resume_if_parked i (v.calls j)).last ≡ Some run)
@@ -161,7 +165,10 @@ module _ (block : Block) (v : View) (i execution : ℕ) (f : ViewInvariant block
   woken_safe : (j : ℕ) → (resume_if_parked i (v.calls j)).status ≡ Executed → j < v.validation → AllByRecursion (IsSafe now j) (reads_of (resume_if_parked i (v.calls j)).last)
   woken_safe j h l = elim (readied_cases i (v.calls j)) [
     | inl same ↦ subst (λ (call : CallState). AllByRecursion (IsSafe now j) (reads_of call.last)) (sym same)
-        (safe_all v now j (reads_of (v.calls j).last) (λ read k. k) (λ q. inr (q.0, (q.1.0, q.1.1 ∙ ap (λ (call : CallState). Validating j call.incarnation q.1.0) (sym same))))
+        (safe_all v now j (reads_of (v.calls j).last) (λ read k. k) (λ q. inr (elim q [
+          | inl checked ↦ inl (checked.0, (checked.1.0, checked.1.1 ∙ ap (λ (call : CallState). Validating j call.incarnation checked.1.0) (sym same)))
+          | inr on ↦ inr on
+        ]))
         (f.safe j (ap (λ (call : CallState). call.status) (sym same) ∙ h) l))
     | inr q ↦ let ready : (resume_if_parked i (v.calls j)).status ≡ Ready = ap (λ (call : CallState). call.status) q.1 in cc
   ]
@@ -182,6 +189,7 @@ module _ (block : Block) (v : View) (i execution : ℕ) (f : ViewInvariant block
     executed_limit = woken_executed_limit;
     aborting_limit = woken_aborting_limit;
     entries = woken_entries;
+    moving = woken_moving;
     executed = woken_executed;
     recorded = woken_recorded;
     answered = λ x j answers waits h. right_all block v now woken_grows j answers (f.answered x j answers waits h);

@@ -14,10 +14,12 @@ use Rattle.stm_state.specs.Done.{Reached, started, stepped}
 use Rattle.stm_state.proofs.Lists.{replicated}
 use Rattle.stm_state.proofs.Tests.{resized}
 pub use Rattle.stm_state.proofs.Cases.{same_state, none_ok, err_ok}
-use Rattle.stm_state.proofs.Cases.{IsMade, by_ask, by_read, by_park, by_record, by_validate, made}
+use Rattle.stm_state.proofs.Cases.{IsMade, by_ask, by_read, by_park, by_record, by_move, by_finish, by_validate, made}
 use Rattle.stm_state.proofs.Asks.{ask_kept}
 use Rattle.stm_state.proofs.Runs.{read_kept, park_kept}
 use Rattle.stm_state.proofs.Records.{record_kept}
+use Rattle.stm_state.proofs.Moves.{move_kept}
+use Rattle.stm_state.proofs.Finishes.{finish_kept}
 use Rattle.stm_state.proofs.Aborts.{validate_kept}
 
 -- ---- the start
@@ -56,7 +58,8 @@ module _ (block : Block) (workers : ℕ) where
       limit = λ i. let e = ap (λ (c : CallState). c.incarnation) (all_fresh i) in omega (arith, e);
       executed_limit = λ i h. let e = ready_at i in cc;
       aborting_limit = λ i h. let e = ready_at i in cc;
-      entries = λ i key. subst (λ (c : CallState). get first.versions (key, i) ≡ entry_of c key) (sym (all_fresh i)) (get-empty place_cmp (key, i));
+      entries = λ i key _. subst (λ (c : CallState). get first.versions (key, i) ≡ entry_of c key) (sym (all_fresh i)) (get-empty place_cmp (key, i));
+      moving = λ w i keys new h. let e = all_idle w in cc;
       executed = λ i h. let e = ready_at i in cc;
       recorded = λ i run h. let e = ap (λ (c : CallState). c.last) (all_fresh i) in cc;
       answered = λ w i answers waits h. let e = all_idle w in cc;
@@ -79,6 +82,8 @@ module _ (block : Block) (workers w : ℕ) (s : State) (h : Invariant block work
   made_kept step t (by_read i answers key at) = counted_kept block workers w one_step _ (read_kept block workers w i answers key s h w_in at)
   made_kept step t (by_park i b answers at below) = counted_kept block workers w one_step _ (park_kept block workers w i b answers s h w_in at below)
   made_kept step t (by_record i answers receipt at bears below) = counted_kept block workers w one_execution _ (record_kept block workers w i answers receipt s h w_in at below bears)
+  made_kept step t (by_move i key keys new at) = counted_kept block workers w one_step _ (move_kept block workers w i key keys new s h w_in at)
+  made_kept step t (by_finish i new at) = counted_kept block workers w one_step _ (finish_kept block workers w i new s h w_in at)
   made_kept step t (by_validate i n left at) = counted_kept block workers w (if decided i n left s then one_validation else one_step) _ (validate_kept block workers w i n left s h w_in at)
 
 -- each step keeps the invariant

@@ -1,4 +1,4 @@
--- What a map has after writes were published, withdrawn, made estimates or laid over a storage.
+-- What a map has after an entry was changed, or writes were made estimates or laid over a storage, and which keys a run is to move.
 use Rattle.std.proofs.Common.{◌≡◌, ◌≢◌, ◌&&◌, ◌||◌, ℕ, Bool, true, false, not, cond, T, is_some, option_map, fold, map, List, [], ◌∷◌, Option, None, Some, refl, sym, ap, ◌∙◌, inl, inr}
 use Rattle.std.specs.declared.cmp.Ordering.{Ordering}
 use Rattle.std.specs.declared.cmp.Ordering.TheVariants.{Less, Equal, Greater}
@@ -9,6 +9,7 @@ use Rattle.std.specs.List.{AllByRecursion, list_any, filter}
 use Rattle.std.specs.FinMap.{FinMap, get, entries, entries_sorted, get-entries, get-insert, get-remove, contains_key, contains_key-keys, find, is_sorted}
 use Rattle.std.specs.FinMap.Entries.{below_all}
 use Rattle.std.proofs.lemmas.Bool.{or_parts}
+use Rattle.std.proofs.lemmas.List.Folds.{list_any-append}
 use Rattle.std.proofs.lemmas.Map.Lookups.{exact_bytes}
 use Rattle.std.proofs.lemmas.Map.Views.{tells_apart}
 use Rattle.version_arena.specs.ArenaState.{Content}
@@ -17,8 +18,8 @@ use Rattle.rv_step.specs.Fold.{apply_writes, apply_write}
 use Rattle.mvmap.specs.Versions.{Entry, Stands, Estimate, Place, Versions, changed, place_cmp}
 use Rattle.mvmap.proofs.Places.{get_changed, get_other}
 use Rattle.stm_state.specs.declared.state.Recorded.{Recorded}
-use Rattle.stm_state.specs.Steps.{written_by, published, estimated, left_over, wrote, has_new_key, recorded_versions}
-use Rattle.stm_state.specs.Invariant.{write_of}
+use Rattle.stm_state.specs.Steps.{written_by, estimated, left_over, wrote, has_new_key, keys_of, keys_to_move, write_of}
+use Rattle.stm_state.specs.Invariant.{has_key}
 
 -- ---- each entry of a map is what the map has at its key
 
@@ -70,7 +71,7 @@ abbrev pub at_key : {X : Type 0} → List ℕ → List (List ℕ × X) → Bool
 at_key key es = list_any (eq_by_cmp key_cmp key) (map (λ e. e.0) es)
 
 -- keys that compare alike are one
-same_key : (key k : List ℕ) → eq_by_cmp key_cmp key k ≡ true → key ≡ k
+pub same_key : (key k : List ℕ) → eq_by_cmp key_cmp key k ≡ true → key ≡ k
 same_key key k h = tells_apart exact_bytes key k h
 
 -- of writes whose keys pass a test some is at a key where the test passes it and some write is at it
@@ -102,19 +103,11 @@ at_key_none p key (e ∷ es) h k =
     go rest true hb h2 h3 = ap p (same_key key e.0 hb) ∙ h3
     go rest false hb h2 h3 = rest h2
 
--- ---- the versions with one writer's entries changed
+-- ---- the versions with one entry changed
 
--- the entries of a writer at the keys of some writes, changed to what each write says
-abbrev changed_all : ℕ → (List ℕ × Content → Option Entry) → Versions → List (List ℕ × Content) → Versions
-changed_all i h v es = fold (λ v write. changed v (write.0, i) (h write)) v es
-
--- other writers keep theirs
-all_other : (i : ℕ) (h : List ℕ × Content → Option Entry) (es : List (List ℕ × Content)) (v : Versions) (key : List ℕ) (j : ℕ) → j ≢ i → get (changed_all i h v es) (key, j) ≡ get v (key, j)
-all_other i h [] v key j ne = refl
-all_other i h (e ∷ es) v key j ne = all_other i h es (changed v (e.0, i) (h e)) key j ne ∙ elim (get_other v (e.0, i) (h e) (key, j)) [
-  | inl p ↦ p
-  | inr q ↦ absurd (ne (ap (λ (p : Place). p.1) q))
-]
+-- a change at one writer's place leaves the other writers' entries
+pub changed_other : (v : Versions) (k : List ℕ) (i : ℕ) (o : Option Entry) (key : List ℕ) (j : ℕ) → j ≢ i → get (changed v (k, i) o) (key, j) ≡ get v (key, j)
+changed_other v k i o key j ne = elim (get_other v (k, i) o (key, j)) [ inl p ↦ p | inr q ↦ absurd (ne (ap (λ (p : Place). p.1) q)) ]
 
 -- a comparison that then finds nothing
 then_equal : (o : Ordering) → ordering_then o Equal ≡ o
@@ -126,65 +119,27 @@ then_equal Greater = refl
 one_writer : (key k : List ℕ) (i : ℕ) → eq_by_cmp place_cmp (key, i) (k, i) ≡ eq_by_cmp key_cmp key k
 one_writer key k i = ap is_eq (ap (ordering_then (key_cmp key k)) (tied_itself nat_cmp_total i) ∙ then_equal (key_cmp key k))
 
--- a choice made twice
-chosen : (a b : Bool) (x y o : Option Entry) → (b ≡ true → x ≡ y) → cond a y (cond b x o) ≡ cond (b || a) y o
-chosen true true x y o h = refl
-chosen true false x y o h = refl
-chosen false true x y o h = h refl
-chosen false false x y o h = refl
+-- what the writer then has at a key
+pub changed_at : (v : Versions) (k : List ℕ) (i : ℕ) (o : Option Entry) (key : List ℕ) → get (changed v (k, i) o) (key, i) ≡ cond (eq_by_cmp key_cmp key k) o (get v (key, i))
+changed_at v k i o key = get_changed v (k, i) o (key, i) ∙ ap (λ b. cond b o (get v (key, i))) (one_writer key k i)
 
--- the writer has at a key what the writes there say
-all_at : (i : ℕ) (h : List ℕ × Content → Option Entry) (es : List (List ℕ × Content)) (v : Versions) (key : List ℕ) (x : Option Entry) → AllByRecursion (λ e. key ≡ e.0 → h e ≡ x) es → get (changed_all i h v es) (key, i) ≡ cond (at_key key es) x (get v (key, i))
-all_at i h [] v key x all = refl
-all_at i h (e ∷ es) v key x all =
-    all_at i h es (changed v (e.0, i) (h e)) key x all.1
-    ∙ ap (cond (at_key key es) x) (get_changed v (e.0, i) (h e) (key, i) ∙ ap (λ b. cond b (h e) (get v (key, i))) (one_writer key e.0 i))
-    ∙ chosen (at_key key es) (eq_by_cmp key_cmp key e.0) (h e) x (get v (key, i)) (λ t. all.0 (same_key key e.0 t))
-
--- ---- what a record does to the versions
-
--- other writers keep their entries
-pub moved_other : (i n : ℕ) (last : Option Recorded) (writes : WriteMap) (v : Versions) (key : List ℕ) (j : ℕ) → j ≢ i → get (recorded_versions i n last writes v) (key, j) ≡ get v (key, j)
-moved_other i n last writes v key j ne =
-    all_other i (λ write. None) (left_over last writes) (published i n (entries writes) v) key j ne
-    ∙ all_other i (λ write. Some (Stands n write.1)) (entries writes) v key j ne
+-- ---- the keys that a record is to move
 
 -- the last run wrote at a key where it has a write there
 at_key_last : (key : List ℕ) (last : Option Recorded) → at_key key (written_by last) ≡ is_some (write_of last key)
 at_key_last key None = refl
 at_key_last key (Some run) = sym (contains_key-keys run.receipt.writes key)
 
--- what holds of anything holds of all
-always : {X : Type 0} (P : X → Type 0) → ((x : X) → P x) → (xs : List X) → AllByRecursion P xs
-always P h [] = tt
-always P h (x ∷ xs) = (h x, always P h xs)
-
--- publishing over and withdrawing the estimates leaves just the new versions
-moved_value : (n : ℕ) (o old : Option Content) → cond (not (is_some o) && is_some old) None (cond (is_some o) (option_map (λ c. Stands n c) o) (option_map (λ c. Estimate) old)) ≡ option_map (λ c. Stands n c) o
-moved_value n None None = refl
-moved_value n None (Some x) = refl
-moved_value n (Some c) None = refl
-moved_value n (Some c) (Some x) = refl
-
--- a published run stands at the keys that it wrote
-published_at : (i n : ℕ) (writes : WriteMap) (v : Versions) (key : List ℕ) → get (published i n (entries writes) v) (key, i) ≡ cond (is_some (get writes key)) (option_map (λ c. Stands n c) (get writes key)) (get v (key, i))
-published_at i n writes v key =
-    all_at i (λ write. Some (Stands n write.1)) (entries writes) v key (option_map (λ c. Stands n c) (get writes key))
-    (all_map (λ e. get writes e.0 ≡ Some e.1) (λ e. key ≡ e.0 → Some (Stands n e.1) ≡ option_map (λ c. Stands n c) (get writes key))
-    (λ e found same. sym (ap (option_map (λ c. Stands n c)) (ap (get writes) same ∙ found))) (entries writes) (entries_found writes))
-    ∙ ap (λ b. cond b (option_map (λ c. Stands n c) (get writes key)) (get v (key, i))) (sym (contains_key-keys writes key))
-
 -- a key is withdrawn where the last run wrote it and this one did not
 left_at : (key : List ℕ) (last : Option Recorded) (writes : WriteMap) → at_key key (left_over last writes) ≡ (not (is_some (get writes key)) && is_some (write_of last key))
 left_at key last writes = at_key_filter (λ k. not (contains_key writes k)) key (written_by last) ∙ ap (λ b. not (is_some (get writes key)) && b) (at_key_last key last)
 
--- where the writer had estimates at the keys of its last run, it has just the new versions
-pub moved_at : (i n : ℕ) (last : Option Recorded) (writes : WriteMap) (v : Versions) (key : List ℕ) → get v (key, i) ≡ option_map (λ c. Estimate) (write_of last key) → get (recorded_versions i n last writes v) (key, i) ≡ option_map (λ c. Stands n c) (get writes key)
-moved_at i n last writes v key old =
-    all_at i (λ write. None) (left_over last writes) (published i n (entries writes) v) key None (always (λ e. key ≡ e.0 → None ≡ None) (λ e same. refl) (left_over last writes))
-    ∙ ap (λ b. cond b None (get (published i n (entries writes) v) (key, i))) (left_at key last writes)
-    ∙ ap (cond (not (is_some (get writes key)) && is_some (write_of last key)) None) (published_at i n writes v key ∙ ap (cond (is_some (get writes key)) (option_map (λ c. Stands n c) (get writes key))) old)
-    ∙ moved_value n (get writes key) (write_of last key)
+-- the keys that a run is to move are those that it wrote or the last one did
+pub to_move : (key : List ℕ) (last : Option Recorded) (writes : WriteMap) → has_key key (keys_to_move last writes) ≡ (is_some (get writes key) || (not (is_some (get writes key)) && is_some (write_of last key)))
+to_move key last writes =
+    list_any-append (eq_by_cmp key_cmp key) (keys_of (entries writes)) (keys_of (left_over last writes))
+    ∙ ap (λ b. b || at_key key (left_over last writes)) (sym (contains_key-keys writes key))
+    ∙ ap (λ b. is_some (get writes key) || b) (left_at key last writes)
 
 -- what it says that a run wrote a key
 wrote_says : (last : Option Recorded) (key : List ℕ) → not (wrote last key) ≡ false → is_some (write_of last key) ≡ true
@@ -203,8 +158,31 @@ no_new_key last writes key none there =
 -- ---- what an abort does to the versions
 
 -- other writers keep their entries
+others_keep : (i : ℕ) (es : List (List ℕ × Content)) (v : Versions) (key : List ℕ) (j : ℕ) → j ≢ i → get (estimated i es v) (key, j) ≡ get v (key, j)
+others_keep i [] v key j ne = refl
+others_keep i (e ∷ es) v key j ne = others_keep i es (changed v (e.0, i) (Some Estimate)) key j ne ∙ changed_other v e.0 i (Some Estimate) key j ne
+
 pub estimated_other : (i : ℕ) (last : Option Recorded) (v : Versions) (key : List ℕ) (j : ℕ) → j ≢ i → get (estimated i (written_by last) v) (key, j) ≡ get v (key, j)
-estimated_other i last v key j ne = all_other i (λ write. Some Estimate) (written_by last) v key j ne
+estimated_other i last v key j ne = others_keep i (written_by last) v key j ne
+
+-- a choice made twice
+chosen : (a b : Bool) (x o : Option Entry) → cond a x (cond b x o) ≡ cond (b || a) x o
+chosen true true x o = refl
+chosen true false x o = refl
+chosen false true x o = refl
+chosen false false x o = refl
+
+-- the writer has estimates at the keys of these writes
+own_estimated : (i : ℕ) (es : List (List ℕ × Content)) (v : Versions) (key : List ℕ) → get (estimated i es v) (key, i) ≡ cond (at_key key es) (Some Estimate) (get v (key, i))
+own_estimated i [] v key = refl
+own_estimated i (e ∷ es) v key =
+    own_estimated i es (changed v (e.0, i) (Some Estimate)) key
+    ∙ ap (cond (at_key key es) (Some Estimate)) (changed_at v e.0 i (Some Estimate) key)
+    ∙ chosen (at_key key es) (eq_by_cmp key_cmp key e.0) (Some Estimate) (get v (key, i))
+
+-- the writer has estimates at the keys of its last run
+pub estimated_over : (i : ℕ) (last : Option Recorded) (v : Versions) (key : List ℕ) → get (estimated i (written_by last) v) (key, i) ≡ cond (is_some (write_of last key)) (Some Estimate) (get v (key, i))
+estimated_over i last v key = own_estimated i (written_by last) v key ∙ ap (λ b. cond b (Some Estimate) (get v (key, i))) (at_key_last key last)
 
 -- an estimate stands where a version stood
 estimated_value : (n : ℕ) (o : Option Content) → cond (is_some o) (Some Estimate) (option_map (λ c. Stands n c) o) ≡ option_map (λ c. Estimate) o
@@ -213,11 +191,7 @@ estimated_value n (Some c) = refl
 
 -- where the writer had its run's versions, it has estimates at their keys
 pub estimated_at : (i n : ℕ) (last : Option Recorded) (v : Versions) (key : List ℕ) → get v (key, i) ≡ option_map (λ c. Stands n c) (write_of last key) → get (estimated i (written_by last) v) (key, i) ≡ option_map (λ c. Estimate) (write_of last key)
-estimated_at i n last v key old =
-    all_at i (λ write. Some Estimate) (written_by last) v key (Some Estimate) (always (λ e. key ≡ e.0 → Some Estimate ≡ Some Estimate) (λ e same. refl) (written_by last))
-    ∙ ap (λ b. cond b (Some Estimate) (get v (key, i))) (at_key_last key last)
-    ∙ ap (cond (is_some (write_of last key)) (Some Estimate)) old
-    ∙ estimated_value n (write_of last key)
+estimated_at i n last v key old = estimated_over i last v key ∙ ap (cond (is_some (write_of last key)) (Some Estimate)) old ∙ estimated_value n (write_of last key)
 
 -- ---- writes laid over a storage
 

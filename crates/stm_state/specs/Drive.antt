@@ -8,9 +8,9 @@ use Rattle.rv_step.specs.Chain.{Reply}
 use Rattle.rv_step.specs.Replies.{replies_of}
 use Rattle.rv_step.specs.declared.answer.StorageAnswer.{StorageAnswer}
 use Rattle.stm_state.specs.declared.state.Task.{Task}
-use Rattle.stm_state.specs.declared.state.Task.TheVariants.{Idle, Running, Validating}
+use Rattle.stm_state.specs.declared.state.Task.TheVariants.{Idle, Running, Moving, Validating}
 use Rattle.stm_state.specs.State.{State, start, task_at, is_done}
-use Rattle.stm_state.specs.Steps.{Step, Ask, Read_key, Park, Record, Validate, Limit, worker_step}
+use Rattle.stm_state.specs.Steps.{Step, Ask, Read_key, Park, Record, Move_key, Finish_execution, Validate, Limit, worker_step}
 use Rattle.stm_state.specs.Done.{MeetsLimit, block_of}
 
 -- a run that asks for a key reads it, and a run that has ended is handed in
@@ -28,6 +28,8 @@ abbrev pub step_by_task : (ℕ → List StorageAnswer → Step) → Task → Ste
 step_by_task run Idle = Ask
 step_by_task run (Running i answers None) = run i answers
 step_by_task run (Running i answers (Some b)) = Park
+step_by_task run (Moving i (key ∷ keys) new) = Move_key
+step_by_task run (Moving i [] new) = Finish_execution
 step_by_task run (Validating i n left) = Validate
 
 abbrev pub due_step : List Invocation → Task → Step

@@ -1,7 +1,9 @@
 -- What holds of each state that worker steps lead to (Block-STM), over functions of indices: a call past the
 -- last one is as at the start, and a worker past the last one has no task.
 use Rattle.std.specs.Prelude.{◌≡◌, ◌<◌, ◌≤◌, ◌-◌, ◌≢◌, ◌⊎◌, ℕ, Bool, true, false, List, length, map, Option, None, Some}
-use Rattle.std.specs.List.{AllByRecursion}
+use Rattle.std.specs.List.{AllByRecursion, list_any}
+use Rattle.std.specs.Ordering.{eq_by_cmp}
+use Rattle.rv_ledger.specs.Key.{key_cmp}
 use Rattle.std.specs.Option.{option_map}
 use Rattle.std.specs.FinMap.{get}
 use Rattle.version_arena.specs.ArenaState.{Content}
@@ -16,10 +18,10 @@ use Rattle.stm_state.specs.declared.state.Status.TheVariants.{Ready, Executing, 
 use Rattle.stm_state.specs.declared.state.CallState.{CallState}
 use Rattle.stm_state.specs.declared.state.Recorded.{Recorded}
 use Rattle.stm_state.specs.declared.state.Task.{Task}
-use Rattle.stm_state.specs.declared.state.Task.TheVariants.{Idle, Running, Validating}
+use Rattle.stm_state.specs.declared.state.Task.TheVariants.{Idle, Running, Moving, Validating}
 use Rattle.stm_state.specs.Limits.{incarnation_limit}
 use Rattle.stm_state.specs.State.{State, call_at, task_at, is_executed}
-use Rattle.stm_state.specs.Steps.{Block, read_of, reads_of}
+use Rattle.stm_state.specs.Steps.{Block, read_of, reads_of, version_of, write_of}
 use Rattle.stm_state.specs.Done.{Reached}
 
 -- a state as functions of indices: each call, each worker's task, and the entry of each writer at each key
@@ -39,21 +41,25 @@ view_of s = record {
   validation = s.validation;
 }
 
--- the call that a task runs, and the call that a task names
+-- the call that a task runs or whose run it moves, and the call that a task names
 abbrev pub run_by : Task → Option ℕ
 run_by Idle = None
 run_by (Running i answers blocked) = Some i
+run_by (Moving i keys new) = Some i
 run_by (Validating i n left) = None
+
+-- the call whose keys a task moves
+abbrev pub moved_by : Task → Option ℕ
+moved_by Idle = None
+moved_by (Running i answers blocked) = None
+moved_by (Moving i keys new) = Some i
+moved_by (Validating i n left) = None
 
 abbrev pub named_by : Task → Option ℕ
 named_by Idle = None
 named_by (Running i answers blocked) = Some i
+named_by (Moving i keys new) = Some i
 named_by (Validating i n left) = Some i
-
--- what a recorded run wrote at a key
-abbrev pub write_of : Option Recorded → List ℕ → Option Content
-write_of None key = None
-write_of (Some run) key = get run.receipt.writes key
 
 -- the entry for what a call wrote: a version at its incarnation where the call is EXECUTED, and else an estimate
 abbrev pub entry_by : Bool → ℕ → Option Content → Option Entry
@@ -86,9 +92,42 @@ pub record IsBorneOut (block : Block) (v : View) (i : ℕ) (run : Recorded) : Ty
   pub borne_out : block.borne_out i (replies_of answers) ≡ Some run.receipt
   pub right : AllByRecursion (IsRightAnswer block v i) answers
 
--- a worker has yet to check a read of a call: it validates the call at its incarnation
+-- a key is among some keys
+abbrev pub has_key : List ℕ → List (List ℕ) → Bool
+has_key key keys = list_any (eq_by_cmp key_cmp key) keys
+
+-- the entries of a call amid a task that turns one key after another to its target: each is there, or its key is yet to
+-- be turned and its entry is one that may stand until then
+abbrev pub IsAmid : (target : List ℕ → Option Entry) (before : List ℕ → Option Entry → Type 0) (entries : List ℕ → Option Entry) (keys : List (List ℕ)) → Type 0
+IsAmid target before entries keys = (key : List ℕ) → (entries key ≡ target key) ⊎ ((has_key key keys ≡ true) × before key (entries key))
+
+-- what may stand at a key that is yet to be moved: an estimate, or nothing where the run wrote a new key
+abbrev pub IsUnmovedEntry : Bool → Option Entry → Type 0
+IsUnmovedEntry new entry = (entry ≡ Some Estimate) ⊎ ((entry ≡ None) × (new ≡ true))
+
+-- a call whose keys are moved: it has a recorded run, and its entries are on their way to that run's versions
+pub record IsMoved (call : CallState) (entries : List ℕ → Option Entry) (keys : List (List ℕ)) (new : Bool) : Type 0 where
+  pub run : (run : Recorded) × (call.last ≡ Some run)
+  pub below : call.incarnation ≤ incarnation_limit - 1
+  pub amid : IsAmid (version_of call) (λ key entry. IsUnmovedEntry new entry) entries keys
+
+-- nobody moves the keys of a call
+abbrev pub IsUnmoved : View → ℕ → Type 0
+IsUnmoved v i = (w : ℕ) → moved_by (v.tasks w) ≢ Some i
+
+-- a worker moves the keys of a lower call's run that wrote a new key: V will be at or below that call
+pub record IsAhead (tasks : ℕ → Task) (i : ℕ) : Type 0 where
+  pub worker : ℕ
+  pub call : ℕ
+  pub keys : List (List ℕ)
+  pub task : tasks worker ≡ Moving call keys true
+  pub lower : call < i
+
+-- a read of a call is yet to be checked: a worker validates the call at its incarnation, or a lower call's unfinished record
+-- with a new key will have it validated again
 pub data IsCovered (v : View) (i : ℕ) (read : Read) : Type 0 where
   validated : (w left : ℕ) → v.tasks w ≡ Validating i (v.calls i).incarnation left → IsCovered v i read
+  ahead : IsAhead v.tasks i → IsCovered v i read
 
 -- a read of a call stands, or is yet to be checked
 abbrev pub IsSafe : View → ℕ → Read → Type 0
@@ -102,7 +141,7 @@ pub record ViewInvariant (block : Block) (v : View) : Type 0 where
   pub named : (w i : ℕ) → named_by (v.tasks w) ≡ Some i → i < block.count
   -- a READY call is at or above the execution index
   pub ready : (i : ℕ) → (v.calls i).status ≡ Ready → v.execution ≤ i
-  -- an EXECUTING call is run by some worker; a call that is run is EXECUTING; no two workers run one call
+  -- some worker runs an EXECUTING call or moves its keys; such a call is EXECUTING; no two workers have one call so
   pub executing : (i : ℕ) → (v.calls i).status ≡ Executing → (w : ℕ) × (run_by (v.tasks w) ≡ Some i)
   pub running : (w i : ℕ) → run_by (v.tasks w) ≡ Some i → (v.calls i).status ≡ Executing
   pub alone : (w u i : ℕ) → run_by (v.tasks w) ≡ Some i → run_by (v.tasks u) ≡ Some i → w ≡ u
@@ -114,9 +153,11 @@ pub record ViewInvariant (block : Block) (v : View) : Type 0 where
   pub limit : (i : ℕ) → (v.calls i).incarnation ≤ incarnation_limit
   pub executed_limit : (i : ℕ) → (v.calls i).status ≡ Executed → (v.calls i).incarnation ≤ incarnation_limit - 1
   pub aborting_limit : (i : ℕ) → (v.calls i).status ≡ Aborting → (v.calls i).incarnation ≤ incarnation_limit - 1
-  -- the entries of an EXECUTED call are the writes of its receipt at its incarnation; any other call has estimates, at
-  -- just the keys that its last recorded run wrote
-  pub entries : (i : ℕ) (key : List ℕ) → v.entries key i ≡ entry_of (v.calls i) key
+  -- where nobody moves a call's keys: the entries of an EXECUTED call are the writes of its receipt at its incarnation; any
+  -- other call has estimates, at just the keys that its last recorded run wrote
+  pub entries : (i : ℕ) (key : List ℕ) → IsUnmoved v i → v.entries key i ≡ entry_of (v.calls i) key
+  -- where a worker moves them, they are on their way to the run's versions
+  pub moving : (w i : ℕ) (keys : List (List ℕ)) (new : Bool) → v.tasks w ≡ Moving i keys new → IsMoved (v.calls i) (λ key. v.entries key i) keys new
   -- an EXECUTED call has a recorded run
   pub executed : (i : ℕ) → (v.calls i).status ≡ Executed → (run : Recorded) × ((v.calls i).last ≡ Some run)
   -- each recorded run is borne out by right answers

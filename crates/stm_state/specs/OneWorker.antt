@@ -1,5 +1,6 @@
 -- What one worker does on a job, in worker steps.
 use Rattle.std.specs.Prelude.{◌≡◌, ◌≢◌, ◌<◌, ◌≤◌, ◌+◌, ◌-◌, ◌*◌, ℕ, true, List, [], ◌∷◌, length, get_or, replicate, Option, Some, slice_get, Result, Ok, Err}
+use Rattle.std.specs.FinMap.{len}
 use Rattle.rv_ledger.specs.Key.{Storage}
 use Rattle.rv_ledger.specs.Call.{Invocation}
 use Rattle.rv_step.specs.Chain.{Reply, AreFrom, borne_out, ends}
@@ -11,22 +12,31 @@ use Rattle.stm_state.specs.Steps.{Block, Limit}
 use Rattle.stm_state.specs.Done.{Reached}
 use Rattle.stm_state.specs.Drive.{NotDone, due_result, drive_of}
 
--- so many answers of a storage bear a call's receipt out
-pub record IsReads (call : Invocation) (store : Storage) (reads : ℕ) : Type 0 where
+-- what a call takes: so many storage answers, and so many writes
+pub record Work : Type 0 where
+  pub reads : ℕ
+  pub writes : ℕ
+
+abbrev pub no_work : Work
+no_work = record { reads = 0; writes = 0 }
+
+-- so many answers of a storage bear a call's receipt out, which has so many writes
+pub record IsWork (call : Invocation) (store : Storage) (work : Work) : Type 0 where
   pub replies : List Reply
-  pub size : length replies ≡ reads
+  pub size : length replies ≡ work.reads
   pub from : AreFrom store replies
   pub borne_out : borne_out call replies ≡ Some (ends call store)
+  pub writes : len (ends call store).writes ≡ work.writes
 
--- of each call the number of its storage answers, on the storage that the calls before it left
-pub record AreReads (calls : List Invocation) (store : Storage) (reads : List ℕ) : Type 0 where
-  pub size : length reads ≡ length calls
-  pub each : (i : ℕ) (call : Invocation) → slice_get calls i ≡ Some call → IsReads call (store_before calls i store) (get_or reads i 0)
+-- of each call what it takes, on the storage that the calls before it left
+pub record AreWorks (calls : List Invocation) (store : Storage) (works : List Work) : Type 0 where
+  pub size : length works ≡ length calls
+  pub each : (i : ℕ) (call : Invocation) → slice_get calls i ≡ Some call → IsWork call (store_before calls i store) (get_or works i no_work)
 
--- the steps for all calls: two askings, a record and a validation of each, and its reads
-abbrev pub rounds : List ℕ → ℕ
+-- the steps for all calls: two askings, a record, a finish and a validation of each, its reads and its keys to move
+abbrev pub rounds : List Work → ℕ
 rounds [] = 0
-rounds (r ∷ reads) = 4 + r + rounds reads
+rounds (work ∷ works) = 5 + work.reads + work.writes + rounds works
 
 -- no run is blocked on an estimate
 abbrev pub MeetsNoEstimate : State → Type 0
@@ -57,8 +67,8 @@ OneWorkerCountsWhereReached = (block : Block) (s : State) → Reached block 1 s 
 -- one worker is done after the rounds of all calls and not before, each further step is an asking that is told so, and no
 -- read meets an estimate
 pub record HasOneWorkerCounts (calls : List Invocation) (store : Storage) : Type 0 where
-  pub reads : List ℕ
-  pub are_reads : AreReads calls store reads
-  pub before : (k : ℕ) → k < rounds reads → drive_of calls store 1 (replicate k 0) ≡ Err NotDone
-  pub after : (k : ℕ) → rounds reads ≤ k → (s : State) × (drive_of calls store 1 (replicate k 0) ≡ Ok s) × OneWorkerDid (length calls) k (2 * length calls + k - rounds reads) (k - rounds reads) s
+  pub works : List Work
+  pub are_works : AreWorks calls store works
+  pub before : (k : ℕ) → k < rounds works → drive_of calls store 1 (replicate k 0) ≡ Err NotDone
+  pub after : (k : ℕ) → rounds works ≤ k → (s : State) × (drive_of calls store 1 (replicate k 0) ≡ Ok s) × OneWorkerDid (length calls) k (2 * length calls + k - rounds works) (k - rounds works) s
   pub free : (k : ℕ) → NeverMeetsEstimate calls store (replicate k 0) (start (length calls) 1)

@@ -1,6 +1,6 @@
 -- The four parts of the scheduler's invariant (Block-STM), in the words of states: what holds of each state that worker
 -- steps lead to. A call past the last one is as at the start, and a worker past the last one has no task.
-use Rattle.std.specs.Prelude.{◌≡◌, ◌<◌, ◌≤◌, ◌≢◌, ◌⊎◌, ℕ, true, List, map, Option, Some}
+use Rattle.std.specs.Prelude.{◌≡◌, ◌<◌, ◌≤◌, ◌≢◌, ◌⊎◌, ℕ, Bool, true, List, map, Option, Some}
 use Rattle.std.specs.List.{AllByRecursion}
 use Rattle.std.specs.Option.{option_map}
 use Rattle.std.specs.FinMap.{get}
@@ -13,21 +13,19 @@ use Rattle.mvmap.specs.Versions.{Stands, entry_at}
 use Rattle.mvmap.specs.Reading.{stands}
 use Rattle.stm_state.specs.declared.state.Status.TheVariants.{Ready, Executing, Executed, Aborting}
 use Rattle.stm_state.specs.declared.state.Recorded.{Recorded}
-use Rattle.stm_state.specs.declared.state.Task.TheVariants.{Running, Validating}
+use Rattle.stm_state.specs.declared.state.Task.TheVariants.{Running, Moving, Validating}
 use Rattle.stm_state.specs.State.{State, call_at, task_at}
-use Rattle.stm_state.specs.Steps.{Block, read_of, reads_of}
+use Rattle.stm_state.specs.Steps.{Block, read_of, reads_of, write_of}
 use Rattle.stm_state.specs.Done.{Reached}
 
 -- it holds of each state that some list of worker steps leads to
 abbrev pub HoldsWhereReached : (Block → State → Type 0) → Type 0
 HoldsWhereReached P = (block : Block) (workers : ℕ) (s : State) → Reached block workers s → P block s
 
--- some worker runs a call
-pub record IsRun (s : State) (i : ℕ) : Type 0 where
-  pub worker : ℕ
-  pub answers : List StorageAnswer
-  pub waits : Option ℕ
-  pub task : task_at s worker ≡ Running i answers waits
+-- some worker runs a call, or moves the keys of its run
+pub data IsRun (s : State) (i : ℕ) : Type 0 where
+  runs : (w : ℕ) (answers : List StorageAnswer) (waits : Option ℕ) → task_at s w ≡ Running i answers waits → IsRun s i
+  moves : (w : ℕ) (keys : List (List ℕ)) (new : Bool) → task_at s w ≡ Moving i keys new → IsRun s i
 
 -- a call is parked on a lower call that is not EXECUTED
 pub record IsParked (s : State) (i : ℕ) : Type 0 where
@@ -36,16 +34,25 @@ pub record IsParked (s : State) (i : ℕ) : Type 0 where
   pub lower : on < i
   pub not_done : (call_at s on).status ≢ Executed
 
--- part 1: a READY call is at or above the execution index, some worker runs an EXECUTING call, and an ABORTING call is
+-- part 1: a READY call is at or above the execution index, an EXECUTING call is some worker's task, and an ABORTING call is
 -- parked on a lower call that is not EXECUTED
 pub record CallsAreAttended (block : Block) (s : State) : Type 0 where
   pub ready : (i : ℕ) → (call_at s i).status ≡ Ready → s.execution ≤ i
   pub executing : (i : ℕ) → (call_at s i).status ≡ Executing → IsRun s i
   pub aborting : (i : ℕ) → (call_at s i).status ≡ Aborting → IsParked s i
 
--- part 2: a call that is not EXECUTED has only estimates
+-- a version that the unfinished record of a call has published: some worker moves the keys of its run, which wrote that
+pub record IsOfUnfinishedRecord (s : State) (i : ℕ) (key : List ℕ) (n : ℕ) (content : Content) : Type 0 where
+  pub worker : ℕ
+  pub keys : List (List ℕ)
+  pub new : Bool
+  pub task : task_at s worker ≡ Moving i keys new
+  pub incarnation : n ≡ (call_at s i).incarnation
+  pub written : write_of (call_at s i).last key ≡ Some content
+
+-- part 2: a call that is not EXECUTED has only estimates, apart from versions that its unfinished record has published
 abbrev pub OthersHaveEstimates : Block → State → Type 0
-OthersHaveEstimates block s = (i : ℕ) → (call_at s i).status ≢ Executed → (key : List ℕ) (n : ℕ) (content : Content) → entry_at s.versions key i ≢ Some (Stands n content)
+OthersHaveEstimates block s = (i : ℕ) → (call_at s i).status ≢ Executed → (key : List ℕ) (n : ℕ) (content : Content) → entry_at s.versions key i ≡ Some (Stands n content) → IsOfUnfinishedRecord s i key n content
 
 -- some worker validates a call at its incarnation
 pub record IsValidated (s : State) (i : ℕ) : Type 0 where
@@ -57,10 +64,18 @@ pub record IsValidated (s : State) (i : ℕ) : Type 0 where
 abbrev pub ReadsStand : State → ℕ → Type 0
 ReadsStand s i = AllByRecursion (λ read. stands s.versions i read ≡ true) (reads_of (call_at s i).last)
 
--- part 3: of an EXECUTED call each recorded read stands, or it is at or above the validation index, or some worker
--- validates it at its incarnation
+-- some worker moves the keys of a lower call's run that wrote a new key
+pub record IsBehindNewKey (s : State) (i : ℕ) : Type 0 where
+  pub worker : ℕ
+  pub call : ℕ
+  pub keys : List (List ℕ)
+  pub task : task_at s worker ≡ Moving call keys true
+  pub lower : call < i
+
+-- part 3: of an EXECUTED call each recorded read stands, or it is at or above the validation index, or some worker validates
+-- it at its incarnation, or has yet to finish the record of a lower call with a new key
 abbrev pub ReadsAreWatched : Block → State → Type 0
-ReadsAreWatched block s = (i : ℕ) → (call_at s i).status ≡ Executed → ReadsStand s i ⊎ ((s.validation ≤ i) ⊎ IsValidated s i)
+ReadsAreWatched block s = (i : ℕ) → (call_at s i).status ≡ Executed → ReadsStand s i ⊎ ((s.validation ≤ i) ⊎ (IsValidated s i ⊎ IsBehindNewKey s i))
 
 -- a value is the starting storage's, or its version's content where that version stands
 abbrev pub IsContent : Block → State → List ℕ → Content → Origin → Type 0

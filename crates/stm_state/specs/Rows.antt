@@ -156,7 +156,7 @@ turns w n = replicate n w
 abbrev pub EmptyBlock : Type 0
 EmptyBlock = summary_after [] 1 [] ≡ Some (record { done = true; ends = []; incarnations = [] })
 
--- three calls of ECHO by one worker: done after 12 steps, and not before; a further asking is told so
+-- three calls of ECHO by one worker: done after 15 steps, and not before; a further asking is told so
 abbrev pub echoes : List Script
 echoes = echo ∷ echo ∷ echo ∷ []
 
@@ -170,12 +170,12 @@ abbrev pub echoes_summary : Bool → Option Summary
 echoes_summary done = Some (record { done = done; ends = replicate 3 (Some (Returned, [])); incarnations = 0 ∷ 0 ∷ 0 ∷ [] })
 
 pub record ThreeEchoes : Type 0 where
-  pub ends : summary_after echoes 1 (turns 0 12) ≡ echoes_summary true
-  pub works : work_after echoes 1 (turns 0 12) ≡ Some (echo_counts 12 6 3, 0 ∷ [])
-  pub before : summary_after echoes 1 (turns 0 11) ≡ echoes_summary false
-  pub after : work_after echoes 1 (turns 0 13) ≡ Some (echo_counts 13 7 3, 1 ∷ [])
+  pub ends : summary_after echoes 1 (turns 0 15) ≡ echoes_summary true
+  pub works : work_after echoes 1 (turns 0 15) ≡ Some (echo_counts 15 6 3, 0 ∷ [])
+  pub before : summary_after echoes 1 (turns 0 14) ≡ echoes_summary false
+  pub after : work_after echoes 1 (turns 0 16) ≡ Some (echo_counts 16 7 3, 1 ∷ [])
   -- one of three workers does all, and the others are told so
-  pub alone : work_after echoes 3 (turns 0 13 ++ 1 ∷ 2 ∷ []) ≡ Some (echo_counts 13 7 3 ++ asked_once ∷ asked_once ∷ [], 1 ∷ 1 ∷ 1 ∷ [])
+  pub alone : work_after echoes 3 (turns 0 16 ++ 1 ∷ 2 ∷ []) ≡ Some (echo_counts 16 7 3 ++ asked_once ∷ asked_once ∷ [], 1 ∷ 1 ∷ 1 ∷ [])
 
 -- a late writer: call 2 reads call 0's version and is validated before call 1 is recorded, and runs again
 abbrev pub late_block : List Script
@@ -185,14 +185,18 @@ abbrev pub late_summary : Bool → ℕ → Option Summary
 late_summary done n = Some (record { done = done; ends = Some (Returned, []) ∷ Some (Returned, []) ∷ Some (Returned, 2 ∷ []) ∷ []; incarnations = 0 ∷ 0 ∷ n ∷ [] })
 
 pub record LateWriter : Type 0 where
-  pub ends : summary_after late_block 3 (turns 0 2 ++ turns 1 3 ++ turns 2 6 ++ turns 1 8) ≡ late_summary true 1
-  pub before : summary_after late_block 3 (turns 0 2 ++ turns 1 3 ++ turns 2 6 ++ turns 1 7) ≡ late_summary false 1
+  pub ends : summary_after late_block 3 (turns 0 4 ++ turns 1 3 ++ turns 2 7 ++ turns 1 11) ≡ late_summary true 1
+  pub before : summary_after late_block 3 (turns 0 4 ++ turns 1 3 ++ turns 2 7 ++ turns 1 10) ≡ late_summary false 1
+  -- call 1's run is kept and its key is yet to be moved while call 2 runs: call 2 reads call 0's version, and runs again
+  pub handed_in : summary_after late_block 3 (turns 0 4 ++ turns 1 4 ++ turns 2 7 ++ turns 1 10) ≡ late_summary true 1
+  -- its key is moved and its execution is yet to be finished: call 2 reads call 1's version
+  pub published : summary_after late_block 3 (turns 0 4 ++ turns 1 5 ++ turns 2 7 ++ turns 1 5) ≡ late_summary true 0
   -- what is read is the newest in the block's order
-  pub newest : summary_after late_block 2 (turns 0 1 ++ turns 1 3 ++ turns 0 10) ≡ late_summary true 0
+  pub newest : summary_after late_block 2 (turns 0 1 ++ turns 1 5 ++ turns 0 13) ≡ late_summary true 0
 
 -- a read of absence is validated too: call 1 first reverts, and runs again once call 0 is recorded
 abbrev pub ReadOfAbsence : Type 0
-ReadOfAbsence = summary_after (put 10 1 ∷ seen 10 ∷ []) 2 (turns 0 1 ++ turns 1 4 ++ turns 0 8)
+ReadOfAbsence = summary_after (put 10 1 ∷ seen 10 ∷ []) 2 (turns 0 1 ++ turns 1 5 ++ turns 0 11)
     ≡ Some (record { done = true; ends = Some (Returned, []) ∷ Some (Returned, []) ∷ []; incarnations = 0 ∷ 1 ∷ [] })
 
 -- a withdrawn write: call 1's second run doesn't write B, and call 2 then reads its absence
@@ -203,20 +207,20 @@ abbrev pub withdrawn_summary : ℕ → Option Summary
 withdrawn_summary n = Some (record { done = true; ends = Some (Returned, []) ∷ Some (Returned, []) ∷ Some (Reverted, []) ∷ []; incarnations = 0 ∷ 1 ∷ n ∷ [] })
 
 pub record WithdrawnWrite : Type 0 where
-  pub ends : summary_after withdrawn_block 2 (turns 0 1 ++ turns 1 11 ++ turns 0 13) ≡ withdrawn_summary 1
+  pub ends : summary_after withdrawn_block 2 (turns 0 1 ++ turns 1 14 ++ turns 0 18) ≡ withdrawn_summary 1
   -- call 2 meets an estimate of call 1 and is parked until call 1 is recorded again
-  pub parked : summary_after withdrawn_block 2 (turns 0 1 ++ turns 1 4 ++ turns 0 5 ++ turns 1 4 ++ turns 0 7) ≡ withdrawn_summary 1
+  pub parked : summary_after withdrawn_block 2 (turns 0 1 ++ turns 1 6 ++ turns 0 7 ++ turns 1 4 ++ turns 0 10) ≡ withdrawn_summary 1
   -- call 1 is recorded before call 2 is parked on it: call 2's run starts again, at incarnation 0
-  pub begun_again : summary_after withdrawn_block 2 (turns 0 1 ++ turns 1 3 ++ turns 0 2 ++ turns 1 3 ++ turns 0 3 ++ turns 1 3 ++ turns 0 5) ≡ withdrawn_summary 0
+  pub begun_again : summary_after withdrawn_block 2 (turns 0 1 ++ turns 1 3 ++ turns 0 4 ++ turns 1 5 ++ turns 0 3 ++ turns 1 5 ++ turns 0 6) ≡ withdrawn_summary 0
 
 -- an aborted run leaves estimates, and each read of a key is kept: these are not done
 pub record NotDone : Type 0 where
-  pub estimates : summary_after (put 10 1 ∷ copy 10 11 ∷ seen 11 ∷ []) 2 (turns 0 1 ++ turns 1 3 ++ turns 0 3 ++ turns 1 1 ++ turns 0 3 ++ turns 1 5 ++ turns 0 2)
+  pub estimates : summary_after (put 10 1 ∷ copy 10 11 ∷ seen 11 ∷ []) 2 (turns 0 1 ++ turns 1 3 ++ turns 0 5 ++ turns 1 2 ++ turns 0 3 ++ turns 1 6 ++ turns 0 4)
       ≡ Some (record { done = false; ends = Some (Returned, []) ∷ Some (Returned, []) ∷ Some (Reverted, []) ∷ []; incarnations = 0 ∷ 1 ∷ 0 ∷ [] })
-  pub repeats : summary_after (put 1 1 ∷ fetch_twice 1 ∷ []) 2 (turns 0 1 ++ turns 1 3 ++ turns 0 4 ++ turns 1 3)
+  pub repeats : summary_after (put 1 1 ∷ fetch_twice 1 ∷ []) 2 (turns 0 1 ++ turns 1 3 ++ turns 0 6 ++ turns 1 4)
       ≡ Some (record { done = false; ends = Some (Returned, []) ∷ Some (Returned, 1 ∷ []) ∷ []; incarnations = 0 ∷ 1 ∷ [] })
 
 -- two calls of COUNT by one worker: each reads what the one before it wrote, and not its own write
 abbrev pub TwoCounts : Type 0
-TwoCounts = summary_after (count 1 ∷ count 1 ∷ fetch 1 ∷ []) 1 (turns 0 15)
+TwoCounts = summary_after (count 1 ∷ count 1 ∷ fetch 1 ∷ []) 1 (turns 0 20)
     ≡ Some (record { done = true; ends = Some (Returned, []) ∷ Some (Returned, []) ∷ Some (Returned, 2 ∷ []) ∷ []; incarnations = 0 ∷ 0 ∷ 0 ∷ [] })

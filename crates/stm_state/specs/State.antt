@@ -8,10 +8,10 @@ use Rattle.stm_state.specs.declared.state.Status.{Status}
 use Rattle.stm_state.specs.declared.state.Status.TheVariants.{Ready, Executing, Executed, Aborting}
 use Rattle.stm_state.specs.declared.state.CallState.{CallState}
 use Rattle.stm_state.specs.declared.state.Task.{Task}
-use Rattle.stm_state.specs.declared.state.Task.TheVariants.{Idle, Running, Validating}
+use Rattle.stm_state.specs.declared.state.Task.TheVariants.{Idle, Running, Moving, Validating}
 
 -- the calls and what they wrote; the execution index and the validation index; each worker's task, what it did, and
--- how often it was told that all is done; and how many records were placed
+-- how often it was told that all is done; and how many writes the recorded runs had together
 pub record State : Type 0 where
   pub calls : List CallState
   pub versions : Versions
@@ -79,6 +79,7 @@ is_aborting Aborting = true
 abbrev pub is_idle : Task → Bool
 is_idle Idle = true
 is_idle (Running i answers blocked) = false
+is_idle (Moving i keys new) = false
 is_idle (Validating i n left) = false
 
 -- both indices are past the last call, and nobody has a task

@@ -1,8 +1,8 @@
--- The step that a worker owes, as a function of the state (Block-STM). A record publishes and withdraws all
--- its keys at once, and a validation checks all its reads at once.
+-- The step that a worker owes, as a function of the state (Block-STM). A validation checks all its reads at once.
 use Rattle.std.specs.Prelude.{ℕ, ◌+◌, ◌==◌, nat_lt, nat_le, min, Bool, false, not, ◌&&◌, ◌||◌, if◌then◌else◌, List, [], ◌∷◌, ◌++◌, map, length, get_or, set, fold, Option, None, Some, Result, Ok, Err}
 use Rattle.std.specs.List.{list_all, list_any, filter}
-use Rattle.std.specs.FinMap.{get, insert, remove, entries, contains_key, len}
+use Rattle.std.specs.Option.{option_map}
+use Rattle.std.specs.FinMap.{get, insert, entries, contains_key, len}
 use Rattle.rv_ledger.specs.Key.{Storage, WriteMap}
 use Rattle.rv_ledger.specs.declared.receipt.Receipt.{Receipt}
 use Rattle.rv_ledger.specs.declared.outcome.Counts.{Counts}
@@ -11,13 +11,14 @@ use Rattle.read_set.specs.declared.Read.{Read}
 use Rattle.rv_step.specs.Chain.{Reply}
 use Rattle.rv_step.specs.Replies.{replies_of}
 use Rattle.rv_step.specs.declared.answer.StorageAnswer.{StorageAnswer}
-use Rattle.mvmap.specs.Versions.{Versions, Stands, Estimate}
+use Rattle.version_arena.specs.ArenaState.{Content}
+use Rattle.mvmap.specs.Versions.{Entry, Versions, Stands, Estimate, changed}
 use Rattle.mvmap.specs.Reading.{Visible, Base, Found, Blocked, reading, stands}
 use Rattle.stm_state.specs.declared.state.Status.TheVariants.{Ready, Executing, Executed, Aborting}
 use Rattle.stm_state.specs.declared.state.CallState.{CallState}
 use Rattle.stm_state.specs.declared.state.Recorded.{Recorded}
 use Rattle.stm_state.specs.declared.state.Task.{Task}
-use Rattle.stm_state.specs.declared.state.Task.TheVariants.{Idle, Running, Validating}
+use Rattle.stm_state.specs.declared.state.Task.TheVariants.{Idle, Running, Moving, Validating}
 use Rattle.stm_state.specs.Limits.{record_limit, incarnation_limit}
 use Rattle.stm_state.specs.State.{State, call_at, task_at, with_call, with_task, no_counts, is_ready, is_executed, is_aborting, is_done}
 
@@ -104,13 +105,7 @@ parked w i b s =
 abbrev pub read_of : StorageAnswer → Read
 read_of answer = record { key = answer.key; origin = answer.origin }
 
--- a run's writes published at an incarnation, some keys withdrawn, and some made estimates
-abbrev pub published : ℕ → ℕ → List (List ℕ × Option (List ℕ)) → Versions → Versions
-published i n writes versions = fold (λ v write. insert v (write.0, i) (Stands n write.1)) versions writes
-
-abbrev pub withdrawn : ℕ → List (List ℕ × Option (List ℕ)) → Versions → Versions
-withdrawn i writes versions = fold (λ v write. remove v (write.0, i)) versions writes
-
+-- some keys of a call made estimates
 abbrev pub estimated : ℕ → List (List ℕ × Option (List ℕ)) → Versions → Versions
 estimated i writes versions = fold (λ v write. insert v (write.0, i) Estimate) versions writes
 
@@ -125,6 +120,22 @@ wrote (Some run) key = contains_key run.receipt.writes key
 
 abbrev pub has_new_key : Option Recorded → WriteMap → Bool
 has_new_key last writes = list_any (λ write. not (wrote last write.0)) (entries writes)
+
+-- record: the keys that a run is to move, first those that it wrote, then those that only the run before it wrote
+abbrev pub keys_of : List (List ℕ × Option (List ℕ)) → List (List ℕ)
+keys_of writes = map (λ write. write.0) writes
+
+abbrev pub keys_to_move : Option Recorded → WriteMap → List (List ℕ)
+keys_to_move last writes = keys_of (entries writes) ++ keys_of (left_over last writes)
+
+-- what a recorded run wrote at a key
+abbrev pub write_of : Option Recorded → List ℕ → Option Content
+write_of None key = None
+write_of (Some run) key = get run.receipt.writes key
+
+-- move key: a version at the call's incarnation where its recorded run wrote the key, else no entry
+abbrev pub version_of : CallState → List ℕ → Option Entry
+version_of call key = option_map (λ content. Stands call.incarnation content) (write_of call.last key)
 
 -- is there, and is this number
 abbrev pub is_some_of : Option ℕ → ℕ → Bool
@@ -144,15 +155,11 @@ abbrev pub lowered : ℕ → ℕ → ℕ → List CallState → ℕ
 lowered i x p [] = x
 lowered i x p (call ∷ calls) = lowered i (if is_parked_on i call then min x p else x) (p + 1) calls
 
--- record: the versions
-abbrev pub recorded_versions : ℕ → ℕ → Option Recorded → WriteMap → Versions → Versions
-recorded_versions i n last writes versions = withdrawn i (left_over last writes) (published i n (entries writes) versions)
-
--- record: all that are parked on call i are readied
+-- finish execution: all that are parked on call i are readied
 unfoldable pub resume_dependents : ℕ → State → State
 resume_dependents i s = record s { calls = map (resume_if_parked i) s.calls; execution = lowered i s.execution 0 s.calls }
 
--- record: what is validated again. Where V is past call i, all from i on if the run wrote a new key, else call i
+-- finish execution: what is validated again. Where V is past call i, all from i on if the run wrote a new key, else call i
 unfoldable pub to_validate : ℕ → ℕ → Bool → Task → State → State
 to_validate w i new task s =
     if nat_lt i s.validation then (if new then with_task w Idle (record s { validation = i }) else with_task w task s)
@@ -162,13 +169,23 @@ to_validate w i new task s =
 abbrev pub recorded_run : List StorageAnswer → Receipt → Recorded
 recorded_run answers receipt = record { receipt = receipt; reads = map read_of answers }
 
--- record
+-- record: the run is kept, and its keys are to move
 abbrev pub recorded : ℕ → ℕ → List StorageAnswer → Receipt → State → State
 recorded w i answers receipt s =
     let call = call_at s i in
-    let t = record s { versions = recorded_versions i call.incarnation call.last receipt.writes s.versions; placed = s.placed + len receipt.writes } in
-    to_validate w i (has_new_key call.last receipt.writes) (Validating i call.incarnation (length answers))
-    (resume_dependents i (with_call i (record call { status = Executed; last = Some (recorded_run answers receipt) }) t))
+    with_task w (Moving i (keys_to_move call.last receipt.writes) (has_new_key call.last receipt.writes))
+    (with_call i (record call { last = Some (recorded_run answers receipt) }) (record s { placed = s.placed + len receipt.writes }))
+
+-- move key: the next key is published or withdrawn
+abbrev pub moved : ℕ → ℕ → List ℕ → List (List ℕ) → Bool → State → State
+moved w i key keys new s = with_task w (Moving i keys new) (record s { versions = changed s.versions (key, i) (version_of (call_at s i) key) })
+
+-- finish execution: the call is EXECUTED
+abbrev pub executed : ℕ → ℕ → Bool → State → State
+executed w i new s =
+    let call = call_at s i in
+    to_validate w i new (Validating i call.incarnation (length (reads_of call.last)))
+    (resume_dependents i (with_call i (record call { status = Executed }) s))
 
 -- validate: a call is EXECUTED at an incarnation
 abbrev pub is_executed_at : ℕ → CallState → Bool
@@ -200,6 +217,8 @@ pub data Step : Type 0 where
   Read_key : List ℕ → Step
   Park : Step
   Record : Step
+  Move_key : Step
+  Finish_execution : Step
   Validate : Step
 
 -- why a step is refused
@@ -222,6 +241,8 @@ step_with block w (Running i answers None) (Read_key key) s = Some (Ok (counted 
 step_with block w (Running i answers (Some b)) Park s =
     if nat_le incarnation_limit (call_at s i).incarnation then Some (Err IncarnationLimit) else Some (Ok (counted one_step w (parked w i b s)))
 step_with block w (Running i answers None) Record s = record_within i answers w (block.borne_out i (replies_of answers)) s
+step_with block w (Moving i (key ∷ keys) new) Move_key s = Some (Ok (counted one_step w (moved w i key keys new s)))
+step_with block w (Moving i [] new) Finish_execution s = Some (Ok (counted one_step w (executed w i new s)))
 step_with block w (Validating i n left) Validate s =
     Some (Ok (counted (if decided i n left s then one_validation else one_step) w (validated w i n s)))
 step_with block w task step s = None

@@ -35,8 +35,8 @@ pub fn done_is_in_order()
 
 /// Whatever list of steps leads to a state of a block's run, the four parts of the scheduler's invariant
 /// hold there: READY calls are at or above the execution index, EXECUTING ones are run and ABORTING ones
-/// wait; only EXECUTED calls have versions; reads that do not stand are yet to be validated; and runs are
-/// borne out by true answers.
+/// wait; only EXECUTED calls and unfinished records have versions; reads that do not stand are yet to be
+/// validated; and runs are borne out by true answers.
 pub fn the_parts_hold()
     ensures part_1 { HoldsWhereReached CallsAreAttended }
     ensures part_2 { HoldsWhereReached OthersHaveEstimates }
@@ -45,8 +45,8 @@ pub fn the_parts_hold()
 {}
 
 /// With one worker a job of n calls is done after the rounds of its calls and not before: each round is
-/// two askings, the call's reads, a record and a validation. Each step after that is an asking that is
-/// told so.
+/// two askings, the call's reads, a record, a step for each key that it moves, a finish and a validation. Each
+/// step after that is an asking that is told so.
 pub fn one_worker_counts(job: &Job)
     ensures { HasOneWorkerCounts job.now.block job.now.store }
 {

@@ -12,4 +12,4 @@ pub use laws::{
     one_worker_counts_where_reached, reached_by_list, refused_list_meets_limit, the_parts_hold,
 };
 pub use schedules::schedules_come_to;
-pub use state::{Answers, CallState, Recorded, Status, Task};
+pub use state::{Answers, CallState, Keys, Recorded, Status, Task};

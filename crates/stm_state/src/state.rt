@@ -1,7 +1,7 @@
 //! What the scheduler keeps of each call and of each worker.
 
 use read_set::ReadSet;
-use rv_ledger::Receipt;
+use rv_ledger::{Key, Receipt};
 use rv_step::StorageAnswer;
 use std::marker::Model;
 
@@ -55,6 +55,20 @@ impl Model for Answers {
     ghost view = { λ a. a.items.items };
 }
 
+/// Keys that are yet to be moved, in order.
+#[derive(Drop)]
+pub struct Keys {
+    items: Vec<Key>,
+}
+
+impl Model for Keys {
+    ghost use Rattle.std.specs.Prelude.{List, ℕ};
+
+    ghost Value = { List (List ℕ) };
+
+    ghost view = { λ k. k.items.items };
+}
+
 /// What a worker is about.
 #[derive(Drop)]
 pub enum Task {
@@ -68,6 +82,16 @@ pub enum Task {
         answers: Answers,
         /// The call whose estimate the run met, where it met one.
         blocked: Option<u16>,
+    },
+    /// It moves the keys of a run that it handed in: those that the run wrote are published, and then
+    /// those that only the run before it wrote are withdrawn.
+    Moving {
+        /// The call's index.
+        call: u16,
+        /// The keys that are yet to be moved.
+        keys: Keys,
+        /// Whether the run wrote a key that the run before it did not write.
+        new_key: bool,
     },
     /// It validates a call.
     Validating {

@@ -62,22 +62,22 @@ first_fault (Some first) fault = first
 -- ---- shares
 
 -- what a share tells
-pub record Tally : Type 0 where
+pub record ShareCounts : Type 0 where
   pub worker : ℕ
   pub counts : Counts
   pub dones : ℕ
 
-abbrev pub tally_of : Share → Tally
-tally_of share = record { worker = share.worker; counts = share.counts; dones = share.dones }
+abbrev pub counts_of_share : Share → ShareCounts
+counts_of_share share = record { worker = share.worker; counts = share.counts; dones = share.dones }
 
 -- of a worker that did nothing yet
-abbrev pub new_tally : ℕ → Tally
-new_tally worker = record { worker = worker; counts = no_counts; dones = 0 }
+abbrev pub zero_counts : ℕ → ShareCounts
+zero_counts worker = record { worker = worker; counts = no_counts; dones = 0 }
 
 -- of so many workers, in their order
-unfoldable pub new_tallies : ℕ → List Tally
-new_tallies zero = []
-new_tallies (suc n) = new_tallies n ++ new_tally n ∷ []
+unfoldable pub zero_counts_of_all : ℕ → List ShareCounts
+zero_counts_of_all zero = []
+zero_counts_of_all (suc n) = zero_counts_of_all n ++ zero_counts n ∷ []
 
 -- a share tells what a core counts of its worker
 pub record Tells (share : Share) (b : CoreState) : Type 0 where

@@ -202,6 +202,50 @@ impl Book {
         }
     }
 
+    /// A worker moves the next key of the run of a call at an incarnation that it handed in. Gives the step that
+    /// it owes now. Refused as `ask` is. Takes no memory.
+    #[tactic(auto, using(crate::proofs::Stays::stays, crate::proofs::Causes::unready_cause))]
+    pub fn move_key(
+        &mut self,
+        share: &mut Share,
+        call: u16,
+        incarnation: u16,
+    ) -> Result<NextStep, RunFault>
+        ensures made { OnOk result (IsMade steps.Move_key self.old self.new share.old share.new) }
+        ensures next { IfOk result (λ next. next ≡ next_step_of self.new.core.state (task_at self.new.core.state share.new.worker)) }
+        ensures dones { OnOk result (share.new.dones ≡ share.old.dones) }
+        ensures refused { IfErr result (λ e. LeavesWritten e self.old self.new share.old share.new) }
+        ensures cause { IfErr result (λ e. IsCause (Owes (next_step.MoveKey call incarnation) share.old self.old.core) ⊥ steps.Move_key share.old.worker self.old e) }
+    {
+        self.ready(share, NextStep::MoveKey { call, incarnation })?;
+        stm_state::dones_grow_at_done();
+        self.core.move_key(share.worker);
+        self.tell(share);
+        Ok(self.core.doing(share.worker))
+    }
+
+    /// The call at an incarnation whose keys a worker has moved is EXECUTED. Gives the step that the worker owes
+    /// now. Refused as `ask` is. Takes no memory.
+    #[tactic(auto, using(crate::proofs::Stays::stays, crate::proofs::Causes::unready_cause))]
+    pub fn finish_execution(
+        &mut self,
+        share: &mut Share,
+        call: u16,
+        incarnation: u16,
+    ) -> Result<NextStep, RunFault>
+        ensures made { OnOk result (IsMade steps.Finish_execution self.old self.new share.old share.new) }
+        ensures next { IfOk result (λ next. next ≡ next_step_of self.new.core.state (task_at self.new.core.state share.new.worker)) }
+        ensures dones { OnOk result (share.new.dones ≡ share.old.dones) }
+        ensures refused { IfErr result (λ e. LeavesWritten e self.old self.new share.old share.new) }
+        ensures cause { IfErr result (λ e. IsCause (Owes (next_step.FinishExecution call incarnation) share.old self.old.core) ⊥ steps.Finish_execution share.old.worker self.old e) }
+    {
+        self.ready(share, NextStep::FinishExecution { call, incarnation })?;
+        stm_state::dones_grow_at_done();
+        self.core.finish_execution(share.worker);
+        self.tell(share);
+        Ok(self.core.doing(share.worker))
+    }
+
     /// A worker checks the reads of the call that it validates at an incarnation. Gives the step that it owes
     /// now. Refused as `ask` is. Takes no memory.
     #[tactic(auto, using(crate::proofs::Stays::stays, crate::proofs::Causes::unready_cause))]

@@ -16,11 +16,11 @@ pub struct Share {
 }
 
 impl Share {
-    ghost use Rattle.workers.specs.Book.{new_tally, tally_of};
+    ghost use Rattle.workers.specs.Book.{zero_counts, counts_of_share};
 
     /// The share of a worker that did nothing yet, with its pass.
     pub(crate) fn new(worker: usize, pass: DonePass) -> Share
-        ensures tally { tally_of result ≡ new_tally worker }
+        ensures counts { counts_of_share result ≡ zero_counts worker }
         ensures pass { result.pass ≡ pass }
     {
         Share {

@@ -1,7 +1,7 @@
 //! What the threads of a block share.
 
 ghost use Rattle.std.specs.Prelude.{◌≡◌, All, IfOk, map};
-ghost use Rattle.workers.specs.Book.{new_tallies, tally_of};
+ghost use Rattle.workers.specs.Book.{zero_counts_of_all, counts_of_share};
 ghost use Rattle.workers.specs.DoneCell.{IsPassOf};
 
 use crate::book::Book;
@@ -25,14 +25,14 @@ pub struct Shared {
 
 impl Shared {
     ghost use Rattle.std.specs.Prelude.{◌≡◌, [], length, map, All, IfErr, IfOk};
-    ghost use Rattle.workers.specs.Book.{new_tallies, tally_of};
+    ghost use Rattle.workers.specs.Book.{zero_counts_of_all, counts_of_share};
     ghost use Rattle.workers.specs.DoneCell.{IsPassOf};
 
     /// The lock over a core at its start, with a cell that shows running, and one share of zeros for each of its
     /// workers, in their order, each with a pass of the cell.
     /// Where memory ran out the core's arena is handed back, without records.
     pub fn new(alloc: Global, core: Core) -> Result<(Shared, Vec<Share>), Arena>
-        ensures shares { IfOk result (λ made. map tally_of made.1.items ≡ new_tallies (length core.state.tasks)) }
+        ensures shares { IfOk result (λ made. map counts_of_share made.1.items ≡ zero_counts_of_all (length core.state.tasks)) }
         ensures passes { IfOk result (λ made. All (λ share. IsPassOf made.0.cell share.pass) made.1.items) }
         ensures back { IfErr result (λ arena. arena.records ≡ []) }
     {
@@ -86,7 +86,7 @@ pub(crate) enum OutsideFault {
 /// One share of zeros for each of so many workers, with a pass of the cell.
 #[tactic(auto, using(crate::proofs::Zeros::no_shares))]
 fn new_shares(alloc: Global, workers: usize, cell: &DoneCell) -> Result<Vec<Share>, AllocError>
-    ensures shares { IfOk result (λ shares. map tally_of shares.items ≡ new_tallies workers) }
+    ensures shares { IfOk result (λ shares. map counts_of_share shares.items ≡ zero_counts_of_all workers) }
     ensures passes { IfOk result (λ shares. All (λ share. IsPassOf cell.now share.pass) shares.items) }
 {
     let mut shares = Vec::with_capacity(alloc, workers)?;

@@ -43,6 +43,16 @@ pub fn work<R: Wait, G: Gate>(
             NextStep::Park { call, incarnation } => {
                 shared.lock.lock(rt).park(&mut share, call, incarnation)?
             }
+            NextStep::MoveKey { call, incarnation } => {
+                shared
+                    .lock
+                    .lock(rt)
+                    .move_key(&mut share, call, incarnation)?
+            }
+            NextStep::FinishExecution { call, incarnation } => shared
+                .lock
+                .lock(rt)
+                .finish_execution(&mut share, call, incarnation)?,
             NextStep::Validate { call, incarnation } => {
                 shared
                     .lock

@@ -1,11 +1,11 @@
-use Rattle.std.proofs.Common.{◌∙◌, List, ℕ, IsTrue, subst}
-use Rattle.std.specs.List.{All}
+use Rattle.std.proofs.Common.{◌∙◌}
 use Rattle.std.specs.FinMap.{entries}
-use Rattle.std.specs.FinSet.{contains}
-use Rattle.stm_core.proofs.Open.{open_keys}
+use Rattle.stm_state.specs.Steps.{keys_of, left_over}
+use Rattle.stm_core.proofs.Open.{open_first}
 use Rattle.stm_core.proofs.recording.make_room.Goals as goal
 
 pub returns-clause-open_ : goal.returns-clause-open_
 returns-clause-open_ c =
-    open_keys c.reserve_for.new.self.places c.args.call (entries c.args.run.now.receipt.writes)
-    (subst (λ (keys : List (List ℕ)). All (λ key. IsTrue (contains c.reserve_for.new.self.places (key, c.args.call))) keys) (c.as_slice-2.ensures.value ∙ c.in_ok-keys.ensures) c.in_ok-reserve_for.ensures.ok.0)
+    let writes = c.args.run.now.receipt.writes in
+    open_first c.reserve_for.new.self.places c.args.call c.written_count.result (entries writes) c.as_slice-2.result.now (keys_of (left_over c.args.last.now writes))
+    c.written_count.ensures (c.as_slice-2.ensures.value ∙ c.in_ok-keys.ensures) c.in_ok-reserve_for.ensures.ok.0

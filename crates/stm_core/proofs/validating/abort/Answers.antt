@@ -29,9 +29,9 @@ finish_abort-requires-clause-incarnation c =
     omega (arith, same, is, low)
 
 pub returns-then-try_abort-clause-state : goal.returns-then-try_abort-clause-state
-returns-then-try_abort-clause-state c =
+returns-then-try_abort-clause-state c = λ promised.
     let same = c.call.ensures ∙ taken_at c.args.call c.args.incarnation c.args.scheduler.now c.try_abort.new.self c.try_abort.ensures.state c.requires.current c.requires.within in
-    abort_is c.args.worker c.args.call c.args.incarnation c.args.map.now c.estimate_all.new.map c.args.scheduler.now c.try_abort.new.self c.finish_abort.new.self c.call.result.now.last
+    abort_is c.args.worker c.args.call c.args.incarnation promised c.args.map.now c.estimate_all.new.map c.args.scheduler.now c.try_abort.new.self c.finish_abort.new.self c.call.result.now.last
     c.requires.within c.requires.current c.try_abort.ensures.state (ap (λ (call : CallState). call.last) same) c.estimate_all.ensures c.finish_abort.ensures.state
 
 pub returns-then-try_abort-clause-places : goal.returns-then-try_abort-clause-places

@@ -16,7 +16,7 @@ returns-then-is_executed-clause-state c =
     ap (λ (t : Schedule). is_executed (get_or t.calls i fresh).status) (sym c.next_validation-index.ensures.state)
     ∙ ap (λ (k : CallState). is_executed k.status) (sym c.call.ensures) ∙ sym c.is_executed.ensures ∙ c.if-is_executed.true in
     λ v p. c.begin.ensures.state v p
-    ∙ ap (λ (d : TaskKind). with_task c.args.worker (task_with d []) (state_of v p c.next_validation-index.new.self)) c.validation_of-task_kind.ensures
+    ∙ ap (λ (d : TaskKind). with_task c.args.worker (task_with d [] []) (state_of v p c.next_validation-index.new.self)) c.validation_of-task_kind.ensures
     ∙ ap (λ (k : CallState). with_task c.args.worker (Validating i k.incarnation (length (reads_of k.last))) (state_of v p c.next_validation-index.new.self)) c.call-then-is_executed.ensures
     ∙ ap (λ (t : Schedule). with_task c.args.worker (Validating i (get_or t.calls i fresh).incarnation (length (reads_of (get_or t.calls i fresh).last))) (state_of v p t)) c.next_validation-index.ensures.state
     ∙ validated c.args.worker (state_of v p c.args.self.now) i c.next_validation-index.ensures.index test

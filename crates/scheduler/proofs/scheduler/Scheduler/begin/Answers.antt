@@ -4,7 +4,7 @@ use Rattle.scheduler.proofs.Seen.{rooms_kept, task_changed}
 use Rattle.scheduler.proofs.scheduler.Scheduler.begin.Goals as goal
 
 pub returns-clause-state : goal.returns-clause-state
-returns-clause-state c = task_changed c.self.inside.calls.items c.self.inside.execution c.self.inside.validation c.self.inside.workers.items c.args.worker c.args.self.now c.self.view_is c.requires c.index_mut.result.now c.begin.new.self c.index_mut.ensures.value (λ _. task_with c.args.task_kind []) c.begin.new.self.room c.begin.ensures
+returns-clause-state c = task_changed c.self.inside.calls.items c.self.inside.execution c.self.inside.validation c.self.inside.workers.items c.args.worker c.args.self.now c.self.view_is c.requires c.index_mut.result.now c.begin.new.self c.index_mut.ensures.value (λ _. task_with c.args.task_kind [] []) c.begin.new.self.room c.begin.ensures
 
 pub returns-clause-rooms : goal.returns-clause-rooms
 returns-clause-rooms c = rooms_kept c.self.inside.calls.items c.self.inside.execution c.self.inside.validation c.self.inside.workers.items c.args.worker c.args.self.now c.self.view_is c.requires c.index_mut.result.now c.begin.new.self c.index_mut.ensures.value

@@ -1,4 +1,4 @@
-use Rattle.std.proofs.Common.{length, get_or, sym, subst}
+use Rattle.std.proofs.Common.{◌+◌, length, get_or, sym, subst}
 use Rattle.stm_state.specs.declared.state.Task.TheVariants.{Idle}
 use Rattle.stm_core.specs.CoreState.{CoreState, IsWithin}
 use Rattle.stm_core.specs.Inner.{state_in}
@@ -7,10 +7,10 @@ use Rattle.stm_core.proofs.Made.{invariant_at, named_in}
 use Rattle.stm_core.proofs.state.Core.doing.Goals as goal
 
 pub next_step_of-requires-clause-named : goal.next_step_of-requires-clause-named
-next_step_of-requires-clause-named c = λ i named. named_in c.self.inside.job c.self.inside.map c.self.inside.scheduler c.self.invariant c.args.worker i named
+next_step_of-requires-clause-named c = λ i named. named_in c.self.inside.job c.self.inside.map c.self.inside.promised c.self.inside.scheduler c.self.invariant c.args.worker i named
 
 pub returns-clause-within : goal.returns-clause-within
 returns-clause-within c =
     subst (λ (b : CoreState). IsWithin (length b.job.block) c.next_step_of.result) c.self.view_is
-    (subst (IsWithin (length c.self.inside.job.block)) (sym (c.next_step_of.ensures c.self.inside.map.versions (length c.self.inside.map.arena.records)))
-    (within_doing (length c.self.inside.job.block) (state_in c.self.inside.map c.self.inside.scheduler) (get_or c.self.inside.scheduler.tasks c.args.worker Idle) (λ i named. (invariant_at c.self.inside.job c.self.inside.map c.self.inside.scheduler c.self.invariant).facts.named c.args.worker i named)))
+    (subst (IsWithin (length c.self.inside.job.block)) (sym (c.next_step_of.ensures c.self.inside.map.versions (length c.self.inside.map.arena.records + c.self.inside.promised)))
+    (within_doing (length c.self.inside.job.block) (state_in c.self.inside.map c.self.inside.promised c.self.inside.scheduler) (get_or c.self.inside.scheduler.tasks c.args.worker Idle) (λ i named. (invariant_at c.self.inside.job c.self.inside.map c.self.inside.promised c.self.inside.scheduler c.self.invariant).facts.named c.args.worker i named)))

@@ -1,0 +1,81 @@
+//! The scheduler's calls for a run that is handed in: it is kept, its keys are moved, and its call is EXECUTED.
+
+use crate::calls;
+use crate::calls::LAST_INCARNATION;
+use crate::scheduler::Scheduler;
+use crate::worker::TaskKind;
+use rv_ledger::Key;
+use stm_state::{Recorded, Status};
+
+impl Scheduler {
+    ghost use Rattle.std.specs.Prelude.{◌≡◌, ◌≤◌, ◌<◌, ◌+◌, ◌∷◌, ℕ, [], Bool, List, map, get_or, length};
+    ghost use Rattle.std.specs.FinMap.{len};
+    ghost use Rattle.mvmap.specs.Versions.{Versions};
+    ghost use Rattle.rv_step.specs.declared.answer.StorageAnswer.{StorageAnswer};
+    ghost use Rattle.stm_state.specs.State.{fresh, with_task};
+    ghost use Rattle.stm_state.specs.Steps.{counted, executed, keys_to_move, one_execution, one_step, read_of, recorded, to_validate};
+    ghost use Rattle.stm_state.specs.declared.state.Status.TheVariants as Status;
+    ghost use Rattle.stm_state.specs.declared.state.Task.TheVariants as Task;
+    ghost use Rattle.scheduler.specs.Schedule.{KeepsRooms, MayCount, state_of};
+    ghost use Rattle.scheduler.specs.Workers.{HasKeyToMove, task_with};
+
+    /// Keeps the run of a call that a worker hands in, and gives the worker the run's keys to move: those that
+    /// it wrote, then those that only the call's run before it wrote. Takes no memory.
+    pub fn keep_run(&mut self, worker: usize, call: u16, run: Recorded, keys: Vec<Key>)
+        requires counts { MayCount worker self.old }
+        requires within { call < length self.old.calls }
+        requires keys { keys.items ≡ keys_to_move (get_or self.old.calls call fresh).last run.receipt.writes }
+        ensures state { (answers : List StorageAnswer) → run.reads ≡ map read_of answers → (v : Versions) (p : ℕ) → state_of v (p + len run.receipt.writes) self.new ≡ counted one_execution worker (recorded worker call answers run.receipt (state_of v p self.old)) }
+        ensures rooms { KeepsRooms worker self.old.rooms self.new.rooms }
+    {
+        self.count_execution(worker);
+        let new_key = calls::has_new_key(&self.call(call).last, &run.receipt.writes);
+        self.keep(call, run);
+        self.begin_moving(worker, call, new_key, keys);
+    }
+
+    /// Lets a worker go on to the key behind its next one. Takes no memory.
+    pub fn drop_key(&mut self, worker: usize)
+        requires counts { MayCount worker self.old }
+        requires moving { HasKeyToMove (get_or self.old.tasks worker Task.Idle) }
+        ensures state { (i : ℕ) (key : List ℕ) (keys : List (List ℕ)) (new : Bool) → get_or self.old.tasks worker Task.Idle ≡ Task.Moving i (key ∷ keys) new → (v : Versions) (p : ℕ) → state_of v p self.new ≡ counted one_step worker (with_task worker (Task.Moving i keys new) (state_of v p self.old)) }
+        ensures rooms { KeepsRooms worker self.old.rooms self.new.rooms }
+    {
+        self.count_step(worker);
+        self.drop_next_key(worker);
+    }
+
+    /// Makes a call whose keys a worker has moved EXECUTED, readies all that are parked on it, and settles what
+    /// is validated again (Block-STM, `finish_execution`). Takes no memory.
+    pub fn finish_execution(&mut self, worker: usize, call: u16, new_key: bool)
+        requires counts { MayCount worker self.old }
+        requires within { call < length self.old.calls }
+        requires incarnations { (i : ℕ) → (get_or self.old.calls i fresh).status ≡ Status.Aborting → (get_or self.old.calls i fresh).incarnation ≤ LAST_INCARNATION }
+        ensures state { (v : Versions) (p : ℕ) → state_of v p self.new ≡ counted one_step worker (executed worker call new_key (state_of v p self.old)) }
+        ensures rooms { KeepsRooms worker self.old.rooms self.new.rooms }
+    {
+        self.count_step(worker);
+        let task_kind = calls::validation_of(self.call(call), call);
+        self.set_status(call, Status::Executed);
+        self.resume_dependents(call);
+        self.to_validate(worker, call, new_key, task_kind);
+    }
+
+    /// Settles what is validated again after a run of a call: all from the call on, the call by this
+    /// task, or nothing.
+    #[tactic(auto, unfolding(stm_state::specs::Steps::to_validate))]
+    fn to_validate(&mut self, worker: usize, call: u16, new_key: bool, task_kind: TaskKind)
+        requires { worker < length self.old.tasks }
+        ensures state { (v : Versions) (p : ℕ) → state_of v p self.new ≡ to_validate worker call new_key (task_with task_kind [] []) (state_of v p self.old) }
+        ensures rooms { KeepsRooms worker self.old.rooms self.new.rooms }
+    {
+        if !self.is_validation_past(call) {
+            self.begin(worker, TaskKind::Idle);
+        } else if new_key {
+            self.set_validation(call);
+            self.begin(worker, TaskKind::Idle);
+        } else {
+            self.begin(worker, task_kind);
+        }
+    }
+}

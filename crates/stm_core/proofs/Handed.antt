@@ -1,0 +1,68 @@
+-- A run that is handed in, and a key of it that is moved, over the parts of a job's run.
+use Rattle.std.proofs.Common.{◌≡◌, ◌<◌, ◌≤◌, ◌+◌, ◌*◌, ℕ, Bool, IsSome, List, [], ◌∷◌, length, get_or, None, Some, Ok, sym, ap, subst, ◌∙◌}
+use Rattle.std.specs.FinMap.{get, len}
+use Rattle.rv_ledger.specs.declared.job.Job.{Job}
+use Rattle.rv_ledger.specs.declared.inline_bytes.TheConstants.{VALUE_LIMIT}
+use Rattle.rv_step.specs.declared.answer.StorageAnswer.{StorageAnswer}
+use Rattle.rv_step.specs.declared.ended_run.EndedRun.{EndedRun}
+use Rattle.mvmap.specs.Table.{Table}
+use Rattle.mvmap.specs.Versions.{Versions, changed}
+use Rattle.stm_state.specs.declared.state.Task.TheVariants.{Idle, Running, Moving}
+use Rattle.stm_state.specs.State.{State, fresh}
+use Rattle.stm_state.specs.Steps.{Record, Move_key, counted, moved, one_execution, one_step, recorded, version_of, worker_step}
+use Rattle.stm_state.specs.Done.{block_of}
+use Rattle.stm_state.specs.Invariant.{named_by}
+use Rattle.scheduler.specs.Schedule.{KeepsRooms, Schedule}
+use Rattle.stm_core.specs.CoreState.{CoreState, IsDue, Makes}
+use Rattle.stm_core.specs.Inner.{AreOpen, IsGrown, IsHanded, IsPromised, IsReached, KeepsPromises, core_state_of, state_in, writes_at}
+use Rattle.stm_core.proofs.Open.{Within, moved_within}
+use Rattle.stm_core.proofs.Made.{due_at, goes_on, invariant_at, makes, move_made, named_in, own_made}
+use Rattle.stm_core.proofs.Promises.{moved_kept, next_has_place, next_is_promised, recorded_kept}
+
+module _ (job : Job) (table : Table) (promised : ℕ) (schedule : Schedule) (h : IsReached job table promised schedule) (b : CoreState) (is : core_state_of job table promised schedule ≡ b) (w i : ℕ) where
+  -- ---- record
+
+  module _ (due : IsDue w Record b) (run : EndedRun) (answers : List StorageAnswer) (at : get_or schedule.tasks w Idle ≡ Running i answers None) (handed : IsHanded job.block i answers run) where
+    -- a worker's own run within the limits leads on
+    pub record_reached : (after_table : Table) (more : ℕ) (after : Schedule) → IsGrown table after_table → IsPromised i run.receipt.writes after_table promised more
+        → (length table.arena.records + promised + len run.receipt.writes ≤ 1048576) × ((get_or schedule.calls i fresh).incarnation < 65535)
+        → state_in after_table more after ≡ counted one_execution w (recorded w i run.answers.items run.receipt (state_in table promised schedule)) → IsReached job after_table more after
+    record_reached after_table more after grown promises within same =
+        let s = state_in table promised schedule in
+        let own : get_or schedule.tasks w Idle ≡ Running i run.answers.items None = at ∙ ap (λ x. Running i x None) (sym handed.1) in
+        goes_on job table promised schedule h b is w Record due after_table more after
+        (own_made job.block job.store w i answers run s at handed within.0 within.1 ∙ ap (λ t. Some (Ok t)) (sym same))
+        (λ place there. grown.places place (h.places place (subst (λ (v : Versions). IsSome (get v place)) (ap (λ (t : State). t.versions) same) there)))
+        (subst (KeepsPromises after_table more) (sym same)
+        (recorded_kept (block_of job.block job.store) (length schedule.tasks) w s (invariant_at job table promised schedule h) (due_at job table promised schedule h b is w Record due).worker table promised h.promises
+        i more run.answers.items run.receipt after_table (named_in job table promised schedule h w i (ap named_by at)) own grown promises within.0))
+
+  -- ---- move key
+
+  module _ (due : IsDue w Move_key b) (key : List ℕ) (keys : List (List ℕ)) (new : Bool) (at : get_or schedule.tasks w Idle ≡ Moving i (key ∷ keys) new) where
+    -- the next key has a place where the run wrote it, and its record is promised
+    pub key_has_place : AreOpen table.places i (writes_at (get_or schedule.calls i fresh).last (key ∷ []))
+    key_has_place = next_has_place (block_of job.block job.store) (length schedule.tasks) w (state_in table promised schedule) (invariant_at job table promised schedule h) (due_at job table promised schedule h b is w Move_key due).worker table promised h.promises i key keys new at
+
+    pub key_is_promised : length (writes_at (get_or schedule.calls i fresh).last (key ∷ [])) ≤ promised
+    key_is_promised = next_is_promised (block_of job.block job.store) (length schedule.tasks) w (state_in table promised schedule) (invariant_at job table promised schedule h) (due_at job table promised schedule h b is w Move_key due).worker table promised h.promises i key keys new at
+
+    module _ (after_table : Table) (more : ℕ) (after : Schedule) (same : state_in after_table more after ≡ counted one_step w (moved w i key keys new (state_in table promised schedule))) where
+      move_is_made : worker_step (block_of job.block job.store) w Move_key (state_in table promised schedule) ≡ Some (Ok (state_in after_table more after))
+      move_is_made = move_made (block_of job.block job.store) w (state_in table promised schedule) i key keys new at ∙ ap (λ t. Some (Ok t)) (sym same)
+
+      -- the move leads on
+      pub move_reached : after_table.places ≡ table.places → length after_table.arena.records + more ≡ length table.arena.records + promised → more + length (writes_at (get_or schedule.calls i fresh).last (key ∷ [])) ≡ promised
+          → more ≤ after_table.arena.room → more * VALUE_LIMIT ≤ after_table.arena.bytes → IsReached job after_table more after
+      move_reached places placed taken room bytes =
+          let versions : after_table.versions ≡ changed table.versions (key, i) (version_of (get_or schedule.calls i fresh) key) = ap (λ (t : State). t.versions) same in
+          goes_on job table promised schedule h b is w Move_key due after_table more after move_is_made
+          (subst (λ p. Within p after_table.versions) (sym places) (subst (Within table.places) (sym versions)
+          (moved_within table.places i (get_or schedule.calls i fresh) key table.versions key_has_place h.places)))
+          (subst (KeepsPromises after_table more) (sym same)
+          (moved_kept (block_of job.block job.store) (length schedule.tasks) w (state_in table promised schedule) (invariant_at job table promised schedule h) (due_at job table promised schedule h b is w Move_key due).worker table promised h.promises
+          i more key keys new after_table at places placed taken room bytes))
+
+      -- and it is made
+      pub move_makes : KeepsRooms w schedule.rooms after.rooms → Makes w Move_key b (core_state_of job after_table more after)
+      move_makes rooms = makes job table promised schedule h b is w Move_key due after_table more after move_is_made rooms
