@@ -52,21 +52,21 @@ const SCHEDULES: &[Schedule] = &[
         name: "late_writer",
         row: LATE_WRITER,
         workers: 3,
-        turns: &[(0, 4), (1, 3), (2, 7), (1, 11)],
+        turns: &[(0, 4), (1, 3), (2, 8), (1, 14)],
         is_done: true,
     },
     Schedule {
         name: "late_writer without its last step",
         row: LATE_WRITER,
         workers: 3,
-        turns: &[(0, 4), (1, 3), (2, 7), (1, 10)],
+        turns: &[(0, 4), (1, 3), (2, 8), (1, 13)],
         is_done: false,
     },
     Schedule {
         name: "the newest in block order is read",
         row: LATE_WRITER,
         workers: 2,
-        turns: &[(0, 1), (1, 5), (0, 13)],
+        turns: &[(0, 2), (1, 4), (0, 4), (1, 1), (0, 9)],
         is_done: true,
     },
     Schedule {
@@ -94,42 +94,42 @@ const SCHEDULES: &[Schedule] = &[
         name: "read_of_absence",
         row: READ_OF_ABSENCE,
         workers: 2,
-        turns: &[(0, 1), (1, 5), (0, 11)],
+        turns: &[(0, 1), (1, 5), (0, 14)],
         is_done: true,
     },
     Schedule {
         name: "read_of_absence without its last step",
         row: READ_OF_ABSENCE,
         workers: 2,
-        turns: &[(0, 1), (1, 5), (0, 10)],
+        turns: &[(0, 1), (1, 5), (0, 13)],
         is_done: false,
     },
     Schedule {
         name: "withdrawn_write",
         row: WITHDRAWN_WRITE,
         workers: 2,
-        turns: &[(0, 1), (1, 14), (0, 18)],
+        turns: &[(0, 1), (1, 16), (0, 25)],
         is_done: true,
     },
     Schedule {
         name: "estimate_met: parked",
         row: WITHDRAWN_WRITE,
         workers: 2,
-        turns: &[(0, 1), (1, 6), (0, 7), (1, 4), (0, 10)],
+        turns: &[(0, 1), (1, 10), (0, 9), (1, 2), (0, 14)],
         is_done: true,
     },
     Schedule {
         name: "estimate_met: the run starts again",
         row: WITHDRAWN_WRITE,
         workers: 2,
-        turns: &[(0, 1), (1, 5), (0, 4), (1, 3), (0, 3), (1, 5), (0, 6)],
+        turns: &[(0, 1), (1, 10), (0, 9), (1, 1), (0, 5), (1, 4), (0, 5)],
         is_done: true,
     },
     Schedule {
         name: "own entries are not read",
         row: TWO_COUNTS,
         workers: 1,
-        turns: &[(0, 14)],
+        turns: &[(0, 16)],
         is_done: true,
     },
 ];
@@ -209,28 +209,28 @@ fn is_in_order(alloc: Global, workers: u32, entries: usize) -> Result<bool, Fail
     }
 }
 
-// 280 is 40 calls of seven steps; 410, 1610 and 5230 are entries after which a mixed list was seen done.
+// 320 is 40 calls of eight steps; 540, 1430 and 5150 are entries after which a mixed list was seen done.
 #[test]
 fn forty_counts_by_1_worker(rt: HostRuntime) -> Result<(), Fail> {
-    assert!(rt; is_in_order(rt.alloc(), 1, 280)?);
+    assert!(rt; is_in_order(rt.alloc(), 1, 320)?);
     Ok(())
 }
 
 #[test]
 fn forty_counts_by_2_workers(rt: HostRuntime) -> Result<(), Fail> {
-    assert!(rt; is_in_order(rt.alloc(), 2, 410)?);
+    assert!(rt; is_in_order(rt.alloc(), 2, 540)?);
     Ok(())
 }
 
 #[test]
 fn forty_counts_by_8_workers(rt: HostRuntime) -> Result<(), Fail> {
-    assert!(rt; is_in_order(rt.alloc(), 8, 1610)?);
+    assert!(rt; is_in_order(rt.alloc(), 8, 1430)?);
     Ok(())
 }
 
 #[test]
 fn forty_counts_by_32_workers(rt: HostRuntime) -> Result<(), Fail> {
-    assert!(rt; is_in_order(rt.alloc(), 32, 5230)?);
+    assert!(rt; is_in_order(rt.alloc(), 32, 5150)?);
     Ok(())
 }
 

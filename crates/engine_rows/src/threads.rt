@@ -209,7 +209,7 @@ fn work_in_turn<R: Wait>(
 
 /// One worker of three does all the work of three echoes, then the others ask once each.
 #[test]
-fn coarse_one_share_alone(rt: HostRuntime) -> Result<(), Fail> {
+fn one_share_alone(rt: HostRuntime) -> Result<(), Fail> {
     let alloc = rt.alloc();
     for first in 0..3 {
         let job = job_of(alloc, &[ECHO], THREE_ECHOES)?;

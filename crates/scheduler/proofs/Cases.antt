@@ -1,15 +1,14 @@
 -- What each step comes to, by its tests.
-use Rattle.std.proofs.Common.{◌≡◌, ◌+◌, nat_lt, min, ℕ, Bool, true, false, List, [], length, map, Some, None, refl, sym, ap, ◌∙◌}
+use Rattle.std.proofs.Common.{◌≡◌, ◌+◌, nat_lt, min, suc, ℕ, Bool, true, false, List, [], length, map, Some, None, refl, sym, subst, ap, ◌∙◌, add-one}
 use Rattle.std.specs.FinMap.{len}
 use Rattle.read_set.specs.declared.Read.{Read}
 use Rattle.rv_step.specs.declared.answer.StorageAnswer.{StorageAnswer}
 use Rattle.stm_state.specs.declared.state.Status.TheVariants.{Executing, Aborting}
 use Rattle.stm_state.specs.declared.state.Recorded.{Recorded}
 use Rattle.stm_state.specs.declared.state.Task.{Task}
-use Rattle.stm_state.specs.declared.state.Task.TheVariants.{Idle, Running, Moving, Validating}
+use Rattle.stm_state.specs.declared.state.Task.TheVariants.{Idle, Running, Moving, Validating, Marking}
 use Rattle.stm_state.specs.State.{State, call_at, with_call, with_task, is_executed, is_ready, is_done}
-use Rattle.stm_state.specs.Steps.{asked, ask_execution, ask_validation, has_new_key, keys_to_move, lowered, parked, next_incarnation, read_of, recorded, recorded_run, resume_if_parked, reads_of, to_validate, count_done, resume_dependents}
-use Rattle.scheduler.specs.Parts.{abort_finished}
+use Rattle.stm_state.specs.Steps.{aborted, asked, ask_execution, ask_validation, checked, decided, has_new_key, is_executed_at, keys_of, keys_to_move, lowered, next_stands, parked, next_incarnation, read_of, recorded, recorded_run, resume_if_parked, reads_of, to_validate, count_done, resume_dependents, written_by}
 
 module _ (w : ℕ) (s : State) where
   -- ask
@@ -25,13 +24,13 @@ module _ (w : ℕ) (s : State) where
   pub asked_nothing : is_done s ≡ false → nat_lt s.validation s.execution ≡ false → nat_lt s.execution (length s.calls) ≡ false → s ≡ asked w s
   asked_nothing e f g = rw (e, f, g) refl
 
-  validated_at : is_executed (call_at s s.validation).status ≡ true → with_task w (Validating s.validation (call_at s s.validation).incarnation (length (reads_of (call_at s s.validation).last))) (record s { validation = s.validation + 1 }) ≡ ask_validation w s
+  validated_at : is_executed (call_at s s.validation).status ≡ true → with_task w (Validating s.validation (call_at s s.validation).incarnation (length (reads_of (call_at s s.validation).last)) false) (record s { validation = s.validation + 1 }) ≡ ask_validation w s
   unfolding ask_validation
   validated_at e = rw e refl
 
-  pub validated : (i : ℕ) → i ≡ s.validation → is_executed (call_at s i).status ≡ true → with_task w (Validating i (call_at s i).incarnation (length (reads_of (call_at s i).last))) (record s { validation = s.validation + 1 }) ≡ ask_validation w s
+  pub validated : (i : ℕ) → i ≡ s.validation → is_executed (call_at s i).status ≡ true → with_task w (Validating i (call_at s i).incarnation (length (reads_of (call_at s i).last)) false) (record s { validation = s.validation + 1 }) ≡ ask_validation w s
   validated i e test =
-      ap (λ (j : ℕ). with_task w (Validating j (call_at s j).incarnation (length (reads_of (call_at s j).last))) (record s { validation = s.validation + 1 })) e
+      ap (λ (j : ℕ). with_task w (Validating j (call_at s j).incarnation (length (reads_of (call_at s j).last)) false) (record s { validation = s.validation + 1 })) e
       ∙ validated_at (ap (λ (j : ℕ). is_executed (call_at s j).status) (sym e) ∙ test)
 
   run_at : is_ready (call_at s s.execution).status ≡ true → with_task w (Running s.execution [] None) (with_call s.execution (record (call_at s s.execution) { status = Executing }) (record s { execution = s.execution + 1 })) ≡ ask_execution w s
@@ -74,11 +73,44 @@ module _ (w : ℕ) (s : State) where
   unfolding to_validate
   one_again i new task e f = rw (e, f) refl
 
-  -- abort
-  pub abort_runs : (i : ℕ) → nat_lt i s.execution ≡ true → with_task w (Running i [] None) (with_call i (record (next_incarnation (call_at s i)) { status = Executing }) (record s { validation = min s.validation (i + 1) })) ≡ abort_finished w i s
+  -- check read
+  pub check_ended : (i n left : ℕ) → is_executed_at n (call_at s i) ≡ false → with_task w Idle s ≡ checked w i n left s
+  unfolding checked
+  check_ended i n left e = rw e refl
+
+  pub check_stood : (i n left : ℕ) → is_executed_at n (call_at s i) ≡ true → next_stands i (left + 1) s ≡ true → with_task w (Validating i n left false) s ≡ checked w i n left s
+  unfolding checked
+  check_stood i n left e f =
+      let stands : next_stands i (suc left) s ≡ true = subst (λ (m : ℕ). next_stands i m s ≡ true) (add-one left) f in
+      rw (e, stands) refl
+
+  pub check_failed : (i n left : ℕ) → is_executed_at n (call_at s i) ≡ true → next_stands i (left + 1) s ≡ false → with_task w (Validating i n (left + 1) true) s ≡ checked w i n left s
+  unfolding checked
+  check_failed i n left e f =
+      let stands : next_stands i (suc left) s ≡ false = subst (λ (m : ℕ). next_stands i m s ≡ false) (add-one left) f in
+      rw (add-one left, e, stands) refl
+
+  -- decide
+  pub decided_abort : (i n : ℕ) (failed : Bool) → failed ≡ true → is_executed_at n (call_at s i) ≡ true
+      → with_task w (Marking i (keys_of (written_by (call_at s i).last))) (with_call i (record (call_at s i) { status = Aborting }) s) ≡ decided w i n failed s
+  unfolding decided
+  decided_abort i n failed e f = rw (e, f) refl
+
+  pub decided_none : (i n : ℕ) (failed : Bool) → failed ≡ false → with_task w Idle s ≡ decided w i n failed s
+  unfolding decided
+  decided_none i n failed e = rw e refl
+
+  pub decided_late : (i n : ℕ) (failed : Bool) → failed ≡ true → is_executed_at n (call_at s i) ≡ false → with_task w Idle s ≡ decided w i n failed s
+  unfolding decided
+  decided_late i n failed e f = rw (e, f) refl
+
+  -- finish abort
+  pub abort_runs : (i : ℕ) → nat_lt i s.execution ≡ true → with_task w (Running i [] None) (with_call i (record (next_incarnation (call_at s i)) { status = Executing }) (record s { validation = min s.validation (i + 1) })) ≡ aborted w i s
+  unfolding aborted
   abort_runs i e = rw e refl
 
-  pub abort_rests : (i : ℕ) → nat_lt i s.execution ≡ false → with_task w Idle (with_call i (next_incarnation (call_at s i)) (record s { validation = min s.validation (i + 1) })) ≡ abort_finished w i s
+  pub abort_rests : (i : ℕ) → nat_lt i s.execution ≡ false → with_task w Idle (with_call i (next_incarnation (call_at s i)) (record s { validation = min s.validation (i + 1) })) ≡ aborted w i s
+  unfolding aborted
   abort_rests i e = rw e refl
 
 -- those that were parked are readied

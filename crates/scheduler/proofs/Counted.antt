@@ -1,11 +1,13 @@
 -- What is counted for a worker and what its step does go in any order.
-use Rattle.std.proofs.Common.{◌≡◌, nat_lt, ℕ, Bool, true, false, cond, length, refl, sym, ap, ◌∙◌}
+use Rattle.std.proofs.Common.{◌≡◌, nat_lt, ℕ, Bool, true, false, cond, length, map, refl, sym, ap, ◌∙◌}
+use Rattle.std.proofs.lemmas.List.{set-set}
 use Rattle.rv_ledger.specs.declared.outcome.Counts.{Counts}
 use Rattle.stm_state.specs.declared.state.Status.TheVariants.{Executed}
 use Rattle.stm_state.specs.declared.state.Task.{Task}
-use Rattle.stm_state.specs.declared.state.Task.TheVariants.{Validating}
-use Rattle.stm_state.specs.State.{State, call_at, with_call, is_executed, is_ready, is_done}
-use Rattle.stm_state.specs.Steps.{counted, ask_validation, ask_execution, executed, reads_of, to_validate, resume_dependents}
+use Rattle.stm_state.specs.declared.state.Task.TheVariants.{Idle, Validating}
+use Rattle.stm_state.specs.State.{State, call_at, with_call, with_task, is_executed, is_ready, is_done}
+use Rattle.stm_state.specs.Steps.{counted, one_step, ask_validation, ask_execution, executed, reads_of, lowered, resume_if_parked, to_validate, resume_dependents}
+use Rattle.scheduler.proofs.Cases.{woken_is}
 
 module _ (add : Counts → Counts) (w : ℕ) where
   over_cond : (b : Bool) (x y : State) → counted add w (cond b x y) ≡ cond b (counted add w x) (counted add w y)
@@ -43,9 +45,29 @@ module _ (add : Counts → Counts) (w : ℕ) where
   abbrev executed_in : ℕ → State → State
   executed_in i s = with_call i (record (call_at s i) { status = Executed }) s
 
-  pub counted_finish : (i : ℕ) (new : Bool) (task : Task) (s : State) → task ≡ Validating i (call_at s i).incarnation (length (reads_of (call_at s i).last)) →
+  counted_finish : (i : ℕ) (new : Bool) (task : Task) (s : State) → task ≡ Validating i (call_at s i).incarnation (length (reads_of (call_at s i).last)) false →
       to_validate w i new task (resume_dependents i (with_call i (record (call_at s i) { status = Executed }) (counted add w s))) ≡ counted add w (executed w i new s)
   counted_finish i new task s e =
       ap (to_validate w i new task) (counted_waking i (executed_in i s))
       ∙ counted_again i new task (resume_dependents i (executed_in i s))
       ∙ ap (λ (t : Task). counted add w (to_validate w i new t (resume_dependents i (executed_in i s)))) e
+
+-- a task that the worker had before is nothing to what it gets
+again_over : (w i : ℕ) (new : Bool) (task before : Task) (s : State) → to_validate w i new task (with_task w before s) ≡ to_validate w i new task s
+unfolding to_validate
+again_over w i new task before s = rw (set-set s.tasks w before Idle, set-set s.tasks w before task) refl
+
+finish_over : (w i : ℕ) (new : Bool) (task before : Task) (s : State) → to_validate w i new task (resume_dependents i (with_task w before s)) ≡ to_validate w i new task (resume_dependents i s)
+unfolding resume_dependents
+finish_over w i new task before s = again_over w i new task before (record s { calls = map (resume_if_parked i) s.calls; execution = lowered i s.execution 0 s.calls })
+
+-- the end of an execution: the worker hands its keys over, those that are parked are readied, and what is validated is settled
+pub all_finished : (w i : ℕ) (new : Bool) (task : Task) (before ended resumed : State)
+    → ended ≡ with_task w Idle (with_call i (record (call_at before i) { status = Executed }) (counted one_step w before))
+    → resumed ≡ record ended { calls = map (resume_if_parked i) ended.calls; execution = lowered i ended.execution 0 ended.calls }
+    → task ≡ Validating i (call_at before i).incarnation (length (reads_of (call_at before i).last)) false → to_validate w i new task resumed ≡ counted one_step w (executed w i new before)
+all_finished w i new task before ended resumed e f g =
+    let last : State = with_call i (record (call_at before i) { status = Executed }) (counted one_step w before) in
+    ap (to_validate w i new task) (f ∙ woken_is i ended ∙ ap (resume_dependents i) e)
+    ∙ finish_over w i new task Idle last
+    ∙ counted_finish one_step w i new task before g

@@ -3,3 +3,4 @@ pub mod Cases
 pub mod Counted
 pub mod Keys
 pub mod Seen
+pub mod Written

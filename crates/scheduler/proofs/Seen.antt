@@ -7,7 +7,7 @@ use Rattle.mvmap.specs.Versions.{Versions}
 use Rattle.stm_state.specs.declared.state.CallState.{CallState}
 use Rattle.stm_state.specs.declared.state.Task.{Task}
 use Rattle.stm_state.specs.declared.state.Task.TheVariants.{Idle}
-use Rattle.stm_state.specs.State.{with_task}
+use Rattle.stm_state.specs.State.{fresh, with_task}
 use Rattle.scheduler.specs.Workers.{WorkerState, counts_of, dones_of, room_of, task_of}
 use Rattle.scheduler.specs.Schedule.{KeepsRooms, Schedule, schedule_of, state_of}
 
@@ -33,19 +33,28 @@ module _ {X : Type 0} (f : WorkerState → X) (workers : List WorkerState) (w : 
   seen_new : (new : WorkerState) (d : X) → w < length workers → get_or (map f (set workers w new)) w d ≡ f new
   seen_new new d l = get_or-map f (set workers w new) w new d (subst (λ n. w < n) (sym (length-set workers w new)) l) ∙ ap f (get_or-set_same workers w new new l)
 
+-- all that the scheduler keeps, where a call of an index is replaced
+pub call_changed : (calls : List CallState) (execution validation : ℕ) (workers : List WorkerState) (s : Schedule) → schedule_of calls execution validation workers ≡ s
+    → (g : CallState → CallState) (at i : ℕ) (old : CallState) → at ≡ i → old ≡ get_or calls at fresh
+    → schedule_of (set calls at (g old)) execution validation workers ≡ record s { calls = set s.calls i (g (get_or s.calls i fresh)) }
+call_changed calls execution validation workers s was g at i old e is =
+    ap (λ (c : CallState). schedule_of (set calls at (g c)) execution validation workers) is
+    ∙ ap (λ (t : Schedule). record t { calls = set t.calls at (g (get_or t.calls at fresh)) }) was
+    ∙ ap (λ (k : ℕ). record s { calls = set s.calls k (g (get_or s.calls k fresh)) }) e
+
 -- all that the scheduler keeps, where worker w was the old one and is the new one
 module _ (calls : List CallState) (execution validation : ℕ) (workers : List WorkerState) (w : ℕ) (s : Schedule) (was : schedule_of calls execution validation workers ≡ s) (l : w < length s.tasks)
     (old new : WorkerState) (is : old ≡ get_or workers w old) where
-  within : w < length workers
-  within = subst (λ n. w < n) (ap (λ (t : Schedule). length t.tasks) (sym was) ∙ length-map workers task_of) l
+  pub worker_within : w < length workers
+  worker_within = subst (λ n. w < n) (ap (λ (t : Schedule). length t.tasks) (sym was) ∙ length-map workers task_of) l
 
   abbrev pub after : Schedule
   after = schedule_of calls execution validation (set workers w new)
 
-  -- its task changes, and its room
-  pub task_changed : (g : Task → Task) (room : ℕ) → new ≡ record old { task = g old.task; room = room } → (v : Versions) (p : ℕ) → state_of v p after ≡ with_task w (g (get_or s.tasks w Idle)) (state_of v p s)
-  task_changed g room e v p =
-      rw (seen_step task_of workers w g old new Idle within is (ap task_of e), seen_same counts_of workers w old new is (ap counts_of e), seen_same dones_of workers w old new is (ap dones_of e)) refl
+  -- its task changes, and its keys and its room
+  pub task_changed : (g : Task → Task) (keys : List (List ℕ)) (room : ℕ) → new ≡ record old { task = g old.task; keys = keys; room = room } → (v : Versions) (p : ℕ) → state_of v p after ≡ with_task w (g (get_or s.tasks w Idle)) (state_of v p s)
+  task_changed g keys room e v p =
+      rw (seen_step task_of workers w g old new Idle worker_within is (ap task_of e), seen_same counts_of workers w old new is (ap counts_of e), seen_same dones_of workers w old new is (ap dones_of e)) refl
       ∙ ap (λ (t : Schedule). with_task w (g (get_or t.tasks w Idle)) (state_of v p t)) was
 
   -- its room alone changes
@@ -63,19 +72,19 @@ module _ (calls : List CallState) (execution validation : ℕ) (workers : List W
   -- it is told alone how often all is done
   pub dones_changed : (g : ℕ → ℕ) → new ≡ record old { dones = g old.dones } → after ≡ record s { dones = set s.dones w (g (get_or s.dones w 0)) }
   dones_changed g e =
-      rw (seen_same task_of workers w old new is (ap task_of e), seen_same counts_of workers w old new is (ap counts_of e), seen_step dones_of workers w g old new 0 within is (ap dones_of e), seen_same room_of workers w old new is (ap room_of e)) refl
+      rw (seen_same task_of workers w old new is (ap task_of e), seen_same counts_of workers w old new is (ap counts_of e), seen_step dones_of workers w g old new 0 worker_within is (ap dones_of e), seen_same room_of workers w old new is (ap room_of e)) refl
       ∙ ap (λ (t : Schedule). record t { dones = set t.dones w (g (get_or t.dones w 0)) }) was
 
   -- its task before
   pub task_before : get_or s.tasks w Idle ≡ old.task
-  task_before = ap (λ (t : Schedule). get_or t.tasks w Idle) (sym was) ∙ seen_at task_of workers w old Idle within is
+  task_before = ap (λ (t : Schedule). get_or t.tasks w Idle) (sym was) ∙ seen_at task_of workers w old Idle worker_within is
 
   -- the rooms
   pub rooms_kept : KeepsRooms w s.rooms after.rooms
   rooms_kept u ne = ap (λ rooms. get_or rooms u 0) (map-set room_of workers w new) ∙ get_or-set_other (map room_of workers) w u new.room 0 ne ∙ ap (λ (t : Schedule). get_or t.rooms u 0) was
 
   pub room_before : get_or s.rooms w 0 ≡ old.room
-  room_before = ap (λ (t : Schedule). get_or t.rooms w 0) (sym was) ∙ seen_at room_of workers w old 0 within is
+  room_before = ap (λ (t : Schedule). get_or t.rooms w 0) (sym was) ∙ seen_at room_of workers w old 0 worker_within is
 
   pub room_after : get_or after.rooms w 0 ≡ new.room
-  room_after = seen_new room_of workers w new 0 within
+  room_after = seen_new room_of workers w new 0 worker_within

@@ -1,4 +1,4 @@
-pub mod Parts
 pub mod Workers
 pub mod Awaited
+pub mod Written
 pub mod Schedule

@@ -8,7 +8,7 @@ use Rattle.stm_state.specs.State.{State, no_counts}
 use Rattle.scheduler.specs.Workers.{WorkerState, counts_of, dones_of, room_of, task_of}
 use Rattle.scheduler.specs.declared.counting.TheConstants.{COUNT_LIMIT}
 
--- a state without its versions; and for how many more answers each worker's run has room
+-- a state without its versions; and the number of further answers that each worker's run has room for
 pub record Schedule : Type 0 where
   pub calls : List CallState
   pub execution : ℕ
@@ -18,7 +18,7 @@ pub record Schedule : Type 0 where
   pub dones : List ℕ
   pub rooms : List ℕ
 
--- that of these calls, indices and workers
+-- what the scheduler keeps, from its calls, indices and workers
 abbrev pub schedule_of : List CallState → ℕ → ℕ → List WorkerState → Schedule
 schedule_of calls execution validation workers = record {
   calls = calls;
@@ -30,7 +30,7 @@ schedule_of calls execution validation workers = record {
   rooms = map room_of workers;
 }
 
--- the state that it is with these versions, so many of which were placed
+-- the state that it is with these versions and this number of placed records
 abbrev pub state_of : Versions → ℕ → Schedule → State
 state_of versions placed s = record {
   calls = s.calls;
@@ -43,11 +43,11 @@ state_of versions placed s = record {
   placed = placed;
 }
 
--- for the answers of every other worker there is as much room as before
+-- every other worker has as much room for answers as before
 abbrev pub KeepsRooms : ℕ → List ℕ → List ℕ → Type 0
 KeepsRooms w old new = (u : ℕ) → u ≢ w → get_or new u 0 ≡ get_or old u 0
 
--- a worker's counts may grow by one: each is below the greatest number that is kept
+-- each count of a worker may grow by one: it is below the greatest value of a count
 pub record MayCount (worker : ℕ) (s : Schedule) : Type 0 where
   pub within : worker < length s.tasks
   pub steps : (get_or s.counts worker no_counts).steps < COUNT_LIMIT

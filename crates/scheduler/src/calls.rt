@@ -1,8 +1,8 @@
 //! What the scheduler does to a call, and to all calls.
 
-ghost use Rattle.std.specs.Prelude.{◌≡◌, ◌≤◌, ◌<◌, ◌+◌, ℕ, [], Some, None, IfOk, false, true, if◌then◌else◌, length, map, min, set, get_or, replicate};
+ghost use Rattle.std.specs.Prelude.{◌≡◌, ◌≤◌, ◌<◌, ◌+◌, ℕ, [], Some, None, IfOk, false, true, if◌then◌else◌, length, map, min, get_or, replicate, vec_items};
 ghost use Rattle.stm_state.specs.State.{fresh, is_executed, is_ready};
-ghost use Rattle.stm_state.specs.Steps.{has_new_key, is_executed_at, is_parked_on, lowered, next_incarnation, resume_if_parked, reads_of, wrote};
+ghost use Rattle.stm_state.specs.Steps.{has_new_key, is_executed_at, is_parked_on, lowered, next_incarnation, resume_if_parked, reads_of, written_by, wrote};
 ghost use Rattle.stm_state.specs.declared.state.Status.TheVariants as status;
 ghost use Rattle.scheduler.specs.declared.worker.TaskKind.TheVariants as task_kind;
 
@@ -18,7 +18,7 @@ pub const LAST_INCARNATION: u16 = 65_534;
 /// The incarnation at which no run is recorded, and from which a call is not readied again.
 pub const INCARNATION_LIMIT: u16 = 65_535;
 
-/// This many calls at the start; refused where memory ran out.
+/// `count` calls as they are at the start: READY at incarnation 0. Refused where memory ran out.
 pub(crate) fn fresh_calls(alloc: Global, count: usize) -> Result<Vec<CallState>, AllocError>
     ensures { IfOk result (λ calls. calls.items ≡ replicate count fresh) }
 {
@@ -34,7 +34,7 @@ pub(crate) fn fresh_calls(alloc: Global, count: usize) -> Result<Vec<CallState>,
     Ok(calls)
 }
 
-/// Of this many calls, that no other is parked on any; refused where memory ran out.
+/// A flag for each of `count` calls, which says that no call is parked on it. Refused where memory ran out.
 pub(crate) fn none_awaited(alloc: Global, count: usize) -> Result<Vec<bool>, AllocError>
     ensures { IfOk result (λ awaited. awaited.items ≡ replicate count false) }
 {
@@ -45,7 +45,18 @@ pub(crate) fn none_awaited(alloc: Global, count: usize) -> Result<Vec<bool>, All
     Ok(awaited)
 }
 
-/// Readies a call.
+/// An empty slot for the keys of each of `count` calls. Refused where memory ran out.
+pub(crate) fn empty_slots(alloc: Global, count: usize) -> Result<Vec<Vec<Key>>, AllocError>
+    ensures { IfOk result (λ slots. map vec_items slots.items ≡ replicate count []) }
+{
+    let mut slots = Vec::with_capacity(alloc, count)?;
+    for _ in 0..count {
+        slots.push(Vec::new(alloc))?;
+    }
+    Ok(slots)
+}
+
+/// Readies a call: it is READY at the next incarnation, and not parked.
 pub(crate) fn make_ready(call: &mut CallState)
     requires { call.old.incarnation < INCARNATION_LIMIT }
     ensures { call.new ≡ next_incarnation call.old }
@@ -55,8 +66,8 @@ pub(crate) fn make_ready(call: &mut CallState)
     call.parked = None;
 }
 
-/// Readies all calls that are parked on a call, and lowers an execution index to the least of them.
-/// Tells whether any call names that one still, as none does that was parked on it.
+/// Readies all calls that are parked on the call `on`, and lowers an execution index to the least of
+/// them. Returns whether any call still names `on` as the one that it is parked on.
 pub(crate) fn resume_parked(calls: &mut Vec<CallState>, on: u16, execution: &mut u16) -> bool
     requires count { length calls.old.items ≤ CALL_LIMIT }
     requires incarnations { (i : ℕ) → (get_or calls.old.items i fresh).status ≡ status.Aborting → (get_or calls.old.items i fresh).incarnation ≤ LAST_INCARNATION }
@@ -75,7 +86,8 @@ pub(crate) fn resume_parked(calls: &mut Vec<CallState>, on: u16, execution: &mut
     named
 }
 
-/// Readies a call of a number if it is parked on a call, and lowers an execution index to it then.
+/// Readies the call of index `number` if it is parked on the call `on`, and then lowers an execution index
+/// to it.
 fn resume_if_parked(call: &mut CallState, number: u16, on: u16, execution: &mut u16)
     requires { call.old.status ≡ status.Aborting → call.old.incarnation ≤ LAST_INCARNATION }
     ensures call { call.new ≡ resume_if_parked on call.old }
@@ -87,14 +99,14 @@ fn resume_if_parked(call: &mut CallState, number: u16, on: u16, execution: &mut 
     }
 }
 
-/// Whether a call names a call as the one that it is parked on, be it ABORTING or not.
+/// Whether a call names the call `on` as the one that it is parked on, be it ABORTING or not.
 fn is_named(call: &CallState, on: u16) -> bool
     ensures { call.now.parked ≡ Some on → result ≡ true }
 {
     call.parked == Some(on)
 }
 
-/// Whether a call is parked on a call.
+/// Whether a call is ABORTING and parked on the call `on`.
 fn is_parked_on(call: &CallState, on: u16) -> bool
     ensures { result ≡ is_parked_on on call.now }
 {
@@ -116,7 +128,7 @@ pub(crate) fn is_executed(call: &CallState) -> bool
 }
 
 /// Whether a call is EXECUTED at an incarnation.
-pub fn is_executed_at(call: &CallState, incarnation: u16) -> bool
+pub(crate) fn is_executed_at(call: &CallState, incarnation: u16) -> bool
     ensures { result ≡ is_executed_at incarnation call.now }
 {
     is_executed(call) && call.incarnation == incarnation
@@ -124,16 +136,17 @@ pub fn is_executed_at(call: &CallState, incarnation: u16) -> bool
 
 /// The task to check all reads of a call's last run.
 pub(crate) fn validation_of(call: &CallState, index: u16) -> TaskKind
-    ensures { result ≡ task_kind.Validating index call.now.incarnation (length (reads_of call.now.last)) }
+    ensures { result ≡ task_kind.Validating index call.now.incarnation (length (reads_of call.now.last)) false }
 {
     TaskKind::Validating {
         call: index,
         incarnation: call.incarnation,
         left: reads(&call.last),
+        failed: false,
     }
 }
 
-/// How many reads a run made; none where there is none.
+/// The number of reads of a run; 0 where there is no run.
 fn reads(last: &Option<Recorded>) -> usize
     ensures { result ≡ length (reads_of last.now) }
 {
@@ -143,7 +156,17 @@ fn reads(last: &Option<Recorded>) -> usize
     }
 }
 
-/// Whether writes have a key that the last recorded run did not write.
+/// The number of keys that a run wrote; 0 where there is no run.
+pub(crate) fn written(last: &Option<Recorded>) -> usize
+    ensures { result ≡ length (written_by last.now) }
+{
+    match last {
+        Some(run) => run.receipt.writes.iter().len(),
+        None => 0,
+    }
+}
+
+/// Whether some of the written keys is one that the last recorded run did not write.
 pub(crate) fn has_new_key(last: &Option<Recorded>, writes: &Writes) -> bool
     ensures { result ≡ has_new_key last.now writes.now }
 {
@@ -155,7 +178,7 @@ pub(crate) fn has_new_key(last: &Option<Recorded>, writes: &Writes) -> bool
     false
 }
 
-/// Whether a run wrote a key; no key where there is no run.
+/// Whether a run wrote a key; false where there is no run.
 fn wrote(last: &Option<Recorded>, key: &Key) -> bool
     ensures { result ≡ wrote last.now key.now }
 {

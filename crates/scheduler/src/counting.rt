@@ -6,25 +6,13 @@ ghost use Rattle.stm_state.specs.Steps.{one_asking, one_execution, one_step, one
 use crate::scheduler::Scheduler;
 use rv_ledger::Counts;
 
-/// The greatest number that a count may have.
+/// The greatest value of a count.
 pub const COUNT_LIMIT: u64 = u64::MAX;
 
 impl Scheduler {
-    ghost use Rattle.std.specs.Prelude.{set, get_or, if◌then◌else◌};
+    ghost use Rattle.std.specs.Prelude.{set, get_or};
     ghost use Rattle.stm_state.specs.State.{no_counts};
     ghost use Rattle.scheduler.specs.Schedule.{MayCount};
-
-    /// Counts the end of a worker's validation: a decision, or a step alone.
-    pub(crate) fn count_decision(&mut self, worker: usize, decided: bool)
-        requires { MayCount worker self.old }
-        ensures { self.new ≡ record self.old { counts = set self.old.counts worker ((if decided then one_validation else one_step) (get_or self.old.counts worker no_counts)) } }
-    {
-        if decided {
-            self.count_validation(worker);
-        } else {
-            self.count_step(worker);
-        }
-    }
 
     /// Counts a step of a worker.
     pub(crate) fn count_step(&mut self, worker: usize)
@@ -35,7 +23,7 @@ impl Scheduler {
         self.put_counts(worker, one_step(counts));
     }
 
-    /// Counts a worker's asking for work.
+    /// Counts an asking of a worker for work, and its step.
     pub(crate) fn count_asking(&mut self, worker: usize)
         requires { MayCount worker self.old }
         ensures { self.new ≡ record self.old { counts = set self.old.counts worker (one_asking (get_or self.old.counts worker no_counts)) } }
@@ -44,7 +32,7 @@ impl Scheduler {
         self.put_counts(worker, one_asking(counts));
     }
 
-    /// Counts a worker's run that was accepted.
+    /// Counts a run of a worker that is recorded, and its step.
     pub(crate) fn count_execution(&mut self, worker: usize)
         requires { MayCount worker self.old }
         ensures { self.new ≡ record self.old { counts = set self.old.counts worker (one_execution (get_or self.old.counts worker no_counts)) } }
@@ -53,7 +41,7 @@ impl Scheduler {
         self.put_counts(worker, one_execution(counts));
     }
 
-    /// Counts a worker's validation that came to a decision.
+    /// Counts a validation of a worker that is decided, and its step.
     pub(crate) fn count_validation(&mut self, worker: usize)
         requires { MayCount worker self.old }
         ensures { self.new ≡ record self.old { counts = set self.old.counts worker (one_validation (get_or self.old.counts worker no_counts)) } }
@@ -74,7 +62,7 @@ fn one_step(counts: Counts) -> Counts
     }
 }
 
-/// One more asking for work.
+/// One more asking for work, and one more step.
 fn one_asking(counts: Counts) -> Counts
     requires steps { counts.steps < COUNT_LIMIT }
     requires asks { counts.asks < COUNT_LIMIT }
@@ -87,7 +75,7 @@ fn one_asking(counts: Counts) -> Counts
     }
 }
 
-/// One more run that was accepted.
+/// One more recorded run, and one more step.
 fn one_execution(counts: Counts) -> Counts
     requires steps { counts.steps < COUNT_LIMIT }
     requires executions { counts.executions < COUNT_LIMIT }
@@ -100,7 +88,7 @@ fn one_execution(counts: Counts) -> Counts
     }
 }
 
-/// One more validation that came to a decision.
+/// One more decided validation, and one more step.
 fn one_validation(counts: Counts) -> Counts
     requires steps { counts.steps < COUNT_LIMIT }
     requires validations { counts.validations < COUNT_LIMIT }

@@ -1,7 +1,8 @@
-//! The scheduler of a block's run (Block-STM): how far each call is, the execution and the validation
-//! index, and each worker's task. It takes no memory after it is made, but for a run's answers.
+//! The scheduler of a block's run (Block-STM): how far each call is, the execution index, the validation
+//! index, and each worker's task. Once it is made, it takes memory only for the answers of runs.
 #![tactic(auto)]
 
+pub mod asking;
 pub mod calls;
 pub mod counting;
 pub mod moving;
@@ -9,7 +10,7 @@ pub mod scheduler;
 pub mod validating;
 pub mod worker;
 
-pub use calls::{INCARNATION_LIMIT, LAST_INCARNATION, is_executed_at};
+pub use calls::{INCARNATION_LIMIT, LAST_INCARNATION};
 pub use counting::COUNT_LIMIT;
 pub use scheduler::Scheduler;
 pub use worker::TaskKind;

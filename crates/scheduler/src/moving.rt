@@ -1,11 +1,12 @@
-//! The scheduler's calls for a run that is handed in: it is kept, its keys are moved, and its call is EXECUTED.
+//! The scheduler's calls for a run that is handed in: the run is kept, its keys are moved, and then its
+//! call is EXECUTED.
 
 use crate::calls;
 use crate::calls::LAST_INCARNATION;
 use crate::scheduler::Scheduler;
 use crate::worker::TaskKind;
 use rv_ledger::Key;
-use stm_state::{Recorded, Status};
+use stm_state::Recorded;
 
 impl Scheduler {
     ghost use Rattle.std.specs.Prelude.{◌≡◌, ◌≤◌, ◌<◌, ◌+◌, ◌∷◌, ℕ, [], Bool, List, map, get_or, length};
@@ -17,13 +18,15 @@ impl Scheduler {
     ghost use Rattle.stm_state.specs.declared.state.Status.TheVariants as Status;
     ghost use Rattle.stm_state.specs.declared.state.Task.TheVariants as Task;
     ghost use Rattle.scheduler.specs.Schedule.{KeepsRooms, MayCount, state_of};
-    ghost use Rattle.scheduler.specs.Workers.{HasKeyToMove, task_with};
+    ghost use Rattle.scheduler.specs.Workers.{HasKeyLeft, HasNoKeys, NobodyMoves, task_with};
 
-    /// Keeps the run of a call that a worker hands in, and gives the worker the run's keys to move: those that
-    /// it wrote, then those that only the call's run before it wrote. Takes no memory.
+    /// Keeps the run of a call that a worker hands in, and gives the worker its keys to move: those that the
+    /// run wrote, then those that only the call's run before it wrote. Takes no memory.
     pub fn keep_run(&mut self, worker: usize, call: u16, run: Recorded, keys: Vec<Key>)
         requires counts { MayCount worker self.old }
         requires within { call < length self.old.calls }
+        requires executing { (get_or self.old.calls call fresh).status ≡ Status.Executing }
+        requires nobody { NobodyMoves call self.old.tasks }
         requires keys { keys.items ≡ keys_to_move (get_or self.old.calls call fresh).last run.receipt.writes }
         ensures state { (answers : List StorageAnswer) → run.reads ≡ map read_of answers → (v : Versions) (p : ℕ) → state_of v (p + len run.receipt.writes) self.new ≡ counted one_execution worker (recorded worker call answers run.receipt (state_of v p self.old)) }
         ensures rooms { KeepsRooms worker self.old.rooms self.new.rooms }
@@ -34,38 +37,43 @@ impl Scheduler {
         self.begin_moving(worker, call, new_key, keys);
     }
 
-    /// Lets a worker go on to the key behind its next one. Takes no memory.
+    /// Drops the next key of a worker, which the worker has moved or marked. Takes no memory.
     pub fn drop_key(&mut self, worker: usize)
         requires counts { MayCount worker self.old }
-        requires moving { HasKeyToMove (get_or self.old.tasks worker Task.Idle) }
-        ensures state { (i : ℕ) (key : List ℕ) (keys : List (List ℕ)) (new : Bool) → get_or self.old.tasks worker Task.Idle ≡ Task.Moving i (key ∷ keys) new → (v : Versions) (p : ℕ) → state_of v p self.new ≡ counted one_step worker (with_task worker (Task.Moving i keys new) (state_of v p self.old)) }
+        requires left { HasKeyLeft (get_or self.old.tasks worker Task.Idle) }
+        ensures moving { (i : ℕ) (key : List ℕ) (keys : List (List ℕ)) (new : Bool) → get_or self.old.tasks worker Task.Idle ≡ Task.Moving i (key ∷ keys) new → (v : Versions) (p : ℕ) → state_of v p self.new ≡ counted one_step worker (with_task worker (Task.Moving i keys new) (state_of v p self.old)) }
+        ensures marking { (i : ℕ) (key : List ℕ) (keys : List (List ℕ)) → get_or self.old.tasks worker Task.Idle ≡ Task.Marking i (key ∷ keys) → (v : Versions) (p : ℕ) → state_of v p self.new ≡ counted one_step worker (with_task worker (Task.Marking i keys) (state_of v p self.old)) }
         ensures rooms { KeepsRooms worker self.old.rooms self.new.rooms }
     {
         self.count_step(worker);
         self.drop_next_key(worker);
     }
 
-    /// Makes a call whose keys a worker has moved EXECUTED, readies all that are parked on it, and settles what
-    /// is validated again (Block-STM, `finish_execution`). Takes no memory.
+    /// Ends the record of a call whose keys a worker has moved (Block-STM, `finish_execution`): the call is
+    /// EXECUTED, all calls that are parked on it are readied, and it is settled what is validated again.
+    /// Takes no memory.
     pub fn finish_execution(&mut self, worker: usize, call: u16, new_key: bool)
         requires counts { MayCount worker self.old }
         requires within { call < length self.old.calls }
+        requires moving { get_or self.old.tasks worker Task.Idle ≡ Task.Moving call [] new_key }
         requires incarnations { (i : ℕ) → (get_or self.old.calls i fresh).status ≡ Status.Aborting → (get_or self.old.calls i fresh).incarnation ≤ LAST_INCARNATION }
         ensures state { (v : Versions) (p : ℕ) → state_of v p self.new ≡ counted one_step worker (executed worker call new_key (state_of v p self.old)) }
         ensures rooms { KeepsRooms worker self.old.rooms self.new.rooms }
     {
         self.count_step(worker);
         let task_kind = calls::validation_of(self.call(call), call);
-        self.set_status(call, Status::Executed);
+        self.end_moving(worker, call);
         self.resume_dependents(call);
         self.to_validate(worker, call, new_key, task_kind);
     }
 
-    /// Settles what is validated again after a run of a call: all from the call on, the call by this
-    /// task, or nothing.
+    /// Settles what is validated again after a run of a call. Where the validation index is past the call:
+    /// all calls from it on if the run wrote a new key, else the call alone, as this worker's task. Where it
+    /// is not: nothing, since the index still comes to the call.
     #[tactic(auto, unfolding(stm_state::specs::Steps::to_validate))]
     fn to_validate(&mut self, worker: usize, call: u16, new_key: bool, task_kind: TaskKind)
-        requires { worker < length self.old.tasks }
+        requires within { worker < length self.old.tasks }
+        requires no_keys { HasNoKeys task_kind }
         ensures state { (v : Versions) (p : ℕ) → state_of v p self.new ≡ to_validate worker call new_key (task_with task_kind [] []) (state_of v p self.old) }
         ensures rooms { KeepsRooms worker self.old.rooms self.new.rooms }
     {

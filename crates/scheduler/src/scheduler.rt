@@ -1,4 +1,4 @@
-//! The scheduler's calls.
+//! The scheduler: what it keeps, what it answers, and its smaller changes.
 
 use crate::calls::{INCARNATION_LIMIT, LAST_INCARNATION};
 use crate::counting::COUNT_LIMIT;
@@ -18,18 +18,21 @@ pub struct Scheduler {
     execution: u16,
     validation: u16,
     workers: Vec<Worker>,
-    /// Of each call, whether another may be parked on it; where not, none is.
+    /// For each call, whether another may be parked on it. Where this is false, none is.
     awaited: Vec<bool>,
+    /// For each call a slot for keys; that of an EXECUTED call has the keys that its run wrote.
+    written: Vec<Vec<Key>>,
 }
 
 impl Model for Scheduler {
-    ghost use Rattle.std.specs.Prelude.{◌≤◌, length};
+    ghost use Rattle.std.specs.Prelude.{◌≤◌, length, map, vec_items};
     ghost use Rattle.std.specs.Coded.{codes};
     ghost use Rattle.rv_ledger.specs.declared.job.TheConstants.{CALL_LIMIT};
     ghost use Rattle.stm_state.specs.contracts.state.CallState.{the_row as call_row};
     ghost use Rattle.stm_state.specs.contracts.state.Task.{the_row as task_row};
     ghost use Rattle.scheduler.specs.Awaited.{IsAwaited};
     ghost use Rattle.scheduler.specs.Schedule.{Schedule, schedule_of};
+    ghost use Rattle.scheduler.specs.Written.{HasWrittenKeys};
 
     ghost Value = { Schedule };
 
@@ -37,24 +40,25 @@ impl Model for Scheduler {
 
     ghost view = { λ s. schedule_of s.calls.items s.execution s.validation s.workers.items };
 
-    ghost invariant = { λ s. (length s.calls.items ≤ CALL_LIMIT) × IsAwaited s.calls.items s.awaited.items };
+    ghost invariant = { λ s. (length s.calls.items ≤ CALL_LIMIT) × IsAwaited s.calls.items s.awaited.items × HasWrittenKeys s.calls.items (map vec_items s.written.items) s.workers.items };
 }
 
 impl Scheduler {
-    ghost use Rattle.std.specs.Prelude.{◌≡◌, ◌≤◌, ◌<◌, ◌+◌, ◌∷◌, ℕ, [], Bool, List, Option, Some, None, IfOk, OnErr, OnOk, Ok, nat_lt, min, map, set, get_or, length, slice_get, ◌==◌, ◌&&◌};
+    ghost use Rattle.std.specs.Prelude.{◌≡◌, ◌≢◌, ◌≤◌, ◌<◌, ◌+◌, ◌∷◌, ℕ, [], Bool, List, Option, Some, None, IfOk, OnErr, OnOk, Ok, nat_lt, min, map, set, get_or, length, slice_get, ◌==◌, ◌&&◌};
     ghost use Rattle.std.specs.List.{list_all};
     ghost use Rattle.std.specs.Option.{option_copied};
     ghost use Rattle.mvmap.specs.Versions.{Versions};
     ghost use Rattle.rv_step.specs.declared.answer.StorageAnswer.{StorageAnswer};
-    ghost use Rattle.stm_state.specs.State.{fresh, is_done, is_idle, no_counts, start, with_task};
-    ghost use Rattle.stm_state.specs.Steps.{ask_execution, ask_validation, asked, counted, lowered, one_asking, one_step, parked, next_incarnation, resume_if_parked};
+    ghost use Rattle.stm_state.specs.State.{fresh, is_done, is_idle, no_counts, start, with_call, with_task};
+    ghost use Rattle.stm_state.specs.Steps.{counted, keys_of, lowered, one_step, parked, next_incarnation, resume_if_parked, written_by};
     ghost use Rattle.stm_state.specs.declared.state.Status.TheVariants as Status;
     ghost use Rattle.stm_state.specs.declared.state.Task.TheVariants as Task;
     ghost use Rattle.scheduler.specs.Schedule.{KeepsRooms, MayCount, state_of};
-    ghost use Rattle.scheduler.specs.Workers.{HasKeyToMove, IsTaskKindOf, IsRunning, answered, blocked_on, task_with};
+    ghost use Rattle.scheduler.specs.Workers.{HasKeyLeft, HasNoKeys, IsTaskKindOf, IsRunning, NobodyMoves, answered, blocked_on, failed_check, task_with};
+    ghost use Rattle.scheduler.specs.Written.{BeginWithWritten};
 
-    /// The scheduler of this many calls at the start, each READY at incarnation 0, and of this many
-    /// workers without a task. Refused where memory ran out.
+    /// The scheduler of `calls` calls, each READY at incarnation 0, and of `workers` workers without a task.
+    /// Both indices are 0. Refused where memory ran out.
     pub fn new(alloc: Global, calls: usize, workers: usize) -> Result<Scheduler, AllocError>
         requires { calls ≤ CALL_LIMIT }
         ensures { IfOk result (λ s. (v : Versions) (p : ℕ) → state_of v p s ≡ record (start calls workers) { versions = v; placed = p }) }
@@ -65,28 +69,12 @@ impl Scheduler {
             validation: 0,
             workers: worker::idle_workers(alloc, workers)?,
             awaited: calls::none_awaited(alloc, calls)?,
+            written: calls::empty_slots(alloc, calls)?,
         })
     }
 
-    /// Gives a worker without a task work, or tells it that all is done (Block-STM, `next_task`).
-    pub fn ask(&mut self, worker: usize)
-        requires counts { MayCount worker self.old }
-        requires idle { get_or self.old.tasks worker Task.Idle ≡ Task.Idle }
-        requires execution { self.old.execution ≤ length self.old.calls }
-        ensures state { (v : Versions) (p : ℕ) → state_of v p self.new ≡ counted one_asking worker (asked worker (state_of v p self.old)) }
-        ensures rooms { KeepsRooms worker self.old.rooms self.new.rooms }
-    {
-        self.count_asking(worker);
-        if self.done() {
-            self.count_done(worker);
-        } else if self.is_validation_behind() {
-            self.ask_validation(worker);
-        } else if self.is_execution_behind() {
-            self.ask_execution(worker);
-        }
-    }
-
-    /// Makes room for one more answer to a worker's run; refused where memory ran out. No step.
+    /// Makes room for one more answer to a worker's run. This is not a step. Refused where memory ran out,
+    /// and then nothing changes.
     pub fn room_for_read(&mut self, worker: usize) -> Result<(), AllocError>
         requires { worker < length self.old.tasks }
         ensures room { OnOk result (1 ≤ get_or self.new.rooms worker 0) }
@@ -99,7 +87,7 @@ impl Scheduler {
         self.workers[worker].reserve()
     }
 
-    /// Keeps an answer to a worker's run, in room that was made. Takes no memory.
+    /// Adds an answer to those of a worker's run, in room that was made. Takes no memory.
     pub fn answer(&mut self, worker: usize, answer: StorageAnswer)
         requires counts { MayCount worker self.old }
         requires room { 1 ≤ get_or self.old.rooms worker 0 }
@@ -120,8 +108,8 @@ impl Scheduler {
         self.set_blocked(worker, on);
     }
 
-    /// Parks a blocked run's call `call` on the call `on`; where that one is EXECUTED meanwhile, the
-    /// run starts again without answers (Block-STM, `add_dependency`). Takes no memory.
+    /// Parks `call`, whose run is blocked, on the call `on`, and ends the worker's task. If `on` is EXECUTED
+    /// by now, the run starts again without answers instead (Block-STM, `add_dependency`). Takes no memory.
     pub fn add_dependency(&mut self, worker: usize, call: u16, on: u16)
         requires counts { MayCount worker self.old }
         requires within { (call < length self.old.calls) × (on < length self.old.calls) }
@@ -137,7 +125,7 @@ impl Scheduler {
         }
     }
 
-    /// Whether nobody has a task and both indices are past the last call. Takes no memory.
+    /// Whether all is done: no worker has a task, and both indices are past the last call. Takes no memory.
     #[tactic(auto, unfolding(stm_state::specs::State::is_done))]
     pub fn done(&self) -> bool
         ensures { (v : Versions) (p : ℕ) → result ≡ is_done (state_of v p self.now) }
@@ -145,7 +133,7 @@ impl Scheduler {
         self.is_all_executed() && self.is_all_validated()
     }
 
-    /// What a worker is about, beside the answers of its run.
+    /// What a worker is doing, without the answers and the keys of its task.
     pub fn task_kind(&self, worker: usize) -> TaskKind
         requires { worker < length self.now.tasks }
         ensures { IsTaskKindOf result (get_or self.now.tasks worker Task.Idle) }
@@ -162,15 +150,16 @@ impl Scheduler {
         self.workers[worker].answers()
     }
 
-    /// The next key that a worker is to move; None where it has moved all.
+    /// The next key that a worker is to move or to mark; None where no key is left.
     pub fn next_key(&self, worker: usize) -> Option<&Key>
         requires { worker < length self.now.tasks }
-        ensures { (i : ℕ) (keys : List (List ℕ)) (new : Bool) → get_or self.now.tasks worker Task.Idle ≡ Task.Moving i keys new → option_copied result ≡ slice_get keys 0 }
+        ensures moving { (i : ℕ) (keys : List (List ℕ)) (new : Bool) → get_or self.now.tasks worker Task.Idle ≡ Task.Moving i keys new → option_copied result ≡ slice_get keys 0 }
+        ensures marking { (i : ℕ) (keys : List (List ℕ)) → get_or self.now.tasks worker Task.Idle ≡ Task.Marking i keys → option_copied result ≡ slice_get keys 0 }
     {
         self.workers[worker].next_key()
     }
 
-    /// What is kept of the call of an index.
+    /// What the scheduler keeps of the call of an index.
     pub fn call(&self, index: u16) -> &CallState
         requires { index < length self.now.calls }
         ensures { result.now ≡ get_or self.now.calls index fresh }
@@ -185,7 +174,7 @@ impl Scheduler {
         self.calls.as_slice()
     }
 
-    /// How many workers there are.
+    /// The number of workers.
     pub fn workers(&self) -> usize
         ensures { result ≡ length self.now.tasks }
     {
@@ -200,7 +189,7 @@ impl Scheduler {
         self.workers[worker].counts()
     }
 
-    /// How often a worker was told that all is done.
+    /// The number of a worker's askings that were answered Done.
     pub fn dones(&self, worker: usize) -> u64
         requires { worker < length self.now.tasks }
         ensures { result ≡ get_or self.now.dones worker 0 }
@@ -215,7 +204,7 @@ impl Scheduler {
         usize::from(self.execution) == self.calls.len()
     }
 
-    /// Whether the validation index is past the last call, and nobody has a task.
+    /// Whether the validation index is past the last call, and no worker has a task.
     fn is_all_validated(&self) -> bool
         ensures { result ≡ (self.now.validation == length self.now.calls && list_all is_idle self.now.tasks) }
     {
@@ -223,14 +212,14 @@ impl Scheduler {
     }
 
     /// Whether the validation index is behind the execution index.
-    fn is_validation_behind(&self) -> bool
+    pub(crate) fn is_validation_behind(&self) -> bool
         ensures { result ≡ nat_lt self.now.validation self.now.execution }
     {
         self.validation < self.execution
     }
 
     /// Whether the execution index is not past the last call.
-    fn is_execution_behind(&self) -> bool
+    pub(crate) fn is_execution_behind(&self) -> bool
         ensures { result ≡ nat_lt self.now.execution (length self.now.calls) }
     {
         usize::from(self.execution) < self.calls.len()
@@ -243,39 +232,8 @@ impl Scheduler {
         call < self.execution
     }
 
-    /// Lets the validation index go on; its call is validated if it is EXECUTED.
-    #[tactic(auto, unfolding(stm_state::specs::Steps::ask_validation))]
-    fn ask_validation(&mut self, worker: usize)
-        requires idle { worker < length self.old.tasks }
-        requires behind { self.old.validation < self.old.execution }
-        requires within { self.old.execution ≤ length self.old.calls }
-        ensures state { (v : Versions) (p : ℕ) → state_of v p self.new ≡ ask_validation worker (state_of v p self.old) }
-        ensures rooms { KeepsRooms worker self.old.rooms self.new.rooms }
-    {
-        let index = self.next_validation();
-        if calls::is_executed(self.call(index)) {
-            let task_kind = calls::validation_of(self.call(index), index);
-            self.begin(worker, task_kind);
-        }
-    }
-
-    /// Lets the execution index go on; its call is run if it is READY.
-    #[tactic(auto, unfolding(stm_state::specs::Steps::ask_execution))]
-    fn ask_execution(&mut self, worker: usize)
-        requires idle { worker < length self.old.tasks }
-        requires behind { self.old.execution < length self.old.calls }
-        ensures state { (v : Versions) (p : ℕ) → state_of v p self.new ≡ ask_execution worker (state_of v p self.old) }
-        ensures rooms { KeepsRooms worker self.old.rooms self.new.rooms }
-    {
-        let index = self.next_execution();
-        if calls::is_ready(self.call(index)) {
-            self.set_status(index, Status::Executing);
-            self.run_again(worker, index);
-        }
-    }
-
-    /// The validation index, which goes on.
-    fn next_validation(&mut self) -> u16
+    /// Moves the validation index on by one, and returns where it was.
+    pub(crate) fn next_validation(&mut self) -> u16
         requires { self.old.validation < self.old.execution }
         ensures index { result ≡ self.old.validation }
         ensures state { self.new ≡ record self.old { validation = self.old.validation + 1 } }
@@ -285,8 +243,8 @@ impl Scheduler {
         index
     }
 
-    /// The execution index, which goes on.
-    fn next_execution(&mut self) -> u16
+    /// Moves the execution index on by one, and returns where it was.
+    pub(crate) fn next_execution(&mut self) -> u16
         requires { self.old.execution < length self.old.calls }
         ensures index { result ≡ self.old.execution }
         ensures state { self.new ≡ record self.old { execution = self.old.execution + 1 } }
@@ -303,12 +261,12 @@ impl Scheduler {
         self.validation = to;
     }
 
-    /// Lowers the validation index to the call behind a call.
+    /// Lowers the validation index to the call after this one.
     pub(crate) fn lower_validation(&mut self, call: u16)
         requires { call < length self.old.calls }
         ensures { self.new ≡ record self.old { validation = min self.old.validation (call + 1) } }
     {
-        // There are at most 1,024 calls.
+        // There are at most 1,024 calls, so `call + 1` does not overflow.
         let _ = &self.calls;
         self.validation = self.validation.min(call + 1);
     }
@@ -320,15 +278,16 @@ impl Scheduler {
         call < self.validation
     }
 
-    /// Sets how far a call is.
+    /// Sets the status of a call, to one other than EXECUTED.
     pub(crate) fn set_status(&mut self, call: u16, status: Status)
-        requires { call < length self.old.calls }
+        requires within { call < length self.old.calls }
+        requires status { status ≢ Status.Executed }
         ensures { self.new ≡ record self.old { calls = set self.old.calls call (record (get_or self.old.calls call fresh) { status = status }) } }
     {
         self.calls[usize::from(call)].status = status;
     }
 
-    /// Parks a call on another.
+    /// Parks a call on the call `on`: it is ABORTING.
     fn park(&mut self, call: u16, on: u16)
         requires within { call < length self.old.calls }
         requires on { on < length self.old.calls }
@@ -340,9 +299,11 @@ impl Scheduler {
         parked.parked = Some(on);
     }
 
-    /// Keeps the run of a call; its status stays.
+    /// Keeps the run of a call as its last one; the call's status stays.
     pub(crate) fn keep(&mut self, call: u16, run: Recorded)
-        requires { call < length self.old.calls }
+        requires within { call < length self.old.calls }
+        requires executing { (get_or self.old.calls call fresh).status ≡ Status.Executing }
+        requires nobody { NobodyMoves call self.old.tasks }
         ensures { self.new ≡ record self.old { calls = set self.old.calls call (record (get_or self.old.calls call fresh) { last = Some run }) } }
     {
         self.calls[usize::from(call)].last = Some(run);
@@ -357,7 +318,7 @@ impl Scheduler {
         calls::make_ready(&mut self.calls[usize::from(call)]);
     }
 
-    /// Readies a call, and runs it at once.
+    /// Readies a call and makes it EXECUTING at once.
     pub(crate) fn restart(&mut self, call: u16)
         requires within { call < length self.old.calls }
         requires incarnation { (get_or self.old.calls call fresh).incarnation < INCARNATION_LIMIT }
@@ -368,8 +329,8 @@ impl Scheduler {
         restarted.status = Status::Executing;
     }
 
-    /// Readies all calls that are parked on a call, and lowers the execution index to the least. Looks
-    /// at no call where none is parked on it.
+    /// Readies all calls that are parked on the call `on`, and lowers the execution index to the least of
+    /// them. It goes through the calls only where one may be parked on `on`.
     pub(crate) fn resume_dependents(&mut self, on: u16)
         requires within { on < length self.old.calls }
         requires incarnations { (i : ℕ) → (get_or self.old.calls i fresh).status ≡ Status.Aborting → (get_or self.old.calls i fresh).incarnation ≤ LAST_INCARNATION }
@@ -381,35 +342,66 @@ impl Scheduler {
         }
     }
 
-    /// Gives a worker a task, and no answers.
+    /// Gives a worker a task without answers and keys.
     pub(crate) fn begin(&mut self, worker: usize, task_kind: TaskKind)
-        requires { worker < length self.old.tasks }
+        requires within { worker < length self.old.tasks }
+        requires no_keys { HasNoKeys task_kind }
         ensures state { (v : Versions) (p : ℕ) → state_of v p self.new ≡ with_task worker (task_with task_kind [] []) (state_of v p self.old) }
         ensures rooms { KeepsRooms worker self.old.rooms self.new.rooms }
     {
         self.workers[worker].begin(task_kind);
     }
 
-    /// Gives a worker the keys of a call's run to move, and no answers.
+    /// Gives a worker the keys of a call's run to move, and drops its answers.
     pub(crate) fn begin_moving(&mut self, worker: usize, call: u16, new_key: bool, keys: Vec<Key>)
-        requires { worker < length self.old.tasks }
+        requires within { worker < length self.old.tasks }
+        requires written { BeginWithWritten (get_or self.old.calls call fresh) keys.items }
         ensures state { (v : Versions) (p : ℕ) → state_of v p self.new ≡ with_task worker (Task.Moving call keys.items new_key) (state_of v p self.old) }
         ensures rooms { KeepsRooms worker self.old.rooms self.new.rooms }
     {
         self.workers[worker].begin_moving(call, new_key, keys);
     }
 
-    /// Lets a worker go on to the key behind its next one.
+    /// Drops the next key of a worker.
     pub(crate) fn drop_next_key(&mut self, worker: usize)
         requires within { worker < length self.old.tasks }
-        requires moving { HasKeyToMove (get_or self.old.tasks worker Task.Idle) }
-        ensures state { (i : ℕ) (key : List ℕ) (keys : List (List ℕ)) (new : Bool) → get_or self.old.tasks worker Task.Idle ≡ Task.Moving i (key ∷ keys) new → (v : Versions) (p : ℕ) → state_of v p self.new ≡ with_task worker (Task.Moving i keys new) (state_of v p self.old) }
+        requires left { HasKeyLeft (get_or self.old.tasks worker Task.Idle) }
+        ensures moving { (i : ℕ) (key : List ℕ) (keys : List (List ℕ)) (new : Bool) → get_or self.old.tasks worker Task.Idle ≡ Task.Moving i (key ∷ keys) new → (v : Versions) (p : ℕ) → state_of v p self.new ≡ with_task worker (Task.Moving i keys new) (state_of v p self.old) }
+        ensures marking { (i : ℕ) (key : List ℕ) (keys : List (List ℕ)) → get_or self.old.tasks worker Task.Idle ≡ Task.Marking i (key ∷ keys) → (v : Versions) (p : ℕ) → state_of v p self.new ≡ with_task worker (Task.Marking i keys) (state_of v p self.old) }
         ensures rooms { KeepsRooms worker self.old.rooms self.new.rooms }
     {
         self.workers[worker].drop_key();
     }
 
-    /// Gives a worker a call to run, without answers.
+    /// Ends a worker's moving of a call's keys: the call is EXECUTED, its slot gets the keys that its run
+    /// wrote, and the worker has no task.
+    pub(crate) fn end_moving(&mut self, worker: usize, call: u16)
+        requires within { (worker < length self.old.tasks) × (call < length self.old.calls) }
+        requires moving { (keys : List (List ℕ)) × (new : Bool) × (get_or self.old.tasks worker Task.Idle ≡ Task.Moving call keys new) }
+        ensures state { (v : Versions) (p : ℕ) → state_of v p self.new ≡ with_task worker Task.Idle (with_call call (record (get_or self.old.calls call fresh) { status = Status.Executed }) (state_of v p self.old)) }
+        ensures rooms { KeepsRooms worker self.old.rooms self.new.rooms }
+    {
+        let index = usize::from(call);
+        let executed = &mut self.calls[index];
+        executed.status = Status::Executed;
+        let count = calls::written(&executed.last);
+        self.workers[worker].hand_over(&mut self.written[index], count);
+    }
+
+    /// Takes an EXECUTED call back: it is ABORTING, and a worker gets the keys that the call's run wrote, to
+    /// mark them.
+    pub(crate) fn begin_abort(&mut self, worker: usize, call: u16)
+        requires within { (worker < length self.old.tasks) × (call < length self.old.calls) }
+        requires executed { (get_or self.old.calls call fresh).status ≡ Status.Executed }
+        ensures state { (v : Versions) (p : ℕ) → state_of v p self.new ≡ with_task worker (Task.Marking call (keys_of (written_by (get_or self.old.calls call fresh).last))) (with_call call (record (get_or self.old.calls call fresh) { status = Status.Aborting }) (state_of v p self.old)) }
+        ensures rooms { KeepsRooms worker self.old.rooms self.new.rooms }
+    {
+        let index = usize::from(call);
+        self.calls[index].status = Status::Aborting;
+        self.workers[worker].begin_marking(call, &mut self.written[index]);
+    }
+
+    /// Gives a worker a call to run from its start, without answers.
     pub(crate) fn run_again(&mut self, worker: usize, call: u16)
         requires { worker < length self.old.tasks }
         ensures state { (v : Versions) (p : ℕ) → state_of v p self.new ≡ with_task worker (Task.Running call [] None) (state_of v p self.old) }
@@ -422,7 +414,7 @@ impl Scheduler {
         self.begin(worker, task_kind);
     }
 
-    /// Keeps one more answer to a worker's run, in room that was made. Takes no memory.
+    /// Adds an answer to those of a worker's run, without counting a step. Takes no memory.
     fn push(&mut self, worker: usize, answer: StorageAnswer)
         requires within { worker < length self.old.tasks }
         requires room { 1 ≤ get_or self.old.rooms worker 0 }
@@ -441,8 +433,17 @@ impl Scheduler {
         self.workers[worker].block(on);
     }
 
-    /// Tells a worker that all is done.
-    fn count_done(&mut self, worker: usize)
+    /// Fails a worker's validation, since a read did not stand.
+    pub(crate) fn fail_check(&mut self, worker: usize)
+        requires { worker < length self.old.tasks }
+        ensures state { (v : Versions) (p : ℕ) → state_of v p self.new ≡ with_task worker (failed_check (get_or self.old.tasks worker Task.Idle)) (state_of v p self.old) }
+        ensures rooms { KeepsRooms worker self.old.rooms self.new.rooms }
+    {
+        self.workers[worker].fail_check();
+    }
+
+    /// Counts one more asking of a worker that was answered Done.
+    pub(crate) fn count_done(&mut self, worker: usize)
         requires within { worker < length self.old.tasks }
         requires below { get_or self.old.dones worker 0 < COUNT_LIMIT }
         ensures { self.new ≡ record self.old { dones = set self.old.dones worker (get_or self.old.dones worker 0 + 1) } }

@@ -1,45 +1,80 @@
-//! The scheduler's calls for the end of a validation: a call is taken back and readied, or it stands.
+//! The scheduler's calls for a validation: a read is checked, the validation is decided, and a call that is
+//! taken back is readied.
 
 use crate::calls;
 use crate::calls::INCARNATION_LIMIT;
 use crate::scheduler::Scheduler;
 use crate::worker::TaskKind;
-use stm_state::Status;
 
 impl Scheduler {
-    ghost use Rattle.std.specs.Prelude.{◌≡◌, ◌<◌, ℕ, get_or, length, if◌then◌else◌};
+    ghost use Rattle.std.specs.Prelude.{◌≡◌, ◌<◌, ◌+◌, ℕ, false, get_or, length};
     ghost use Rattle.mvmap.specs.Versions.{Versions};
-    ghost use Rattle.stm_state.specs.State.{fresh, with_task};
-    ghost use Rattle.stm_state.specs.Steps.{counted, is_executed_at, one_step, one_validation};
+    ghost use Rattle.stm_state.specs.State.{fresh};
+    ghost use Rattle.stm_state.specs.Steps.{aborted, checked, counted, decided, next_stands, one_step, one_validation};
     ghost use Rattle.stm_state.specs.declared.state.Task.TheVariants as Task;
-    ghost use Rattle.scheduler.specs.Parts.{abort_finished, abort_tried};
     ghost use Rattle.scheduler.specs.Schedule.{KeepsRooms, MayCount, state_of};
 
-    /// Takes a call back where it is EXECUTED at this incarnation, and tells so (Block-STM,
-    /// `try_validation_abort`). Takes no memory.
-    pub fn try_abort(&mut self, call: u16, incarnation: u16) -> bool
+    /// Ends a worker's check of the next read of a call that it validates. `stands` says whether the read
+    /// stood, and `left` is the number of reads after it. A read that did not stand fails the validation.
+    /// Where the call is no longer EXECUTED at the incarnation, the worker's task ends. Takes no memory.
+    pub fn finish_check(
+        &mut self,
+        worker: usize,
+        call: u16,
+        incarnation: u16,
+        left: usize,
+        stands: bool,
+    )
+        requires counts { MayCount worker self.old }
         requires within { call < length self.old.calls }
-        ensures tells { result ≡ is_executed_at incarnation (get_or self.old.calls call fresh) }
-        ensures state { (v : Versions) (p : ℕ) → state_of v p self.new ≡ abort_tried call incarnation (state_of v p self.old) }
-        ensures rooms { self.new.rooms ≡ self.old.rooms }
+        requires checking { get_or self.old.tasks worker Task.Idle ≡ Task.Validating call incarnation (left + 1) false }
+        ensures state { (v : Versions) (p : ℕ) → next_stands call (left + 1) (state_of v p self.old) ≡ stands → state_of v p self.new ≡ counted one_step worker (checked worker call incarnation left (state_of v p self.old)) }
+        ensures rooms { KeepsRooms worker self.old.rooms self.new.rooms }
     {
-        let taken = calls::is_executed_at(self.call(call), incarnation);
-        if taken {
-            self.set_status(call, Status::Aborting);
+        self.count_step(worker);
+        if !calls::is_executed_at(self.call(call), incarnation) {
+            self.begin(worker, TaskKind::Idle);
+        } else if stands {
+            let task_kind = TaskKind::Validating {
+                call,
+                incarnation,
+                left,
+                failed: false,
+            };
+            self.begin(worker, task_kind);
+        } else {
+            self.fail_check(worker);
         }
-        taken
     }
 
-    /// Readies a call that was taken back; the worker runs it where the execution index is past it.
-    /// Takes no memory.
+    /// Decides a worker's validation of a call (Block-STM, `try_validation_abort`). If a read did not stand
+    /// and the call is EXECUTED at the incarnation, the call is taken back, and the worker gets the keys that
+    /// it wrote to mark. Else the worker's task ends. Takes no memory.
+    pub fn decide(&mut self, worker: usize, call: u16, incarnation: u16, failed: bool)
+        requires counts { MayCount worker self.old }
+        requires within { call < length self.old.calls }
+        ensures state { (v : Versions) (p : ℕ) → state_of v p self.new ≡ counted one_validation worker (decided worker call incarnation failed (state_of v p self.old)) }
+        ensures rooms { KeepsRooms worker self.old.rooms self.new.rooms }
+    {
+        self.count_validation(worker);
+        if failed && calls::is_executed_at(self.call(call), incarnation) {
+            self.begin_abort(worker, call);
+        } else {
+            self.begin(worker, TaskKind::Idle);
+        }
+    }
+
+    /// Readies a call whose keys a worker has marked, and lowers the validation index to the next call
+    /// (Block-STM, `finish_validation`). The worker runs the call where the execution index is past it. Takes
+    /// no memory.
     pub fn finish_abort(&mut self, worker: usize, call: u16)
         requires counts { MayCount worker self.old }
         requires within { call < length self.old.calls }
         requires incarnation { (get_or self.old.calls call fresh).incarnation < INCARNATION_LIMIT }
-        ensures state { (v : Versions) (p : ℕ) → state_of v p self.new ≡ counted one_validation worker (abort_finished worker call (state_of v p self.old)) }
+        ensures state { (v : Versions) (p : ℕ) → state_of v p self.new ≡ counted one_step worker (aborted worker call (state_of v p self.old)) }
         ensures rooms { KeepsRooms worker self.old.rooms self.new.rooms }
     {
-        self.count_validation(worker);
+        self.count_step(worker);
         self.lower_validation(call);
         if self.is_execution_past(call) {
             self.restart(call);
@@ -48,16 +83,5 @@ impl Scheduler {
             self.ready(call);
             self.begin(worker, TaskKind::Idle);
         }
-    }
-
-    /// Ends the validation of a worker without an abort; it counts as a decision or as a step alone
-    /// (Block-STM, `finish_validation`). Takes no memory.
-    pub fn finish_validation(&mut self, worker: usize, decided: bool)
-        requires counts { MayCount worker self.old }
-        ensures state { (v : Versions) (p : ℕ) → state_of v p self.new ≡ counted (if decided then one_validation else one_step) worker (with_task worker Task.Idle (state_of v p self.old)) }
-        ensures rooms { KeepsRooms worker self.old.rooms self.new.rooms }
-    {
-        self.count_decision(worker, decided);
-        self.begin(worker, TaskKind::Idle);
     }
 }

@@ -1,20 +1,21 @@
 //! What the scheduler keeps of a worker.
 
-ghost use Rattle.std.specs.Prelude.{◌≡◌, ◌≤◌, ◌<◌, ◌+◌, ◌-◌, ◌∷◌, ℕ, [], Bool, IfOk, List, OnErr, OnOk, Option, map, replicate, slice_get};
+ghost use Rattle.std.specs.Prelude.{◌≡◌, ◌≤◌, ◌<◌, ◌+◌, ◌-◌, ◌∷◌, ℕ, [], Bool, IfOk, List, OnErr, OnOk, Option, map, replicate, slice_get, take};
 ghost use Rattle.std.specs.Option.{option_copied};
 ghost use Rattle.std.specs.List.{list_all};
 ghost use Rattle.rv_step.specs.declared.answer.StorageAnswer.{StorageAnswer};
 ghost use Rattle.stm_state.specs.State.{is_idle};
 ghost use Rattle.stm_state.specs.declared.state.Task.TheVariants as task;
-ghost use Rattle.scheduler.specs.Workers.{HasKeyToMove, IsRunning, IsTaskKindOf, answered, blocked_on, idle_worker, task_of, task_with};
+ghost use Rattle.scheduler.specs.Workers.{HasKeyLeft, IsRunning, IsTaskKindOf, answered, blocked_on, failed_check, idle_worker, task_of, task_with};
 
 use crate::counting::COUNT_LIMIT;
 use rv_ledger::{Counts, Key};
 use rv_step::StorageAnswer;
 use std::alloc::{AllocError, Global};
 use std::marker::Model;
+use std::mem;
 
-/// What a worker is about.
+/// What a worker is doing, without the answers and the keys of its task.
 #[derive(Clone, Copy, Debug, PartialEq, Eq)]
 pub enum TaskKind {
     /// Nothing: it asks for work.
@@ -23,7 +24,7 @@ pub enum TaskKind {
     Running {
         /// The call's index.
         call: u16,
-        /// The call whose estimate the run met, where it met one.
+        /// The index of the call whose estimate the run met, or None.
         blocked: Option<u16>,
     },
     /// It moves the keys of a run that it handed in.
@@ -39,19 +40,26 @@ pub enum TaskKind {
         call: u16,
         /// The incarnation whose reads it checks.
         incarnation: u16,
-        /// The number of reads that it has to check.
+        /// The number of reads that it still has to check.
         left: usize,
+        /// Whether a read that it checked did not stand.
+        failed: bool,
+    },
+    /// It takes a call back: it turns the call's versions into estimates.
+    Marking {
+        /// The call's index.
+        call: u16,
     },
 }
 
-/// A worker: what it is about, the answers that its run was given, the keys of the run that it moves and
-/// how many of them it moved, what it did, and how often it was told that all is done.
+/// A worker: its task, the answers that its run was given, the keys that it moves or marks and how many of
+/// them it dropped, what it did, and how many of its askings were answered Done.
 #[derive(Drop)]
 pub(crate) struct Worker {
     task_kind: TaskKind,
     answers: Vec<StorageAnswer>,
     keys: Vec<Key>,
-    moved: usize,
+    dropped: usize,
     counts: Counts,
     dones: u64,
 }
@@ -66,11 +74,11 @@ impl Model for Worker {
 
     ghost coded = { Prim.hlevel (codes, task_row.coded) };
 
-    ghost view = { λ w. record { task = task_with w.task_kind w.answers.items (drop w.moved w.keys.items); counts = w.counts; dones = w.dones; room = vec_capacity w.answers - vec_len w.answers } };
+    ghost view = { λ w. record { task = task_with w.task_kind w.answers.items (drop w.dropped w.keys.items); keys = w.keys.items; counts = w.counts; dones = w.dones; room = vec_capacity w.answers - vec_len w.answers } };
 }
 
 impl Worker {
-    /// A worker without a task, which did nothing yet. Takes no memory.
+    /// A worker without a task, which has done nothing yet. Takes no memory.
     pub(crate) fn new(alloc: Global) -> Worker
         ensures { result ≡ idle_worker }
     {
@@ -78,7 +86,7 @@ impl Worker {
             task_kind: TaskKind::Idle,
             answers: Vec::new(alloc),
             keys: Vec::new(alloc),
-            moved: 0,
+            dropped: 0,
             counts: Counts {
                 steps: 0,
                 asks: 0,
@@ -89,7 +97,7 @@ impl Worker {
         }
     }
 
-    /// What it is about.
+    /// What it is doing.
     pub(crate) fn task_kind(&self) -> TaskKind
         ensures { IsTaskKindOf result self.now.task }
     {
@@ -111,7 +119,7 @@ impl Worker {
         self.counts
     }
 
-    /// How often it was told that all is done.
+    /// The number of its askings that were answered Done.
     pub(crate) fn dones(&self) -> u64
         ensures { result ≡ self.now.dones }
     {
@@ -125,42 +133,65 @@ impl Worker {
         matches!(self.task_kind, TaskKind::Idle)
     }
 
-    /// Gives it a task, and no answers.
+    /// Gives it a task without answers and keys.
     pub(crate) fn begin(&mut self, task_kind: TaskKind)
-        ensures { self.new ≡ record self.old { task = task_with task_kind [] []; room = self.new.room } }
+        ensures { self.new ≡ record self.old { task = task_with task_kind [] []; keys = []; room = self.new.room } }
     {
         self.task_kind = task_kind;
         self.answers.clear();
         self.keys.clear();
-        self.moved = 0;
+        self.dropped = 0;
     }
 
-    /// Gives it the keys of a run of a call to move, and no answers.
+    /// Gives it the keys of a call's run to move, and drops its answers.
     pub(crate) fn begin_moving(&mut self, call: u16, new_key: bool, keys: Vec<Key>)
-        ensures { self.new ≡ record self.old { task = task.Moving call keys.items new_key; room = self.new.room } }
+        ensures { self.new ≡ record self.old { task = task.Moving call keys.items new_key; keys = keys.items; room = self.new.room } }
     {
         self.task_kind = TaskKind::Moving { call, new_key };
         self.answers.clear();
         self.keys = keys;
-        self.moved = 0;
+        self.dropped = 0;
     }
 
-    /// The next key that it is to move; None where it has moved all.
+    /// Gives it the keys of a call's slot to mark, and drops its answers. Takes no memory.
+    pub(crate) fn begin_marking(&mut self, call: u16, slot: &mut Vec<Key>)
+        ensures { self.new ≡ record self.old { task = task.Marking call slot.old.items; keys = slot.old.items; room = self.new.room } }
+    {
+        self.task_kind = TaskKind::Marking { call };
+        self.answers.clear();
+        self.keys.clear();
+        self.dropped = 0;
+        mem::swap(&mut self.keys, slot);
+    }
+
+    /// Puts its first `count` keys into a call's slot, and ends its task. Takes no memory.
+    pub(crate) fn hand_over(&mut self, slot: &mut Vec<Key>, count: usize)
+        ensures slot { slot.new.items ≡ take count self.old.keys }
+        ensures worker { self.new ≡ record self.old { task = task.Idle; keys = []; room = self.new.room } }
+    {
+        mem::swap(&mut self.keys, slot);
+        slot.truncate(count);
+        self.begin(TaskKind::Idle);
+    }
+
+    /// The next key that it is to move or to mark; None where no key is left.
     pub(crate) fn next_key(&self) -> Option<&Key>
-        ensures { (call : ℕ) (keys : List (List ℕ)) (new : Bool) → self.now.task ≡ task.Moving call keys new → option_copied result ≡ slice_get keys 0 }
+        ensures moving { (call : ℕ) (keys : List (List ℕ)) (new : Bool) → self.now.task ≡ task.Moving call keys new → option_copied result ≡ slice_get keys 0 }
+        ensures marking { (call : ℕ) (keys : List (List ℕ)) → self.now.task ≡ task.Marking call keys → option_copied result ≡ slice_get keys 0 }
     {
-        self.keys.as_slice().get(self.moved)
+        self.keys.as_slice().get(self.dropped)
     }
 
-    /// Lets it go on to the key behind its next one.
+    /// Drops its next key.
     pub(crate) fn drop_key(&mut self)
-        requires { HasKeyToMove self.old.task }
-        ensures { (call : ℕ) (key : List ℕ) (keys : List (List ℕ)) (new : Bool) → self.old.task ≡ task.Moving call (key ∷ keys) new → self.new ≡ record self.old { task = task.Moving call keys new } }
+        requires { HasKeyLeft self.old.task }
+        ensures moving { (call : ℕ) (key : List ℕ) (keys : List (List ℕ)) (new : Bool) → self.old.task ≡ task.Moving call (key ∷ keys) new → self.new ≡ record self.old { task = task.Moving call keys new } }
+        ensures marking { (call : ℕ) (key : List ℕ) (keys : List (List ℕ)) → self.old.task ≡ task.Marking call (key ∷ keys) → self.new ≡ record self.old { task = task.Marking call keys } }
     {
-        self.moved += 1;
+        self.dropped += 1;
     }
 
-    /// Makes room for one more answer; refused where memory ran out.
+    /// Makes room for one more answer. Refused where memory ran out, and then nothing changes.
     pub(crate) fn reserve(&mut self) -> Result<(), AllocError>
         ensures room { OnOk result (1 ≤ self.new.room) }
         ensures kept { self.old.room ≤ self.new.room }
@@ -179,7 +210,7 @@ impl Worker {
         self.answers.push_reserved(answer);
     }
 
-    /// Blocks its run on a call.
+    /// Blocks its run on a call; any other task stays as it is.
     pub(crate) fn block(&mut self, on: u16)
         ensures { self.new ≡ record self.old { task = blocked_on on self.old.task } }
     {
@@ -191,6 +222,26 @@ impl Worker {
         }
     }
 
+    /// Fails its validation, since a read did not stand; any other task stays as it is.
+    pub(crate) fn fail_check(&mut self)
+        ensures { self.new ≡ record self.old { task = failed_check self.old.task } }
+    {
+        if let TaskKind::Validating {
+            call,
+            incarnation,
+            left,
+            ..
+        } = self.task_kind
+        {
+            self.task_kind = TaskKind::Validating {
+                call,
+                incarnation,
+                left,
+                failed: true,
+            };
+        }
+    }
+
     /// Sets what it did.
     pub(crate) fn set_counts(&mut self, counts: Counts)
         ensures { self.new ≡ record self.old { counts = counts } }
@@ -198,7 +249,7 @@ impl Worker {
         self.counts = counts;
     }
 
-    /// Tells it once more that all is done.
+    /// Counts one more asking that was answered Done.
     pub(crate) fn count_done(&mut self)
         requires { self.old.dones < COUNT_LIMIT }
         ensures { self.new ≡ record self.old { dones = self.old.dones + 1 } }
@@ -207,7 +258,7 @@ impl Worker {
     }
 }
 
-/// This many workers without a task, which did nothing yet; refused where memory ran out.
+/// `count` workers without a task, which have done nothing yet. Refused where memory ran out.
 pub(crate) fn idle_workers(alloc: Global, count: usize) -> Result<Vec<Worker>, AllocError>
     ensures { IfOk result (λ workers. workers.items ≡ replicate count idle_worker) }
 {

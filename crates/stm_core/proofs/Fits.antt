@@ -1,59 +1,47 @@
 -- A worker's run under way and its task.
-use Rattle.std.proofs.Common.{◌≡◌, ◌≢◌, ◌<◌, ℕ, true, false, List, [], ◌∷◌, length, get_or, set, Option, None, Some, refl, sym, ap, subst, inl, inr, ◌∙◌}
+use Rattle.std.proofs.Common.{◌≡◌, ◌≢◌, ◌<◌, ℕ, zero, suc, Bool, true, false, List, [], ◌∷◌, length, get_or, set, Option, None, Some, refl, sym, ap, subst, inl, inr, ◌∙◌}
 use Rattle.std.proofs.lemmas.Bool.{cases_eq}
 use Rattle.std.proofs.lemmas.List.{get_or-set_same, get_or-set_other}
 use Rattle.rv_ledger.specs.Call.{Invocation}
 use Rattle.rv_step.specs.Run.{RunView}
 use Rattle.rv_step.specs.declared.ended_run.EndedRun.{EndedRun}
 use Rattle.stm_state.specs.declared.state.Task.{Task}
-use Rattle.stm_state.specs.declared.state.Task.TheVariants.{Idle, Running, Moving, Validating}
+use Rattle.stm_state.specs.declared.state.Task.TheVariants.{Idle, Running, Moving, Validating, Marking}
 use Rattle.stm_state.specs.State.{State, task_at}
 use Rattle.stm_state.specs.Steps.{Record}
 use Rattle.stm_state.proofs.Tests.{equal_itself}
 use Rattle.stm_core.specs.CoreState.{CoreState, IsOwn, answers_of, next_step_of, is_due, runs}
+use Rattle.stm_core.specs.declared.next_step.NextStep.{NextStep}
 use Rattle.stm_core.specs.declared.next_step.NextStep.TheVariants as next_step
 use Rattle.stm_core.specs.Driving.{FitsTask, HasNoAnswers, IsRunOf}
 
--- a worker that asks, parks, moves a key, finishes an execution or validates owes no record
-pub asks_alone : (s : State) (task : Task) → next_step.Ask ≡ next_step_of s task → is_due Record task ≡ false
-asks_alone s Idle e = cc
-asks_alone s (Running i answers None) e = cc
-asks_alone s (Running i answers (Some b)) e = cc
-asks_alone s (Moving j (key ∷ keys) new) e = cc
-asks_alone s (Moving j [] new) e = cc
-asks_alone s (Validating i n left) e = cc
+-- a worker's step is to let a run go on, which may end
+abbrev pub is_run : NextStep → Bool
+is_run next_step.Ask = false
+is_run (next_step.Run i n) = true
+is_run (next_step.Park i n) = false
+is_run (next_step.MoveKey i n) = false
+is_run (next_step.FinishExecution i n) = false
+is_run (next_step.CheckRead i n) = false
+is_run (next_step.Decide i n) = false
+is_run (next_step.MarkEstimate i n) = false
+is_run (next_step.FinishAbort i n) = false
 
-pub parks_alone : (s : State) (task : Task) (i n : ℕ) → next_step.Park i n ≡ next_step_of s task → is_due Record task ≡ false
-parks_alone s Idle i n e = cc
-parks_alone s (Running j answers None) i n e = cc
-parks_alone s (Running j answers (Some b)) i n e = cc
-parks_alone s (Moving j (key ∷ keys) new) i n e = cc
-parks_alone s (Moving j [] new) i n e = cc
-parks_alone s (Validating j m left) i n e = cc
+-- only then the worker may owe a record
+owes_record : (s : State) (task : Task) → is_due Record task ≡ is_run (next_step_of s task)
+owes_record s Idle = refl
+owes_record s (Running j answers None) = refl
+owes_record s (Running j answers (Some b)) = refl
+owes_record s (Moving j (key ∷ keys) new) = refl
+owes_record s (Moving j [] new) = refl
+owes_record s (Validating j m left true) = refl
+owes_record s (Validating j m zero false) = refl
+owes_record s (Validating j m (suc left) false) = refl
+owes_record s (Marking j (key ∷ keys)) = refl
+owes_record s (Marking j []) = refl
 
-pub validates_alone : (s : State) (task : Task) (i n : ℕ) → next_step.Validate i n ≡ next_step_of s task → is_due Record task ≡ false
-validates_alone s Idle i n e = cc
-validates_alone s (Running j answers None) i n e = cc
-validates_alone s (Running j answers (Some b)) i n e = cc
-validates_alone s (Moving j (key ∷ keys) new) i n e = cc
-validates_alone s (Moving j [] new) i n e = cc
-validates_alone s (Validating j m left) i n e = cc
-
-pub moves_alone : (s : State) (task : Task) (i n : ℕ) → next_step.MoveKey i n ≡ next_step_of s task → is_due Record task ≡ false
-moves_alone s Idle i n e = cc
-moves_alone s (Running j answers None) i n e = cc
-moves_alone s (Running j answers (Some b)) i n e = cc
-moves_alone s (Moving j (key ∷ keys) new) i n e = refl
-moves_alone s (Moving j [] new) i n e = cc
-moves_alone s (Validating j m left) i n e = cc
-
-pub finishes_alone : (s : State) (task : Task) (i n : ℕ) → next_step.FinishExecution i n ≡ next_step_of s task → is_due Record task ≡ false
-finishes_alone s Idle i n e = cc
-finishes_alone s (Running j answers None) i n e = cc
-finishes_alone s (Running j answers (Some b)) i n e = cc
-finishes_alone s (Moving j (key ∷ keys) new) i n e = cc
-finishes_alone s (Moving j [] new) i n e = refl
-finishes_alone s (Validating j m left) i n e = cc
+pub no_record : (s : State) (task : Task) (step : NextStep) → step ≡ next_step_of s task → is_run step ≡ false → is_due Record task ≡ false
+no_record s task step doing other = owes_record s task ∙ sym (ap is_run doing) ∙ other
 
 -- a run fits no task that owes no record
 no_run : (calls : List Invocation) (run : RunView) (task : Task) → is_due Record task ≡ false → IsRunOf calls run task → ⊥
@@ -62,7 +50,8 @@ no_run calls run (Running i answers None) e h = cc
 no_run calls run (Running i answers (Some b)) e h = h
 no_run calls run (Moving i (key ∷ keys) new) e h = h
 no_run calls run (Moving i [] new) e h = h
-no_run calls run (Validating i n left) e h = h
+no_run calls run (Validating i n left failed) e h = h
+no_run calls run (Marking i keys) e h = h
 
 -- so that where the task owed no record there was no run, and the next task is fit where it has no answers
 pub next_fits : (calls : List Invocation) (run : Option RunView) (old new : Task) → is_due Record old ≡ false → FitsTask calls run old → HasNoAnswers new → FitsTask calls run new
@@ -89,7 +78,8 @@ module _ (w : ℕ) (b : CoreState) (run : RunView) (ended : EndedRun) (same_call
   }
   own_with (Running i answers (Some x)) at due fits = absurd fits
   own_with (Moving i keys new) at due fits = absurd fits
-  own_with (Validating i n left) at due fits = absurd fits
+  own_with (Validating i n left failed) at due fits = absurd fits
+  own_with (Marking i keys) at due fits = absurd fits
 
   pub own_run : is_due Record (task_at b.state w) ≡ true → IsRunOf b.job.block run (task_at b.state w) → IsOwn w ended b
   own_run due fits = own_with (task_at b.state w) refl due fits

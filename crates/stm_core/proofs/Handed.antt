@@ -1,22 +1,22 @@
--- A run that is handed in, and a key of it that is moved, over the parts of a job's run.
-use Rattle.std.proofs.Common.{◌≡◌, ◌<◌, ◌≤◌, ◌+◌, ◌*◌, ℕ, Bool, IsSome, List, [], ◌∷◌, length, get_or, None, Some, Ok, sym, ap, subst, ◌∙◌}
+-- A run that is handed in, a key that is moved and a key that is marked, over the parts of a job's run.
+use Rattle.std.proofs.Common.{◌≡◌, ◌<◌, ◌≤◌, ◌+◌, ◌*◌, ℕ, Bool, IsSome, List, [], ◌∷◌, length, get_or, None, Some, Ok, refl, sym, ap, subst, ◌∙◌}
 use Rattle.std.specs.FinMap.{get, len}
 use Rattle.rv_ledger.specs.declared.job.Job.{Job}
 use Rattle.rv_ledger.specs.declared.inline_bytes.TheConstants.{VALUE_LIMIT}
 use Rattle.rv_step.specs.declared.answer.StorageAnswer.{StorageAnswer}
 use Rattle.rv_step.specs.declared.ended_run.EndedRun.{EndedRun}
 use Rattle.mvmap.specs.Table.{Table}
-use Rattle.mvmap.specs.Versions.{Versions, changed}
-use Rattle.stm_state.specs.declared.state.Task.TheVariants.{Idle, Running, Moving}
+use Rattle.mvmap.specs.Versions.{Estimate, Versions, changed}
+use Rattle.stm_state.specs.declared.state.Task.TheVariants.{Idle, Running, Moving, Marking}
 use Rattle.stm_state.specs.State.{State, fresh}
-use Rattle.stm_state.specs.Steps.{Record, Move_key, counted, moved, one_execution, one_step, recorded, version_of, worker_step}
+use Rattle.stm_state.specs.Steps.{Record, Move_key, Mark_estimate, counted, marked, moved, one_execution, one_step, recorded, version_of, worker_step}
 use Rattle.stm_state.specs.Done.{block_of}
 use Rattle.stm_state.specs.Invariant.{named_by}
 use Rattle.scheduler.specs.Schedule.{KeepsRooms, Schedule}
 use Rattle.stm_core.specs.CoreState.{CoreState, IsDue, Makes}
 use Rattle.stm_core.specs.Inner.{AreOpen, IsGrown, IsHanded, IsPromised, IsReached, KeepsPromises, core_state_of, state_in, writes_at}
-use Rattle.stm_core.proofs.Open.{Within, moved_within}
-use Rattle.stm_core.proofs.Made.{due_at, goes_on, invariant_at, makes, move_made, named_in, own_made}
+use Rattle.stm_core.proofs.Open.{Within, marked_within, moved_within}
+use Rattle.stm_core.proofs.Made.{due_at, goes_on, goes_on_quietly, invariant_at, makes, mark_has_place, mark_made, move_made, named_in, own_made}
 use Rattle.stm_core.proofs.Promises.{moved_kept, next_has_place, next_is_promised, recorded_kept}
 
 module _ (job : Job) (table : Table) (promised : ℕ) (schedule : Schedule) (h : IsReached job table promised schedule) (b : CoreState) (is : core_state_of job table promised schedule ≡ b) (w i : ℕ) where
@@ -66,3 +66,24 @@ module _ (job : Job) (table : Table) (promised : ℕ) (schedule : Schedule) (h :
       -- and it is made
       pub move_makes : KeepsRooms w schedule.rooms after.rooms → Makes w Move_key b (core_state_of job after_table more after)
       move_makes rooms = makes job table promised schedule h b is w Move_key due after_table more after move_is_made rooms
+
+  -- ---- mark estimate
+
+  module _ (due : IsDue w Mark_estimate b) (key : List ℕ) (keys : List (List ℕ)) (at : get_or schedule.tasks w Idle ≡ Marking i (key ∷ keys)) (after : Schedule) where
+    -- the table with an estimate at the key
+    abbrev pub with_estimate : Table
+    with_estimate = record table { versions = changed table.versions (key, i) (Some Estimate) }
+
+    module _ (same : state_in with_estimate promised after ≡ counted one_step w (marked w i key keys (state_in table promised schedule))) where
+      mark_is_made : worker_step (block_of job.block job.store) w Mark_estimate (state_in table promised schedule) ≡ Some (Ok (state_in with_estimate promised after))
+      mark_is_made = mark_made (block_of job.block job.store) w (state_in table promised schedule) i key keys at ∙ ap (λ t. Some (Ok t)) (sym same)
+
+      -- the mark leads on
+      pub mark_reached : IsReached job with_estimate promised after
+      mark_reached =
+          goes_on_quietly job table promised schedule h b is w Mark_estimate due with_estimate after tt mark_is_made
+          (marked_within table.places i key table.versions (mark_has_place job table promised schedule h w i key keys at) h.places) refl refl
+
+      -- and it is made
+      pub mark_makes : KeepsRooms w schedule.rooms after.rooms → Makes w Mark_estimate b (core_state_of job with_estimate promised after)
+      mark_makes rooms = makes job table promised schedule h b is w Mark_estimate due with_estimate promised after mark_is_made rooms

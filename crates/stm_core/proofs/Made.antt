@@ -1,5 +1,10 @@
 -- Steps that are due and that are made, over the parts of a job's run.
-use Rattle.std.proofs.Common.{◌≡◌, ◌<◌, ◌≤◌, ◌+◌, nat_lt, nat_le, ℕ, Bool, true, false, cond, if◌then◌else◌, IsSome, IfErr, OnOk, List, [], ◌∷◌, length, get_or, slice_get, Option, None, Some, Result, Ok, Err, arith, refl, sym, ap, subst, ◌∙◌}
+use Rattle.std.proofs.Common.{◌≡◌, ◌<◌, ◌≤◌, ◌+◌, ◌||◌, nat_lt, nat_le, ℕ, zero, suc, Bool, true, false, cond, is_some, IsSome, IsTrue, IfErr, OnOk, List, [], ◌∷◌, length, get_or, slice_get, Option, None, Some, Result, Ok, Err, arith, refl, sym, ap, subst, inl, inr, ◌∙◌}
+use Rattle.std.specs.Cmp.{tied_itself}
+use Rattle.std.specs.Cmp.Lexicographic.{nat_list_cmp_total}
+use Rattle.std.specs.Ordering.{is_eq}
+use Rattle.std.specs.Option.{option_map}
+use Rattle.std.specs.FinSet.{contains}
 use Rattle.std.specs.FinMap.{empty, get, get-empty, len}
 use Rattle.std.proofs.lemmas.List.{length-replicate}
 use Rattle.rv_ledger.specs.Key.{Storage}
@@ -11,30 +16,21 @@ use Rattle.rv_step.specs.declared.answer.StorageAnswer.{StorageAnswer}
 use Rattle.rv_step.specs.declared.ended_run.EndedRun.{EndedRun}
 use Rattle.version_arena.specs.ArenaState.{Record as Placing}
 use Rattle.mvmap.specs.Table.{Table}
-use Rattle.mvmap.specs.Versions.{Entry, Versions, place_cmp}
-use Rattle.stm_state.specs.declared.state.Status.TheVariants.{Executed, Aborting}
-use Rattle.stm_state.specs.declared.state.Task.{Task}
-use Rattle.stm_state.specs.declared.state.Task.TheVariants.{Idle, Running, Moving, Validating}
+use Rattle.mvmap.specs.Versions.{Entry, Estimate, Versions, place_cmp}
+use Rattle.stm_state.specs.declared.state.Status.TheVariants.{Executing, Aborting}
+use Rattle.stm_state.specs.declared.state.Task.TheVariants.{Idle, Running, Moving, Validating, Marking}
 use Rattle.stm_state.specs.State.{State, fresh, start, call_at, task_at}
-use Rattle.stm_state.specs.Steps.{Block, Step, Ask, Read_key, Park, Record, Move_key, Finish_execution, Validate, ArenaFull, IncarnationLimit, counted, one_asking, one_step, one_execution, one_validation, asked, read_at, parked, recorded, moved, executed, record_within, decided, validated, written_by, is_executed_at, step_with, worker_step}
+use Rattle.stm_state.specs.Steps.{Block, Step, Ask, Read_key, Park, Record, Move_key, Finish_execution, Check_read, Decide, Mark_estimate, Finish_abort, ArenaFull, IncarnationLimit, counted, one_asking, one_step, one_execution, one_validation, asked, read_at, parked, recorded, moved, executed, record_within, checked, decided, marked, aborted, step_with, worker_step}
 use Rattle.stm_state.specs.Done.{Reached, started, stepped, block_of, borne_out_by}
-use Rattle.stm_state.specs.Invariant.{Invariant, IsUnmoved, named_by, moved_by, run_by, view_of}
+use Rattle.stm_state.specs.Invariant.{Invariant, has_key, named_by, owned_by, run_by}
 use Rattle.stm_state.proofs.Whole.{invariant_kept}
 use Rattle.stm_state.proofs.Counted.{counts_within}
 use Rattle.scheduler.specs.Schedule.{KeepsRooms, Schedule, MayCount, state_of}
-use Rattle.stm_core.specs.CoreState.{CoreState, IsDue, Makes}
-use Rattle.stm_core.specs.Inner.{AreOpen, HasPlaces, IsGrown, IsHanded, IsReached, KeepsPromises, core_state_of, state_in}
-use Rattle.stm_core.proofs.Open.{open_last}
-use Rattle.stm_core.proofs.Parted.{at_says}
+use Rattle.scheduler.specs.Workers.{NobodyMoves}
+use Rattle.stm_core.specs.CoreState.{CoreState, IsDue, Makes, is_due}
+use Rattle.stm_core.specs.Inner.{HasPlaces, IsGrown, IsHanded, IsReached, KeepsPromises, core_state_of, state_in}
 use Rattle.stm_core.proofs.Turns.{turn}
 use Rattle.stm_core.proofs.Promises.{IsQuiet, grown_kept, none_promised, quiet_kept}
-
--- who moves the keys of a call runs it
-moved_is_run : (task : Task) (i : ℕ) → moved_by task ≡ Some i → run_by task ≡ Some i
-moved_is_run Idle i h = cc
-moved_is_run (Running j answers blocked) i h = cc
-moved_is_run (Moving j keys new) i h = h
-moved_is_run (Validating j n left) i h = cc
 
 module _ (job : Job) (table : Table) (promised : ℕ) (schedule : Schedule) (h : IsReached job table promised schedule) where
   -- the invariant holds
@@ -57,23 +53,34 @@ module _ (job : Job) (table : Table) (promised : ℕ) (schedule : Schedule) (h :
   pub aborting_low : (i : ℕ) → (get_or schedule.calls i fresh).status ≡ Aborting → (get_or schedule.calls i fresh).incarnation ≤ 65534
   aborting_low i at = invariant_at.facts.aborting_limit i at
 
-  -- so is a call that is EXECUTED at an incarnation
-  pub executed_low : (i n : ℕ) → is_executed_at n (get_or schedule.calls i fresh) ≡ true → n ≤ 65534
-  executed_low i n at = let says = at_says n (get_or schedule.calls i fresh) at in let low = invariant_at.facts.executed_limit i says.0 in let e = says.1 in omega (arith, low, e)
+  -- so is a call whose keys are marked
+  pub marked_low : (w i : ℕ) (keys : List (List ℕ)) → get_or schedule.tasks w Idle ≡ Marking i keys → (get_or schedule.calls i fresh).incarnation < 65535
+  marked_low w i keys at = let low = invariant_at.facts.aborting_limit i (invariant_at.facts.marking w i keys at).aborting in omega (arith, low)
 
   -- an incarnation is at most 65,535
   pub limit_at : (i : ℕ) → (get_or schedule.calls i fresh).incarnation ≤ 65535
   limit_at i = invariant_at.facts.limit i
 
-  -- nobody moves the keys of an EXECUTED call
-  executed_rests : (i : ℕ) → (get_or schedule.calls i fresh).status ≡ Executed → IsUnmoved (view_of (state_in table promised schedule)) i
-  executed_rests i done w moves = let runs = invariant_at.facts.running w i (moved_is_run (get_or schedule.tasks w Idle) i moves) in cc
+  -- a call that a worker runs is EXECUTING
+  pub executing_at : (w i : ℕ) (answers : List StorageAnswer) (blocked : Option ℕ) → get_or schedule.tasks w Idle ≡ Running i answers blocked → (get_or schedule.calls i fresh).status ≡ Executing
+  executing_at w i answers blocked runs = invariant_at.facts.running w i (ap run_by runs)
 
-  -- a call that is EXECUTED at an incarnation has places at the keys that its last recorded run wrote
-  pub places_of_last : (i n : ℕ) → is_executed_at n (get_or schedule.calls i fresh) ≡ true → AreOpen table.places i (written_by (get_or schedule.calls i fresh).last)
-  places_of_last i n at =
-      let says = at_says n (get_or schedule.calls i fresh) at in
-      open_last table.places i (get_or schedule.calls i fresh) table.versions h.places (λ key. invariant_at.facts.entries i key (executed_rests i says.0))
+  -- and nobody moves its keys
+  pub nobody_moves : (w i : ℕ) (answers : List StorageAnswer) (blocked : Option ℕ) → get_or schedule.tasks w Idle ≡ Running i answers blocked → NobodyMoves i schedule.tasks
+  nobody_moves w i answers blocked runs u keys new moves =
+      let same = invariant_at.facts.alone u w i (ap owned_by moves) (ap owned_by runs) in
+      let there : get_or schedule.tasks w Idle ≡ Moving i keys new = sym (ap (λ x. get_or schedule.tasks x Idle) same) ∙ moves in
+      cc
+
+  -- the next key that is marked has an entry, and so a place
+  pub mark_has_place : (w i : ℕ) (key : List ℕ) (keys : List (List ℕ)) → get_or schedule.tasks w Idle ≡ Marking i (key ∷ keys) → IsTrue (contains table.places (key, i))
+  mark_has_place w i key keys at =
+      let marked = invariant_at.facts.marking w i (key ∷ keys) at in
+      let content = marked.written key (ap (λ o. is_eq o || has_key key keys) (tied_itself nat_list_cmp_total key)) in
+      h.places (key, i) (elim (marked.amid key) [
+        | inl turned ↦ ap is_some (turned ∙ ap (option_map (λ c. Estimate)) content.1)
+        | inr before ↦ ap is_some before.1.1
+      ])
 
   -- what was promised is within the arena's limit
   pub placed_within : length table.arena.records + promised ≤ 1048576
@@ -202,8 +209,22 @@ module _ (block : Block) (w : ℕ) (s : State) where
   pub finish_made : (i : ℕ) (new : Bool) → task_at s w ≡ Moving i [] new → worker_step block w Finish_execution s ≡ Some (Ok (counted one_step w (executed w i new s)))
   finish_made i new at = ap (λ t. step_with block w t Finish_execution s) at
 
-  pub validate_made : (i n left : ℕ) → task_at s w ≡ Validating i n left → worker_step block w Validate s ≡ Some (Ok (counted (if decided i n left s then one_validation else one_step) w (validated w i n s)))
-  validate_made i n left at = ap (λ t. step_with block w t Validate s) at
+  pub check_made : (i n left : ℕ) → task_at s w ≡ Validating i n (suc left) false → worker_step block w Check_read s ≡ Some (Ok (counted one_step w (checked w i n left s)))
+  check_made i n left at = ap (λ t. step_with block w t Check_read s) at
+
+  pub decide_made : (i n left : ℕ) (failed : Bool) → task_at s w ≡ Validating i n left failed → is_due Decide (task_at s w) ≡ true → worker_step block w Decide s ≡ Some (Ok (counted one_validation w (decided w i n failed s)))
+  decide_made i n left failed at due = ap (λ t. step_with block w t Decide s) at ∙ go left failed (sym (ap (is_due Decide) at) ∙ due)
+    where
+      go : (left : ℕ) (failed : Bool) → is_due Decide (Validating i n left failed) ≡ true → step_with block w (Validating i n left failed) Decide s ≡ Some (Ok (counted one_validation w (decided w i n failed s)))
+      go left true h = refl
+      go zero false h = refl
+      go (suc left) false h = cc
+
+  pub mark_made : (i : ℕ) (key : List ℕ) (keys : List (List ℕ)) → task_at s w ≡ Marking i (key ∷ keys) → worker_step block w Mark_estimate s ≡ Some (Ok (counted one_step w (marked w i key keys s)))
+  mark_made i key keys at = ap (λ t. step_with block w t Mark_estimate s) at
+
+  pub abort_made : (i : ℕ) → task_at s w ≡ Marking i [] → worker_step block w Finish_abort s ≡ Some (Ok (counted one_step w (aborted w i s)))
+  abort_made i at = ap (λ t. step_with block w t Finish_abort s) at
 
 module _ (block : Block) (w i : ℕ) (answers : List StorageAnswer) (s : State) where
   -- a record within the limits, and one that is refused

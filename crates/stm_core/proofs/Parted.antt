@@ -1,122 +1,207 @@
--- The parts of steps come to the steps, and what tests say.
-use Rattle.std.proofs.Common.{◌≡◌, ◌<◌, ◌+◌, ◌&&◌, ◌||◌, ◌==◌, not, ℕ, Bool, true, false, cond, if◌then◌else◌, List, [], ◌∷◌, length, set, get_or, slice_get, Option, None, Some, arith, refl, sym, ap, subst, ◌∙◌, length-set}
-use Rattle.std.specs.FinMap.{empty}
-use Rattle.std.proofs.lemmas.Bool.{and_parts}
-use Rattle.std.proofs.lemmas.List.{get_or-set_same, set-set}
+-- The parts of steps come to the steps, and what a worker's duty says of its task.
+use Rattle.std.proofs.Common.{◌≡◌, ◌<◌, ℕ, zero, suc, Bool, true, false, List, [], ◌∷◌, slice_get, Option, None, Some, refl, ap, ◌∙◌}
 use Rattle.rv_step.specs.declared.answer.StorageAnswer.{StorageAnswer}
-use Rattle.mvmap.specs.Versions.{Versions, changed}
-use Rattle.stm_state.specs.declared.state.Status.TheVariants.{Executed, Aborting}
-use Rattle.stm_state.specs.declared.state.CallState.{CallState}
-use Rattle.stm_state.specs.declared.state.Recorded.{Recorded}
+use Rattle.mvmap.specs.Versions.{Versions, Estimate, changed}
 use Rattle.stm_state.specs.declared.state.Task.{Task}
-use Rattle.stm_state.specs.declared.state.Task.TheVariants.{Idle, Running, Moving, Validating}
-use Rattle.stm_state.specs.State.{State, fresh, call_at, with_call, with_task, is_executed}
-use Rattle.stm_state.specs.Steps.{Ask, Read_key, Record, Move_key, Finish_execution, counted, one_step, one_validation, decided, moved, version_of, written_by, estimated, is_executed_at, all_stand, aborted, validated}
+use Rattle.stm_state.specs.declared.state.Task.TheVariants.{Idle, Running, Moving, Validating, Marking}
+use Rattle.stm_state.specs.State.{State, call_at, with_task}
+use Rattle.stm_state.specs.Steps.{Ask, Read_key, Record, Move_key, Finish_execution, Check_read, Mark_estimate, Finish_abort, marked, moved, version_of}
 use Rattle.stm_state.specs.Invariant.{named_by}
-use Rattle.stm_state.proofs.Tests.{equal_says, is_executed_says}
 use Rattle.scheduler.specs.declared.worker.TaskKind.TheVariants as task_kind
-use Rattle.scheduler.specs.Schedule.{Schedule, state_of, MayCount}
-use Rattle.scheduler.specs.Parts.{abort_tried, abort_finished}
 use Rattle.scheduler.specs.Workers.{IsRunning, task_kind_of}
-use Rattle.mvmap.specs.Table.{Table}
 use Rattle.stm_core.specs.declared.next_step.NextStep.TheVariants as next_step
 use Rattle.stm_core.specs.CoreState.{IsWithin, next_step_of, is_due}
-use Rattle.stm_core.specs.Inner.{state_in}
 
 -- ---- what a worker's duty says of its task
 
 pub asks_idle : (task : Task) → is_due Ask task ≡ true → task ≡ Idle
 asks_idle Idle h = refl
-asks_idle (Running i answers None) h = cc
-asks_idle (Running i answers (Some b)) h = cc
-asks_idle (Moving i (key ∷ keys) new) h = cc
-asks_idle (Moving i [] new) h = cc
-asks_idle (Validating i n left) h = cc
+asks_idle (Running j answers None) h = cc
+asks_idle (Running j answers (Some b)) h = cc
+asks_idle (Moving j (k ∷ keys) c) h = cc
+asks_idle (Moving j [] c) h = cc
+asks_idle (Validating j m l true) h = cc
+asks_idle (Validating j m zero false) h = cc
+asks_idle (Validating j m (suc l) false) h = cc
+asks_idle (Marking j (k ∷ keys)) h = cc
+asks_idle (Marking j []) h = cc
 
 pub reads_running : (task : Task) (key : List ℕ) (i : ℕ) (blocked : Option ℕ) → is_due (Read_key key) task ≡ true → task_kind.Running i blocked ≡ task_kind_of task → (answers : List StorageAnswer) × (task ≡ Running i answers None)
 reads_running Idle key i blocked h d = cc
 reads_running (Running j answers None) key i blocked h d = (answers, cc)
 reads_running (Running j answers (Some b)) key i blocked h d = cc
-reads_running (Moving j (k ∷ keys) new) key i blocked h d = cc
-reads_running (Moving j [] new) key i blocked h d = cc
-reads_running (Validating j n left) key i blocked h d = cc
+reads_running (Moving j (k ∷ keys) c) key i blocked h d = cc
+reads_running (Moving j [] c) key i blocked h d = cc
+reads_running (Validating j m l true) key i blocked h d = cc
+reads_running (Validating j m zero false) key i blocked h d = cc
+reads_running (Validating j m (suc l) false) key i blocked h d = cc
+reads_running (Marking j (k ∷ keys)) key i blocked h d = cc
+reads_running (Marking j []) key i blocked h d = cc
 
 pub records_running : (task : Task) (i : ℕ) (blocked : Option ℕ) → is_due Record task ≡ true → task_kind.Running i blocked ≡ task_kind_of task → (answers : List StorageAnswer) × (task ≡ Running i answers None)
 records_running Idle i blocked h d = cc
 records_running (Running j answers None) i blocked h d = (answers, cc)
 records_running (Running j answers (Some b)) i blocked h d = cc
-records_running (Moving j (k ∷ keys) new) i blocked h d = cc
-records_running (Moving j [] new) i blocked h d = cc
-records_running (Validating j n left) i blocked h d = cc
+records_running (Moving j (k ∷ keys) c) i blocked h d = cc
+records_running (Moving j [] c) i blocked h d = cc
+records_running (Validating j m l true) i blocked h d = cc
+records_running (Validating j m zero false) i blocked h d = cc
+records_running (Validating j m (suc l) false) i blocked h d = cc
+records_running (Marking j (k ∷ keys)) i blocked h d = cc
+records_running (Marking j []) i blocked h d = cc
 
 pub parks_running : (task : Task) (i b : ℕ) → task_kind.Running i (Some b) ≡ task_kind_of task → (answers : List StorageAnswer) × (task ≡ Running i answers (Some b))
-parks_running Idle i b d = cc
-parks_running (Running j answers blocked) i b d = (answers, cc)
-parks_running (Moving j keys new) i b d = cc
-parks_running (Validating j n left) i b d = cc
-
-pub validates_at : (task : Task) (i n left : ℕ) → task_kind.Validating i n left ≡ task_kind_of task → task ≡ Validating i n left
-validates_at Idle i n left d = cc
-validates_at (Running j answers blocked) i n left d = cc
-validates_at (Moving j keys new) i n left d = cc
-validates_at (Validating j m k) i n left d = cc
+parks_running Idle i x d = cc
+parks_running (Running j answers b) i x d = (answers, cc)
+parks_running (Moving j keys c) i x d = cc
+parks_running (Validating j m l f) i x d = cc
+parks_running (Marking j keys) i x d = cc
 
 pub moves_key : (task : Task) (i : ℕ) (new : Bool) (key : List ℕ) → is_due Move_key task ≡ true → task_kind.Moving i new ≡ task_kind_of task → ((j : ℕ) (keys : List (List ℕ)) (b : Bool) → task ≡ Moving j keys b → Some key ≡ slice_get keys 0) → (keys : List (List ℕ)) × (task ≡ Moving i (key ∷ keys) new)
 moves_key Idle i new key h d next = cc
 moves_key (Running j answers None) i new key h d next = cc
 moves_key (Running j answers (Some b)) i new key h d next = cc
-moves_key (Moving j (k ∷ keys) b) i new key h d next = let same = next j (k ∷ keys) b refl in (keys, cc)
-moves_key (Moving j [] b) i new key h d next = cc
-moves_key (Validating j n left) i new key h d next = cc
+moves_key (Moving j (k ∷ keys) c) i new key h d next = let same = next j (k ∷ keys) c refl in (keys, cc)
+moves_key (Moving j [] c) i new key h d next = cc
+moves_key (Validating j m l true) i new key h d next = cc
+moves_key (Validating j m zero false) i new key h d next = cc
+moves_key (Validating j m (suc l) false) i new key h d next = cc
+moves_key (Marking j (k ∷ keys)) i new key h d next = cc
+moves_key (Marking j []) i new key h d next = cc
 
 pub moves_some_key : (task : Task) → is_due Move_key task ≡ true → ((j : ℕ) (keys : List (List ℕ)) (b : Bool) → task ≡ Moving j keys b → None ≡ slice_get keys 0) → ⊥
 moves_some_key Idle h next = cc
 moves_some_key (Running j answers None) h next = cc
 moves_some_key (Running j answers (Some b)) h next = cc
-moves_some_key (Moving j (k ∷ keys) b) h next = let none = next j (k ∷ keys) b refl in cc
-moves_some_key (Moving j [] b) h next = cc
-moves_some_key (Validating j n left) h next = cc
+moves_some_key (Moving j (k ∷ keys) c) h next = let none = next j (k ∷ keys) c refl in cc
+moves_some_key (Moving j [] c) h next = cc
+moves_some_key (Validating j m l true) h next = cc
+moves_some_key (Validating j m zero false) h next = cc
+moves_some_key (Validating j m (suc l) false) h next = cc
+moves_some_key (Marking j (k ∷ keys)) h next = cc
+moves_some_key (Marking j []) h next = cc
 
 pub finishes_moving : (task : Task) (i : ℕ) (new : Bool) → is_due Finish_execution task ≡ true → task_kind.Moving i new ≡ task_kind_of task → task ≡ Moving i [] new
 finishes_moving Idle i new h d = cc
 finishes_moving (Running j answers None) i new h d = cc
 finishes_moving (Running j answers (Some b)) i new h d = cc
-finishes_moving (Moving j (key ∷ keys) b) i new h d = cc
-finishes_moving (Moving j [] b) i new h d = cc
-finishes_moving (Validating j n left) i new h d = cc
+finishes_moving (Moving j (k ∷ keys) c) i new h d = cc
+finishes_moving (Moving j [] c) i new h d = cc
+finishes_moving (Validating j m l true) i new h d = cc
+finishes_moving (Validating j m zero false) i new h d = cc
+finishes_moving (Validating j m (suc l) false) i new h d = cc
+finishes_moving (Marking j (k ∷ keys)) i new h d = cc
+finishes_moving (Marking j []) i new h d = cc
 
--- the keys that a task moves
+pub marks_key : (task : Task) (i : ℕ) (key : List ℕ) → is_due Mark_estimate task ≡ true → task_kind.Marking i ≡ task_kind_of task → ((j : ℕ) (keys : List (List ℕ)) → task ≡ Marking j keys → Some key ≡ slice_get keys 0) → (keys : List (List ℕ)) × (task ≡ Marking i (key ∷ keys))
+marks_key Idle i key h d next = cc
+marks_key (Running j answers None) i key h d next = cc
+marks_key (Running j answers (Some b)) i key h d next = cc
+marks_key (Moving j (k ∷ keys) c) i key h d next = cc
+marks_key (Moving j [] c) i key h d next = cc
+marks_key (Validating j m l true) i key h d next = cc
+marks_key (Validating j m zero false) i key h d next = cc
+marks_key (Validating j m (suc l) false) i key h d next = cc
+marks_key (Marking j (k ∷ keys)) i key h d next = let same = next j (k ∷ keys) refl in (keys, cc)
+marks_key (Marking j []) i key h d next = cc
+
+pub marks_some_key : (task : Task) → is_due Mark_estimate task ≡ true → ((j : ℕ) (keys : List (List ℕ)) → task ≡ Marking j keys → None ≡ slice_get keys 0) → ⊥
+marks_some_key Idle h next = cc
+marks_some_key (Running j answers None) h next = cc
+marks_some_key (Running j answers (Some b)) h next = cc
+marks_some_key (Moving j (k ∷ keys) c) h next = cc
+marks_some_key (Moving j [] c) h next = cc
+marks_some_key (Validating j m l true) h next = cc
+marks_some_key (Validating j m zero false) h next = cc
+marks_some_key (Validating j m (suc l) false) h next = cc
+marks_some_key (Marking j (k ∷ keys)) h next = let none = next j (k ∷ keys) refl in cc
+marks_some_key (Marking j []) h next = cc
+
+pub finishes_marking : (task : Task) (i : ℕ) → is_due Finish_abort task ≡ true → task_kind.Marking i ≡ task_kind_of task → task ≡ Marking i []
+finishes_marking Idle i h d = cc
+finishes_marking (Running j answers None) i h d = cc
+finishes_marking (Running j answers (Some b)) i h d = cc
+finishes_marking (Moving j (k ∷ keys) c) i h d = cc
+finishes_marking (Moving j [] c) i h d = cc
+finishes_marking (Validating j m l true) i h d = cc
+finishes_marking (Validating j m zero false) i h d = cc
+finishes_marking (Validating j m (suc l) false) i h d = cc
+finishes_marking (Marking j (k ∷ keys)) i h d = cc
+finishes_marking (Marking j []) i h d = cc
+
+pub checks_next : (task : Task) (i n left : ℕ) (failed : Bool) → is_due Check_read task ≡ true → task_kind.Validating i n left failed ≡ task_kind_of task → (less : ℕ) × (left ≡ suc less) × (task ≡ Validating i n (suc less) false)
+checks_next Idle i n left failed h d = cc
+checks_next (Running j answers None) i n left failed h d = cc
+checks_next (Running j answers (Some b)) i n left failed h d = cc
+checks_next (Moving j (k ∷ keys) c) i n left failed h d = cc
+checks_next (Moving j [] c) i n left failed h d = cc
+checks_next (Validating j m zero true) i n left failed h d = cc
+checks_next (Validating j m (suc l) true) i n left failed h d = cc
+checks_next (Validating j m zero false) i n left failed h d = cc
+checks_next (Validating j m (suc l) false) i n left failed h d = (l, cc, cc)
+checks_next (Marking j (k ∷ keys)) i n left failed h d = cc
+checks_next (Marking j []) i n left failed h d = cc
+
+-- what a validation is of
+pub validates_at : (task : Task) (i n left : ℕ) (failed : Bool) → task_kind.Validating i n left failed ≡ task_kind_of task → task ≡ Validating i n left failed
+validates_at Idle i n left failed d = cc
+validates_at (Running j answers b) i n left failed d = cc
+validates_at (Moving j keys c) i n left failed d = cc
+validates_at (Validating j m l f) i n left failed d = cc
+validates_at (Marking j keys) i n left failed d = cc
+
+-- the keys that a task moves, and those that it marks
 pub moving_at : (task : Task) (i : ℕ) (new : Bool) → task_kind.Moving i new ≡ task_kind_of task → (keys : List (List ℕ)) × (task ≡ Moving i keys new)
 moving_at Idle i new d = cc
-moving_at (Running j answers blocked) i new d = cc
-moving_at (Moving j keys b) i new d = (keys, cc)
-moving_at (Validating j n left) i new d = cc
+moving_at (Running j answers b) i new d = cc
+moving_at (Moving j keys c) i new d = (keys, cc)
+moving_at (Validating j m l f) i new d = cc
+moving_at (Marking j keys) i new d = cc
+
+pub marking_at : (task : Task) (i : ℕ) → task_kind.Marking i ≡ task_kind_of task → (keys : List (List ℕ)) × (task ≡ Marking i keys)
+marking_at Idle i d = cc
+marking_at (Running j answers b) i d = cc
+marking_at (Moving j keys c) i d = cc
+marking_at (Validating j m l f) i d = cc
+marking_at (Marking j keys) i d = (keys, cc)
 
 -- a task names a call as its duty does
 pub names_running : (task : Task) (i : ℕ) (blocked : Option ℕ) → task_kind.Running i blocked ≡ task_kind_of task → named_by task ≡ Some i
 names_running Idle i blocked d = cc
 names_running (Running j answers b) i blocked d = cc
-names_running (Moving j keys new) i blocked d = cc
-names_running (Validating j n left) i blocked d = cc
+names_running (Moving j keys c) i blocked d = cc
+names_running (Validating j m l f) i blocked d = cc
+names_running (Marking j keys) i blocked d = cc
 
 pub names_moving : (task : Task) (i : ℕ) (new : Bool) → task_kind.Moving i new ≡ task_kind_of task → named_by task ≡ Some i
 names_moving task i new d = let at = moving_at task i new d in ap named_by at.1
+
+pub names_validating : (task : Task) (i n left : ℕ) (failed : Bool) → task_kind.Validating i n left failed ≡ task_kind_of task → named_by task ≡ Some i
+names_validating task i n left failed d = ap named_by (validates_at task i n left failed d)
+
+pub names_marking : (task : Task) (i : ℕ) → task_kind.Marking i ≡ task_kind_of task → named_by task ≡ Some i
+names_marking task i d = let at = marking_at task i d in ap named_by at.1
 
 -- a task runs a call where its duty does
 pub runs_one : (task : Task) (i : ℕ) (blocked : Option ℕ) → task_kind.Running i blocked ≡ task_kind_of task → IsRunning task
 runs_one Idle i blocked d = cc
 runs_one (Running j answers b) i blocked d = tt
-runs_one (Moving j keys new) i blocked d = cc
-runs_one (Validating j n left) i blocked d = cc
+runs_one (Moving j keys c) i blocked d = cc
+runs_one (Validating j m l f) i blocked d = cc
+runs_one (Marking j keys) i blocked d = cc
 
 -- what a worker is about is within the calls where its task is
 pub within_doing : (count : ℕ) (s : State) (task : Task) → ((i : ℕ) → named_by task ≡ Some i → i < count) → IsWithin count (next_step_of s task)
 within_doing count s Idle h = tt
-within_doing count s (Running i answers None) h = h i refl
-within_doing count s (Running i answers (Some b)) h = h i refl
-within_doing count s (Moving i (key ∷ keys) new) h = h i refl
-within_doing count s (Moving i [] new) h = h i refl
-within_doing count s (Validating i n left) h = h i refl
+within_doing count s (Running j answers None) h = h j refl
+within_doing count s (Running j answers (Some b)) h = h j refl
+within_doing count s (Moving j (k ∷ keys) c) h = h j refl
+within_doing count s (Moving j [] c) h = h j refl
+within_doing count s (Validating j m l true) h = h j refl
+within_doing count s (Validating j m zero false) h = h j refl
+within_doing count s (Validating j m (suc l) false) h = h j refl
+within_doing count s (Marking j (k ∷ keys)) h = h j refl
+within_doing count s (Marking j []) h = h j refl
 
 -- the step of a task that moves keys: the next key, where there is one
 pub moves_next : (s : State) (i : ℕ) (key : List ℕ) (keys : List (List ℕ)) (new : Bool) → Some key ≡ slice_get keys 0 → next_step.MoveKey i (call_at s i).incarnation ≡ next_step_of s (Moving i keys new)
@@ -127,6 +212,15 @@ pub moves_none : (s : State) (i : ℕ) (keys : List (List ℕ)) (new : Bool) →
 moves_none s i [] new h = refl
 moves_none s i (k ∷ keys) new h = cc
 
+-- so is that of a task that marks keys
+pub marks_next : (s : State) (i : ℕ) (key : List ℕ) (keys : List (List ℕ)) → Some key ≡ slice_get keys 0 → next_step.MarkEstimate i (call_at s i).incarnation ≡ next_step_of s (Marking i keys)
+marks_next s i key [] h = cc
+marks_next s i key (k ∷ keys) h = refl
+
+pub marks_none : (s : State) (i : ℕ) (keys : List (List ℕ)) → None ≡ slice_get keys 0 → next_step.FinishAbort i (call_at s i).incarnation ≡ next_step_of s (Marking i keys)
+marks_none s i [] h = refl
+marks_none s i (k ∷ keys) h = cc
+
 -- a key is moved where its version is set and the worker goes on to the next key
 pub moved_is : (w i : ℕ) (key : List ℕ) (keys : List (List ℕ)) (new : Bool) (s : State) (versions : Versions) (placed : ℕ) → versions ≡ changed s.versions (key, i) (version_of (call_at s i) key) → placed ≡ s.placed
     → with_task w (Moving i keys new) (record s { versions = versions; placed = placed }) ≡ moved w i key keys new s
@@ -134,88 +228,7 @@ moved_is w i key keys new s versions placed v p =
     ap (λ x. with_task w (Moving i keys new) (record s { versions = x; placed = placed })) v
     ∙ ap (λ x. with_task w (Moving i keys new) (record s { versions = changed s.versions (key, i) (version_of (call_at s i) key); placed = x })) p
 
--- ---- validate
-
--- what it says that a call is EXECUTED at an incarnation
-pub at_says : (n : ℕ) (call : CallState) → is_executed_at n call ≡ true → (call.status ≡ Executed) × (call.incarnation ≡ n)
-at_says n call h =
-    let both = and_parts (is_executed call.status) (call.incarnation == n) h in
-    (is_executed_says call.status both.0, equal_says call.incarnation n both.1)
-
--- a call that is taken back
-abbrev pub taken : CallState → CallState
-taken call = record call { status = Aborting }
-
--- the schedule in which a call was taken back
-module _ (i n : ℕ) (old new : Schedule) (tried : (v : Versions) (p : ℕ) → state_of v p new ≡ abort_tried i n (state_of v p old)) (at : is_executed_at n (get_or old.calls i fresh) ≡ true) where
-  pub taken_is : (v : Versions) (p : ℕ) → state_of v p new ≡ with_call i (taken (get_or old.calls i fresh)) (state_of v p old)
-  taken_is v p = tried v p ∙ ap (λ b. cond b (with_call i (taken (get_or old.calls i fresh)) (state_of v p old)) (state_of v p old)) at
-
-  pub taken_calls : new.calls ≡ set old.calls i (taken (get_or old.calls i fresh))
-  taken_calls = ap (λ (s : State). s.calls) (taken_is empty 0)
-
-  pub taken_in : i < length old.calls → i < length new.calls
-  taken_in h = subst (λ l. i < length l) (sym taken_calls) (let e = length-set old.calls i (taken (get_or old.calls i fresh)) in omega (arith, e, h))
-
-  pub taken_at : i < length old.calls → get_or new.calls i fresh ≡ taken (get_or old.calls i fresh)
-  taken_at h = ap (λ l. get_or l i fresh) taken_calls ∙ get_or-set_same old.calls i (taken (get_or old.calls i fresh)) fresh h
-
-  pub taken_counts : (w : ℕ) → MayCount w old → MayCount w new
-  taken_counts w h =
-      let tasks = ap (λ (s : State). s.tasks) (taken_is empty 0) in
-      let counts = ap (λ (s : State). s.counts) (taken_is empty 0) in
-      let dones = ap (λ (s : State). s.dones) (taken_is empty 0) in
-      record {
-        within = rw tasks h.within;
-        steps = rw counts h.steps;
-        asks = rw counts h.asks;
-        executions = rw counts h.executions;
-        validations = rw counts h.validations;
-        dones = rw dones h.dones;
-      }
-
--- a call that was taken back is readied, over the versions that are turned to estimates
-pub aborted_is : (w i : ℕ) (s : State) (versions : Versions) → i < length s.calls → versions ≡ estimated i (written_by (call_at s i).last) s.versions
-    → abort_finished w i (with_call i (taken (call_at s i)) (record s { versions = versions })) ≡ aborted w i s
-unfolding aborted
-aborted_is w i s versions i_in v =
-    let at = get_or-set_same s.calls i (taken (call_at s i)) fresh i_in in
-    simp (at, set-set) (rw v refl)
-
--- the parts of an abort make it
-pub abort_is : (w i n promised : ℕ) (table turned : Table) (old new after : Schedule) (last : Option Recorded) → i < length old.calls → is_executed_at n (get_or old.calls i fresh) ≡ true
-    → ((v : Versions) (p : ℕ) → state_of v p new ≡ abort_tried i n (state_of v p old)) → last ≡ (get_or old.calls i fresh).last → turned ≡ record table { versions = estimated i (written_by last) table.versions }
-    → ((v : Versions) (p : ℕ) → state_of v p after ≡ counted one_validation w (abort_finished w i (state_of v p new))) → state_in turned promised after ≡ counted one_validation w (aborted w i (state_in table promised old))
-abort_is w i n promised table turned old new after last i_in at tried same turns finished =
-    let versions : turned.versions ≡ estimated i (written_by (get_or old.calls i fresh).last) table.versions = ap (λ (t : Table). t.versions) turns ∙ ap (λ l. estimated i (written_by l) table.versions) same in
-    let placed : length turned.arena.records + promised ≡ length table.arena.records + promised = ap (λ (t : Table). length t.arena.records + promised) turns in
-    finished turned.versions (length turned.arena.records + promised)
-    ∙ ap (λ s. counted one_validation w (abort_finished w i s)) (taken_is i n old new tried at turned.versions (length turned.arena.records + promised))
-    ∙ ap (λ p. counted one_validation w (abort_finished w i (with_call i (taken (get_or old.calls i fresh)) (state_of turned.versions p old)))) placed
-    ∙ ap (counted one_validation w) (aborted_is w i (state_in table promised old) turned.versions i_in versions)
-
--- a validation that aborts, and one that ends the task
-pub validated_aborts : (w i n : ℕ) (s : State) → is_executed_at n (call_at s i) ≡ true → all_stand i s ≡ false → validated w i n s ≡ aborted w i s
-unfolding validated
-validated_aborts w i n s at falls =
-    ap (λ b. cond (b && not (all_stand i s)) (aborted w i s) (with_task w Idle s)) at
-    ∙ ap (λ b. cond (not b) (aborted w i s) (with_task w Idle s)) falls
-
-pub validated_stands : (w i n : ℕ) (s : State) → all_stand i s ≡ true → validated w i n s ≡ with_task w Idle s
-unfolding validated
-validated_stands w i n s stand = go (is_executed_at n (call_at s i)) ∙ refl
-  where
-    go : (b : Bool) → cond (b && not (all_stand i s)) (aborted w i s) (with_task w Idle s) ≡ with_task w Idle s
-    go true = ap (λ a. cond (not a) (aborted w i s) (with_task w Idle s)) stand
-    go false = refl
-
-pub validated_stale : (w i n : ℕ) (s : State) → is_executed_at n (call_at s i) ≡ false → validated w i n s ≡ with_task w Idle s
-unfolding validated
-validated_stale w i n s at = ap (λ b. cond (b && not (all_stand i s)) (aborted w i s) (with_task w Idle s)) at
-
--- a validation that aborts is a decision
-pub aborting_is : (w i n left : ℕ) (s : State) → is_executed_at n (call_at s i) ≡ true → all_stand i s ≡ false
-    → counted (if decided i n left s then one_validation else one_step) w (validated w i n s) ≡ counted one_validation w (aborted w i s)
-aborting_is w i n left s at falls =
-    ap (λ b. counted (if (b || left == 0) then one_validation else one_step) w (validated w i n s)) at
-    ∙ ap (counted one_validation w) (validated_aborts w i n s at falls)
+-- a key is marked where an estimate is set and the worker goes on to the next key
+pub marked_is : (w i : ℕ) (key : List ℕ) (keys : List (List ℕ)) (s : State) (versions : Versions) → versions ≡ changed s.versions (key, i) (Some Estimate)
+    → with_task w (Marking i keys) (record s { versions = versions }) ≡ marked w i key keys s
+marked_is w i key keys s versions v = ap (λ x. with_task w (Marking i keys) (record s { versions = x })) v

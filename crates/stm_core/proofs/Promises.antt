@@ -16,16 +16,16 @@ use Rattle.rv_step.specs.declared.answer.StorageAnswer.{StorageAnswer}
 use Rattle.stm_state.specs.declared.state.CallState.{CallState}
 use Rattle.stm_state.specs.declared.state.Recorded.{Recorded}
 use Rattle.stm_state.specs.declared.state.Task.{Task}
-use Rattle.stm_state.specs.declared.state.Task.TheVariants.{Idle, Running, Moving, Validating}
+use Rattle.stm_state.specs.declared.state.Task.TheVariants.{Idle, Running, Moving, Validating, Marking}
 use Rattle.stm_state.specs.Limits.{record_limit}
 use Rattle.stm_state.specs.State.{State, fresh, call_at, task_at}
-use Rattle.stm_state.specs.Steps.{Block, Step, Ask, Read_key, Park, Record as Hand_in, Move_key, Finish_execution, Validate, counted, one_step, one_execution, recorded, recorded_run, moved, has_new_key, keys_of, keys_to_move, left_over, write_of, written_by}
-use Rattle.stm_state.specs.Invariant.{Invariant, moved_by, run_by}
+use Rattle.stm_state.specs.Steps.{Block, Step, Ask, Read_key, Park, Record as Hand_in, Move_key, Finish_execution, Check_read, Decide, Mark_estimate, Finish_abort, counted, one_step, one_execution, recorded, recorded_run, moved, has_new_key, keys_of, keys_to_move, left_over, write_of, written_by}
+use Rattle.stm_state.specs.Invariant.{Invariant, owned_by}
 use Rattle.stm_state.proofs.Writes.{entries_found}
 use Rattle.stm_core.specs.CoreState.{is_due}
 use Rattle.stm_core.specs.Inner.{AreOpen, IsGrown, IsPromised, KeepsPromises, unpublished, with_write, writes_at}
 use Rattle.stm_core.proofs.Open.{open_grown}
-use Rattle.stm_core.proofs.Turns.{KeepsLasts, Leaves, Turn, has_moved, has_recorded}
+use Rattle.stm_core.proofs.Turns.{KeepsLasts, Leaves, Turn, has_moved, has_recorded, moved_by}
 
 -- ---- sums
 
@@ -116,7 +116,10 @@ IsQuiet Park = Unit {0}
 IsQuiet Hand_in = ⊥
 IsQuiet Move_key = ⊥
 IsQuiet Finish_execution = Unit {0}
-IsQuiet Validate = Unit {0}
+IsQuiet Check_read = Unit {0}
+IsQuiet Decide = Unit {0}
+IsQuiet Mark_estimate = Unit {0}
+IsQuiet Finish_abort = Unit {0}
 
 -- it leaves no keys to move
 leaves_none : (step : Step) (task : Task) → IsQuiet step → Leaves step task → moved_by task ≡ None
@@ -126,13 +129,17 @@ leaves_none Park task q h = h.1
 leaves_none Hand_in task q h = absurd q
 leaves_none Move_key task q h = absurd q
 leaves_none Finish_execution task q h = h.1
-leaves_none Validate task q h = h.1
+leaves_none Check_read task q h = h.1
+leaves_none Decide task q h = h.1
+leaves_none Mark_estimate task q h = h.1
+leaves_none Finish_abort task q h = h.1
 
 none_unpublished : (calls : List CallState) (task : Task) → moved_by task ≡ None → unpublished calls task ≡ []
 none_unpublished calls Idle h = refl
 none_unpublished calls (Running i answers blocked) h = refl
 none_unpublished calls (Moving i keys new) h = cc
-none_unpublished calls (Validating i n left) h = refl
+none_unpublished calls (Validating i n left failed) h = refl
+none_unpublished calls (Marking i keys) h = refl
 
 -- nor is there a write to publish before it
 none_before : (calls : List CallState) (step : Step) (task : Task) → IsQuiet step → is_due step task ≡ true → unpublished calls task ≡ []
@@ -145,14 +152,18 @@ none_before calls Park (Moving i (key ∷ keys) new) q due = cc
 none_before calls Hand_in (Moving i (key ∷ keys) new) q due = absurd q
 none_before calls Move_key (Moving i (key ∷ keys) new) q due = absurd q
 none_before calls Finish_execution (Moving i (key ∷ keys) new) q due = cc
-none_before calls Validate (Moving i (key ∷ keys) new) q due = cc
-none_before calls step (Validating i n left) q due = refl
+none_before calls Check_read (Moving i (key ∷ keys) new) q due = cc
+none_before calls Decide (Moving i (key ∷ keys) new) q due = cc
+none_before calls Mark_estimate (Moving i (key ∷ keys) new) q due = cc
+none_before calls Finish_abort (Moving i (key ∷ keys) new) q due = cc
+none_before calls step (Validating i n left failed) q due = refl
+none_before calls step (Marking i keys) q due = refl
 
 module _ (block : Block) (n w : ℕ) (s : State) (h : Invariant block n s) (within : w < length s.tasks) where
   -- a step that changes the worker's own task, and no last recorded run but that of the worker's own call
   module _ (t : State) (task : Task) (tasks : t.tasks ≡ set s.tasks w task) (lasts : KeepsLasts w s t) where
     last_same : (u i : ℕ) (keys : List (List ℕ)) (new : Bool) → u ≢ w → task_at s u ≡ Moving i keys new → (call_at t i).last ≡ (call_at s i).last
-    last_same u i keys new ne at = lasts i (λ own. ne (h.facts.alone u w i (ap run_by at) own))
+    last_same u i keys new ne at = lasts i (λ own. ne (h.facts.alone u w i (ap owned_by at) own))
 
     -- the other tasks keep the writes that they are yet to publish
     same_writes : (u : ℕ) → u ≢ w → unpublished s.calls (task_at s u) ≡ unpublished t.calls (task_at s u)
@@ -162,7 +173,8 @@ module _ (block : Block) (n w : ℕ) (s : State) (h : Invariant block n s) (with
         go Idle at = refl
         go (Running i answers blocked) at = refl
         go (Moving i keys new) at = ap (λ last. writes_at last keys) (sym (last_same u i keys new ne at))
-        go (Validating i m left) at = refl
+        go (Validating i m left failed) at = refl
+        go (Marking i keys) at = refl
 
     count_changed : sum_by (λ x. length (unpublished t.calls x)) t.tasks + length (unpublished s.calls (task_at s w)) ≡ sum_by (λ x. length (unpublished s.calls x)) s.tasks + length (unpublished t.calls task)
     count_changed =

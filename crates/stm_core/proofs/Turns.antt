@@ -1,5 +1,5 @@
 -- What a worker's step changes: the worker's own task, and its own counts by one step.
-use Rattle.std.proofs.Common.{◌≡◌, ◌≢◌, ◌<◌, ◌≤◌, ◌+◌, nat_lt, nat_le, ℕ, zero, suc, Bool, true, false, not, ◌&&◌, cond, if◌then◌else◌, List, [], ◌∷◌, length, map, get_or, set, Option, None, Some, Ok, Err, arith, refl, sym, ap, subst, ◌∙◌, length-set}
+use Rattle.std.proofs.Common.{◌≡◌, ◌≢◌, ◌<◌, ◌≤◌, ◌+◌, nat_lt, nat_le, ℕ, zero, suc, Bool, true, false, ◌&&◌, cond, List, [], ◌∷◌, length, map, get_or, set, Option, None, Some, Ok, Err, arith, refl, sym, ap, subst, ◌∙◌, length-set}
 use Rattle.std.specs.FinMap.{len}
 use Rattle.std.proofs.lemmas.List.{set-get_or, get_or-set_same, get_or-set_other}
 use Rattle.rv_ledger.specs.Key.{Storage}
@@ -9,17 +9,17 @@ use Rattle.rv_step.specs.Replies.{replies_of}
 use Rattle.rv_step.specs.declared.answer.StorageAnswer.{StorageAnswer}
 use Rattle.mvmap.specs.Reading.{Visible, Base, Found, Blocked, reading}
 use Rattle.stm_state.specs.declared.state.Task.{Task}
-use Rattle.stm_state.specs.declared.state.Task.TheVariants.{Idle, Running, Moving, Validating}
+use Rattle.stm_state.specs.declared.state.Task.TheVariants.{Idle, Running, Moving, Validating, Marking}
 use Rattle.stm_state.specs.declared.state.CallState.{CallState}
 use Rattle.stm_state.specs.State.{State, fresh, call_at, task_at, with_task, no_counts, is_ready, is_executed, is_done}
-use Rattle.stm_state.specs.Steps.{Block, Step, Ask, Read_key, Park, Record, Move_key, Finish_execution, Validate, ArenaFull, IncarnationLimit, counted, one_step, one_asking, one_execution, one_validation, decided, asked, ask_validation, ask_execution, count_done, answered_with, read_at, parked, recorded, moved, executed, next_incarnation, is_parked_on, resume_if_parked, resume_dependents, to_validate, validated, aborted, is_executed_at, all_stand, record_within, step_with, worker_step}
-use Rattle.stm_state.specs.Invariant.{moved_by, run_by}
+use Rattle.stm_state.specs.Steps.{Block, Step, Ask, Read_key, Park, Record, Move_key, Finish_execution, Check_read, Decide, Mark_estimate, Finish_abort, ArenaFull, IncarnationLimit, counted, one_step, one_asking, one_execution, one_validation, asked, ask_validation, ask_execution, count_done, answered_with, read_at, parked, recorded, moved, executed, next_incarnation, is_parked_on, resume_if_parked, resume_dependents, to_validate, checked, next_stands, decided, marked, aborted, is_executed_at, record_within, step_with, worker_step}
+use Rattle.stm_state.specs.Invariant.{owned_by}
 use Rattle.stm_state.proofs.Whole.{same_state, none_ok, err_ok}
 use Rattle.stm_core.specs.Driving.{HasNoAnswers}
 
 -- each call but the one that worker w has keeps its last recorded run
 abbrev pub KeepsLasts : ℕ → State → State → Type 0
-KeepsLasts w s t = (i : ℕ) → run_by (task_at s w) ≢ Some i → (call_at t i).last ≡ (call_at s i).last
+KeepsLasts w s t = (i : ℕ) → owned_by (task_at s w) ≢ Some i → (call_at t i).last ≡ (call_at s i).last
 
 -- worker w's task becomes one of which P holds, and no other task changes; and no counts
 pub record TaskTurn (w : ℕ) (P : Task → Type 0) (s t : State) : Type 0 where
@@ -39,6 +39,14 @@ pub record Turn (w : ℕ) (P : Task → Type 0) (s t : State) : Type 0 where
   pub counts : t.counts ≡ set s.counts w count
   pub lasts : KeepsLasts w s t
 
+-- the call whose run a task moves
+abbrev pub moved_by : Task → Option ℕ
+moved_by Idle = None
+moved_by (Running i answers blocked) = None
+moved_by (Moving i keys new) = Some i
+moved_by (Validating i n left failed) = None
+moved_by (Marking i keys) = None
+
 -- a task moves no keys, and its run, where it is not blocked, has no answers
 abbrev pub Rests : Task → Type 0
 Rests task = HasNoAnswers task × (moved_by task ≡ None)
@@ -51,7 +59,10 @@ Leaves Park task = Rests task
 Leaves Record task = HasNoAnswers task
 Leaves Move_key task = HasNoAnswers task
 Leaves Finish_execution task = Rests task
-Leaves Validate task = Rests task
+Leaves Check_read task = Rests task
+Leaves Decide task = Rests task
+Leaves Mark_estimate task = Rests task
+Leaves Finish_abort task = Rests task
 
 -- ---- last recorded runs
 
@@ -147,7 +158,7 @@ module _ (w : ℕ) (s : State) where
 
   pub has_recorded : (i : ℕ) (answers : List StorageAnswer) (receipt : Receipt) → task_at s w ≡ Running i answers None → TaskTurn w HasNoAnswers s (recorded w i answers receipt s)
   has_recorded i answers receipt at = given HasNoAnswers _ _ tt refl refl
-      (λ j ne. ap (λ (call : CallState). call.last) (get_or-set_other s.calls i j _ fresh (λ e. ne (ap run_by at ∙ ap Some (sym e)))))
+      (λ j ne. ap (λ (call : CallState). call.last) (get_or-set_other s.calls i j _ fresh (λ e. ne (ap owned_by at ∙ ap Some (sym e)))))
 
   -- ---- move key
 
@@ -170,19 +181,45 @@ module _ (w : ℕ) (s : State) where
   resumed_lasts i t j = resumed_last i t.calls j
 
   -- what is left to validate
-  left_to_validate : (i n left : ℕ) (new : Bool) (t : State) → t.tasks ≡ s.tasks → t.counts ≡ s.counts → KeepsLasts w s t → TaskTurn w Rests s (to_validate w i new (Validating i n left) t)
+  left_to_validate : (i n left : ℕ) (new : Bool) (t : State) → t.tasks ≡ s.tasks → t.counts ≡ s.counts → KeepsLasts w s t → TaskTurn w Rests s (to_validate w i new (Validating i n left false) t)
   unfolding to_validate
   left_to_validate i n left new t e c l = go (nat_lt i t.validation) new
     where
-      go : (past anew : Bool) → TaskTurn w Rests s (cond past (cond anew (with_task w Idle (record t { validation = i })) (with_task w (Validating i n left) t)) (with_task w Idle t))
+      go : (past anew : Bool) → TaskTurn w Rests s (cond past (cond anew (with_task w Idle (record t { validation = i })) (with_task w (Validating i n left false) t)) (with_task w Idle t))
       go true true = given Rests Idle _ (tt, refl) (ap (λ l. set l w Idle) e) c l
-      go true false = given Rests (Validating i n left) _ (tt, refl) (ap (λ l. set l w (Validating i n left)) e) c l
+      go true false = given Rests (Validating i n left false) _ (tt, refl) (ap (λ l. set l w (Validating i n left false)) e) c l
       go false anew = given Rests Idle _ (tt, refl) (ap (λ l. set l w Idle) e) c l
 
   has_executed : (i : ℕ) (new : Bool) → TaskTurn w Rests s (executed w i new s)
   has_executed i new = left_to_validate i _ _ new _ (resumed_tasks i _) (resumed_counts i _) (λ j _. resumed_lasts i _ j ∙ set_last s.calls i j _ refl)
 
-  -- ---- validate
+  -- ---- check read
+
+  has_checked : (i n left : ℕ) → TaskTurn w Rests s (checked w i n left s)
+  unfolding checked
+  has_checked i n left = go (is_executed_at n (call_at s i)) (next_stands i (suc left) s)
+    where
+      go : (at stands : Bool) → TaskTurn w Rests s (cond at (cond stands (with_task w (Validating i n left false) s) (with_task w (Validating i n (suc left) true) s)) (with_task w Idle s))
+      go true true = given Rests _ _ (tt, refl) refl refl (λ j _. refl)
+      go true false = given Rests _ _ (tt, refl) refl refl (λ j _. refl)
+      go false stands = given Rests _ _ (tt, refl) refl refl (λ j _. refl)
+
+  -- ---- decide
+
+  has_decided : (i n : ℕ) (failed : Bool) → TaskTurn w Rests s (decided w i n failed s)
+  unfolding decided
+  has_decided i n failed = go (failed && is_executed_at n (call_at s i)) refl
+    where
+      go : (d : Bool) → (failed && is_executed_at n (call_at s i)) ≡ d → TaskTurn w Rests s (decided w i n failed s)
+      go true e = rw e (given Rests _ _ (tt, refl) refl refl (λ j _. set_last s.calls i j _ refl))
+      go false e = rw e (given Rests _ _ (tt, refl) refl refl (λ j _. refl))
+
+  -- ---- mark estimate
+
+  has_marked : (i : ℕ) (key : List ℕ) (keys : List (List ℕ)) → TaskTurn w Rests s (marked w i key keys s)
+  has_marked i key keys = given Rests _ _ (tt, refl) refl refl (λ j _. refl)
+
+  -- ---- finish abort
 
   has_aborted : (i : ℕ) → TaskTurn w Rests s (aborted w i s)
   unfolding aborted
@@ -191,14 +228,6 @@ module _ (w : ℕ) (s : State) where
       go : (d : Bool) → nat_lt i s.execution ≡ d → TaskTurn w Rests s (aborted w i s)
       go true e = rw e (given Rests _ _ (refl, refl) refl refl (λ j _. set_last s.calls i j _ refl))
       go false e = rw e (given Rests _ _ (tt, refl) refl refl (λ j _. set_last s.calls i j _ refl))
-
-  has_validated : (i n : ℕ) → TaskTurn w Rests s (validated w i n s)
-  unfolding validated
-  has_validated i n = go (is_executed_at n (call_at s i) && not (all_stand i s)) refl
-    where
-      go : (d : Bool) → (is_executed_at n (call_at s i) && not (all_stand i s)) ≡ d → TaskTurn w Rests s (validated w i n s)
-      go true e = rw e (has_aborted i)
-      go false e = rw e (given Rests _ _ (tt, refl) refl refl (λ j _. refl))
 
 -- ---- each step
 
@@ -218,11 +247,6 @@ module _ (block : Block) (w : ℕ) (s t : State) where
   parked_within i b true k = absurd (err_ok IncarnationLimit t k)
   parked_within i b false k = subst (λ x. Turn w Rests s x) (same_state _ t k) (counts_one w s Rests one_step _ (λ c. refl) (has_parked w s i b))
 
-  -- a validation that counts as a decision or as a step alone
-  validated_once : (i n : ℕ) (decides : Bool) → Turn w Rests s (counted (if decides then one_validation else one_step) w (validated w i n s))
-  validated_once i n true = counts_one w s Rests one_validation _ (λ c. refl) (has_validated w s i n)
-  validated_once i n false = counts_one w s Rests one_step _ (λ c. refl) (has_validated w s i n)
-
   -- each step, by the task
   step_turn : (task : Task) → task_at s w ≡ task → (step : Step) → step_with block w task step s ≡ Some (Ok t) → Turn w (Leaves step) s t
   step_turn Idle at Ask k = subst (λ x. Turn w Rests s x) (same_state _ t k) (counts_one w s Rests one_asking _ (λ c. refl) (has_asked w s at))
@@ -232,7 +256,11 @@ module _ (block : Block) (w : ℕ) (s t : State) where
   step_turn (Running i answers None) at Record k = recorded_within i answers (block.borne_out i (replies_of answers)) at k
   step_turn (Moving i (key ∷ keys) new) at Move_key k = subst (λ x. Turn w HasNoAnswers s x) (same_state _ t k) (counts_one w s HasNoAnswers one_step _ (λ c. refl) (has_moved w s i key keys new))
   step_turn (Moving i [] new) at Finish_execution k = subst (λ x. Turn w Rests s x) (same_state _ t k) (counts_one w s Rests one_step _ (λ c. refl) (has_executed w s i new))
-  step_turn (Validating i n left) at Validate k = subst (λ x. Turn w Rests s x) (same_state _ t k) (validated_once i n (decided i n left s))
+  step_turn (Validating i n left true) at Decide k = subst (λ x. Turn w Rests s x) (same_state _ t k) (counts_one w s Rests one_validation _ (λ c. refl) (has_decided w s i n true))
+  step_turn (Validating i n (suc left) false) at Check_read k = subst (λ x. Turn w Rests s x) (same_state _ t k) (counts_one w s Rests one_step _ (λ c. refl) (has_checked w s i n left))
+  step_turn (Validating i n zero false) at Decide k = subst (λ x. Turn w Rests s x) (same_state _ t k) (counts_one w s Rests one_validation _ (λ c. refl) (has_decided w s i n false))
+  step_turn (Marking i (key ∷ keys)) at Mark_estimate k = subst (λ x. Turn w Rests s x) (same_state _ t k) (counts_one w s Rests one_step _ (λ c. refl) (has_marked w s i key keys))
+  step_turn (Marking i []) at Finish_abort k = subst (λ x. Turn w Rests s x) (same_state _ t k) (counts_one w s Rests one_step _ (λ c. refl) (has_aborted w s i))
   step_turn task at step k = absurd (none_ok t k)
 
   -- each step

@@ -1,16 +1,16 @@
--- What the engine's answers say of the list of worker numbers that it was given.
+-- What the engine's refusals say of its list of worker numbers, and how a run under way fits its worker's task.
 use Rattle.std.specs.Prelude.{◌≡◌, List, [], Option, None, Some, Result, Err, slice_get}
 use Rattle.rv_ledger.specs.Call.{Invocation}
 use Rattle.rv_step.specs.Run.{RunView}
 use Rattle.stm_state.specs.declared.state.Task.{Task}
-use Rattle.stm_state.specs.declared.state.Task.TheVariants.{Idle, Running, Moving, Validating}
+use Rattle.stm_state.specs.declared.state.Task.TheVariants.{Idle, Running, Moving, Validating, Marking}
 use Rattle.stm_state.specs.State.{State}
 use Rattle.stm_state.specs.Steps.{Limit, ArenaFull, IncarnationLimit}
 use Rattle.stm_state.specs.Drive.{Refusal, NotDone, BadWorker, Limited}
 use Rattle.stm_core.specs.declared.engine.DriveFault.{DriveFault}
 use Rattle.stm_core.specs.declared.engine.DriveFault.TheVariants as fault
 
--- what a list comes to where it is refused so; where memory ran out it may come to anything
+-- what a list comes to, by its refusal; where memory ran out nothing is said of it
 abbrev pub IsRefusal : DriveFault → Result State Refusal → Type 0
 IsRefusal fault.NotDone r = r ≡ Err NotDone
 IsRefusal fault.BadWorker r = r ≡ Err BadWorker
@@ -18,7 +18,7 @@ IsRefusal fault.ArenaFull r = r ≡ Err (Limited ArenaFull)
 IsRefusal fault.IncarnationLimit r = r ≡ Err (Limited IncarnationLimit)
 IsRefusal fault.Memory r = Unit {0}
 
--- what the step that a worker owes comes to where it is refused so
+-- what the step that a worker owes comes to, by its refusal; NotDone and BadWorker never refuse a step
 abbrev pub IsStepRefusal : DriveFault → Option (Result State Limit) → Type 0
 IsStepRefusal fault.NotDone r = ⊥
 IsStepRefusal fault.BadWorker r = ⊥
@@ -26,23 +26,25 @@ IsStepRefusal fault.ArenaFull r = r ≡ Some (Err ArenaFull)
 IsStepRefusal fault.IncarnationLimit r = r ≡ Some (Err IncarnationLimit)
 IsStepRefusal fault.Memory r = Unit {0}
 
--- a task's run, where it is not blocked, has no answers yet
+-- a task's run has no answers yet, unless it is blocked
 abbrev pub HasNoAnswers : Task → Type 0
 HasNoAnswers Idle = Unit {0}
 HasNoAnswers (Running i answers None) = answers ≡ []
 HasNoAnswers (Running i answers (Some b)) = Unit {0}
 HasNoAnswers (Moving i keys new) = Unit {0}
-HasNoAnswers (Validating i n left) = Unit {0}
+HasNoAnswers (Validating i n left failed) = Unit {0}
+HasNoAnswers (Marking i keys) = Unit {0}
 
--- a run under way is of the call that a task runs, and was given just that task's answers
+-- a run under way is a run of the call that a task runs, and was given exactly that task's answers
 abbrev pub IsRunOf : List Invocation → RunView → Task → Type 0
 IsRunOf calls run Idle = ⊥
 IsRunOf calls run (Running i answers None) = (slice_get calls i ≡ Some run.call) × (run.answers ≡ answers)
 IsRunOf calls run (Running i answers (Some b)) = ⊥
 IsRunOf calls run (Moving i keys new) = ⊥
-IsRunOf calls run (Validating i n left) = ⊥
+IsRunOf calls run (Validating i n left failed) = ⊥
+IsRunOf calls run (Marking i keys) = ⊥
 
--- a worker's run under way is that of its task; where there is none the task has no answers
+-- a worker's run under way is the run of its task; where there is none, the task's run has no answers yet or is blocked
 abbrev pub FitsTask : List Invocation → Option RunView → Task → Type 0
 FitsTask calls None task = HasNoAnswers task
 FitsTask calls (Some run) task = IsRunOf calls run task

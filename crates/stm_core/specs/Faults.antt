@@ -5,7 +5,7 @@ use Rattle.stm_core.specs.declared.engine.DriveFault.TheVariants.{NotDone, BadWo
 use Rattle.stm_core.specs.declared.fault.RecordFault.{RecordFault}
 use Rattle.stm_core.specs.declared.fault.RecordFault.TheVariants as record_fault
 
--- the name and the number of a refusal along a schedule
+-- the name and the number of a refusal of a schedule
 abbrev pub fault_text : DriveFault → List ℕ
 fault_text NotDone = codes "NotDone 1"
 fault_text BadWorker = codes "BadWorker 2"
@@ -13,7 +13,7 @@ fault_text ArenaFull = codes "ArenaFull 3"
 fault_text IncarnationLimit = codes "IncarnationLimit 4"
 fault_text Memory = codes "Memory 5"
 
--- of a run that is handed in
+-- the name and the number of a refusal of a run that is handed in
 abbrev pub record_text : RecordFault → List ℕ
 record_text record_fault.Foreign = codes "Foreign 1"
 record_text record_fault.ArenaFull = codes "ArenaFull 2"

@@ -17,7 +17,7 @@ use Rattle.rv_ledger.specs.declared.inline_bytes.TheConstants.{VALUE_LIMIT}
 use Rattle.stm_state.specs.declared.state.CallState.{CallState}
 use Rattle.stm_state.specs.declared.state.Recorded.{Recorded}
 use Rattle.stm_state.specs.declared.state.Task.{Task}
-use Rattle.stm_state.specs.declared.state.Task.TheVariants.{Idle, Running, Moving, Validating}
+use Rattle.stm_state.specs.declared.state.Task.TheVariants.{Idle, Running, Moving, Validating, Marking}
 use Rattle.stm_state.specs.Limits.{record_limit}
 use Rattle.stm_state.specs.State.{State, fresh, call_at, task_at}
 use Rattle.stm_state.specs.Steps.{read_of, write_of}
@@ -33,7 +33,7 @@ AreOpen places i writes = AllByRecursion (λ write. IsTrue (contains places (wri
 abbrev pub HasPlaces : Table → Type 0
 HasPlaces table = (place : Place) → IsSome (get table.versions place) → IsTrue (contains table.places place)
 
--- a table with the same versions and records, and no less room
+-- a table has the same versions and records as an older one, all of its places, and no less room
 pub record IsGrown (old new : Table) : Type 0 where
   pub versions : new.versions ≡ old.versions
   pub records : new.arena.records ≡ old.arena.records
@@ -41,11 +41,11 @@ pub record IsGrown (old new : Table) : Type 0 where
   pub room : old.arena.room ≤ new.arena.room
   pub bytes : old.arena.bytes ≤ new.arena.bytes
 
--- a run is of the call at an index and was given these answers
+-- a run is a run of the call at an index, and was given these answers
 abbrev pub IsHanded : List Invocation → ℕ → List StorageAnswer → EndedRun → Type 0
 IsHanded calls i answers run = (slice_get calls i ≡ Some run.call) × (run.answers.items ≡ answers)
 
--- the writes at some keys, in their order; none at a key without one
+-- what a recorded run wrote at some keys, in the order of the keys; a key that it did not write is left out
 abbrev pub with_write : List ℕ → Option Content → List (List ℕ × Content) → List (List ℕ × Content)
 with_write key None writes = writes
 with_write key (Some content) writes = (key, content) ∷ writes
@@ -59,10 +59,11 @@ abbrev pub unpublished : List CallState → Task → List (List ℕ × Content)
 unpublished calls Idle = []
 unpublished calls (Running i answers blocked) = []
 unpublished calls (Moving i keys new) = writes_at (get_or calls i fresh).last keys
-unpublished calls (Validating i n left) = []
+unpublished calls (Validating i n left failed) = []
+unpublished calls (Marking i keys) = []
 
--- what was promised to the tasks is kept: each write that is yet to be published has a place, and for so many more records,
--- however long their values are, there is room
+-- the promises to the tasks are kept: each write that is yet to be published has a place, `promised` is the number of
+-- these writes, and there is room for that number of records, however long their values are
 pub record KeepsPromises (table : Table) (promised : ℕ) (s : State) : Type 0 where
   pub places : (w i : ℕ) (keys : List (List ℕ)) (new : Bool) → task_at s w ≡ Moving i keys new → AreOpen table.places i (writes_at (call_at s i).last keys)
   pub count : sum_by (λ task. length (unpublished s.calls task)) s.tasks ≡ promised
@@ -70,21 +71,21 @@ pub record KeepsPromises (table : Table) (promised : ℕ) (s : State) : Type 0 w
   pub room : promised ≤ table.arena.room
   pub bytes : promised * VALUE_LIMIT ≤ table.arena.bytes
 
--- room is promised for the writes of a call's run, beside what was promised before
+-- room is promised for the writes of a call's run, in addition to what was promised before
 pub record IsPromised (i : ℕ) (writes : WriteMap) (table : Table) (before after : ℕ) : Type 0 where
   pub count : after ≡ before + len writes
   pub places : AreOpen table.places i (entries writes)
   pub room : after ≤ table.arena.room
   pub bytes : after * VALUE_LIMIT ≤ table.arena.bytes
 
--- the state that versions, the records that are promised, and a schedule are
+-- the state that a table, a number of promised records and a schedule stand for
 abbrev pub state_in : Table → ℕ → Schedule → State
 state_in table promised schedule = state_of table.versions (length table.arena.records + promised) schedule
 
 abbrev pub core_state_of : Job → Table → ℕ → Schedule → CoreState
 core_state_of job table promised schedule = record { job = job; state = state_in table promised schedule; rooms = schedule.rooms }
 
--- some list of worker steps leads to the state, the versions have places, and what was promised is kept
+-- some list of worker steps leads to the state, each version has a place, and the promises are kept
 pub record IsReached (job : Job) (table : Table) (promised : ℕ) (schedule : Schedule) : Type 0 where
   pub reached : Reached (block_of job.block job.store) (length schedule.tasks) (state_in table promised schedule)
   pub places : HasPlaces table

@@ -30,9 +30,9 @@ pub const WORKER_LIMIT: usize = 32;
 pub enum DriveFault {
     /// The list is used up, and workers are not done.
     NotDone = 1,
-    /// An entry is no worker, or the number of workers is not 1 to 32.
+    /// An entry is not a worker, or the number of workers is not 1 to 32.
     BadWorker = 2,
-    /// There would be above 1,048,576 records of versions.
+    /// There would be more than 1,048,576 records of versions.
     ArenaFull = 3,
     /// A run at incarnation 65,535 was to be parked or recorded.
     IncarnationLimit = 4,
@@ -74,11 +74,11 @@ impl<T: Drop> From<AllocFailed<T>> for DriveFault {
     }
 }
 
-/// Runs a job on 1 to 32 workers along a list of worker numbers; each entry makes the one step that
-/// this worker owes. Refused as BadWorker first where the number of workers is not 1 to 32; else with
-/// the first fault that a step meets: BadWorker (an entry that is no worker), ArenaFull or
-/// IncarnationLimit; else as NotDone where the list is used up and workers are not done. Refused as
-/// Memory wherever memory ran out before that.
+/// Runs a job on 1 to 32 workers along a list of worker numbers. Each entry makes the one step that
+/// this worker owes. Refused as BadWorker where the number of workers is not 1 to 32; this is tested
+/// first. Otherwise the first entry that fails decides: BadWorker where it is not a worker, ArenaFull
+/// or IncarnationLimit where its step meets that limit. Refused as NotDone where the list is used up
+/// and workers are not done. Refused as Memory where memory runs out before any of these.
 pub fn drive(
     alloc: Global,
     job: &Job,
@@ -104,7 +104,7 @@ pub fn drive(
     Ok(core.outcome(alloc)?)
 }
 
-/// No run under way, of so many workers.
+/// A list without a run under way, one entry per worker; refused where memory ran out.
 fn no_runs(alloc: Global, workers: usize) -> Result<Vec<Option<Run>>, AllocError>
     ensures { IfOk result (λ v. v.items ≡ replicate workers None) }
 {
@@ -115,8 +115,8 @@ fn no_runs(alloc: Global, workers: usize) -> Result<Vec<Option<Run>>, AllocError
     Ok(runs)
 }
 
-/// Makes the steps of a list of worker numbers from the start on. `runs` are the workers' runs under
-/// way.
+/// Makes the steps of a list of worker numbers, from the start of the job, until one is refused.
+/// `runs` holds each worker's run under way.
 fn follow(
     alloc: Global,
     core: &mut Core,
@@ -163,12 +163,15 @@ fn step(
         NextStep::Park { .. } => park(core, worker)?,
         NextStep::MoveKey { .. } => core.move_key(worker),
         NextStep::FinishExecution { .. } => core.finish_execution(worker),
-        NextStep::Validate { .. } => core.validate(worker),
+        NextStep::CheckRead { .. } => core.check_read(worker),
+        NextStep::Decide { .. } => core.decide(worker),
+        NextStep::MarkEstimate { .. } => core.mark_estimate(worker),
+        NextStep::FinishAbort { .. } => core.finish_abort(worker),
     }
     Ok(())
 }
 
-/// Parks a worker's call, or starts its run again.
+/// Parks a worker's call, or starts its run again; refused at incarnation 65,535.
 fn park(core: &mut Core, worker: usize) -> Result<(), DriveFault>
     requires { IsDue worker Park core.old }
     ensures makes { OnOk result (Makes worker Park core.old core.new) }
@@ -180,8 +183,8 @@ fn park(core: &mut Core, worker: usize) -> Result<(), DriveFault>
     }
 }
 
-/// Lets a worker's run go on to its next read or its end, and makes that step. The run that is then
-/// under way is handed back.
+/// Takes a worker's run on to its next read or its end, and makes that step. Starts the run where
+/// none is under way. Returns the run that is under way after the step.
 fn run_on(
     alloc: Global,
     core: &mut Core,
@@ -212,8 +215,8 @@ fn run_on(
     }
 }
 
-/// Reads the key that a worker's run asks for. The run is handed back with its answer, unless it met
-/// an estimate.
+/// Reads the key that a worker's run asks for. Returns the run with its answer, or None where it met
+/// an estimate. Refused where memory ran out.
 fn read(core: &mut Core, worker: usize, mut run: Run, key: &Key) -> Result<Option<Run>, DriveFault>
     requires due { IsDue worker (Read_key key.now) core.old }
     requires asked { run.stage ≡ Asked key.now }
@@ -232,7 +235,7 @@ fn read(core: &mut Core, worker: usize, mut run: Run, key: &Key) -> Result<Optio
     }
 }
 
-/// Hands a worker's ended run in.
+/// Hands in a worker's ended run.
 fn hand_in(alloc: Global, core: &mut Core, worker: usize, run: Run) -> Result<(), DriveFault>
     requires due { IsDue worker Record core.old }
     requires ended { IsEnded run.stage }

@@ -9,7 +9,7 @@ use thiserror::Error;
 pub enum RecordFault {
     /// Its call is not the job's call at that index, or its answers are not those that were given.
     Foreign = 1,
-    /// There would be above 1,048,576 records of versions.
+    /// There would be more than 1,048,576 records of versions.
     ArenaFull = 2,
     /// Memory ran out.
     Memory = 3,

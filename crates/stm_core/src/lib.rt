@@ -11,7 +11,6 @@ mod reads;
 mod recording;
 mod same;
 pub mod state;
-mod validating;
 mod versions;
 
 pub use engine::{DriveFault, WORKER_LIMIT, drive};

@@ -1,4 +1,4 @@
-//! What a worker is about, and what its askings and reads are answered.
+//! The step that a worker owes, and the answers to `ask` and to a read.
 
 use read_set::Origin;
 use rv_ledger::Value;
@@ -36,16 +36,37 @@ pub enum NextStep {
         /// The call's incarnation.
         incarnation: u16,
     },
-    /// `validate`.
-    Validate {
+    /// `check_read`.
+    CheckRead {
         /// The call's index.
         call: u16,
         /// The incarnation whose reads are checked.
         incarnation: u16,
     },
+    /// `decide`.
+    Decide {
+        /// The call's index.
+        call: u16,
+        /// The incarnation whose reads were checked.
+        incarnation: u16,
+    },
+    /// `mark_estimate`.
+    MarkEstimate {
+        /// The call's index.
+        call: u16,
+        /// The call's incarnation.
+        incarnation: u16,
+    },
+    /// `finish_abort`.
+    FinishAbort {
+        /// The call's index.
+        call: u16,
+        /// The call's incarnation.
+        incarnation: u16,
+    },
 }
 
-/// What an asking is answered.
+/// The answer to `ask`.
 #[derive(Clone, Copy, Debug, PartialEq, Eq)]
 pub enum AskResult {
     /// All is done: both indices are past the last call, and no worker has a task.
@@ -56,7 +77,7 @@ pub enum AskResult {
     Task,
 }
 
-/// What a read is answered.
+/// The answer to a read of a key.
 #[derive(Drop)]
 pub enum ReadResult {
     /// The key's value, or None where it is absent, and where the answer came from.

@@ -13,7 +13,8 @@ use scheduler::Scheduler;
 use std::alloc::{AllocError, Global};
 use stm_state::CallState;
 
-/// What the run of a job leaves, where no entry is an estimate; refused where memory ran out.
+/// What the run of a job leaves: the job, its receipts, the storage after it and the workers'
+/// counts. No entry may be an estimate. Refused where memory ran out.
 pub(crate) fn outcome_of(
     alloc: Global,
     job: &Job,

@@ -1,4 +1,4 @@
-//! What a worker is about, and a read of its run.
+//! The step that a worker owes, and a read of its run.
 
 ghost use Rattle.std.specs.Prelude.{◌≡◌, ◌<◌, ◌≤◌, ℕ, Bool, List, length, get_or, IfSome, None, Some};
 ghost use Rattle.std.specs.Option.{option_copied};
@@ -6,7 +6,7 @@ ghost use Rattle.rv_step.specs.declared.answer.StorageAnswer.{StorageAnswer};
 ghost use Rattle.mvmap.specs.Versions.{Versions};
 ghost use Rattle.mvmap.specs.Reading.{reading};
 ghost use Rattle.stm_state.specs.declared.state.Task.TheVariants as task;
-ghost use Rattle.stm_state.specs.State.{with_task};
+ghost use Rattle.stm_state.specs.State.{State, with_task};
 ghost use Rattle.stm_state.specs.Steps.{answered_with, counted, one_step};
 ghost use Rattle.stm_state.specs.Invariant.{named_by};
 ghost use Rattle.scheduler.specs.Schedule.{KeepsRooms, MayCount, state_of};
@@ -48,12 +48,14 @@ pub(crate) fn next_step_of(scheduler: &Scheduler, worker: usize) -> NextStep
         TaskKind::Validating {
             call,
             incarnation,
-            ..
-        } => NextStep::Validate { call, incarnation },
+            left,
+            failed,
+        } => validating_step(call, incarnation, left, failed),
+        TaskKind::Marking { call } => marking_step(scheduler, worker, call),
     }
 }
 
-/// The step that a worker owes that moves the keys of a call's run.
+/// The step that a worker owes while it moves the keys of a call's run.
 fn moving_step(scheduler: &Scheduler, worker: usize, call: u16) -> NextStep
     requires worker { worker < length scheduler.now.tasks }
     requires within { call < length scheduler.now.calls }
@@ -66,8 +68,33 @@ fn moving_step(scheduler: &Scheduler, worker: usize, call: u16) -> NextStep
     }
 }
 
-/// A worker's run reads a key for its call, in room that was made: it is given what the highest call
-/// below has, or is blocked on it. Takes no memory.
+/// The step that a worker owes while it validates a call's incarnation, with `left` reads to check.
+fn validating_step(call: u16, incarnation: u16, left: usize, failed: bool) -> NextStep
+    ensures { (s : State) → result ≡ next_step_of s (task.Validating call incarnation left failed) }
+{
+    if failed || left == 0 {
+        NextStep::Decide { call, incarnation }
+    } else {
+        NextStep::CheckRead { call, incarnation }
+    }
+}
+
+/// The step that a worker owes while it marks the keys of a call.
+fn marking_step(scheduler: &Scheduler, worker: usize, call: u16) -> NextStep
+    requires worker { worker < length scheduler.now.tasks }
+    requires within { call < length scheduler.now.calls }
+    ensures { (keys : List (List ℕ)) → get_or scheduler.now.tasks worker task.Idle ≡ task.Marking call keys → (v : Versions) (p : ℕ) → result ≡ next_step_of (state_of v p scheduler.now) (task.Marking call keys) }
+{
+    let incarnation = scheduler.call(call).incarnation;
+    match scheduler.next_key(worker) {
+        Some(_) => NextStep::MarkEstimate { call, incarnation },
+        None => NextStep::FinishAbort { call, incarnation },
+    }
+}
+
+/// A worker's run reads a key for its call, in room that was made. Of the calls below, the highest
+/// one with an entry at the key decides: the run is given what that call wrote, or is blocked on it
+/// where the entry is an estimate. Where no call below has one, the storage answers. Takes no memory.
 pub(crate) fn read_at(
     store: &Store,
     map: &MvMap,
@@ -108,7 +135,7 @@ pub(crate) fn read_at(
     }
 }
 
-/// Keeps an answer to a worker's run, in room that was made, and gives it.
+/// Keeps an answer to a worker's run, in room that was made, and returns it.
 fn give(
     scheduler: &mut Scheduler,
     worker: usize,
@@ -131,7 +158,7 @@ fn give(
     ReadResult::Given(value, origin)
 }
 
-/// The value of bytes that a version has.
+/// The value that a version has; None where the version says that the key is absent.
 fn value_of(content: Option<&[u8]>) -> Option<Value>
     requires { IfSome content (λ bytes. length bytes.now ≤ VALUE_LIMIT) }
     ensures { result ≡ option_copied content.entry }

@@ -1,16 +1,14 @@
-//! The reads of a run: those of the answers that it was given, and whether they stand.
+//! The reads of a run, as its answers give them, and whether the next one stands.
 
-ghost use Rattle.std.specs.Prelude.{◌≡◌, map, IfOk};
-ghost use Rattle.std.specs.List.{list_all};
-ghost use Rattle.mvmap.specs.Reading.{stands};
-ghost use Rattle.stm_state.specs.Steps.{read_of, reads_of};
+ghost use Rattle.std.specs.Prelude.{◌≡◌, ◌-◌, length, map, slice_get, IfOk};
+ghost use Rattle.stm_state.specs.Steps.{read_of, read_stands, reads_of};
 
 use mvmap::MvMap;
 use read_set::{Read, ReadSet};
 use rv_step::StorageAnswer;
 use std::alloc::{AllocError, Global};
 use stm_state::Recorded;
-use validate::still_read;
+use validate::next_read;
 
 /// The reads of a run that was given these answers; refused where memory ran out.
 pub(crate) fn reads_of(alloc: Global, answers: &[StorageAnswer]) -> Result<ReadSet, AllocError>
@@ -26,16 +24,17 @@ pub(crate) fn reads_of(alloc: Global, answers: &[StorageAnswer]) -> Result<ReadS
     Ok(reads)
 }
 
-/// Whether all reads of the call's last recorded run stand. Takes no memory.
-pub(crate) fn all_stand(map: &MvMap, call: u16, last: &Option<Recorded>) -> bool
-    ensures { result ≡ list_all (stands map.now.versions call) (reads_of last.now) }
+/// Whether the first of the last `left` reads of the call's last recorded run stands. A run that was
+/// recorded since may have fewer reads; then the first of all is checked. True where there is no run
+/// and where there is no such read. Takes no memory.
+pub(crate) fn next_stands(map: &MvMap, call: u16, last: &Option<Recorded>, left: usize) -> bool
+    ensures { result ≡ read_stands map.now.versions call (slice_get (reads_of last.now) (length (reads_of last.now) - left)) }
 {
     match last {
-        Some(run) => run
-            .reads
-            .reads()
-            .iter()
-            .all(|read| still_read(map, call, read)),
+        Some(run) => {
+            let reads = run.reads.reads();
+            next_read(map, call, reads, reads.len().saturating_sub(left)).unwrap_or(true)
+        }
         None => true,
     }
 }

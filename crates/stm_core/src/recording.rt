@@ -1,13 +1,14 @@
-//! A run that is handed in.
+//! How a run that is handed in is checked and recorded.
 
-ghost use Rattle.std.specs.Prelude.{◌≡◌, ◌≢◌, ◌<◌, ◌≤◌, ◌+◌, ◌*◌, ◌↔◌, ℕ, List, length, get_or, true, Some, None, IfOk, IfErr, OnOk};
+ghost use Rattle.std.specs.Prelude.{◌≡◌, ◌≢◌, ◌<◌, ◌≤◌, ◌+◌, ◌*◌, ◌↔◌, List, length, get_or, true, Some, None, IfOk, IfErr, OnOk};
 ghost use Rattle.std.specs.FinMap.{entries, len};
 ghost use Rattle.rv_step.specs.declared.answer.StorageAnswer.{StorageAnswer};
+ghost use Rattle.stm_state.specs.declared.state.Status.TheVariants.{Executing};
 ghost use Rattle.stm_state.specs.declared.state.Task.TheVariants as task;
 ghost use Rattle.stm_state.specs.State.{fresh};
 ghost use Rattle.stm_state.specs.Steps.{counted, keys_to_move, one_execution, recorded};
 ghost use Rattle.scheduler.specs.Schedule.{KeepsRooms, MayCount};
-ghost use Rattle.scheduler.specs.Workers.{IsRunning};
+ghost use Rattle.scheduler.specs.Workers.{IsRunning, NobodyMoves};
 ghost use Rattle.stm_core.specs.declared.fault.RecordFault.TheVariants as fault;
 ghost use Rattle.stm_core.specs.Inner.{AreOpen, IsGrown, IsHanded, IsPromised, reads_in, state_in};
 
@@ -25,8 +26,8 @@ use std::alloc::Global;
 use stm_state::Recorded;
 use version_arena::{RECORD_LIMIT, ReserveFault};
 
-/// Whether a run is of the job's call that a worker runs, and was given just the answers that the
-/// worker's run was given. Takes no memory.
+/// Whether a run is a run of the job's call that a worker runs, and was given exactly the answers that
+/// the worker's run was given. Takes no memory.
 pub(crate) fn is_own(
     job: &Job,
     scheduler: &Scheduler,
@@ -48,8 +49,9 @@ pub(crate) fn is_own(
 }
 
 /// Records a worker's own run of a call: the run is kept, its keys are to be moved, and room for what it
-/// wrote is promised. `promised` is how many records are promised. All that takes memory comes before any
-/// change; where it is refused the run is handed back, and nothing changes.
+/// wrote is promised. `promised` is the number of records that are promised. Refused as ArenaFull,
+/// IncarnationLimit or Memory, tested in this order. All that takes memory comes before any change. A
+/// refusal hands the run back; then nothing has changed, except that the map may have more room.
 pub(crate) fn record_run(
     alloc: Global,
     map: &mut MvMap,
@@ -61,6 +63,8 @@ pub(crate) fn record_run(
 ) -> Result<(), Refused>
     requires counts { MayCount worker scheduler.old }
     requires within { call < length scheduler.old.calls }
+    requires executing { (get_or scheduler.old.calls call fresh).status ≡ Executing }
+    requires nobody { NobodyMoves call scheduler.old.tasks }
     requires placed { length map.old.arena.records + promised.old ≤ RECORD_LIMIT }
     ensures state { OnOk result (state_in map.new promised.new scheduler.new ≡ counted one_execution worker (recorded worker call run.answers.items run.receipt (state_in map.old promised.old scheduler.old))) }
     ensures within { OnOk result ((length map.old.arena.records + promised.old + len run.receipt.writes ≤ RECORD_LIMIT) × ((get_or scheduler.old.calls call fresh).incarnation < INCARNATION_LIMIT)) }
@@ -107,8 +111,8 @@ pub(crate) fn record_run(
     }
 }
 
-/// Makes room for so many records and for what a run wrote, and gives the reads that it made and the keys
-/// that it is to move; refused where memory ran out. The versions stay.
+/// Makes room for `records` records and places for what a run wrote. Returns the reads that the run made
+/// and the keys that it is to move. Refused where memory ran out. The versions stay.
 fn make_room(
     alloc: Global,
     map: &mut MvMap,

@@ -9,9 +9,9 @@ use crate::fault::{IncarnationLimit, RecordFault, Refused};
 use crate::next_step::{AskResult, NextStep, ReadResult};
 use crate::outcome::outcome_of;
 use crate::reading::{next_step_of, read_at};
+use crate::reads::next_stands;
 use crate::recording::{is_own, record_run};
-use crate::validating::validate_call;
-use crate::versions::move_key;
+use crate::versions::{mark_key, move_key};
 use mvmap::MvMap;
 use rv_ledger::{Counts, Job, Key, Outcome};
 use rv_step::EndedRun;
@@ -20,14 +20,14 @@ use std::alloc::{AllocError, Global};
 use std::marker::Model;
 use version_arena::Arena;
 
-/// The state of the speculative run of a job on 1 to 32 workers. Whatever steps were made, some list
-/// of worker steps leads from the job's start to it, so that the scheduler's invariant holds.
+/// The state of the speculative run of a job on 1 to 32 workers. Some list of worker steps always leads
+/// to it from the job's start, so the scheduler's invariant holds.
 #[derive(Drop)]
 pub struct Core {
     job: Job,
     map: MvMap,
     scheduler: Scheduler,
-    /// How many records are promised to runs whose keys are moved.
+    /// The number of records that are promised to runs whose keys are being moved.
     promised: usize,
 }
 
@@ -76,8 +76,8 @@ impl Core {
         }
     }
 
-    /// The same over an arena, whose records are taken away; where memory ran out that arena is handed
-    /// back, without records.
+    /// The same over an arena that is used again: its records are dropped. Where memory ran out the arena
+    /// is handed back, without records.
     pub fn over(alloc: Global, arena: Arena, job: Job, workers: usize) -> Result<Core, Arena>
         requires { (1 ≤ workers) × (workers ≤ 32) }
         ensures job { IfOk result (λ c. c.job ≡ job) }
@@ -103,7 +103,8 @@ impl Core {
         self.scheduler.done()
     }
 
-    /// What holds of the state: some list of worker steps leads to it, and the scheduler's invariant.
+    /// For a caller's proof: some list of worker steps leads to the state, and the scheduler's invariant
+    /// holds. Does nothing when it runs.
     pub fn holds(&self)
         ensures reached { Reached (block_in self.now) (length self.now.state.tasks) self.now.state }
         ensures invariant { Invariant (block_in self.now) (length self.now.state.tasks) self.now.state }
@@ -126,7 +127,7 @@ impl Core {
         self.scheduler.workers()
     }
 
-    /// How often a worker was told that all is done.
+    /// How often a worker's `ask` was answered Done.
     pub fn dones(&self, worker: usize) -> u64
         requires { worker < length self.now.state.tasks }
         ensures { result ≡ get_or self.now.state.dones worker 0 }
@@ -150,8 +151,8 @@ impl Core {
         next_step_of(&self.scheduler, worker)
     }
 
-    /// Makes room for one more answer to a worker's run. Refused where memory ran out, and then nothing
-    /// changes; where the room is there it succeeds. No step.
+    /// Makes room for one more answer to a worker's run. Succeeds where the room is there. Refused where
+    /// memory ran out, and then nothing changes. This is not a step.
     pub fn room_for_read(&mut self, worker: usize) -> Result<(), AllocError>
         requires { worker < length self.old.state.tasks }
         ensures room { OnOk result (1 ≤ get_or self.new.rooms worker 0) }
@@ -176,7 +177,7 @@ impl Core {
         answered(done, self.scheduler.task_kind(worker))
     }
 
-    /// A worker's run reads the key that it asks for, in room that was made. Takes no memory.
+    /// A worker's run reads the key that it asks for, in room that `room_for_read` made. Takes no memory.
     pub fn read(&mut self, worker: usize, key: &Key) -> ReadResult
         requires due { IsDue worker (steps.Read_key key.now) self.old }
         requires room { 1 ≤ get_or self.old.rooms worker 0 }
@@ -196,8 +197,8 @@ impl Core {
         )
     }
 
-    /// A worker's run that met an estimate is parked, or starts again where the call that it waits
-    /// for is recorded by now. Refused at incarnation 65,535, and then nothing changes. Takes no memory.
+    /// A worker's run that met an estimate is parked, or starts again where the call that it waits for is
+    /// EXECUTED by now. Refused at incarnation 65,535, and then nothing changes. Takes no memory.
     pub fn park(&mut self, worker: usize) -> Result<(), IncarnationLimit>
         requires { IsDue worker steps.Park self.old }
         ensures makes { OnOk result (Makes worker steps.Park self.old self.new) }
@@ -217,10 +218,10 @@ impl Core {
         Ok(())
     }
 
-    /// A worker hands in its ended run, whose keys it is to move then. Refused as Foreign exactly where
-    /// the run's call is not the job's call at that index or its answers are not those that were given;
-    /// else as ArenaFull, IncarnationLimit or Memory, tested in this order. The run is handed back then,
-    /// and nothing changes.
+    /// A worker hands in its ended run, and next moves its keys. Refused as Foreign exactly where the
+    /// run's call is not the job's call at that index or its answers are not those that were given.
+    /// Otherwise refused as ArenaFull, IncarnationLimit or Memory, tested in this order. A refusal hands
+    /// the run back and changes nothing.
     pub fn record(&mut self, alloc: Global, worker: usize, run: EndedRun) -> Result<(), Refused>
         requires { IsDue worker steps.Record self.old }
         ensures makes { OnOk result (Makes worker steps.Record self.old self.new) }
@@ -250,8 +251,8 @@ impl Core {
         )
     }
 
-    /// A worker moves the next key of the run that it handed in: what the run wrote there is published; a
-    /// key that only the call's run before it wrote is withdrawn. Takes no memory.
+    /// A worker moves the next key of the run that it handed in. What the run wrote there is published. A
+    /// key that only the call's earlier run wrote is withdrawn. Takes no memory.
     pub fn move_key(&mut self, worker: usize)
         requires { IsDue worker steps.Move_key self.old }
         ensures { Makes worker steps.Move_key self.old self.new }
@@ -272,8 +273,10 @@ impl Core {
         self.scheduler.drop_key(worker);
     }
 
-    /// The call whose keys a worker has moved is EXECUTED: all that are parked on it are readied, and
-    /// what is validated again is settled. Takes no memory.
+    /// The call whose keys a worker has moved becomes EXECUTED, and all calls that are parked on it are
+    /// readied. Where the validation index is past the call, it goes back to the call if the run wrote a
+    /// new key; otherwise the worker validates the call next (Block-STM, `finish_execution`). Takes no
+    /// memory.
     pub fn finish_execution(&mut self, worker: usize)
         requires { IsDue worker steps.Finish_execution self.old }
         ensures { Makes worker steps.Finish_execution self.old self.new }
@@ -284,31 +287,77 @@ impl Core {
         self.scheduler.finish_execution(worker, call, new_key);
     }
 
-    /// A worker checks all the reads of the run that it validates, and takes the run back where one
-    /// does not stand. Takes no memory.
-    pub fn validate(&mut self, worker: usize)
-        requires { IsDue worker steps.Validate self.old }
-        ensures { Makes worker steps.Validate self.old self.new }
+    /// A worker checks the next read of the run that it validates. The check fails where the map now
+    /// answers the read differently. Where the call is no longer EXECUTED at that incarnation the task
+    /// ends (Block-STM, a read of `validate_read_set`). Takes no memory.
+    pub fn check_read(&mut self, worker: usize)
+        requires { IsDue worker steps.Check_read self.old }
+        ensures { Makes worker steps.Check_read self.old self.new }
     {
         let TaskKind::Validating {
             call,
             incarnation,
             left,
+            ..
         } = self.scheduler.task_kind(worker)
         else {
             unreachable!();
         };
-        validate_call(
-            &mut self.map,
-            &mut self.scheduler,
-            worker,
-            call,
-            incarnation,
-            left,
-        );
+        let stands = next_stands(&self.map, call, &self.scheduler.call(call).last, left);
+        self.scheduler
+            .finish_check(worker, call, incarnation, left - 1, stands);
     }
 
-    /// What the run of the job leaves, where workers are done; refused where memory ran out.
+    /// A worker decides the validation whose reads it has checked. Where a read did not stand and the
+    /// call is still EXECUTED at that incarnation, the call becomes ABORTING, and the worker next marks
+    /// the keys that the call wrote (Block-STM, `try_validation_abort`). Otherwise the task ends. Takes
+    /// no memory.
+    pub fn decide(&mut self, worker: usize)
+        requires { IsDue worker steps.Decide self.old }
+        ensures { Makes worker steps.Decide self.old self.new }
+    {
+        let TaskKind::Validating {
+            call,
+            incarnation,
+            failed,
+            ..
+        } = self.scheduler.task_kind(worker)
+        else {
+            unreachable!();
+        };
+        self.scheduler.decide(worker, call, incarnation, failed);
+    }
+
+    /// A worker marks the next key of the call that it aborts: the version there becomes an estimate
+    /// (Block-STM, a write of `convert_writes_to_estimates`). Takes no memory.
+    pub fn mark_estimate(&mut self, worker: usize)
+        requires { IsDue worker steps.Mark_estimate self.old }
+        ensures { Makes worker steps.Mark_estimate self.old self.new }
+    {
+        let TaskKind::Marking { call } = self.scheduler.task_kind(worker) else {
+            unreachable!();
+        };
+        let Some(key) = self.scheduler.next_key(worker) else {
+            unreachable!();
+        };
+        mark_key(&mut self.map, key, call);
+        self.scheduler.drop_key(worker);
+    }
+
+    /// The call whose keys a worker has marked is readied, and the calls behind it are validated again.
+    /// Where the execution index is past the call, the worker runs it next (Block-STM,
+    /// `finish_validation`). Takes no memory.
+    pub fn finish_abort(&mut self, worker: usize)
+        requires { IsDue worker steps.Finish_abort self.old }
+        ensures { Makes worker steps.Finish_abort self.old self.new }
+    {
+        let TaskKind::Marking { call } = self.scheduler.task_kind(worker) else {
+            unreachable!();
+        };
+        self.scheduler.finish_abort(worker, call);
+    }
+
+    /// What the run of the job leaves, once all is done; refused where memory ran out.
     pub fn outcome(&self, alloc: Global) -> Result<Outcome, AllocError>
         requires { is_done self.now.state ≡ true }
         ensures job { IfOk result (λ o. o.job ≡ self.now.job) }
@@ -333,15 +382,16 @@ impl Core {
     }
 }
 
-/// What an asking is answered, by whether all was done before it and the task that the worker has now.
+/// The answer to `ask`, by whether all was done before it and the task that the worker has now.
 fn answered(done: bool, task: TaskKind) -> AskResult
     ensures { (t : Task) → IsTaskKindOf task t → result ≡ ask_result_of done t }
 {
     match task {
         _ if done => AskResult::Done,
         TaskKind::Idle => AskResult::Nothing,
-        TaskKind::Running { .. } | TaskKind::Moving { .. } | TaskKind::Validating { .. } => {
-            AskResult::Task
-        },
+        TaskKind::Running { .. }
+        | TaskKind::Moving { .. }
+        | TaskKind::Validating { .. }
+        | TaskKind::Marking { .. } => AskResult::Task,
     }
 }

@@ -1,11 +1,13 @@
-//! The keys that a run moves, and what stands at them: versions, estimates or nothing.
+//! The keys that a run moves or that an abort marks, and what is put at them: a version, an estimate or
+//! nothing.
 
-ghost use Rattle.std.specs.Prelude.{◌≡◌, ◌≤◌, ◌+◌, ◌*◌, ◌∷◌, ◌++◌, [], length, not, IfOk, IfSome, OnOk};
+ghost use Rattle.std.specs.Prelude.{◌≡◌, ◌≤◌, ◌+◌, ◌*◌, ◌∷◌, ◌++◌, [], length, not, IfOk, IfSome, IsTrue, OnOk, Some};
 ghost use Rattle.std.specs.List.{filter};
 ghost use Rattle.std.specs.Option.{option_copied};
 ghost use Rattle.std.specs.FinMap.{contains_key, entries};
-ghost use Rattle.mvmap.specs.Versions.{changed};
-ghost use Rattle.stm_state.specs.Steps.{estimated, keys_of, keys_to_move, version_of, write_of, written_by};
+ghost use Rattle.std.specs.FinSet.{contains};
+ghost use Rattle.mvmap.specs.Versions.{Estimate, changed};
+ghost use Rattle.stm_state.specs.Steps.{keys_of, keys_to_move, version_of, write_of};
 ghost use Rattle.stm_core.specs.Inner.{AreOpen, writes_at};
 
 use mvmap::MvMap;
@@ -14,7 +16,7 @@ use rv_ledger::{Key, Value, Writes};
 use std::alloc::{AllocError, Global};
 use stm_state::{CallState, Recorded};
 
-/// How many keys are written.
+/// The number of keys that are written.
 pub(crate) fn written_count(writes: &Writes) -> usize
     ensures { result ≡ length (entries writes.now) }
 {
@@ -40,7 +42,7 @@ pub(crate) fn keys_to_move(
     Ok(keys)
 }
 
-/// Adds the keys that are written before and are not written now; refused where memory ran out.
+/// Adds the keys of `before` that `writes` does not have; refused where memory ran out.
 fn push_left_over(keys: &mut Vec<Key>, before: &Writes, writes: &Writes) -> Result<(), AllocError>
     ensures { OnOk result (keys.new.items ≡ keys.old.items ++ keys_of (filter (λ write. not (contains_key writes.now write.0)) (entries before.now))) }
 {
@@ -53,7 +55,8 @@ fn push_left_over(keys: &mut Vec<Key>, before: &Writes, writes: &Writes) -> Resu
 }
 
 /// Publishes what a call's run wrote at a key, in room that was promised, or withdraws the key where the
-/// run did not write it. `promised` is how many records are promised. Takes no memory.
+/// run did not write it. `promised` is the number of records that are promised; a publication lowers it
+/// by one. Takes no memory.
 pub(crate) fn move_key(
     map: &mut MvMap,
     promised: &mut usize,
@@ -92,7 +95,7 @@ fn written<'a>(last: &'a Option<Recorded>, key: &Key) -> Option<&'a Option<Value
     }
 }
 
-/// That a written value is not too long.
+/// For the proof: a written value is not longer than VALUE_LIMIT.
 fn see_short(value: &Option<Value>)
     ensures { IfSome value.now (λ bytes. length bytes ≤ VALUE_LIMIT) }
 {
@@ -101,22 +104,10 @@ fn see_short(value: &Option<Value>)
     }
 }
 
-/// Makes all that the call's last recorded run wrote estimates. Takes no memory.
-pub(crate) fn estimate_all(map: &mut MvMap, call: u16, last: &Option<Recorded>)
-    requires { AreOpen map.old.places call (written_by last.now) }
-    ensures { map.new ≡ record map.old { versions = estimated call (written_by last.now) map.old.versions } }
+/// Marks a key of a call that is aborted: what stands there becomes an estimate. Takes no memory.
+pub(crate) fn mark_key(map: &mut MvMap, key: &Key, call: u16)
+    requires { IsTrue (contains map.old.places (key.now, call)) }
+    ensures { map.new ≡ record map.old { versions = changed map.old.versions (key.now, call) (Some Estimate) } }
 {
-    if let Some(run) = last {
-        estimate_keys(map, call, &run.receipt.writes);
-    }
-}
-
-/// Makes what is written estimates.
-fn estimate_keys(map: &mut MvMap, call: u16, writes: &Writes)
-    requires { AreOpen map.old.places call (entries writes.now) }
-    ensures { map.new ≡ record map.old { versions = estimated call (entries writes.now) map.old.versions } }
-{
-    for (key, _) in writes.iter() {
-        map.to_estimate(key, call);
-    }
+    map.to_estimate(key, call);
 }

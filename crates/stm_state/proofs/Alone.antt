@@ -3,6 +3,7 @@ use Rattle.std.proofs.Common.{◌≡◌, ◌<◌, ◌≤◌, ◌+◌, ◌-◌, �
 use Rattle.std.specs.FinMap.{len}
 use Rattle.std.proofs.lemmas.Bool.{cases_lt, cond-true}
 use Rattle.std.proofs.lemmas.Grind.{get_or-set_at}
+use Rattle.std.proofs.lemmas.List.{length-map}
 use Rattle.rv_ledger.specs.Key.{Storage}
 use Rattle.rv_ledger.specs.Call.{Invocation}
 use Rattle.rv_ledger.specs.declared.receipt.Receipt.{Receipt}
@@ -12,7 +13,7 @@ use Rattle.rv_step.proofs.Receipts.{one_receipt_lem}
 use Rattle.stm_state.specs.declared.state.Recorded.{Recorded}
 use Rattle.stm_state.specs.declared.state.Task.TheVariants.{Idle}
 use Rattle.stm_state.specs.State.{State, fresh, no_counts, start, call_at, is_done}
-use Rattle.stm_state.specs.Steps.{counted, one_asking, count_done, keys_to_move, has_new_key, recorded_run, step_with, reads_of}
+use Rattle.stm_state.specs.Steps.{counted, one_asking, count_done, keys_to_move, has_new_key, recorded_run, step_with, read_of, reads_of}
 use Rattle.stm_state.specs.Done.{block_of}
 use Rattle.stm_state.specs.Drive.{NotDone, due_step, due_result}
 use Rattle.stm_state.specs.OneWorker.{Work, no_work, IsWork, rounds, MeetsNoEstimate, OneWorkerDid, HasOneWorkerCounts}
@@ -20,7 +21,7 @@ use Rattle.stm_state.proofs.Lists.{replicated, one_element}
 use Rattle.stm_state.proofs.Paths.{alone, Leads, Free, free_now, free_on, used_up, one_step_on, leads_none, leads_next, leads_join}
 use Rattle.stm_state.proofs.Rounds.{Stage, first_stage, all_first, is_over, told_stage}
 use Rattle.stm_state.proofs.Phases.{call_there, did, Now, unblocked, still, one_more, run_begins}
-use Rattle.stm_state.proofs.Turns.{first_keys, read_all, record_one, move_all, finish_one, check_begins, check_one}
+use Rattle.stm_state.proofs.Turns.{first_keys, read_all, record_one, move_all, finish_one, check_begins, check_all, decide_one}
 
 -- ---- what each call takes
 
@@ -55,7 +56,7 @@ module _ (calls : List Invocation) (store : Storage) (short : length calls ≤ 1
 
   -- the round of call d
   round : (d steps asks : ℕ) (work : Work) (s : State) (call : Invocation) → slice_get calls d ≡ Some call → d < length calls → IsWork call (store_before calls d store) work → At d steps asks s
-      → (t : State) × Leads calls store s (5 + work.reads + work.writes) t × At (d + 1) (steps + (5 + work.reads + work.writes)) (asks + 2) t
+      → (t : State) × Leads calls store s (5 + 2 * work.reads + work.writes) t × At (d + 1) (steps + (5 + 2 * work.reads + work.writes)) (asks + 2) t
   round d steps asks work s call there within takes now =
       let receipt : Receipt = ends call (store_before calls d store) in
       let keys : List (List ℕ) = keys_to_move None receipt.writes in
@@ -69,19 +70,22 @@ module _ (calls : List Invocation) (store : Storage) (short : length calls ≤ 1
       let e = move_all calls store d call there within run new keys (steps + 1 + n + 1) (asks + 1) (d + 1) d c.0 c.2 in
       let g = finish_one calls store d call there within run new (did (steps + 1 + n + 1 + m) (asks + 1) (d + 1) d) e.0 e.2 in
       let h = check_begins calls store d call there within (did (steps + 1 + n + 1 + m + 1) (asks + 1) (d + 1) d) g.0 g.2 g.3 in
-      let k = check_one calls store d call there within (did (steps + 1 + n + 1 + m + 1 + 1) (asks + 1 + 1) (d + 1) d) h.0 (length (reads_of (call_at g.0 d).last)) h.2 h.3 in
-      let last = leads_next calls store h.0 k.0 k.0 0 k.1.before k.1.step k.1.free (leads_none calls store k.0) in
-      let end = leads_next calls store e.0 g.0 k.0 (0 + 1 + 1) g.1.before g.1.step g.1.free (leads_next calls store g.0 h.0 k.0 (0 + 1) h.1.before h.1.step h.1.free last) in
-      let moved = leads_next calls store b.0 c.0 k.0 (m + (0 + 1 + 1 + 1)) c.1.before c.1.step c.1.free (leads_join calls store c.0 e.0 k.0 m (0 + 1 + 1 + 1) e.1 end) in
-      let all = leads_next calls store s a.0 k.0 (n + (m + (0 + 1 + 1 + 1) + 1)) a.1.before a.1.step a.1.free (leads_join calls store a.0 b.0 k.0 n (m + (0 + 1 + 1 + 1) + 1) b.2 moved) in
+      let r : ℕ = length (reads_of (call_at g.0 d).last) in
+      let i = check_all calls store d call there within r (steps + 1 + n + 1 + m + 1 + 1) (asks + 1 + 1) (d + 1) d h.0 h.2 h.3 in
+      let k = decide_one calls store d call there within (did (steps + 1 + n + 1 + m + 1 + 1 + r) (asks + 1 + 1) (d + 1) d) i.0 i.2 in
+      let last = leads_join calls store h.0 i.0 k.0 r (0 + 1) i.1 (leads_next calls store i.0 k.0 k.0 0 k.1.before k.1.step k.1.free (leads_none calls store k.0)) in
+      let end = leads_next calls store e.0 g.0 k.0 (r + (0 + 1) + 1) g.1.before g.1.step g.1.free (leads_next calls store g.0 h.0 k.0 (r + (0 + 1)) h.1.before h.1.step h.1.free last) in
+      let moved = leads_next calls store b.0 c.0 k.0 (m + (r + (0 + 1) + 1 + 1)) c.1.before c.1.step c.1.free (leads_join calls store c.0 e.0 k.0 m (r + (0 + 1) + 1 + 1) e.1 end) in
+      let all = leads_next calls store s a.0 k.0 (n + (m + (r + (0 + 1) + 1 + 1) + 1)) a.1.before a.1.step a.1.free (leads_join calls store a.0 b.0 k.0 n (m + (r + (0 + 1) + 1 + 1) + 1) b.2 moved) in
       let size : n ≡ work.reads = takes.size in
       let keys_are : m ≡ work.writes = first_keys receipt.writes ∙ takes.writes in
-      let length_is : n + (m + (0 + 1 + 1 + 1) + 1) + 1 ≡ 5 + work.reads + work.writes = omega (arith, size, keys_are) in
-      let steps_are : steps + 1 + n + 1 + m + 1 + 1 + 1 ≡ steps + (5 + work.reads + work.writes) = omega (arith, size, keys_are) in
+      let reads_are : r ≡ 0 + n = ap (λ o. length (reads_of o)) g.4 ∙ length-map b.1 read_of ∙ b.4 in
+      let length_is : n + (m + (r + (0 + 1) + 1 + 1) + 1) + 1 ≡ 5 + 2 * work.reads + work.writes = omega (arith, size, keys_are, reads_are) in
+      let steps_are : steps + 1 + n + 1 + m + 1 + 1 + r + 1 ≡ steps + (5 + 2 * work.reads + work.writes) = omega (arith, size, keys_are, reads_are) in
       let asks_are : asks + 1 + 1 ≡ asks + 2 = omega arith in (
         k.0,
         subst (λ x. Leads calls store s x k.0) length_is all,
-        subst (λ x. At (d + 1) x (asks + 2) k.0) steps_are (subst (λ x. At (d + 1) (steps + 1 + n + 1 + m + 1 + 1 + 1) x k.0) asks_are k.2),
+        subst (λ x. At (d + 1) x (asks + 2) k.0) steps_are (subst (λ x. At (d + 1) (steps + 1 + n + 1 + m + 1 + 1 + r + 1) x k.0) asks_are k.2),
       )
 
   -- what the call of an index takes
@@ -101,13 +105,13 @@ module _ (calls : List Invocation) (store : Storage) (short : length calls ≤ 1
       let there = call_there calls d within in
       let d_is : d + 0 ≡ d = omega arith in
       let one = round d steps asks work s there.0 there.1 within (subst (λ n. IsWorkAt n work) d_is (each 0 (omega arith)) there.0 there.1) now in
-      let more = walk works (d + 1) (steps + (5 + work.reads + work.writes)) (asks + 2) one.0 (omega (arith, size))
+      let more = walk works (d + 1) (steps + (5 + 2 * work.reads + work.writes)) (asks + 2) one.0 (omega (arith, size))
       (λ i l. let next : d + suc i ≡ d + 1 + i = omega arith in subst (λ n. IsWorkAt n (get_or works i no_work)) next (each (suc i) (omega (arith, l)))) one.2 in
-      let steps_are : steps + (5 + work.reads + work.writes) + rounds works ≡ steps + (5 + work.reads + work.writes + rounds works) = omega arith in
+      let steps_are : steps + (5 + 2 * work.reads + work.writes) + rounds works ≡ steps + (5 + 2 * work.reads + work.writes + rounds works) = omega arith in
       let asks_are : asks + 2 + 2 * length works ≡ asks + 2 * suc (length works) = omega arith in (
         more.0,
-        leads_join calls store s one.0 more.0 (5 + work.reads + work.writes) (rounds works) one.1 more.1,
-        subst (λ n. At (length calls) n (asks + 2 * suc (length works)) more.0) steps_are (subst (λ n. At (length calls) (steps + (5 + work.reads + work.writes) + rounds works) n more.0) asks_are more.2),
+        leads_join calls store s one.0 more.0 (5 + 2 * work.reads + work.writes) (rounds works) one.1 more.1,
+        subst (λ n. At (length calls) n (asks + 2 * suc (length works)) more.0) steps_are (subst (λ n. At (length calls) (steps + (5 + 2 * work.reads + work.writes) + rounds works) n more.0) asks_are more.2),
       )
 
   -- ---- the end

@@ -1,14 +1,14 @@
 -- The steps that are made, by the worker's task.
-use Rattle.std.proofs.Common.{◌≡◌, ◌<◌, ◌+◌, nat_lt, nat_le, ℕ, Bool, true, false, cond, if◌then◌else◌, List, [], ◌∷◌, Option, None, Some, Result, Ok, Err, refl, subst}
+use Rattle.std.proofs.Common.{◌≡◌, ◌<◌, ◌+◌, nat_lt, nat_le, ℕ, zero, suc, Bool, true, false, cond, List, [], ◌∷◌, Option, None, Some, Result, Ok, Err, refl, subst}
 use Rattle.std.specs.FinMap.{len}
 use Rattle.rv_ledger.specs.declared.receipt.Receipt.{Receipt}
 use Rattle.rv_step.specs.Replies.{replies_of}
 use Rattle.rv_step.specs.declared.answer.StorageAnswer.{StorageAnswer}
 use Rattle.stm_state.specs.declared.state.Task.{Task}
-use Rattle.stm_state.specs.declared.state.Task.TheVariants.{Idle, Running, Moving, Validating}
+use Rattle.stm_state.specs.declared.state.Task.TheVariants.{Idle, Running, Moving, Validating, Marking}
 use Rattle.stm_state.specs.Limits.{record_limit, incarnation_limit}
 use Rattle.stm_state.specs.State.{State, call_at, task_at}
-use Rattle.stm_state.specs.Steps.{Block, Step, Ask, Read_key, Park, Record, Move_key, Finish_execution, Validate, Limit, ArenaFull, IncarnationLimit, counted, one_step, one_asking, one_execution, one_validation, asked, read_at, decided, parked, recorded, moved, executed, validated, record_within, step_with, worker_step}
+use Rattle.stm_state.specs.Steps.{Block, Step, Ask, Read_key, Park, Record, Move_key, Finish_execution, Check_read, Decide, Mark_estimate, Finish_abort, Limit, ArenaFull, IncarnationLimit, counted, one_step, one_asking, one_execution, one_validation, asked, read_at, parked, recorded, moved, executed, checked, decided, marked, aborted, record_within, step_with, worker_step}
 use Rattle.stm_state.proofs.Tests.{not_le_says}
 
 -- a step has one result
@@ -32,7 +32,10 @@ pub data IsMade (block : Block) (w : ℕ) (s : State) : Step → State → Type 
       → IsMade block w s Record (counted one_execution w (recorded w i answers receipt s))
   by_move : (i : ℕ) (key : List ℕ) (keys : List (List ℕ)) (new : Bool) → task_at s w ≡ Moving i (key ∷ keys) new → IsMade block w s Move_key (counted one_step w (moved w i key keys new s))
   by_finish : (i : ℕ) (new : Bool) → task_at s w ≡ Moving i [] new → IsMade block w s Finish_execution (counted one_step w (executed w i new s))
-  by_validate : (i n left : ℕ) → task_at s w ≡ Validating i n left → IsMade block w s Validate (counted (if decided i n left s then one_validation else one_step) w (validated w i n s))
+  by_check : (i n left : ℕ) → task_at s w ≡ Validating i n (suc left) false → IsMade block w s Check_read (counted one_step w (checked w i n left s))
+  by_decide : (i n left : ℕ) (failed : Bool) → task_at s w ≡ Validating i n left failed → (failed ≡ false → left ≡ 0) → IsMade block w s Decide (counted one_validation w (decided w i n failed s))
+  by_mark : (i : ℕ) (key : List ℕ) (keys : List (List ℕ)) → task_at s w ≡ Marking i (key ∷ keys) → IsMade block w s Mark_estimate (counted one_step w (marked w i key keys s))
+  by_abort : (i : ℕ) → task_at s w ≡ Marking i [] → IsMade block w s Finish_abort (counted one_step w (aborted w i s))
 
 module _ (block : Block) (w : ℕ) (s t : State) where
   -- a state that it comes to
@@ -63,7 +66,11 @@ module _ (block : Block) (w : ℕ) (s t : State) where
   made_by (Running i answers None) at Record k = record_made i answers (block.borne_out i (replies_of answers)) at refl k
   made_by (Moving i (key ∷ keys) new) at Move_key k = comes Move_key _ (by_move i key keys new at) k
   made_by (Moving i [] new) at Finish_execution k = comes Finish_execution _ (by_finish i new at) k
-  made_by (Validating i n left) at Validate k = comes Validate _ (by_validate i n left at) k
+  made_by (Validating i n (suc left) false) at Check_read k = comes Check_read _ (by_check i n left at) k
+  made_by (Validating i n zero false) at Decide k = comes Decide _ (by_decide i n zero false at (λ _. refl)) k
+  made_by (Validating i n left true) at Decide k = comes Decide _ (by_decide i n left true at (λ h. cc)) k
+  made_by (Marking i (key ∷ keys)) at Mark_estimate k = comes Mark_estimate _ (by_mark i key keys at) k
+  made_by (Marking i []) at Finish_abort k = comes Finish_abort _ (by_abort i at) k
   made_by task at step k = absurd (none_ok t k)
 
   -- a step that a state follows is made

@@ -1,13 +1,13 @@
 -- What a worker's counts say of each other.
-use Rattle.std.proofs.Common.{◌≡◌, ◌<◌, ◌≤◌, ◌+◌, ◌&&◌, not, nat_lt, ℕ, Bool, true, false, if◌then◌else◌, length, replicate, get_or, set, arith, refl, sym, subst, inl, inr}
+use Rattle.std.proofs.Common.{◌≡◌, ◌<◌, ◌≤◌, ◌+◌, ◌&&◌, nat_lt, ℕ, suc, Bool, length, replicate, get_or, set, arith, refl, sym, subst, inl, inr}
 use Rattle.std.proofs.lemmas.Bool.{cases_eq, cond_both}
 use Rattle.std.proofs.lemmas.List.{get_or-set_same, get_or-set_other}
 use Rattle.rv_ledger.specs.declared.outcome.Counts.{Counts}
 use Rattle.stm_state.specs.declared.state.Task.{Task}
 use Rattle.stm_state.specs.State.{State, no_counts, start, call_at, is_executed, is_ready, is_done}
-use Rattle.stm_state.specs.Steps.{Block, Step, counted, one_step, one_asking, one_execution, one_validation, ask_validation, ask_execution, asked, count_done, read_at, decided, parked, resume_dependents, to_validate, recorded, moved, executed, aborted, validated, is_executed_at, all_stand}
+use Rattle.stm_state.specs.Steps.{Block, Step, counted, one_step, one_asking, one_execution, one_validation, ask_validation, ask_execution, asked, count_done, read_at, parked, resume_dependents, to_validate, recorded, moved, executed, checked, decided, marked, aborted, is_executed_at, next_stands}
 use Rattle.stm_state.specs.Done.{Reached, started, stepped}
-use Rattle.stm_state.proofs.Cases.{IsMade, by_ask, by_read, by_park, by_record, by_move, by_finish, by_validate, made}
+use Rattle.stm_state.proofs.Cases.{IsMade, by_ask, by_read, by_park, by_record, by_move, by_finish, by_check, by_decide, by_mark, by_abort, made}
 use Rattle.stm_state.proofs.Lists.{replicated}
 use Rattle.stm_state.proofs.Whole.{invariant_kept}
 
@@ -48,13 +48,17 @@ pub executed_silent : (w i : ℕ) (new : Bool) (s : State) → IsSilent s (execu
 unfolding resume_dependents
 executed_silent w i new s = to_validate_silent w i new _ _
 
-aborted_silent : (w i : ℕ) (s : State) → IsSilent s (aborted w i s)
+pub checked_silent : (w i n left : ℕ) (s : State) → IsSilent s (checked w i n left s)
+unfolding checked
+checked_silent w i n left s = cond_both (is_executed_at n (call_at s i)) _ _ (λ t. IsSilent s t) (λ _. cond_both (next_stands i (suc left) s) _ _ (λ t. IsSilent s t) (λ _. (refl, refl)) (λ _. (refl, refl))) (λ _. (refl, refl))
+
+pub decided_silent : (w i n : ℕ) (failed : Bool) (s : State) → IsSilent s (decided w i n failed s)
+unfolding decided
+decided_silent w i n failed s = cond_both (failed && is_executed_at n (call_at s i)) _ _ (λ t. IsSilent s t) (λ _. (refl, refl)) (λ _. (refl, refl))
+
+pub aborted_silent : (w i : ℕ) (s : State) → IsSilent s (aborted w i s)
 unfolding aborted
 aborted_silent w i s = cond_both (nat_lt i s.execution) _ _ (λ t. IsSilent s t) (λ _. (refl, refl)) (λ _. (refl, refl))
-
-pub validated_silent : (w i n : ℕ) (s : State) → IsSilent s (validated w i n s)
-unfolding validated
-validated_silent w i n s = cond_both (is_executed_at n (call_at s i) && not (all_stand i s)) _ _ (λ t. IsSilent s t) (λ _. aborted_silent w i s) (λ _. (refl, refl))
 
 -- ---- counting
 
@@ -73,10 +77,6 @@ execution_keeps c d h = record { asks = omega (arith, h.asks); executions = omeg
 
 validation_keeps : Keeps one_validation
 validation_keeps c d h = record { asks = omega (arith, h.asks); executions = omega (arith, h.executions); validations = omega (arith, h.validations); dones = h.dones }
-
-decision_keeps : (b : Bool) → Keeps (if b then one_validation else one_step)
-decision_keeps true = validation_keeps
-decision_keeps false = step_keeps
 
 module _ (s : State) (w : ℕ) (h : CountsWithin s) (w_in : w < length s.counts) where
   -- a silent step that is counted
@@ -120,7 +120,10 @@ module _ (block : Block) (w : ℕ) (s : State) (h : CountsWithin s) (w_in : w < 
   made_keeps step t (by_record i answers receipt at bears below) = silent_kept s w h w_in one_execution (recorded w i answers receipt s) execution_keeps (refl, refl)
   made_keeps step t (by_move i key keys new at) = silent_kept s w h w_in one_step (moved w i key keys new s) step_keeps (refl, refl)
   made_keeps step t (by_finish i new at) = silent_kept s w h w_in one_step (executed w i new s) step_keeps (executed_silent w i new s)
-  made_keeps step t (by_validate i n left at) = silent_kept s w h w_in (if decided i n left s then one_validation else one_step) (validated w i n s) (decision_keeps (decided i n left s)) (validated_silent w i n s)
+  made_keeps step t (by_check i n left at) = silent_kept s w h w_in one_step (checked w i n left s) step_keeps (checked_silent w i n left s)
+  made_keeps step t (by_decide i n left failed at last) = silent_kept s w h w_in one_validation (decided w i n failed s) validation_keeps (decided_silent w i n failed s)
+  made_keeps step t (by_mark i key keys at) = silent_kept s w h w_in one_step (marked w i key keys s) step_keeps (refl, refl)
+  made_keeps step t (by_abort i at) = silent_kept s w h w_in one_step (aborted w i s) step_keeps (aborted_silent w i s)
 
 -- ---- all states
 

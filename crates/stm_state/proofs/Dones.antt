@@ -9,8 +9,8 @@ use Rattle.stm_state.specs.Done.{Reached}
 use Rattle.stm_state.specs.Walk.{walk}
 use Rattle.stm_state.specs.Dones.{dones_of, DoneIsAsked, DoneStays, OtherDonesStay, DonesAreAsked, DonesGrowAtDone, LastEntryIsDone}
 use Rattle.stm_state.proofs.Tests.{idle_at_done}
-use Rattle.stm_state.proofs.Cases.{IsMade, by_ask, by_read, by_park, by_record, by_move, by_finish, by_validate, made}
-use Rattle.stm_state.proofs.Counted.{ask_validation_silent, ask_execution_silent, parked_silent, executed_silent, validated_silent}
+use Rattle.stm_state.proofs.Cases.{IsMade, by_ask, by_read, by_park, by_record, by_move, by_finish, by_check, by_decide, by_mark, by_abort, made}
+use Rattle.stm_state.proofs.Counted.{ask_validation_silent, ask_execution_silent, parked_silent, executed_silent, checked_silent, decided_silent, aborted_silent}
 use Rattle.stm_state.proofs.Lists.{replicated, all_before}
 use Rattle.stm_state.proofs.Whole.{invariant_kept}
 use Rattle.stm_state.proofs.Walks.{walk_on, walk_first, walk_none, walk_here, reached_by_list}
@@ -31,7 +31,10 @@ module _ (block : Block) (w : ℕ) (s : State) (done : is_done s ≡ true) where
   only_asked step t (by_record i answers receipt at bears below) = let idle = idle_at_done s done w in cc
   only_asked step t (by_move i key keys new at) = let idle = idle_at_done s done w in cc
   only_asked step t (by_finish i new at) = let idle = idle_at_done s done w in cc
-  only_asked step t (by_validate i n left at) = let idle = idle_at_done s done w in cc
+  only_asked step t (by_check i n left at) = let idle = idle_at_done s done w in cc
+  only_asked step t (by_decide i n left failed at last) = let idle = idle_at_done s done w in cc
+  only_asked step t (by_mark i key keys at) = let idle = idle_at_done s done w in cc
+  only_asked step t (by_abort i at) = let idle = idle_at_done s done w in cc
 
   -- and workers are done after it
   still_done : (step : Step) (t : State) → IsMade block w s step t → is_done t ≡ true
@@ -42,7 +45,10 @@ module _ (block : Block) (w : ℕ) (s : State) (done : is_done s ≡ true) where
   still_done step t (by_record i answers receipt at bears below) = let idle = idle_at_done s done w in cc
   still_done step t (by_move i key keys new at) = let idle = idle_at_done s done w in cc
   still_done step t (by_finish i new at) = let idle = idle_at_done s done w in cc
-  still_done step t (by_validate i n left at) = let idle = idle_at_done s done w in cc
+  still_done step t (by_check i n left at) = let idle = idle_at_done s done w in cc
+  still_done step t (by_decide i n left failed at last) = let idle = idle_at_done s done w in cc
+  still_done step t (by_mark i key keys at) = let idle = idle_at_done s done w in cc
+  still_done step t (by_abort i at) = let idle = idle_at_done s done w in cc
 
 -- so it is of each step that a state follows
 pub asked_at_done : DoneIsAsked
@@ -75,7 +81,10 @@ made_dones block w s step t (by_park i b answers at below) = (parked_silent w i 
 made_dones block w s step t (by_record i answers receipt at bears below) = refl
 made_dones block w s step t (by_move i key keys new at) = refl
 made_dones block w s step t (by_finish i new at) = (executed_silent w i new s).1
-made_dones block w s step t (by_validate i n left at) = (validated_silent w i n s).1
+made_dones block w s step t (by_check i n left at) = (checked_silent w i n left s).1
+made_dones block w s step t (by_decide i n left failed at last) = (decided_silent w i n failed s).1
+made_dones block w s step t (by_mark i key keys at) = refl
+made_dones block w s step t (by_abort i at) = (aborted_silent w i s).1
 
 pub step_dones : (block : Block) (w : ℕ) (step : Step) (s t : State) → worker_step block w step s ≡ Some (Ok t) → t.dones ≡ dones_after w step s
 step_dones block w step s t k = made_dones block w s step t (made block w s t step k)

@@ -1,5 +1,5 @@
 -- In each state that a list of worker numbers leads through, the step that a worker owes is due.
-use Rattle.std.proofs.Common.{◌≡◌, ◌<◌, ℕ, ◌+◌, ◌++◌, ◌&&◌, not, nat_lt, nat_le, Bool, List, [], ◌∷◌, length, set, slice_get, Option, None, Some, IsSome, arith, refl, sym, ap, subst, ◌∙◌}
+use Rattle.std.proofs.Common.{◌≡◌, ◌<◌, ℕ, ◌+◌, ◌++◌, ◌&&◌, nat_lt, nat_le, zero, suc, Bool, true, false, List, [], ◌∷◌, length, set, slice_get, Option, None, Some, IsSome, arith, refl, sym, ap, subst, ◌∙◌}
 use Rattle.std.specs.FinMap.{get, len}
 use Rattle.std.specs.List.{All}
 use Rattle.std.proofs.lemmas.Bool.{cond_both}
@@ -14,14 +14,14 @@ use Rattle.rv_step.specs.Replies.{reply_of, replies_of}
 use Rattle.rv_step.specs.declared.answer.StorageAnswer.{StorageAnswer}
 use Rattle.mvmap.specs.Reading.{Visible, Base, Found, Blocked, reading}
 use Rattle.stm_state.specs.declared.state.Task.{Task}
-use Rattle.stm_state.specs.declared.state.Task.TheVariants.{Idle, Running, Moving, Validating}
+use Rattle.stm_state.specs.declared.state.Task.TheVariants.{Idle, Running, Moving, Validating, Marking}
 use Rattle.stm_state.specs.Limits.{record_limit, incarnation_limit}
 use Rattle.stm_state.specs.State.{State, call_at, task_at, is_executed, is_ready, is_done}
-use Rattle.stm_state.specs.Steps.{Step, Read_key, ask_validation, ask_execution, asked, answered_with, parked, resume_dependents, to_validate, executed, aborted, validated, is_executed_at, all_stand, record_within, step_with}
+use Rattle.stm_state.specs.Steps.{Step, Read_key, ask_validation, ask_execution, asked, answered_with, parked, resume_dependents, to_validate, executed, checked, decided, aborted, is_executed_at, next_stands, record_within, step_with}
 use Rattle.stm_state.specs.Done.{Reached, started, stepped, borne_out_by, block_of}
 use Rattle.stm_state.specs.Drive.{due_step_of_run, asked_at, due_step, DrivenTo, at_start, made_step, DueStepHasResult}
 use Rattle.stm_state.specs.Invariant.{Invariant, named_by}
-use Rattle.stm_state.proofs.Cases.{IsMade, by_ask, by_read, by_park, by_record, by_move, by_finish, by_validate, made}
+use Rattle.stm_state.proofs.Cases.{IsMade, by_ask, by_read, by_park, by_record, by_move, by_finish, by_check, by_decide, by_mark, by_abort, made}
 use Rattle.stm_state.proofs.Whole.{invariant_kept}
 use Rattle.stm_state.proofs.Phases.{call_there}
 use Rattle.stm_state.proofs.Goings.{GoesOn, goes_first, goes_next, goes_last}
@@ -36,7 +36,8 @@ abbrev Goes : List Invocation → Task → Type 0
 Goes calls Idle = Unit {0}
 Goes calls (Running i answers waits) = (call : Invocation) → slice_get calls i ≡ Some call → GoesOn call (replies_of answers)
 Goes calls (Moving i keys new) = Unit {0}
-Goes calls (Validating i n left) = Unit {0}
+Goes calls (Validating i n left failed) = Unit {0}
+Goes calls (Marking i keys) = Unit {0}
 
 -- so with each task
 abbrev AllGo : List Invocation → State → Type 0
@@ -66,7 +67,11 @@ module _ (calls : List Invocation) (store : Storage) (w : ℕ) (s : State) where
   owed_due (Running i answers (Some b)) named g = cond_both (nat_le incarnation_limit (call_at s i).incarnation) _ _ (λ o. IsSome o) (λ _. refl) (λ _. refl)
   owed_due (Moving i (key ∷ keys) new) named g = refl
   owed_due (Moving i [] new) named g = refl
-  owed_due (Validating i n left) named g = refl
+  owed_due (Validating i n zero false) named g = refl
+  owed_due (Validating i n (suc left) false) named g = refl
+  owed_due (Validating i n left true) named g = refl
+  owed_due (Marking i (key ∷ keys)) named g = refl
+  owed_due (Marking i []) named g = refl
 
 -- ---- what a step changes leaves each task's call going on
 
@@ -98,17 +103,21 @@ module _ (calls : List Invocation) (store : Storage) (w : ℕ) (s : State) (h : 
   unfolding parked
   parked_goes i b = cond_both (is_executed (call_at s b).status) _ _ (λ t. AllGo calls t) (λ _. takes _ (begins i)) (λ _. takes _ tt)
 
-  -- a validation
+  -- a check of a read, a decision and the end of an abort
+  checked_goes : (i n left : ℕ) → AllGo calls (checked w i n left s)
+  unfolding checked
+  checked_goes i n left = cond_both (is_executed_at n (call_at s i)) _ _ (λ t. AllGo calls t) (λ _. cond_both (next_stands i (suc left) s) _ _ (λ t. AllGo calls t) (λ _. takes _ tt) (λ _. takes _ tt)) (λ _. takes _ tt)
+
+  decided_goes : (i n : ℕ) (failed : Bool) → AllGo calls (decided w i n failed s)
+  unfolding decided
+  decided_goes i n failed = cond_both (failed && is_executed_at n (call_at s i)) _ _ (λ t. AllGo calls t) (λ _. takes _ tt) (λ _. takes _ tt)
+
   aborted_goes : (i : ℕ) → AllGo calls (aborted w i s)
   unfolding aborted
   aborted_goes i = cond_both (nat_lt i s.execution) _ _ (λ t. AllGo calls t) (λ _. takes _ (begins i)) (λ _. takes _ tt)
 
-  validated_goes : (i n : ℕ) → AllGo calls (validated w i n s)
-  unfolding validated
-  validated_goes i n = cond_both (is_executed_at n (call_at s i) && not (all_stand i s)) _ _ (λ t. AllGo calls t) (λ _. aborted_goes i) (λ _. takes _ tt)
-
   -- what is validated again after an execution
-  to_validate_goes : (i n left : ℕ) (new : Bool) → AllGo calls (to_validate w i new (Validating i n left) s)
+  to_validate_goes : (i n left : ℕ) (new : Bool) → AllGo calls (to_validate w i new (Validating i n left false) s)
   unfolding to_validate
   to_validate_goes i n left new = cond_both (nat_lt i s.validation) _ _ (λ t. AllGo calls t)
       (λ _. cond_both new _ _ (λ t. AllGo calls t) (λ _. takes _ tt) (λ _. takes _ tt)) (λ _. takes _ tt)
@@ -148,7 +157,10 @@ module _ (calls : List Invocation) (store : Storage) (w : ℕ) (s : State) (h : 
   made_goes step t (by_record i answers receipt at bears below) due = takes calls store w s h _ tt
   made_goes step t (by_move i key keys new at) due = takes calls store w s h _ tt
   made_goes step t (by_finish i new at) due = executed_goes calls store w s h i new
-  made_goes step t (by_validate i n left at) due = validated_goes calls store w s h i n
+  made_goes step t (by_check i n left at) due = checked_goes calls store w s h i n left
+  made_goes step t (by_decide i n left failed at last) due = decided_goes calls store w s h i n failed
+  made_goes step t (by_mark i key keys at) due = takes calls store w s h _ tt
+  made_goes step t (by_abort i at) due = aborted_goes calls store w s h i
 
 -- ---- all states
 

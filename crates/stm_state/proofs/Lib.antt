@@ -8,11 +8,13 @@ pub mod Asks
 pub mod Runs
 pub mod Writes
 pub mod Wakes
-pub mod Aborts
 pub mod Targets
 pub mod Moves
 pub mod Records
 pub mod Finishes
+pub mod Checks
+pub mod Aborts
+pub mod Marks
 pub mod Whole
 pub mod Serials
 pub mod Orders

@@ -1,28 +1,30 @@
 -- Moving a key of a recorded run keeps the invariant.
 use Rattle.std.proofs.Common.{◌≡◌, ◌<◌, ◌≢◌, ◌⊎◌, ℕ, Bool, true, false, List, ◌∷◌, length, Some, arith, refl, sym, ap, subst, ◌∙◌, inl, inr, length-set}
-use Rattle.std.specs.List.{AllByRecursion}
+use Rattle.std.specs.Ordering.{eq_by_cmp}
 use Rattle.std.proofs.lemmas.Bool.{cases_eq, cases_lt}
 use Rattle.std.proofs.lemmas.List.{get_or-set_same, get_or-set_other}
-use Rattle.mvmap.specs.Versions.{Estimate, entry_at}
+use Rattle.version_arena.specs.ArenaState.{Content}
+use Rattle.rv_ledger.specs.Key.{key_cmp}
+use Rattle.mvmap.specs.Versions.{Estimate, Stands, entry_at}
 use Rattle.stm_state.specs.declared.state.Status.TheVariants.{Executing, Executed}
 use Rattle.stm_state.specs.declared.state.Task.TheVariants.{Idle, Moving}
 use Rattle.stm_state.specs.State.{State, call_at, task_at}
-use Rattle.stm_state.specs.Steps.{Block, reads_of, moved, version_of}
-use Rattle.stm_state.specs.Invariant.{view_of, ViewInvariant, Invariant, IsAhead, IsMoved, IsSafe, IsUnmovedEntry, run_by, named_by}
+use Rattle.stm_state.specs.Steps.{Block, moved, version_of, write_of}
+use Rattle.stm_state.specs.Invariant.{view_of, ViewInvariant, AreSafe, Invariant, IsAhead, IsMoved, IsPast, IsUnmovedEntry, has_key, lowered_by, named_by, owned_by, run_by}
 use Rattle.stm_state.proofs.Frames.{Frame, frame_kept}
-use Rattle.stm_state.proofs.Safes.{StandsOn, on_below, on_estimates, safe_attended, safe_other}
+use Rattle.stm_state.proofs.Safes.{StandsOn, on_below, on_estimates, safe_ahead, safe_other}
 use Rattle.stm_state.proofs.Tests.{resized}
-use Rattle.stm_state.proofs.Writes.{changed_other}
-use Rattle.stm_state.proofs.Targets.{amid_step, amid_cases}
+use Rattle.stm_state.proofs.Writes.{changed_other, or_true, version_is}
+use Rattle.stm_state.proofs.Targets.{amid_step, amid_cases, left_stays}
 
 module _ (block : Block) (s : State) (w i : ℕ) (key : List ℕ) (keys : List (List ℕ)) (new : Bool) (f : ViewInvariant block (view_of s)) (moves : task_at s w ≡ Moving i (key ∷ keys) new) (w_in : w < length s.tasks) where
   -- the worker has call i
-  has_i : run_by (task_at s w) ≡ Some i
-  has_i = ap run_by moves
+  has_i : owned_by (task_at s w) ≡ Some i
+  has_i = ap owned_by moves
 
   -- call i is EXECUTING
   is_executing : (call_at s i).status ≡ Executing
-  is_executing = f.running w i has_i
+  is_executing = f.running w i (ap run_by moves)
 
   -- the entries of call i are on their way
   is_moved : IsMoved (call_at s i) (λ k. entry_at s.versions k i) (key ∷ keys) new
@@ -42,7 +44,28 @@ module _ (block : Block) (s : State) (w i : ℕ) (key : List ℕ) (keys : List (
 
   -- the entries of call i are still on their way
   still_moved : IsMoved (call_at s i) (λ k. entry_at after.versions k i) keys new
-  still_moved = record { run = is_moved.run; below = is_moved.below; amid = amid_step (version_of (call_at s i)) (λ k entry. IsUnmovedEntry new entry) s.versions i key keys is_moved.amid }
+  still_moved = record {
+    run = is_moved.run;
+    below = is_moved.below;
+    amid = amid_step (version_of (call_at s i)) (λ k entry. IsUnmovedEntry new entry) s.versions i key keys is_moved.amid;
+    distinct = is_moved.distinct.1;
+    unmoved = λ k left. subst (λ o. IsUnmovedEntry new o) (sym (left_stays s.versions i key keys (version_of (call_at s i) key) is_moved.distinct.0 k left))
+        (is_moved.unmoved k (or_true (eq_by_cmp key_cmp k key) (has_key k keys) left));
+  }
+
+  -- a version that stands afterwards is at the call's incarnation, where it did not stand before
+  at_incarnation : (k : List ℕ) (n : ℕ) (x : Content) → entry_at after.versions k i ≡ Some (Stands n x) → n ≡ (call_at s i).incarnation
+  at_incarnation k n x h = elim (still_moved.amid k) [
+    | inl there ↦ (version_is (write_of (call_at s i).last k) (call_at s i).incarnation n x (sym there ∙ h)).0
+    | inr q ↦ elim q.1 [ inl estimate ↦ cc | inr none ↦ let is_none = none.0 in cc ]
+  ]
+
+  none_stood : (k : List ℕ) (n : ℕ) → IsUnmovedEntry new (entry_at s.versions k i) → (y : Content) → entry_at s.versions k i ≢ Some (Stands n y)
+  none_stood k n old y h = elim old [ inl estimate ↦ cc | inr none ↦ let is_none = none.0 in cc ]
+
+  -- and none of that incarnation may be gone
+  not_past : (n : ℕ) → n ≡ (call_at s i).incarnation → IsPast (call_at s i) n → ⊥
+  not_past n at h = let e = is_executing in elim h [ inl old ↦ omega (arith, old, at) | inr q ↦ let r = q.1 in cc ]
 
   -- what a move changes
   move_frame : Frame block (view_of s) (view_of after) i w (call_at s i) (Moving i keys new)
@@ -62,28 +85,32 @@ module _ (block : Block) (s : State) (w i : ℕ) (key : List ℕ) (keys : List (
     now = inl (refl, is_executing);
     blocked = λ j b xs h. cc;
     aborting = λ h. let r = is_executing in cc;
-    unparked = λ h. let r = is_executing in cc;
+    unparked = f.unparked i;
+    nobody_waits = λ h. let r = is_executing in cc;
     limit = f.limit i;
     executed_limit = f.executed_limit i;
     aborting_limit = f.aborting_limit i;
     grows = omega arith;
-    versions = λ k n x h. elim (entry_cases k) [ inl same ↦ inr (same ∙ h) | inr old ↦ elim old [ inl estimate ↦ cc | inr none ↦ let is_none = none.0 in cc ] ];
+    past = λ n h. h;
+    versions = λ k n x h. elim (entry_cases k) [ inl same ↦ inl (same ∙ h) | inr old ↦ elim old [ inl estimate ↦ cc | inr none ↦ let is_none = none.0 in cc ] ];
+    known = λ k n x h. elim (entry_cases k) [ inl same ↦ inl (sym same ∙ h) | inr old ↦ inr (none_stood k n old, not_past n (at_incarnation k n x h)) ];
     own_entries = λ ne. absurd (ne refl);
     own_moving = λ j ks b h.
         let same_call : i ≡ j = cc in
         let same_keys : keys ≡ ks = cc in
         let same_new : new ≡ b = cc in
         (sym same_call, subst (λ y. IsMoved (call_at s i) (λ k. entry_at after.versions k i) ks y) same_new (subst (λ y. IsMoved (call_at s i) (λ k. entry_at after.versions k i) y new) same_keys still_moved));
+    own_marking = λ j ks h. cc;
     executed = f.executed i;
     recorded = f.recorded i;
     answered = λ j xs waits h. cc;
-    validating = λ j n left h. cc;
-    current = λ x left ne h. f.current x i left h;
+    validating = λ j n left failed h. cc;
+    current = λ x left failed ne h. f.current x i left failed h;
   }
 
   -- with a new key the calls above are seen to by this very task
   is_ahead : new ≡ true → (j : ℕ) → i < j → IsAhead (task_at after) j
-  is_ahead new_key j l = record { worker = w; call = i; keys = keys; task = move_frame.task ∙ ap (Moving i keys) new_key; lower = l }
+  is_ahead new_key j l = record { worker = w; call = i; task = ap lowered_by (move_frame.task ∙ ap (Moving i keys) new_key); lower = l }
 
   -- what stands of calls below stays so
   below_stands : (j : ℕ) → j < i → StandsOn (view_of s) (view_of after) j
@@ -97,19 +124,25 @@ module _ (block : Block) (s : State) (w i : ℕ) (key : List ℕ) (keys : List (
         (elim (entry_cases k) [ inl same ↦ inl same | inr old ↦ elim old [ inl estimate ↦ inr estimate | inr none ↦ let is_new = none.1 in cc ] ])
   ])
 
+  -- a task that goes on to lower V has a new key
+  lowers_new : (b : Bool) → lowered_by (Moving i (key ∷ keys) b) ≡ Some i → b ≡ true
+  lowers_new true h = refl
+  lowers_new false h = cc
+
   -- reads of another call stay safe, where what stands of it stays so
-  still_safe : (j : ℕ) → j ≢ i → StandsOn (view_of s) (view_of after) j → AllByRecursion (IsSafe (view_of s) j) (reads_of (call_at s j).last) → AllByRecursion (IsSafe (view_of after) j) (reads_of (call_at s j).last)
-  still_safe j ne stood h = safe_other block (view_of s) (view_of after) i w (call_at s i) (Moving i keys new) move_frame j ne (λ left k. cc) (λ ks k l. is_ahead (cc) j l) stood h
+  still_safe : (j : ℕ) → j ≢ i → StandsOn (view_of s) (view_of after) j → AreSafe (view_of s) j → AreSafe (view_of after) j
+  still_safe j ne stood h = safe_other block (view_of s) (view_of after) i w (call_at s i) (Moving i keys new) move_frame j ne (λ left failed k. cc)
+      (λ k l. is_ahead (lowers_new new (ap lowered_by (sym moves) ∙ k)) j l) stood h
 
   -- reads of another call stay safe
-  others_safe : (j : ℕ) → j ≢ i → (call_at s j).status ≡ Executed → j < s.validation → AllByRecursion (IsSafe (view_of after) j) (reads_of (call_at s j).last)
+  others_safe : (j : ℕ) → j ≢ i → (call_at s j).status ≡ Executed → j < s.validation → AreSafe (view_of after) j
   others_safe j ne h l = go new refl
     where
-      go : (b : Bool) → new ≡ b → AllByRecursion (IsSafe (view_of after) j) (reads_of (call_at s j).last)
+      go : (b : Bool) → new ≡ b → AreSafe (view_of after) j
       go false no_new = still_safe j ne (all_stands no_new j) (f.safe j h l)
       go true new_key = elim (cases_lt j i) [
         | inl below ↦ still_safe j ne (below_stands j below) (f.safe j h l)
-        | inr above ↦ safe_attended (view_of after) j (reads_of (call_at s j).last) (inr (is_ahead new_key j (omega (arith, above, ne))))
+        | inr above ↦ safe_ahead (view_of after) j (is_ahead new_key j (omega (arith, above, ne)))
       ]
 
   -- moving a key keeps the invariant

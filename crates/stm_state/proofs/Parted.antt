@@ -1,25 +1,23 @@
 -- The four parts of the invariant, from its facts.
-use Rattle.std.proofs.Common.{◌≡◌, ◌≢◌, ◌⊎◌, ℕ, Bool, true, option_map, List, [], ◌∷◌, Option, None, Some, arith, refl, sym, ap, ◌∙◌, inl, inr}
+use Rattle.std.proofs.Common.{◌≡◌, ◌≢◌, ◌<◌, ◌⊎◌, ℕ, Bool, true, false, option_map, List, [], ◌∷◌, Some, refl, sym, ap, ◌∙◌, inl, inr}
 use Rattle.std.specs.List.{AllByRecursion}
 use Rattle.std.proofs.lemmas.Bool.{cases_lt}
 use Rattle.version_arena.specs.ArenaState.{Content}
 use Rattle.read_set.specs.declared.Origin.{Origin}
 use Rattle.read_set.specs.declared.Origin.TheVariants as origin
-use Rattle.read_set.specs.declared.Read.{Read}
 use Rattle.rv_step.specs.declared.answer.StorageAnswer.{StorageAnswer}
-use Rattle.mvmap.specs.Versions.{Estimate, Stands, entry_at}
-use Rattle.mvmap.specs.Reading.{stands}
+use Rattle.mvmap.specs.Versions.{Stands, entry_at}
 use Rattle.stm_state.specs.declared.state.Status.{Status}
 use Rattle.stm_state.specs.declared.state.Status.TheVariants.{Ready, Executing, Executed, Aborting}
 use Rattle.stm_state.specs.declared.state.Task.{Task}
-use Rattle.stm_state.specs.declared.state.Task.TheVariants.{Idle, Running, Moving, Validating}
+use Rattle.stm_state.specs.declared.state.Task.TheVariants.{Idle, Running, Moving, Validating, Marking}
 use Rattle.stm_state.specs.State.{State, call_at, task_at}
-use Rattle.stm_state.specs.Steps.{Block, reads_of, write_of}
-use Rattle.stm_state.specs.Invariant.{view_of, run_by, moved_by, ViewInvariant, IsRight, IsRightAnswer, IsSafe, IsUnmoved, validated, ahead}
-use Rattle.stm_state.specs.Parts.{HoldsWhereReached, IsRun, runs, moves, CallsAreAttended, IsOfUnfinishedRecord, OthersHaveEstimates, IsValidated, IsBehindNewKey, ReadsAreWatched, IsContent, IsKnown, IsTrueAnswer, RunsAreBorneOut}
-use Rattle.stm_state.proofs.Frames.{unmoved, unmoved_run}
+use Rattle.stm_state.specs.Steps.{Block, write_of}
+use Rattle.stm_state.specs.Invariant.{view_of, ViewInvariant, IsCovered, IsRight, IsRightAnswer, IsUnturned, IsWaiting, has_key, validated, ahead, lowered_by, marked_by, owned_by, run_by, turned_by}
+use Rattle.stm_state.specs.Parts.{HoldsWhereReached, IsRun, runs, moves, CallsAreAttended, IsOfUnfinishedRecord, OthersHaveEstimates, IsOfUnfinishedAbort, IsTakenBack, IsBehindNewKey, IsBehindAbort, IsToBeMet, ReadsAreWatched, IsContent, IsKnown, IsTrueAnswer, RunsAreBorneOut}
+use Rattle.stm_state.proofs.Frames.{owned_status, turned_owned, unturned, unturned_run}
 use Rattle.stm_state.proofs.Asks.{same_entries, executed_entries}
-use Rattle.stm_state.proofs.Aborts.{version_is}
+use Rattle.stm_state.proofs.Writes.{no_version, version_is}
 use Rattle.stm_state.proofs.Whole.{invariant_kept}
 
 -- a worker that has a call runs it or moves its keys
@@ -27,27 +25,25 @@ run_of : (s : State) (w i : ℕ) (task : Task) → task_at s w ≡ task → run_
 run_of s w i Idle at h = cc
 run_of s w i (Running j answers waits) at h = runs w answers waits (let same : j ≡ i = cc in at ∙ ap (λ x. Running x answers waits) same)
 run_of s w i (Moving j keys new) at h = moves w keys new (let same : j ≡ i = cc in at ∙ ap (λ x. Moving x keys new) same)
-run_of s w i (Validating j n left) at h = cc
+run_of s w i (Validating j n left failed) at h = cc
+run_of s w i (Marking j keys) at h = cc
 
--- an estimate is no version
-no_version : (o : Option Content) (n : ℕ) (x : Content) → option_map (λ c. Estimate) o ≡ Some (Stands n x) → ⊥
-no_version None n x h = cc
-no_version (Some c) n x h = cc
+-- a worker that marks a call takes it back
+taken_back_of : (s : State) (w i : ℕ) (task : Task) → task_at s w ≡ task → marked_by task ≡ Some i → IsTakenBack s i
+taken_back_of s w i Idle at h = cc
+taken_back_of s w i (Running j answers waits) at h = cc
+taken_back_of s w i (Moving j keys new) at h = cc
+taken_back_of s w i (Validating j n left failed) at h = cc
+taken_back_of s w i (Marking j keys) at h = record { worker = w; keys = keys; task = let same : j ≡ i = cc in at ∙ ap (λ x. Marking x keys) same }
 
--- a status is EXECUTED or another
-cases_status : (st : Status) → (st ≡ Executed) ⊎ (st ≢ Executed)
-cases_status Ready = inr (λ h. cc)
-cases_status Executing = inr (λ h. cc)
-cases_status Executed = inl refl
-cases_status Aborting = inr (λ h. cc)
-
--- where each is so or something holds anyway, all are so or it holds
-all_or : {X : Type 0} (P : X → Type 0) (Q : Type 0) (xs : List X) → AllByRecursion (λ x. P x ⊎ Q) xs → AllByRecursion P xs ⊎ Q
-all_or P Q [] h = inl tt
-all_or P Q (x ∷ xs) h = elim h.0 [
-  | inl p ↦ elim (all_or P Q xs h.1) [ inl rest ↦ inl (p, rest) | inr q ↦ inr q ]
-  | inr q ↦ inr q
-]
+-- a worker that is ahead of a call has an unfinished record with a new key, or an unfinished abort, of a lower one
+behind_of : (s : State) (w i j : ℕ) (task : Task) → task_at s w ≡ task → lowered_by task ≡ Some j → j < i → IsBehindNewKey s i ⊎ IsBehindAbort s i
+behind_of s w i j Idle at h low = cc
+behind_of s w i j (Running x answers waits) at h low = cc
+behind_of s w i j (Moving x keys true) at h low = inl (record { worker = w; call = j; keys = keys; task = let same : x ≡ j = cc in at ∙ ap (λ y. Moving y keys true) same; lower = low })
+behind_of s w i j (Moving x keys false) at h low = cc
+behind_of s w i j (Validating x n left failed) at h low = cc
+behind_of s w i j (Marking x keys) at h low = inr (record { call = j; taken_back = record { worker = w; keys = keys; task = let same : x ≡ j = cc in at ∙ ap (λ y. Marking y keys) same }; lower = low })
 
 module _ (block : Block) (s : State) (f : ViewInvariant block (view_of s)) where
   -- part 1
@@ -55,77 +51,81 @@ module _ (block : Block) (s : State) (f : ViewInvariant block (view_of s)) where
   attended = record {
     ready = f.ready;
     executing = λ i h. let run = f.executing i h in run_of s run.0 i (task_at s run.0) refl run.1;
-    aborting = λ i h. let wait = f.aborting i h in record { on = wait.on; parked = wait.parked; lower = wait.lower; not_done = wait.not_done };
+    aborting = λ i h. elim (f.aborting i h) [
+      | inl wait ↦ inr (record { on = wait.on; parked = wait.parked; lower = wait.lower; not_done = wait.not_done })
+      | inr marks ↦ inl (taken_back_of s marks.0 i (task_at s marks.0) refl marks.1)
+    ];
   }
 
-  -- a call that is not EXECUTED and whose keys nobody moves has no version
-  none_unmoved : (i : ℕ) → (call_at s i).status ≢ Executed → IsUnmoved (view_of s) i → (key : List ℕ) (n : ℕ) (content : Content) → entry_at s.versions key i ≢ Some (Stands n content)
-  none_unmoved i ne free key n content h = no_version (write_of (call_at s i).last key) n content (sym (same_entries block (view_of s) f i ne free key) ∙ h)
+  -- a call that is not EXECUTED and whose keys nobody turns has no version
+  none_unturned : (i : ℕ) → (call_at s i).status ≢ Executed → IsUnturned (view_of s) i → (key : List ℕ) (n : ℕ) (content : Content) → entry_at s.versions key i ≢ Some (Stands n content)
+  none_unturned i ne free key n content h = no_version (write_of (call_at s i).last key) n content (sym (same_entries block (view_of s) f i ne free key) ∙ h)
 
   -- a version of a call whose keys are moved is of its run
   of_unfinished : (w i : ℕ) (keys : List (List ℕ)) (new : Bool) → task_at s w ≡ Moving i keys new → (key : List ℕ) (n : ℕ) (content : Content) → entry_at s.versions key i ≡ Some (Stands n content) → IsOfUnfinishedRecord s i key n content
-  of_unfinished w i keys new at key n content h = elim ((f.moving w i keys new at).amid key) [
-    | inl there ↦ let is = version_is (write_of (call_at s i).last key) (call_at s i).incarnation n content (sym there ∙ h) in record { worker = w; keys = keys; new = new; task = at; incarnation = is.0; written = is.1 }
-    | inr q ↦ elim q.1 [ inl estimate ↦ cc | inr none ↦ let is_none = none.0 in cc ]
-  ]
+  of_unfinished w i keys new at key n content h = go (has_key key keys) refl
+    where
+      go : (b : Bool) → has_key key keys ≡ b → IsOfUnfinishedRecord s i key n content
+      go true left = elim ((f.moving w i keys new at).unmoved key left) [ inl estimate ↦ cc | inr none ↦ let is_none = none.0 in cc ]
+      go false moved = elim ((f.moving w i keys new at).amid key) [
+        | inl there ↦ let is = version_is (write_of (call_at s i).last key) (call_at s i).incarnation n content (sym there ∙ h) in record { worker = w; keys = keys; new = new; task = at; incarnation = is.0; written = is.1; published = moved }
+        | inr q ↦ let left = q.0 in cc
+      ]
 
   -- a version of an EXECUTING call is so
   of_executing : (i : ℕ) → (call_at s i).status ≡ Executing → IsRun s i → (key : List ℕ) (n : ℕ) (content : Content) → entry_at s.versions key i ≡ Some (Stands n content) → IsOfUnfinishedRecord s i key n content
-  of_executing i is (runs w answers waits at) key n content h = absurd (none_unmoved i (λ done. cc) (unmoved_run block (view_of s) f i w (ap run_by at) (ap moved_by at)) key n content h)
+  of_executing i is (runs w answers waits at) key n content h = absurd (none_unturned i (λ done. cc) (unturned_run block (view_of s) f i w (ap owned_by at) (ap turned_by at)) key n content h)
   of_executing i is (moves w keys new at) key n content h = of_unfinished w i keys new at key n content h
+
+  -- a version of a call whose keys are marked is yet to be turned
+  of_taken_back : (w i : ℕ) (keys : List (List ℕ)) → task_at s w ≡ Marking i keys → (key : List ℕ) (n : ℕ) (content : Content) → entry_at s.versions key i ≡ Some (Stands n content) → IsOfUnfinishedAbort s i key n
+  of_taken_back w i keys at key n content h = elim ((f.marking w i keys at).amid key) [
+    | inl there ↦ absurd (no_version (write_of (call_at s i).last key) n content (sym there ∙ h))
+    | inr q ↦ let version = q.1.1 in record { worker = w; keys = keys; task = at; incarnation = cc; left = q.0 }
+  ]
+
+  -- an ABORTING call that waits is turned by nobody
+  waiting_unturned : (i : ℕ) → (call_at s i).status ≡ Aborting → IsWaiting (view_of s) i → IsUnturned (view_of s) i
+  waiting_unturned i is wait w h = elim (owned_status block (view_of s) f w i (task_at s w) refl (turned_owned (task_at s w) i h)) [ inl other ↦ cc | inr none ↦ let unparked = none.1 in let parked = wait.parked in cc ]
+
+  -- a version of an ABORTING call is so
+  of_aborting : (i : ℕ) → (call_at s i).status ≡ Aborting → (key : List ℕ) (n : ℕ) (content : Content) → entry_at s.versions key i ≡ Some (Stands n content) → IsOfUnfinishedAbort s i key n
+  of_aborting i is key n content h = elim (f.aborting i is) [
+    | inl wait ↦ absurd (none_unturned i (λ done. cc) (waiting_unturned i is wait) key n content h)
+    | inr marks ↦ let taken = taken_back_of s marks.0 i (task_at s marks.0) refl marks.1 in of_taken_back taken.worker i taken.keys taken.task key n content h
+  ]
 
   -- part 2
   pub estimates : OthersHaveEstimates block s
   estimates i ne key n content h = go (call_at s i).status refl
     where
-      free : (call_at s i).status ≢ Executing → IsOfUnfinishedRecord s i key n content
-      free other = absurd (none_unmoved i ne (unmoved block (view_of s) f i other) key n content h)
-
-      go : (st : Status) → (call_at s i).status ≡ st → IsOfUnfinishedRecord s i key n content
-      go Ready is = free (λ e. cc)
-      go Executing is = of_executing i is (attended.executing i is) key n content h
+      go : (st : Status) → (call_at s i).status ≡ st → IsOfUnfinishedRecord s i key n content ⊎ IsOfUnfinishedAbort s i key n
+      go Ready is = absurd (none_unturned i ne (unturned block (view_of s) f i (λ e. cc) (λ e. cc)) key n content h)
+      go Executing is = inl (of_executing i is (attended.executing i is) key n content h)
       go Executed is = absurd (ne is)
-      go Aborting is = free (λ e. cc)
+      go Aborting is = inr (of_aborting i is key n content h)
 
-  -- what is safe stands, or is seen to
-  watched_reads : (i : ℕ) (reads : List Read) → AllByRecursion (IsSafe (view_of s) i) reads → AllByRecursion (λ read. (stands s.versions i read ≡ true) ⊎ (IsValidated s i ⊎ IsBehindNewKey s i)) reads
-  watched_reads i [] h = tt
-  watched_reads i (read ∷ reads) h = (one h.0, watched_reads i reads h.1)
-    where
-      one : IsSafe (view_of s) i read → (stands s.versions i read ≡ true) ⊎ (IsValidated s i ⊎ IsBehindNewKey s i)
-      one (inl stand) = inl stand
-      one (inr (validated w left task)) = inr (inl (record { worker = w; left = left; task = task }))
-      one (inr (ahead q)) = inr (inr (record { worker = q.worker; call = q.call; keys = q.keys; task = q.task; lower = q.lower }))
+  -- what is yet to be met is met by some worker's task
+  to_be_met : (i place : ℕ) → IsCovered (view_of s) i place → IsToBeMet s i place
+  to_be_met i place (validated w left failed task meets) = inl (record { worker = w; left = left; failed = failed; task = task; meets = meets })
+  to_be_met i place (ahead q) = inr (behind_of s q.worker i q.call (task_at s q.worker) refl q.task q.lower)
 
   -- part 3
   pub watched : ReadsAreWatched block s
   watched i h = elim (cases_lt i s.validation) [
-    | inl low ↦ elim (all_or (λ read. stands s.versions i read ≡ true) (IsValidated s i ⊎ IsBehindNewKey s i) (reads_of (call_at s i).last) (watched_reads i (reads_of (call_at s i).last) (f.safe i h low))) [
-      | inl all ↦ inl all
-      | inr task ↦ inr (inr task)
-    ]
-    | inr high ↦ inr (inl high)
-  ]
-
-  -- a version that stands is at its writer's incarnation
-  version_at : (w n : ℕ) (key : List ℕ) (content : Content) → entry_at s.versions key w ≡ Some (Stands n content) → n ≡ (call_at s w).incarnation
-  version_at w n key content h = elim (cases_status (call_at s w).status) [
-    | inl done ↦ (version_is (write_of (call_at s w).last key) (call_at s w).incarnation n content (sym (executed_entries block (view_of s) f w done key) ∙ h)).0
-    | inr ne ↦ (estimates w ne key n content h).incarnation
+    | inl low ↦ inr (λ place read at. elim (f.safe i h low place read at) [ inl stand ↦ inl stand | inr covered ↦ inr (to_be_met i place covered) ])
+    | inr high ↦ inl high
   ]
 
   -- a right answer has the content of its origin
   content_is : (i : ℕ) (key : List ℕ) (value : Content) (o : Origin) → IsRight block (view_of s) i key value o → IsContent block s key value o
   content_is i key value origin.Base right = right
-  content_is i key value (origin.Version w n) right = λ content there. elim right.1 [
-    | inl old ↦ let same = version_at w n key content there in absurd (omega (arith, same, old))
-    | inr stands_there ↦ cc
-  ]
+  content_is i key value (origin.Version w n) right = right.2
 
   -- and its origin is known
   known : (i : ℕ) (key : List ℕ) (value : Content) (o : Origin) → IsRight block (view_of s) i key value o → IsKnown s i key o
   known i key value origin.Base right = tt
-  known i key value (origin.Version w n) right = (right.0, elim right.1 [ inl old ↦ inr old | inr there ↦ inl (value, there) ])
+  known i key value (origin.Version w n) right = (right.0, right.1)
 
   -- so with all answers
   true_all : (i : ℕ) (answers : List StorageAnswer) → AllByRecursion (IsRightAnswer block (view_of s) i) answers → AllByRecursion (IsTrueAnswer block s i) answers

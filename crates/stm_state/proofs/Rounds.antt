@@ -1,9 +1,9 @@
 -- One worker on a block: where each of its calls is, and what its next step comes to, whatever keys its runs read.
-use Rattle.std.proofs.Common.{◌≡◌, ◌<◌, ◌≢◌, ◌+◌, ◌&&◌, ◌==◌, not, nat_lt, min, ℕ, suc, Bool, true, false, cond, List, [], ◌∷◌, ◌++◌, length, map, get_or, set, None, Some, arith, refl, sym, ap, subst, ◌∙◌, inl, inr}
+use Rattle.std.proofs.Common.{◌≡◌, ◌<◌, ◌≢◌, ◌+◌, ◌-◌, ◌&&◌, ◌==◌, nat_lt, min, ℕ, zero, suc, Bool, true, false, cond, List, [], ◌∷◌, ◌++◌, length, map, get_or, set, slice_get, None, Some, arith, refl, sym, ap, subst, ◌∙◌, inl, inr}
 use Rattle.std.specs.Cmp.Derive.{both_true}
 use Rattle.std.specs.List.{list_all}
 use Rattle.std.specs.FinMap.{get}
-use Rattle.std.proofs.lemmas.Bool.{cases_eq, cases_lt, cond-true, cond-false}
+use Rattle.std.proofs.lemmas.Bool.{cases_eq, cases_lt, and_parts, cond-true, cond-false}
 use Rattle.std.proofs.lemmas.Grind.{get_or-set_at}
 use Rattle.std.proofs.lemmas.List.{get_or-set_other, map-append}
 use Rattle.std.proofs.lemmas.List.Folds.{list_all-append}
@@ -13,7 +13,7 @@ use Rattle.rv_ledger.specs.declared.receipt.Receipt.{Receipt}
 use Rattle.read_set.specs.declared.Origin.TheVariants as origin
 use Rattle.read_set.specs.declared.Read.{Read}
 use Rattle.rv_step.specs.declared.answer.StorageAnswer.{StorageAnswer}
-use Rattle.mvmap.specs.Versions.{entry_at}
+use Rattle.mvmap.specs.Versions.{Versions, entry_at}
 use Rattle.mvmap.specs.Reading.{Visible, Base, Found, Blocked, visible_below, is_origin, stands, value_seen}
 use Rattle.mvmap.proofs.Readings.{is_blocked, blocked_at, seen_same}
 use Rattle.stm_state.specs.declared.state.Status.{Status}
@@ -23,7 +23,7 @@ use Rattle.stm_state.specs.declared.state.Recorded.{Recorded}
 use Rattle.stm_state.specs.declared.state.Task.{Task}
 use Rattle.stm_state.specs.declared.state.Task.TheVariants.{Idle, Running, Moving, Validating}
 use Rattle.stm_state.specs.State.{State, fresh, start, call_at, task_at, with_call, with_task, is_ready, is_executed, is_aborting, is_idle, is_done}
-use Rattle.stm_state.specs.Steps.{Block, read_of, reads_of, counted, one_step, one_asking, one_execution, ask_validation, ask_execution, asked, count_done, answered_with, is_some_of, is_parked_on, resume_if_parked, lowered, resume_dependents, to_validate, recorded_run, has_new_key, keys_to_move, recorded, moved, executed, is_executed_at, all_stand, validated, version_of, write_of}
+use Rattle.stm_state.specs.Steps.{Block, read_of, reads_of, counted, one_step, one_asking, one_execution, ask_validation, ask_execution, asked, count_done, answered_with, is_some_of, is_parked_on, resume_if_parked, lowered, resume_dependents, to_validate, recorded_run, has_new_key, keys_to_move, recorded, moved, executed, is_executed_at, read_stands, next_stands, checked, decided, version_of, write_of}
 use Rattle.stm_state.specs.Invariant.{view_of, ViewInvariant, Invariant}
 use Rattle.stm_state.proofs.Tests.{equal_itself, lt_is, not_lt_is}
 use Rattle.stm_state.proofs.Asks.{executed_entries}
@@ -126,6 +126,18 @@ none_resumed i s h =
     ap (λ calls. record s { calls = calls; execution = lowered i s.execution 0 s.calls }) (none_readied i s.calls h)
     ∙ ap (λ e. record s { execution = e }) (none_lowered i s.execution 0 s.calls h)
 
+-- ---- reads that stand
+
+-- whether all reads of a call stand
+abbrev pub all_stand : ℕ → State → Bool
+all_stand i s = list_all (stands s.versions i) (reads_of (call_at s i).last)
+
+-- then so does the read at each place
+each_stands : (versions : Versions) (i : ℕ) (reads : List Read) (place : ℕ) → list_all (stands versions i) reads ≡ true → read_stands versions i (slice_get reads place) ≡ true
+each_stands versions i [] place h = refl
+each_stands versions i (read ∷ reads) zero h = (and_parts (stands versions i read) (list_all (stands versions i) reads) h).0
+each_stands versions i (read ∷ reads) (suc place) h = each_stands versions i reads place (and_parts (stands versions i read) (list_all (stands versions i) reads) h).1
+
 -- ---- what a run is answered
 
 -- an answer from what is seen, where it is not blocked
@@ -227,9 +239,9 @@ module _ (block : Block) (s : State) where
   -- ---- a read
 
   -- one more read stands
-  pub read_stands : (store : Storage) (key : List ℕ) (d : ℕ) (answers : List StorageAnswer) → list_all (stands s.versions d) (map read_of answers) ≡ true
+  pub answer_stands : (store : Storage) (key : List ℕ) (d : ℕ) (answers : List StorageAnswer) → list_all (stands s.versions d) (map read_of answers) ≡ true
       → (told : Answered store key d answers (visible_below (entry_at s.versions key) d)) → list_all (stands s.versions d) (map read_of (answers ++ told.answer ∷ [])) ≡ true
-  read_stands store key d answers stand told =
+  answer_stands store key d answers stand told =
       ap (list_all (stands s.versions d)) (map-append read_of answers (told.answer ∷ []))
       ∙ list_all-append (stands s.versions d) (map read_of answers) (read_of told.answer ∷ [])
       ∙ both_true stand (both_true (ap (λ k. is_origin told.answer.origin (visible_below (entry_at s.versions k) d)) told.at ∙ told.stand) refl)
@@ -317,7 +329,7 @@ module _ (block : Block) (s : State) where
     pub executed_is : executed 0 d new s ≡ with_task 0 Idle finished
     unfolding to_validate
     executed_is =
-        ap (to_validate 0 d new (Validating d (call_at s d).incarnation (length (reads_of (call_at s d).last)))) (none_resumed d finished none_on)
+        ap (to_validate 0 d new (Validating d (call_at s d).incarnation (length (reads_of (call_at s d).last)) false)) (none_resumed d finished none_on)
         ∙ cond-false (nat_lt d s.validation) _ _ (let v = now.checks_from in not_lt_is d s.validation (omega (arith, v)))
 
     -- its reads stand
@@ -345,7 +357,7 @@ module _ (block : Block) (s : State) where
 
   -- the worker is to validate the call of the validation index
   abbrev pub to_check : State
-  to_check = with_task 0 (Validating s.validation (call_at s s.validation).incarnation (length (reads_of (call_at s s.validation).last))) (record s { validation = s.validation + 1 })
+  to_check = with_task 0 (Validating s.validation (call_at s s.validation).incarnation (length (reads_of (call_at s s.validation).last)) false) (record s { validation = s.validation + 1 })
 
   module _ (d : ℕ) (now : Stage block (d + 1) fresh (d + 1) d Idle s) (within : d < block.count) where
     is_there : call_at s s.validation ≡ call_at s d
@@ -362,14 +374,14 @@ module _ (block : Block) (s : State) where
         ∙ cond-true (nat_lt s.validation s.execution) _ _ (lt_is s.validation s.execution (omega (arith, e, v)))
         ∙ cond-true (is_executed (call_at s s.validation).status) _ _ (ap (λ (x : CallState). is_executed x.status) is_there ∙ ap is_executed (now.below d (omega arith)).status)
 
-    pub check_stage : Invariant block 1 (counted one_asking 0 to_check) → Stage block (d + 1) fresh (d + 1) (d + 1) (Validating d 0 (length (reads_of (call_at s d).last))) (counted one_asking 0 to_check)
+    pub check_stage : Invariant block 1 (counted one_asking 0 to_check) → Stage block (d + 1) fresh (d + 1) (d + 1) (Validating d 0 (length (reads_of (call_at s d).last)) false) (counted one_asking 0 to_check)
     check_stage inv = record {
       inv = inv;
       runs_from = now.runs_from;
       checks_from = ap (λ x. x + 1) now.checks_from;
-      does = new_task now.inv (Validating s.validation (call_at s s.validation).incarnation (length (reads_of (call_at s s.validation).last)))
-          ∙ ap (λ i. Validating i (call_at s i).incarnation (length (reads_of (call_at s i).last))) now.checks_from
-          ∙ ap (λ n. Validating d n (length (reads_of (call_at s d).last))) (now.below d (omega arith)).incarnation;
+      does = new_task now.inv (Validating s.validation (call_at s s.validation).incarnation (length (reads_of (call_at s s.validation).last)) false)
+          ∙ ap (λ i. Validating i (call_at s i).incarnation (length (reads_of (call_at s i).last)) false) now.checks_from
+          ∙ ap (λ n. Validating d n (length (reads_of (call_at s d).last)) false) (now.below d (omega arith)).incarnation;
       below = now.below;
       here = now.here;
       above = now.above;
@@ -377,10 +389,19 @@ module _ (block : Block) (s : State) where
 
   -- ---- the validation of call d
 
-  module _ (d left : ℕ) (now : Stage block (d + 1) fresh (d + 1) (d + 1) (Validating d 0 left) s) (stand : all_stand d s ≡ true) where
-    pub at_zero : is_executed_at 0 (call_at s d) ≡ true
+  module _ (d left : ℕ) (now : Stage block (d + 1) fresh (d + 1) (d + 1) (Validating d 0 (suc left) false) s) (stand : all_stand d s ≡ true) where
+    -- the call is EXECUTED at its incarnation 0
+    at_zero : is_executed_at 0 (call_at s d) ≡ true
     at_zero = let done = now.below d (omega arith) in both_true (ap is_executed done.status) (ap (λ n. n == 0) done.incarnation)
 
-    pub not_aborted : validated 0 d 0 s ≡ with_task 0 Idle s
-    unfolding validated
-    not_aborted = cond-false (is_executed_at 0 (call_at s d) && not (all_stand d s)) _ _ (ap (λ b. is_executed_at 0 (call_at s d) && not b) stand ∙ ap (λ b. b && false) at_zero)
+    -- a check of a read stands
+    pub check_stands : checked 0 d 0 left s ≡ with_task 0 (Validating d 0 left false) s
+    unfolding checked
+    check_stands =
+        cond-true (is_executed_at 0 (call_at s d)) _ _ at_zero
+        ∙ cond-true (next_stands d (suc left) s) _ _ (each_stands s.versions d (reads_of (call_at s d).last) (length (reads_of (call_at s d).last) - suc left) stand)
+
+-- where every check stood nothing is taken back
+pub none_taken : (d n : ℕ) (s : State) → decided 0 d n false s ≡ with_task 0 Idle s
+unfolding decided
+none_taken d n s = refl

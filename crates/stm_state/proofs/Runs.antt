@@ -1,5 +1,5 @@
 -- A run that goes on, is answered, starts again or is parked keeps the invariant.
-use Rattle.std.proofs.Common.{◌≡◌, ◌<◌, ◌≢◌, ◌++◌, ℕ, Bool, true, List, [], ◌∷◌, length, Option, None, Some, arith, refl, sym, ap, subst, ◌∙◌, inl, inr, length-set}
+use Rattle.std.proofs.Common.{◌≡◌, ◌<◌, ◌≢◌, ◌++◌, ℕ, Bool, List, [], ◌∷◌, length, Option, None, Some, arith, refl, sym, ap, subst, ◌∙◌, inl, inr, length-set}
 use Rattle.std.specs.List.{AllByRecursion}
 use Rattle.std.specs.FinMap.{get}
 use Rattle.std.proofs.lemmas.Bool.{cases_eq, cond_both}
@@ -11,13 +11,13 @@ use Rattle.mvmap.specs.Reading.{Visible, Base, Found, Blocked, reading}
 use Rattle.mvmap.proofs.Readings.{found_at, blocked_at}
 use Rattle.stm_state.specs.declared.state.Status.TheVariants.{Executing, Executed, Aborting}
 use Rattle.stm_state.specs.declared.state.CallState.{CallState}
-use Rattle.stm_state.specs.declared.state.Task.TheVariants.{Idle, Running, Moving, Validating}
+use Rattle.stm_state.specs.declared.state.Task.TheVariants.{Idle, Running, Validating}
 use Rattle.stm_state.specs.Limits.{incarnation_limit}
 use Rattle.stm_state.specs.State.{State, fresh, call_at, task_at, with_call, with_task, is_executed}
 use Rattle.stm_state.specs.Steps.{Block, answered_with, read_at, parked}
-use Rattle.stm_state.specs.Invariant.{View, view_of, ViewInvariant, IsRightAnswer, Invariant, IsSized, IsUnmoved, run_by, moved_by, named_by}
+use Rattle.stm_state.specs.Invariant.{View, view_of, ViewInvariant, IsRightAnswer, Invariant, IsSized, IsUnturned, lowered_by, named_by, owned_by, run_by, turned_by}
 use Rattle.stm_state.proofs.Lists.{all_append}
-use Rattle.stm_state.proofs.Frames.{Frame, frame_kept, unmoved_run}
+use Rattle.stm_state.proofs.Frames.{Frame, frame_kept, unturned_run}
 use Rattle.stm_state.proofs.Safes.{safe_other}
 use Rattle.stm_state.proofs.Tests.{not_executed_says, resized}
 use Rattle.stm_state.proofs.Asks.{same_entries}
@@ -31,16 +31,24 @@ module _ (block : Block) (s : State) (w i : ℕ) (answers : List StorageAnswer) 
   is_executing : (call_at s i).status ≡ Executing
   is_executing = f.running w i runs_i
 
+  -- the worker has it
+  has_i : owned_by (task_at s w) ≡ Some i
+  has_i = ap owned_by runs
+
   -- the worker validates nothing
-  free : (j n left : ℕ) → task_at s w ≢ Validating j n left
-  free j n left h = cc
+  free : (j n left : ℕ) (failed : Bool) → task_at s w ≢ Validating j n left failed
+  free j n left failed h = cc
 
-  -- nor does it move keys, and nobody moves those of call i
-  moves_none : (j : ℕ) (keys : List (List ℕ)) (new : Bool) → task_at s w ≢ Moving j keys new
-  moves_none j keys new h = cc
+  -- nor is it ahead of a call, and nobody turns the keys of call i
+  lowers_none : (j : ℕ) → lowered_by (task_at s w) ≢ Some j
+  lowers_none j h = let none : lowered_by (task_at s w) ≡ None = ap lowered_by runs in cc
 
-  is_unmoved : IsUnmoved (view_of s) i
-  is_unmoved = unmoved_run block (view_of s) f i w runs_i (ap moved_by runs)
+  is_unturned : IsUnturned (view_of s) i
+  is_unturned = unturned_run block (view_of s) f i w has_i (ap turned_by runs)
+
+  -- call i is checked by nobody at its incarnation
+  not_checked : (x left : ℕ) (failed : Bool) → task_at s x ≢ Validating i (call_at s i).incarnation left failed
+  not_checked x left failed h = let e = is_executing in elim (f.current x i left failed h) [ inl q ↦ let r = q.0 in cc | inr q ↦ let r = q.0 in cc ]
 
   -- what a run that goes on changes
   goes_move : (xs : List StorageAnswer) (o : Option ℕ) → AllByRecursion (IsRightAnswer block (view_of s) i) xs → ((b : ℕ) → o ≡ Some b → b < i)
@@ -57,23 +65,27 @@ module _ (block : Block) (s : State) (w i : ℕ) (answers : List StorageAnswer) 
     ready_others = λ j ne h. h;
     ready = f.ready i;
     was = λ j h. cc;
-    alone = λ x h. f.alone x w i h runs_i;
+    alone = λ x h. f.alone x w i h has_i;
     now = inl (refl, is_executing);
     blocked = λ j b ys h. let same : i ≡ j = cc in let less = low b (cc) in omega (arith, same, less);
     aborting = λ h. let r = is_executing in cc;
-    unparked = λ h. let r = is_executing in cc;
+    unparked = f.unparked i;
+    nobody_waits = λ h. let r = is_executing in cc;
     limit = f.limit i;
     executed_limit = f.executed_limit i;
     aborting_limit = f.aborting_limit i;
     grows = omega arith;
-    versions = λ key n x h. inr h;
-    own_entries = λ _ key. f.entries i key is_unmoved;
+    past = λ n h. h;
+    versions = λ key n x h. inl h;
+    known = λ key n x h. inl h;
+    own_entries = λ _ key. f.entries i key is_unturned;
     own_moving = λ j keys new h. cc;
+    own_marking = λ j keys h. cc;
     executed = f.executed i;
     recorded = f.recorded i;
     answered = λ j ys o2 h. let one : i ≡ j = cc in let two : xs ≡ ys = cc in subst (λ y. AllByRecursion (IsRightAnswer block (view_of s) y) ys) one (subst (λ zs. AllByRecursion (IsRightAnswer block (view_of s) i) zs) two right);
-    validating = λ j n left h. cc;
-    current = λ x left ne h. f.current x i left h;
+    validating = λ j n left failed h. cc;
+    current = λ x left failed ne h. f.current x i left failed h;
   }
 
   -- the run is answered, blocked or begun again
@@ -83,7 +95,7 @@ module _ (block : Block) (s : State) (w i : ℕ) (answers : List StorageAnswer) 
       let u : View = view_of (with_task w (Running i xs o) s) in
       frame_kept block (view_of s) u i w (call_at s i) (Running i xs o) m f (λ j h l. elim (cases_eq j i) [
         | inl e ↦ let r : (call_at s j).status ≡ Executing = ap (λ x. (call_at s x).status) e ∙ is_executing in let q : (call_at s j).status ≡ Executed = h in cc
-        | inr ne ↦ safe_other block (view_of s) u i w (call_at s i) (Running i xs o) m j ne (λ left. free j (call_at s j).incarnation left) (λ keys k _. absurd (moves_none i keys true k)) (λ read k. k) (f.safe j h l)
+        | inr ne ↦ safe_other block (view_of s) u i w (call_at s i) (Running i xs o) m j ne (free j (call_at s j).incarnation) (λ k _. absurd (lowers_none i k)) (λ read k. k) (f.safe j h l)
       ])
 
   -- what the run was answered so far is right
@@ -95,7 +107,7 @@ module _ (block : Block) (s : State) (w i : ℕ) (answers : List StorageAnswer) 
   seen_kept_by key Base h = goes (answers ++ record { key = key; value = get block.base key; origin = origin.Base } ∷ []) None (all_append (IsRightAnswer block (view_of s) i) answers (record { key = key; value = get block.base key; origin = origin.Base } ∷ []) right_so_far (refl, tt)) (λ b k. cc)
   seen_kept_by key (Found v n c) h =
       let at = found_at (entry_at s.versions key) i v n c h in
-      goes (answers ++ record { key = key; value = c; origin = origin.Version v n } ∷ []) None (all_append (IsRightAnswer block (view_of s) i) answers (record { key = key; value = c; origin = origin.Version v n } ∷ []) right_so_far ((at.0, inr at.1), tt)) (λ b k. cc)
+      goes (answers ++ record { key = key; value = c; origin = origin.Version v n } ∷ []) None (all_append (IsRightAnswer block (view_of s) i) answers (record { key = key; value = c; origin = origin.Version v n } ∷ []) right_so_far ((at.0, inl (c, at.1), λ x there. let two = at.1 in cc), tt)) (λ b k. cc)
   seen_kept_by key (Blocked b) h = goes answers (Some b) right_so_far (λ x k. let same : b ≡ x = cc in let low = (blocked_at (entry_at s.versions key) i b h).0 in omega (arith, same, low))
 
   -- a call that is parked
@@ -120,23 +132,27 @@ module _ (block : Block) (s : State) (w i : ℕ) (answers : List StorageAnswer) 
     ready_others = λ j ne h. h;
     ready = λ h. cc;
     was = λ j h. cc;
-    alone = λ x h. f.alone x w i h runs_i;
-    now = inr (refl, λ h. cc);
+    alone = λ x h. f.alone x w i h has_i;
+    now = inr (λ h. cc, inr refl);
     blocked = λ j x ys h. cc;
-    aborting = λ h. (b, refl, low, not_done);
-    unparked = λ h. cc;
+    aborting = λ h. inl (b, refl, low, not_done);
+    unparked = λ ne. absurd (ne refl);
+    nobody_waits = λ h. cc;
     limit = f.limit i;
     executed_limit = λ h. cc;
     aborting_limit = λ h. omega arith;
     grows = omega arith;
-    versions = λ key n x h. inr h;
-    own_entries = λ _. same_entries block (view_of s) f i (λ h. let r = is_executing in cc) is_unmoved;
+    past = λ n h. let e = is_executing in elim h [ inl old ↦ inl old | inr q ↦ let r = q.1 in cc ];
+    versions = λ key n x h. inl h;
+    known = λ key n x h. inl h;
+    own_entries = λ _. same_entries block (view_of s) f i (λ h. let r = is_executing in cc) is_unturned;
     own_moving = λ j keys new h. cc;
+    own_marking = λ j keys h. cc;
     executed = λ h. cc;
     recorded = f.recorded i;
     answered = λ j ys o h. cc;
-    validating = λ j n left h. cc;
-    current = λ x left ne h. let r = (f.current x i left h).0 in let q = is_executing in cc;
+    validating = λ j n left failed h. cc;
+    current = λ x left failed ne h. absurd (not_checked x left failed h);
   }
 
   -- a call may be parked on a lower call that is not EXECUTED
@@ -146,7 +162,7 @@ module _ (block : Block) (s : State) (w i : ℕ) (answers : List StorageAnswer) 
       let u : View = view_of (after_park b) in
       frame_kept block (view_of s) u i w (waiting b) Idle m f (λ j h l. elim (cases_eq j i) [
         | inl e ↦ let c : u.calls j ≡ waiting b = ap u.calls e ∙ m.call in let r : (u.calls j).status ≡ Aborting = ap (λ (call : CallState). call.status) c in cc
-        | inr ne ↦ safe_other block (view_of s) u i w (waiting b) Idle m j ne (λ left. free j (call_at s j).incarnation left) (λ keys k _. absurd (moves_none i keys true k)) (λ read k. k)
+        | inr ne ↦ safe_other block (view_of s) u i w (waiting b) Idle m j ne (free j (call_at s j).incarnation) (λ k _. absurd (lowers_none i k)) (λ read k. k)
             (f.safe j (ap (λ (call : CallState). call.status) (sym (m.calls j ne)) ∙ h) l)
       ])
 

@@ -1,16 +1,15 @@
--- Reads that stand or are yet to be checked stay so.
-use Rattle.std.proofs.Common.{◌≡◌, ◌<◌, ◌≢◌, ◌⊎◌, ℕ, true, List, [], ◌∷◌, Some, sym, ap, subst, ◌∙◌, inl, inr}
-use Rattle.std.specs.List.{AllByRecursion, list_all}
-use Rattle.std.proofs.lemmas.Bool.{cases_eq, and_parts}
+-- Reads that stand or are yet to be met stay so.
+use Rattle.std.proofs.Common.{◌≡◌, ◌<◌, ◌≤◌, ◌+◌, ◌≢◌, ◌⊎◌, ℕ, Bool, true, false, List, length, slice_get, Some, arith, sym, ap, subst, ◌∙◌, inl, inr}
+use Rattle.std.proofs.lemmas.Bool.{cases_eq}
 use Rattle.read_set.specs.declared.Read.{Read}
 use Rattle.mvmap.specs.Versions.{Estimate}
 use Rattle.mvmap.specs.Reading.{visible_below, is_origin, stands_among}
 use Rattle.mvmap.proofs.Readings.{seen_same, seen_kept, origin_shown}
 use Rattle.stm_state.specs.declared.state.CallState.{CallState}
 use Rattle.stm_state.specs.declared.state.Task.{Task}
-use Rattle.stm_state.specs.declared.state.Task.TheVariants.{Moving, Validating}
+use Rattle.stm_state.specs.declared.state.Task.TheVariants.{Idle, Running, Moving, Validating, Marking}
 use Rattle.stm_state.specs.Steps.{Block, reads_of}
-use Rattle.stm_state.specs.Invariant.{View, validated, ahead, IsAhead, IsSafe, run_by}
+use Rattle.stm_state.specs.Invariant.{View, AreSafe, IsAhead, IsCovered, validated, ahead, lowered_by, owned_by}
 use Rattle.stm_state.proofs.Frames.{Frame}
 
 -- what stands of a call stays so
@@ -26,70 +25,54 @@ pub on_estimates : (v u : View) (i : ℕ) → ((key : List ℕ) (w : ℕ) → (u
 on_estimates v u i same read h =
     ap (is_origin read.origin) (seen_kept (v.entries read.key) (u.entries read.key) i (λ w. same read.key w) (origin_shown read.origin (visible_below (v.entries read.key) i) h)) ∙ h
 
--- some worker validates a call at its incarnation
-abbrev pub IsValidated : View → ℕ → Type 0
-IsValidated v i = (w : ℕ) × ((left : ℕ) × (v.tasks w ≡ Validating i (v.calls i).incarnation left))
+-- a task that lowers V to behind a call has that call
+lowered_owned : (t : Task) (j : ℕ) → lowered_by t ≡ Some j → owned_by t ≡ Some j
+lowered_owned Idle j h = cc
+lowered_owned (Running i answers blocked) j h = cc
+lowered_owned (Moving i keys true) j h = h
+lowered_owned (Moving i keys false) j h = cc
+lowered_owned (Validating i n left failed) j h = cc
+lowered_owned (Marking i keys) j h = h
 
--- a call is seen to: it is validated, or a lower call's unfinished record with a new key will have it validated again
-abbrev pub IsSeenTo : View → ℕ → Type 0
-IsSeenTo v i = IsValidated v i ⊎ IsAhead v.tasks i
+-- reads of a call that stays are safe, where what stands stays so, and what is yet to be met is so or stands
+pub safe_still : (v u : View) (j : ℕ) → u.calls j ≡ v.calls j → StandsOn v u j
+    → ((place : ℕ) (read : Read) → slice_get (reads_of (v.calls j).last) place ≡ Some read → IsCovered v j place → (stands_among u.entries j read ≡ true) ⊎ IsCovered u j place) → AreSafe v j → AreSafe u j
+safe_still v u j same stood cover h place read at =
+    let was : slice_get (reads_of (v.calls j).last) place ≡ Some read = ap (λ (call : CallState). slice_get (reads_of call.last) place) (sym same) ∙ at in
+    elim (h place read was) [ inl stand ↦ inl (stood read stand) | inr covered ↦ cover place read was covered ]
 
--- a read of a call that is seen to is safe
-safe_seen_to : (v : View) (i : ℕ) (read : Read) → IsSeenTo v i → IsSafe v i read
-safe_seen_to v i read (inl h) = inr (validated h.0 h.1.0 h.1.1)
-safe_seen_to v i read (inr h) = inr (ahead h)
+-- all reads are yet to be met of a call that a task is ahead of, and of one whose validation begins
+pub safe_ahead : (v : View) (j : ℕ) → IsAhead v.tasks j → AreSafe v j
+safe_ahead v j h place read at = inr (ahead h)
 
--- a read stays safe
-safe_one : (v u : View) (i : ℕ) (read : Read) → StandsOn v u i → (IsSeenTo v i → (stands_among u.entries i read ≡ true) ⊎ IsSeenTo u i) → IsSafe v i read → IsSafe u i read
-safe_one v u i read stood cover (inl h) = inl (stood read h)
-safe_one v u i read stood cover (inr (validated w left h)) = elim (cover (inl (w, (left, h)))) [ inl now ↦ inl now | inr again ↦ safe_seen_to u i read again ]
-safe_one v u i read stood cover (inr (ahead h)) = elim (cover (inr h)) [ inl now ↦ inl now | inr again ↦ safe_seen_to u i read again ]
+pub safe_begun : (v : View) (j w : ℕ) → v.tasks w ≡ Validating j (v.calls j).incarnation (length (reads_of (v.calls j).last)) false → AreSafe v j
+safe_begun v j w h place read at = inr (validated w (length (reads_of (v.calls j).last)) false h (inr (omega arith)))
 
--- all reads of a call stay safe
-pub safe_all : (v u : View) (i : ℕ) (reads : List Read) → StandsOn v u i → (IsSeenTo v i → AllByRecursion (λ read. stands_among u.entries i read ≡ true) reads ⊎ IsSeenTo u i) → AllByRecursion (IsSafe v i) reads → AllByRecursion (IsSafe u i) reads
-safe_all v u i [] stood cover h = tt
-safe_all v u i (read ∷ reads) stood cover h = (
-  safe_one v u i read stood (λ q. elim (cover q) [ inl all ↦ inl all.0 | inr again ↦ inr again ]) h.0,
-  safe_all v u i reads stood (λ q. elim (cover q) [ inl all ↦ inl all.1 | inr again ↦ inr again ]) h.1,
-)
+-- a validation of a call goes on in another view, where the call and the task stay
+pub checked_on : (v u : View) (j x left place : ℕ) (failed : Bool) → u.calls j ≡ v.calls j → u.tasks x ≡ Validating j (v.calls j).incarnation left failed → (failed ≡ true) ⊎ (length (reads_of (v.calls j).last) ≤ place + left) → IsCovered u j place
+checked_on v u j x left place failed same task meets = validated x left failed (task ∙ ap (λ (call : CallState). Validating j call.incarnation left failed) (sym same))
+    (subst (λ (call : CallState). (failed ≡ true) ⊎ (length (reads_of call.last) ≤ place + left)) (sym same) meets)
 
--- all reads of a call that is seen to are safe
-pub safe_attended : (v : View) (i : ℕ) (reads : List Read) → IsSeenTo v i → AllByRecursion (IsSafe v i) reads
-safe_attended v i [] h = tt
-safe_attended v i (read ∷ reads) h = (safe_seen_to v i read h, safe_attended v i reads h)
+-- so does all that is yet to be met of a call, where all tasks stay
+pub cover_same : (v u : View) (j : ℕ) → u.calls j ≡ v.calls j → ((x : ℕ) → u.tasks x ≡ v.tasks x) → (place : ℕ) → IsCovered v j place → IsCovered u j place
+cover_same v u j same tasks place (validated x left failed task meets) = checked_on v u j x left place failed same (tasks x ∙ task) meets
+cover_same v u j same tasks place (ahead q) = ahead (record { worker = q.worker; call = q.call; task = ap lowered_by (tasks q.worker) ∙ q.task; lower = q.lower })
 
--- what stands is safe, and what all stand by a test stand
-pub stand_each : (v : View) (i : ℕ) (reads : List Read) → list_all (stands_among v.entries i) reads ≡ true → AllByRecursion (λ read. stands_among v.entries i read ≡ true) reads
-stand_each v i [] h = tt
-stand_each v i (read ∷ reads) h = let both = and_parts (stands_among v.entries i read) (list_all (stands_among v.entries i) reads) h in (both.0, stand_each v i reads both.1)
+module _ (block : Block) (v u : View) (i w : ℕ) (c : CallState) (t : Task) (m : Frame block v u i w c t) (j : ℕ) (ne : j ≢ i) where
+  -- what is yet to be met of another call is so, where worker w neither validated it nor ends to be ahead of it
+  cover_other : ((left : ℕ) (failed : Bool) → v.tasks w ≢ Validating j (v.calls j).incarnation left failed) → (lowered_by (v.tasks w) ≡ Some i → i < j → IsAhead u.tasks j) → (place : ℕ) → IsCovered v j place → IsCovered u j place
+  cover_other free goes_on place (validated x left failed task meets) = elim (cases_eq x w) [
+    | inl e ↦ absurd (free left failed (ap v.tasks (sym e) ∙ task))
+    | inr other ↦ checked_on v u j x left place failed (m.calls j ne) (m.tasks x other ∙ task) meets
+  ]
+  cover_other free goes_on place (ahead q) = elim (cases_eq q.worker w) [
+    | inl e ↦
+        let here : lowered_by (v.tasks w) ≡ Some q.call = ap (λ y. lowered_by (v.tasks y)) (sym e) ∙ q.task in
+        let one : q.call ≡ i = m.was q.call (lowered_owned (v.tasks w) q.call here) in
+        ahead (goes_on (here ∙ ap Some one) (subst (λ y. y < j) one q.lower))
+    | inr other ↦ ahead (record { worker = q.worker; call = q.call; task = ap lowered_by (m.tasks q.worker other) ∙ q.task; lower = q.lower })
+  ]
 
--- a call whose task a move doesn't end stays validated
-pub validated_on : (block : Block) (v u : View) (i w : ℕ) (c : CallState) (t : Task) → Frame block v u i w c t → (j : ℕ) → j ≢ i → ((left : ℕ) → v.tasks w ≢ Validating j (v.calls j).incarnation left) → IsValidated v j → IsValidated u j
-validated_on block v u i w c t m j ne free q = (
-  q.0,
-  (
-    q.1.0,
-    elim (cases_eq q.0 w) [
-      | inl e ↦ absurd (free q.1.0 (ap v.tasks (sym e) ∙ q.1.1))
-      | inr other ↦ m.tasks q.0 other ∙ q.1.1 ∙ ap (λ (call : CallState). Validating j call.incarnation q.1.0) (sym (m.calls j ne))
-    ],
-  ),
-)
-
--- a lower call's unfinished record goes on, where the worker that changes its task sees to it
-pub ahead_on : (block : Block) (v u : View) (i w : ℕ) (c : CallState) (t : Task) → Frame block v u i w c t → (j : ℕ) → ((keys : List (List ℕ)) → v.tasks w ≡ Moving i keys true → i < j → IsAhead u.tasks j) → IsAhead v.tasks j → IsAhead u.tasks j
-ahead_on block v u i w c t m j goes_on q = elim (cases_eq q.worker w) [
-  | inl e ↦
-      let here : v.tasks w ≡ Moving q.call q.keys true = ap v.tasks (sym e) ∙ q.task in
-      let one : q.call ≡ i = m.was q.call (ap run_by here) in
-      goes_on q.keys (here ∙ ap (λ y. Moving y q.keys true) one) (subst (λ y. y < j) one q.lower)
-  | inr other ↦ record { worker = q.worker; call = q.call; keys = q.keys; task = m.tasks q.worker other ∙ q.task; lower = q.lower }
-]
-
--- a move keeps the reads of another call safe
-pub safe_other : (block : Block) (v u : View) (i w : ℕ) (c : CallState) (t : Task) → Frame block v u i w c t → (j : ℕ) → j ≢ i → ((left : ℕ) → v.tasks w ≢ Validating j (v.calls j).incarnation left)
-    → ((keys : List (List ℕ)) → v.tasks w ≡ Moving i keys true → i < j → IsAhead u.tasks j) → StandsOn v u j → AllByRecursion (IsSafe v j) (reads_of (v.calls j).last) → AllByRecursion (IsSafe u j) (reads_of (u.calls j).last)
-safe_other block v u i w c t m j ne free goes_on stood h =
-    subst (λ (call : CallState). AllByRecursion (IsSafe u j) (reads_of call.last)) (sym (m.calls j ne))
-    (safe_all v u j (reads_of (v.calls j).last) stood
-    (λ q. elim q [ inl checked ↦ inr (inl (validated_on block v u i w c t m j ne free checked)) | inr on ↦ inr (inr (ahead_on block v u i w c t m j goes_on on)) ]) h)
+  -- so a frame keeps the reads of another call safe
+  pub safe_other : ((left : ℕ) (failed : Bool) → v.tasks w ≢ Validating j (v.calls j).incarnation left failed) → (lowered_by (v.tasks w) ≡ Some i → i < j → IsAhead u.tasks j) → StandsOn v u j → AreSafe v j → AreSafe u j
+  safe_other free goes_on stood h = safe_still v u j (m.calls j ne) stood (λ place read at covered. inr (cover_other free goes_on place covered)) h

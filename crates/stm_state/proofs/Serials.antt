@@ -1,5 +1,5 @@
 -- Where workers are done the result is that of the calls one after another.
-use Rattle.std.proofs.Common.{◌≡◌, ◌<◌, ◌≤◌, ◌≢◌, ◌&&◌, ◌==◌, ℕ, zero, suc, true, option_map, List, [], ◌∷◌, length, map, Option, None, Some, arith, refl, sym, ap, subst, ◌∙◌, inl, inr}
+use Rattle.std.proofs.Common.{◌≡◌, ◌<◌, ◌≤◌, ◌≢◌, ◌&&◌, ◌==◌, ℕ, zero, suc, true, option_map, List, [], ◌∷◌, length, map, slice_get, Option, None, Some, arith, refl, sym, ap, subst, ◌∙◌, inl, inr}
 use Rattle.std.specs.List.{AllByRecursion, list_all}
 use Rattle.std.specs.FinMap.{get, empty, get-empty}
 use Rattle.std.proofs.lemmas.Bool.{and_parts, cases_lt}
@@ -10,7 +10,6 @@ use Rattle.rv_ledger.specs.declared.end.End.TheVariants.{Returned}
 use Rattle.rv_ledger.specs.declared.receipt.Receipt.{Receipt}
 use Rattle.read_set.specs.declared.Origin.{Origin}
 use Rattle.read_set.specs.declared.Origin.TheVariants as origin
-use Rattle.read_set.specs.declared.Read.{Read}
 use Rattle.rv_step.specs.Chain.{Reply, AreFrom}
 use Rattle.rv_step.specs.Fold.{apply_writes}
 use Rattle.rv_step.specs.Replies.{replies_of}
@@ -24,12 +23,11 @@ use Rattle.stm_state.specs.declared.state.Recorded.{Recorded}
 use Rattle.stm_state.specs.declared.state.Task.TheVariants.{Idle}
 use Rattle.stm_state.specs.State.{State, fresh, call_at, task_at, is_idle, is_done}
 use Rattle.stm_state.specs.Steps.{Block, read_of, reads_of, write_of}
-use Rattle.stm_state.specs.Invariant.{view_of, ViewInvariant, IsRight, IsRightAnswer, validated, ahead, IsSafe, Invariant, entry_of}
+use Rattle.stm_state.specs.Invariant.{view_of, ViewInvariant, AreSafe, Invariant, IsCovered, IsRight, IsRightAnswer, validated, ahead, entry_of, lowered_by}
 use Rattle.stm_state.specs.Done.{HasVersionsAlone, Reached, IsSerial}
 use Rattle.stm_state.proofs.Tests.{equal_says, idle_at_done}
 use Rattle.stm_state.proofs.Writes.{over, laid_get}
 use Rattle.stm_state.proofs.Asks.{executed_entries}
-use Rattle.stm_state.proofs.Aborts.{version_is}
 use Rattle.stm_state.proofs.Whole.{invariant_kept}
 
 -- ---- what done says
@@ -78,15 +76,20 @@ pub no_estimate : (o : Option Content) (n : ℕ) → option_map (λ c. Stands n 
 no_estimate None n h = cc
 no_estimate (Some c) n h = cc
 
--- where nobody has a task, what is safe stands
-safe_stands : (s : State) (i : ℕ) (reads : List Read) → ((w : ℕ) → task_at s w ≡ Idle) → AllByRecursion (IsSafe (view_of s) i) reads → AllByRecursion (λ read. stands_among (entry_at s.versions) i read ≡ true) reads
-safe_stands s i [] idle h = tt
-safe_stands s i (read ∷ reads) idle h = (one h.0, safe_stands s i reads idle h.1)
-  where
-    one : IsSafe (view_of s) i read → stands_among (entry_at s.versions) i read ≡ true
-    one (inl stand) = stand
-    one (inr (validated w left task)) = let none = idle w in cc
-    one (inr (ahead q)) = let none = idle q.worker in let task = q.task in cc
+-- what holds of each element by its place holds of all
+all_by_place : {X : Type 0} (P : X → Type 0) (xs : List X) → ((place : ℕ) (x : X) → slice_get xs place ≡ Some x → P x) → AllByRecursion P xs
+all_by_place P [] h = tt
+all_by_place P (x ∷ xs) h = (h zero x refl, all_by_place P xs (λ place y at. h (suc place) y at))
+
+-- where nobody has a task, no read is yet to be met
+none_covered : (s : State) (i place : ℕ) → ((w : ℕ) → task_at s w ≡ Idle) → IsCovered (view_of s) i place → ⊥
+none_covered s i place idle (validated w left failed task meets) = let none = idle w in cc
+none_covered s i place idle (ahead q) = let none : lowered_by (task_at s q.worker) ≡ None = ap lowered_by (idle q.worker) in let some = q.task in cc
+
+-- so what is safe stands
+safe_stands : (s : State) (i : ℕ) → ((w : ℕ) → task_at s w ≡ Idle) → AreSafe (view_of s) i → AllByRecursion (λ read. stands_among (entry_at s.versions) i read ≡ true) (reads_of (call_at s i).last)
+safe_stands s i idle h = all_by_place (λ read. stands_among (entry_at s.versions) i read ≡ true) (reads_of (call_at s i).last)
+    (λ place read at. elim (h place read at) [ inl stand ↦ stand | inr covered ↦ absurd (none_covered s i place idle covered) ])
 
 module _ (block : Block) (s : State) (f : ViewInvariant block (view_of s)) (over_now : IsOver block s) where
   -- the receipt of a call
@@ -102,7 +105,10 @@ module _ (block : Block) (s : State) (f : ViewInvariant block (view_of s)) (over
   status_below i l rest Ready h = let low = f.ready i h in let e = over_now.execution in absurd (omega (arith, low, e, l))
   status_below i l rest Executing h = let run = f.executing i h in let runs = run.1 in let none = over_now.idle run.0 in cc
   status_below i l rest Executed h = refl
-  status_below i l rest Aborting h = let wait = f.aborting i h in absurd (wait.not_done (rest wait.on wait.lower))
+  status_below i l rest Aborting h = elim (f.aborting i h) [
+    | inl wait ↦ absurd (wait.not_done (rest wait.on wait.lower))
+    | inr marks ↦ let some = marks.1 in let none = over_now.idle marks.0 in cc
+  ]
 
   -- all calls below a number are EXECUTED
   executed_below : (m i : ℕ) → i < m → i < block.count → (call_at s i).status ≡ Executed
@@ -115,7 +121,7 @@ module _ (block : Block) (s : State) (f : ViewInvariant block (view_of s)) (over
 
   -- all reads stand
   all_stand : (i : ℕ) → i < block.count → AllByRecursion (λ read. stands_among (entry_at s.versions) i read ≡ true) (reads_of (call_at s i).last)
-  all_stand i within = safe_stands s i (reads_of (call_at s i).last) over_now.idle (f.safe i (all_executed i within) (let e = over_now.validation in omega (arith, e, within)))
+  all_stand i within = safe_stands s i over_now.idle (f.safe i (all_executed i within) (let e = over_now.validation in omega (arith, e, within)))
 
   -- the entries of a call are its writes
   entry_is : (i : ℕ) → i < block.count → (key : List ℕ) → entry_at s.versions key i ≡ option_map (λ c. Stands (call_at s i).incarnation c) (write_of (call_at s i).last key)
@@ -148,13 +154,7 @@ module _ (block : Block) (s : State) (f : ViewInvariant block (view_of s)) (over
       let at = found_at (entry_at s.versions key) i v n shown.0 shown.1 in
       let there : entry_at s.versions key v ≡ Some (Stands n shown.0) = at.1 in
       let content : shown.0 ≡ get (before i) key = ap (value_seen (get block.base key)) (sym shown.1) ∙ seen_is_store i l key in
-      elim right.1 [
-        | inl old ↦
-            let low = at.0 in
-            let same = version_is (write_of (call_at s v).last key) (call_at s v).incarnation n shown.0 (sym (entry_is v (omega (arith, low, l)) key) ∙ there) in
-            let is = same.0 in absurd (omega (arith, is, old))
-        | inr stands_there ↦ let is : value ≡ shown.0 = cc in is ∙ content
-      ]
+      right.2 shown.0 there ∙ content
 
   -- the answers of a run whose reads stand are those of the storage before the call
   answers_are : (i : ℕ) → i ≤ block.count → (answers : List StorageAnswer) → AllByRecursion (λ read. stands_among (entry_at s.versions) i read ≡ true) (map read_of answers) → AllByRecursion (IsRightAnswer block (view_of s) i) answers → AreFrom (before i) (replies_of answers)

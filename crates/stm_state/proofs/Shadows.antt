@@ -1,5 +1,5 @@
 -- What schedules of small blocks come to: a run of them that computes, as the runs of the definitions do.
-use Rattle.std.proofs.Common.{◌≡◌, ◌≢◌, ◌+◌, ◌++◌, ◌==◌, ◌&&◌, not, nat_lt, nat_le, if◌then◌else◌, ℕ, Bool, true, false, cond, is_some, option_map, List, [], ◌∷◌, length, get_or, Option, None, Some, Result, Ok, Err, refl, sym, ap, subst, ◌∙◌}
+use Rattle.std.proofs.Common.{◌≡◌, ◌≢◌, ◌+◌, ◌-◌, ◌++◌, ◌==◌, ◌&&◌, not, nat_lt, nat_le, if◌then◌else◌, ℕ, zero, suc, Bool, true, false, cond, is_some, option_map, List, [], ◌∷◌, length, get_or, slice_get, Option, None, Some, Result, Ok, Err, refl, sym, ap, subst, ◌∙◌}
 use Rattle.std.specs.List.{list_any, list_all, filter}
 use Rattle.std.specs.Ordering.{eq_by_cmp}
 use Rattle.std.specs.FinMap.{get, empty, entries, len, get-empty, len-entries, contains_key}
@@ -14,21 +14,21 @@ use Rattle.rv_step.specs.declared.answer.StorageAnswer.{StorageAnswer}
 use Rattle.mvmap.specs.Versions.{Entry, Versions, Stands, Estimate, changed, entry_at, place_cmp}
 use Rattle.mvmap.specs.Reading.{Visible, Base, Found, Blocked, visible_below, reading, is_origin, stands_among}
 use Rattle.mvmap.proofs.Readings.{seen_same}
+use Rattle.stm_state.specs.declared.state.Status.TheVariants.{Aborting}
 use Rattle.stm_state.specs.declared.state.CallState.{CallState}
 use Rattle.stm_state.specs.declared.state.Recorded.{Recorded}
 use Rattle.stm_state.specs.declared.state.Task.{Task}
-use Rattle.stm_state.specs.declared.state.Task.TheVariants.{Idle, Running, Moving, Validating}
+use Rattle.stm_state.specs.declared.state.Task.TheVariants.{Idle, Running, Moving, Validating, Marking}
 use Rattle.stm_state.specs.Limits.{record_limit, incarnation_limit}
 use Rattle.stm_state.specs.State.{State, start, call_at, task_at, with_call, with_task, is_executed, is_ready, is_done}
-use Rattle.stm_state.specs.Steps.{Step, Ask, Read_key, Park, Record, Move_key, Finish_execution, Validate, Limit, ArenaFull, IncarnationLimit, counted, one_step, one_asking, one_execution, one_validation, ask_validation, ask_execution, asked, answered_with, parked, written_by, estimated, left_over, wrote, has_new_key, keys_of, keys_to_move, version_of, write_of, resume_dependents, to_validate, recorded_run, moved, executed, is_executed_at, aborted, all_stand, validated, decided, record_within, reads_of, step_with, worker_step}
+use Rattle.stm_state.specs.Steps.{Step, Ask, Read_key, Park, Record, Move_key, Finish_execution, Check_read, Decide, Mark_estimate, Finish_abort, Limit, ArenaFull, IncarnationLimit, counted, one_step, one_asking, one_execution, one_validation, ask_validation, ask_execution, asked, answered_with, parked, written_by, left_over, wrote, has_new_key, keys_of, keys_to_move, version_of, write_of, resume_dependents, to_validate, recorded_run, moved, executed, is_executed_at, read_stands, next_stands, checked, decided, marked, aborted, record_within, reads_of, step_with, worker_step}
 use Rattle.stm_state.specs.Invariant.{view_of, ViewInvariant}
 use Rattle.stm_state.specs.Done.{Reached, started, stepped}
 use Rattle.stm_state.specs.Rows.{Script, writes_of, borne_from, block_of_scripts, due_step, after_schedule, echo}
 use Rattle.stm_state.specs.Walk.{after_step}
-use Rattle.stm_state.proofs.Lists.{all_same}
 use Rattle.stm_state.proofs.Tests.{lt_says, equal_says, equal_itself}
-use Rattle.stm_state.proofs.Cases.{IsMade, by_ask, by_read, by_park, by_record, by_move, by_finish, by_validate, made}
-use Rattle.stm_state.proofs.Writes.{changed_at, changed_other, estimated_over, estimated_other}
+use Rattle.stm_state.proofs.Cases.{IsMade, by_ask, by_read, by_park, by_record, by_move, by_finish, by_check, by_decide, by_mark, by_abort, made}
+use Rattle.stm_state.proofs.Writes.{changed_at, changed_other}
 use Rattle.stm_state.proofs.Whole.{invariant_kept}
 use Rattle.stm_state.proofs.Scripts.{entries_of, value_of, entries_are, value_is, shaped}
 
@@ -55,19 +55,15 @@ abbrev listed : Option Recorded → List (List ℕ × Content)
 listed None = []
 listed (Some run) = entries_of run.receipt.regs
 
--- a writer's entries at the keys of a run made estimates
-abbrev estimated_by : Entries → ℕ → Option Recorded → Entries
-estimated_by e i last key j = cond (j == i) (cond (is_some (written last key)) (Some Estimate) (e key j)) (e key j)
-
 -- ---- the same steps, with what they look at computed
 
--- whether all reads of a call stand
-abbrev stand_by : Entries → ℕ → State → Bool
-stand_by e i s = list_all (stands_among e i) (reads_of (call_at s i).last)
+-- whether the first of the last reads of a call stands; so many of them are left
+abbrev read_by : Entries → ℕ → Option Read → Bool
+read_by e i None = true
+read_by e i (Some read) = stands_among e i read
 
--- whether a call is aborted
-abbrev is_wrong : Entries → ℕ → ℕ → State → Bool
-is_wrong e i n s = is_executed_at n (call_at s i) && not (stand_by e i s)
+abbrev next_by : Entries → ℕ → ℕ → State → Bool
+next_by e i left s = let reads = reads_of (call_at s i).last in read_by e i (slice_get reads (length reads - left))
 
 -- whether a run wrote a new key, and the keys that it is to move
 abbrev new_by : Option Recorded → List ℕ → Bool
@@ -98,9 +94,17 @@ abbrev within_by : ℕ → List StorageAnswer → ℕ → Option Receipt → Sta
 within_by i answers w None s = None
 within_by i answers w (Some receipt) s = recorded_by w i answers receipt s (length (entries_of receipt.regs)) (keys_by (call_at s i).last receipt.regs) (new_by (call_at s i).last receipt.regs)
 
--- a validation, with whether the call is aborted
-abbrev validated_by : ℕ → ℕ → Bool → State → State
-validated_by w i wrong s = if wrong then aborted w i s else with_task w Idle s
+-- a check of a read, with whether it stands
+abbrev checked_by : ℕ → ℕ → ℕ → ℕ → Bool → State → State
+checked_by w i n left stand s =
+    if is_executed_at n (call_at s i) then (if stand then with_task w (Validating i n left false) s else with_task w (Validating i n (suc left) true) s)
+    else with_task w Idle s
+
+-- a decision, with the keys that are to become estimates
+abbrev decided_by : ℕ → ℕ → ℕ → Bool → List (List ℕ) → State → State
+decided_by w i n failed keys s =
+    if failed && is_executed_at n (call_at s i) then with_task w (Marking i keys) (with_call i (record (call_at s i) { status = Aborting }) s)
+    else with_task w Idle s
 
 -- a step
 abbrev step_by : List Script → ℕ → Task → Step → Entries → State → Option (Result State Limit)
@@ -111,13 +115,17 @@ step_by scripts w (Running i answers (Some b)) Park e s =
 step_by scripts w (Running i answers None) Record e s = within_by i answers w (borne_from (get_or scripts i echo) [] (replies_of answers)) s
 step_by scripts w (Moving i (key ∷ keys) new) Move_key e s = Some (Ok (counted one_step w (moved w i key keys new s)))
 step_by scripts w (Moving i [] new) Finish_execution e s = Some (Ok (counted one_step w (executed w i new s)))
-step_by scripts w (Validating i n left) Validate e s = Some (Ok (counted (if decided i n left s then one_validation else one_step) w (validated_by w i (is_wrong e i n s) s)))
+step_by scripts w (Validating i n left true) Decide e s = Some (Ok (counted one_validation w (decided_by w i n true (keys_of (listed (call_at s i).last)) s)))
+step_by scripts w (Validating i n (suc left) false) Check_read e s = Some (Ok (counted one_step w (checked_by w i n left (next_by e i (suc left) s) s)))
+step_by scripts w (Validating i n zero false) Decide e s = Some (Ok (counted one_validation w (decided_by w i n false (keys_of (listed (call_at s i).last)) s)))
+step_by scripts w (Marking i (key ∷ keys)) Mark_estimate e s = Some (Ok (counted one_step w (marked w i key keys s)))
+step_by scripts w (Marking i []) Finish_abort e s = Some (Ok (counted one_step w (aborted w i s)))
 step_by scripts w task step e s = None
 
 -- the entries after it
 abbrev entries_by : Task → Step → Entries → State → Entries
 entries_by (Moving i (key ∷ keys) new) Move_key e s = changed_by e key i (version_by (call_at s i) key)
-entries_by (Validating i n left) Validate e s = if is_wrong e i n s then estimated_by e i (call_at s i).last else e
+entries_by (Marking i (key ∷ keys)) Mark_estimate e s = changed_by e key i (Some Estimate)
 entries_by task step e s = e
 
 -- a list of worker numbers
@@ -181,9 +189,18 @@ unfolding to_validate resume_dependents
 executed_versions w i new s = cond_both (nat_lt i s.validation) _ _ (λ (t : State). t.versions ≡ s.versions)
     (λ _. cond_both new _ _ (λ (t : State). t.versions ≡ s.versions) (λ _. refl) (λ _. refl)) (λ _. refl)
 
-aborted_versions : (w i : ℕ) (s : State) → (aborted w i s).versions ≡ estimated i (written_by (call_at s i).last) s.versions
+checked_versions : (w i n left : ℕ) (s : State) → (checked w i n left s).versions ≡ s.versions
+unfolding checked
+checked_versions w i n left s = cond_both (is_executed_at n (call_at s i)) _ _ (λ (t : State). t.versions ≡ s.versions)
+    (λ _. cond_both (next_stands i (suc left) s) _ _ (λ (t : State). t.versions ≡ s.versions) (λ _. refl) (λ _. refl)) (λ _. refl)
+
+decided_versions : (w i n : ℕ) (failed : Bool) (s : State) → (decided w i n failed s).versions ≡ s.versions
+unfolding decided
+decided_versions w i n failed s = cond_both (failed && is_executed_at n (call_at s i)) _ _ (λ (t : State). t.versions ≡ s.versions) (λ _. refl) (λ _. refl)
+
+aborted_versions : (w i : ℕ) (s : State) → (aborted w i s).versions ≡ s.versions
 unfolding aborted
-aborted_versions w i s = cond_both (nat_lt i s.execution) _ _ (λ (t : State). t.versions ≡ estimated i (written_by (call_at s i).last) s.versions) (λ _. refl) (λ _. refl)
+aborted_versions w i s = cond_both (nat_lt i s.execution) _ _ (λ (t : State). t.versions ≡ s.versions) (λ _. refl) (λ _. refl)
 
 module _ (scripts : List Script) (workers : ℕ) (s : State) (reached : Reached (block_of_scripts scripts) workers s) where
   -- the invariant
@@ -247,17 +264,22 @@ module _ (scripts : List Script) (workers : ℕ) (s : State) (reached : Reached 
     seen_same_by : (key : List ℕ) (i : ℕ) → reading s.versions key i ≡ visible_below (e key) i
     seen_same_by key i = seen_same (entry_at s.versions key) (e key) i (λ w l. are key w)
 
-    -- its reads stand where they stand there
-    stand_same : (i : ℕ) → all_stand i s ≡ stand_by e i s
-    stand_same i = all_same _ (stands_among e i) (λ (read : Read). ap (is_origin read.origin) (seen_same_by read.key i)) (reads_of (call_at s i).last)
+    -- a read stands where it stands there
+    read_same : (i : ℕ) (o : Option Read) → read_stands s.versions i o ≡ read_by e i o
+    read_same i None = refl
+    read_same i (Some read) = ap (is_origin read.origin) (seen_same_by read.key i)
 
-    wrong_same : (i n : ℕ) → (is_executed_at n (call_at s i) && not (all_stand i s)) ≡ is_wrong e i n s
-    wrong_same i n = ap (λ b. is_executed_at n (call_at s i) && not b) (stand_same i)
+    -- a check of a read is that check
+    checked_same : (w i n left : ℕ) → checked w i n left s ≡ checked_by w i n left (next_by e i (suc left) s) s
+    unfolding checked
+    checked_same w i n left =
+        let reads : List Read = reads_of (call_at s i).last in
+        ap (λ b. checked_by w i n left b s) (read_same i (slice_get reads (length reads - suc left)))
 
-    -- a validation is that validation
-    validated_same : (w i n : ℕ) → validated w i n s ≡ validated_by w i (is_wrong e i n s) s
-    unfolding validated
-    validated_same w i n = ap (λ b. validated_by w i b s) (wrong_same i n)
+    -- a decision is that decision
+    decided_same : (w i n : ℕ) (failed : Bool) → decided w i n failed s ≡ decided_by w i n failed (keys_of (listed (call_at s i).last)) s
+    unfolding decided
+    decided_same w i n failed = ap (λ xs. decided_by w i n failed (keys_of xs) s) (last_listed i (call_at s i).last refl)
 
     -- a step is that step
     step_same : (w : ℕ) (task : Task) (step : Step) → step_with (block_of_scripts scripts) w task step s ≡ step_by scripts w task step e s
@@ -268,7 +290,11 @@ module _ (scripts : List Script) (workers : ℕ) (s : State) (reached : Reached 
     step_same w (Running i answers None) Record = within_same i answers w (borne_from (get_or scripts i echo) [] (replies_of answers)) refl
     step_same w (Moving i (key ∷ keys) new) Move_key = refl
     step_same w (Moving i [] new) Finish_execution = refl
-    step_same w (Validating i n left) Validate = ap (λ t. Some (Ok (counted (if decided i n left s then one_validation else one_step) w t))) (validated_same w i n)
+    step_same w (Validating i n left true) Decide = ap (λ t. Some (Ok (counted one_validation w t))) (decided_same w i n true)
+    step_same w (Validating i n (suc left) false) Check_read = ap (λ t. Some (Ok (counted one_step w t))) (checked_same w i n left)
+    step_same w (Validating i n zero false) Decide = ap (λ t. Some (Ok (counted one_validation w t))) (decided_same w i n false)
+    step_same w (Marking i (key ∷ keys)) Mark_estimate = refl
+    step_same w (Marking i []) Finish_abort = refl
     step_same w task step = refl
 
     -- ---- and so are the entries after it
@@ -283,22 +309,6 @@ module _ (scripts : List Script) (workers : ℕ) (s : State) (reached : Reached 
         subst (λ o. AreEntries (changed_by e key i o) (changed s.versions (key, i) (version_of (call_at s i) key))) (ap (option_map (λ content. Stands (call_at s i).incarnation content)) (write_same i key))
         (changed_same e s.versions key i (version_of (call_at s i) key) are)
 
-    -- after an abort
-    abort_entries : (w i : ℕ) → AreEntries (estimated_by e i (call_at s i).last) (aborted w i s).versions
-    abort_entries w i key j = ap (λ v. entry_at v key j) (aborted_versions w i s) ∙ by_writer _ _ _ j i
-        (λ same. subst (λ x. entry_at (estimated i (written_by (call_at s i).last) s.versions) key x ≡ cond (is_some (written (call_at s i).last key)) (Some Estimate) (e key x)) (sym same)
-        (estimated_over i (call_at s i).last s.versions key ∙ ap (λ o. cond (is_some o) (Some Estimate) (entry_at s.versions key i)) (write_same i key)
-        ∙ ap (cond (is_some (written (call_at s i).last key)) (Some Estimate)) (are key i)))
-        (λ ne. estimated_other i (call_at s i).last s.versions key j ne ∙ are key j)
-
-    -- after a validation
-    validate_entries : (w i n : ℕ) → AreEntries (if is_wrong e i n s then estimated_by e i (call_at s i).last else e) (validated w i n s).versions
-    validate_entries w i n = subst (λ (t : State). AreEntries (if is_wrong e i n s then estimated_by e i (call_at s i).last else e) t.versions) (sym (validated_same w i n)) (go (is_wrong e i n s))
-      where
-        go : (b : Bool) → AreEntries (if b then estimated_by e i (call_at s i).last else e) (validated_by w i b s).versions
-        go true = abort_entries w i
-        go false = are
-
     -- after a step that is made
     made_entries : (w : ℕ) (step : Step) (t : State) → IsMade (block_of_scripts scripts) w s step t → AreEntries (entries_by (task_at s w) step e s) t.versions
     made_entries w step t (by_ask at) = subst (λ task. AreEntries (entries_by task Ask e s) (asked w s).versions) (sym at) (still _ (asked_versions w s))
@@ -307,7 +317,10 @@ module _ (scripts : List Script) (workers : ℕ) (s : State) (reached : Reached 
     made_entries w step t (by_record i answers receipt at bears below) = subst (λ task. AreEntries (entries_by task Record e s) s.versions) (sym at) are
     made_entries w step t (by_move i key keys new at) = subst (λ task. AreEntries (entries_by task Move_key e s) (moved w i key keys new s).versions) (sym at) (move_entries w i key keys new)
     made_entries w step t (by_finish i new at) = subst (λ task. AreEntries (entries_by task Finish_execution e s) (executed w i new s).versions) (sym at) (still _ (executed_versions w i new s))
-    made_entries w step t (by_validate i n left at) = subst (λ task. AreEntries (entries_by task Validate e s) (validated w i n s).versions) (sym at) (validate_entries w i n)
+    made_entries w step t (by_check i n left at) = subst (λ task. AreEntries (entries_by task Check_read e s) (checked w i n left s).versions) (sym at) (still _ (checked_versions w i n left s))
+    made_entries w step t (by_decide i n left failed at last) = subst (λ task. AreEntries (entries_by task Decide e s) (decided w i n failed s).versions) (sym at) (still _ (decided_versions w i n failed s))
+    made_entries w step t (by_mark i key keys at) = subst (λ task. AreEntries (entries_by task Mark_estimate e s) (marked w i key keys s).versions) (sym at) (changed_same e s.versions key i (Some Estimate) are)
+    made_entries w step t (by_abort i at) = subst (λ task. AreEntries (entries_by task Finish_abort e s) (aborted w i s).versions) (sym at) (still _ (aborted_versions w i s))
 
 -- what a list of worker numbers leads to is what it computes to
 computed_same : (scripts : List Script) (workers : ℕ) (ws : List ℕ) (e : Entries) (s : State) → list_all (λ w. nat_lt w workers) ws ≡ true → Reached (block_of_scripts scripts) workers s → AreEntries e s.versions → after_schedule scripts ws s ≡ computed_after scripts ws e s

@@ -1,5 +1,5 @@
 -- What one worker did in each state that it reaches, whatever keys its runs read.
-use Rattle.std.proofs.Common.{◌≡◌, ◌<◌, ◌+◌, ◌*◌, ◌||◌, ◌==◌, ℕ, Bool, true, if◌then◌else◌, List, [], ◌∷◌, ◌++◌, length, map, get_or, Option, None, Some, arith, refl, sym, ap, subst, ◌∙◌, inl, inr}
+use Rattle.std.proofs.Common.{◌≡◌, ◌≢◌, ◌<◌, ◌+◌, ◌*◌, ℕ, suc, Bool, true, false, List, [], ◌∷◌, ◌++◌, length, map, get_or, Option, None, Some, arith, refl, sym, ap, subst, ◌∙◌, inl, inr}
 use Rattle.std.specs.List.{list_all}
 use Rattle.std.proofs.lemmas.Bool.{cases_lt, cond-true}
 use Rattle.std.proofs.lemmas.Grind.{get_or-set_at}
@@ -9,18 +9,18 @@ use Rattle.rv_step.specs.declared.answer.StorageAnswer.{StorageAnswer}
 use Rattle.mvmap.specs.Reading.{reading, stands}
 use Rattle.stm_state.specs.declared.state.Recorded.{Recorded}
 use Rattle.stm_state.specs.declared.state.Task.{Task}
-use Rattle.stm_state.specs.declared.state.Task.TheVariants.{Idle, Running, Moving, Validating}
+use Rattle.stm_state.specs.declared.state.Task.TheVariants.{Idle, Running, Moving, Validating, Marking}
 use Rattle.stm_state.specs.State.{State, fresh, no_counts, start, call_at, task_at, with_task, is_done}
-use Rattle.stm_state.specs.Steps.{Block, Step, read_of, reads_of, counted, one_step, one_asking, one_execution, one_validation, asked, count_done, read_at, keys_to_move, has_new_key, recorded_run, recorded, moved, executed, decided, validated, all_stand}
+use Rattle.stm_state.specs.Steps.{Block, Step, read_of, reads_of, counted, one_step, one_asking, one_execution, one_validation, asked, count_done, read_at, keys_to_move, has_new_key, recorded_run, recorded, moved, executed, checked, decided}
 use Rattle.stm_state.specs.Invariant.{Invariant}
 use Rattle.stm_state.specs.Done.{Reached, started, stepped}
 use Rattle.stm_state.specs.Dones.{dones_of}
 use Rattle.stm_state.specs.OneWorker.{OneWorkerDid, OneWorkerCountsWhereReached}
-use Rattle.stm_state.proofs.Cases.{IsMade, by_ask, by_read, by_park, by_record, by_move, by_finish, by_validate, made}
+use Rattle.stm_state.proofs.Cases.{IsMade, by_ask, by_read, by_park, by_record, by_move, by_finish, by_check, by_decide, by_mark, by_abort, made}
 use Rattle.stm_state.proofs.Lists.{one_element}
 use Rattle.stm_state.proofs.Whole.{worker_kept, invariant_kept}
 use Rattle.stm_state.proofs.Serials.{IsOver, over_at_done}
-use Rattle.stm_state.proofs.Rounds.{Stage, first_stage, begun, all_first, is_over, told_stage, answered_by, clear_below, task_stage, to_run, run_asked, run_stage, read_stands, kept, after_record, record_stage, after_move, moved_stands, moved_stage, finished, executed_is, finished_stands, finish_stage, to_check, check_asked, check_stage, at_zero, not_aborted}
+use Rattle.stm_state.proofs.Rounds.{Stage, first_stage, begun, all_first, is_over, told_stage, answered_by, clear_below, task_stage, to_run, run_asked, run_stage, answer_stands, kept, all_stand, after_record, record_stage, after_move, moved_stands, moved_stage, finished, executed_is, finished_stands, finish_stage, to_check, check_asked, check_stage, check_stands, none_taken}
 
 -- ---- what the worker did
 
@@ -101,7 +101,7 @@ module _ (block : Block) where
 
   -- it validates call d
   record Checks (d left : ℕ) (s : State) : Type 0 where
-    now : Stage block (d + 1) fresh (d + 1) (d + 1) (Validating d 0 left) s
+    now : Stage block (d + 1) fresh (d + 1) (d + 1) (Validating d 0 left false) s
     did : Did (2 * d + 1 + 1) (d + 1) d s
     stand : all_stand d s ≡ true
 
@@ -194,7 +194,7 @@ module _ (block : Block) where
         subst (λ (task : Task). Goes one_step (with_task 0 task s)) (sym told.task) (λ inv. runs i (answers ++ told.answer ∷ []) (record {
           now = task_stage block s i begun (i + 1) i (Running i answers None) (Running i (answers ++ told.answer ∷ []) None) one_step h.now inv;
           did = after_step s (with_task 0 (Running i (answers ++ told.answer ∷ []) None) s) refl refl h.now.inv.sized.counts (2 * i + 1) i i h.did;
-          stand = read_stands block s block.base key i answers h.stand told;
+          stand = answer_stands block s block.base key i answers h.stand told;
         }))
 
     -- a record
@@ -242,33 +242,50 @@ module _ (block : Block) where
 
     -- ---- a validation
 
-    check_on : (d left : ℕ) → Checks d left s → (add : Counts → Counts) → add ≡ one_validation → Goes add (validated 0 d 0 s)
-    check_on d left h add e = subst (λ (x : Counts → Counts). Goes x (validated 0 d 0 s)) (sym e) (subst (Goes one_validation) (sym (not_aborted block s d left h.now h.stand)) (λ inv.
+    -- a check of a read
+    check_on : (d left : ℕ) → Checks d (suc left) s → Goes one_step (checked 0 d 0 left s)
+    check_on d left h = subst (Goes one_step) (sym (check_stands block s d left h.now h.stand)) (λ inv. checks d left (record {
+      now = task_stage block s (d + 1) fresh (d + 1) (d + 1) (Validating d 0 (suc left) false) (Validating d 0 left false) one_step h.now inv;
+      did = after_step s (with_task 0 (Validating d 0 left false) s) refl refl h.now.inv.sized.counts (2 * d + 1 + 1) (d + 1) d h.did;
+      stand = h.stand;
+    }))
+
+    -- a decision
+    decide_on : (d n left : ℕ) → Checks d left s → Goes one_validation (decided 0 d n false s)
+    decide_on d n left h = subst (Goes one_validation) (sym (none_taken d n s)) (λ inv.
         let twice : 2 * d + 1 + 1 ≡ 2 * (d + 1) = omega arith in
         rests (d + 1) (record {
-          now = task_stage block s (d + 1) fresh (d + 1) (d + 1) (Validating d 0 left) Idle one_validation h.now inv;
+          now = task_stage block s (d + 1) fresh (d + 1) (d + 1) (Validating d 0 left false) Idle one_validation h.now inv;
           did = subst (λ n. Did n (d + 1) (d + 1) (counted one_validation 0 (with_task 0 Idle s))) twice
               (after_validation s (with_task 0 Idle s) refl refl h.now.inv.sized.counts (2 * d + 1 + 1) (d + 1) d h.did);
-        })))
+        }))
 
-    -- it is a decision
-    is_decision : (d left : ℕ) → Checks d left s → (if decided d 0 left s then one_validation else one_step) ≡ one_validation
-    is_decision d left h = ap (λ b. if (b || left == 0) then one_validation else one_step) (at_zero block s d left h.now h.stand)
-
-    validates_on : Phase s → (i n left : ℕ) → task_at s 0 ≡ Validating i n left → Goes (if decided i n left s then one_validation else one_step) (validated 0 i n s)
-    validates_on (rests d h) i n left at = let does = h.now.does in cc
-    validates_on (runs d told h) i n left at = let does = h.now.does in cc
-    validates_on (moves d run keys new h) i n left at = let does = h.now.does in cc
-    validates_on (waits d h) i n left at = let does = h.now.does in cc
-    validates_on (checks d more h) i n left at =
+    -- which call it validates
+    checks_call : Phase s → (i n left : ℕ) (failed : Bool) → task_at s 0 ≡ Validating i n left failed → Checks i left s × (n ≡ 0) × (failed ≡ false)
+    checks_call (rests d h) i n left failed at = let does = h.now.does in cc
+    checks_call (runs d told h) i n left failed at = let does = h.now.does in cc
+    checks_call (moves d run keys new h) i n left failed at = let does = h.now.does in cc
+    checks_call (waits d h) i n left failed at = let does = h.now.does in cc
+    checks_call (checks d more h) i n left failed at =
         let does = h.now.does in
         let call : d ≡ i = cc in
-        let incarnation : 0 ≡ n = cc in
         let size : more ≡ left = cc in
-        subst (λ x. Goes (if decided x n left s then one_validation else one_step) (validated 0 x n s)) call
-        (subst (λ x. Goes (if decided d x left s then one_validation else one_step) (validated 0 d x s)) incarnation
-        (subst (λ x. Goes (if decided d 0 x s then one_validation else one_step) (validated 0 d 0 s)) size
-        (check_on d more h (if decided d 0 more s then one_validation else one_step) (is_decision d more h))))
+        (subst (λ x. Checks x left s) call (subst (λ x. Checks d x s) size h), cc, cc)
+
+    -- it takes no call back
+    marks_none : Phase s → (i : ℕ) (keys : List (List ℕ)) → task_at s 0 ≢ Marking i keys
+    marks_none (rests d h) i keys at = let does = h.now.does in cc
+    marks_none (runs d told h) i keys at = let does = h.now.does in cc
+    marks_none (moves d run left new h) i keys at = let does = h.now.does in cc
+    marks_none (waits d h) i keys at = let does = h.now.does in cc
+    marks_none (checks d more h) i keys at = let does = h.now.does in cc
+
+    -- a check of what it validates, and a decision
+    checks_on : Phase s → (i n left : ℕ) → task_at s 0 ≡ Validating i n (suc left) false → Goes one_step (checked 0 i n left s)
+    checks_on h i n left at = let found = checks_call h i n (suc left) false at in subst (λ x. Goes one_step (checked 0 i x left s)) (sym found.1) (check_on i left found.0)
+
+    decides_on : Phase s → (i n left : ℕ) (failed : Bool) → task_at s 0 ≡ Validating i n left failed → Goes one_validation (decided 0 i n failed s)
+    decides_on h i n left failed at = let found = checks_call h i n left failed at in subst (λ x. Goes one_validation (decided 0 i n x s)) (sym found.2) (decide_on i n left found.0)
 
     -- ---- each step
 
@@ -279,7 +296,10 @@ module _ (block : Block) where
     goes_on h step t (by_record i answers receipt at bears below) inv = record_on i answers receipt (runs_call h i answers None at).0 inv
     goes_on h step t (by_move i key keys new at) inv = let found = moves_call h i (key ∷ keys) new at in move_on i found.0 key keys new found.1 inv
     goes_on h step t (by_finish i new at) inv = let found = moves_call h i [] new at in finish_on i found.0 new found.1 inv
-    goes_on h step t (by_validate i n left at) inv = validates_on h i n left at inv
+    goes_on h step t (by_check i n left at) inv = checks_on h i n left at inv
+    goes_on h step t (by_decide i n left failed at last) inv = decides_on h i n left failed at inv
+    goes_on h step t (by_mark i key keys at) inv = absurd (marks_none h i (key ∷ keys) at)
+    goes_on h step t (by_abort i at) inv = absurd (marks_none h i [] at)
 
   -- ---- all states
 

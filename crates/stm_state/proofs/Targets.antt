@@ -33,6 +33,14 @@ module _ (target : List ℕ → Option Entry) (before : List ℕ → Option Entr
       go true h (inr q) = inr q.1
       go false h was = inl (changed_at v key i (target key) k ∙ ap (λ b. cond b (target key) (entry_at v k i)) h)
 
+-- of distinct keys the first is turned, and what stands at the others stays
+pub left_stays : (v : Versions) (i : ℕ) (key : List ℕ) (keys : List (List ℕ)) (o : Option Entry) → has_key key keys ≡ false → (k : List ℕ) → has_key k keys ≡ true → entry_at (changed v (key, i) o) k i ≡ entry_at v k i
+left_stays v i key keys o gone k left = go (eq_by_cmp key_cmp k key) refl
+  where
+    go : (b : Bool) → eq_by_cmp key_cmp k key ≡ b → entry_at (changed v (key, i) o) k i ≡ entry_at v k i
+    go true h = let not_left : has_key k keys ≡ false = ap (λ q. has_key q keys) (same_key k key h) ∙ gone in cc
+    go false h = changed_at v key i o k ∙ ap (λ b. cond b o (entry_at v k i)) h
+
 -- where no key is left, all are turned
 pub amid_end : (target : List ℕ → Option Entry) (before : List ℕ → Option Entry → Type 0) (entries : List ℕ → Option Entry) → IsAmid target before entries [] → (key : List ℕ) → entries key ≡ target key
 amid_end target before entries amid key = elim (amid key) [ inl there ↦ there | inr q ↦ let none = q.0 in cc ]

@@ -6,7 +6,7 @@ use Rattle.std.proofs.lemmas.Bool.Decides.{nat_tests}
 use Rattle.stm_state.specs.declared.state.Status.{Status}
 use Rattle.stm_state.specs.declared.state.Status.TheVariants.{Ready, Executing, Executed, Aborting}
 use Rattle.stm_state.specs.declared.state.Task.{Task}
-use Rattle.stm_state.specs.declared.state.Task.TheVariants.{Idle, Running, Moving, Validating}
+use Rattle.stm_state.specs.declared.state.Task.TheVariants.{Idle, Running, Moving, Validating, Marking}
 use Rattle.stm_state.specs.State.{State, is_ready, is_executed, is_aborting, is_idle, is_done}
 use Rattle.stm_state.specs.Invariant.{IsSized}
 
@@ -65,7 +65,8 @@ pub idle_says : (task : Task) → is_idle task ≡ true → task ≡ Idle
 idle_says Idle h = refl
 idle_says (Running i answers blocked) h = cc
 idle_says (Moving i keys new) h = cc
-idle_says (Validating i n left) h = cc
+idle_says (Validating i n left failed) h = cc
+idle_says (Marking i keys) h = cc
 
 -- where all tasks of a list are idle, so is the one at each index, and past the end
 all_idle : (tasks : List Task) (w : ℕ) → list_all is_idle tasks ≡ true → get_or tasks w Idle ≡ Idle

@@ -1,9 +1,9 @@
--- One worker on a job: the reads of call d's run, its record, the keys that it moves, its finish, and its validation.
-use Rattle.std.proofs.Common.{◌≡◌, ◌<◌, ◌≤◌, ◌+◌, ◌||◌, ◌==◌, nat_lt, nat_le, ℕ, suc, Bool, true, false, option_map, if◌then◌else◌, List, [], ◌∷◌, ◌++◌, length, map, slice_get, None, Some, Ok, arith, refl, sym, ap, subst, ◌∙◌, inl, inr, append_assoc, append-nil}
+-- One worker on a job: the reads of call d's run, its record, the keys that it moves, its finish, the checks of its reads, and the decision.
+use Rattle.std.proofs.Common.{◌≡◌, ◌<◌, ◌≤◌, ◌+◌, nat_lt, nat_le, ℕ, zero, suc, Bool, true, false, option_map, List, [], ◌∷◌, ◌++◌, length, map, slice_get, None, Some, Ok, arith, refl, sym, ap, subst, ◌∙◌, inl, inr, append_assoc, append-nil}
 use Rattle.std.specs.List.{list_all}
 use Rattle.std.specs.FinMap.{get, entries, len, len-entries}
 use Rattle.std.proofs.lemmas.Bool.{cases_eq, cond-false}
-use Rattle.std.proofs.lemmas.List.{map-append, length-map}
+use Rattle.std.proofs.lemmas.List.{length-append, map-append, length-map}
 use Rattle.rv_ledger.specs.Key.{Storage, WriteMap}
 use Rattle.rv_ledger.specs.Call.{Invocation}
 use Rattle.rv_ledger.specs.declared.outcome.Counts.{Counts}
@@ -20,7 +20,7 @@ use Rattle.stm_state.specs.declared.state.Task.{Task}
 use Rattle.stm_state.specs.declared.state.Task.TheVariants.{Idle, Running, Moving, Validating}
 use Rattle.stm_state.specs.Limits.{record_limit, incarnation_limit}
 use Rattle.stm_state.specs.State.{State, fresh, call_at, with_task, is_done}
-use Rattle.stm_state.specs.Steps.{read_of, reads_of, counted, one_step, one_asking, one_execution, one_validation, answered_with, read_at, keys_of, keys_to_move, has_new_key, recorded_run, all_stand, validated, record_within, step_with}
+use Rattle.stm_state.specs.Steps.{read_of, reads_of, counted, one_step, one_asking, one_execution, one_validation, answered_with, read_at, keys_of, keys_to_move, has_new_key, recorded_run, record_within, step_with}
 use Rattle.stm_state.specs.Done.{borne_out_by, block_of}
 use Rattle.stm_state.specs.Drive.{due_step_of_run, asked_at, due_step, due_result}
 use Rattle.stm_state.proofs.Tests.{not_lt_is, not_le_is}
@@ -28,7 +28,7 @@ use Rattle.stm_state.proofs.Askings.{asks_next, asks_none}
 use Rattle.stm_state.proofs.Rooms.{ends_few}
 use Rattle.stm_state.proofs.Paths.{Leads, leads_none, leads_next}
 use Rattle.stm_state.proofs.Phases.{HasReceipt, sees, did, Now, Takes, unblocked, still, one_more}
-use Rattle.stm_state.proofs.Rounds.{Stage, begun, kept, not_done, Answered, answered_by, clear_below, task_stage, read_stands, after_record, kept_else, record_stage, after_move, moved_stands, moved_stage, finished, done_last, done_else, executed_is, finished_stands, finish_stage, to_check, check_over, check_asked, check_stage, at_zero, not_aborted}
+use Rattle.stm_state.proofs.Rounds.{Stage, begun, kept, not_done, Answered, answered_by, clear_below, task_stage, answer_stands, all_stand, after_record, kept_else, record_stage, after_move, moved_stands, moved_stage, finished, done_last, done_else, executed_is, finished_stands, finish_stage, to_check, check_over, check_asked, check_stage, check_stands, none_taken}
 
 -- the run of call d goes on: it was given the first of its replies, and these reads stand
 pub record Going (calls : List Invocation) (store : Storage) (d : ℕ) (call : Invocation) (answers : List StorageAnswer) (rest : List Reply) (counts : Counts) (s : State) : Type 0 where
@@ -103,23 +103,26 @@ module _ (calls : List Invocation) (store : Storage) (d : ℕ) (call : Invocatio
         };
         bears = ap (borne_out call) all_told ∙ going.bears;
         from = going.from.1;
-        stand = read_stands (block_of calls store) s store reply.0 d answers going.stand told;
+        stand = answer_stands (block_of calls store) s store reply.0 d answers going.stand told;
       },
     )
 
   -- all replies are read
   pub read_all : (rest : List Reply) (answers : List StorageAnswer) (p q x y : ℕ) (s : State) → Going calls store d call answers rest (did p q x y) s
-      → (t : State) × (all : List StorageAnswer) × Leads calls store s (length rest) t × Going calls store d call all [] (did (p + length rest) q x y) t
-  read_all [] answers p q x y s going = (s, answers, leads_none calls store s, let same : p ≡ p + 0 = omega arith in subst (λ n. Going calls store d call answers [] (did n q x y) s) same going)
+      → (t : State) × (all : List StorageAnswer) × Leads calls store s (length rest) t × Going calls store d call all [] (did (p + length rest) q x y) t × (length all ≡ length answers + length rest)
+  read_all [] answers p q x y s going = (s, answers, leads_none calls store s, (let same : p ≡ p + 0 = omega arith in subst (λ n. Going calls store d call answers [] (did n q x y) s) same going), omega arith)
   read_all (reply ∷ rest) answers p q x y s going =
       let one = read_one answers reply rest (did p q x y) s going in
       let more = read_all rest (answers ++ one.2 ∷ []) (p + 1) q x y one.0 one.3 in
       let length_is : length rest + 1 ≡ suc (length rest) = omega arith in
-      let count_is : p + 1 + length rest ≡ p + suc (length rest) = omega arith in (
+      let count_is : p + 1 + length rest ≡ p + suc (length rest) = omega arith in
+      let one_more_is = length-append answers (one.2 ∷ []) in
+      let all_are = more.4 in (
         more.0,
         more.1,
         subst (λ n. Leads calls store s n more.0) length_is (leads_next calls store s one.0 more.0 (length rest) one.1.before one.1.step one.1.free more.2),
         subst (λ n. Going calls store d call more.1 [] (did n q x y) more.0) count_is more.3,
+        omega (arith, one_more_is, all_are),
       )
 
   -- ---- the record
@@ -218,8 +221,8 @@ module _ (calls : List Invocation) (store : Storage) (d : ℕ) (call : Invocatio
           ap (λ task. step_with (block_of calls store) 0 task (due_step calls task) s) moves.now.stage.does
           ∙ ap (λ u. Some (Ok (counted one_step 0 u))) (executed_is (block_of calls store) s d run new moves.now.stage within)
 
-      -- the execution is finished, and its reads stand
-      pub finish_one : (t : State) × Takes calls store s t × Now calls store (d + 1) fresh (d + 1) d Idle (one_step c) t × (all_stand d t ≡ true)
+      -- the execution is finished, its reads stand, and its run is kept
+      pub finish_one : (t : State) × Takes calls store s t × Now calls store (d + 1) fresh (d + 1) d Idle (one_step c) t × (all_stand d t ≡ true) × ((call_at t d).last ≡ Some run)
       finish_one = (
         finished_state,
         record { before = not_over d (Moving d [] new) (kept run) c (d + 1) s moves.now; step = finish_due; free = unblocked s (Moving d [] new) moves.now.stage.inv.sized.tasks moves.now.stage.does (λ i b others h. cc) },
@@ -235,15 +238,12 @@ module _ (calls : List Invocation) (store : Storage) (d : ℕ) (call : Invocatio
           untold = moves.now.untold;
         },
         finished_stands (block_of calls store) s d run new moves.now.stage within moves.stand,
+        done_last (block_of calls store) s d run new moves.now.stage within,
       )
 
   -- ---- the validation
 
   module _ (c : Counts) (s : State) where
-    -- the call that is validated
-    abbrev checked : CallState
-    checked = call_at s d
-
     module _ (now : Now calls store (d + 1) fresh (d + 1) d Idle c s) (stand : all_stand d s ≡ true) where
       abbrev asked_check : State
       asked_check = counted one_asking 0 (to_check (block_of calls store) s)
@@ -252,7 +252,7 @@ module _ (calls : List Invocation) (store : Storage) (d : ℕ) (call : Invocatio
       check_due = ap (λ task. step_with (block_of calls store) 0 task (due_step calls task) s) now.stage.does ∙ ap (λ u. Some (Ok (counted one_asking 0 u))) (check_asked (block_of calls store) s d now.stage within)
 
       -- the worker is to validate call d
-      pub check_begins : (t : State) × Takes calls store s t × Now calls store (d + 1) fresh (d + 1) (d + 1) (Validating d 0 (length (reads_of checked.last))) (one_asking c) t × (all_stand d t ≡ true)
+      pub check_begins : (t : State) × Takes calls store s t × Now calls store (d + 1) fresh (d + 1) (d + 1) (Validating d 0 (length (reads_of (call_at s d).last)) false) (one_asking c) t × (all_stand d t ≡ true)
       check_begins = (
         asked_check,
         record { before = check_over (block_of calls store) s d now.stage within; step = check_due; free = unblocked s Idle now.stage.inv.sized.tasks now.stage.does (λ i b answers h. cc) },
@@ -266,26 +266,67 @@ module _ (calls : List Invocation) (store : Storage) (d : ℕ) (call : Invocatio
         stand,
       )
 
-    module _ (left : ℕ) (now : Now calls store (d + 1) fresh (d + 1) (d + 1) (Validating d 0 left) c s) (stand : all_stand d s ≡ true) where
+    -- while call d is validated workers are not done
+    checks_on : (left : ℕ) → Now calls store (d + 1) fresh (d + 1) (d + 1) (Validating d 0 left false) c s → is_done s ≡ false
+    checks_on left now = not_done (block_of calls store) 1 s now.stage.inv (λ o. let idle = o.idle 0 in let does = now.stage.does in cc)
+
+    module _ (left : ℕ) (now : Now calls store (d + 1) fresh (d + 1) (d + 1) (Validating d 0 (suc left) false) c s) (stand : all_stand d s ≡ true) where
+      abbrev checked_state : State
+      checked_state = counted one_step 0 (with_task 0 (Validating d 0 left false) s)
+
+      checked_due : due_result calls store 0 s ≡ Some (Ok checked_state)
+      checked_due =
+          ap (λ task. step_with (block_of calls store) 0 task (due_step calls task) s) now.stage.does
+          ∙ ap (λ u. Some (Ok (counted one_step 0 u))) (check_stands (block_of calls store) s d left now.stage stand)
+
+      -- a read is checked, and all reads stand
+      check_one : (t : State) × Takes calls store s t × Now calls store (d + 1) fresh (d + 1) (d + 1) (Validating d 0 left false) (one_step c) t × (all_stand d t ≡ true)
+      check_one = (
+        checked_state,
+        record { before = checks_on (suc left) now; step = checked_due; free = unblocked s (Validating d 0 (suc left) false) now.stage.inv.sized.tasks now.stage.does (λ i b answers h. cc) },
+        record {
+          stage = task_stage (block_of calls store) s (d + 1) fresh (d + 1) (d + 1) (Validating d 0 (suc left) false) (Validating d 0 left false) one_step now.stage (still calls store d s checked_state now.stage.inv checked_due);
+          receipts = now.receipts;
+          room = now.room;
+          worked = one_more calls store d s now.stage.inv one_step c now.worked;
+          untold = now.untold;
+        },
+        stand,
+      )
+
+    module _ (now : Now calls store (d + 1) fresh (d + 1) (d + 1) (Validating d 0 0 false) c s) where
       abbrev decided_state : State
       decided_state = counted one_validation 0 (with_task 0 Idle s)
 
       decided_due : due_result calls store 0 s ≡ Some (Ok decided_state)
       decided_due =
           ap (λ task. step_with (block_of calls store) 0 task (due_step calls task) s) now.stage.does
-          ∙ ap (λ b. Some (Ok (counted (if (b || left == 0) then one_validation else one_step) 0 (validated 0 d 0 s)))) (at_zero (block_of calls store) s d left now.stage stand)
-          ∙ ap (λ u. Some (Ok (counted one_validation 0 u))) (not_aborted (block_of calls store) s d left now.stage stand)
+          ∙ ap (λ u. Some (Ok (counted one_validation 0 u))) (none_taken d 0 s)
 
-      -- the validation is a decision, and all reads stand
-      pub check_one : (t : State) × Takes calls store s t × Now calls store (d + 1) fresh (d + 1) (d + 1) Idle (one_validation c) t
-      check_one = (
+      -- the decision: all reads stand
+      pub decide_one : (t : State) × Takes calls store s t × Now calls store (d + 1) fresh (d + 1) (d + 1) Idle (one_validation c) t
+      decide_one = (
         decided_state,
-        record { before = not_done (block_of calls store) 1 s now.stage.inv (λ o. let idle = o.idle 0 in let does = now.stage.does in cc); step = decided_due; free = unblocked s (Validating d 0 left) now.stage.inv.sized.tasks now.stage.does (λ i b answers h. cc) },
+        record { before = checks_on 0 now; step = decided_due; free = unblocked s (Validating d 0 0 false) now.stage.inv.sized.tasks now.stage.does (λ i b answers h. cc) },
         record {
-          stage = task_stage (block_of calls store) s (d + 1) fresh (d + 1) (d + 1) (Validating d 0 left) Idle one_validation now.stage (still calls store d s decided_state now.stage.inv decided_due);
+          stage = task_stage (block_of calls store) s (d + 1) fresh (d + 1) (d + 1) (Validating d 0 0 false) Idle one_validation now.stage (still calls store d s decided_state now.stage.inv decided_due);
           receipts = now.receipts;
           room = now.room;
           worked = one_more calls store d s now.stage.inv one_validation c now.worked;
           untold = now.untold;
         },
+      )
+
+  -- all reads are checked
+  pub check_all : (left p q x y : ℕ) (s : State) → Now calls store (d + 1) fresh (d + 1) (d + 1) (Validating d 0 left false) (did p q x y) s → all_stand d s ≡ true
+      → (t : State) × Leads calls store s left t × Now calls store (d + 1) fresh (d + 1) (d + 1) (Validating d 0 0 false) (did (p + left) q x y) t
+  check_all zero p q x y s now stand = (s, leads_none calls store s, let same : p ≡ p + 0 = omega arith in subst (λ n. Now calls store (d + 1) fresh (d + 1) (d + 1) (Validating d 0 0 false) (did n q x y) s) same now)
+  check_all (suc left) p q x y s now stand =
+      let one = check_one (did p q x y) s left now stand in
+      let more = check_all left (p + 1) q x y one.0 one.2 one.3 in
+      let length_is : left + 1 ≡ suc left = omega arith in
+      let count_is : p + 1 + left ≡ p + suc left = omega arith in (
+        more.0,
+        subst (λ n. Leads calls store s n more.0) length_is (leads_next calls store s one.0 more.0 left one.1.before one.1.step one.1.free more.1),
+        subst (λ n. Now calls store (d + 1) fresh (d + 1) (d + 1) (Validating d 0 0 false) (did n q x y) more.0) count_is more.2,
       )

@@ -1,18 +1,17 @@
 -- Readying all calls that are parked on one keeps the invariant.
-use Rattle.std.proofs.Common.{◌≡◌, ◌<◌, ◌≤◌, ◌-◌, ◌≢◌, ◌⊎◌, ◌+◌, ◌&&◌, min, ℕ, zero, suc, Bool, true, false, cond, List, [], ◌∷◌, length, get_or, Some, arith, refl, sym, ap, subst, ◌∙◌, inl, inr}
-use Rattle.std.specs.List.{AllByRecursion}
+use Rattle.std.proofs.Common.{◌≡◌, ◌<◌, ◌≤◌, ◌-◌, ◌≢◌, ◌⊎◌, ◌+◌, ◌&&◌, min, ℕ, zero, suc, Bool, true, false, cond, List, [], ◌∷◌, get_or, Option, None, Some, arith, refl, sym, ap, subst, ◌∙◌, inl, inr}
 use Rattle.std.proofs.lemmas.Bool.{and_parts}
 use Rattle.stm_state.specs.declared.state.Status.TheVariants.{Ready, Executing, Executed, Aborting}
 use Rattle.stm_state.specs.declared.state.CallState.{CallState}
 use Rattle.stm_state.specs.declared.state.Recorded.{Recorded}
-use Rattle.stm_state.specs.declared.state.Task.TheVariants.{Moving, Validating}
+use Rattle.stm_state.specs.declared.state.Task.TheVariants.{Moving, Validating, Marking}
 use Rattle.stm_state.specs.Limits.{incarnation_limit}
 use Rattle.stm_state.specs.State.{fresh, is_aborting}
-use Rattle.stm_state.specs.Steps.{Block, reads_of, next_incarnation, is_parked_on, is_some_of, resume_if_parked, lowered}
-use Rattle.stm_state.specs.Invariant.{View, ViewInvariant, IsWaiting, IsBorneOut, IsSafe, IsMoved, IsUnmoved, entry_of, run_by}
+use Rattle.stm_state.specs.Steps.{Block, next_incarnation, is_parked_on, is_some_of, resume_if_parked, lowered}
+use Rattle.stm_state.specs.Invariant.{View, ViewInvariant, AreSafe, IsBorneOut, IsChecked, IsMarked, IsMoved, IsPast, IsUnturned, IsWaiting, entry_of, marked_by, run_by}
 use Rattle.stm_state.proofs.Frames.{Grows, right_all, borne_still}
-use Rattle.stm_state.proofs.Safes.{safe_all}
-use Rattle.stm_state.proofs.Tests.{is_aborting_says, equal_itself}
+use Rattle.stm_state.proofs.Safes.{cover_same, safe_still}
+use Rattle.stm_state.proofs.Tests.{is_aborting_says, equal_itself, equal_says}
 use Rattle.stm_state.proofs.Asks.{same_entries}
 
 -- a call is as before, or was parked on call i and is readied
@@ -34,6 +33,14 @@ not_parked i call ne = elim (readied_cases i call) [ inl same ↦ same | inr q �
 -- an ABORTING call that names call i is parked on it
 parked_on : (i : ℕ) (call : CallState) → call.status ≡ Aborting → call.parked ≡ Some i → is_parked_on i call ≡ true
 parked_on i call h k = ap (λ st. is_aborting st && is_some_of call.parked i) h ∙ ap (λ o. is_some_of o i) k ∙ equal_itself i
+
+-- a call that is parked on call i names it
+parked_names : (i : ℕ) (call : CallState) → is_parked_on i call ≡ true → call.parked ≡ Some i
+parked_names i call h = go call.parked refl (and_parts (is_aborting call.status) (is_some_of call.parked i) h).1
+  where
+    go : (o : Option ℕ) → call.parked ≡ o → is_some_of o i ≡ true → call.parked ≡ Some i
+    go None at k = cc
+    go (Some j) at k = at ∙ ap Some (equal_says j i k)
 
 -- afterwards no call is parked on call i
 pub none_parked : (i : ℕ) (call : CallState) → (resume_if_parked i call).status ≡ Aborting → (resume_if_parked i call).parked ≢ Some i
@@ -106,15 +113,23 @@ module _ (block : Block) (v : View) (i execution : ℕ) (f : ViewInvariant block
   woken_running : (x j : ℕ) → run_by (v.tasks x) ≡ Some j → (resume_if_parked i (v.calls j)).status ≡ Executing
   woken_running x j h = woken_calls j (λ call. call.status ≡ Executing) (f.running x j h) (λ _ aborts. let r = f.running x j h in cc)
 
-  -- ABORTING calls still have a lower call that is not EXECUTED
-  woken_waits : (j : ℕ) → (resume_if_parked i (v.calls j)).status ≡ Aborting → (b : ℕ) × ((resume_if_parked i (v.calls j)).parked ≡ Some b) × (b < j) × ((resume_if_parked i (v.calls b)).status ≢ Executed)
-  woken_waits j = woken_calls j (λ call. call.status ≡ Aborting → (b : ℕ) × (call.parked ≡ Some b) × (b < j) × ((resume_if_parked i (v.calls b)).status ≢ Executed))
-      (λ h. let old = f.aborting j h in (old.on, old.parked, old.lower, woken_calls old.on (λ call. call.status ≢ Executed) old.not_done (λ _ _ k. cc)))
+  -- ABORTING calls still have a lower call that is not EXECUTED, or are marked
+  woken_waits : (j : ℕ) → (resume_if_parked i (v.calls j)).status ≡ Aborting
+      → ((b : ℕ) × ((resume_if_parked i (v.calls j)).parked ≡ Some b) × (b < j) × ((resume_if_parked i (v.calls b)).status ≢ Executed)) ⊎ ((x : ℕ) × (marked_by (v.tasks x) ≡ Some j))
+  woken_waits j = woken_calls j (λ call. call.status ≡ Aborting → ((b : ℕ) × (call.parked ≡ Some b) × (b < j) × ((resume_if_parked i (v.calls b)).status ≢ Executed)) ⊎ ((x : ℕ) × (marked_by (v.tasks x) ≡ Some j)))
+      (λ h. elim (f.aborting j h) [
+        | inl old ↦ inl (old.on, old.parked, old.lower, woken_calls old.on (λ call. call.status ≢ Executed) old.not_done (λ _ _ k. cc))
+        | inr marks ↦ inr marks
+      ])
       (λ _ _ h. cc)
 
-  -- ABORTING calls wait
-  woken_aborting : (j : ℕ) → (resume_if_parked i (v.calls j)).status ≡ Aborting → IsWaiting now j
-  woken_aborting j h = let q = woken_waits j h in record { on = q.0; parked = q.1; lower = q.2; not_done = q.3 }
+  -- ABORTING calls wait or are marked
+  woken_aborting : (j : ℕ) → (resume_if_parked i (v.calls j)).status ≡ Aborting → IsWaiting now j ⊎ ((x : ℕ) × (marked_by (v.tasks x) ≡ Some j))
+  woken_aborting j h = elim (woken_waits j h) [ inl q ↦ inl (record { on = q.0; parked = q.1; lower = q.2; not_done = q.3 }) | inr marks ↦ inr marks ]
+
+  -- only ABORTING calls are parked
+  woken_unparked : (j : ℕ) → (resume_if_parked i (v.calls j)).status ≢ Aborting → (resume_if_parked i (v.calls j)).parked ≡ None
+  woken_unparked j = woken_calls j (λ call. call.status ≢ Aborting → call.parked ≡ None) (f.unparked j) (λ _ _ _. refl)
 
   -- incarnations are at most 65,535
   woken_limit : (j : ℕ) → (resume_if_parked i (v.calls j)).incarnation ≤ incarnation_limit
@@ -128,13 +143,18 @@ module _ (block : Block) (v : View) (i execution : ℕ) (f : ViewInvariant block
   woken_aborting_limit : (j : ℕ) → (resume_if_parked i (v.calls j)).status ≡ Aborting → (resume_if_parked i (v.calls j)).incarnation ≤ incarnation_limit - 1
   woken_aborting_limit j = woken_calls j (λ call. call.status ≡ Aborting → call.incarnation ≤ incarnation_limit - 1) (f.aborting_limit j) (λ _ _ h. cc)
 
-  -- entries are those of the calls, where nobody moves their keys
-  woken_entries : (j : ℕ) (key : List ℕ) → IsUnmoved v j → v.entries key j ≡ entry_of (resume_if_parked i (v.calls j)) key
+  -- entries are those of the calls, where nobody turns their keys
+  woken_entries : (j : ℕ) (key : List ℕ) → IsUnturned v j → v.entries key j ≡ entry_of (resume_if_parked i (v.calls j)) key
   woken_entries j key free = woken_calls j (λ call. v.entries key j ≡ entry_of call key) (f.entries j key free) (λ _ aborts. same_entries block v f j (λ h. cc) free key)
 
   -- a call whose keys are moved is EXECUTING, so it stays
   woken_moving : (x j : ℕ) (keys : List (List ℕ)) (new : Bool) → v.tasks x ≡ Moving j keys new → IsMoved (resume_if_parked i (v.calls j)) (λ key. v.entries key j) keys new
   woken_moving x j keys new h = woken_calls j (λ call. IsMoved call (λ key. v.entries key j) keys new) (f.moving x j keys new h) (λ _ aborts. let r = f.running x j (ap run_by h) in cc)
+
+  -- a call whose keys are marked is parked on nothing, so it stays
+  woken_marking : (x j : ℕ) (keys : List (List ℕ)) → v.tasks x ≡ Marking j keys → IsMarked (resume_if_parked i (v.calls j)) (λ key. v.entries key j) keys
+  woken_marking x j keys h = woken_calls j (λ call. IsMarked call (λ key. v.entries key j) keys) (f.marking x j keys h)
+      (λ on _. let names = parked_names i (v.calls j) on in let none = (f.marking x j keys h).unparked in cc)
 
   -- EXECUTED calls have a recorded run
   woken_executed : (j : ℕ) → (resume_if_parked i (v.calls j)).status ≡ Executed → (run : Recorded) × ((resume_if_parked i (v.calls j)).last ≡ Some run)
@@ -144,7 +164,9 @@ module _ (block : Block) (v : View) (i execution : ℕ) (f : ViewInvariant block
   pub woken_grows : Grows v (woken_view v i execution)
   woken_grows = record {
     incarnations = λ j. woken_calls j (λ call. (v.calls j).incarnation ≤ call.incarnation) (omega arith) (λ _ _. omega arith);
-    versions = λ key j n c h. inr h;
+    past = λ j n h. woken_calls j (λ call. IsPast call n) h (λ _ _. elim h [ inl old ↦ inl (omega (arith, old)) | inr q ↦ let same = q.0 in inl (omega (arith, same)) ]);
+    versions = λ key j n c h. inl h;
+    known = λ key j n c h. inl h;
   }
 
   -- recorded runs are borne out
@@ -152,24 +174,19 @@ module _ (block : Block) (v : View) (i execution : ℕ) (f : ViewInvariant block
   woken_recorded j run h = borne_still block v now woken_grows j run (woken_calls j (λ call. call.last ≡ Some run → IsBorneOut block v j run) (f.recorded j run) (λ _ _. f.recorded j run) h)
 
   -- validations are of incarnations that the calls had
-  woken_validating : (x j n left : ℕ) → v.tasks x ≡ Validating j n left → n ≤ (resume_if_parked i (v.calls j)).incarnation
-  woken_validating x j n left h = let old = f.validating x j n left h in let more = woken_grows.incarnations j in omega (arith, old, more)
+  woken_validating : (x j n left : ℕ) (failed : Bool) → v.tasks x ≡ Validating j n left failed → n ≤ (resume_if_parked i (v.calls j)).incarnation
+  woken_validating x j n left failed h = let old = f.validating x j n left failed h in let more = woken_grows.incarnations j in omega (arith, old, more)
 
-  -- validations of present incarnations are of EXECUTED calls, with all reads to check
-  woken_current : (x j left : ℕ) → v.tasks x ≡ Validating j (resume_if_parked i (v.calls j)).incarnation left → ((resume_if_parked i (v.calls j)).status ≡ Executed) × (left ≡ length (reads_of (resume_if_parked i (v.calls j)).last))
-  woken_current x j left = woken_calls j (λ call. v.tasks x ≡ Validating j call.incarnation left → (call.status ≡ Executed) × (left ≡ length (reads_of call.last)))
-      (f.current x j left)
-      (λ _ _ h. let over = f.validating x j ((v.calls j).incarnation + 1) left h in absurd (omega (arith, over)))
+  -- validations of present incarnations are of calls that are EXECUTED with these reads, or marked
+  woken_current : (x j left : ℕ) (failed : Bool) → v.tasks x ≡ Validating j (resume_if_parked i (v.calls j)).incarnation left failed → IsChecked (resume_if_parked i (v.calls j)) left
+  woken_current x j left failed = woken_calls j (λ call. v.tasks x ≡ Validating j call.incarnation left failed → IsChecked call left)
+      (f.current x j left failed)
+      (λ _ _ h. let over = f.validating x j ((v.calls j).incarnation + 1) left failed h in absurd (omega (arith, over)))
 
   -- reads stay safe
-  woken_safe : (j : ℕ) → (resume_if_parked i (v.calls j)).status ≡ Executed → j < v.validation → AllByRecursion (IsSafe now j) (reads_of (resume_if_parked i (v.calls j)).last)
+  woken_safe : (j : ℕ) → (resume_if_parked i (v.calls j)).status ≡ Executed → j < v.validation → AreSafe now j
   woken_safe j h l = elim (readied_cases i (v.calls j)) [
-    | inl same ↦ subst (λ (call : CallState). AllByRecursion (IsSafe now j) (reads_of call.last)) (sym same)
-        (safe_all v now j (reads_of (v.calls j).last) (λ read k. k) (λ q. inr (elim q [
-          | inl checked ↦ inl (checked.0, (checked.1.0, checked.1.1 ∙ ap (λ (call : CallState). Validating j call.incarnation checked.1.0) (sym same)))
-          | inr on ↦ inr on
-        ]))
-        (f.safe j (ap (λ (call : CallState). call.status) (sym same) ∙ h) l))
+    | inl same ↦ safe_still v now j same (λ read k. k) (λ place read at covered. inr (cover_same v now j same (λ x. refl) place covered)) (f.safe j (ap (λ (call : CallState). call.status) (sym same) ∙ h) l)
     | inr q ↦ let ready : (resume_if_parked i (v.calls j)).status ≡ Ready = ap (λ (call : CallState). call.status) q.1 in cc
   ]
 
@@ -185,11 +202,13 @@ module _ (block : Block) (v : View) (i execution : ℕ) (f : ViewInvariant block
     alone = f.alone;
     blocked = f.blocked;
     aborting = woken_aborting;
+    unparked = woken_unparked;
     limit = woken_limit;
     executed_limit = woken_executed_limit;
     aborting_limit = woken_aborting_limit;
     entries = woken_entries;
     moving = woken_moving;
+    marking = woken_marking;
     executed = woken_executed;
     recorded = woken_recorded;
     answered = λ x j answers waits h. right_all block v now woken_grows j answers (f.answered x j answers waits h);

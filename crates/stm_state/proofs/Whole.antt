@@ -1,5 +1,5 @@
 -- Each state that worker steps lead to keeps the invariant.
-use Rattle.std.proofs.Common.{◌≡◌, ◌<◌, ℕ, if◌then◌else◌, Some, Ok, arith, refl, sym, ap, subst, length-set}
+use Rattle.std.proofs.Common.{◌≡◌, ◌<◌, ℕ, Some, Ok, arith, refl, sym, ap, subst, length-set}
 use Rattle.std.specs.FinMap.{get, get-empty}
 use Rattle.std.proofs.lemmas.List.{length-replicate}
 use Rattle.rv_ledger.specs.declared.outcome.Counts.{Counts}
@@ -8,19 +8,21 @@ use Rattle.stm_state.specs.declared.state.Status.TheVariants.{Ready}
 use Rattle.stm_state.specs.declared.state.CallState.{CallState}
 use Rattle.stm_state.specs.declared.state.Task.TheVariants.{Idle}
 use Rattle.stm_state.specs.State.{State, fresh, no_counts, start, call_at, task_at}
-use Rattle.stm_state.specs.Steps.{Block, Step, counted, one_step, one_asking, one_execution, one_validation, decided, worker_step}
+use Rattle.stm_state.specs.Steps.{Block, Step, counted, one_step, one_asking, one_execution, one_validation, worker_step}
 use Rattle.stm_state.specs.Invariant.{entry_of, Invariant}
 use Rattle.stm_state.specs.Done.{Reached, started, stepped}
 use Rattle.stm_state.proofs.Lists.{replicated}
 use Rattle.stm_state.proofs.Tests.{resized}
 pub use Rattle.stm_state.proofs.Cases.{same_state, none_ok, err_ok}
-use Rattle.stm_state.proofs.Cases.{IsMade, by_ask, by_read, by_park, by_record, by_move, by_finish, by_validate, made}
+use Rattle.stm_state.proofs.Cases.{IsMade, by_ask, by_read, by_park, by_record, by_move, by_finish, by_check, by_decide, by_mark, by_abort, made}
 use Rattle.stm_state.proofs.Asks.{ask_kept}
 use Rattle.stm_state.proofs.Runs.{read_kept, park_kept}
 use Rattle.stm_state.proofs.Records.{record_kept}
 use Rattle.stm_state.proofs.Moves.{move_kept}
 use Rattle.stm_state.proofs.Finishes.{finish_kept}
-use Rattle.stm_state.proofs.Aborts.{validate_kept}
+use Rattle.stm_state.proofs.Checks.{check_kept}
+use Rattle.stm_state.proofs.Aborts.{decide_kept, abort_kept}
+use Rattle.stm_state.proofs.Marks.{mark_kept}
 
 -- ---- the start
 
@@ -55,16 +57,18 @@ module _ (block : Block) (workers : ℕ) where
       alone = λ w u i h k. let e = all_idle w in cc;
       blocked = λ w i b answers h. let e = all_idle w in cc;
       aborting = λ i h. let e = ready_at i in cc;
+      unparked = λ i _. ap (λ (c : CallState). c.parked) (all_fresh i);
       limit = λ i. let e = ap (λ (c : CallState). c.incarnation) (all_fresh i) in omega (arith, e);
       executed_limit = λ i h. let e = ready_at i in cc;
       aborting_limit = λ i h. let e = ready_at i in cc;
       entries = λ i key _. subst (λ (c : CallState). get first.versions (key, i) ≡ entry_of c key) (sym (all_fresh i)) (get-empty place_cmp (key, i));
       moving = λ w i keys new h. let e = all_idle w in cc;
+      marking = λ w i keys h. let e = all_idle w in cc;
       executed = λ i h. let e = ready_at i in cc;
       recorded = λ i run h. let e = ap (λ (c : CallState). c.last) (all_fresh i) in cc;
       answered = λ w i answers waits h. let e = all_idle w in cc;
-      validating = λ w i n left h. let e = all_idle w in cc;
-      current = λ w i left h. let e = all_idle w in cc;
+      validating = λ w i n left failed h. let e = all_idle w in cc;
+      current = λ w i left failed h. let e = all_idle w in cc;
       safe = λ i h l. let e = ready_at i in cc;
     };
   }
@@ -84,7 +88,10 @@ module _ (block : Block) (workers w : ℕ) (s : State) (h : Invariant block work
   made_kept step t (by_record i answers receipt at bears below) = counted_kept block workers w one_execution _ (record_kept block workers w i answers receipt s h w_in at below bears)
   made_kept step t (by_move i key keys new at) = counted_kept block workers w one_step _ (move_kept block workers w i key keys new s h w_in at)
   made_kept step t (by_finish i new at) = counted_kept block workers w one_step _ (finish_kept block workers w i new s h w_in at)
-  made_kept step t (by_validate i n left at) = counted_kept block workers w (if decided i n left s then one_validation else one_step) _ (validate_kept block workers w i n left s h w_in at)
+  made_kept step t (by_check i n left at) = counted_kept block workers w one_step _ (check_kept block workers w i n left s h w_in at)
+  made_kept step t (by_decide i n left failed at last) = counted_kept block workers w one_validation _ (decide_kept block workers w i n left failed s h w_in at last)
+  made_kept step t (by_mark i key keys at) = counted_kept block workers w one_step _ (mark_kept block workers w i key keys s h w_in at)
+  made_kept step t (by_abort i at) = counted_kept block workers w one_step _ (abort_kept block workers w i s h w_in at)
 
 -- each step keeps the invariant
 pub worker_kept : (block : Block) (workers w : ℕ) (s t : State) → Invariant block workers s → w < workers → (step : Step) → worker_step block w step s ≡ Some (Ok t) → Invariant block workers t

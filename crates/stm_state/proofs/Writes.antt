@@ -1,5 +1,5 @@
--- What a map has after an entry was changed, or writes were made estimates or laid over a storage, and which keys a run is to move.
-use Rattle.std.proofs.Common.{◌≡◌, ◌≢◌, ◌&&◌, ◌||◌, ℕ, Bool, true, false, not, cond, T, is_some, option_map, fold, map, List, [], ◌∷◌, Option, None, Some, refl, sym, ap, ◌∙◌, inl, inr}
+-- What a map has after an entry was changed, or writes were laid over a storage, and which keys a run is to move.
+use Rattle.std.proofs.Common.{◌≡◌, ◌≢◌, ◌&&◌, ◌||◌, ℕ, Bool, true, false, not, cond, T, is_some, option_map, fold, map, List, [], ◌∷◌, ◌++◌, Option, None, Some, refl, sym, ap, ◌∙◌, inl, inr}
 use Rattle.std.specs.declared.cmp.Ordering.{Ordering}
 use Rattle.std.specs.declared.cmp.Ordering.TheVariants.{Less, Equal, Greater}
 use Rattle.std.specs.Ordering.{ordering_then, is_eq, is_lt, eq_by_cmp}
@@ -18,8 +18,8 @@ use Rattle.rv_step.specs.Fold.{apply_writes, apply_write}
 use Rattle.mvmap.specs.Versions.{Entry, Stands, Estimate, Place, Versions, changed, place_cmp}
 use Rattle.mvmap.proofs.Places.{get_changed, get_other}
 use Rattle.stm_state.specs.declared.state.Recorded.{Recorded}
-use Rattle.stm_state.specs.Steps.{written_by, estimated, left_over, wrote, has_new_key, keys_of, keys_to_move, write_of}
-use Rattle.stm_state.specs.Invariant.{has_key}
+use Rattle.stm_state.specs.Steps.{written_by, left_over, wrote, has_new_key, keys_of, keys_to_move, write_of}
+use Rattle.stm_state.specs.Invariant.{AreDistinct, has_key}
 
 -- ---- each entry of a map is what the map has at its key
 
@@ -126,7 +126,7 @@ changed_at v k i o key = get_changed v (k, i) o (key, i) ∙ ap (λ b. cond b o 
 -- ---- the keys that a record is to move
 
 -- the last run wrote at a key where it has a write there
-at_key_last : (key : List ℕ) (last : Option Recorded) → at_key key (written_by last) ≡ is_some (write_of last key)
+pub at_key_last : (key : List ℕ) (last : Option Recorded) → at_key key (written_by last) ≡ is_some (write_of last key)
 at_key_last key None = refl
 at_key_last key (Some run) = sym (contains_key-keys run.receipt.writes key)
 
@@ -140,6 +140,54 @@ to_move key last writes =
     list_any-append (eq_by_cmp key_cmp key) (keys_of (entries writes)) (keys_of (left_over last writes))
     ∙ ap (λ b. b || at_key key (left_over last writes)) (sym (contains_key-keys writes key))
     ∙ ap (λ b. is_some (get writes key) || b) (left_at key last writes)
+
+-- keys in order are distinct from the first
+not_above : {X : Type 0} (e : List ℕ × X) (es : List (List ℕ × X)) → T (below_all key_cmp e.0 es) → at_key e.0 es ≡ false
+not_above e [] h = refl
+not_above e (x ∷ es) h = ap (λ b. b || at_key e.0 es) (ap is_eq (is_less (key_cmp e.0 x.0) (first_true _ _ h))) ∙ not_above e es (second_true _ _ h)
+
+-- and so are all of them
+distinct_in_order : {X : Type 0} (es : List (List ℕ × X)) → T (is_sorted key_cmp es) → AreDistinct (map (λ e. e.0) es)
+distinct_in_order [] h = tt
+distinct_in_order (e ∷ es) h = (not_above e es (first_true _ _ h), distinct_in_order es (second_true _ _ h))
+
+-- a conjunction with false
+and_false : (a : Bool) → (a && false) ≡ false
+and_false true = refl
+and_false false = refl
+
+-- the keys that pass a test stay distinct
+distinct_filter : {X : Type 0} (p : List ℕ → Bool) (es : List (List ℕ × X)) → AreDistinct (map (λ e. e.0) es) → AreDistinct (map (λ e. e.0) (filter (λ e. p e.0) es))
+distinct_filter p [] h = tt
+distinct_filter {X} p (e ∷ es) h = go (distinct_filter p es h.1) (p e.0)
+  where
+    go : AreDistinct (map (λ x. x.0) (filter (λ x. p x.0) es)) → (b : Bool) → AreDistinct (map (λ x. x.0) (cond b (e ∷ filter (λ x. p x.0) es) (filter (λ x. p x.0) es)))
+    go rest true = (at_key_filter p e.0 es ∙ ap (λ t. p e.0 && t) h.0 ∙ and_false (p e.0), rest)
+    go rest false = rest
+
+-- a test that holds makes a choice hold
+pub or_true : (a b : Bool) → b ≡ true → (a || b) ≡ true
+or_true true b h = refl
+or_true false b h = h
+
+-- two lists of distinct keys that share none are distinct together
+distinct_append : (xs ys : List (List ℕ)) → AreDistinct xs → AreDistinct ys → ((key : List ℕ) → has_key key xs ≡ true → has_key key ys ≡ false) → AreDistinct (xs ++ ys)
+distinct_append [] ys hx hy apart = hy
+distinct_append (x ∷ xs) ys hx hy apart = (
+  list_any-append (eq_by_cmp key_cmp x) xs ys ∙ ap (λ b. b || has_key x ys) hx.0 ∙ apart x (ap (λ b. b || has_key x xs) (ap is_eq (tied_itself nat_list_cmp_total x))),
+  distinct_append xs ys hx.1 hy (λ key h. apart key (or_true (eq_by_cmp key_cmp key x) (has_key key xs) h)),
+)
+
+-- the keys that only the last run wrote are distinct
+distinct_left : (last : Option Recorded) (writes : WriteMap) → AreDistinct (keys_of (left_over last writes))
+distinct_left None writes = tt
+distinct_left (Some run) writes = distinct_filter (λ k. not (contains_key writes k)) (entries run.receipt.writes) (distinct_in_order (entries run.receipt.writes) (entries_sorted run.receipt.writes))
+
+-- the keys that a run is to move are distinct
+pub distinct_to_move : (last : Option Recorded) (writes : WriteMap) → AreDistinct (keys_to_move last writes)
+distinct_to_move last writes =
+    distinct_append (keys_of (entries writes)) (keys_of (left_over last writes)) (distinct_in_order (entries writes) (entries_sorted writes)) (distinct_left last writes)
+    (λ key h. left_at key last writes ∙ ap (λ b. not b && is_some (write_of last key)) (contains_key-keys writes key ∙ h))
 
 -- what it says that a run wrote a key
 wrote_says : (last : Option Recorded) (key : List ℕ) → not (wrote last key) ≡ false → is_some (write_of last key) ≡ true
@@ -155,43 +203,17 @@ pub no_new_key : (last : Option Recorded) (writes : WriteMap) (key : List ℕ) �
 no_new_key last writes key none there =
     wrote_says last key (at_key_none (λ k. not (wrote last k)) key (entries writes) none (sym (contains_key-keys writes key) ∙ there))
 
--- ---- what an abort does to the versions
+-- ---- entries by what a run wrote
 
--- other writers keep their entries
-others_keep : (i : ℕ) (es : List (List ℕ × Content)) (v : Versions) (key : List ℕ) (j : ℕ) → j ≢ i → get (estimated i es v) (key, j) ≡ get v (key, j)
-others_keep i [] v key j ne = refl
-others_keep i (e ∷ es) v key j ne = others_keep i es (changed v (e.0, i) (Some Estimate)) key j ne ∙ changed_other v e.0 i (Some Estimate) key j ne
+-- a version by what a run wrote is at its incarnation, and the run wrote it
+pub version_is : (o : Option Content) (m n : ℕ) (x : Content) → option_map (λ c. Stands m c) o ≡ Some (Stands n x) → (n ≡ m) × (o ≡ Some x)
+version_is None m n x h = cc
+version_is (Some c) m n x h = (cc, let same : c ≡ x = cc in ap Some same)
 
-pub estimated_other : (i : ℕ) (last : Option Recorded) (v : Versions) (key : List ℕ) (j : ℕ) → j ≢ i → get (estimated i (written_by last) v) (key, j) ≡ get v (key, j)
-estimated_other i last v key j ne = others_keep i (written_by last) v key j ne
-
--- a choice made twice
-chosen : (a b : Bool) (x o : Option Entry) → cond a x (cond b x o) ≡ cond (b || a) x o
-chosen true true x o = refl
-chosen true false x o = refl
-chosen false true x o = refl
-chosen false false x o = refl
-
--- the writer has estimates at the keys of these writes
-own_estimated : (i : ℕ) (es : List (List ℕ × Content)) (v : Versions) (key : List ℕ) → get (estimated i es v) (key, i) ≡ cond (at_key key es) (Some Estimate) (get v (key, i))
-own_estimated i [] v key = refl
-own_estimated i (e ∷ es) v key =
-    own_estimated i es (changed v (e.0, i) (Some Estimate)) key
-    ∙ ap (cond (at_key key es) (Some Estimate)) (changed_at v e.0 i (Some Estimate) key)
-    ∙ chosen (at_key key es) (eq_by_cmp key_cmp key e.0) (Some Estimate) (get v (key, i))
-
--- the writer has estimates at the keys of its last run
-pub estimated_over : (i : ℕ) (last : Option Recorded) (v : Versions) (key : List ℕ) → get (estimated i (written_by last) v) (key, i) ≡ cond (is_some (write_of last key)) (Some Estimate) (get v (key, i))
-estimated_over i last v key = own_estimated i (written_by last) v key ∙ ap (λ b. cond b (Some Estimate) (get v (key, i))) (at_key_last key last)
-
--- an estimate stands where a version stood
-estimated_value : (n : ℕ) (o : Option Content) → cond (is_some o) (Some Estimate) (option_map (λ c. Stands n c) o) ≡ option_map (λ c. Estimate) o
-estimated_value n None = refl
-estimated_value n (Some c) = refl
-
--- where the writer had its run's versions, it has estimates at their keys
-pub estimated_at : (i n : ℕ) (last : Option Recorded) (v : Versions) (key : List ℕ) → get v (key, i) ≡ option_map (λ c. Stands n c) (write_of last key) → get (estimated i (written_by last) v) (key, i) ≡ option_map (λ c. Estimate) (write_of last key)
-estimated_at i n last v key old = estimated_over i last v key ∙ ap (cond (is_some (write_of last key)) (Some Estimate)) old ∙ estimated_value n (write_of last key)
+-- an estimate is no version
+pub no_version : (o : Option Content) (n : ℕ) (x : Content) → option_map (λ c. Estimate) o ≡ Some (Stands n x) → ⊥
+no_version None n x h = cc
+no_version (Some c) n x h = cc
 
 -- ---- writes laid over a storage
 

@@ -1,4 +1,4 @@
--- What workers reach, and what it is where they are done.
+-- The states that workers reach, and what holds where they are done.
 use Rattle.std.specs.Prelude.{◌≡◌, ◌<◌, ◌≤◌, ℕ, suc, true, List, length, map, Option, None, Some, slice_get, Ok, Err}
 use Rattle.std.specs.Option.{option_map}
 use Rattle.std.specs.FinMap.{get}
@@ -31,8 +31,8 @@ pub record MeetsLimit (block : Block) (workers : ℕ) (limit : Limit) : Type 0 w
 abbrev pub last_receipt : CallState → Option Receipt
 last_receipt call = option_map (λ run. run.receipt) call.last
 
--- running the calls one after another: the storage before each call, its receipt, which answers of that storage bear
--- out, and its writes laid over the storage
+-- running the calls one after another: the storage before each call; its receipt, borne out by answers of that storage; and
+-- the storage after it, which is the one before it with the receipt's writes applied
 pub record IsSerial (block : Block) (s : State) : Type 0 where
   pub before : ℕ → Storage
   pub receipt : ℕ → Receipt
@@ -50,7 +50,7 @@ HasVersionsAlone block s = ((key : List ℕ) (w : ℕ) → block.count ≤ w →
 abbrev pub DoneHasVersionsAlone : Type 0
 DoneHasVersionsAlone = (block : Block) (workers : ℕ) (s : State) → Reached block workers s → is_done s ≡ true → HasVersionsAlone block s
 
--- where workers are done, the result is that of the calls one after another
+-- where workers are done, the result is that of running the calls one after another
 abbrev pub DoneIsSerial : Type 0
 DoneIsSerial = (block : Block) (workers : ℕ) (s : State) → Reached block workers s → is_done s ≡ true → IsSerial block s
 

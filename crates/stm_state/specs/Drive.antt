@@ -1,6 +1,6 @@
--- A list of worker numbers on a job: each entry makes the one step that this worker owes, and a run reads the keys that
--- its own call asks for.
-use Rattle.std.specs.Prelude.{◌≡◌, ◌<◌, ℕ, nat_lt, nat_le, ◌&&◌, if◌then◌else◌, List, [], ◌∷◌, length, Option, None, Some, IsSome, slice_get, Result, Ok, Err}
+-- A list of worker numbers on a job: each entry makes the one step that this worker owes. A run reads the keys that its own
+-- call asks for.
+use Rattle.std.specs.Prelude.{◌≡◌, ◌<◌, ℕ, zero, suc, true, false, nat_lt, nat_le, ◌&&◌, if◌then◌else◌, List, [], ◌∷◌, length, Option, None, Some, IsSome, slice_get, Result, Ok, Err}
 use Rattle.rv_ledger.specs.Key.{Storage}
 use Rattle.rv_ledger.specs.Call.{Invocation}
 use Rattle.rv_step.specs.Asked.{asked_by}
@@ -8,9 +8,9 @@ use Rattle.rv_step.specs.Chain.{Reply}
 use Rattle.rv_step.specs.Replies.{replies_of}
 use Rattle.rv_step.specs.declared.answer.StorageAnswer.{StorageAnswer}
 use Rattle.stm_state.specs.declared.state.Task.{Task}
-use Rattle.stm_state.specs.declared.state.Task.TheVariants.{Idle, Running, Moving, Validating}
+use Rattle.stm_state.specs.declared.state.Task.TheVariants.{Idle, Running, Moving, Validating, Marking}
 use Rattle.stm_state.specs.State.{State, start, task_at, is_done}
-use Rattle.stm_state.specs.Steps.{Step, Ask, Read_key, Park, Record, Move_key, Finish_execution, Validate, Limit, worker_step}
+use Rattle.stm_state.specs.Steps.{Step, Ask, Read_key, Park, Record, Move_key, Finish_execution, Check_read, Decide, Mark_estimate, Finish_abort, Limit, worker_step}
 use Rattle.stm_state.specs.Done.{MeetsLimit, block_of}
 
 -- a run that asks for a key reads it, and a run that has ended is handed in
@@ -18,19 +18,23 @@ abbrev pub due_step_of_run : Option (List ℕ) → Step
 due_step_of_run (Some key) = Read_key key
 due_step_of_run None = Record
 
--- what the call of an index asks for after these replies
+-- the key that the call of an index asks for after these replies
 abbrev pub asked_at : Option Invocation → List Reply → Option (List ℕ)
 asked_at None replies = None
 asked_at (Some call) replies = asked_by call replies
 
--- the step that a worker owes by its task, with what a run owes
+-- the step that a worker owes by its task; `run` gives the step that a run owes
 abbrev pub step_by_task : (ℕ → List StorageAnswer → Step) → Task → Step
 step_by_task run Idle = Ask
 step_by_task run (Running i answers None) = run i answers
 step_by_task run (Running i answers (Some b)) = Park
 step_by_task run (Moving i (key ∷ keys) new) = Move_key
 step_by_task run (Moving i [] new) = Finish_execution
-step_by_task run (Validating i n left) = Validate
+step_by_task run (Validating i n left true) = Decide
+step_by_task run (Validating i n zero false) = Decide
+step_by_task run (Validating i n (suc left) false) = Check_read
+step_by_task run (Marking i (key ∷ keys)) = Mark_estimate
+step_by_task run (Marking i []) = Finish_abort
 
 abbrev pub due_step : List Invocation → Task → Step
 due_step calls task = step_by_task (λ i answers. due_step_of_run (asked_at (slice_get calls i) (replies_of answers))) task
@@ -39,7 +43,7 @@ due_step calls task = step_by_task (λ i answers. due_step_of_run (asked_at (sli
 abbrev pub due_result : List Invocation → Storage → ℕ → State → Option (Result State Limit)
 due_result calls store w s = worker_step (block_of calls store) w (due_step calls (task_at s w)) s
 
--- the states that lists of worker numbers lead through, from the start of a job
+-- the states that lists of worker numbers walk through, from the start of a job
 pub data DrivenTo (calls : List Invocation) (store : Storage) (workers : ℕ) : State → Type 0 where
   at_start : DrivenTo calls store workers (start (length calls) workers)
   made_step : {s t : State} (w : ℕ) → DrivenTo calls store workers s → w < workers → due_result calls store w s ≡ Some (Ok t) → DrivenTo calls store workers t
@@ -48,8 +52,8 @@ pub data DrivenTo (calls : List Invocation) (store : Storage) (workers : ℕ) : 
 abbrev pub DueStepHasResult : Type 0
 DueStepHasResult = (calls : List Invocation) (store : Storage) (workers : ℕ) (s : State) (w : ℕ) → DrivenTo calls store workers s → w < workers → IsSome (due_result calls store w s)
 
--- why a list is refused: it is used up and workers are not done; an entry is no worker, or their number is not 1 to 32; or
--- a step is refused
+-- why a list is refused: it is used up and workers are not done; an entry is not a worker's number, or the number of
+-- workers is not 1 to 32; or a step is refused for a limit
 pub data Refusal : Type 0 where
   NotDone : Refusal
   BadWorker : Refusal
@@ -72,6 +76,6 @@ abbrev pub drive_of : List Invocation → Storage → ℕ → List ℕ → Resul
 drive_of calls store workers schedule =
     if nat_le 1 workers && nat_le workers 32 then driven calls store workers schedule (start (length calls) workers) else Err BadWorker
 
--- where a list is refused for a limit, some state that workers reach meets it
+-- where a list is refused for a limit, workers reach a state where a step is refused for that limit
 abbrev pub RefusedListMeetsLimit : Type 0
 RefusedListMeetsLimit = (calls : List Invocation) (store : Storage) (workers : ℕ) (schedule : List ℕ) (limit : Limit) → drive_of calls store workers schedule ≡ Err (Limited limit) → MeetsLimit (block_of calls store) workers limit

@@ -12,7 +12,7 @@ use Rattle.stm_state.specs.Steps.{Block, Limit}
 use Rattle.stm_state.specs.Done.{Reached}
 use Rattle.stm_state.specs.Drive.{NotDone, due_result, drive_of}
 
--- what a call takes: so many storage answers, and so many writes
+-- what a call takes: the number of its storage answers, and the number of its writes
 pub record Work : Type 0 where
   pub reads : ℕ
   pub writes : ℕ
@@ -20,7 +20,7 @@ pub record Work : Type 0 where
 abbrev pub no_work : Work
 no_work = record { reads = 0; writes = 0 }
 
--- so many answers of a storage bear a call's receipt out, which has so many writes
+-- `work.reads` answers of a storage bear a call's receipt out, and the receipt has `work.writes` writes
 pub record IsWork (call : Invocation) (store : Storage) (work : Work) : Type 0 where
   pub replies : List Reply
   pub size : length replies ≡ work.reads
@@ -28,44 +28,45 @@ pub record IsWork (call : Invocation) (store : Storage) (work : Work) : Type 0 w
   pub borne_out : borne_out call replies ≡ Some (ends call store)
   pub writes : len (ends call store).writes ≡ work.writes
 
--- of each call what it takes, on the storage that the calls before it left
+-- what each call takes, on the storage that the calls before it left
 pub record AreWorks (calls : List Invocation) (store : Storage) (works : List Work) : Type 0 where
   pub size : length works ≡ length calls
   pub each : (i : ℕ) (call : Invocation) → slice_get calls i ≡ Some call → IsWork call (store_before calls i store) (get_or works i no_work)
 
--- the steps for all calls: two askings, a record, a finish and a validation of each, its reads and its keys to move
+-- the number of steps for all calls: for each call two askings, a record, a finish and a decision, a step for each read, one
+-- for each key that it moves, and one for each read that it checks
 abbrev pub rounds : List Work → ℕ
 rounds [] = 0
-rounds (work ∷ works) = 5 + work.reads + work.writes + rounds works
+rounds (work ∷ works) = 5 + 2 * work.reads + work.writes + rounds works
 
 -- no run is blocked on an estimate
 abbrev pub MeetsNoEstimate : State → Type 0
 MeetsNoEstimate s = (w i b : ℕ) (answers : List StorageAnswer) → task_at s w ≢ Running i answers (Some b)
 
--- what is to hold of a state holds after a step that is not refused
+-- P holds of the state after a step, if the step is not refused
 abbrev pub HoldsAfter : (State → Type 0) → Option (Result State Limit) → Type 0
 HoldsAfter P (Some (Ok s)) = P s
 HoldsAfter P _ = Unit {0}
 
--- no run is blocked on an estimate in any state that a list of worker numbers leads through from a state on
+-- no run is blocked on an estimate in any state that a list of worker numbers walks through from a state on
 unfoldable pub NeverMeetsEstimate : List Invocation → Storage → List ℕ → State → Type 0
 NeverMeetsEstimate calls store [] s = MeetsNoEstimate s
 NeverMeetsEstimate calls store (w ∷ ws) s = MeetsNoEstimate s × HoldsAfter (λ t. NeverMeetsEstimate calls store ws t) (due_result calls store w s)
 
--- what the one worker did: steps, askings, and an execution and a decision of each call, each at its incarnation 0; and
--- so many askings were told that all is done
+-- what the one worker did: these steps and askings, and one execution and one decision for each call; each call is at
+-- incarnation 0; and `told` askings were answered Done
 pub record OneWorkerDid (calls steps asks told : ℕ) (s : State) : Type 0 where
   pub counts : s.counts ≡ record { steps = steps; asks = asks; executions = calls; validations = calls } ∷ []
   pub dones : s.dones ≡ told ∷ []
   pub incarnations : (i : ℕ) → (call_at s i).incarnation ≡ 0
 
--- where the one worker of a block is done, whatever list of steps led there: an execution and a decision of each call, each
--- at its incarnation 0, and two askings of each call beside those that were told that all is done
+-- where the one worker of a block is done, whatever list of steps led there: it made one execution and one decision for each
+-- call, each call is at incarnation 0, and it asked twice for each call beside the askings that were answered Done
 abbrev pub OneWorkerCountsWhereReached : Type 0
 OneWorkerCountsWhereReached = (block : Block) (s : State) → Reached block 1 s → is_done s ≡ true → (steps told : ℕ) × OneWorkerDid block.count steps (2 * block.count + told) told s
 
--- one worker is done after the rounds of all calls and not before, each further step is an asking that is told so, and no
--- read meets an estimate
+-- one worker is done after the rounds of all calls and not before, each further step is an asking that is answered Done, and
+-- no read meets an estimate
 pub record HasOneWorkerCounts (calls : List Invocation) (store : Storage) : Type 0 where
   pub works : List Work
   pub are_works : AreWorks calls store works

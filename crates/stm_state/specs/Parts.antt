@@ -1,21 +1,23 @@
 -- The four parts of the scheduler's invariant (Block-STM), in the words of states: what holds of each state that worker
 -- steps lead to. A call past the last one is as at the start, and a worker past the last one has no task.
-use Rattle.std.specs.Prelude.{◌≡◌, ◌<◌, ◌≤◌, ◌≢◌, ◌⊎◌, ℕ, Bool, true, List, map, Option, Some}
+use Rattle.std.specs.Prelude.{◌≡◌, ◌<◌, ◌≤◌, ◌≢◌, ◌⊎◌, ◌+◌, ℕ, Bool, true, false, List, length, map, slice_get, Option, Some}
 use Rattle.std.specs.List.{AllByRecursion}
 use Rattle.std.specs.Option.{option_map}
 use Rattle.std.specs.FinMap.{get}
 use Rattle.version_arena.specs.ArenaState.{Content}
 use Rattle.read_set.specs.declared.Origin.{Origin}
 use Rattle.read_set.specs.declared.Origin.TheVariants as origin
+use Rattle.read_set.specs.declared.Read.{Read}
 use Rattle.rv_step.specs.Replies.{replies_of}
 use Rattle.rv_step.specs.declared.answer.StorageAnswer.{StorageAnswer}
 use Rattle.mvmap.specs.Versions.{Stands, entry_at}
 use Rattle.mvmap.specs.Reading.{stands}
 use Rattle.stm_state.specs.declared.state.Status.TheVariants.{Ready, Executing, Executed, Aborting}
 use Rattle.stm_state.specs.declared.state.Recorded.{Recorded}
-use Rattle.stm_state.specs.declared.state.Task.TheVariants.{Running, Moving, Validating}
+use Rattle.stm_state.specs.declared.state.Task.TheVariants.{Running, Moving, Validating, Marking}
 use Rattle.stm_state.specs.State.{State, call_at, task_at}
 use Rattle.stm_state.specs.Steps.{Block, read_of, reads_of, write_of}
+use Rattle.stm_state.specs.Invariant.{IsPast, has_key}
 use Rattle.stm_state.specs.Done.{Reached}
 
 -- it holds of each state that some list of worker steps leads to
@@ -34,14 +36,21 @@ pub record IsParked (s : State) (i : ℕ) : Type 0 where
   pub lower : on < i
   pub not_done : (call_at s on).status ≢ Executed
 
+-- some worker takes a call back: it marks the keys that the call wrote
+pub record IsTakenBack (s : State) (i : ℕ) : Type 0 where
+  pub worker : ℕ
+  pub keys : List (List ℕ)
+  pub task : task_at s worker ≡ Marking i keys
+
 -- part 1: a READY call is at or above the execution index, an EXECUTING call is some worker's task, and an ABORTING call is
--- parked on a lower call that is not EXECUTED
+-- some worker's abort or parked on a lower call that is not EXECUTED
 pub record CallsAreAttended (block : Block) (s : State) : Type 0 where
   pub ready : (i : ℕ) → (call_at s i).status ≡ Ready → s.execution ≤ i
   pub executing : (i : ℕ) → (call_at s i).status ≡ Executing → IsRun s i
-  pub aborting : (i : ℕ) → (call_at s i).status ≡ Aborting → IsParked s i
+  pub aborting : (i : ℕ) → (call_at s i).status ≡ Aborting → IsTakenBack s i ⊎ IsParked s i
 
--- a version that the unfinished record of a call has published: some worker moves the keys of its run, which wrote that
+-- a version that the unfinished record of a call has published: some worker moves the keys of its run, the run wrote it, and
+-- its key is not among those that are left
 pub record IsOfUnfinishedRecord (s : State) (i : ℕ) (key : List ℕ) (n : ℕ) (content : Content) : Type 0 where
   pub worker : ℕ
   pub keys : List (List ℕ)
@@ -49,20 +58,31 @@ pub record IsOfUnfinishedRecord (s : State) (i : ℕ) (key : List ℕ) (n : ℕ)
   pub task : task_at s worker ≡ Moving i keys new
   pub incarnation : n ≡ (call_at s i).incarnation
   pub written : write_of (call_at s i).last key ≡ Some content
+  pub published : has_key key keys ≡ false
 
--- part 2: a call that is not EXECUTED has only estimates, apart from versions that its unfinished record has published
+-- a version that the unfinished abort of a call has yet to turn into an estimate: some worker marks the call's keys, and
+-- this key is among those that are left
+pub record IsOfUnfinishedAbort (s : State) (i : ℕ) (key : List ℕ) (n : ℕ) : Type 0 where
+  pub worker : ℕ
+  pub keys : List (List ℕ)
+  pub task : task_at s worker ≡ Marking i keys
+  pub incarnation : n ≡ (call_at s i).incarnation
+  pub left : has_key key keys ≡ true
+
+-- part 2: a call that is not EXECUTED has only estimates, apart from versions that its unfinished record has published and
+-- versions that its unfinished abort has yet to turn into estimates
 abbrev pub OthersHaveEstimates : Block → State → Type 0
-OthersHaveEstimates block s = (i : ℕ) → (call_at s i).status ≢ Executed → (key : List ℕ) (n : ℕ) (content : Content) → entry_at s.versions key i ≡ Some (Stands n content) → IsOfUnfinishedRecord s i key n content
+OthersHaveEstimates block s = (i : ℕ) → (call_at s i).status ≢ Executed → (key : List ℕ) (n : ℕ) (content : Content) → entry_at s.versions key i ≡ Some (Stands n content)
+    → IsOfUnfinishedRecord s i key n content ⊎ IsOfUnfinishedAbort s i key n
 
--- some worker validates a call at its incarnation
-pub record IsValidated (s : State) (i : ℕ) : Type 0 where
+-- some worker's validation of a call at its incarnation must still meet the read at a place: a read that it checked did not
+-- stand, or this read is among the last ones, which are left to check
+pub record IsValidated (s : State) (i place : ℕ) : Type 0 where
   pub worker : ℕ
   pub left : ℕ
-  pub task : task_at s worker ≡ Validating i (call_at s i).incarnation left
-
--- each read that was recorded of a call stands
-abbrev pub ReadsStand : State → ℕ → Type 0
-ReadsStand s i = AllByRecursion (λ read. stands s.versions i read ≡ true) (reads_of (call_at s i).last)
+  pub failed : Bool
+  pub task : task_at s worker ≡ Validating i (call_at s i).incarnation left failed
+  pub meets : (failed ≡ true) ⊎ (length (reads_of (call_at s i).last) ≤ place + left)
 
 -- some worker moves the keys of a lower call's run that wrote a new key
 pub record IsBehindNewKey (s : State) (i : ℕ) : Type 0 where
@@ -72,22 +92,34 @@ pub record IsBehindNewKey (s : State) (i : ℕ) : Type 0 where
   pub task : task_at s worker ≡ Moving call keys true
   pub lower : call < i
 
--- part 3: of an EXECUTED call each recorded read stands, or it is at or above the validation index, or some worker validates
--- it at its incarnation, or has yet to finish the record of a lower call with a new key
-abbrev pub ReadsAreWatched : Block → State → Type 0
-ReadsAreWatched block s = (i : ℕ) → (call_at s i).status ≡ Executed → ReadsStand s i ⊎ ((s.validation ≤ i) ⊎ (IsValidated s i ⊎ IsBehindNewKey s i))
+-- some worker takes a lower call back
+pub record IsBehindAbort (s : State) (i : ℕ) : Type 0 where
+  pub call : ℕ
+  pub taken_back : IsTakenBack s call
+  pub lower : call < i
 
--- a value is the starting storage's, or its version's content where that version stands
+-- some worker's task must still meet the read at a place of a call, or have the call validated again
+abbrev pub IsToBeMet : State → ℕ → ℕ → Type 0
+IsToBeMet s i place = IsValidated s i place ⊎ (IsBehindNewKey s i ⊎ IsBehindAbort s i)
+
+-- part 3: an EXECUTED call is at or above the validation index, or each of its recorded reads stands or is to be met. It is
+-- met by a validation of the call, by an unfinished record of a lower call with a new key, or by an unfinished abort of one
+abbrev pub ReadsAreWatched : Block → State → Type 0
+ReadsAreWatched block s = (i : ℕ) → (call_at s i).status ≡ Executed
+    → (s.validation ≤ i) ⊎ ((place : ℕ) (read : Read) → slice_get (reads_of (call_at s i).last) place ≡ Some read → (stands s.versions i read ≡ true) ⊎ IsToBeMet s i place)
+
+-- a value is that of the starting storage, or the content of its version if that version stands
 abbrev pub IsContent : Block → State → List ℕ → Content → Origin → Type 0
 IsContent block s key value origin.Base = value ≡ get block.base key
 IsContent block s key value (origin.Version w n) = (content : Content) → entry_at s.versions key w ≡ Some (Stands n content) → value ≡ content
 
--- a version that call i was answered with is a lower call's: it stands, or its incarnation is below its writer's
+-- a version that call i was answered with is of a lower call. It stands, or its incarnation is below its writer's, or its
+-- writer is ABORTING at that incarnation
 abbrev pub IsKnown : State → ℕ → List ℕ → Origin → Type 0
 IsKnown s i key origin.Base = Unit {0}
-IsKnown s i key (origin.Version w n) = (w < i) × (((content : Content) × (entry_at s.versions key w ≡ Some (Stands n content))) ⊎ (n < (call_at s w).incarnation))
+IsKnown s i key (origin.Version w n) = (w < i) × (((content : Content) × (entry_at s.versions key w ≡ Some (Stands n content))) ⊎ IsPast (call_at s w) n)
 
--- what call i was answered
+-- an answer to call i is true: its value and its origin are as said above
 abbrev pub IsTrueAnswer : Block → State → ℕ → StorageAnswer → Type 0
 IsTrueAnswer block s i answer = IsContent block s answer.key answer.value answer.origin × IsKnown s i answer.key answer.origin
 
@@ -98,14 +130,14 @@ pub record IsBorne (block : Block) (s : State) (i : ℕ) (run : Recorded) : Type
   pub borne_out : block.borne_out i (replies_of answers) ≡ Some run.receipt
   pub true_answers : AllByRecursion (IsTrueAnswer block s i) answers
 
--- an EXECUTED call has a recorded run, whose writes are just its versions, each at its incarnation
+-- an EXECUTED call has a recorded run. Its entries are exactly the writes of that run, as versions at its incarnation
 pub record IsPublished (s : State) (i : ℕ) : Type 0 where
   pub run : Recorded
   pub last : (call_at s i).last ≡ Some run
   pub entries : (key : List ℕ) → entry_at s.versions key i ≡ option_map (λ content. Stands (call_at s i).incarnation content) (get run.receipt.writes key)
 
--- part 4: a recorded run is borne out, a run that goes on was answered so too, and the entries of an EXECUTED call are
--- versions at its incarnation and just the writes of its receipt
+-- part 4: a recorded run is borne out by true answers, a run that goes on was given true answers, and the entries of an
+-- EXECUTED call are exactly the writes of its receipt, as versions at its incarnation
 pub record RunsAreBorneOut (block : Block) (s : State) : Type 0 where
   pub recorded : (i : ℕ) (run : Recorded) → (call_at s i).last ≡ Some run → IsBorne block s i run
   pub going_on : (w i : ℕ) (answers : List StorageAnswer) (waits : Option ℕ) → task_at s w ≡ Running i answers waits → AllByRecursion (IsTrueAnswer block s i) answers

@@ -8,10 +8,10 @@ use Rattle.stm_state.specs.declared.state.Status.{Status}
 use Rattle.stm_state.specs.declared.state.Status.TheVariants.{Ready, Executing, Executed, Aborting}
 use Rattle.stm_state.specs.declared.state.CallState.{CallState}
 use Rattle.stm_state.specs.declared.state.Task.{Task}
-use Rattle.stm_state.specs.declared.state.Task.TheVariants.{Idle, Running, Moving, Validating}
+use Rattle.stm_state.specs.declared.state.Task.TheVariants.{Idle, Running, Moving, Validating, Marking}
 
--- the calls and what they wrote; the execution index and the validation index; each worker's task, what it did, and
--- how often it was told that all is done; and how many writes the recorded runs had together
+-- the calls and their versions; the execution index and the validation index; each worker's task, what it did, and how many
+-- of its askings were answered Done; and the number of writes that all recorded runs had together
 pub record State : Type 0 where
   pub calls : List CallState
   pub versions : Versions
@@ -30,7 +30,7 @@ fresh = record { status = Ready; incarnation = 0; parked = None; last = None }
 abbrev pub no_counts : Counts
 no_counts = record { steps = 0; asks = 0; executions = 0; validations = 0 }
 
--- the start of a block of n calls
+-- the start of a block of n calls with a number of workers
 abbrev pub start : ℕ → ℕ → State
 start n workers = record {
   calls = replicate n fresh;
@@ -50,7 +50,7 @@ call_at s i = get_or s.calls i fresh
 abbrev pub task_at : State → ℕ → Task
 task_at s w = get_or s.tasks w Idle
 
--- with another call at an index, and with another task of a worker
+-- a state with another call at an index, and one with another task of a worker
 abbrev pub with_call : ℕ → CallState → State → State
 with_call i call s = record s { calls = set s.calls i call }
 
@@ -80,8 +80,9 @@ abbrev pub is_idle : Task → Bool
 is_idle Idle = true
 is_idle (Running i answers blocked) = false
 is_idle (Moving i keys new) = false
-is_idle (Validating i n left) = false
+is_idle (Validating i n left failed) = false
+is_idle (Marking i keys) = false
 
--- both indices are past the last call, and nobody has a task
+-- both indices are past the last call, and no worker has a task
 unfoldable pub is_done : State → Bool
 is_done s = s.execution == length s.calls && s.validation == length s.calls && list_all is_idle s.tasks

@@ -1,8 +1,8 @@
--- The step that a worker owes, as a function of the state (Block-STM). A validation checks all its reads at once.
-use Rattle.std.specs.Prelude.{ℕ, ◌+◌, ◌==◌, nat_lt, nat_le, min, Bool, false, not, ◌&&◌, ◌||◌, if◌then◌else◌, List, [], ◌∷◌, ◌++◌, map, length, get_or, set, fold, Option, None, Some, Result, Ok, Err}
-use Rattle.std.specs.List.{list_all, list_any, filter}
+-- The steps of a worker, as functions of the state (Block-STM): each step reads or changes the entry of one key at most.
+use Rattle.std.specs.Prelude.{ℕ, zero, suc, ◌+◌, ◌-◌, ◌==◌, nat_lt, nat_le, min, Bool, true, false, not, ◌&&◌, if◌then◌else◌, List, [], ◌∷◌, ◌++◌, map, length, get_or, set, slice_get, Option, None, Some, Result, Ok, Err}
+use Rattle.std.specs.List.{list_any, filter}
 use Rattle.std.specs.Option.{option_map}
-use Rattle.std.specs.FinMap.{get, insert, entries, contains_key, len}
+use Rattle.std.specs.FinMap.{get, entries, contains_key, len}
 use Rattle.rv_ledger.specs.Key.{Storage, WriteMap}
 use Rattle.rv_ledger.specs.declared.receipt.Receipt.{Receipt}
 use Rattle.rv_ledger.specs.declared.outcome.Counts.{Counts}
@@ -18,18 +18,18 @@ use Rattle.stm_state.specs.declared.state.Status.TheVariants.{Ready, Executing, 
 use Rattle.stm_state.specs.declared.state.CallState.{CallState}
 use Rattle.stm_state.specs.declared.state.Recorded.{Recorded}
 use Rattle.stm_state.specs.declared.state.Task.{Task}
-use Rattle.stm_state.specs.declared.state.Task.TheVariants.{Idle, Running, Moving, Validating}
+use Rattle.stm_state.specs.declared.state.Task.TheVariants.{Idle, Running, Moving, Validating, Marking}
 use Rattle.stm_state.specs.Limits.{record_limit, incarnation_limit}
 use Rattle.stm_state.specs.State.{State, call_at, task_at, with_call, with_task, no_counts, is_ready, is_executed, is_aborting, is_done}
 
--- a block as the workers see it: how many calls it has, the storage before it, and the receipt that answers bear out of
--- the call of an index
+-- a block as the workers see it: the number of its calls, the storage before it, and the receipt of the call of an index that
+-- answers bear out, if they bear one out
 pub record Block : Type 0 where
   pub count : ℕ
   pub base : Storage
   pub borne_out : ℕ → List Reply → Option Receipt
 
--- what a step adds to a worker's counts
+-- a state after a step adds to a worker's counts
 abbrev pub counted : (Counts → Counts) → ℕ → State → State
 counted add w s = record s { counts = set s.counts w (add (get_or s.counts w no_counts)) }
 
@@ -45,7 +45,7 @@ one_execution c = record c { steps = c.steps + 1; executions = c.executions + 1 
 abbrev pub one_validation : Counts → Counts
 one_validation c = record c { steps = c.steps + 1; validations = c.validations + 1 }
 
--- the reads of a recorded run, and the writes of its receipt; none where there is none
+-- the reads of a recorded run, and the writes of its receipt; empty where there is no run
 abbrev pub reads_of : Option Recorded → List Read
 reads_of None = []
 reads_of (Some run) = run.reads
@@ -54,23 +54,23 @@ abbrev pub written_by : Option Recorded → List (List ℕ × Option (List ℕ))
 written_by None = []
 written_by (Some run) = entries run.receipt.writes
 
--- to ready a call: incarnation plus one
+-- a call that is readied: it is READY at the next incarnation, and not parked
 abbrev pub next_incarnation : CallState → CallState
 next_incarnation call = record call { status = Ready; incarnation = call.incarnation + 1; parked = None }
 
--- ask: told that all is done
+-- ask: it is answered Done
 abbrev pub count_done : ℕ → State → State
 count_done w s = record s { dones = set s.dones w (get_or s.dones w 0 + 1) }
 
--- ask: the validation index goes on, and its call is validated if it is EXECUTED
+-- ask: the validation index goes up by one, and the worker validates its call if that call is EXECUTED
 unfoldable pub ask_validation : ℕ → State → State
 ask_validation w s =
     let i = s.validation in
     let call = call_at s i in
     let t = record s { validation = i + 1 } in
-    if is_executed call.status then with_task w (Validating i call.incarnation (length (reads_of call.last))) t else t
+    if is_executed call.status then with_task w (Validating i call.incarnation (length (reads_of call.last)) false) t else t
 
--- ask: the execution index goes on, and its call is run if it is READY
+-- ask: the execution index goes up by one, and the worker runs its call if that call is READY
 unfoldable pub ask_execution : ℕ → State → State
 ask_execution w s =
     let i = s.execution in
@@ -78,7 +78,8 @@ ask_execution w s =
     let t = record s { execution = i + 1 } in
     if is_ready call.status then with_task w (Running i [] None) (with_call i (record call { status = Executing }) t) else t
 
--- ask
+-- ask: it is answered Done where all is done; else the validation index goes up if it is behind the execution index; else the
+-- execution index goes up if a call is left; else nothing happens
 abbrev pub asked : ℕ → State → State
 asked w s =
     if is_done s then count_done w s
@@ -86,7 +87,7 @@ asked w s =
     else if nat_lt s.execution (length s.calls) then ask_execution w s
     else s
 
--- read: what the run is answered, or the call that it is blocked on
+-- read: the run gets its answer, or it is blocked on a call
 abbrev pub answered_with : Storage → List ℕ → ℕ → List StorageAnswer → Visible → Task
 answered_with base key i answers Base = Running i (answers ++ record { key = key; value = get base key; origin = origin.Base } ∷ []) None
 answered_with base key i answers (Found w n content) = Running i (answers ++ record { key = key; value = content; origin = origin.Version w n } ∷ []) None
@@ -95,7 +96,8 @@ answered_with base key i answers (Blocked b) = Running i answers (Some b)
 abbrev pub read_at : Storage → List ℕ → ℕ → ℕ → List StorageAnswer → State → State
 read_at base key w i answers s = with_task w (answered_with base key i answers (reading s.versions key i)) s
 
--- park: where the call that it waits for is EXECUTED the run starts again, else it is parked on that call
+-- park: if the call whose estimate blocked the run is EXECUTED by now, the run starts again; else its call is parked on that
+-- call
 unfoldable pub parked : ℕ → ℕ → ℕ → State → State
 parked w i b s =
     if is_executed (call_at s b).status then with_task w (Running i [] None) s
@@ -105,15 +107,11 @@ parked w i b s =
 abbrev pub read_of : StorageAnswer → Read
 read_of answer = record { key = answer.key; origin = answer.origin }
 
--- some keys of a call made estimates
-abbrev pub estimated : ℕ → List (List ℕ × Option (List ℕ)) → Versions → Versions
-estimated i writes versions = fold (λ v write. insert v (write.0, i) Estimate) versions writes
-
 -- the writes of the last recorded run whose keys this run did not write
 abbrev pub left_over : Option Recorded → WriteMap → List (List ℕ × Option (List ℕ))
 left_over last writes = filter (λ write. not (contains_key writes write.0)) (written_by last)
 
--- whether a run wrote a key that the last recorded one did not write; of a first run each written key is new
+-- whether the last recorded run wrote a key; and whether a run wrote a key that it did not: in a first run each key is new
 abbrev pub wrote : Option Recorded → List ℕ → Bool
 wrote None key = false
 wrote (Some run) key = contains_key run.receipt.writes key
@@ -121,10 +119,11 @@ wrote (Some run) key = contains_key run.receipt.writes key
 abbrev pub has_new_key : Option Recorded → WriteMap → Bool
 has_new_key last writes = list_any (λ write. not (wrote last write.0)) (entries writes)
 
--- record: the keys that a run is to move, first those that it wrote, then those that only the run before it wrote
+-- the keys of some writes
 abbrev pub keys_of : List (List ℕ × Option (List ℕ)) → List (List ℕ)
 keys_of writes = map (λ write. write.0) writes
 
+-- record: the keys that a run is to move, first those that it wrote, then those that only the run before it wrote
 abbrev pub keys_to_move : Option Recorded → WriteMap → List (List ℕ)
 keys_to_move last writes = keys_of (entries writes) ++ keys_of (left_over last writes)
 
@@ -137,29 +136,30 @@ write_of (Some run) key = get run.receipt.writes key
 abbrev pub version_of : CallState → List ℕ → Option Entry
 version_of call key = option_map (λ content. Stands call.incarnation content) (write_of call.last key)
 
--- is there, and is this number
+-- whether a number is there and is this one
 abbrev pub is_some_of : Option ℕ → ℕ → Bool
 is_some_of None i = false
 is_some_of (Some j) i = j == i
 
--- parked on a call
+-- whether a call is parked on call i
 abbrev pub is_parked_on : ℕ → CallState → Bool
 is_parked_on i call = is_aborting call.status && is_some_of call.parked i
 
--- those that are parked on a call are readied
+-- a call that is parked on call i is readied, and any other stays
 abbrev pub resume_if_parked : ℕ → CallState → CallState
 resume_if_parked i call = if is_parked_on i call then next_incarnation call else call
 
--- an index lowered to the least of the calls that are parked on call i, the first of these calls having number p
+-- an index lowered to the least of the calls that are parked on call i; the first call of the list has number p
 abbrev pub lowered : ℕ → ℕ → ℕ → List CallState → ℕ
 lowered i x p [] = x
 lowered i x p (call ∷ calls) = lowered i (if is_parked_on i call then min x p else x) (p + 1) calls
 
--- finish execution: all that are parked on call i are readied
+-- finish execution: all calls that are parked on call i are readied, and the execution index is lowered to the least of them
 unfoldable pub resume_dependents : ℕ → State → State
 resume_dependents i s = record s { calls = map (resume_if_parked i) s.calls; execution = lowered i s.execution 0 s.calls }
 
--- finish execution: what is validated again. Where V is past call i, all from i on if the run wrote a new key, else call i
+-- finish execution: what is validated again. Where the validation index is past call i: all calls from i on if the run wrote a
+-- new key, else call i, by this worker. Where it is not past call i: nothing, since the index still comes to it
 unfoldable pub to_validate : ℕ → ℕ → Bool → Task → State → State
 to_validate w i new task s =
     if nat_lt i s.validation then (if new then with_task w Idle (record s { validation = i }) else with_task w task s)
@@ -184,32 +184,48 @@ moved w i key keys new s = with_task w (Moving i keys new) (record s { versions 
 abbrev pub executed : ℕ → ℕ → Bool → State → State
 executed w i new s =
     let call = call_at s i in
-    to_validate w i new (Validating i call.incarnation (length (reads_of call.last)))
+    to_validate w i new (Validating i call.incarnation (length (reads_of call.last)) false)
     (resume_dependents i (with_call i (record call { status = Executed }) s))
 
--- validate: a call is EXECUTED at an incarnation
+-- check read, decide: whether a call is EXECUTED at an incarnation
 abbrev pub is_executed_at : ℕ → CallState → Bool
 is_executed_at n call = is_executed call.status && call.incarnation == n
 
--- validate: an abort makes the written keys estimates, readies the call, and lowers V to the call behind it; where
--- the execution index is past the call, the worker runs it
+-- check read: whether the next read of a call stands, if `left` of its reads are left to check
+abbrev pub read_stands : Versions → ℕ → Option Read → Bool
+read_stands versions i None = true
+read_stands versions i (Some read) = stands versions i read
+
+abbrev pub next_stands : ℕ → ℕ → State → Bool
+next_stands i left s = let reads = reads_of (call_at s i).last in read_stands s.versions i (slice_get reads (length reads - left))
+
+-- check read: if the call is no longer EXECUTED at the incarnation, the task ends; else the next read is checked, and it fails
+-- the validation if it does not stand
+unfoldable pub checked : ℕ → ℕ → ℕ → ℕ → State → State
+checked w i n left s =
+    if is_executed_at n (call_at s i) then (if next_stands i (suc left) s then with_task w (Validating i n left false) s else with_task w (Validating i n (suc left) true) s)
+    else with_task w Idle s
+
+-- decide: if a read did not stand and the call is EXECUTED at the incarnation, the call is ABORTING now, and the keys that it
+-- wrote are to become estimates; else the task ends
+unfoldable pub decided : ℕ → ℕ → ℕ → Bool → State → State
+decided w i n failed s =
+    let call = call_at s i in
+    if failed && is_executed_at n call then with_task w (Marking i (keys_of (written_by call.last))) (with_call i (record call { status = Aborting }) s)
+    else with_task w Idle s
+
+-- mark estimate: the next key becomes an estimate
+abbrev pub marked : ℕ → ℕ → List ℕ → List (List ℕ) → State → State
+marked w i key keys s = with_task w (Marking i keys) (record s { versions = changed s.versions (key, i) (Some Estimate) })
+
+-- finish abort: the call is readied, and the validation index is lowered to the next call; if the execution index is past the
+-- call, the worker runs it
 unfoldable pub aborted : ℕ → ℕ → State → State
 aborted w i s =
     let call = call_at s i in
-    let t = record s { versions = estimated i (written_by call.last) s.versions; validation = min s.validation (i + 1) } in
+    let t = record s { validation = min s.validation (i + 1) } in
     if nat_lt i s.execution then with_task w (Running i [] None) (with_call i (record (next_incarnation call) { status = Executing }) t)
     else with_task w Idle (with_call i (next_incarnation call) t)
-
--- validate: whether all reads of a call stand
-abbrev pub all_stand : ℕ → State → Bool
-all_stand i s = list_all (stands s.versions i) (reads_of (call_at s i).last)
-
-unfoldable pub validated : ℕ → ℕ → ℕ → State → State
-validated w i n s = if is_executed_at n (call_at s i) && not (all_stand i s) then aborted w i s else with_task w Idle s
-
--- validate: it is a decision unless the call is no more EXECUTED at that incarnation and there were reads to check
-abbrev pub decided : ℕ → ℕ → ℕ → State → Bool
-decided i n left s = is_executed_at n (call_at s i) || left == 0
 
 -- a step by its kind; a read names its key
 pub data Step : Type 0 where
@@ -219,14 +235,18 @@ pub data Step : Type 0 where
   Record : Step
   Move_key : Step
   Finish_execution : Step
-  Validate : Step
+  Check_read : Step
+  Decide : Step
+  Mark_estimate : Step
+  Finish_abort : Step
 
 -- why a step is refused
 pub data Limit : Type 0 where
   ArenaFull : Limit
   IncarnationLimit : Limit
 
--- a run may be handed in: the arena has room for its writes, and its incarnation is below the limit
+-- record: due where the answers bear a receipt out; refused as ArenaFull where the arena has no room for the writes, and else
+-- as IncarnationLimit where the incarnation is at the limit
 abbrev pub record_within : ℕ → List StorageAnswer → ℕ → Option Receipt → State → Option (Result State Limit)
 record_within i answers w None s = None
 record_within i answers w (Some receipt) s =
@@ -234,7 +254,7 @@ record_within i answers w (Some receipt) s =
     else if nat_le incarnation_limit (call_at s i).incarnation then Some (Err IncarnationLimit)
     else Some (Ok (counted one_execution w (recorded w i answers receipt s)))
 
--- the step of a worker with a task: None where it is not due
+-- the result of a worker's step, by its task; None where the step is not due
 abbrev pub step_with : Block → ℕ → Task → Step → State → Option (Result State Limit)
 step_with block w Idle Ask s = Some (Ok (counted one_asking w (asked w s)))
 step_with block w (Running i answers None) (Read_key key) s = Some (Ok (counted one_step w (read_at block.base key w i answers s)))
@@ -243,10 +263,13 @@ step_with block w (Running i answers (Some b)) Park s =
 step_with block w (Running i answers None) Record s = record_within i answers w (block.borne_out i (replies_of answers)) s
 step_with block w (Moving i (key ∷ keys) new) Move_key s = Some (Ok (counted one_step w (moved w i key keys new s)))
 step_with block w (Moving i [] new) Finish_execution s = Some (Ok (counted one_step w (executed w i new s)))
-step_with block w (Validating i n left) Validate s =
-    Some (Ok (counted (if decided i n left s then one_validation else one_step) w (validated w i n s)))
+step_with block w (Validating i n left true) Decide s = Some (Ok (counted one_validation w (decided w i n true s)))
+step_with block w (Validating i n (suc left) false) Check_read s = Some (Ok (counted one_step w (checked w i n left s)))
+step_with block w (Validating i n zero false) Decide s = Some (Ok (counted one_validation w (decided w i n false s)))
+step_with block w (Marking i (key ∷ keys)) Mark_estimate s = Some (Ok (counted one_step w (marked w i key keys s)))
+step_with block w (Marking i []) Finish_abort s = Some (Ok (counted one_step w (aborted w i s)))
 step_with block w task step s = None
 
--- worker step
+-- a step of a worker in a state; None where it is not due
 abbrev pub worker_step : Block → ℕ → Step → State → Option (Result State Limit)
 worker_step block w step s = step_with block w (task_at s w) step s

@@ -11,7 +11,7 @@ after_step rest None = None
 after_step rest (Some (Ok s)) = rest s
 after_step rest (Some (Err limit)) = None
 
--- the state that a list leads to from a state on; none where a step of it is not due or is refused
+-- the state that a list leads to from a state on; None where a step of it is not due or is refused
 unfoldable pub walk : Block → List (ℕ × Step) → State → Option State
 walk block [] s = Some s
 walk block (entry ∷ entries) s = after_step (λ t. walk block entries t) (worker_step block entry.0 entry.1 s)
@@ -21,6 +21,6 @@ pub record LeadsTo (block : Block) (workers : ℕ) (entries : List (ℕ × Step)
   pub within : AllByRecursion (λ entry. entry.0 < workers) entries
   pub comes : walk block entries (start block.count workers) ≡ Some s
 
--- a state is reached just where some list leads to it
+-- a state is reached exactly where some list leads to it
 abbrev pub ReachedByList : Type 0
 ReachedByList = (block : Block) (workers : ℕ) (s : State) → Reached block workers s ↔ ((entries : List (ℕ × Step)) × LeadsTo block workers entries s)

@@ -10,19 +10,19 @@ ghost use Rattle.stm_state.specs.Walk.{ReachedByList};
 
 use rv_ledger::Job;
 
-/// Whatever list of steps leads to a state of a block's run, the invariant holds there.
+/// The invariant holds in each state of a block's run, whatever list of steps leads there.
 pub fn invariant_holds()
     ensures { InvariantHolds }
 {}
 
-/// Where workers are done with a block, whatever list of steps led there, no estimate is left in the
-/// versions, and no entry of a call past the last one.
+/// Where workers are done with a block, whatever list of steps led there, the versions have no estimate
+/// and no entry of a call past the last one.
 pub fn done_has_versions_alone()
     ensures { DoneHasVersionsAlone }
 {}
 
-/// Where workers are done with a block, whatever list of steps led there, the result is that of its
-/// calls one after another.
+/// Where workers are done with a block, whatever list of steps led there, the result is that of running
+/// its calls one after another.
 pub fn done_is_serial()
     ensures { DoneIsSerial }
 {}
@@ -33,10 +33,11 @@ pub fn done_is_in_order()
     ensures { DoneIsInOrder }
 {}
 
-/// Whatever list of steps leads to a state of a block's run, the four parts of the scheduler's invariant
-/// hold there: READY calls are at or above the execution index, EXECUTING ones are run and ABORTING ones
-/// wait; only EXECUTED calls and unfinished records have versions; reads that do not stand are yet to be
-/// validated; and runs are borne out by true answers.
+/// The four parts of the scheduler's invariant hold in each state of a block's run, whatever list of steps
+/// leads there. First, READY calls are at or above the execution index, EXECUTING calls are some worker's
+/// task, and ABORTING calls are parked or are taken back. Second, only EXECUTED calls, unfinished records
+/// and unfinished aborts have versions. Third, where a read of an EXECUTED call does not stand, a
+/// validation of that call is still to come or to end. Fourth, runs are borne out by true answers.
 pub fn the_parts_hold()
     ensures part_1 { HoldsWhereReached CallsAreAttended }
     ensures part_2 { HoldsWhereReached OthersHaveEstimates }
@@ -44,56 +45,56 @@ pub fn the_parts_hold()
     ensures part_4 { HoldsWhereReached RunsAreBorneOut }
 {}
 
-/// With one worker a job of n calls is done after the rounds of its calls and not before: each round is
-/// two askings, the call's reads, a record, a step for each key that it moves, a finish and a validation. Each
-/// step after that is an asking that is told so.
+/// One worker is done with a job after the rounds of its calls, and not before. The round of a call is two
+/// askings, the call's reads, a record, a step for each key that it wrote, a finish, a check of each read
+/// and a decision. Each step after the rounds is an asking that is answered Done.
 pub fn one_worker_counts(job: &Job)
     ensures { HasOneWorkerCounts job.now.block job.now.store }
 {
     job.block.calls();
 }
 
-/// In each state that a list of worker numbers leads through from the start of a job, the step that a
+/// In each state that a list of worker numbers walks through from the start of a job, the step that a
 /// worker owes is due: it is made, or refused for a limit. So a list is refused as NotDone exactly where it
 /// is used up and workers are not done.
 pub fn due_step_has_result()
     ensures { DueStepHasResult }
 {}
 
-/// Each step that is made where workers are done is an asking, and they are done after it.
+/// Each step that is made where workers are done is an asking, and they are still done after it.
 pub fn done_stays()
     ensures asking { DoneIsAsked }
     ensures done { DoneStays }
 {}
 
-/// What a step adds to the askings answered Done: nothing to those of the other workers, nothing to the
-/// worker's own where it is no asking, and one for an asking where workers are done.
+/// What a step adds to the askings answered Done. It adds nothing to those of the other workers. It adds one
+/// to the worker's own if it is an asking where workers are done, and else nothing.
 pub fn dones_grow_at_done()
     ensures others { OtherDonesStay }
     ensures other_steps { DonesAreAsked }
     ensures askings { DonesGrowAtDone }
 {}
 
-/// A state is reached just where some list of pairs of a worker and a step leads to it.
+/// A state is reached exactly where some list of pairs of a worker and a step leads to it.
 pub fn reached_by_list()
     ensures { ReachedByList }
 {}
 
-/// In a list that leads to a state where some asking of a worker was answered Done, that worker's last
-/// entry is such an asking, made where workers are done.
+/// If a list leads to a state where some asking of a worker was answered Done, that worker's last entry in
+/// the list is such an asking, made where workers are done.
 pub fn last_entry_is_done()
     ensures { LastEntryIsDone }
 {}
 
 /// Where the one worker of a block is done, whatever list of steps led there and whatever keys its runs
-/// read: an execution and a decision of each call, each at its incarnation 0, and two askings of each call
-/// beside those that were told so.
+/// read: it made one execution and one decision for each call, each call is at incarnation 0, and it asked
+/// twice for each call beside the askings that were answered Done.
 pub fn one_worker_counts_where_reached()
     ensures { OneWorkerCountsWhereReached }
 {}
 
-/// Where a list of worker numbers is refused for a limit, some list of steps leads to a state that meets
-/// just that limit.
+/// Where a list of worker numbers is refused for a limit, some list of steps leads to a state where a
+/// worker's step is refused for the same limit.
 pub fn refused_list_meets_limit()
     ensures { RefusedListMeetsLimit }
 {}

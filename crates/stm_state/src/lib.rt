@@ -1,5 +1,5 @@
-//! The state of a speculative run of a block, the steps that workers make on it, and the theorem
-//! that where they are done the result is that of the calls in order (Block-STM).
+//! The state of a speculative run of a block, the steps that workers make on it, and the theorem that
+//! their result, once they are done, is that of running the calls in order (Block-STM).
 #![tactic(auto)]
 
 mod laws;

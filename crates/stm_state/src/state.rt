@@ -10,11 +10,11 @@ use std::marker::Model;
 pub enum Status {
     /// It is to be run.
     Ready,
-    /// A worker runs it.
+    /// A worker runs it, or moves the keys that its run wrote.
     Executing,
-    /// Its last run is recorded.
+    /// Its last run is recorded, and the keys of that run are moved.
     Executed,
-    /// It waits until the call that it is parked on is recorded.
+    /// It is parked until a lower call is EXECUTED, or a worker turns its versions into estimates.
     Aborting,
 }
 
@@ -34,9 +34,9 @@ pub struct CallState {
     pub status: Status,
     /// How often it was readied again, 0 to 65,535.
     pub incarnation: u16,
-    /// The index of the call that it is parked on.
+    /// The index of the call that it is parked on, or None.
     pub parked: Option<u16>,
-    /// The run that was last recorded.
+    /// The run that was last recorded, or None.
     pub last: Option<Recorded>,
 }
 
@@ -55,7 +55,7 @@ impl Model for Answers {
     ghost view = { λ a. a.items.items };
 }
 
-/// Keys that are yet to be moved, in order.
+/// Keys that are yet to be moved or marked, in order.
 #[derive(Drop)]
 pub struct Keys {
     items: Vec<Key>,
@@ -69,7 +69,7 @@ impl Model for Keys {
     ghost view = { λ k. k.items.items };
 }
 
-/// What a worker is about.
+/// What a worker is doing.
 #[derive(Drop)]
 pub enum Task {
     /// Nothing: it asks for work.
@@ -78,13 +78,13 @@ pub enum Task {
     Running {
         /// The call's index.
         call: u16,
-        /// What the run was answered so far.
+        /// The answers that the run was given so far.
         answers: Answers,
-        /// The call whose estimate the run met, where it met one.
+        /// The index of the call whose estimate the run met, or None.
         blocked: Option<u16>,
     },
-    /// It moves the keys of a run that it handed in: those that the run wrote are published, and then
-    /// those that only the run before it wrote are withdrawn.
+    /// It moves the keys of a run that it handed in. First it publishes those that the run wrote, and then
+    /// it withdraws those that only the run before it wrote.
     Moving {
         /// The call's index.
         call: u16,
@@ -99,7 +99,16 @@ pub enum Task {
         call: u16,
         /// The incarnation whose reads it checks.
         incarnation: u16,
-        /// The number of reads that it has to check.
+        /// The number of reads that it still has to check.
         left: usize,
+        /// Whether a read that it checked did not stand.
+        failed: bool,
+    },
+    /// It takes a call back: it turns the call's versions into estimates.
+    Marking {
+        /// The call's index.
+        call: u16,
+        /// The keys that are yet to be marked.
+        keys: Keys,
     },
 }

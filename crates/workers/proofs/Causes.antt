@@ -12,35 +12,35 @@ use Rattle.workers.specs.declared.fault.RunFault.{RunFault}
 use Rattle.workers.specs.declared.fault.RunFault.TheVariants as faults
 use Rattle.workers.specs.Book.{BookState, Owes, IsUnready, IsCause, IsCauseAfter, MayWrite, fault_of}
 
-cause_after : (first : Option RunFault) (next : NextStep) (share : Share) (b : CoreState) (Fits : Type 0) (Wants : Type 0) (step : Step) (fault : RunFault)
-    → IsUnready first next share b fault → (Fits → Owes next share b) → IsCauseAfter first Fits Wants step share.worker b fault
-cause_after (Some first) next share b Fits Wants step fault h owes = h
-cause_after None next share b Fits Wants step faults.BadCount h owes = h
-cause_after None next share b Fits Wants step faults.Foreign h owes = λ fits. h (owes fits)
-cause_after None next share b Fits Wants step faults.ArenaFull h owes = absurd h
-cause_after None next share b Fits Wants step faults.IncarnationLimit h owes = absurd h
-cause_after None next share b Fits Wants step faults.Memory h owes = absurd h
-cause_after None next share b Fits Wants step faults.Spawn h owes = absurd h
-cause_after None next share b Fits Wants step faults.StepLimit h owes = h
+cause_after : (first : Option RunFault) (next : NextStep) (share : Share) (b : CoreState) (Own : Type 0) (Wants : Type 0) (step : Step) (fault : RunFault)
+    → IsUnready first next share b fault → IsCauseAfter first (Owes next share b) Own Wants step share.worker b fault
+cause_after (Some first) next share b Own Wants step fault h = h
+cause_after None next share b Own Wants step faults.BadCount h = h
+cause_after None next share b Own Wants step faults.Foreign h = λ fits. h fits.0
+cause_after None next share b Own Wants step faults.ArenaFull h = absurd h
+cause_after None next share b Own Wants step faults.IncarnationLimit h = absurd h
+cause_after None next share b Own Wants step faults.Memory h = absurd h
+cause_after None next share b Own Wants step faults.Spawn h = absurd h
+cause_after None next share b Own Wants step faults.StepLimit h = h
 
 -- a worker that may not make its step is a cause
-pub unready_cause : (next : NextStep) (share : Share) (b : BookState) (Fits : Type 0) (Wants : Type 0) (step : Step) (fault : RunFault)
-    → IsUnready b.fault next share b.core fault → (Fits → Owes next share b.core) → IsCause Fits Wants step share.worker b fault
-unready_cause next share b Fits Wants step fault h owes = cause_after b.fault next share b.core Fits Wants step fault h owes
+pub unready_cause : (next : NextStep) (share : Share) (b : BookState) (Own : Type 0) (Wants : Type 0) (step : Step) (fault : RunFault)
+    → IsUnready b.fault next share b.core fault → IsCause (Owes next share b.core) Own Wants step share.worker b fault
+unready_cause next share b Own Wants step fault h = cause_after b.fault next share b.core Own Wants step fault h
 
 -- ---- a record that the core refuses
 
 module _ (w : ℕ) (run : EndedRun) (b : CoreState) (f : RecordFault)
     (own : (f ≢ record_faults.Foreign) ↔ IsOwn w run b) (full : f ≡ record_faults.ArenaFull → IsRefused w Record steps.ArenaFull b)
     (limit : f ≡ record_faults.IncarnationLimit → IsRefused w Record steps.IncarnationLimit b) (memory : f ≡ record_faults.Memory → IsTaken w Record b) where
-  cause_by : (g : RecordFault) → f ≡ g → (Owed : Type 0) → IsCauseAfter None (Owed × IsOwn w run b) (IsTaken w Record b) Record w b (fault_of g)
+  cause_by : (g : RecordFault) → f ≡ g → (Owed : Type 0) → IsCauseAfter None Owed (IsOwn w run b) (IsTaken w Record b) Record w b (fault_of g)
   cause_by record_faults.Foreign e Owed = λ fits. own.1 fits.1 e
   cause_by record_faults.ArenaFull e Owed = full e
   cause_by record_faults.IncarnationLimit e Owed = limit e
   cause_by record_faults.Memory e Owed = memory e
 
   -- it is a cause
-  pub record_cause : (Owed : Type 0) → IsCauseAfter None (Owed × IsOwn w run b) (IsTaken w Record b) Record w b (fault_of f)
+  pub record_cause : (Owed : Type 0) → IsCauseAfter None Owed (IsOwn w run b) (IsTaken w Record b) Record w b (fault_of f)
   record_cause Owed = cause_by f refl Owed
 
   may_write_by : (g : RecordFault) → f ≡ g → w < length b.state.tasks → MayWrite (fault_of g) b

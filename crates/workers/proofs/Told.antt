@@ -1,7 +1,7 @@
 -- What an asking adds to a share.
 use Rattle.std.proofs.Common.{◌≡◌, ◌+◌, Bool, true, false, if◌then◌else◌, length, get_or, arith, sym, ap, ◌∙◌, refl}
 use Rattle.stm_state.specs.declared.state.Task.{Task}
-use Rattle.stm_state.specs.declared.state.Task.TheVariants.{Idle, Running, Moving, Validating}
+use Rattle.stm_state.specs.declared.state.Task.TheVariants.{Idle, Running, Moving, Validating, Marking}
 use Rattle.stm_state.specs.State.{is_done}
 use Rattle.stm_state.specs.Steps.{Ask}
 use Rattle.stm_state.specs.Invariant.{Invariant}
@@ -18,7 +18,8 @@ done_where_told true task e = refl
 done_where_told false Idle e = cc
 done_where_told false (Running i answers blocked) e = cc
 done_where_told false (Moving i keys new) e = cc
-done_where_told false (Validating i n left) e = cc
+done_where_told false (Validating i n left failed) e = cc
+done_where_told false (Marking i keys) e = cc
 
 pub not_done_where_told : (done : Bool) (task : Task) (answer : AskResult) → answer ≡ ask_result_of done task → (answer ≡ ask_result.Done → ⊥) → done ≡ false
 not_done_where_told true task answer e other = absurd (other e)

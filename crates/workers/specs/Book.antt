@@ -2,7 +2,7 @@
 use Rattle.std.specs.Prelude.{◌≡◌, ◌<◌, ◌+◌, ℕ, zero, suc, true, false, List, [], ◌∷◌, ◌++◌, length, get_or, Option, None, Some}
 use Rattle.rv_ledger.specs.declared.outcome.Counts.{Counts}
 use Rattle.stm_state.specs.State.{task_at, no_counts, is_done}
-use Rattle.stm_state.specs.Steps.{Step, Ask, Read_key, Park, Record, Validate}
+use Rattle.stm_state.specs.Steps.{Step, Ask, Read_key, Park, Record}
 use Rattle.stm_state.specs.Steps as steps
 use Rattle.scheduler.specs.declared.counting.TheConstants.{COUNT_LIMIT}
 use Rattle.stm_core.specs.CoreState.{CoreState, IsRefused, Makes, next_step_of}
@@ -13,7 +13,7 @@ use Rattle.workers.specs.declared.share.Share.{Share}
 use Rattle.workers.specs.declared.fault.RunFault.{RunFault}
 use Rattle.workers.specs.declared.fault.RunFault.TheVariants as faults
 
--- a core, and the first fault that was written
+-- a core, and the first fault that was written, if any
 pub record BookState : Type 0 where
   pub core : CoreState
   pub fault : Option RunFault
@@ -27,7 +27,7 @@ pub record IsAtLimit (limit : steps.Limit) (b : CoreState) : Type 0 where
   pub step : Step
   pub refused : IsRefused worker step limit b
 
--- some worker can't count one step more
+-- some worker can't count another step
 pub record HasFullCount (b : CoreState) : Type 0 where
   pub worker : ℕ
   pub within : worker < length b.state.tasks
@@ -54,14 +54,14 @@ fault_of record_faults.ArenaFull = faults.ArenaFull
 fault_of record_faults.Memory = faults.Memory
 fault_of record_faults.IncarnationLimit = faults.IncarnationLimit
 
--- with a fault written, unless one was written before
+-- the fault after one is written: the first one that was written
 abbrev pub first_fault : Option RunFault → RunFault → RunFault
 first_fault None fault = fault
 first_fault (Some first) fault = first
 
 -- ---- shares
 
--- what a share tells
+-- what a share says: its worker, the worker's counts, and how many of its `ask` calls were answered Done
 pub record ShareCounts : Type 0 where
   pub worker : ℕ
   pub counts : Counts
@@ -70,60 +70,62 @@ pub record ShareCounts : Type 0 where
 abbrev pub counts_of_share : Share → ShareCounts
 counts_of_share share = record { worker = share.worker; counts = share.counts; dones = share.dones }
 
--- of a worker that did nothing yet
+-- the share of a worker that has done nothing yet
 abbrev pub zero_counts : ℕ → ShareCounts
 zero_counts worker = record { worker = worker; counts = no_counts; dones = 0 }
 
--- of so many workers, in their order
+-- the same for each of n workers, in their order
 unfoldable pub zero_counts_of_all : ℕ → List ShareCounts
 zero_counts_of_all zero = []
 zero_counts_of_all (suc n) = zero_counts_of_all n ++ zero_counts n ∷ []
 
--- a share tells what a core counts of its worker
+-- a share agrees with the core on the counts of its worker
 pub record Tells (share : Share) (b : CoreState) : Type 0 where
   pub within : share.worker < length b.state.tasks
   pub counts : share.counts ≡ get_or b.state.counts share.worker no_counts
   pub dones : share.dones ≡ get_or b.state.dones share.worker 0
 
--- and its worker owes a step
+-- the same, and the worker owes this step
 pub record Owes (next : NextStep) (share : Share) (b : CoreState) : Type 0 where
   pub tells : Tells share b
   pub owed : next_step_of b.state (task_at b.state share.worker) ≡ next
 
 -- ---- step calls
 
--- the step of the share's worker was made with no fault written, and the share tells the core's counts before it and after it, with the same pass
-pub record IsMade (step : Step) (before after : BookState) (share counted : Share) : Type 0 where
+-- the share's worker owed this step, and it was made; no fault is written, the share agrees with the core before the step
+-- and after it, and its pass stays
+pub record IsMade (owed : NextStep) (step : Step) (before after : BookState) (share counted : Share) : Type 0 where
   pub none_before : before.fault ≡ None
-  pub told : Tells share before.core
+  pub owes : Owes owed share before.core
   pub makes : Makes share.worker step before.core after.core
   pub none_after : after.fault ≡ None
   pub worker : counted.worker ≡ share.worker
   pub pass : counted.pass ≡ share.pass
   pub tells : Tells counted after.core
 
--- a step call that was refused leaves the core and the share as they were, and its fault written
+-- a step call that is refused writes its fault, and leaves the core and the share as they were
 pub record LeavesWritten (fault : RunFault) (before after : BookState) (share left : Share) : Type 0 where
   pub core : after.core ≡ before.core
   pub written : after.fault ≡ Some fault
   pub kept : left ≡ share
 
--- why a step call is refused: as the fault that was written before; else Foreign only where the call does not fit, a limit or
--- Memory only where the step meets it, and StepLimit only where the worker can't count one step more
-abbrev pub IsCauseAfter : Option RunFault → (Fits : Type 0) → (Wants : Type 0) → Step → ℕ → CoreState → RunFault → Type 0
-IsCauseAfter (Some first) Fits Wants step w b fault = fault ≡ first
-IsCauseAfter None Fits Wants step w b faults.BadCount = ⊥
-IsCauseAfter None Fits Wants step w b faults.Foreign = Fits → ⊥
-IsCauseAfter None Fits Wants step w b faults.ArenaFull = IsRefused w step steps.ArenaFull b
-IsCauseAfter None Fits Wants step w b faults.IncarnationLimit = IsRefused w step steps.IncarnationLimit b
-IsCauseAfter None Fits Wants step w b faults.Memory = Wants
-IsCauseAfter None Fits Wants step w b faults.Spawn = ⊥
-IsCauseAfter None Fits Wants step w b faults.StepLimit = (get_or b.state.counts w no_counts).steps ≡ COUNT_LIMIT
+-- why a step call is refused. Where a fault was written before, it is that one. Otherwise it is Foreign only where the
+-- worker does not owe the step or the run is not its own, StepLimit only where it owes the step and can't count another
+-- one, a limit only where the step meets it, and Memory only where `Wants` holds
+abbrev pub IsCauseAfter : Option RunFault → (Owed : Type 0) → (Own : Type 0) → (Wants : Type 0) → Step → ℕ → CoreState → RunFault → Type 0
+IsCauseAfter (Some first) Owed Own Wants step w b fault = fault ≡ first
+IsCauseAfter None Owed Own Wants step w b faults.BadCount = ⊥
+IsCauseAfter None Owed Own Wants step w b faults.Foreign = Owed × Own → ⊥
+IsCauseAfter None Owed Own Wants step w b faults.ArenaFull = IsRefused w step steps.ArenaFull b
+IsCauseAfter None Owed Own Wants step w b faults.IncarnationLimit = IsRefused w step steps.IncarnationLimit b
+IsCauseAfter None Owed Own Wants step w b faults.Memory = Wants
+IsCauseAfter None Owed Own Wants step w b faults.Spawn = ⊥
+IsCauseAfter None Owed Own Wants step w b faults.StepLimit = Owed × ((get_or b.state.counts w no_counts).steps ≡ COUNT_LIMIT)
 
-abbrev pub IsCause : (Fits : Type 0) → (Wants : Type 0) → Step → ℕ → BookState → RunFault → Type 0
-IsCause Fits Wants step w b fault = IsCauseAfter b.fault Fits Wants step w b.core fault
+abbrev pub IsCause : (Owed : Type 0) → (Own : Type 0) → (Wants : Type 0) → Step → ℕ → BookState → RunFault → Type 0
+IsCause Owed Own Wants step w b fault = IsCauseAfter b.fault Owed Own Wants step w b.core fault
 
--- why a worker may not make a step that it is to owe, whatever the step
+-- why a worker may not make a step that it should owe, whatever the step
 abbrev pub IsUnready : Option RunFault → NextStep → Share → CoreState → RunFault → Type 0
 IsUnready (Some first) next share b fault = fault ≡ first
 IsUnready None next share b faults.BadCount = ⊥
@@ -132,9 +134,9 @@ IsUnready None next share b faults.ArenaFull = ⊥
 IsUnready None next share b faults.IncarnationLimit = ⊥
 IsUnready None next share b faults.Memory = ⊥
 IsUnready None next share b faults.Spawn = ⊥
-IsUnready None next share b faults.StepLimit = (get_or b.state.counts share.worker no_counts).steps ≡ COUNT_LIMIT
+IsUnready None next share b faults.StepLimit = Owes next share b × ((get_or b.state.counts share.worker no_counts).steps ≡ COUNT_LIMIT)
 
--- an asking: None where all was done, and then one asking more was answered Done; else what the worker owes now
+-- the result of `ask`: None where all was done, with one more answer Done in the share; else the step that is owed now
 abbrev pub IsAsked : Option NextStep → CoreState → CoreState → Share → Share → Type 0
 IsAsked None before after share counted = (is_done before.state ≡ true) × (counted.dones ≡ share.dones + 1)
 IsAsked (Some next) before after share counted = (is_done before.state ≡ false) × (counted.dones ≡ share.dones) × (next ≡ next_step_of after.state (task_at after.state share.worker))

@@ -11,7 +11,7 @@ use Rattle.workers.specs.declared.chain.ChainFault.TheVariants.{Run, TooManyCall
 use Rattle.workers.specs.declared.fault.RunFault.TheVariants as faults
 use Rattle.workers.specs.History.{HasLimit}
 
--- what a block of these calls and workers may be answered over a storage
+-- the answers that a block may get, by its calls, its number of workers and the storage before it
 abbrev pub IsBlockAnswer : Storage → List Invocation → ℕ → Result (Vec Receipt) ChainFault → Type 0
 IsBlockAnswer store calls workers (Ok receipts) = (receipts.items ≡ receipts_of calls store) × (length calls ≤ 1024) × (1 ≤ workers) × (workers ≤ 32)
 IsBlockAnswer store calls workers (Err fault) =

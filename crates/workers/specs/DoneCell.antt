@@ -10,7 +10,7 @@ use Rattle.workers.specs.declared.done_cell.DoneCell.{DoneCell}
 abbrev pub IsOneWay : List ℕ → List ℕ → Type 0
 IsOneWay words views = (slice_index words 0 ≤ 1) × ((pass seen : ℕ) → get_elem? views pass ≡ some seen → seen ≤ slice_index words 0)
 
--- a call of a pass finds no less than the pass had seen, and the pass has seen then what the call left
+-- a call with a pass finds no less than the pass had seen; after it the pass has seen what the call left
 abbrev pub IsSeen : ℕ → List ℕ → List ℕ → ℕ → Type 0
 IsSeen seen before after sees = (seen ≤ slice_index before 0) × (slice_index after 0 ≤ 1) × (sees ≡ slice_index after 0)
 

@@ -15,7 +15,7 @@ fault_text Memory = codes "Memory 5"
 fault_text Spawn = codes "Spawn 6"
 fault_text StepLimit = codes "StepLimit 7"
 
--- of a block of a chain
+-- the name and the number of a refusal of a block of a chain
 abbrev pub chain_fault_text : ChainFault → List ℕ
 chain_fault_text (Run fault) = fault_text fault
 chain_fault_text TooManyCalls = codes "TooManyCalls 8"

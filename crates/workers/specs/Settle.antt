@@ -1,4 +1,4 @@
--- What a book and the shares that came back are answered.
+-- The answer to a job, by its book and the shares that came back.
 use Rattle.std.specs.Prelude.{◌≡◌, ◌≢◌, ◌⊎◌, ℕ, true, List, length, Option, None, Some, Result, Ok, Err, slice_get}
 use Rattle.rv_ledger.specs.declared.job.Job.{Job}
 use Rattle.rv_ledger.specs.declared.outcome.Outcome.{Outcome}
@@ -10,13 +10,13 @@ use Rattle.workers.specs.declared.fault.RunFault.{RunFault}
 use Rattle.workers.specs.declared.fault.RunFault.TheVariants as faults
 use Rattle.workers.specs.Book.{BookState, Tells}
 
--- a share is that of a worker, tells what the core counts of it, and has one asking answered Done
+-- a share is that of a worker, agrees with the core on its counts, and has exactly one ask that was answered Done
 pub record IsShareOf (w : ℕ) (b : CoreState) (share : Share) : Type 0 where
   pub worker : share.worker ≡ w
   pub tells : Tells share b
   pub once : share.dones ≡ 1
 
--- workers are done, and their shares, in their order, are those that the core counted
+-- workers are done, and there is one share of each, in their order, which agrees with the core
 pub record AreSettled (b : CoreState) (shares : List Share) : Type 0 where
   pub done : is_done b.state ≡ true
   pub count : length shares ≡ length b.state.tasks
@@ -29,16 +29,16 @@ pub record IsOutcomeOf (b : CoreState) (outcome : Outcome) : Type 0 where
   pub store : outcome.store ≡ store_after b.job.block b.job.store
   pub counts : outcome.counts.items ≡ b.state.counts
 
--- the outcome, or want of memory
+-- the core's outcome, or Memory
 abbrev pub IsOutcomeOrMemory : CoreState → Result Outcome RunFault → Type 0
 IsOutcomeOrMemory b (Ok outcome) = IsOutcomeOf b outcome
 IsOutcomeOrMemory b (Err fault) = fault ≡ faults.Memory
 
--- the written fault; else the outcome or want of memory where the shares are settled, and Foreign where they are not
+-- the written fault, if any; else the outcome or Memory where the shares are settled, and Foreign where they are not
 abbrev pub IsSettledAfter : Option RunFault → CoreState → List Share → Result Outcome RunFault → Type 0
 IsSettledAfter (Some fault) b shares answer = answer ≡ Err fault
 IsSettledAfter None b shares answer = (AreSettled b shares × IsOutcomeOrMemory b answer) ⊎ ((AreSettled b shares → ⊥) × (answer ≡ Err faults.Foreign))
 
--- settled: Foreign where the core's job is another one than the one that was handed in, and nothing else is compared then
+-- the answer to a job: Foreign where the core has another job, whatever else holds; otherwise as above
 abbrev pub IsSettled : Job → List Share → BookState → Result Outcome RunFault → Type 0
 IsSettled job shares b answer = ((b.core.job ≡ job) × IsSettledAfter b.fault b.core shares answer) ⊎ ((b.core.job ≢ job) × (answer ≡ Err faults.Foreign))

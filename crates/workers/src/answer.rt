@@ -1,4 +1,4 @@
-//! What a book and the shares that came back are answered after the join.
+//! The answer to a job after the join, by its book and the shares that came back.
 
 ghost use Rattle.std.specs.Prelude.{◌≡◌, ◌<◌, ◌↔◌, [], length, true};
 ghost use Rattle.workers.specs.Settle.{AreSettled, IsSettled, IsShareOf};
@@ -11,11 +11,11 @@ use std::alloc::Global;
 use stm_core::Core;
 use version_arena::Arena;
 
-/// What a book and the shares that came back, in the order of their workers, are answered for a job, and the
-/// core's arena without records: Foreign where the core's job is another; else the fault that was written; else
-/// Foreign where the shares are not as many as the core's workers, or workers are not done, or a worker has not
-/// exactly one asking answered Done, or its share tells other counts than the core's; else the core's outcome,
-/// or Memory where memory ran out.
+/// The answer to a job, by its book and the shares that came back in the order of their workers; and the
+/// core's arena, without records. The answer is the first of these that applies: Foreign where the core has
+/// another job; the fault that was written; Foreign where workers are not done, where there is not one share
+/// per worker, where a worker has not exactly one ask that was answered Done, or where a share has other
+/// counts than the core; Memory where memory ran out; and else the core's outcome.
 pub fn settle(
     alloc: Global,
     book: Book,
@@ -49,7 +49,7 @@ fn answer_of(alloc: Global, book: &Book, shares: &[Share], job: &Job) -> Result<
     }
 }
 
-/// Whether workers are done, and their shares, in their order, are those that the core counted.
+/// Whether workers are done, and there is one share of each, in their order, which agrees with the core.
 fn are_settled(core: &Core, shares: &[Share]) -> bool
     ensures { (result ≡ true) ↔ AreSettled core.now shares.now }
 {
@@ -64,7 +64,8 @@ fn are_settled(core: &Core, shares: &[Share]) -> bool
     true
 }
 
-/// Whether a share is that of a worker, tells what the core counts of it, and has one asking answered Done.
+/// Whether a share is that of a worker, agrees with the core on its counts, and has exactly one ask that was
+/// answered Done.
 fn is_share_of(core: &Core, worker: usize, share: &Share) -> bool
     requires { worker < length core.now.state.tasks }
     ensures { (result ≡ true) ↔ IsShareOf worker core.now share.now }

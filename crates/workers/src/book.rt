@@ -12,9 +12,9 @@ use std::alloc::Global;
 use std::marker::Model;
 use stm_core::{AskResult, Core, NextStep, ReadResult, RecordFault};
 
-/// A core, and the first fault that was written beside it. A written ArenaFull or IncarnationLimit stands
-/// beside a core in which a worker's due step is refused so, and a written StepLimit beside one in which a
-/// worker's step count is 2^64 - 1.
+/// A core, and the first fault that was written beside it. A written ArenaFull or IncarnationLimit is true of
+/// the core: some worker's due step is refused for this limit. So is a written StepLimit: some worker has
+/// made 2^64 - 1 steps. A written fault is never BadCount.
 #[derive(Drop)]
 pub struct Book {
     core: Core,
@@ -36,7 +36,7 @@ impl Model for Book {
 }
 
 impl Book {
-    ghost use Rattle.std.specs.Prelude.{◌≡◌, ◌<◌, ◌≤◌, ◌↔◌, [], None, Some, true, length, get_or, IfErr, IfNone, IfOk, IfSome, OnOk};
+    ghost use Rattle.std.specs.Prelude.{◌≡◌, ◌<◌, ◌↔◌, ⊤, None, Some, true, length, get_or, IfErr, IfOk, OnOk};
     ghost use Rattle.mvmap.specs.Reading.{reading};
     ghost use Rattle.stm_state.specs.Done.{Reached};
     ghost use Rattle.stm_state.specs.Invariant.{Invariant};
@@ -60,14 +60,15 @@ impl Book {
         &self.core
     }
 
-    /// The first fault that was written.
+    /// The first fault that was written, if any.
     pub fn fault(&self) -> Option<RunFault>
         ensures { result ≡ self.now.fault }
     {
         self.fault
     }
 
-    /// What holds of the core and of the fault that was written beside it.
+    /// For a caller's proof: some list of worker steps leads to the core's state, the scheduler's invariant
+    /// holds, and the written fault is true of the core. Does nothing when it runs.
     pub fn holds(&self)
         ensures reached { Reached (block_in self.now.core) (length self.now.core.state.tasks) self.now.core.state }
         ensures invariant { Invariant (block_in self.now.core) (length self.now.core.state.tasks) self.now.core.state }
@@ -76,7 +77,7 @@ impl Book {
         self.core.holds();
     }
 
-    /// Writes a fault, unless one was written before, and gives the one that is written then.
+    /// Writes a fault, unless one was written before. Returns the first one that was written.
     pub(crate) fn write(&mut self, fault: RunFault) -> RunFault
         requires { MayWrite fault self.old.core }
         ensures first { result ≡ first_fault self.old.fault fault }
@@ -99,16 +100,16 @@ impl Book {
         core
     }
 
-    /// A worker without a task asks for work: None where all is done, else the step that it owes now.
-    /// Refused as the fault that was written before; else as Foreign where the worker owes another step or the
-    /// share tells other counts than the core's, and as StepLimit where its step count is 2^64 - 1. A refusal
-    /// is written, and core and share stay. Takes no memory.
+    /// A worker without a task asks for work. Returns None where all is done, else the step that it owes now.
+    /// Where a fault was written before, the call is refused with it. Otherwise it is refused as Foreign
+    /// where the worker owes another step or its share has other counts than the core, and as StepLimit where
+    /// the worker has made 2^64 - 1 steps. A refusal is written, and core and share stay. Takes no memory.
     #[tactic(auto, using(crate::proofs::Stays::stays, crate::proofs::Causes::unready_cause))]
     pub fn ask(&mut self, share: &mut Share) -> Result<Option<NextStep>, RunFault>
-        ensures made { OnOk result (IsMade steps.Ask self.old self.new share.old share.new) }
+        ensures made { OnOk result (IsMade next_step.Ask steps.Ask self.old self.new share.old share.new) }
         ensures asked { IfOk result (λ next. IsAsked next self.old.core self.new.core share.old share.new) }
         ensures refused { IfErr result (λ e. LeavesWritten e self.old self.new share.old share.new) }
-        ensures cause { IfErr result (λ e. IsCause (Owes next_step.Ask share.old self.old.core) ⊥ steps.Ask share.old.worker self.old e) }
+        ensures cause { IfErr result (λ e. IsCause (Owes next_step.Ask share.old self.old.core) ⊤ ⊥ steps.Ask share.old.worker self.old e) }
     {
         self.ready(share, NextStep::Ask)?;
         self.core.holds();
@@ -121,7 +122,8 @@ impl Book {
         })
     }
 
-    /// The run of a call at an incarnation reads the key that it asks for. Refused as `ask` is, and as Memory.
+    /// The run of a call at an incarnation reads the key that it asks for. Refused as `ask` is, and as Memory
+    /// where memory ran out.
     #[tactic(auto, using(crate::proofs::Stays::stays, crate::proofs::Causes::unready_cause))]
     pub fn read(
         &mut self,
@@ -130,11 +132,11 @@ impl Book {
         incarnation: u16,
         key: &Key,
     ) -> Result<ReadResult, RunFault>
-        ensures made { OnOk result (IsMade (steps.Read_key key.now) self.old self.new share.old share.new) }
+        ensures made { OnOk result (IsMade (next_step.Run call incarnation) (steps.Read_key key.now) self.old self.new share.old share.new) }
         ensures answer { IfOk result (λ answer. answer ≡ read_result_of self.old.core.job.store key.now (reading self.old.core.state.versions key.now call)) }
         ensures dones { OnOk result (share.new.dones ≡ share.old.dones) }
         ensures refused { IfErr result (λ e. LeavesWritten e self.old self.new share.old share.new) }
-        ensures cause { IfErr result (λ e. IsCause (Owes (next_step.Run call incarnation) share.old self.old.core) (get_or self.old.core.rooms share.old.worker 0 < 1) (steps.Read_key key.now) share.old.worker self.old e) }
+        ensures cause { IfErr result (λ e. IsCause (Owes (next_step.Run call incarnation) share.old self.old.core) ⊤ (get_or self.old.core.rooms share.old.worker 0 < 1) (steps.Read_key key.now) share.old.worker self.old e) }
     {
         self.ready(share, NextStep::Run { call, incarnation })?;
         stm_state::dones_grow_at_done();
@@ -146,8 +148,9 @@ impl Book {
         Ok(answer)
     }
 
-    /// The run of a call at an incarnation met an estimate: it is parked, or starts again. Gives the step that
-    /// the worker owes now. Refused as `ask` is, and as IncarnationLimit. Takes no memory.
+    /// The run of a call at an incarnation met an estimate: it is parked, or starts again. Returns the step
+    /// that the worker owes now. Refused as `ask` is, and as IncarnationLimit at incarnation 65,535. Takes no
+    /// memory.
     #[tactic(auto, using(crate::proofs::Stays::stays, crate::proofs::Causes::unready_cause))]
     pub fn park(
         &mut self,
@@ -155,11 +158,11 @@ impl Book {
         call: u16,
         incarnation: u16,
     ) -> Result<NextStep, RunFault>
-        ensures made { OnOk result (IsMade steps.Park self.old self.new share.old share.new) }
+        ensures made { OnOk result (IsMade (next_step.Park call incarnation) steps.Park self.old self.new share.old share.new) }
         ensures next { IfOk result (λ next. next ≡ next_step_of self.new.core.state (task_at self.new.core.state share.new.worker)) }
         ensures dones { OnOk result (share.new.dones ≡ share.old.dones) }
         ensures refused { IfErr result (λ e. LeavesWritten e self.old self.new share.old share.new) }
-        ensures cause { IfErr result (λ e. IsCause (Owes (next_step.Park call incarnation) share.old self.old.core) ⊥ steps.Park share.old.worker self.old e) }
+        ensures cause { IfErr result (λ e. IsCause (Owes (next_step.Park call incarnation) share.old self.old.core) ⊤ ⊥ steps.Park share.old.worker self.old e) }
     {
         self.ready(share, NextStep::Park { call, incarnation })?;
         stm_state::dones_grow_at_done();
@@ -172,9 +175,10 @@ impl Book {
         }
     }
 
-    /// The run of a call at an incarnation has ended and is handed in. Gives the step that the worker owes now.
-    /// Refused as `ask` is; as Foreign too where the run is not of that call or its answers are not those that
-    /// were given; else as ArenaFull, IncarnationLimit or Memory.
+    /// A worker hands in the ended run of a call at an incarnation. Returns the step that the worker owes
+    /// now. Refused as `ask` is, and as Foreign where the run is not of that call or its answers are not
+    /// those that were given. Otherwise refused as ArenaFull, IncarnationLimit or Memory, tested in this
+    /// order.
     #[tactic(auto, using(crate::proofs::Stays::stays, crate::proofs::Causes::unready_cause))]
     pub fn record(
         &mut self,
@@ -184,12 +188,12 @@ impl Book {
         incarnation: u16,
         run: EndedRun,
     ) -> Result<NextStep, RunFault>
-        ensures made { OnOk result (IsMade steps.Record self.old self.new share.old share.new) }
+        ensures made { OnOk result (IsMade (next_step.Run call incarnation) steps.Record self.old self.new share.old share.new) }
         ensures next { IfOk result (λ next. next ≡ next_step_of self.new.core.state (task_at self.new.core.state share.new.worker)) }
         ensures own { OnOk result (IsOwn share.old.worker run self.old.core) }
         ensures dones { OnOk result (share.new.dones ≡ share.old.dones) }
         ensures refused { IfErr result (λ e. LeavesWritten e self.old self.new share.old share.new) }
-        ensures cause { IfErr result (λ e. IsCause (Owes (next_step.Run call incarnation) share.old self.old.core × IsOwn share.old.worker run self.old.core) (IsTaken share.old.worker steps.Record self.old.core) steps.Record share.old.worker self.old e) }
+        ensures cause { IfErr result (λ e. IsCause (Owes (next_step.Run call incarnation) share.old self.old.core) (IsOwn share.old.worker run self.old.core) (IsTaken share.old.worker steps.Record self.old.core) steps.Record share.old.worker self.old e) }
     {
         self.ready(share, NextStep::Run { call, incarnation })?;
         stm_state::dones_grow_at_done();
@@ -202,8 +206,8 @@ impl Book {
         }
     }
 
-    /// A worker moves the next key of the run of a call at an incarnation that it handed in. Gives the step that
-    /// it owes now. Refused as `ask` is. Takes no memory.
+    /// A worker moves the next key of the run that it handed in, of a call at an incarnation. Returns the
+    /// step that the worker owes now. Refused as `ask` is. Takes no memory.
     #[tactic(auto, using(crate::proofs::Stays::stays, crate::proofs::Causes::unready_cause))]
     pub fn move_key(
         &mut self,
@@ -211,11 +215,11 @@ impl Book {
         call: u16,
         incarnation: u16,
     ) -> Result<NextStep, RunFault>
-        ensures made { OnOk result (IsMade steps.Move_key self.old self.new share.old share.new) }
+        ensures made { OnOk result (IsMade (next_step.MoveKey call incarnation) steps.Move_key self.old self.new share.old share.new) }
         ensures next { IfOk result (λ next. next ≡ next_step_of self.new.core.state (task_at self.new.core.state share.new.worker)) }
         ensures dones { OnOk result (share.new.dones ≡ share.old.dones) }
         ensures refused { IfErr result (λ e. LeavesWritten e self.old self.new share.old share.new) }
-        ensures cause { IfErr result (λ e. IsCause (Owes (next_step.MoveKey call incarnation) share.old self.old.core) ⊥ steps.Move_key share.old.worker self.old e) }
+        ensures cause { IfErr result (λ e. IsCause (Owes (next_step.MoveKey call incarnation) share.old self.old.core) ⊤ ⊥ steps.Move_key share.old.worker self.old e) }
     {
         self.ready(share, NextStep::MoveKey { call, incarnation })?;
         stm_state::dones_grow_at_done();
@@ -224,8 +228,8 @@ impl Book {
         Ok(self.core.doing(share.worker))
     }
 
-    /// The call at an incarnation whose keys a worker has moved is EXECUTED. Gives the step that the worker owes
-    /// now. Refused as `ask` is. Takes no memory.
+    /// The call at an incarnation whose keys a worker has moved becomes EXECUTED. Returns the step that the
+    /// worker owes now. Refused as `ask` is. Takes no memory.
     #[tactic(auto, using(crate::proofs::Stays::stays, crate::proofs::Causes::unready_cause))]
     pub fn finish_execution(
         &mut self,
@@ -233,11 +237,11 @@ impl Book {
         call: u16,
         incarnation: u16,
     ) -> Result<NextStep, RunFault>
-        ensures made { OnOk result (IsMade steps.Finish_execution self.old self.new share.old share.new) }
+        ensures made { OnOk result (IsMade (next_step.FinishExecution call incarnation) steps.Finish_execution self.old self.new share.old share.new) }
         ensures next { IfOk result (λ next. next ≡ next_step_of self.new.core.state (task_at self.new.core.state share.new.worker)) }
         ensures dones { OnOk result (share.new.dones ≡ share.old.dones) }
         ensures refused { IfErr result (λ e. LeavesWritten e self.old self.new share.old share.new) }
-        ensures cause { IfErr result (λ e. IsCause (Owes (next_step.FinishExecution call incarnation) share.old self.old.core) ⊥ steps.Finish_execution share.old.worker self.old e) }
+        ensures cause { IfErr result (λ e. IsCause (Owes (next_step.FinishExecution call incarnation) share.old self.old.core) ⊤ ⊥ steps.Finish_execution share.old.worker self.old e) }
     {
         self.ready(share, NextStep::FinishExecution { call, incarnation })?;
         stm_state::dones_grow_at_done();
@@ -246,29 +250,95 @@ impl Book {
         Ok(self.core.doing(share.worker))
     }
 
-    /// A worker checks the reads of the call that it validates at an incarnation. Gives the step that it owes
-    /// now. Refused as `ask` is. Takes no memory.
+    /// A worker checks the next read of the call that it validates at an incarnation. Returns the step that
+    /// the worker owes now. Refused as `ask` is. Takes no memory.
     #[tactic(auto, using(crate::proofs::Stays::stays, crate::proofs::Causes::unready_cause))]
-    pub fn validate(
+    pub fn check_read(
         &mut self,
         share: &mut Share,
         call: u16,
         incarnation: u16,
     ) -> Result<NextStep, RunFault>
-        ensures made { OnOk result (IsMade steps.Validate self.old self.new share.old share.new) }
+        ensures made { OnOk result (IsMade (next_step.CheckRead call incarnation) steps.Check_read self.old self.new share.old share.new) }
         ensures next { IfOk result (λ next. next ≡ next_step_of self.new.core.state (task_at self.new.core.state share.new.worker)) }
         ensures dones { OnOk result (share.new.dones ≡ share.old.dones) }
         ensures refused { IfErr result (λ e. LeavesWritten e self.old self.new share.old share.new) }
-        ensures cause { IfErr result (λ e. IsCause (Owes (next_step.Validate call incarnation) share.old self.old.core) ⊥ steps.Validate share.old.worker self.old e) }
+        ensures cause { IfErr result (λ e. IsCause (Owes (next_step.CheckRead call incarnation) share.old self.old.core) ⊤ ⊥ steps.Check_read share.old.worker self.old e) }
     {
-        self.ready(share, NextStep::Validate { call, incarnation })?;
+        self.ready(share, NextStep::CheckRead { call, incarnation })?;
         stm_state::dones_grow_at_done();
-        self.core.validate(share.worker);
+        self.core.check_read(share.worker);
         self.tell(share);
         Ok(self.core.doing(share.worker))
     }
 
-    /// Tests that the share's worker may make a step now; what is wrong is written.
+    /// A worker decides its validation of a call at an incarnation. Returns the step that the worker owes
+    /// now. Refused as `ask` is. Takes no memory.
+    #[tactic(auto, using(crate::proofs::Stays::stays, crate::proofs::Causes::unready_cause))]
+    pub fn decide(
+        &mut self,
+        share: &mut Share,
+        call: u16,
+        incarnation: u16,
+    ) -> Result<NextStep, RunFault>
+        ensures made { OnOk result (IsMade (next_step.Decide call incarnation) steps.Decide self.old self.new share.old share.new) }
+        ensures next { IfOk result (λ next. next ≡ next_step_of self.new.core.state (task_at self.new.core.state share.new.worker)) }
+        ensures dones { OnOk result (share.new.dones ≡ share.old.dones) }
+        ensures refused { IfErr result (λ e. LeavesWritten e self.old self.new share.old share.new) }
+        ensures cause { IfErr result (λ e. IsCause (Owes (next_step.Decide call incarnation) share.old self.old.core) ⊤ ⊥ steps.Decide share.old.worker self.old e) }
+    {
+        self.ready(share, NextStep::Decide { call, incarnation })?;
+        stm_state::dones_grow_at_done();
+        self.core.decide(share.worker);
+        self.tell(share);
+        Ok(self.core.doing(share.worker))
+    }
+
+    /// A worker marks the next key of the call that it aborts: the version there becomes an estimate. Returns
+    /// the step that the worker owes now. Refused as `ask` is. Takes no memory.
+    #[tactic(auto, using(crate::proofs::Stays::stays, crate::proofs::Causes::unready_cause))]
+    pub fn mark_estimate(
+        &mut self,
+        share: &mut Share,
+        call: u16,
+        incarnation: u16,
+    ) -> Result<NextStep, RunFault>
+        ensures made { OnOk result (IsMade (next_step.MarkEstimate call incarnation) steps.Mark_estimate self.old self.new share.old share.new) }
+        ensures next { IfOk result (λ next. next ≡ next_step_of self.new.core.state (task_at self.new.core.state share.new.worker)) }
+        ensures dones { OnOk result (share.new.dones ≡ share.old.dones) }
+        ensures refused { IfErr result (λ e. LeavesWritten e self.old self.new share.old share.new) }
+        ensures cause { IfErr result (λ e. IsCause (Owes (next_step.MarkEstimate call incarnation) share.old self.old.core) ⊤ ⊥ steps.Mark_estimate share.old.worker self.old e) }
+    {
+        self.ready(share, NextStep::MarkEstimate { call, incarnation })?;
+        stm_state::dones_grow_at_done();
+        self.core.mark_estimate(share.worker);
+        self.tell(share);
+        Ok(self.core.doing(share.worker))
+    }
+
+    /// The call that a worker has aborted is readied. Returns the step that the worker owes now. Refused as
+    /// `ask` is. Takes no memory.
+    #[tactic(auto, using(crate::proofs::Stays::stays, crate::proofs::Causes::unready_cause))]
+    pub fn finish_abort(
+        &mut self,
+        share: &mut Share,
+        call: u16,
+        incarnation: u16,
+    ) -> Result<NextStep, RunFault>
+        ensures made { OnOk result (IsMade (next_step.FinishAbort call incarnation) steps.Finish_abort self.old self.new share.old share.new) }
+        ensures next { IfOk result (λ next. next ≡ next_step_of self.new.core.state (task_at self.new.core.state share.new.worker)) }
+        ensures dones { OnOk result (share.new.dones ≡ share.old.dones) }
+        ensures refused { IfErr result (λ e. LeavesWritten e self.old self.new share.old share.new) }
+        ensures cause { IfErr result (λ e. IsCause (Owes (next_step.FinishAbort call incarnation) share.old self.old.core) ⊤ ⊥ steps.Finish_abort share.old.worker self.old e) }
+    {
+        self.ready(share, NextStep::FinishAbort { call, incarnation })?;
+        stm_state::dones_grow_at_done();
+        self.core.finish_abort(share.worker);
+        self.tell(share);
+        Ok(self.core.doing(share.worker))
+    }
+
+    /// Checks that the share's worker may make a step now. Refused as `ask` is; the fault is written.
     fn ready(&mut self, share: &Share, owed: NextStep) -> Result<(), RunFault>
         ensures ready { OnOk result (Owes owed share.now self.old.core × (self.old.fault ≡ None) × (share.now.counts.steps < COUNT_LIMIT) × (self.new ≡ self.old)) }
         ensures refused { IfErr result (λ e. self.new ≡ record self.old { fault = Some e }) }
@@ -286,7 +356,7 @@ impl Book {
         Ok(())
     }
 
-    /// Whether the share's worker owes a step, and the share tells the core's counts.
+    /// Whether the share's worker owes a step, and the share agrees with the core on its counts.
     fn is_owed(&self, share: &Share, owed: NextStep) -> bool
         ensures { (result ≡ true) ↔ Owes owed share.now self.now.core }
     {
@@ -296,7 +366,7 @@ impl Book {
             && self.core.dones(share.worker) == share.dones
     }
 
-    /// Lets a share tell what the core counts of its worker.
+    /// Copies the core's counts of a worker to its share.
     fn tell(&self, share: &mut Share)
         requires { share.old.worker < length self.now.core.state.tasks }
         ensures tells { Tells share.new self.now.core }

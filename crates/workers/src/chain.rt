@@ -13,7 +13,7 @@ use stm_core::WORKER_LIMIT;
 use thiserror::Error;
 use version_arena::Arena;
 
-/// Why a block of a chain comes to no receipts.
+/// Why a block of a chain has no receipts.
 #[derive(Clone, Copy, Debug, PartialEq, Eq, Error)]
 pub enum ChainFault {
     /// Its run was refused.
@@ -51,10 +51,11 @@ impl Executor {
     ghost use Rattle.rv_step.specs.Fold.{store_after};
     ghost use Rattle.workers.specs.Chain.{IsBlockAnswer, IsChain, calls_run, store_left};
 
-    /// Runs blocks in their order, each with its number of workers, each over the storage that the last block
-    /// answered Ok left. A block of more than 1,024 calls is answered TooManyCalls, before its number of
-    /// workers is looked at; any other as `run_block` answers. A refused block leaves the storage as it was,
-    /// and the chain goes on. Refused where memory ran out before the first block; then none is run.
+    /// Runs blocks in their order, each with its own number of workers. Each block runs over the storage that
+    /// the last block answered Ok left. A block of more than 1,024 calls is answered TooManyCalls, whatever
+    /// its number of workers. Any other block is answered as by `run_block`. A refused block leaves the
+    /// storage as it was, and the chain goes on. Refused where memory ran out before the first block; then no
+    /// block is run.
     #[tactic(auto, using(crate::proofs::Chains::no_blocks, crate::proofs::Chains::one_block_more, crate::proofs::Chains::chain_store))]
     pub fn run_chain<R: Threads + Wait + Sync>(
         &mut self,
@@ -80,7 +81,7 @@ impl Executor {
         })
     }
 
-    /// Runs one block of a chain over a storage. Gives its answer, and the storage that it leaves.
+    /// Runs one block of a chain over a storage. Returns its answer and the storage that it leaves.
     fn run_next_block<R: Threads + Wait + Sync>(
         &mut self,
         rt: &R,

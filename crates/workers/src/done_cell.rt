@@ -1,6 +1,6 @@
-//! The cell of a block, at which idle workers look outside the lock: whether an asking was answered Done.
+//! The cell of a block: whether an ask was answered Done. Idle workers look at it outside the lock.
 
-ghost use Rattle.std.specs.Prelude.{◌≡◌, ◌≤◌, slice_index};
+ghost use Rattle.std.specs.Prelude.{◌≡◌};
 ghost use Rattle.workers.specs.DoneCell.{IsOneWay, IsSeen};
 
 use crossbeam_utils::atomic::seq_cell::{Pass, RuledSeqCell};
@@ -10,7 +10,7 @@ use std::hint::spin_loop;
 use std::sync::Wait;
 use std::thread::yield_now;
 
-/// How often an idle worker looks at the cell before it asks for work again.
+/// How often an idle worker looks at the cell, at most, before it asks for work again.
 pub const LOOK_LIMIT: usize = 64;
 
 /// What the cell shows while its block runs.
@@ -45,7 +45,7 @@ pub struct DoneCell {
 }
 
 impl DoneCell {
-    ghost use Rattle.std.specs.Prelude.{◌≡◌, ◌↔◌, true, IfOk};
+    ghost use Rattle.std.specs.Prelude.{◌≡◌, ◌↔◌, true};
     ghost use Rattle.crossbeam_utils.specs.Seq.{IsSamePass, cell_view};
     ghost use Rattle.workers.specs.DoneCell.{IsPassOf};
 
@@ -64,7 +64,7 @@ impl DoneCell {
         self.cell.pass()
     }
 
-    /// Whether the cell shows done. A pass that has seen done sees done at every later look.
+    /// Whether the cell shows done. A pass that has seen done sees it at every later look.
     #[tactic(auto, using(crate::proofs::Ways::looks))]
     pub fn shows_done<R: Wait>(&self, rt: &R, pass: &mut DonePass) -> bool
         requires cell { IsPassOf self.now pass.old }

@@ -21,7 +21,7 @@ use std::{mem, thread};
 use stm_core::{Core, WORKER_LIMIT};
 use version_arena::Arena;
 
-/// Runs blocks one after another, over one arena, which has no records between two of them.
+/// Runs blocks one after another over one arena. The arena has no records between two blocks.
 #[derive(Drop)]
 pub struct Executor {
     pub(crate) arena: Arena,
@@ -42,11 +42,11 @@ impl Executor {
         }
     }
 
-    /// Runs a job on 1 to 32 threads. Refused as BadCount exactly where the number of workers is another, before
-    /// all else; as ArenaFull and IncarnationLimit only where some list of worker steps of this job comes to
-    /// that; as Memory where memory ran out, as Spawn where a thread was refused, as StepLimit where a worker
-    /// made 2^64 - 1 steps, and as Foreign where a worker or the core is not as it was left. Whatever is
-    /// answered, the executor may be used again.
+    /// Runs a job on 1 to 32 threads. Refused as BadCount exactly where the number of workers is another;
+    /// this is tested first. Refused as ArenaFull or IncarnationLimit only where some list of worker steps of
+    /// this job meets that limit; as Memory where memory ran out; as Spawn where a thread was refused; as
+    /// StepLimit where a worker has made 2^64 - 1 steps; and as Foreign where a worker or the core is not as
+    /// it was left. After every answer the executor may be used again.
     pub fn run_block<R: Threads + Wait + Sync>(
         &mut self,
         rt: &R,
@@ -66,7 +66,8 @@ impl Executor {
         self.run_block_with(rt, alloc, job, workers, &Open)
     }
 
-    /// `run_block` with a gate, at which each thread is held between the end of a run and its record.
+    /// `run_block` with a gate. Each thread passes it between the end of a run and its record, and may be
+    /// held there.
     pub fn run_block_with<R: Threads + Wait + Sync, G: Gate + Sync>(
         &mut self,
         rt: &R,
@@ -94,7 +95,8 @@ impl Executor {
     }
 }
 
-/// Runs a job on threads over an arena, which comes back without records.
+/// Runs a job on threads over an arena. The arena comes back without records. Refused as `run_block` is, but
+/// never as BadCount.
 pub(crate) fn run_over<R: Threads + Wait + Sync, G: Gate + Sync>(
     rt: &R,
     alloc: Global,
@@ -128,7 +130,7 @@ pub(crate) fn run_over<R: Threads + Wait + Sync, G: Gate + Sync>(
     (answer_by(answer, workers), arena)
 }
 
-/// The same answer, but Foreign in place of an outcome of another number of workers.
+/// The same answer, but Foreign where the outcome has the counts of another number of workers.
 fn answer_by(answer: Result<Outcome, RunFault>, workers: usize) -> Result<Outcome, RunFault>
     ensures ok { IfOk result (λ o. (answer ≡ Ok o) × (length o.counts.items ≡ workers)) }
     ensures err { IfErr result (λ e. (answer ≡ Err e) ⊎ (e ≡ faults.Foreign)) }
@@ -141,7 +143,8 @@ fn answer_by(answer: Result<Outcome, RunFault>, workers: usize) -> Result<Outcom
     }
 }
 
-/// The lock and the cell over a job's core at its start, and its workers' shares.
+/// The lock and the cell over a job's core at its start, and its workers' shares. Where memory ran out the
+/// arena is handed back, without records.
 fn share_out(
     alloc: Global,
     arena: Arena,
@@ -161,8 +164,8 @@ fn share_out(
     Shared::new(alloc, core)
 }
 
-/// Runs a thread for each share, and gives the shares of those that came to their end, once all have. A thread
-/// that is refused, or want of memory, is written.
+/// Runs a thread for each share, and waits for all of them. Returns the shares of the threads that were not
+/// refused. A fault is written where the system refuses a thread (Spawn), and where memory ran out (Memory).
 fn run_threads<R: Threads + Wait + Sync, G: Gate + Sync>(
     rt: &R,
     alloc: Global,

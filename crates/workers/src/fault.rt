@@ -8,9 +8,9 @@ use thiserror::Error;
 pub enum RunFault {
     /// The number of workers is not 1 to 32.
     BadCount = 1,
-    /// A worker, its share or the job is not the one that the core has.
+    /// A worker, its share, its run or the job is not the one that the core has.
     Foreign = 2,
-    /// There would be above 1,048,576 records of versions.
+    /// There would be more than 1,048,576 records of versions.
     ArenaFull = 3,
     /// A run at incarnation 65,535 was to be parked or recorded.
     IncarnationLimit = 4,
@@ -18,7 +18,7 @@ pub enum RunFault {
     Memory = 5,
     /// A thread was refused.
     Spawn = 6,
-    /// A worker's step count is 2^64 - 1.
+    /// A worker has made 2^64 - 1 steps.
     StepLimit = 7,
 }
 

@@ -1,4 +1,4 @@
-//! Where a thread may be held between the end of a run and its record.
+//! A place where a thread may be held, between the end of a run and its record.
 
 /// What a thread does between the end of a run and its record, outside the lock. Tests hold a worker there.
 pub trait Gate {

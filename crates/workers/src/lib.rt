@@ -1,4 +1,4 @@
-//! The parallel engine: threads that run the calls of a block outside one lock, and make their steps of the
+//! The parallel engine. Its threads run the calls of a block outside one lock, and make their steps on the
 //! core under it.
 #![tactic(auto)]
 

@@ -5,8 +5,8 @@ ghost use Rattle.std.specs.Prelude.{◌≡◌};
 use crate::done_cell::DonePass;
 use rv_ledger::Counts;
 
-/// A worker's share of the counts: zeros at first; the step calls of `Book` alone alter it. Beside it stands the
-/// worker's pass of the block's cell.
+/// A worker's share of the counts, with its pass of the block's cell. The counts start at zero, and only the
+/// step calls of `Book` change them.
 #[derive(Drop)]
 pub struct Share {
     pub(crate) worker: usize,
@@ -18,7 +18,7 @@ pub struct Share {
 impl Share {
     ghost use Rattle.workers.specs.Book.{zero_counts, counts_of_share};
 
-    /// The share of a worker that did nothing yet, with its pass.
+    /// The share of a worker that has done nothing yet, with its pass.
     pub(crate) fn new(worker: usize, pass: DonePass) -> Share
         ensures counts { counts_of_share result ≡ zero_counts worker }
         ensures pass { result.pass ≡ pass }
@@ -50,7 +50,7 @@ impl Share {
         self.counts
     }
 
-    /// How many askings of the worker were answered Done.
+    /// How many asks of the worker were answered Done.
     pub fn dones(&self) -> u64
         ensures { result ≡ self.now.dones }
     {

@@ -14,8 +14,8 @@ use std::sync::{Mutex, Wait};
 use stm_core::Core;
 use version_arena::Arena;
 
-/// What the threads of a block share: the lock, and beside it the calls, which they run without it, and the
-/// cell, at which they look without it.
+/// What the threads of a block share: the lock with the book, the calls, which they run outside the lock, and
+/// the cell, which they look at outside the lock.
 #[derive(Drop)]
 pub struct Shared {
     pub(crate) lock: Mutex<Book>,
@@ -28,9 +28,9 @@ impl Shared {
     ghost use Rattle.workers.specs.Book.{zero_counts_of_all, counts_of_share};
     ghost use Rattle.workers.specs.DoneCell.{IsPassOf};
 
-    /// The lock over a core at its start, with a cell that shows running, and one share of zeros for each of its
-    /// workers, in their order, each with a pass of the cell.
-    /// Where memory ran out the core's arena is handed back, without records.
+    /// The lock over a core at its start, with a cell that shows running. Beside it one share per worker, in
+    /// their order, each with counts of zero and a pass of the cell. Where memory ran out the core's arena is
+    /// handed back, without records.
     pub fn new(alloc: Global, core: Core) -> Result<(Shared, Vec<Share>), Arena>
         ensures shares { IfOk result (λ made. map counts_of_share made.1.items ≡ zero_counts_of_all (length core.state.tasks)) }
         ensures passes { IfOk result (λ made. All (λ share. IsPassOf made.0.cell share.pass) made.1.items) }
@@ -51,7 +51,7 @@ impl Shared {
         }
     }
 
-    /// What stands under the lock, once no thread has it any more.
+    /// The book that was under the lock, once no thread has the lock any more.
     pub fn into_book(self) -> Book {
         let Shared {
             lock,
@@ -61,8 +61,7 @@ impl Shared {
         lock.into_inner()
     }
 
-    /// Writes a fault that was met outside the lock, unless one was written before, and gives the one that is
-    /// written then.
+    /// Writes a fault that was met outside the lock, unless one was written before. Returns the first one.
     pub(crate) fn refuse<R: Wait>(&self, rt: &R, fault: OutsideFault) -> RunFault {
         self.lock.lock(rt).write(match fault {
             OutsideFault::Memory => RunFault::Memory,
@@ -83,7 +82,8 @@ pub(crate) enum OutsideFault {
     Foreign,
 }
 
-/// One share of zeros for each of so many workers, with a pass of the cell.
+/// One share per worker, in their order, each with counts of zero and a pass of the cell; refused where
+/// memory ran out.
 #[tactic(auto, using(crate::proofs::Zeros::no_shares))]
 fn new_shares(alloc: Global, workers: usize, cell: &DoneCell) -> Result<Vec<Share>, AllocError>
     ensures shares { IfOk result (λ shares. map counts_of_share shares.items ≡ zero_counts_of_all workers) }

@@ -13,10 +13,10 @@ use std::alloc::Global;
 use std::sync::Wait;
 use stm_core::{NextStep, ReadResult};
 
-/// The work of one thread, whose worker's share tells what the core counts of it: it makes this worker's steps
-/// until an asking is answered Done, and then hands back its own share. Refused as the step that was refused,
-/// and as Memory where memory ran out; the fault is written then, and the steps that were made stand. Where it
-/// is not refused the cell shows done.
+/// The work of one thread. It makes the steps of its share's worker until an ask is answered Done, and then
+/// hands the share back; the cell shows done then. Refused as the step call that was refused, as Memory where
+/// memory ran out, and as Foreign where the block has no such call. The fault is written, and the steps that
+/// were made stand.
 pub fn work<R: Wait, G: Gate>(
     rt: &R,
     alloc: Global,
@@ -53,19 +53,29 @@ pub fn work<R: Wait, G: Gate>(
                 .lock
                 .lock(rt)
                 .finish_execution(&mut share, call, incarnation)?,
-            NextStep::Validate { call, incarnation } => {
-                shared
-                    .lock
-                    .lock(rt)
-                    .validate(&mut share, call, incarnation)?
-            }
+            NextStep::CheckRead { call, incarnation } => shared
+                .lock
+                .lock(rt)
+                .check_read(&mut share, call, incarnation)?,
+            NextStep::Decide { call, incarnation } => shared
+                .lock
+                .lock(rt)
+                .decide(&mut share, call, incarnation)?,
+            NextStep::MarkEstimate { call, incarnation } => shared
+                .lock
+                .lock(rt)
+                .mark_estimate(&mut share, call, incarnation)?,
+            NextStep::FinishAbort { call, incarnation } => shared
+                .lock
+                .lock(rt)
+                .finish_abort(&mut share, call, incarnation)?,
         };
     }
     unreachable!()
 }
 
-/// Asks for work, and gives the step that the worker owes then: None where all is done, and then the cell shows
-/// it. A worker that gets no task looks at the cell before it asks again.
+/// Asks for work, and returns the step that the worker owes then. Returns None where all is done, and then
+/// the cell shows it. A worker that gets no task looks at the cell before it asks again.
 fn ask<R: Wait>(rt: &R, shared: &Shared, share: &mut Share) -> Result<Option<NextStep>, RunFault>
     requires cell { IsPassOf shared.now.cell share.old.pass }
     ensures cell { IsPassOf shared.now.cell share.new.pass }
@@ -82,8 +92,8 @@ fn ask<R: Wait>(rt: &R, shared: &Shared, share: &mut Share) -> Result<Option<Nex
     Ok(asked)
 }
 
-/// Runs a call outside the lock up to its record, or to a read that meets an estimate, and gives the step that
-/// the worker owes then.
+/// Runs a call outside the lock up to its record, or up to a read that meets an estimate. Returns the step
+/// that the worker owes then.
 fn run_call<R: Wait, G: Gate>(
     rt: &R,
     alloc: Global,
@@ -121,7 +131,7 @@ fn run_call<R: Wait, G: Gate>(
         .record(alloc, share, call, incarnation, ended)
 }
 
-/// A run of a call of the block before its first instruction.
+/// A run of a call of the block, before its first instruction.
 fn start<R: Wait>(rt: &R, alloc: Global, shared: &Shared, call: u16) -> Result<Run, RunFault> {
     match shared.block.calls().get(usize::from(call)) {
         Some(own) => match Run::start(alloc, own) {

@@ -1,8 +1,9 @@
-use Rattle.std.proofs.Common.{◌≡◌, ℕ, Bool, false, arith, get_or, length, sym, ap, ◌∙◌}
+use Rattle.std.proofs.Common.{◌≡◌, ℕ, Bool, false, arith, get_or, length, map, sym, ap, ◌∙◌, vec_items}
 use Rattle.std.proofs.lemmas.List.{length-map}
 use Rattle.stm_state.specs.Steps.{resume_if_parked}
 use Rattle.scheduler.specs.Schedule.{Schedule}
 use Rattle.scheduler.proofs.Awaited.{awaited_resumed, none_parked, none_resumed}
+use Rattle.scheduler.proofs.Written.{calls_resumed}
 use Rattle.scheduler.proofs.scheduler.Scheduler.resume_dependents.Goals as goal
 
 pub invariant_of-self : goal.invariant_of-self
@@ -15,6 +16,7 @@ invariant_of-self c =
       omega (arith, all, limit),
       awaited_resumed c.args.on c.from.result c.self.inside.calls.items c.resume_parked.new.calls.items c.self.inside.awaited.items c.resume_parked.result is
           (omega (arith, is, within, calls)) c.resume_parked.ensures.calls c.self.invariant.1 c.resume_parked.ensures.named,
+      calls_resumed c.self.inside.calls.items (map vec_items c.self.inside.written.items) c.self.inside.workers.items c.self.invariant.2 c.args.on c.resume_parked.new.calls.items c.resume_parked.ensures.calls,
     )
 
 pub returns-else-awaited : goal.returns-else-awaited

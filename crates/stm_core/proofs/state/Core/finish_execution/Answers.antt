@@ -13,6 +13,11 @@ finish_execution-requires-clause-counts c = may_count c.self.inside.job c.self.i
 pub finish_execution-requires-clause-within : goal.finish_execution-requires-clause-within
 finish_execution-requires-clause-within c = named_in c.self.inside.job c.self.inside.map c.self.inside.promised c.self.inside.scheduler c.self.invariant c.args.worker c.in-Moving.call (names_moving (get_or c.self.inside.scheduler.tasks c.args.worker Idle) c.in-Moving.call c.in-Moving.new_key c.in-Moving.ensures)
 
+pub finish_execution-requires-clause-moving : goal.finish_execution-requires-clause-moving
+finish_execution-requires-clause-moving c =
+    let due = due_at c.self.inside.job c.self.inside.map c.self.inside.promised c.self.inside.scheduler c.self.invariant c.args.self.now c.self.view_is c.args.worker Finish_execution c.requires in
+    finishes_moving (get_or c.self.inside.scheduler.tasks c.args.worker Idle) c.in-Moving.call c.in-Moving.new_key due.due_step c.in-Moving.ensures
+
 pub finish_execution-requires-clause-incarnations : goal.finish_execution-requires-clause-incarnations
 finish_execution-requires-clause-incarnations c = λ i at. aborting_low c.self.inside.job c.self.inside.map c.self.inside.promised c.self.inside.scheduler c.self.invariant i at
 

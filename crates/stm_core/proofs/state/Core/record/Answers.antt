@@ -5,7 +5,7 @@ use Rattle.stm_state.specs.Steps.{Record}
 use Rattle.stm_core.specs.CoreState.{IsTaken}
 use Rattle.stm_core.specs.Inner.{state_in}
 use Rattle.stm_core.proofs.Parted.{names_running, records_running, runs_one}
-use Rattle.stm_core.proofs.Made.{both_ways, due_at, grown_reached, may_count, named_in, own_made, placed_within}
+use Rattle.stm_core.proofs.Made.{both_ways, due_at, executing_at, grown_reached, may_count, named_in, nobody_moves, own_made, placed_within}
 use Rattle.stm_core.proofs.Handed.{record_reached}
 use Rattle.stm_core.proofs.state.Core.record.Goals as goal
 
@@ -17,6 +17,18 @@ record_run-requires-clause-counts c = may_count c.self.inside.job c.self.inside.
 
 pub record_run-requires-clause-within : goal.record_run-requires-clause-within
 record_run-requires-clause-within c = named_in c.self.inside.job c.self.inside.map c.self.inside.promised c.self.inside.scheduler c.self.invariant c.args.worker c.in-Running.call (names_running (get_or c.self.inside.scheduler.tasks c.args.worker Idle) c.in-Running.call c.in-Running.blocked c.in-Running.ensures)
+
+pub record_run-requires-clause-executing : goal.record_run-requires-clause-executing
+record_run-requires-clause-executing c =
+    let due = due_at c.self.inside.job c.self.inside.map c.self.inside.promised c.self.inside.scheduler c.self.invariant c.args.self.now c.self.view_is c.args.worker Record c.requires in
+    let runs = records_running (get_or c.self.inside.scheduler.tasks c.args.worker Idle) c.in-Running.call c.in-Running.blocked due.due_step c.in-Running.ensures in
+    executing_at c.self.inside.job c.self.inside.map c.self.inside.promised c.self.inside.scheduler c.self.invariant c.args.worker c.in-Running.call runs.0 _ runs.1
+
+pub record_run-requires-clause-nobody : goal.record_run-requires-clause-nobody
+record_run-requires-clause-nobody c =
+    let due = due_at c.self.inside.job c.self.inside.map c.self.inside.promised c.self.inside.scheduler c.self.invariant c.args.self.now c.self.view_is c.args.worker Record c.requires in
+    let runs = records_running (get_or c.self.inside.scheduler.tasks c.args.worker Idle) c.in-Running.call c.in-Running.blocked due.due_step c.in-Running.ensures in
+    nobody_moves c.self.inside.job c.self.inside.map c.self.inside.promised c.self.inside.scheduler c.self.invariant c.args.worker c.in-Running.call runs.0 _ runs.1
 
 pub record_run-requires-clause-placed : goal.record_run-requires-clause-placed
 record_run-requires-clause-placed c = placed_within c.self.inside.job c.self.inside.map c.self.inside.promised c.self.inside.scheduler c.self.invariant

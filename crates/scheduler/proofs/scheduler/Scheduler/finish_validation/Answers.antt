@@ -1,8 +1,0 @@
-use Rattle.std.proofs.Common.{ap, ◌∙◌}
-use Rattle.stm_state.specs.declared.state.Task.TheVariants.{Idle}
-use Rattle.stm_state.specs.State.{with_task}
-use Rattle.scheduler.specs.Schedule.{Schedule, state_of}
-use Rattle.scheduler.proofs.scheduler.Scheduler.finish_validation.Goals as goal
-
-pub returns-clause-state : goal.returns-clause-state
-returns-clause-state c = λ v p. c.begin.ensures.state v p ∙ ap (λ (t : Schedule). with_task c.args.worker Idle (state_of v p t)) c.count_decision.ensures

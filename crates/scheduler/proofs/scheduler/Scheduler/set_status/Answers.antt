@@ -1,0 +1,21 @@
+use Rattle.std.proofs.Common.{◌≡◌, ◌<◌, ◌∙◌, ap, arith, get_or, length, length-set, map, vec_items}
+use Rattle.std.proofs.lemmas.List.{get_or_default}
+use Rattle.stm_state.specs.declared.state.CallState.{CallState}
+use Rattle.stm_state.specs.State.{fresh}
+use Rattle.scheduler.specs.Schedule.{Schedule}
+use Rattle.scheduler.proofs.Awaited.{awaited_set}
+use Rattle.scheduler.proofs.Written.{call_set}
+use Rattle.scheduler.proofs.scheduler.Scheduler.set_status.Goals as goal
+
+pub invariant_of-self : goal.invariant_of-self
+invariant_of-self c =
+    let calls = c.self.inside.calls.items in
+    let i = c.from.result in
+    let is = c.from.ensures in
+    let old = c.index_mut.result.now in
+    let lengths = ap (λ (t : Schedule). length t.calls) c.self.view_is in
+    let within : i < length calls = omega (arith, is, lengths, c.requires.within) in
+    let was : old ≡ get_or calls i fresh = c.index_mut.ensures.value ∙ get_or_default calls i old fresh within in
+    let new : CallState = record old { status = c.args.status } in
+    let kept = call_set calls (map vec_items c.self.inside.written.items) c.self.inside.workers.items c.self.invariant.2 i new within (ap (λ (k : CallState). k.last) was) (c.requires.status) in
+    (omega (arith, length-set calls i new, c.self.invariant.0), awaited_set calls c.self.inside.awaited.items i new c.self.invariant.1 within (ap (λ (k : CallState). k.parked) was), kept)

@@ -1,0 +1,65 @@
+//! The scheduler's call for a worker that asks for work.
+
+use crate::calls;
+use crate::scheduler::Scheduler;
+use stm_state::Status;
+
+impl Scheduler {
+    ghost use Rattle.std.specs.Prelude.{◌≡◌, ◌≤◌, ◌<◌, ℕ, get_or, length};
+    ghost use Rattle.mvmap.specs.Versions.{Versions};
+    ghost use Rattle.stm_state.specs.Steps.{ask_execution, ask_validation, asked, counted, one_asking};
+    ghost use Rattle.stm_state.specs.declared.state.Task.TheVariants as Task;
+    ghost use Rattle.scheduler.specs.Schedule.{KeepsRooms, MayCount, state_of};
+
+    /// Answers the asking of a worker without a task (Block-STM, `next_task`). Where all is done this counts
+    /// an asking answered Done. Else the validation index goes up if it is behind the execution index, or
+    /// the execution index if a call is left. The worker gets the call there to validate or to run, or no
+    /// task where that call needs neither now. Takes no memory.
+    pub fn ask(&mut self, worker: usize)
+        requires counts { MayCount worker self.old }
+        requires idle { get_or self.old.tasks worker Task.Idle ≡ Task.Idle }
+        requires execution { self.old.execution ≤ length self.old.calls }
+        ensures state { (v : Versions) (p : ℕ) → state_of v p self.new ≡ counted one_asking worker (asked worker (state_of v p self.old)) }
+        ensures rooms { KeepsRooms worker self.old.rooms self.new.rooms }
+    {
+        self.count_asking(worker);
+        if self.done() {
+            self.count_done(worker);
+        } else if self.is_validation_behind() {
+            self.ask_validation(worker);
+        } else if self.is_execution_behind() {
+            self.ask_execution(worker);
+        }
+    }
+
+    /// Moves the validation index past its call; the worker validates that call if it is EXECUTED.
+    #[tactic(auto, unfolding(stm_state::specs::Steps::ask_validation))]
+    fn ask_validation(&mut self, worker: usize)
+        requires idle { worker < length self.old.tasks }
+        requires behind { self.old.validation < self.old.execution }
+        requires within { self.old.execution ≤ length self.old.calls }
+        ensures state { (v : Versions) (p : ℕ) → state_of v p self.new ≡ ask_validation worker (state_of v p self.old) }
+        ensures rooms { KeepsRooms worker self.old.rooms self.new.rooms }
+    {
+        let index = self.next_validation();
+        if calls::is_executed(self.call(index)) {
+            let task_kind = calls::validation_of(self.call(index), index);
+            self.begin(worker, task_kind);
+        }
+    }
+
+    /// Moves the execution index past its call; the worker runs that call if it is READY.
+    #[tactic(auto, unfolding(stm_state::specs::Steps::ask_execution))]
+    fn ask_execution(&mut self, worker: usize)
+        requires idle { worker < length self.old.tasks }
+        requires behind { self.old.execution < length self.old.calls }
+        ensures state { (v : Versions) (p : ℕ) → state_of v p self.new ≡ ask_execution worker (state_of v p self.old) }
+        ensures rooms { KeepsRooms worker self.old.rooms self.new.rooms }
+    {
+        let index = self.next_execution();
+        if calls::is_ready(self.call(index)) {
+            self.set_status(index, Status::Executing);
+            self.run_again(worker, index);
+        }
+    }
+}

@@ -1,0 +1,201 @@
+-- Checking a read of a call, and ending a validation, keep the invariant.
+use Rattle.std.proofs.Common.{◌≡◌, ◌<◌, ◌≤◌, ◌≢◌, ◌⊎◌, ◌+◌, ◌-◌, ◌==◌, ℕ, suc, Bool, true, false, length, slice_get, None, Some, arith, refl, sym, ap, subst, ◌∙◌, inl, inr, length-set}
+use Rattle.std.proofs.lemmas.Bool.{cases_eq, cases_lt, cond_both, and_parts, and_from}
+use Rattle.std.proofs.lemmas.List.{get_or-set_same, get_or-set_other}
+use Rattle.std.proofs.lemmas.Option.{slice_get_within}
+use Rattle.read_set.specs.declared.Read.{Read}
+use Rattle.mvmap.specs.Versions.{entry_at}
+use Rattle.mvmap.specs.Reading.{stands_among}
+use Rattle.stm_state.specs.declared.state.Status.TheVariants.{Executed}
+use Rattle.stm_state.specs.declared.state.CallState.{CallState}
+use Rattle.stm_state.specs.declared.state.Task.{Task}
+use Rattle.stm_state.specs.declared.state.Task.TheVariants.{Idle, Validating}
+use Rattle.stm_state.specs.State.{State, call_at, task_at, with_task, is_executed}
+use Rattle.stm_state.specs.Steps.{Block, reads_of, is_executed_at, read_stands, next_stands, checked}
+use Rattle.stm_state.specs.Invariant.{view_of, ViewInvariant, Invariant, IsChecked, IsCovered, IsSized, validated, ahead, lowered_by, named_by, owned_by}
+use Rattle.stm_state.proofs.Frames.{Frame, frame_kept, none_waits, unowned, unturned}
+use Rattle.stm_state.proofs.Rests.{rested_facts}
+use Rattle.stm_state.proofs.Safes.{checked_on, safe_still}
+use Rattle.stm_state.proofs.Tests.{is_executed_says, equal_says, equal_itself, resized}
+
+-- what the test for an incarnation says
+pub executed_at_says : (n : ℕ) (call : CallState) → is_executed_at n call ≡ true → (call.status ≡ Executed) × (call.incarnation ≡ n)
+executed_at_says n call h = let both = and_parts (is_executed call.status) (call.incarnation == n) h in (is_executed_says call.status both.0, equal_says call.incarnation n both.1)
+
+pub executed_at_is : (n : ℕ) (call : CallState) → call.status ≡ Executed → n ≡ call.incarnation → is_executed_at n call ≡ true
+executed_at_is n call done at = and_from (is_executed call.status) (call.incarnation == n) (ap is_executed done) (ap (λ x. call.incarnation == x) at ∙ equal_itself call.incarnation)
+
+module _ (block : Block) (s : State) (w i n left : ℕ) (failed : Bool) (f : ViewInvariant block (view_of s)) (checks : task_at s w ≡ Validating i n left failed) (w_in : w < length s.tasks) where
+  -- the worker has no call
+  pub has_none : (j : ℕ) → owned_by (task_at s w) ≢ Some j
+  has_none j h = let none : owned_by (task_at s w) ≡ None = ap owned_by checks in cc
+
+  -- nor is it ahead of one
+  pub lowers_none : (j : ℕ) → lowered_by (task_at s w) ≢ Some j
+  lowers_none j h = let none : lowered_by (task_at s w) ≡ None = ap lowered_by checks in cc
+
+  -- what a validation says of this worker's task
+  pub own_task : (j m k : ℕ) (b : Bool) → task_at s w ≡ Validating j m k b → (i ≡ j) × (n ≡ m) × (left ≡ k) × (failed ≡ b)
+  own_task j m k b h = (cc, cc, cc, cc)
+
+  -- the state with another task of the worker
+  abbrev after : Task → State
+  after task = with_task w task s
+
+  -- what is yet to be met of a call is so, where what this task had to meet is so or stands
+  cover_on : (task : Task) (j place : ℕ) (read : Read)
+      → ((k : ℕ) (b : Bool) → task_at s w ≡ Validating j (call_at s j).incarnation k b → (b ≡ true) ⊎ (length (reads_of (call_at s j).last) ≤ place + k) → (stands_among (entry_at s.versions) j read ≡ true) ⊎ IsCovered (view_of (after task)) j place)
+      → IsCovered (view_of s) j place → (stands_among (entry_at s.versions) j read ≡ true) ⊎ IsCovered (view_of (after task)) j place
+  cover_on task j place read own (validated x k b at meets) = elim (cases_eq x w) [
+    | inl e ↦ own k b (ap (task_at s) (sym e) ∙ at) meets
+    | inr ne ↦ inr (checked_on (view_of s) (view_of (after task)) j x k place b refl (get_or-set_other s.tasks w x task Idle ne ∙ at) meets)
+  ]
+  cover_on task j place read own (ahead q) = elim (cases_eq q.worker w) [
+    | inl e ↦ absurd (lowers_none q.call (ap (λ y. lowered_by (task_at s y)) (sym e) ∙ q.task))
+    | inr ne ↦ inr (ahead (record { worker = q.worker; call = q.call; task = ap lowered_by (get_or-set_other s.tasks w q.worker task Idle ne) ∙ q.task; lower = q.lower }))
+  ]
+
+  -- ---- the task ends
+
+  -- each task is as before, or ended without having a call
+  ended_tasks : (x : ℕ) → (task_at (after Idle) x ≡ task_at s x) ⊎ ((task_at (after Idle) x ≡ Idle) × (owned_by (task_at s x) ≡ None))
+  ended_tasks x = elim (cases_eq x w) [
+    | inl e ↦ inr (ap (task_at (after Idle)) e ∙ get_or-set_same s.tasks w Idle Idle w_in, ap (λ y. owned_by (task_at s y)) e ∙ ap owned_by checks)
+    | inr ne ↦ inl (get_or-set_other s.tasks w x Idle Idle ne)
+  ]
+
+  -- the task has nothing more to meet: the call is not EXECUTED at the incarnation, or all checks stood and no read is left
+  abbrev pub HasNoMore : Type 0
+  HasNoMore = is_executed_at n (call_at s i) ≡ true → (failed ≡ false) × (left ≡ 0)
+
+  -- so it meets no read of an EXECUTED call
+  meets_none : HasNoMore → (j place k : ℕ) (b : Bool) (read : Read) → (call_at s j).status ≡ Executed → slice_get (reads_of (call_at s j).last) place ≡ Some read → task_at s w ≡ Validating j (call_at s j).incarnation k b
+      → (b ≡ true) ⊎ (length (reads_of (call_at s j).last) ≤ place + k) → ⊥
+  meets_none no_more j place k b read done at task meets =
+      let own = own_task j (call_at s j).incarnation k b task in
+      let same_left = own.2 in
+      let same_failed = own.3 in
+      let none = no_more (ap (λ y. is_executed_at n (call_at s y)) own.0 ∙ executed_at_is n (call_at s j) done own.1) in
+      let none_left = none.1 in
+      let none_failed = none.0 in
+      let within = slice_get_within (reads_of (call_at s j).last) place read at in
+      elim meets [ inl bad ↦ cc | inr late ↦ omega (arith, late, same_left, none_left, within) ]
+
+  -- the task may end where it has nothing more to meet
+  pub ends : HasNoMore → ViewInvariant block (view_of (with_task w Idle s))
+  ends no_more = rested_facts block (view_of s) (task_at (after Idle)) s.execution s.validation f ended_tasks f.execution_within f.validation_within f.ready
+      (λ j h l. safe_still (view_of s) (view_of (after Idle)) j refl (λ read k. k)
+      (λ place read at. cover_on Idle j place read (λ k b task meets. absurd (meets_none no_more j place k b read h at task meets))) (f.safe j h l))
+
+  -- ---- the task goes on
+
+  -- what a check changes
+  check_frame : (k : ℕ) (b : Bool) → (call_at s i).status ≡ Executed → (call_at s i).incarnation ≡ n → k ≤ length (reads_of (call_at s i).last) → Frame block (view_of s) (view_of (after (Validating i n k b))) i w (call_at s i) (Validating i n k b)
+  check_frame k b done at few = record {
+    calls = λ j ne. refl;
+    tasks = λ x ne. get_or-set_other s.tasks w x (Validating i n k b) Idle ne;
+    entries = λ j key ne. refl;
+    call = refl;
+    task = get_or-set_same s.tasks w (Validating i n k b) Idle w_in;
+    execution_within = f.execution_within;
+    validation_within = f.validation_within;
+    named = λ j h. f.named w j (ap named_by checks ∙ h);
+    ready_others = λ j ne h. h;
+    ready = f.ready i;
+    was = λ j h. absurd (has_none j h);
+    alone = λ x h. absurd (unowned block (view_of s) f i (λ q. cc) (λ q. cc) x h);
+    now = inr (λ h. cc, inr refl);
+    blocked = λ j x xs h. cc;
+    aborting = λ h. cc;
+    unparked = f.unparked i;
+    nobody_waits = λ _. none_waits block (view_of s) f i done;
+    limit = f.limit i;
+    executed_limit = f.executed_limit i;
+    aborting_limit = f.aborting_limit i;
+    grows = omega arith;
+    past = λ m h. h;
+    versions = λ key m x h. inl h;
+    known = λ key m x h. inl h;
+    own_entries = λ _ key. f.entries i key (unturned block (view_of s) f i (λ h. cc) (λ h. cc));
+    own_moving = λ j keys new h. cc;
+    own_marking = λ j keys h. cc;
+    executed = f.executed i;
+    recorded = f.recorded i;
+    answered = λ j xs waits h. cc;
+    validating = λ j m x y h. (cc, let one : n ≡ m = cc in sym one ∙ sym at, inl (done, let same : k ≡ x = cc in omega (arith, same, few)));
+    current = λ x y z ne h. f.current x i y z h;
+  }
+
+  module _ (k : ℕ) (b : Bool) (is : is_executed_at n (call_at s i) ≡ true) (fewer : k ≤ left) (stays : failed ≡ true → b ≡ true)
+      (meet : (place : ℕ) (read : Read) → slice_get (reads_of (call_at s i).last) place ≡ Some read → length (reads_of (call_at s i).last) ≤ place + left → (stands_among (entry_at s.versions) i read ≡ true) ⊎ ((b ≡ true) ⊎ (length (reads_of (call_at s i).last) ≤ place + k))) where
+    -- the task afterwards
+    abbrev task : Task
+    task = Validating i n k b
+
+    -- the call is EXECUTED at the incarnation
+    at : ((call_at s i).status ≡ Executed) × ((call_at s i).incarnation ≡ n)
+    at = executed_at_says n (call_at s i) is
+
+    -- it has so many reads
+    few : IsChecked (call_at s i) left → k ≤ length (reads_of (call_at s i).last)
+    few (inl q) = let most = q.1 in omega (arith, most, fewer)
+    few (inr q) = let other = q.0 in let done = at.0 in cc
+
+    -- the task validates the call at its incarnation
+    now : task_at (after task) w ≡ Validating i (call_at s i).incarnation k b
+    now = get_or-set_same s.tasks w task Idle w_in ∙ ap (λ x. Validating i x k b) (sym at.1)
+
+    -- what the task had to meet stands, or the task must still meet it
+    meets_still : (j : ℕ) → i ≡ j → (place x : ℕ) (y : Bool) (read : Read) → left ≡ x → failed ≡ y → slice_get (reads_of (call_at s j).last) place ≡ Some read → (y ≡ true) ⊎ (length (reads_of (call_at s j).last) ≤ place + x)
+        → (stands_among (entry_at s.versions) j read ≡ true) ⊎ IsCovered (view_of (after task)) j place
+    meets_still j same = subst (λ j. (place x : ℕ) (y : Bool) (read : Read) → left ≡ x → failed ≡ y → slice_get (reads_of (call_at s j).last) place ≡ Some read → (y ≡ true) ⊎ (length (reads_of (call_at s j).last) ≤ place + x)
+        → (stands_among (entry_at s.versions) j read ≡ true) ⊎ IsCovered (view_of (after task)) j place) same
+        (λ place x y read same_left same_failed there meets. elim meets [
+          | inl bad ↦ inr (validated w k b now (inl (stays (same_failed ∙ bad))))
+          | inr late ↦ elim (meet place read there (omega (arith, late, same_left))) [ inl stand ↦ inl stand | inr again ↦ inr (validated w k b now again) ]
+        ])
+
+    -- a check may leave fewer reads to check, where the others stand, and may fail
+    pub goes : ViewInvariant block (view_of (with_task w (Validating i n k b) s))
+    goes =
+        let m = check_frame k b at.0 at.1 (few (f.current w i left failed (checks ∙ ap (λ x. Validating i x left failed) (sym at.1)))) in
+        frame_kept block (view_of s) (view_of (after task)) i w (call_at s i) task m f
+        (λ j h l. safe_still (view_of s) (view_of (after task)) j refl (λ read q. q)
+        (λ place read there. cover_on task j place read (λ x y own meets. let same = own_task j (call_at s j).incarnation x y own in meets_still j same.0 place x y read same.2 same.3 there meets)) (f.safe j h l))
+
+-- ---- a check of a read
+
+-- where the next read stands, a read that is left to check stands or is left afterwards
+next_met : (s : State) (i left : ℕ) → next_stands i (suc left) s ≡ true → (place : ℕ) (read : Read) → slice_get (reads_of (call_at s i).last) place ≡ Some read → length (reads_of (call_at s i).last) ≤ place + suc left
+    → (stands_among (entry_at s.versions) i read ≡ true) ⊎ ((false ≡ true) ⊎ (length (reads_of (call_at s i).last) ≤ place + left))
+next_met s i left stand place read at late = elim (cases_lt (place + left) (length (reads_of (call_at s i).last))) [
+  | inl first ↦
+      let same : place ≡ length (reads_of (call_at s i).last) - suc left = omega (arith, late, first) in
+      inl (sym (ap (read_stands s.versions i) (ap (slice_get (reads_of (call_at s i).last)) (sym same) ∙ at)) ∙ stand)
+  | inr later ↦ inr (inr later)
+]
+
+-- a check of a read keeps the facts of the invariant
+checked_facts : (block : Block) (s : State) (w i n left : ℕ) → ViewInvariant block (view_of s) → task_at s w ≡ Validating i n (suc left) false → w < length s.tasks → ViewInvariant block (view_of (checked w i n left s))
+unfolding checked
+checked_facts block s w i n left f checks w_in = cond_both (is_executed_at n (call_at s i)) _ _ (λ t. ViewInvariant block (view_of t))
+    (λ is. cond_both (next_stands i (suc left) s) _ _ (λ t. ViewInvariant block (view_of t))
+    (λ stand. goes block s w i n (suc left) false f checks w_in left false is (omega arith) (λ h. h) (next_met s i left stand))
+    (λ _. goes block s w i n (suc left) false f checks w_in (suc left) true is (omega arith) (λ h. refl) (λ place read at late. inr (inl refl))))
+    (λ none. ends block s w i n (suc left) false f checks w_in (λ is. cc))
+
+-- a check of a read keeps the sizes
+checked_sized : (count workers w i n left : ℕ) (s : State) → IsSized count workers s → IsSized count workers (checked w i n left s)
+unfolding checked
+checked_sized count workers w i n left s h = cond_both (is_executed_at n (call_at s i)) _ _ (λ t. IsSized count workers t)
+    (λ _. cond_both (next_stands i (suc left) s) _ _ (λ t. IsSized count workers t)
+    (λ _. resized count workers s _ refl (length-set s.tasks w _) refl refl h)
+    (λ _. resized count workers s _ refl (length-set s.tasks w _) refl refl h))
+    (λ _. resized count workers s _ refl (length-set s.tasks w _) refl refl h)
+
+-- a check of a read keeps the invariant
+pub check_kept : (block : Block) (workers w i n left : ℕ) (s : State) → Invariant block workers s → w < workers → task_at s w ≡ Validating i n (suc left) false → Invariant block workers (checked w i n left s)
+check_kept block workers w i n left s h w_in checks = record {
+  sized = checked_sized block.count workers w i n left s h.sized;
+  facts = checked_facts block s w i n left h.facts checks (let e = h.sized.tasks in omega (arith, e));
+}
