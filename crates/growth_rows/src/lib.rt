@@ -1,7 +1,8 @@
-//! Tests of library calls whose requests for memory fail: a call that is refused leaves what it should, and a
-//! second try gives the full result. `scripts/growths` lets each request fail in turn; without it none does.
+//! Tests of library calls of which one request for memory is refused.
 #![tactic(auto)]
 
+#[cfg(test)]
+mod cores;
 #[cfg(test)]
 mod drives;
 #[cfg(test)]
@@ -9,6 +10,10 @@ mod images;
 #[cfg(test)]
 mod replays;
 #[cfg(test)]
+mod rows;
+#[cfg(test)]
 mod runs;
 #[cfg(test)]
 mod texts;
+#[cfg(test)]
+mod threads;

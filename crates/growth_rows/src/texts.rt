@@ -3,22 +3,54 @@
 use crate::images::{KEY, TOUCH, in_order, job_of};
 use block_file::{BlockFault, Cause, parse};
 use receipts::{WriteFault, write_outcome};
+use rv_ledger::Outcome;
+use std::alloc::{AllocError, Global};
+use std::process::Abort;
 use std::test::Fail;
 
-/// A result that is refused as Memory is written as a beginning of its text.
+/// The text of a block of one call of TOUCH, whose word lies at 0x00020000.
+const TOUCH_TEXT: &[u8] = b"\
+    call 0 returned gas 24 pc 00010020 out 08000000\n\
+    regs 00000000 00000000 00110000 00000000 00000000 00020000 00000008 00000000 \
+    00000000 00000000 00020000 00000004 00000000 00000000 00000000 00000000 \
+    00000000 00000003 00000000 00000000 00000000 00000000 00000000 00000000 \
+    00000000 00000000 00000000 00000000 00000000 00000000 00000000 00000000\n\
+    end\n";
+
+/// Room for a text. A growth that is refused is tried once more.
+fn room(alloc: Global) -> Result<Vec<u8>, AllocError> {
+    match Vec::with_capacity(alloc, 1024) {
+        Ok(room) => Ok(room),
+        Err(_) => Vec::with_capacity(alloc, 1024),
+    }
+}
+
+/// Writes the result of TOUCH. Where that is refused as Memory, a beginning of the text was written, and the second
+/// try writes the whole.
+fn write(
+    rt: &impl Abort,
+    alloc: Global,
+    outcome: &Outcome,
+    text: &mut Vec<u8>,
+) -> Result<(), WriteFault> {
+    match write_outcome(alloc, outcome, text) {
+        Err(WriteFault::Memory) => {
+            assert!(rt; TOUCH_TEXT.starts_with(text.as_slice()));
+            text.clear();
+            write_outcome(alloc, outcome, text)
+        }
+        answer => answer,
+    }
+}
+
+/// The result of TOUCH is written as the whole of its text, at the second try where it is refused as Memory.
 #[test]
 fn write_growths_refused(rt: HostRuntime) -> Result<(), Fail> {
     let alloc = rt.alloc();
-    let outcome = in_order(alloc, &job_of(alloc, TOUCH, KEY, 1)?)?;
-    let mut first = [0; 1024];
-    let mut second = [0; 1024];
-    let mut place = first.as_mut_slice();
-    if let Err(WriteFault::Memory) = write_outcome(alloc, &outcome, &mut place) {
-        let written = 1024 - place.len();
-        let mut place = second.as_mut_slice();
-        write_outcome(alloc, &outcome, &mut place)?;
-        assert!(rt; second.starts_with(&first[..written]));
-    }
+    let outcome = in_order(alloc, &job_of(alloc, &[(TOUCH, KEY)])?)?;
+    let mut text = room(alloc)?;
+    write(&rt, alloc, &outcome, &mut text)?;
+    assert_eq!(rt; text.as_slice(), TOUCH_TEXT);
     Ok(())
 }
 
