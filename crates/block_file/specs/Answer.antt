@@ -1,16 +1,16 @@
--- What a function of this crate answers, beside what is wanted of it.
+-- How the answer of a function of this crate agrees with the answer that is wanted.
 use Rattle.std.specs.Prelude.{◌≡◌, ◌≢◌, ◌≤◌, ◌⊎◌, Result, Ok, Err, IfErr}
 use Rattle.std.specs.Result.{result_map_both}
 use Rattle.block_file.specs.declared.fault.Cause.{Cause}
 use Rattle.block_file.specs.declared.fault.Cause.TheVariants.{Memory}
 use Rattle.block_file.specs.declared.fault.BlockFault.{BlockFault}
 
--- of a line: the value or the cause that is wanted, or else want of memory
+-- for a line: the value or the cause that is wanted, or else Memory
 abbrev pub Gives : {X Y : Type 0} → (X → Y) → Result X Cause → Result Y Cause → Type 0
 Gives view (Ok x) wanted = wanted ≡ Ok (view x)
 Gives view (Err cause) wanted = (cause ≡ Memory) ⊎ (wanted ≡ Err cause)
 
--- of a file: the value or the fault that is wanted, or else want of memory on a line with no fault before it
+-- for a file: the value or the fault that is wanted, or else Memory on a line with no fault before it
 abbrev pub Reads : {X Y : Type 0} → (X → Y) → Result X BlockFault → Result Y BlockFault → Type 0
 Reads view (Ok x) wanted = wanted ≡ Ok (view x)
 Reads view (Err fault) wanted = (wanted ≡ Err fault) ⊎ ((fault.cause ≡ Memory) × IfErr wanted (λ first. fault.line ≤ first.line))
@@ -19,6 +19,6 @@ Reads view (Err fault) wanted = (wanted ≡ Err fault) ⊎ ((fault.cause ≡ Mem
 abbrev pub said : {X Y : Type 0} → (X → Y) → Result X BlockFault → Result Y BlockFault
 said view answer = result_map_both view (λ fault. fault) answer
 
--- the call met no want of memory
+-- the call did not run out of memory
 abbrev pub HadMemory : {X : Type 0} → Result X BlockFault → Type 0
 HadMemory answer = IfErr answer (λ fault. fault.cause ≢ Memory)

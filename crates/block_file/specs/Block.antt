@@ -39,7 +39,7 @@ pub record Parsed : Type 0 where
   pub block : BlockValue
   pub last : Option (List ℕ)
 
--- no line so far
+-- before the first line
 abbrev pub start : Parsed
 start = record { block = record { programs = []; store = finite.empty; calls = [] }; last = None }
 
@@ -90,7 +90,8 @@ with_call s program gas input = do
   call ← call_of (length s.block.programs) (length s.block.calls) program gas input
   Ok (record s { block = record s.block { calls = s.block.calls ++ call ∷ [] } })
 
--- what a line of three or four fields adds, the first of them its kind; the kinds come in their order
+-- what a line of three or four fields adds; the first field is its kind, and the kinds come in the order program,
+-- store, call
 abbrev pub with_kind : Parsed → List (List ℕ) → Result Parsed Cause
 with_kind s (kind ∷ a ∷ b ∷ []) =
     if bytes_eq kind (codes "program") && is_none s.last && length s.block.calls == 0 then with_program s a b else
@@ -98,7 +99,7 @@ with_kind s (kind ∷ a ∷ b ∷ []) =
 with_kind s (kind ∷ a ∷ b ∷ c ∷ []) = if bytes_eq kind (codes "call") then with_call s a b c else Err BadLine
 with_kind s _ = Err BadLine
 
--- what a line adds: no field is empty, and the fields are parted by one space
+-- what a line adds: no field is empty, and one space separates two fields
 abbrev pub with_fields : Parsed → List (List ℕ) → Result Parsed Cause
 with_fields s fields = if list_all (λ field. not (length field == 0)) fields then with_kind s fields else Err BadLine
 

@@ -16,7 +16,7 @@ cause_text UnknownProgram = codes "UnknownProgram 6"
 cause_text Limit = codes "Limit 7"
 cause_text Memory = codes "Memory 8"
 
--- before them the number of the line, which want of memory has not
+-- the same behind the line's number; running out of memory has no line
 abbrev pub line_text : ℕ → Cause → List ℕ
 line_text line Memory = cause_text Memory
 line_text line cause = decimal line ++ codes " " ++ cause_text cause

@@ -10,13 +10,13 @@ use Rattle.block_file.specs.declared.fault.Cause.{Cause}
 use Rattle.block_file.specs.declared.fault.Cause.TheVariants.{BadLine, BadHex}
 use Rattle.block_file.specs.declared.fault.BlockFault.{BlockFault}
 
--- the second step, where the first gave a value
+-- the second step where the first gave a value, else the first one's cause
 infixl 10 ◌>>=◌
 abbrev pub ◌>>=◌ : {A B : Type 0} → Result A Cause → (A → Result B Cause) → Result B Cause
 (Ok x) >>= f = f x
 (Err cause) >>= f = Err cause
 
--- the parts of a text between the places where a byte stands
+-- the parts of a text between the occurrences of a byte
 abbrev pub cut : ℕ → List ℕ → List (List ℕ)
 cut byte text = slice_split (λ b. b == byte) text
 
@@ -61,7 +61,7 @@ on_line n (Ok x) f = f x
 on_line n (Err cause) f = Err (record { line = n; cause = cause })
 
 -- the parts between the LFs, from line n on: each line is read after the one before it, and what
--- follows the last LF is refused by `unended` unless it is empty
+-- follows the last LF is refused as `unended` unless it is empty
 abbrev pub read_parts : {S : Type 0} → (S → List ℕ → Result S Cause) → Cause → ℕ → S → List (List ℕ) → Result S BlockFault
 read_parts read unended n s [] = Ok s
 read_parts read unended n s (rest ∷ []) = if length rest == 0 then Ok s else Err (record { line = n; cause = unended })

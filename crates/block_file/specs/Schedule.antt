@@ -1,4 +1,4 @@
--- Schedule files: one decimal of at most 65,535 a line.
+-- Schedule files: one decimal of at most 65,535 per line.
 use Rattle.std.specs.Prelude.{ℕ, nat_le, List, [], ◌∷◌, ◌++◌, Result, Ok, Err, if◌then◌else◌}
 use Rattle.std.specs.Option.{ok_or}
 use Rattle.block_file.specs.declared.fault.Cause.{Cause}
@@ -12,7 +12,7 @@ entry_of line = do
   n ← ok_or (decimal_of line) BadNumber
   if nat_le n 65535 then Ok n else Err BadNumber
 
--- the entries with one line more
+-- the entries with that of another line
 abbrev pub with_entry : List ℕ → List ℕ → Result (List ℕ) Cause
 with_entry entries line = do
   entry ← entry_of line

@@ -12,7 +12,7 @@ use crate::reader::Reader;
 use std::alloc::Global;
 
 /// What a block file of format 1 says, or its first faulty line with the least cause on it
-/// (BadHeader to Limit). Where memory runs out (Memory), no line before has a fault.
+/// (BadHeader to Limit). Refused as Memory where memory runs out; then no earlier line has a fault.
 pub fn parse(alloc: Global, bytes: &[u8]) -> Result<BlockText, BlockFault>
     ensures { Reads block_value result (block_of bytes.now) }
 {
@@ -58,7 +58,7 @@ fn body_of(alloc: Global, parts: &[&[u8]]) -> Result<Reader, BlockFault>
     Ok(reader)
 }
 
-/// A fault of a line.
+/// The fault of a line.
 fn fault(line: usize, cause: Cause) -> BlockFault
     ensures { result ≡ record { line = line; cause = cause } }
 {

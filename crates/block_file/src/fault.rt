@@ -7,19 +7,20 @@ use std::alloc::{AllocError, AllocFailed};
 use std::fmt;
 use thiserror::Error;
 
-/// What is wrong with a line. Of several on one line the least number is answered.
+/// What is wrong with a line. Where a line has several faults, the least number is reported.
 #[derive(Clone, Copy, Debug, PartialEq, Eq, Error)]
 pub enum Cause {
     /// Line 1 is not the header.
     BadHeader = 1,
-    /// An unknown kind, a kind out of order, a wrong number of fields, a field of no bytes, a path
-    /// with other bytes than 0x21 to 0x7e, or no line feed at the end.
+    /// An unknown kind, a kind out of order, a wrong number of fields, an empty field, a path with
+    /// bytes other than 0x21 to 0x7e, or no line feed at the end of a block file.
     BadLine = 2,
-    /// No decimal, a program's number that is not the next, or a schedule's entry above 65,535.
+    /// Not a decimal, a program's number that is not the next, a schedule's entry above 65,535, or no
+    /// line feed at the end of a schedule file.
     BadNumber = 3,
-    /// No lower-case hex of even length, or a key of another length than 64 digits.
+    /// Not lower-case hex of even length, or a key that does not have 64 digits.
     BadHex = 4,
-    /// A key that is not above the one of the `store` line before.
+    /// A key that is not above the key of the `store` line before it.
     KeyOrder = 5,
     /// A program's number that is not below the number of programs.
     UnknownProgram = 6,
@@ -70,7 +71,7 @@ impl<T: Drop> From<AllocFailed<T>> for Cause {
 /// The first faulty line, counted from 1, and the least cause on it.
 #[derive(Clone, Copy, Debug, PartialEq, Eq)]
 pub struct BlockFault {
-    /// The number of the line, counted from 1; where memory ran out, a line with no faulty one before it.
+    /// The line's number, counted from 1. Where memory ran out, no line before this one has a fault.
     pub line: usize,
     /// What is wrong with it.
     pub cause: Cause,
@@ -82,7 +83,7 @@ impl fmt::Display for BlockFault {
 
     ghost output = { λ fault. Some (fault_text fault) };
 
-    /// The line, the cause's name and its number; want of memory has no line.
+    /// The line, then the cause's name and number. Running out of memory has no line.
     fn fmt<W: fmt::Write>(&self, f: &mut fmt::Formatter<W>) -> fmt::Result {
         match self.cause {
             Cause::Memory => write!(f, "{}", self.cause),

@@ -16,7 +16,7 @@ use std::str;
 /// The greatest number of digits of a decimal.
 const DIGITS: usize = 10;
 
-/// The parts of a text between the places where a byte stands.
+/// The parts of a text between the occurrences of a byte; refused where memory ran out.
 pub fn parts(alloc: Global, text: &[u8], byte: u8) -> Result<Vec<&[u8]>, AllocError>
     ensures { IfOk result (λ v. map (λ part. part.now) v.items ≡ cut byte text.now) }
 {
@@ -43,7 +43,7 @@ fn number(digits: &[u8]) -> Option<u64>
     text.parse().ok()
 }
 
-/// The number of a decimal: 1 to 10 digits without a leading zero.
+/// The number of a decimal: 1 to 10 digits without a leading zero. None for any other text.
 pub fn decimal(text: &[u8]) -> Option<u64>
     ensures { result ≡ decimal_of text.now }
 {
@@ -63,7 +63,7 @@ fn is_path(text: &[u8]) -> bool
     text.iter().all(|byte| 0x21 <= *byte && *byte <= 0x7e)
 }
 
-/// A path of bytes 0x21 to 0x7e, else BadLine.
+/// A path of bytes 0x21 to 0x7e; else BadLine, or Memory where memory ran out.
 pub fn path(alloc: Global, text: &[u8]) -> Result<String, Cause>
     ensures { Gives string_bytes result (path_of text.now) }
 {
@@ -83,7 +83,8 @@ pub fn is_lower_hex(text: &[u8]) -> bool
     text.iter().all(|byte| byte.is_ascii_digit() || (b'a' <= *byte && *byte <= b'f'))
 }
 
-/// The bytes of a text in lower-case hex, or of `-`, which is no byte; else BadHex.
+/// The bytes that a text gives in lower-case hex; `-` gives none. Else BadHex, or Memory where
+/// memory ran out.
 pub fn hex_bytes(alloc: Global, text: &[u8]) -> Result<Vec<u8>, Cause>
     ensures { Gives (λ v. v.items) result (bytes_of text.now) }
 {
@@ -100,7 +101,7 @@ pub fn hex_bytes(alloc: Global, text: &[u8]) -> Result<Vec<u8>, Cause>
     }
 }
 
-/// The key of 64 lower-case hex digits, else BadHex.
+/// The key that 64 lower-case hex digits give, else BadHex.
 pub fn key(text: &[u8]) -> Result<Key, Cause>
     ensures { result ≡ key_of text.now }
 {

@@ -1,4 +1,4 @@
-//! What the answers to one text have in common.
+//! Any two answers to the same text agree.
 
 ghost use Rattle.std.specs.Prelude.{◌≡◌, List, Result, Vec, ℕ};
 ghost use Rattle.std.specs.declared.alloc.Global.{Global};
@@ -8,8 +8,8 @@ ghost use Rattle.block_file.specs.Answer.{HadMemory, Reads, said};
 ghost use Rattle.block_file.specs.Block.{block_of, block_value};
 ghost use Rattle.block_file.specs.Schedule.{schedule_of};
 
-/// A law, and no code: a block file has one reading, and so has a schedule file. Any two answers to
-/// the same bytes that are not want of memory say the same: one value or one fault.
+/// A law, and no code: a block file has one reading, and so has a schedule file. Where two answers
+/// to the same bytes did not run out of memory, they say the same: one value or one fault.
 pub fn one_reading()
     ensures block { (bytes : List ℕ) (first second : Result BlockText BlockFault)
         → Reads block_value first (block_of bytes) → Reads block_value second (block_of bytes)

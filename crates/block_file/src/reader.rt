@@ -25,7 +25,7 @@ pub struct Reader {
 }
 
 impl Reader {
-    /// No line so far.
+    /// A reader that has read no line yet.
     pub fn new(alloc: Global) -> Reader
         ensures { parsed result ≡ start }
     {
@@ -39,7 +39,7 @@ impl Reader {
         }
     }
 
-    /// Takes the next line.
+    /// Takes the next line. Refused with what is wrong with it, or as Memory.
     pub fn read(&mut self, alloc: Global, line: &[u8]) -> Result<(), Cause>
         ensures { Gives (λ _. parsed self.new) result (with_line (parsed self.old) line.now) }
     {
@@ -129,7 +129,7 @@ impl Reader {
     }
 }
 
-/// Whether each field has a byte.
+/// Whether no field is empty.
 fn are_filled(fields: &[&[u8]]) -> bool
     ensures { result ≡ list_all (λ field. not (length field == 0)) (map (λ field. field.now) fields.now) }
 {
@@ -146,7 +146,7 @@ fn is_above(last: Option<Key>, key: &Key) -> bool
     }
 }
 
-/// The path of a `program` line behind `count` others.
+/// The path of a `program` line that follows `count` others.
 fn program_of(alloc: Global, count: usize, number: &[u8], path: &[u8]) -> Result<String, Cause>
     ensures path { Gives string_bytes result (program_of count number.now path.now) }
     ensures few { IfOk result (λ _. count < 64) }
@@ -162,7 +162,7 @@ fn program_of(alloc: Global, count: usize, number: &[u8], path: &[u8]) -> Result
     Ok(path)
 }
 
-/// The key and the value of a `store` line behind one of the key `last`.
+/// The key and the value of a `store` line. The `store` line before it has the key `last`, if any.
 fn stored_of(
     alloc: Global,
     last: Option<Key>,
@@ -182,7 +182,7 @@ fn stored_of(
     }
 }
 
-/// The call of a `call` line behind some programs and calls.
+/// The call of a `call` line that follows `programs` programs and `calls` calls.
 fn call_of(
     alloc: Global,
     programs: usize,

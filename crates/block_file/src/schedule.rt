@@ -9,9 +9,9 @@ use crate::fault::{BlockFault, Cause};
 use crate::fields;
 use std::alloc::Global;
 
-/// The entries of a schedule file in order, each the number of a worker: one decimal of at most
-/// 65,535 a line, each line ended by a line feed. Refused with the first line that is no such
-/// decimal or lacks its line feed (BadNumber), and where memory runs out (Memory).
+/// The entries of a schedule file in order. Each is the number of a worker: one decimal of at most
+/// 65,535 per line, and a line feed at the end of each line. Refused as BadNumber at the first line
+/// that is not such a decimal or has no line feed, and as Memory where memory runs out.
 pub fn parse_schedule(alloc: Global, bytes: &[u8]) -> Result<Vec<u16>, BlockFault>
     ensures { Reads (λ entries. entries.items) result (schedule_of bytes.now) }
 {
@@ -45,7 +45,7 @@ fn entries_of(alloc: Global, parts: &[&[u8]]) -> Result<Vec<u16>, BlockFault>
     Ok(entries)
 }
 
-/// Takes the entry of the next line.
+/// Takes the entry of the next line. Refused as BadNumber or Memory.
 fn take(entries: &mut Vec<u16>, line: &[u8]) -> Result<(), Cause>
     ensures { Gives (λ _. entries.new.items) result (with_entry entries.old.items line.now) }
 {

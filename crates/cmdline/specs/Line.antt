@@ -91,7 +91,7 @@ dis_app = with_rule (new_app (codes "dis")) file_rule
 abbrev pub debug_app : App
 debug_app = with_rule (with_rule (new_app (codes "debug")) file_rule) call_rule
 
--- `rvstm`, which has a version and wants a subcommand
+-- `rvstm`, which has a version and requires a subcommand
 abbrev pub top_app : App
 top_app = record (new_app (codes "rvstm")) {
   top = record (new_app (codes "rvstm")).top { has_version = true; subcommand_required = true };
@@ -120,32 +120,32 @@ asked_by (Asm file out) = AsmOf file.now out.now
 asked_by (Dis file) = DisOf file.now
 asked_by (Debug file call) = DebugOf file.now call
 
--- the number that a word says
+-- the number that a word gives
 abbrev pub number_in : Text → ℕ
 number_in word = digits_value 10 (without_leading_plus word)
 
--- the number that a word says, where it says one of 64 bits
+-- the number that a word gives, where it is one of at most 64 bits
 unfoldable pub number_of : Text → Option ℕ
 number_of word = if is_unsigned_in 0 0xffff_ffff_ffff_ffff word then Some (number_in word) else None
 
--- the number of an option, by what clap found
+-- the number of an option, from what clap found
 abbrev pub number_at : Text → List Row → Option ℕ
 number_at option rows = option_and_then number_of (one_of option rows)
 
--- what FILE and the number of an option ask for, by what clap found
+-- what FILE and the number of an option ask for, from what clap found
 abbrev pub numbered_of : (Text → ℕ → Asked) → Text → List Row → Option Asked
 numbered_of ask option rows = option_and_then (λ file. option_map (ask file) (number_at option rows)) (first_of (codes "file") rows)
 
--- what `drive` asks for, by what clap found
+-- what `drive` asks for, from what clap found
 abbrev pub drive_of : List Row → Option Asked
 drive_of rows = option_and_then (λ file. option_and_then (λ workers. option_map (λ schedule. DriveOf file workers schedule)
     (first_of (codes "schedule") rows)) (number_at (codes "workers") rows)) (first_of (codes "file") rows)
 
--- what `asm` asks for, by what clap found
+-- what `asm` asks for, from what clap found
 abbrev pub asm_of : List Row → Option Asked
 asm_of rows = option_and_then (λ file. option_map (λ out. AsmOf file out) (first_of (codes "out") rows)) (first_of (codes "file") rows)
 
--- what a subcommand asks for, by its name and what clap found for its arguments
+-- what a subcommand asks for, from its name and what clap found for its arguments
 abbrev pub asked_in : Text × List Row → Option Asked
 asked_in found = if bytes_eq found.0 (codes "run")
     then numbered_of RunOf (codes "workers") found.1
@@ -161,20 +161,20 @@ asked_in found = if bytes_eq found.0 (codes "run")
     then numbered_of DebugOf (codes "call") found.1
     else None
 
--- what a whole line, with the program's name first, asks for where clap takes it
+-- what a whole line, with the program's name first, asks for, where clap accepts it
 abbrev pub asked : List Text → Option Asked
 asked words = option_and_then asked_in (subcommand_of rvstm_app words)
 
--- the word begins with no hyphen
+-- the word does not begin with a hyphen
 abbrev pub is_operand : Text → Bool
 is_operand [] = true
 is_operand (x ∷ rest) = not (x == 45)
 
--- the word says a whole number of 1 to `max_workers`
+-- the word gives a whole number of 1 to `max_workers`
 abbrev pub is_worker_number : Text → Bool
 is_worker_number word = is_unsigned_in 1 max_workers word
 
--- the word says a whole number of 0 to `last_call`
+-- the word gives a whole number of 0 to `last_call`
 abbrev pub is_call_number : Text → Bool
 is_call_number word = is_unsigned_in 0 last_call word
 

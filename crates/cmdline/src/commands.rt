@@ -13,7 +13,7 @@ const MAX_WORKERS: i64 = 32;
 /// The largest number of a call, the first being 0.
 const LAST_CALL: i64 = 1023;
 
-/// The whole command, with a subcommand for each request. Refuses where memory ran out.
+/// The whole command, with a subcommand for each request; refused where memory ran out.
 pub(crate) fn rvstm<'a>(alloc: Global) -> Result<Command<'a>, AllocError>
     ensures { IfOk result (λ c. app_of c ≡ rvstm_app) }
 {
@@ -26,7 +26,7 @@ pub(crate) fn rvstm<'a>(alloc: Global) -> Result<Command<'a>, AllocError>
         .subcommand(debug(alloc)?)
 }
 
-/// The command that wants a subcommand, as yet without one.
+/// The command, which requires a subcommand, before its subcommands are added.
 fn program<'a>(alloc: Global) -> Command<'a>
     ensures { app_of result ≡ top_app }
 {

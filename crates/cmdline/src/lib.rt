@@ -17,24 +17,24 @@ use std::alloc::Global;
 /// What a command line asks for.
 #[derive(Clone, Copy, Debug, PartialEq, Eq)]
 pub enum Request<'a> {
-    /// Run the calls of a block file by workers at the same time and print the result.
+    /// Run the calls of a block file on several workers at the same time, and print the result.
     Run {
         /// The path of the block file.
         file: &'a str,
-        /// How many workers there are, 1 to 32.
+        /// The number of workers, 1 to 32.
         workers: usize,
     },
-    /// Run the calls of a block file in order and print the result.
+    /// Run the calls of a block file in order, and print the result.
     Seq {
         /// The path of the block file.
         file: &'a str,
     },
-    /// Run the calls of a block file by workers that make their steps in the order of a schedule,
-    /// and print the result.
+    /// Run the calls of a block file on simulated workers, which make their steps in the order of a
+    /// schedule, and print the result.
     Drive {
         /// The path of the block file.
         file: &'a str,
-        /// How many workers there are, 1 to 32.
+        /// The number of workers, 1 to 32.
         workers: usize,
         /// The path of the schedule file.
         schedule: &'a str,
@@ -60,18 +60,18 @@ pub enum Request<'a> {
     },
 }
 
-/// Reads a command line, whose first word is the program's name. Refuses one with no subcommand, an
-/// unknown one, a missing or a surplus word, an unknown or a repeated option, a number of workers that is
-/// not 1 to 32, a number of a call that is not 0 to 1023, and where memory ran out; help and the version
-/// are such errors too, for which `use_stderr` is false. `None` is a line for which clap gives no value
-/// that it demands.
+/// Reads a command line, whose first word is the program's name. Refused where the subcommand is missing
+/// or unknown, a word is missing or surplus, an option is unknown or repeated, the number of workers is
+/// not 1 to 32, the number of the call is not 0 to 1023, or memory ran out. Help and the version are
+/// errors too; for them `use_stderr` is false. `None` where clap accepts a line but gives no value that
+/// it demands.
 pub fn request_of<'a>(alloc: Global, words: &'a [String]) -> Result<Option<Request<'a>>, Error>
-    // an accepted line asks for just this
+    // an accepted line asks for exactly this
     ensures answer { IfOk result (λ r.
         option_map asked_by r ≡ asked (map string_bytes words.now)) }
-    // a line with a fault is never accepted, and the error is of the fault's kind or want of memory
+    // a line with a fault is never accepted; the error is of the fault's kind, or memory ran out
     ensures refused { FailsBy (fault_of rvstm_app (map string_bytes words.now)) result }
-    // `run FILE --workers N` is accepted, where N says a whole number of 1 to 32, unless memory runs out
+    // `run FILE --workers N` is accepted, where N is a whole number of 1 to 32, unless memory runs out
     ensures run { (program file word : List ℕ)
         → map string_bytes words.now ≡ program ∷ codes "run" ∷ file ∷ codes "--workers" ∷ word ∷ []
         → is_operand file ≡ true → is_worker_number word ≡ true
@@ -80,7 +80,7 @@ pub fn request_of<'a>(alloc: Global, words: &'a [String]) -> Result<Option<Reque
     ensures seq { (program file : List ℕ)
         → map string_bytes words.now ≡ program ∷ codes "seq" ∷ file ∷ [] → is_operand file ≡ true
         → AnswersUnlessMemory result (SeqOf file) }
-    // so is `drive FILE --workers N --schedule FILE`, where N says a whole number of 1 to 32
+    // so is `drive FILE --workers N --schedule FILE`, where N is a whole number of 1 to 32
     ensures drive { (program file word schedule : List ℕ)
         → map string_bytes words.now ≡ program ∷ codes "drive" ∷ file ∷ codes "--workers" ∷ word ∷ codes "--schedule" ∷ schedule ∷ []
         → is_operand file ≡ true → is_worker_number word ≡ true → is_operand schedule ≡ true
@@ -93,7 +93,7 @@ pub fn request_of<'a>(alloc: Global, words: &'a [String]) -> Result<Option<Reque
     ensures dis { (program file : List ℕ)
         → map string_bytes words.now ≡ program ∷ codes "dis" ∷ file ∷ [] → is_operand file ≡ true
         → AnswersUnlessMemory result (DisOf file) }
-    // and `debug FILE --call N`, where N says a whole number of 0 to 1023
+    // and `debug FILE --call N`, where N is a whole number of 0 to 1023
     ensures debug { (program file word : List ℕ)
         → map string_bytes words.now ≡ program ∷ codes "debug" ∷ file ∷ codes "--call" ∷ word ∷ []
         → is_operand file ≡ true → is_call_number word ≡ true

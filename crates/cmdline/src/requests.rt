@@ -1,4 +1,4 @@
-//! The request of a line that clap took, by what clap found.
+//! The request of a line that clap accepted, from what clap found.
 
 ghost use Rattle.std.specs.Prelude.{◌≡◌, option_and_then, option_map, codes};
 ghost use Rattle.clap.specs.Words.{first_of, found_of, rows_of, subcommand_rows_of};
@@ -7,7 +7,7 @@ ghost use Rattle.cmdline.specs.Line.{DebugOf, DisOf, RunOf, SeqOf, asked_by, ask
 use crate::Request;
 use clap::ArgMatches;
 
-/// The request of a line that clap took. `None` where a value that it demands is not there.
+/// The request of a line that clap accepted; `None` where a value that it needs is missing.
 pub(crate) fn request_in<'a>(matches: &ArgMatches<'a>) -> Option<Request<'a>>
     ensures { option_map asked_by result
         ≡ option_and_then asked_in (subcommand_rows_of matches.now) }

@@ -1,4 +1,4 @@
--- The commands that the lines of `debug` are.
+-- The commands of `debug`, and the lines that stand for them.
 use Rattle.std.specs.Prelude.{ℕ, nat_le, List, [], ◌∷◌, codes, Option, Some, None, if◌then◌else◌}
 use Rattle.std.specs.Int.{from_be_bytes, w32}
 use Rattle.std.specs.List.{list_all}
@@ -47,6 +47,6 @@ command_of_fields (word ∷ address ∷ []) = run_to_command word address
 command_of_fields (word ∷ address ∷ count ∷ []) = bytes_command word address count
 command_of_fields _ = None
 
--- the command of a line, its fields parted by one blank; None where it is none
+-- the command of a line, with one blank between two fields; None where the line is not a command
 abbrev pub command_of : List ℕ → Option Command
 command_of line = command_of_fields (cut 32 line)

@@ -6,7 +6,7 @@ use Rattle.rv_step.specs.declared.machine.Machine.{Machine}
 use Rattle.rv_step.specs.Step.{StepResult, Next, Asks, Ends, step}
 use Rattle.rv_step.specs.Chain.{answered_by, start}
 
--- a call goes on from a machine, or it is over, and its last step left a machine so
+-- a call goes on from a machine, or it is over and its last step left this machine
 pub data Standing : Type 0 where
   Going : Machine → Standing
   Over : Machine → Standing
@@ -19,13 +19,13 @@ abbrev pub is_over : Standing → Bool
 is_over (Going s) = false
 is_over (Over s) = true
 
--- where a step at a machine leads; a storage has answered, so that nothing is asked
+-- where a step at a machine leads; a storage has answered, so the step asks for nothing
 abbrev pub standing_after : Machine → StepResult → Standing
 standing_after s (Next t) = Going t
 standing_after s (Asks key) = Over s
 standing_after s (Ends end out t) = Over t
 
--- one step more, over a storage; the step that ends the call is one too
+-- another step over a storage; the step that ends the call counts too
 abbrev pub advance : Storage → Standing → Standing
 advance store (Going s) = standing_after s (answered_by store s (step s))
 advance store (Over s) = Over s

@@ -18,7 +18,7 @@ use Rattle.debugger.specs.declared.fault.ReplayFault.{ReplayFault}
 use Rattle.debugger.specs.declared.fault.ReplayFault.TheVariants.{NoSuchCall, AtEnd, BadRange, Memory}
 use Rattle.debugger.specs.Moment.{Standing, is_over, machine_of, moment_of}
 
--- a replay of a call over a storage stands at a moment; all else that is shown is a function of these
+-- a replay of a call over a storage stands at a moment; everything else that it shows is a function of these
 pub record ReplayState : Type 0 where
   pub call : Invocation
   pub store : Storage
@@ -43,13 +43,14 @@ GoesOnBefore r = (n : ℕ) → n < r.moment → is_over (moment_of r.call r.stor
 unfoldable pub store_left : Storage → List Receipt → Storage
 store_left store receipts = fold (λ before receipt. apply_writes before receipt.writes) store receipts
 
--- the first moment of the call of an index, over the storage that the receipts before it leave; None where there is no such call
+-- the first moment of the call at an index, over the storage that the receipts before it leave; None without such a
+-- call
 abbrev pub opened : Outcome → ℕ → Option ReplayState
 opened outcome index =
     option_map (λ call. record { call = call; store = store_left outcome.job.store (take index outcome.receipts.items); moment = 0 })
     (slice_get outcome.job.block index)
 
--- a replay is opened there, or memory ran out; where there is nothing to open it is refused
+-- the wanted replay is opened, or memory ran out; where there is no such call it is refused as NoSuchCall
 abbrev pub Opens : Result ReplayState ReplayFault → Option ReplayState → Type 0
 Opens (Ok r) wanted = wanted ≡ Some r
 Opens (Err NoSuchCall) wanted = wanted ≡ None
@@ -90,7 +91,7 @@ RunsTo pc (Err Memory) old new = (is_at_end old ≡ false) × IsPast pc old new 
 RunsTo pc (Err AtEnd) old new = (is_at_end old ≡ true) × (new ≡ old)
 RunsTo pc (Err fault) old new = ⊥
 
--- so many bytes from an address on lie in memory
+-- `len` bytes from an address on lie in memory
 abbrev pub is_in_memory : ℕ → ℕ → Bool
 is_in_memory address len = nat_le first_address address && nat_le (address + len) end_address
 

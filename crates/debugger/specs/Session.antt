@@ -21,12 +21,12 @@ refusal_line fault = codes "refused " ++ (fault_text fault ++ 10 ∷ [])
 abbrev pub where_line : ReplayState → List ℕ
 where_line r = where_text r ++ 10 ∷ []
 
--- the first moment from n on at which a run to a pc stops, among so many; else the one after them
+-- the first of `left` moments from n on at which a run to a pc stops; where there is none, the moment after them
 unfoldable pub first_stop : ℕ → Invocation → Storage → ℕ → ℕ → ℕ
 first_stop zero call store pc n = n
 first_stop (suc left) call store pc n = if stops pc (moment_of call store n) then n else first_stop left call store pc (n + 1)
 
--- where a run to a pc goes, if this is not the last moment; a call is over after as many steps as it has gas and one more
+-- where a run to a pc goes, if this is not the last moment; a call is over after at most one step more than it has gas
 abbrev pub stop_of : ℕ → ReplayState → Option ReplayState
 stop_of pc r =
     if is_at_end r then None else Some (record r { moment = first_stop (r.call.gas + 1) r.call r.store pc (r.moment + 1) })
@@ -61,7 +61,7 @@ after_command r Back = moved r (previous_of r)
 after_command r (RunTo pc) = moved r (stop_of pc r)
 after_command r _ = r
 
--- the same of a line; one that is no command prints `what`
+-- the same for a line; a line that is not a command prints `what`
 abbrev pub line_text : ReplayState → Option Command → List ℕ
 line_text r (Some command) = answer_text r command
 line_text r None = codes "what\n"
@@ -89,7 +89,7 @@ session r (line ∷ lines) =
     if is_quit (command_of line) then record { text = []; replay = r } else
     behind (line_text r (command_of line)) (session (after_line r (command_of line)) lines)
 
--- the lines of parts between LFs: what follows the last LF is a line where it has a byte
+-- the lines among the parts between LFs: what follows the last LF is a line unless it is empty
 abbrev pub with_last : List (List ℕ) → List (List ℕ)
 with_last [] = []
 with_last (rest ∷ []) = if length rest == 0 then [] else rest ∷ []
@@ -99,10 +99,10 @@ with_last (line ∷ next ∷ more) = line ∷ with_last (next ∷ more)
 unfoldable pub lines_of : List ℕ → List (List ℕ)
 lines_of text = with_last (cut 10 text)
 
--- a session ended so: its text was written, and the replay stands where it left it
+-- a session ended like this: its text was written, and the replay stands where the session left it
 abbrev pub EndsAs : Ending → ReplayState → Option (List ℕ) → Option (List ℕ) → Type 0
 EndsAs ending new before after = Appends before after ending.text × (new ≡ ending.replay)
 
--- known bytes grow by a beginning of a text
+-- the known bytes grow by a beginning of a text
 abbrev pub AppendsBeginning : Option (List ℕ) → Option (List ℕ) → List ℕ → Type 0
 AppendsBeginning before after text = (done : List ℕ) × (rest : List ℕ) × (text ≡ done ++ rest) × Appends before after done

@@ -12,8 +12,8 @@ use crate::replay::Replay;
 use receipts::{bytes_text, regs_line};
 use std::alloc::{AllocError, Global};
 
-/// Does what a line asks for, and gives what is printed for it; `what` where it is no command. Refused
-/// where memory ran out.
+/// Does what a line asks for, and returns what it prints: `what` where the line is not a command.
+/// Refused where memory ran out.
 pub(crate) fn line_text(
     alloc: Global,
     replay: &mut Replay,
@@ -28,7 +28,7 @@ pub(crate) fn line_text(
     }
 }
 
-/// Does a command, and gives what is printed for it. Refused where memory ran out.
+/// Does a command, and returns what it prints. Refused where memory ran out.
 fn answer_text(alloc: Global, replay: &mut Replay, command: Command) -> Result<String, AllocError>
     ensures text { IfOk result (λ t. string_bytes t ≡ answer_text replay.old command) }
     ensures replay { OnOk result (replay.new ≡ after_command replay.old command) }
@@ -44,7 +44,7 @@ fn answer_text(alloc: Global, replay: &mut Replay, command: Command) -> Result<S
     }
 }
 
-/// Goes to the next moment, and tells it or the refusal.
+/// Goes to the next moment. Returns the line of the new moment, or of the refusal.
 fn step_text(alloc: Global, replay: &mut Replay) -> Result<String, AllocError>
     ensures text { IfOk result (λ t. string_bytes t ≡ moved_text AtEnd (next_of replay.old)) }
     ensures replay { OnOk result (replay.new ≡ moved replay.old (next_of replay.old)) }
@@ -56,7 +56,7 @@ fn step_text(alloc: Global, replay: &mut Replay) -> Result<String, AllocError>
     }
 }
 
-/// Goes to the moment before, and tells it or the refusal.
+/// Goes to the moment before. Returns the line of the new moment, or of the refusal.
 fn back_text(alloc: Global, replay: &mut Replay) -> Result<String, AllocError>
     ensures text { IfOk result (λ t. string_bytes t ≡ moved_text AtStart (previous_of replay.old)) }
     ensures replay { OnOk result (replay.new ≡ moved replay.old (previous_of replay.old)) }
@@ -68,7 +68,7 @@ fn back_text(alloc: Global, replay: &mut Replay) -> Result<String, AllocError>
     }
 }
 
-/// Runs to a pc, and tells the moment or the refusal.
+/// Runs to a pc. Returns the line of the new moment, or of the refusal.
 fn run_to_text(alloc: Global, replay: &mut Replay, pc: u32) -> Result<String, AllocError>
     ensures text { IfOk result (λ t. string_bytes t ≡ moved_text AtEnd (stop_of pc replay.old)) }
     ensures replay { OnOk result (replay.new ≡ moved replay.old (stop_of pc replay.old)) }
@@ -80,7 +80,7 @@ fn run_to_text(alloc: Global, replay: &mut Replay, pc: u32) -> Result<String, Al
     }
 }
 
-/// The line that tells the moment.
+/// The line of the moment, its pc and the word there; refused where memory ran out.
 fn where_line(alloc: Global, replay: &Replay) -> Result<String, AllocError>
     ensures { IfOk result (λ t. string_bytes t ≡ where_line replay.now) }
 {
@@ -92,7 +92,7 @@ fn where_line(alloc: Global, replay: &Replay) -> Result<String, AllocError>
     Ok(text)
 }
 
-/// The line of bytes of memory, or of the refusal.
+/// The line of `count` bytes of memory from an address on, or of the refusal.
 fn seen_text(alloc: Global, replay: &Replay, address: u32, count: u32) -> Result<String, AllocError>
     ensures { IfOk result (λ t. string_bytes t ≡ seen_text (bytes_seen replay.now address count)) }
 {

@@ -1,4 +1,4 @@
-//! The commands that the lines of `debug` are.
+//! The commands of `debug`, and the lines that stand for them.
 
 ghost use Rattle.std.specs.Prelude.{◌≡◌, map, IfOk};
 ghost use Rattle.debugger.specs.Command.{address_of, bytes_command, command_of, command_of_fields, count_of, run_to_command, word_command};
@@ -16,19 +16,20 @@ pub enum Command {
     Step,
     /// Go to the moment before.
     Back,
-    /// Go to the first later moment with this pc, or the last.
+    /// Go to the first later moment with this pc, or to the last moment.
     RunTo(u32),
-    /// Tell the moment.
+    /// Show the moment, its pc and the word there.
     Where,
     /// Show the registers.
     Registers,
-    /// Show so many bytes, at most 4,096, from an address on.
+    /// Show bytes of memory: the address of the first one, and their number, at most 4,096.
     Bytes(u32, u32),
-    /// End.
+    /// End the session.
     Quit,
 }
 
-/// The command of a line without its LF, or None where it is none; refused where memory ran out.
+/// The command of a line without its LF, or None where the line is not a command; refused where
+/// memory ran out.
 pub fn command_of(alloc: Global, line: &[u8]) -> Result<Option<Command>, AllocError>
     ensures { IfOk result (λ command. command ≡ command_of line.now) }
 {
@@ -96,7 +97,7 @@ fn bytes_command(word: &[u8], address: &[u8], count: &[u8]) -> Option<Command>
     }
 }
 
-/// The address that eight lower-case hex digits write.
+/// The address that eight lower-case hex digits give, the highest first.
 fn address_of(text: &[u8]) -> Option<u32>
     ensures { result ≡ address_of text.now }
 {
@@ -107,7 +108,7 @@ fn address_of(text: &[u8]) -> Option<u32>
     Some(u32::from_be_bytes(bytes))
 }
 
-/// The number of bytes that a decimal up to 4096 writes.
+/// The number of bytes that a decimal up to 4096 gives.
 fn count_of(text: &[u8]) -> Option<u32>
     ensures { result ≡ count_of text.now }
 {

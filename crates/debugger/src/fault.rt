@@ -1,13 +1,13 @@
-//! Why a replay refuses.
+//! Why a replay or a session is refused.
 
 use receipts::WriteFault;
 use std::fmt;
 use thiserror::Error;
 
-/// A refusal of a replay.
+/// Why a replay or a move of it is refused.
 #[derive(Clone, Copy, Debug, PartialEq, Eq, Error)]
 pub enum ReplayFault {
-    /// The block has no call of that index.
+    /// The block has no call at that index.
     NoSuchCall = 1,
     /// The call is over: there is no later moment.
     AtEnd = 2,

@@ -1,4 +1,4 @@
-//! Laws of the moments of a call.
+//! Laws about the moments of a call.
 
 ghost use Rattle.std.specs.Prelude.{◌≡◌, ◌+◌, ◌≤◌, ℕ, true, IfSome};
 ghost use Rattle.rv_ledger.specs.Call.{Invocation};
@@ -9,16 +9,16 @@ ghost use Rattle.rv_step.specs.Fold.{receipts_of, store_before};
 ghost use Rattle.debugger.specs.Moment.{is_over, machine_of, moment_of};
 ghost use Rattle.debugger.specs.Replay.{opened};
 
-/// A replay of an outcome whose receipts are those of running its calls in order is over the storage that
-/// the calls before it left.
+/// A law, and no code: where an outcome's receipts are those of running its calls in order, a replay of
+/// one of the calls is over the storage that the calls before it left.
 pub fn opens_over_its_storage()
     ensures { (outcome : Outcome) (index : ℕ)
         → outcome.receipts.items ≡ receipts_of outcome.job.block outcome.job.store
         → IfSome (opened outcome index) (λ r. r.store ≡ store_before outcome.job.block index outcome.job.store) }
 {}
 
-/// A call is over after at most as many steps as it has gas, and one more; and it is over where it has the
-/// pc and the registers of its receipt.
+/// A law, and no code: a call is over after at most one step more than it has gas. When it is over, it has
+/// the pc and the registers of its receipt.
 pub fn last_moment_is_the_receipts()
     ensures comes { (call : Invocation) (store : Storage) → (n : ℕ) × (n ≤ call.gas + 1) × (is_over (moment_of call store n) ≡ true) }
     ensures pc { (call : Invocation) (store : Storage) (n : ℕ) → is_over (moment_of call store n) ≡ true

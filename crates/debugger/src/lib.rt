@@ -1,4 +1,4 @@
-//! A debugger: one call of a block is replayed step by step, forward and back, and looked at.
+//! A debugger: it replays one call of a block step by step, forward and back, and shows its state.
 #![tactic(auto)]
 
 mod answer;

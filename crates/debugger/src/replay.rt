@@ -43,9 +43,9 @@ impl Replay {
     ghost use Rattle.debugger.specs.declared.fault.ReplayFault.TheVariants.{AtEnd, AtStart, Memory};
     ghost use Rattle.debugger.specs.Replay.{GoesOnBefore, Moves, Opens, RunsTo, Shows, bytes_seen, is_at_end, machine_at, next_of, opened, previous_of, where_text};
 
-    /// The replay of the call of an index, from 0, of an outcome's job, at its moment 0: over the
-    /// job's storage with the writes of the receipts before it. Refused as NoSuchCall where there are
-    /// not so many calls, and as Memory where memory ran out.
+    /// Opens the replay of a call of an outcome's job, at moment 0. `index` counts the calls from 0.
+    /// The replay is over the job's storage with the writes of the receipts before the call. Refused as
+    /// NoSuchCall where there is no call at that index, and as Memory where memory ran out.
     pub fn open(alloc: Global, outcome: &Outcome, index: usize) -> Result<Replay, ReplayFault>
         ensures { Opens result (opened outcome.now index) }
     {
@@ -94,8 +94,8 @@ impl Replay {
         }
     }
 
-    /// Goes to the moment before. Refused as AtStart at moment 0, and as Memory where memory ran out;
-    /// then nothing changes. It runs the call anew.
+    /// Goes to the moment before, by running the call again from its start. Refused as AtStart at
+    /// moment 0, and as Memory where memory ran out; then nothing changes.
     pub fn back(&mut self) -> Result<(), ReplayFault>
         ensures { Moves AtStart result (previous_of self.old) self.old self.new }
     {
@@ -114,8 +114,8 @@ impl Replay {
     }
 
     /// Goes to the first later moment at which the pc is the given one or the call is over. Refused as
-    /// AtEnd where the call is over, and then nothing changes; or as Memory where memory ran out, and
-    /// then it stands at a moment before that one.
+    /// AtEnd where the call is over already, and then nothing changes. Refused as Memory where memory
+    /// ran out, and then the replay stands at a moment before that one.
     pub fn run_to(&mut self, pc: u32) -> Result<(), ReplayFault>
         ensures { RunsTo pc result self.old self.new }
     {
@@ -126,7 +126,7 @@ impl Replay {
         Ok(())
     }
 
-    /// The moment: how many steps were made. The call goes on at each moment before it.
+    /// The moment: the number of steps that were made. The call goes on at each moment before it.
     pub fn moment(&self) -> u64
         ensures value { result ≡ self.now.moment }
         ensures earlier { GoesOnBefore self.now }
@@ -162,9 +162,9 @@ impl Replay {
         &self.machine().regs
     }
 
-    /// The bytes of memory from an address on, whatever the rights of their pages. Refused as BadRange
-    /// where one of them is outside memory, 0x00010000 up to 0x00110000, and as Memory where memory
-    /// ran out.
+    /// `len` bytes of memory from an address on, whatever the rights of their pages. Memory is
+    /// 0x00010000 to 0x0010ffff. Refused as BadRange where the range does not lie in memory, even where
+    /// it is empty, and as Memory where memory ran out.
     pub fn bytes(&self, alloc: Global, address: u32, len: u32) -> Result<Vec<u8>, ReplayFault>
         ensures { Shows (λ v. v.items) result (bytes_seen self.now address len) }
     {
@@ -179,8 +179,8 @@ impl Replay {
         Ok(bytes)
     }
 
-    /// Appends the moment in decimal, the pc in eight hex digits and the text of the word there, or
-    /// `fetch-fault` where it may not be fetched, with a blank between two. Refused as Memory where
+    /// Appends the moment in decimal, the pc in eight hex digits, and the text of the word there or
+    /// `fetch-fault` where it may not be fetched. One blank separates them. Refused as Memory where
     /// memory ran out; the string is then as before.
     pub fn where_text(&self, text: &mut String) -> Result<(), ReplayFault>
         ensures { MatchResult result

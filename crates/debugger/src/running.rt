@@ -1,4 +1,4 @@
-//! Steps of the run inside of a replay.
+//! Steps of the run inside a replay.
 
 ghost use Rattle.std.specs.Prelude.{◌≡◌, ◌<◌, ℕ, false, IfOk, IsSome, OnErr, OnOk};
 ghost use Rattle.rv_step.specs.Run.{asked_key};
@@ -23,8 +23,8 @@ pub(crate) fn step_run(run: &mut Run, store: &Store) -> Result<(), AllocError>
     answer_from(run, store)
 }
 
-/// Answers a run that asks from a storage; one that does not ask stays. Refused where memory ran out,
-/// and then nothing changes.
+/// Answers a run that asks for a key, from a storage. A run that does not ask stays as it is. Refused
+/// where memory ran out, and then nothing changes.
 fn answer_from(run: &mut Run, store: &Store) -> Result<(), AllocError>
     ensures ok { OnOk result (IsAnswered store.now run.old run.new) }
     ensures err { OnErr result (run.new ≡ run.old) }
@@ -37,8 +37,8 @@ fn answer_from(run: &mut Run, store: &Store) -> Result<(), AllocError>
     Ok(())
 }
 
-/// The run of a call over a storage after so many steps, before which it is not over. Refused where
-/// memory ran out.
+/// The run of a call over a storage after `steps` steps; the call is not over at any moment before.
+/// Refused where memory ran out.
 #[tactic(auto, unfolding(crate::specs::Moment::moment_of))]
 pub(crate) fn run_after(
     alloc: Global,

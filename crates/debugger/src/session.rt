@@ -20,10 +20,10 @@ const LINE_END: u8 = b'\n';
 /// The greatest number of bytes that are read at once.
 const READ_SIZE: usize = 256;
 
-/// Reads lines, does the command of each as soon as it is read, and writes what it prints, up to a line `q`
-/// or the end of the input. A last line needs no LF. The first refusal ends it: a failed read is Unreadable,
-/// a failed write is Output, and Memory is want of memory; then a beginning of what the session prints was
-/// written, and what was read and the moves of the replay stand.
+/// Reads lines up to a line `q` or the end of the input. Does the command of each line as soon as the line
+/// is read, and writes what it prints. The last line needs no LF. The first refusal ends the session:
+/// Unreadable where a read failed, Output where a write failed, Memory where memory ran out. Then a
+/// beginning of what the session prints was written, and the replay's moves are not undone.
 pub fn debug_to<R: Read, W: Write>(
     alloc: Global,
     replay: &mut Replay,
@@ -56,7 +56,7 @@ pub fn debug_to<R: Read, W: Write>(
     Err(DebugFault::Unreadable)
 }
 
-/// Takes the end of the input, behind a line without its LF.
+/// Takes the end of the input. `line` is what came after the last LF.
 fn hear_end<W: Write>(
     alloc: Global,
     replay: &mut Replay,
@@ -76,8 +76,8 @@ fn hear_end<W: Write>(
     }
 }
 
-/// Takes a part of the input, behind the beginning of a line. Tells whether the session goes on; then `line`
-/// is the beginning of the next line.
+/// Takes a part of the input. `line` is the beginning of a line that came before it. Returns whether the
+/// session goes on; then `line` is the beginning of the next line.
 fn hear<W: Write>(
     alloc: Global,
     replay: &mut Replay,
@@ -106,7 +106,7 @@ fn hear<W: Write>(
     Ok(true)
 }
 
-/// Answers a line. Tells whether the session goes on.
+/// Does the command of a line, and writes what it prints. Returns whether the session goes on.
 fn answer_line<W: Write>(
     alloc: Global,
     replay: &mut Replay,
@@ -137,7 +137,7 @@ fn is_quit(command: Option<Command>) -> bool
     matches!(command, Some(Command::Quit))
 }
 
-/// Writes a text and hands it on, so that it is seen before the next line is read.
+/// Writes a text and flushes it, so that it is seen before the next line is read.
 fn print<W: Write>(text: &[u8], out: &mut W) -> Result<(), WriteFault>
     ensures ok { OnOk result (Appends (W.contents out.old) (W.contents out.new) text.now) }
     ensures err { OnErr result (AppendsBeginning (W.contents out.old) (W.contents out.new) text.now) }

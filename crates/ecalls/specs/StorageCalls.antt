@@ -1,4 +1,5 @@
--- The storage calls: an ECALL whose number is in a7, on the key at a0 (this project's own profile).
+-- The storage calls: an ECALL, by the number in a7. READ, WRITE and REMOVE have their key at a0, RETURN and REVERT their
+-- output (this project's own profile).
 use Rattle.std.specs.Prelude.{ℕ, ◌+◌, ◌*◌, ◌==◌, nat_lt, Bool, ◌&&◌, if◌then◌else◌, List, slice_index, Option, Some, None, Result, Ok, Err}
 use Rattle.rv_ledger.specs.declared.end.Trap.{Trap}
 use Rattle.rv_ledger.specs.declared.end.Trap.TheVariants.{MemoryFault, UnknownCall, BadLength}
@@ -22,7 +23,7 @@ a2 registers = slice_index registers 12
 abbrev pub a7 : List ℕ → ℕ
 a7 registers = slice_index registers 17
 
--- the call of a number
+-- the call that has a number
 abbrev pub call_of : ℕ → Option StorageCall
 call_of number =
     if number == 0 then Some call.Read
@@ -32,7 +33,7 @@ call_of number =
     else if number == 4 then Some call.Revert
     else None
 
--- the length that a call names: a buffer's, a value's or an output's
+-- the length that the registers give for a call: that of its buffer, its value or its output
 abbrev pub length_of : StorageCall → List ℕ → ℕ
 length_of call.Read registers = a2 registers
 length_of call.Write registers = a2 registers
@@ -40,7 +41,7 @@ length_of call.Remove registers = 0
 length_of call.Return registers = a1 registers
 length_of call.Revert registers = a1 registers
 
--- the greatest length of a call
+-- the greatest length that a call may have
 abbrev pub longest : StorageCall → ℕ
 longest call.Read = 64
 longest call.Write = 64
@@ -56,7 +57,7 @@ charge_of call.Remove registers = 300
 charge_of call.Return registers = 10 + a1 registers
 charge_of call.Revert registers = 10 + a1 registers
 
--- the call if its length is not above the greatest
+-- the call, if there is one and its length is within the limit
 abbrev pub within_length : List ℕ → Option StorageCall → Result StorageCall Trap
 within_length registers None = Err UnknownCall
 within_length registers (Some call) = if nat_lt (longest call) (length_of call registers) then Err BadLength else Ok call
@@ -98,7 +99,7 @@ request_with call.Remove r memory = request.Write (record { key = bytes_at memor
 request_with call.Return r memory = request.Return (bytes_at memory (a0 r) (a1 r))
 request_with call.Revert r memory = request.Revert (bytes_at memory (a0 r) (a1 r))
 
--- what a call with its rights asks for
+-- what a call asks for, or MemoryFault where it lacks a right
 abbrev pub request_by : StorageCall → List ℕ → Space → Result Request Trap
 request_by call registers memory =
     if has_rights call registers memory then Ok (request_with call registers memory) else Err MemoryFault

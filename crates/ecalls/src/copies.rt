@@ -16,7 +16,7 @@ pub fn key_at(memory: &Memory, address: u32) -> Option<Key>
     Some(Key::new(bytes))
 }
 
-/// The bytes at an address, or None where one may not be read.
+/// The `len` bytes at an address, or None where one of them may not be read.
 pub fn bytes_at<const LIMIT: usize>(
     memory: &Memory,
     address: u32,

@@ -1,4 +1,4 @@
-//! The storage calls of a contract: what an ECALL asks for, what it costs and which trap it meets.
+//! The storage calls of a contract: what an ECALL asks for, what it costs and when it traps.
 #![tactic(auto)]
 
 mod copies;

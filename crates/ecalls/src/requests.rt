@@ -13,8 +13,8 @@ use rv_isa::{Reg, Regs};
 use rv_ledger::{Output, Trap, Write};
 use rv_mem::Memory;
 
-/// What the ECALL asks for, or its first trap: UnknownCall, BadLength, or MemoryFault where a byte of
-/// its key, buffer, value or output lacks the right that it needs.
+/// What the ECALL asks for, or the first trap that it meets: UnknownCall, BadLength, or MemoryFault
+/// where a byte of its key, buffer, value or output lacks the right that it needs.
 #[tactic(auto, unfolding(crate::specs::StorageCalls::request_of))]
 pub fn request(registers: &Regs, memory: &Memory) -> Result<Request, Trap>
     ensures { result ≡ request_of registers.now memory.now }
@@ -22,8 +22,8 @@ pub fn request(registers: &Regs, memory: &Memory) -> Result<Request, Trap>
     request_by(asked(registers)?, registers, memory)
 }
 
-/// What a storage call asks for, whose length is within its limit; or MemoryFault where a byte of its
-/// key, buffer, value or output lacks the right that it needs.
+/// What a storage call asks for, or MemoryFault where a byte of its key, buffer, value or output lacks
+/// the right that it needs. The length of the call must be within its limit.
 pub fn request_by(call: StorageCall, registers: &Regs, memory: &Memory) -> Result<Request, Trap>
     requires { length_of call registers.now ≤ longest call }
     ensures { result ≡ request_by call registers.now memory.now }
@@ -37,7 +37,7 @@ pub fn request_by(call: StorageCall, registers: &Regs, memory: &Memory) -> Resul
     }
 }
 
-/// A read: its key may be read and its buffer may be written.
+/// What a READ asks for; MemoryFault unless its key may be read and its buffer may be written.
 fn read(registers: &Regs, memory: &Memory) -> Result<Request, Trap>
     ensures { result ≡ request_by call.Read registers.now memory.now }
 {
@@ -50,7 +50,7 @@ fn read(registers: &Regs, memory: &Memory) -> Result<Request, Trap>
     Ok(Request::Read(key))
 }
 
-/// A write: its key and its value may be read.
+/// What a WRITE asks for; MemoryFault unless its key and its value may be read.
 fn write(registers: &Regs, memory: &Memory) -> Result<Request, Trap>
     requires { a2 registers.now ≤ 64 }
     ensures { result ≡ request_by call.Write registers.now memory.now }
@@ -67,7 +67,7 @@ fn write(registers: &Regs, memory: &Memory) -> Result<Request, Trap>
     }))
 }
 
-/// A removal: its key may be read.
+/// What a REMOVE asks for; MemoryFault unless its key may be read.
 fn remove(registers: &Regs, memory: &Memory) -> Result<Request, Trap>
     ensures { result ≡ request_by call.Remove registers.now memory.now }
 {
@@ -77,7 +77,7 @@ fn remove(registers: &Regs, memory: &Memory) -> Result<Request, Trap>
     Ok(Request::Write(Write { key, value: None }))
 }
 
-/// An output, each byte of which may be read.
+/// The output of a RETURN or a REVERT; MemoryFault unless each of its bytes may be read.
 fn output(registers: &Regs, memory: &Memory) -> Result<Output, Trap>
     requires { a1 registers.now ≤ 256 }
     ensures { result ≡ (if is_readable memory.now (a0 registers.now) (a1 registers.now) then Ok (bytes_at memory.now (a0 registers.now) (a1 registers.now)) else Err MemoryFault) }

@@ -18,14 +18,14 @@ pub enum StorageCall {
     Write = 1,
     /// Removes a key.
     Remove = 2,
-    /// Ends the call with an output; its writes count.
+    /// Ends the call with an output; its writes are kept.
     Return = 3,
     /// Ends the call with an output; its writes are dropped.
     Revert = 4,
 }
 
 impl StorageCall {
-    /// The call of a number.
+    /// The storage call that has a number, or None where none has it.
     fn of(number: u32) -> Option<StorageCall>
         ensures { result ≡ call_of number }
     {
@@ -39,7 +39,7 @@ impl StorageCall {
         }
     }
 
-    /// The length that the registers name for the call.
+    /// The length that the registers give for the call, in bytes; 0 for a removal.
     fn length(self, registers: &Regs) -> u32
         ensures { result ≡ length_of self registers.now }
     {
@@ -50,7 +50,7 @@ impl StorageCall {
         }
     }
 
-    /// The greatest length of the call.
+    /// The greatest length that the call may have, in bytes.
     fn longest(self) -> u32
         ensures value { result ≡ longest self }
         ensures small { result ≤ 256 }
@@ -62,7 +62,7 @@ impl StorageCall {
         }
     }
 
-    /// The gas of the call, 10 to 656, for a length within its limit.
+    /// The gas of the call, 10 to 656. Its length must be within its limit.
     pub fn charge(self, registers: &Regs) -> u32
         requires { length_of self registers.now ≤ longest self }
         ensures { result ≡ charge_of self registers.now }
@@ -76,8 +76,9 @@ impl StorageCall {
     }
 }
 
-/// The storage call of the number in a7; or UnknownCall where no call has it, and else BadLength
-/// where its length is above its greatest: 64 bytes in a2, or for an output 256 in a1.
+/// The storage call whose number is in a7. Traps UnknownCall where no call has that number, and else
+/// BadLength where its length is above the limit: a2 above 64 for READ and WRITE, or a1 above 256 for
+/// RETURN and REVERT.
 #[tactic(auto, unfolding(crate::specs::StorageCalls::asked))]
 pub fn asked(registers: &Regs) -> Result<StorageCall, Trap>
     ensures call { result ≡ asked registers.now }
@@ -92,7 +93,8 @@ pub fn asked(registers: &Regs) -> Result<StorageCall, Trap>
     Ok(call)
 }
 
-/// The charge of an ECALL in gas, 10 to 656; or UnknownCall, or else BadLength, which cost nothing.
+/// The charge of an ECALL in gas, 10 to 656. Traps UnknownCall, and else BadLength; these two traps cost
+/// nothing.
 pub fn ecall_charge(registers: &Regs) -> Result<u32, Trap>
     ensures { result ≡ ecall_charge registers.now }
 {

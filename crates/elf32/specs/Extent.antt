@@ -5,7 +5,7 @@ use Rattle.std.specs.Prelude.{ℕ}
 abbrev pub first_address : ℕ
 first_address = 0x1_0000
 
--- the first address after the last
+-- the first address after memory
 abbrev pub end_address : ℕ
 end_address = 0x11_0000
 

@@ -1,4 +1,5 @@
--- The faults of a file, in the order of their numbers. Sums are of whole numbers and don't wrap.
+-- The faults of a file, in the order of their numbers; 9 stands first, since 1 uses it. Sums are of whole numbers
+-- and don't wrap.
 use Rattle.std.specs.Prelude.{ℕ, ◌+◌, ◌-◌, ◌*◌, ◌/◌, ◌%◌, ◌==◌, Bool, false, not, ◌&&◌, ◌||◌, nat_lt, nat_le, List, [], ◌∷◌, length, take, slice_index, bytes_eq, filter, Option, Some, None, if◌then◌else◌}
 use Rattle.std.specs.List.{list_any}
 use Rattle.elf32.specs.declared.error.ElfError.{ElfError}
@@ -28,7 +29,7 @@ has_read p = p.p_flags / 4 % 2 == 1
 unfoldable pub loads : List ℕ → List ProgramHeader
 loads bytes = filter is_load (program_headers bytes)
 
--- the relation holds of one of the list and one after it
+-- the relation holds between a member of the list and a later one
 abbrev pub some_pair : (ProgramHeader → ProgramHeader → Bool) → List ProgramHeader → Bool
 some_pair related [] = false
 some_pair related (p ∷ later) = list_any (related p) later || some_pair related later
@@ -74,8 +75,8 @@ has_bad_header_size bytes = not (e_ehsize bytes == 52 && e_phentsize bytes == 32
 unfoldable pub has_bad_type : List ℕ → Bool
 has_bad_type bytes = list_any (λ p. not (is_load p || is_null p)) (program_headers bytes)
 
--- 11: p_filesz is above p_memsz, the file bytes pass the end of the file, or the addresses lie not
--- between the first address and the input's
+-- 11: p_filesz is above p_memsz, the file bytes pass the end of the file, p_vaddr is below the first address, or
+-- the segment's end is above the input's address
 abbrev pub is_out_of_range : ℕ → ProgramHeader → Bool
 is_out_of_range len p =
     nat_lt p.p_memsz p.p_filesz || nat_lt len (p.p_offset + p.p_filesz) || nat_lt p.p_vaddr first_address || nat_lt input_address (p.p_vaddr + p.p_memsz)
@@ -90,7 +91,7 @@ is_below before later = nat_lt later.p_vaddr before.p_vaddr
 unfoldable pub is_out_of_order : List ℕ → Bool
 is_out_of_order bytes = some_pair is_below (loads bytes)
 
--- the pages of the first and the last address of one that has addresses
+-- the pages of the first and the last address of a PT_LOAD that has addresses
 abbrev pub first_page : ProgramHeader → ℕ
 first_page p = p.p_vaddr / page_size
 
@@ -109,7 +110,7 @@ shares_page bytes = some_pair share_a_page (loads bytes)
 unfoldable pub is_write_execute : List ℕ → Bool
 is_write_execute bytes = list_any (λ p. has_write p && has_execute p) (loads bytes)
 
--- 15: e_entry is no multiple of 4, or in no PT_LOAD with PF_X
+-- 15: e_entry is not a multiple of 4, or is in no PT_LOAD with PF_X
 abbrev pub may_execute_at : ℕ → ProgramHeader → Bool
 may_execute_at address p =
     has_execute p && nat_le p.p_vaddr address && nat_lt address (p.p_vaddr + p.p_memsz)

@@ -52,10 +52,10 @@ header_from bytes at = record {
   p_flags = word bytes (at + 24);
 }
 
--- the n-th program header, of 32 bytes
+-- the n-th program header, counted from 0; each has 32 bytes
 abbrev pub header_at : List ℕ → ℕ → ProgramHeader
 header_at bytes n = header_from bytes (e_phoff bytes + 32 * n)
 
--- all of them, in the order of the file
+-- all program headers, in the order of the file
 unfoldable pub program_headers : List ℕ → List ProgramHeader
 program_headers bytes = map (header_at bytes) (range_with_len 0 (e_phnum bytes))

@@ -12,7 +12,7 @@ use Rattle.elf32.specs.Layout.{Layout}
 abbrev pub rights_of : ProgramHeader → Rights
 rights_of p = record { readable = has_read p; writable = has_write p; executable = has_execute p }
 
--- the segment of a PT_LOAD, with the p_filesz bytes at p_offset; one with p_memsz 0 stays, and has no address
+-- the segment of a PT_LOAD, with the p_filesz bytes at p_offset; one with p_memsz 0 is kept too, and has no address
 abbrev pub segment_of : List ℕ → ProgramHeader → Segment
 segment_of bytes p = record {
   address = p.p_vaddr;

@@ -10,7 +10,7 @@ use Rattle.elf32.specs.Extent.{first_address, memory_size, page_count, page_size
 use Rattle.elf32.specs.declared.segment.Rights.{Rights}
 use Rattle.elf32.specs.declared.segment.Segment.{Segment}
 
--- the list with another laid over it from a place on
+-- the list with another written over it from a place on
 unfoldable pub over : List ℕ → ℕ → List ℕ → List ℕ
 over bytes place new = take place bytes ++ new ++ drop (place + length new) bytes
 
@@ -38,7 +38,7 @@ has_page k s = nat_lt (max s.address (page_start k)) (min (s.address + s.size) (
 abbrev pub data_rights : Rights
 data_rights = record { readable = true; writable = true; executable = false }
 
--- the rights of the page k: those of the segment with an address in it
+-- the rights of the page k: those of the first segment with an address in it, or data_rights where none has
 abbrev pub rights_of_page : List Segment → ℕ → Rights
 rights_of_page segments k = option_map_or (λ s. s.rights) (find (has_page k) segments) data_rights
 
@@ -46,7 +46,7 @@ rights_of_page segments k = option_map_or (λ s. s.rights) (find (has_page k) se
 unfoldable pub page_rights : ℕ → List Segment → List Rights
 page_rights n segments = map (rights_of_page segments) (range_with_len 0 n)
 
--- the bytes of a page of a program, of which one of zeros is not kept
+-- the bytes of a page of a program; None is a page of zeros
 abbrev pub page_bytes : Option (Arc (List ℕ) Global) → List ℕ
 page_bytes (Some page) = arc_value page
 page_bytes None = zeros page_size

@@ -6,15 +6,15 @@ use Rattle.elf32.specs.declared.words.PlacedWord.{PlacedWord}
 use Rattle.elf32.specs.Header.{word}
 use Rattle.elf32.specs.Layout.{Layout}
 
--- how far the first multiple of 4 lies behind the segment's address
+-- the number of bytes from the segment's address to the first multiple of 4
 abbrev pub lead : Segment → ℕ
 lead s = (4 - s.address % 4) % 4
 
--- how many multiples of 4 have all four bytes among the file bytes
+-- how many multiples of 4 have their four bytes among the file bytes
 abbrev pub word_count : Segment → ℕ
 word_count s = (length s.content - lead s) / 4
 
--- the word at the k-th multiple of 4
+-- the word at the k-th of these multiples of 4, counted from 0
 abbrev pub word_of_segment : Segment → ℕ → PlacedWord
 word_of_segment s k = record { address = s.address + lead s + 4 * k; word = word s.content (lead s + 4 * k) }
 

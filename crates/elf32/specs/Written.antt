@@ -27,7 +27,7 @@ data_address = 131072
 unfoldable pub text_bytes : List ℕ → List ℕ
 text_bytes text = flat_map word_bytes text
 
--- what a program has only where its data are not empty
+-- x, where the data are not empty, else nothing
 abbrev pub where_data : {X : Type 0} → List ℕ → X → List X
 where_data [] x = []
 where_data (b ∷ bytes) x = x ∷ []
@@ -57,7 +57,7 @@ table_fields count =
     ++ half_bytes 0  -- e_shnum
     ++ half_bytes 0  -- e_shstrndx
 
--- the ELF header of a file with so many program headers
+-- the ELF header of a file with `count` program headers
 unfoldable pub elf_header : ℕ → List ℕ
 elf_header count = e_ident ++ kind_fields ++ table_fields count
 
@@ -73,11 +73,11 @@ program_header_bytes p =
     ++ word_bytes p.p_flags
     ++ word_bytes 4  -- p_align
 
--- where the sections begin in a file with so many program headers
+-- where the text begins in a file with `count` program headers
 abbrev pub sections_offset : ℕ → ℕ
 sections_offset count = 52 + 32 * count
 
--- a PT_LOAD of so many bytes, all of them in the file
+-- a PT_LOAD of `size` bytes, all of them in the file
 abbrev pub load_header : ℕ → ℕ → ℕ → ℕ → ProgramHeader
 load_header offset address size flags = record {
   p_type = 1;
@@ -88,7 +88,7 @@ load_header offset address size flags = record {
   p_flags = flags;
 }
 
--- how many program headers: one for text, and one for data where there are any
+-- the number of program headers: one for text, and one for data where there are any
 abbrev pub header_count : Sections → ℕ
 header_count p = 1 + length (where_data p.data_bytes data_address)
 

@@ -1,4 +1,4 @@
-//! Bytes side by side.
+//! Writing bytes over other bytes.
 
 ghost use Rattle.std.specs.Prelude.{◌≡◌, ◌+◌, ◌≤◌, length};
 ghost use Rattle.elf32.specs.Pages.{over};

@@ -1,16 +1,16 @@
-//! Why bytes are no program.
+//! Why a file or a program is refused.
 
 use std::fmt;
 use thiserror::Error;
 
-/// The least-numbered fault of a file, or want of memory. The text is the name and the number.
+/// The least-numbered fault of a file or program, or that memory ran out. It prints as its name and number.
 #[derive(Clone, Copy, Debug, PartialEq, Eq, Error)]
 pub enum ElfError {
     /// Fewer than 52 bytes, or a table of 1 to 8 program headers passes the end.
     Truncated = 1,
     /// Bytes 0 to 3 are not 7f 45 4c 46.
     BadMagic = 2,
-    /// The class is not 32-bit or the data not little-endian.
+    /// Byte 4 is not ELFCLASS32, or byte 5 is not ELFDATA2LSB (little-endian).
     BadClassOrData = 3,
     /// Byte 6 or e_version is not 1.
     BadVersion = 4,
@@ -26,18 +26,19 @@ pub enum ElfError {
     BadCount = 9,
     /// An entry is neither PT_LOAD nor PT_NULL.
     BadType = 10,
-    /// A PT_LOAD passes the end of the file or of its memory, or has addresses below 0x00010000 or from
-    /// 0x00100000 on.
+    /// A PT_LOAD has p_filesz above p_memsz, p_offset + p_filesz above the file's length, p_vaddr below
+    /// 0x00010000, or p_vaddr + p_memsz above 0x00100000.
     SegmentRange = 11,
     /// A PT_LOAD has a p_vaddr below that of one before it.
     SegmentOrder = 12,
-    /// Two PT_LOADs have addresses in one page.
+    /// Two PT_LOADs have addresses in one page. One with p_memsz 0 has no address.
     PageShared = 13,
     /// A PT_LOAD has PF_W and PF_X.
     WriteExecute = 14,
-    /// e_entry is no multiple of 4, or in no PT_LOAD with PF_X.
+    /// e_entry is not a multiple of 4, or lies in no PT_LOAD with PF_X. `write` answers it for a program
+    /// without text words.
     BadEntry = 15,
-    /// Memory ran out; a file that was to be loaded has no fault.
+    /// Memory ran out. `load` answers it only for a file without a fault.
     Memory = 16,
 }
 

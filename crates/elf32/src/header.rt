@@ -10,69 +10,69 @@ pub(crate) const HEADER_SIZE: usize = 52;
 /// How many bytes a program header has.
 pub(crate) const PROGRAM_HEADER_SIZE: usize = 32;
 
-/// Where the fields of the ELF header stand.
+/// Where the type stands in the ELF header.
 pub(crate) const E_TYPE: usize = 16;
 
-/// Where the machine stands.
+/// Where the machine stands in the ELF header.
 pub(crate) const E_MACHINE: usize = 18;
 
-/// Where the version stands.
+/// Where the version stands in the ELF header.
 pub(crate) const E_VERSION: usize = 20;
 
-/// Where the entry stands.
+/// Where the entry stands in the ELF header.
 pub(crate) const E_ENTRY: usize = 24;
 
-/// Where the offset of the program headers stands.
+/// Where the offset of the program headers stands in the ELF header.
 pub(crate) const E_PHOFF: usize = 28;
 
-/// Where the flags stand.
+/// Where the flags stand in the ELF header.
 pub(crate) const E_FLAGS: usize = 36;
 
-/// Where the size of the file header stands.
+/// Where the size of the ELF header stands in it.
 pub(crate) const E_EHSIZE: usize = 40;
 
-/// Where the size of a program header stands.
+/// Where the size of a program header stands in the ELF header.
 pub(crate) const E_PHENTSIZE: usize = 42;
 
-/// Where the number of program headers stands.
+/// Where the number of program headers stands in the ELF header.
 pub(crate) const E_PHNUM: usize = 44;
 
-/// Where the fields of a program header stand in it.
+/// Where the type stands in a program header.
 const P_TYPE: usize = 0;
 
-/// Where a segment's offset in the file stands.
+/// Where a segment's offset in the file stands in a program header.
 const P_OFFSET: usize = 4;
 
-/// Where a segment's address stands.
+/// Where a segment's address stands in a program header.
 const P_VADDR: usize = 8;
 
-/// Where a segment's size in the file stands.
+/// Where a segment's size in the file stands in a program header.
 const P_FILESZ: usize = 16;
 
-/// Where a segment's size in memory stands.
+/// Where a segment's size in memory stands in a program header.
 const P_MEMSZ: usize = 20;
 
-/// Where a segment's flags stand.
+/// Where a segment's flags stand in a program header.
 const P_FLAGS: usize = 24;
 
 /// A program header, without p_paddr and p_align.
 #[derive(Clone, Copy, Debug, PartialEq, Eq)]
 pub struct ProgramHeader {
-    /// PT_NULL or PT_LOAD.
+    /// PT_NULL or PT_LOAD; any other number is BadType.
     pub p_type: u32,
-    /// Where its bytes begin in the file.
+    /// Where the segment's bytes begin in the file.
     pub p_offset: u32,
     /// Where they begin in memory.
     pub p_vaddr: u32,
-    /// How many bytes the file has of it.
+    /// How many bytes of the segment are in the file.
     pub p_filesz: u32,
-    /// How many bytes it has in memory.
+    /// How many bytes the segment has in memory.
     pub p_memsz: u32,
-    /// PF_X, PF_W and PF_R.
+    /// PF_X, PF_W and PF_R; the other bits are ignored.
     pub p_flags: u32,
 }
 
-/// The number in the two bytes at a place.
+/// The little-endian number in the two bytes at a place.
 #[tactic(auto, unfolding(crate::specs::Header::half))]
 pub(crate) fn half_at(bytes: &[u8], at: usize) -> u16
     requires { at + 2 ≤ length bytes.now }
@@ -81,7 +81,7 @@ pub(crate) fn half_at(bytes: &[u8], at: usize) -> u16
     LittleEndian::read_u16(&bytes[at..])
 }
 
-/// The number in the four bytes at a place.
+/// The little-endian number in the four bytes at a place.
 #[tactic(auto, unfolding(crate::specs::Header::word))]
 pub(crate) fn word_at(bytes: &[u8], at: usize) -> u32
     requires { at + 4 ≤ length bytes.now }

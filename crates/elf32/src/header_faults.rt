@@ -13,10 +13,10 @@ use crate::table::MAX_COUNT;
 /// The first bytes of an ELF file.
 pub(crate) const MAGIC: [u8; 4] = [0x7f, b'E', b'L', b'F'];
 
-/// Objects of 32 bits.
+/// The class of 32-bit files.
 pub(crate) const ELFCLASS32: u8 = 1;
 
-/// The lowest byte stands first.
+/// The data encoding in which the lowest byte stands first.
 pub(crate) const ELFDATA2LSB: u8 = 1;
 
 /// The one version of the format.
@@ -28,7 +28,7 @@ pub(crate) const ET_EXEC: u16 = 2;
 /// The machine RISC-V.
 pub(crate) const EM_RISCV: u16 = 243;
 
-/// Whether the file ends in its header or in its program headers.
+/// Whether the file has fewer than 52 bytes, or has 1 to 8 program headers and ends before their end.
 #[tactic(auto, unfolding(crate::specs::Faults::is_truncated, crate::specs::Faults::has_bad_count))]
 pub(crate) fn is_truncated(bytes: &[u8]) -> bool
     ensures value { result ≡ is_truncated bytes.now }
@@ -43,7 +43,7 @@ pub(crate) fn is_truncated(bytes: &[u8]) -> bool
     !has_bad_count(bytes) && bytes.len() < start + PROGRAM_HEADER_SIZE * count
 }
 
-/// Whether the first bytes are others.
+/// Whether bytes 0 to 3 are not `MAGIC`.
 #[tactic(auto, unfolding(crate::specs::Faults::has_bad_magic))]
 pub(crate) fn has_bad_magic(bytes: &[u8]) -> bool
     requires { 52 ≤ length bytes.now }
@@ -52,7 +52,7 @@ pub(crate) fn has_bad_magic(bytes: &[u8]) -> bool
     !bytes.starts_with(&MAGIC)
 }
 
-/// Whether it is not of 32 bits, or its bytes are in another order.
+/// Whether the file is not a 32-bit one, or not little-endian.
 #[tactic(auto, unfolding(crate::specs::Faults::has_bad_class_or_data))]
 pub(crate) fn has_bad_class_or_data(bytes: &[u8]) -> bool
     requires { 52 ≤ length bytes.now }
@@ -61,7 +61,7 @@ pub(crate) fn has_bad_class_or_data(bytes: &[u8]) -> bool
     bytes[4] != ELFCLASS32 || bytes[5] != ELFDATA2LSB
 }
 
-/// Whether its version is another.
+/// Whether byte 6 or e_version is not 1.
 #[tactic(auto, unfolding(crate::specs::Faults::has_bad_version))]
 pub(crate) fn has_bad_version(bytes: &[u8]) -> bool
     requires { 52 ≤ length bytes.now }
@@ -70,7 +70,7 @@ pub(crate) fn has_bad_version(bytes: &[u8]) -> bool
     bytes[6] != EV_CURRENT || word_at(bytes, E_VERSION) != u32::from(EV_CURRENT)
 }
 
-/// Whether it is no executable file.
+/// Whether e_type is not ET_EXEC.
 #[tactic(auto, unfolding(crate::specs::Faults::is_not_exec))]
 pub(crate) fn is_not_exec(bytes: &[u8]) -> bool
     requires { 52 ≤ length bytes.now }
@@ -79,7 +79,7 @@ pub(crate) fn is_not_exec(bytes: &[u8]) -> bool
     half_at(bytes, E_TYPE) != ET_EXEC
 }
 
-/// Whether it is for another machine.
+/// Whether e_machine is not EM_RISCV.
 #[tactic(auto, unfolding(crate::specs::Faults::is_not_riscv))]
 pub(crate) fn is_not_riscv(bytes: &[u8]) -> bool
     requires { 52 ≤ length bytes.now }
@@ -88,7 +88,7 @@ pub(crate) fn is_not_riscv(bytes: &[u8]) -> bool
     half_at(bytes, E_MACHINE) != EM_RISCV
 }
 
-/// Whether it has flags.
+/// Whether e_flags is not 0.
 #[tactic(auto, unfolding(crate::specs::Faults::has_bad_flags))]
 pub(crate) fn has_bad_flags(bytes: &[u8]) -> bool
     requires { 52 ≤ length bytes.now }
@@ -97,7 +97,7 @@ pub(crate) fn has_bad_flags(bytes: &[u8]) -> bool
     word_at(bytes, E_FLAGS) != 0
 }
 
-/// Whether a header has another size.
+/// Whether e_ehsize is not 52 or e_phentsize is not 32.
 #[tactic(auto, unfolding(crate::specs::Faults::has_bad_header_size))]
 pub(crate) fn has_bad_header_size(bytes: &[u8]) -> bool
     requires { 52 ≤ length bytes.now }
@@ -107,7 +107,7 @@ pub(crate) fn has_bad_header_size(bytes: &[u8]) -> bool
         || half_at(bytes, E_PHENTSIZE) as usize != PROGRAM_HEADER_SIZE
 }
 
-/// Whether the number of program headers is not 1 to 8.
+/// Whether e_phnum, the number of program headers, is not 1 to 8.
 #[tactic(auto, unfolding(crate::specs::Faults::has_bad_count))]
 pub(crate) fn has_bad_count(bytes: &[u8]) -> bool
     requires { 52 ≤ length bytes.now }

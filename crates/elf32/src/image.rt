@@ -8,8 +8,8 @@ use std::alloc::{AllocError, Global};
 use std::marker::Model;
 use std::sync::Arc;
 
-/// A program as it stands before its first instruction: an entry and segments, and the pages that they
-/// fill, which each run of the program shares.
+/// A program as it stands before its first instruction: its entry, its segments, and the pages that they
+/// fill. The runs of the program share these pages; a run copies a page when it first writes it.
 #[derive(Drop)]
 pub struct Image {
     entry: u32,
@@ -42,7 +42,7 @@ impl Image {
     ghost use Rattle.elf32.specs.Layout.{IsPlaced};
     ghost use Rattle.elf32.specs.Pages.{HoldSegments, page_rights};
 
-    /// An entry and segments in order; refused where memory ran out.
+    /// The program with this entry and these segments; refused where memory ran out.
     #[tactic(auto, unfolding(crate::specs::Pages::segment_bytes))]
     pub(crate) fn new(alloc: Global, entry: u32, segments: Vec<Segment>) -> Result<Self, AllocError>
         requires { All IsPlaced segments.items }
@@ -67,7 +67,7 @@ impl Image {
         self.entry
     }
 
-    /// The segments, in the order of their addresses.
+    /// The segments, in the order of their program headers. A later one never has a lower address.
     pub fn segments(&self) -> &[Segment]
         ensures value { result.now ≡ self.now.segments }
         ensures placed { All IsPlaced result.now }
@@ -75,8 +75,8 @@ impl Image {
         self.segments.as_slice()
     }
 
-    /// The 256 pages of memory with the segments' file bytes in them, in order, the page k from the address
-    /// 0x00010000 + 4096 k on. None is a page of zeros.
+    /// The 256 pages of memory with the segments' file bytes in them, in order. Page k begins at the address
+    /// 0x00010000 + 4096 k. None is a page of zeros.
     pub fn pages(&self) -> &[Option<Arc<Page>>]
         ensures { HoldSegments result.now self.now.segments }
     {

@@ -15,7 +15,7 @@ use std::sync::Arc;
 /// The bytes of one page.
 pub type Page = [u8; PAGE_SIZE];
 
-/// The given number of zeros.
+/// The given number of zeros; refused where memory ran out.
 #[tactic(auto, unfolding(crate::specs::Pages::zeros))]
 pub(crate) fn zero_bytes(alloc: Global, count: usize) -> Result<Vec<u8>, AllocError>
     ensures value { IfOk result (λ v. v.items ≡ zeros count) }
@@ -47,7 +47,7 @@ fn are_zeros(bytes: &[u8]) -> bool
     bytes.iter().all(|byte| *byte == 0)
 }
 
-/// The page of the bytes, or None where all of them are zero.
+/// The page of the bytes, or None where all of them are zero; refused where memory ran out.
 fn page_of(alloc: Global, bytes: &[u8]) -> Result<Option<Arc<Page>>, AllocError>
     requires { length bytes.now ≡ page_size }
     ensures { IfOk result (λ page. page_bytes page ≡ bytes.now) }
@@ -61,7 +61,7 @@ fn page_of(alloc: Global, bytes: &[u8]) -> Result<Option<Arc<Page>>, AllocError>
     Ok(Some(Arc::new(alloc, *page)?))
 }
 
-/// The pages of the bytes of memory, in order, None where all bytes of a page are zero.
+/// The pages of the bytes of memory, in order. None is a page of zeros. Refused where memory ran out.
 pub(crate) fn pages_of(alloc: Global, bytes: &[u8]) -> Result<Vec<Option<Arc<Page>>>, AllocError>
     requires { length bytes.now ≡ memory_size }
     ensures bytes { IfOk result (λ v. flat_map page_bytes v.items ≡ bytes.now) }

@@ -46,8 +46,8 @@ impl Content {
     }
 }
 
-/// A PT_LOAD segment: `size` bytes from `address` on, the first of them those of the file and the
-/// others zero.
+/// A PT_LOAD segment: `size` bytes from `address` on. First come the bytes of the file, and the others are
+/// zero.
 #[derive(Debug, Drop)]
 pub struct Segment {
     /// p_vaddr.

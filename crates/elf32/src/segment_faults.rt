@@ -8,7 +8,7 @@ use crate::extent::{self, FIRST_ADDRESS, INPUT_ADDRESS};
 use crate::header::ProgramHeader;
 use crate::table::{PT_LOAD, PT_NULL};
 
-/// The size of a page, in bytes, as wide as the end of a segment.
+/// The size of a page in bytes, of the type of a segment's end.
 const PAGE_SIZE: u64 = extent::PAGE_SIZE as u64;
 
 /// The flag of an executable segment.
@@ -21,14 +21,14 @@ pub(crate) const PF_W: u32 = 2;
 pub(crate) const PF_R: u32 = 4;
 
 impl ProgramHeader {
-    /// Whether it may be executed.
+    /// Whether it has PF_X: the segment may be executed.
     pub(crate) fn has_execute(&self) -> bool
         ensures { result ≡ has_execute self.now }
     {
         self.p_flags & PF_X != 0
     }
 
-    /// Whether it may be written.
+    /// Whether it has PF_W: the segment may be written.
     #[tactic(auto, using(crate::proofs::Flags::second_bit))]
     pub(crate) fn has_write(&self) -> bool
         ensures { result ≡ has_write self.now }
@@ -36,7 +36,7 @@ impl ProgramHeader {
         self.p_flags & PF_W != 0
     }
 
-    /// Whether it may be read.
+    /// Whether it has PF_R: the segment may be read.
     #[tactic(auto, using(crate::proofs::Flags::third_bit))]
     pub(crate) fn has_read(&self) -> bool
         ensures { result ≡ has_read self.now }
@@ -44,14 +44,15 @@ impl ProgramHeader {
         self.p_flags & PF_R != 0
     }
 
-    /// One past the last address.
+    /// The first address after the segment.
     fn end(&self) -> u64
         ensures { result ≡ self.now.p_vaddr + self.now.p_memsz }
     {
         u64::from(self.p_vaddr) + u64::from(self.p_memsz)
     }
 
-    /// Whether it passes the end of the file or of its memory.
+    /// Whether p_filesz is above p_memsz, the file bytes pass the end of the file, p_vaddr is below the first
+    /// address of memory, or the segment passes the address of the input.
     fn is_out_of_range(&self, len: usize) -> bool
         ensures { result ≡ is_out_of_range len self.now }
     {
@@ -61,7 +62,7 @@ impl ProgramHeader {
             || u64::from(INPUT_ADDRESS) < self.end()
     }
 
-    /// Whether two segments have addresses in one page.
+    /// Whether two segments have addresses in one page. A segment with p_memsz 0 has no address.
     fn shares_page(&self, other: &ProgramHeader) -> bool
         ensures { result ≡ share_a_page self.now other.now }
     {
@@ -79,7 +80,7 @@ impl ProgramHeader {
     }
 }
 
-/// Whether an entry is neither loaded nor unused.
+/// Whether a program header is neither PT_LOAD nor PT_NULL.
 pub(crate) fn has_bad_type(headers: &[ProgramHeader]) -> bool
     ensures { result ≡ list_any (λ p. not (is_load p || is_null p)) headers.now }
 {
@@ -95,14 +96,14 @@ pub(crate) fn has_bad_range(loads: &[ProgramHeader], len: usize) -> bool
     loads.iter().any(|p| p.is_out_of_range(len))
 }
 
-/// Whether a later segment is below one.
+/// Whether one of the later segments has a p_vaddr below that of `before`.
 fn any_is_below(later: &[ProgramHeader], before: &ProgramHeader) -> bool
     ensures { result ≡ list_any (is_below before.now) later.now }
 {
     later.iter().any(|p| p.p_vaddr < before.p_vaddr)
 }
 
-/// Whether the segments do not ascend.
+/// Whether a segment has a p_vaddr below that of one before it.
 pub(crate) fn is_out_of_order(loads: &[ProgramHeader]) -> bool
     ensures { result ≡ some_pair is_below loads.now }
 {
@@ -112,14 +113,14 @@ pub(crate) fn is_out_of_order(loads: &[ProgramHeader]) -> bool
     }
 }
 
-/// Whether a later segment shares a page with one.
+/// Whether one of the later segments has an address in a page of `before`.
 fn any_shares_page(later: &[ProgramHeader], before: &ProgramHeader) -> bool
     ensures { result ≡ list_any (share_a_page before.now) later.now }
 {
     later.iter().any(|p| before.shares_page(p))
 }
 
-/// Whether two segments have addresses in one page.
+/// Whether two of the segments have addresses in one page.
 pub(crate) fn shares_page(loads: &[ProgramHeader]) -> bool
     ensures { result ≡ some_pair share_a_page loads.now }
 {
@@ -129,7 +130,7 @@ pub(crate) fn shares_page(loads: &[ProgramHeader]) -> bool
     }
 }
 
-/// Whether a segment may be written and executed.
+/// Whether a segment may be both written and executed.
 pub(crate) fn is_write_execute(loads: &[ProgramHeader]) -> bool
     ensures { result ≡ list_any (λ p. has_write p && has_execute p) loads.now }
 {
@@ -143,7 +144,7 @@ fn is_executable(loads: &[ProgramHeader], address: u32) -> bool
     loads.iter().any(|p| p.may_execute_at(address))
 }
 
-/// Whether the entry is no multiple of 4, or in no executable segment.
+/// Whether the entry is not a multiple of 4, or is in no executable segment.
 pub(crate) fn has_bad_entry(loads: &[ProgramHeader], entry: u32) -> bool
     ensures { result ≡ (not (entry % 4 == 0) || not (list_any (may_execute_at entry) loads.now)) }
 {

@@ -10,7 +10,7 @@ use crate::header::{
 };
 use std::marker::Model;
 
-/// p_type of an entry that is ignored.
+/// p_type of a program header that is ignored.
 pub(crate) const PT_NULL: u32 = 0;
 /// p_type of a segment.
 pub(crate) const PT_LOAD: u32 = 1;
@@ -54,7 +54,7 @@ impl Table {
         }
     }
 
-    /// Adds one behind the others.
+    /// Adds one at the end.
     fn push(&mut self, header: ProgramHeader)
         requires { length self.old < 8 }
         ensures { self.new ≡ self.old ++ header ∷ [] }
@@ -71,7 +71,7 @@ impl Table {
     }
 }
 
-/// All of the file's, e_phnum of them from e_phoff on.
+/// All program headers of the file: e_phnum of them, from e_phoff on.
 #[tactic(auto, unfolding(crate::specs::Header::program_headers))]
 pub(crate) fn program_headers(bytes: &[u8]) -> Table
     requires { IsReadable bytes.now }
@@ -86,7 +86,7 @@ pub(crate) fn program_headers(bytes: &[u8]) -> Table
     table
 }
 
-/// The PT_LOADs of the file.
+/// The PT_LOADs of the file, in order.
 #[tactic(auto, unfolding(crate::specs::Faults::loads))]
 pub(crate) fn loads(bytes: &[u8]) -> Table
     requires { IsReadable bytes.now }

@@ -20,7 +20,7 @@ pub struct PlacedWord {
 }
 
 impl Segment {
-    /// How far the first multiple of 4 lies behind the address.
+    /// The number of bytes from the segment's address to the first multiple of 4, 0 to 3.
     fn lead(&self) -> u32
         ensures value { result ≡ lead self.now }
         ensures small { result < 4 }
@@ -28,7 +28,7 @@ impl Segment {
         (4 - self.address % 4) % 4
     }
 
-    /// How many whole words stand from there on.
+    /// The number of whole words in the file bytes from there on.
     fn word_count(&self) -> usize
         ensures { result ≡ word_count self.now }
     {
@@ -39,7 +39,7 @@ impl Segment {
             / 4
     }
 
-    /// The k-th of these words, with its address.
+    /// The k-th of these words, counted from 0, with its address.
     fn word(&self, k: usize) -> PlacedWord
         requires placed { IsPlaced self.now }
         requires below { k < word_count self.now }
@@ -52,7 +52,7 @@ impl Segment {
         }
     }
 
-    /// Adds its words, where it may be executed; refused where memory ran out.
+    /// Adds the segment's words where it may be executed, else nothing; refused where memory ran out.
     #[tactic(auto, unfolding(crate::specs::Words::words_of_segment))]
     fn put_words(&self, words: &mut Vec<PlacedWord>) -> Result<(), AllocError>
         requires { IsPlaced self.now }
@@ -69,9 +69,10 @@ impl Segment {
 }
 
 impl Image {
-    /// The words at multiples of 4 whose four bytes are file bytes of segments with PF_X, each with its
-    /// address, in the order of the segments; refused where memory ran out. Which words these are:
-    /// `words_stand_in_segments`. Those of a file that loads ascend: `words_ascend`.
+    /// The words at multiples of 4 whose four bytes are file bytes of a segment with PF_X, each with its
+    /// address, in the order of the segments. Refused where memory ran out. The law `words_stand_in_segments`
+    /// says which words these are. The law `words_ascend` says that their addresses ascend if the program was
+    /// loaded from a file.
     pub fn words(&self, alloc: Global) -> Result<Vec<PlacedWord>, AllocError>
         ensures { IfOk result (λ v. v.items ≡ words_of self.now) }
     {
@@ -83,15 +84,15 @@ impl Image {
     }
 }
 
-/// A law, and no code: the words of a file that loads ascend.
+/// A law, and no code: the words of a file that loads have ascending addresses.
 pub fn words_ascend()
     ensures { (bytes : List ℕ) (layout : Layout)
         → image_of bytes ≡ Ok layout
         → AllPairs (λ v w. v.address < w.address) (words_of layout) }
 {}
 
-/// A law, and no code: a word is among a program's words just where a segment that may be executed has
-/// it in four of its file bytes at a multiple of 4.
+/// A law, and no code: a word with its address is among a program's words just where the address is a
+/// multiple of 4 and a segment that may be executed has the word there in four of its file bytes.
 pub fn words_stand_in_segments()
     ensures { (layout : Layout) → StandInSegments layout }
 {}

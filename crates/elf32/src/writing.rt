@@ -52,7 +52,7 @@ fn put_kind(file: &mut Vec<u8>) -> Result<(), AllocError>
     put_word(file, TEXT_START)
 }
 
-/// Appends e_phoff to e_shstrndx for so many program headers.
+/// Appends e_phoff to e_shstrndx for `count` program headers.
 fn put_table(file: &mut Vec<u8>, count: u16) -> Result<(), AllocError>
     ensures { OnOk result (file.new.items ≡ file.old.items ++ table_fields count) }
 {
@@ -67,7 +67,7 @@ fn put_table(file: &mut Vec<u8>, count: u16) -> Result<(), AllocError>
     put_half(file, 0)
 }
 
-/// Appends the ELF header of a file with so many program headers.
+/// Appends the ELF header of a file with `count` program headers.
 #[tactic(auto, unfolding(crate::specs::Written::elf_header))]
 fn put_header(file: &mut Vec<u8>, count: u16) -> Result<(), AllocError>
     ensures { OnOk result (file.new.items ≡ file.old.items ++ elf_header count) }
@@ -92,7 +92,7 @@ fn put_program_header(file: &mut Vec<u8>, header: &ProgramHeader) -> Result<(), 
     put_word(file, P_ALIGN)
 }
 
-/// Appends text, each word's low byte first.
+/// Appends text, the low byte of each word first.
 #[tactic(auto, unfolding(crate::specs::Written::text_bytes))]
 fn put_text(file: &mut Vec<u8>, text: &[u32]) -> Result<(), AllocError>
     ensures { OnOk result (file.new.items ≡ file.old.items ++ text_bytes text.now) }
@@ -103,7 +103,7 @@ fn put_text(file: &mut Vec<u8>, text: &[u32]) -> Result<(), AllocError>
     Ok(())
 }
 
-/// One program header for text, and one for data where there are any.
+/// The number of program headers: one for text, and one for data where there are any.
 fn header_count(program: &Program) -> u16
     ensures value { result ≡ header_count program.now }
     ensures few { result ≤ 2 }
@@ -111,7 +111,7 @@ fn header_count(program: &Program) -> u16
     if program.data().is_empty() { 1 } else { 2 }
 }
 
-/// Where the sections begin in the file.
+/// Where the text begins in the file; the data follow it.
 fn sections_offset(program: &Program) -> u32
     ensures value { result ≡ sections_offset (header_count program.now) }
     ensures few { result ≤ 116 }
@@ -160,7 +160,7 @@ fn put_program_headers(file: &mut Vec<u8>, program: &Program) -> Result<(), Allo
     put_program_header(file, &data_header(program))
 }
 
-/// The file of a program.
+/// The file of a program; refused where memory ran out.
 #[tactic(auto, unfolding(crate::specs::Written::file_of))]
 fn file(alloc: Global, program: &Program) -> Result<Vec<u8>, AllocError>
     ensures { IfOk result (λ file. file.items ≡ file_of program.now) }
@@ -173,9 +173,9 @@ fn file(alloc: Global, program: &Program) -> Result<Vec<u8>, AllocError>
     Ok(file)
 }
 
-/// The ELF32 file of an assembled program, whose entry is its first text word: `BadEntry` where it has no
-/// text words, and else the file, or `Memory` where memory ran out. The file loads as the program:
-/// `file_loads`.
+/// The ELF32 file of an assembled program. Its entry is the first text word. Refused with `BadEntry` where
+/// the program has no text words, and with `Memory` where memory ran out. The law `file_loads` says that the
+/// file loads as the program.
 pub fn write(alloc: Global, program: &Program) -> Result<Vec<u8>, ElfError>
     ensures file { IfOk result (λ file. file.items ≡ file_of program.now) }
     ensures loads { IfOk result (λ file. image_of file.items ≡ Ok (program_layout program.now)) }

@@ -14,22 +14,22 @@ use Rattle.engines.specs.declared.fault.Refusal.{Refusal}
 use Rattle.engines.specs.declared.fault.Refusal.TheVariants.{File, Block, Elf, Seq, Debug, Output}
 use Rattle.engines.specs.declared.fault.FileFault.TheVariants.{TooLong, Unreadable}
 
--- the first moment of the call of an index, over the storage that the calls before it left; None where there is no such call
+-- the first moment of the call at an index, over the storage that the calls before it left; None without such a call
 abbrev pub first_moment : Job → ℕ → Option ReplayState
 first_moment job index = option_map (λ call. record { call = call; store = store_before job.block index job.store; moment = 0 }) (slice_get job.block index)
 
--- what a session from a moment on prints for what is typed
+-- what a session from a moment on prints for what is typed; NoSuchCall where there is no such moment
 abbrev pub session_text : Option ReplayState → List ℕ → Result (List ℕ) Refusal
 session_text (Some r) typed = Ok (session r (lines_of typed)).text
 session_text None typed = Err (Debug debug.NoSuchCall)
 
--- what a session over the call of an index of a job prints, or the first fault
+-- what a session over the call at an index of a job prints, or the first fault
 abbrev pub replayed_text : Result Job Refusal → ℕ → List ℕ → Result (List ℕ) Refusal
 replayed_text (Err fault) index typed = Err fault
 replayed_text (Ok job) index typed = session_text (first_moment job index) typed
 
--- a refusal: NoSuchCall where the job of the files has no such call; a fault of the files is as of the run in order; those of
--- the session's reads, writes and memory may come at any line
+-- a refusal: NoSuchCall only where the job of the files has no such call; a fault of the files is as in a run in order;
+-- a refusal of the session's reads, writes or memory may come at any line
 abbrev pub IsFaultOfDebug : (List ℕ → Option (List ℕ)) → Result BlockValue BlockFault → ℕ → Option (List ℕ) → Option (List ℕ) → Refusal → Type 0
 IsFaultOfDebug content block index old new (Debug debug.NoSuchCall) = IfSome (loaded_job content block) (λ wanted. IsOkAnd wanted (λ job. slice_get job.block index ≡ None))
 IsFaultOfDebug content block index old new (Debug debug.Memory) = ⊤
@@ -37,7 +37,7 @@ IsFaultOfDebug content block index old new (Debug fault) = ⊥
 IsFaultOfDebug content block index old new (Output fault) = ⊤
 IsFaultOfDebug content block index old new fault = IsFaultOf content block old new fault
 
--- what is refused before the session wrote nothing
+-- a refusal that comes before the session leaves the output as it was
 abbrev pub IsUnwrittenBefore : Option (List ℕ) → Option (List ℕ) → Refusal → Type 0
 IsUnwrittenBefore old new (Output fault) = ⊤
 IsUnwrittenBefore old new (Debug debug.Memory) = ⊤

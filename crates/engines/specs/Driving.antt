@@ -28,27 +28,31 @@ fault_of list.BadWorker = drive.BadWorker
 fault_of (list.Limited ArenaFull) = drive.ArenaFull
 fault_of (list.Limited IncarnationLimit) = drive.IncarnationLimit
 
--- the text of the result of calls along a list of worker numbers: where the list comes to an end it is that of the calls run in order
+-- the text of the result of calls along a list of worker numbers: where the list is not refused, it is the text of the
+-- calls run in order
 abbrev pub text_along : List Invocation → Storage → ℕ → List ℕ → Result (List ℕ) Refusal
 text_along calls store workers entries = result_map_both (λ s. result_text (receipts_of calls store) (store_after calls store))
     (λ refusal. Drive (fault_of refusal)) (list.drive_of calls store workers entries)
 
--- the same by the text of a schedule file, whose first fault comes before those of the list
+-- the same for a schedule file; its first fault comes before those of the list
 abbrev pub text_by : BlockValue → List Layout → ℕ → Result (List ℕ) BlockFault → Result (List ℕ) Refusal
 text_by block images workers (Err fault) = Err (Schedule fault)
 text_by block images workers (Ok entries) = text_along (map (call_over images) block.calls) block.store workers entries
 
--- the same over the files of programs, the first fault of which comes before those of the schedule; nothing is said where the schedule is unknown
+-- the same over the files of programs; their first fault comes before those of the schedule. None where they have no
+-- fault and the schedule's bytes are unknown
 abbrev pub text_over : BlockValue → ℕ → Option (Result (List ℕ) BlockFault) → Result (List Layout) Refusal → Option (Result (List ℕ) Refusal)
 text_over block workers schedule (Err fault) = Some (Err fault)
 text_over block workers schedule (Ok images) = option_map (text_by block images workers) schedule
 
--- what is to be written for a block file and a schedule file, or the first fault in the block file, in the files of its programs, in the schedule file and along the schedule; nothing is said where the bytes that this rests on are unknown
+-- what is to be written for a block file and a schedule file, or the first fault: in the block file, in the files of
+-- its programs, in the schedule file, then along the schedule. None where the bytes that decide this are unknown
 abbrev pub driven_answer : (List ℕ → Option (List ℕ)) → Result BlockValue BlockFault → ℕ → Option (Result (List ℕ) BlockFault) → Option (Result (List ℕ) Refusal)
 driven_answer content (Err fault) workers schedule = Some (Err (Block fault))
 driven_answer content (Ok block) workers schedule = option_and_then (λ files. text_over block workers schedule (programs_of files)) (files_of content block.programs)
 
--- a refusal: a fault of what was read or of the schedule's run is the wanted one, or want of memory; with one of the output a beginning of the wanted text was written
+-- a refusal: a fault of what was read or of the run along the schedule is the wanted one, or Memory; where the output
+-- was refused, a beginning of the wanted text was written
 abbrev pub IsFaultIn : Option (Result (List ℕ) Refusal) → Option (List ℕ) → Option (List ℕ) → Refusal → Type 0
 IsFaultIn answer old new (Block fault) = (fault.cause ≡ cause.Memory) ⊎ IfSome answer (λ a. a ≡ Err (Block fault))
 IsFaultIn answer old new (Elf fault) = (fault ≡ elf.Memory) ⊎ IfSome answer (λ a. a ≡ Err (Elf fault))

@@ -19,7 +19,7 @@ use Rattle.engines.specs.declared.fault.Refusal.TheVariants.{File, Block, Elf, S
 use Rattle.engines.specs.declared.fault.FileFault.TheVariants.{TooLong, Unreadable}
 use Rattle.engines.specs.declared.reading.TheConstants.{PROGRAM_FILE_LIMIT}
 
--- the bytes of the files at some paths, where all are known
+-- the bytes of the files at some paths; None where some are unknown
 abbrev pub with_file : Option (List ℕ) → Option (List (List ℕ)) → Option (List (List ℕ))
 with_file (Some bytes) (Some files) = Some (bytes ∷ files)
 with_file _ _ = None
@@ -42,7 +42,7 @@ abbrev pub programs_of : List (List ℕ) → Result (List Layout) Refusal
 programs_of [] = Ok []
 programs_of (bytes ∷ files) = with_program (program_of bytes) (programs_of files)
 
--- the call of a line: its program is the one of its number
+-- the call of a line, over the program that has its number
 abbrev pub call_over : List Layout → CallValue → Invocation
 call_over images line = record {
   image = slice_index_or images line.program (record { entry = 0; segments = [] });
@@ -54,21 +54,24 @@ call_over images line = record {
 abbrev pub job_over : BlockValue → List Layout → Job
 job_over block images = record { block = map (call_over images) block.calls; store = block.store }
 
--- the job of a block file, or the first fault in it or in the files of its programs; nothing is said where one of these is unknown
+-- the job of a block file, or the first fault in it or in the files of its programs; None where the block file has no
+-- fault and one of these files is unknown
 abbrev pub loaded_job : (List ℕ → Option (List ℕ)) → Result BlockValue BlockFault → Option (Result Job Refusal)
 loaded_job content (Err fault) = Some (Err (Block fault))
 loaded_job content (Ok block) = option_map (λ files. result_map_both (job_over block) (λ fault. fault) (programs_of files)) (files_of content block.programs)
 
--- the text of the result of a block: its calls run in order, each on the storage that the ones before it left
+-- the text of the result of a block: its calls are run in order, each over the storage that the ones before it left
 abbrev pub result_of : BlockValue → List Layout → List ℕ
 result_of block images = result_text (receipts_of (map (call_over images) block.calls) block.store) (store_after (map (call_over images) block.calls) block.store)
 
--- what is to be written for a block file, or the first fault in it or in the files of its programs; nothing is said where one of these is unknown
+-- what is to be written for a block file, or the first fault in it or in the files of its programs; None where the
+-- block file has no fault and one of these files is unknown
 abbrev pub answer_of : (List ℕ → Option (List ℕ)) → Result BlockValue BlockFault → Option (Result (List ℕ) Refusal)
 answer_of content (Err fault) = Some (Err (Block fault))
 answer_of content (Ok block) = option_map (λ files. result_map_both (result_of block) (λ fault. fault) (programs_of files)) (files_of content block.programs)
 
--- a refusal: a fault of the block file or of its programs is the wanted one, or want of memory; with one of the output a beginning of the wanted text was written
+-- a refusal: a fault of the block file or of its programs is the wanted one, or Memory; where the output was refused, a
+-- beginning of the wanted text was written
 abbrev pub IsFaultOf : (List ℕ → Option (List ℕ)) → Result BlockValue BlockFault → Option (List ℕ) → Option (List ℕ) → Refusal → Type 0
 IsFaultOf content block old new (Block fault) = (fault.cause ≡ cause.Memory) ⊎ (block ≡ Err fault)
 IsFaultOf content block old new (Elf fault) = (fault ≡ elf.Memory) ⊎ IfSome (answer_of content block) (λ answer. answer ≡ Err (Elf fault))
@@ -78,7 +81,7 @@ IsFaultOf content block old new (File Unreadable) = ⊤
 IsFaultOf content block old new (Seq fault) = ⊤
 IsFaultOf content block old new _ = ⊥
 
--- where a command is refused nothing was written, unless a write failed
+-- a refused command wrote nothing, unless a write failed
 abbrev pub IsUnwritten : Option (List ℕ) → Option (List ℕ) → Refusal → Type 0
 IsUnwritten old new (Output output.Io) = ⊤
 IsUnwritten old new (Output output.WroteNothing) = ⊤

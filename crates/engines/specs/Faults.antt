@@ -14,13 +14,13 @@ use Rattle.engines.specs.declared.fault.SeqFault.TheVariants.{Memory}
 use Rattle.engines.specs.declared.fault.Refusal.{Refusal}
 use Rattle.engines.specs.declared.fault.Refusal.TheVariants.{File, Block, Elf, Asm, Seq, Schedule, Run, Drive, Debug, Output}
 
--- the name and the number of a file's refusal
+-- the name and the number of a refusal of a file
 abbrev pub file_text : FileFault → List ℕ
 file_text Unreadable = codes "Unreadable 1"
 file_text Unwritable = codes "Unwritable 2"
 file_text TooLong = codes "TooLong 3"
 
--- of a run in order's
+-- the name and the number of a refusal of a run in order
 abbrev pub seq_text : SeqFault → List ℕ
 seq_text Memory = codes "Memory 1"
 
@@ -37,6 +37,6 @@ refusal_text (Drive fault) = codes "drive " ++ drive.fault_text fault
 refusal_text (Debug fault) = codes "debug " ++ debug.fault_text fault
 refusal_text (Output fault) = codes "output " ++ output.fault_text fault
 
--- the line that tells of a refusal
+-- the line of a refusal
 abbrev pub refusal_line : List ℕ → List ℕ
 refusal_line text = codes "rvstm: " ++ text ++ codes "\n"

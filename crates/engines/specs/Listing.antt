@@ -30,7 +30,7 @@ listing_of image = flat_map listing_line (words_of image)
 abbrev pub listing_of_file : List ℕ → Result (List ℕ) Refusal
 listing_of_file bytes = result_map_both listing_of (λ fault. fault) (program_of bytes)
 
--- a refusal of `dis`: a fault of the file is the wanted one, or want of memory; with one of the output a beginning of
+-- a refusal of `dis`: a fault of the file is the wanted one, or Memory; where the output was refused, a beginning of
 -- the wanted text was written
 abbrev pub IsListingFault : Result (List ℕ) Refusal → Option (List ℕ) → Option (List ℕ) → Refusal → Type 0
 IsListingFault answer old new (Elf fault) = (fault ≡ elf.Memory) ⊎ (answer ≡ Err (Elf fault))
@@ -39,7 +39,7 @@ IsListingFault answer old new (File Unreadable) = ⊤
 IsListingFault answer old new (Output fault) = IsOkAnd answer (AppendsPart old new)
 IsListingFault answer old new _ = ⊥
 
--- the file of a program that was assembled: one without text words has no entry
+-- the file of an assembled program; one without text words has no entry, and is refused as BadEntry
 abbrev pub file_or_fault : Sections → Result (List ℕ) Refusal
 file_or_fault program = if length program.text == 0 then Err (Elf elf.BadEntry) else Ok (file_of program)
 
@@ -51,7 +51,7 @@ file_of_program (Err fault) = Err (Asm fault)
 abbrev pub file_of_source : List ℕ → Result (List ℕ) Refusal
 file_of_source source = file_of_program (assembled source)
 
--- a refusal of `asm` before anything is written: a fault of a source in UTF-8 is the wanted one, or want of memory
+-- a refusal of `asm` before anything is written: a fault of a source in UTF-8 is the wanted one, or Memory
 abbrev pub IsSourceFault : List ℕ → Refusal → Type 0
 IsSourceFault source (Asm fault) = (fault.cause ≡ cause.Memory) ⊎ (IsUtf8 source × (file_of_source source ≡ Err (Asm fault)))
 IsSourceFault source (Elf fault) = (fault ≡ elf.Memory) ⊎ (IsUtf8 source × (file_of_source source ≡ Err (Elf fault)))

@@ -18,26 +18,26 @@ use Rattle.engines.specs.declared.fault.Refusal.{Refusal}
 use Rattle.engines.specs.declared.fault.Refusal.TheVariants.{File, Block, Elf, Seq, Schedule, Run, Debug, Output}
 use Rattle.engines.specs.declared.fault.FileFault.TheVariants.{Unreadable, TooLong}
 
--- a refusal met in the block file: it is the wanted one, or want of memory
+-- a refusal met in the block file: the wanted one, Memory, or Unreadable
 abbrev pub IsBlockFault : Result BlockValue BlockFault → Refusal → Type 0
 IsBlockFault block (Block fault) = (fault.cause ≡ cause.Memory) ⊎ (block ≡ Err fault)
 IsBlockFault block (File Unreadable) = ⊤
 IsBlockFault block _ = ⊥
 
--- a refusal met in the files of programs: it is the wanted one, or want of memory
+-- a refusal met in the files of programs: the wanted one, Memory, or Unreadable
 abbrev pub IsProgramFault : {X : Type 0} → Option (Result X Refusal) → Refusal → Type 0
 IsProgramFault wanted (Elf fault) = (fault ≡ elf.Memory) ⊎ IfSome wanted (λ w. w ≡ Err (Elf fault))
 IsProgramFault wanted (File TooLong) = IfSome wanted (λ w. w ≡ Err (File TooLong))
 IsProgramFault wanted (File Unreadable) = ⊤
 IsProgramFault wanted _ = ⊥
 
--- a refusal met in the schedule file: it is the wanted one, or want of memory
+-- a refusal met in the schedule file: the wanted one, Memory, or Unreadable
 abbrev pub IsScheduleFault : Option (Result (List ℕ) BlockFault) → Refusal → Type 0
 IsScheduleFault wanted (Schedule fault) = (fault.cause ≡ cause.Memory) ⊎ IfSome wanted (λ w. w ≡ Err fault)
 IsScheduleFault wanted (File Unreadable) = ⊤
 IsScheduleFault wanted _ = ⊥
 
--- a refusal met before a job is made: it is the wanted one, or want of memory
+-- a refusal met before a job is made: the wanted one, Memory, or Unreadable
 abbrev pub IsJobFault : (List ℕ → Option (List ℕ)) → Result BlockValue BlockFault → Refusal → Type 0
 IsJobFault content block (Block fault) = (fault.cause ≡ cause.Memory) ⊎ (block ≡ Err fault)
 IsJobFault content block (Elf fault) = (fault ≡ elf.Memory) ⊎ IfSome (loaded_job content block) (λ wanted. wanted ≡ Err (Elf fault))
@@ -54,7 +54,7 @@ abbrev pub IsOutputFault : List ℕ → Option (List ℕ) → Option (List ℕ) 
 IsOutputFault text old new (Output fault) = AppendsPart old new text
 IsOutputFault text old new _ = ⊥
 
--- a refusal of a run in order: want of memory, or one of the output
+-- a refusal of a run in order: Memory, or one of the output
 abbrev pub IsRunFault : List ℕ → Option (List ℕ) → Option (List ℕ) → Refusal → Type 0
 IsRunFault text old new (Seq fault) = ⊤
 IsRunFault text old new (Output fault) = AppendsPart old new text
@@ -66,14 +66,14 @@ IsWorkersFault job workers old new (Run fault) = IsRefusalOf job workers fault
 IsWorkersFault job workers old new (Output fault) = AppendsPart old new (text_of job)
 IsWorkersFault job workers old new _ = ⊥
 
--- a refusal before a session over the call of an index: want of memory, or that there is no such call
+-- a refusal before a session over the call at an index: Memory, or NoSuchCall where there is no such call
 abbrev pub IsReplayFault : Job → ℕ → Refusal → Type 0
 IsReplayFault job index (Seq fault) = ⊤
 IsReplayFault job index (Debug debug.Memory) = ⊤
 IsReplayFault job index (Debug debug.NoSuchCall) = slice_get job.block index ≡ None
 IsReplayFault job index _ = ⊥
 
--- a refusal of a session: of a read, of a write, or want of memory
+-- a refusal of a session: a failed read, a failed write, or Memory
 abbrev pub IsSessionFault : Refusal → Type 0
 IsSessionFault (File Unreadable) = ⊤
 IsSessionFault (Output fault) = ⊤

@@ -12,14 +12,16 @@ use Rattle.engines.specs.Engine.{loaded_job, IsFaultOf}
 use Rattle.engines.specs.declared.fault.Refusal.{Refusal}
 use Rattle.engines.specs.declared.fault.Refusal.TheVariants.{Run, Seq}
 
--- a refusal of a job's run by workers: a number of them that is not 1 to 32, or a limit that some list of steps of the job meets
+-- what a refusal of a job's run by workers says. BadCount: the number of workers is not 1 to 32. A limit: some list of
+-- steps of the job meets it. Any other refusal says nothing
 abbrev pub IsRefusalOf : Job → ℕ → RunFault → Type 0
 IsRefusalOf job workers run.BadCount = (workers ≡ 0) ⊎ (WORKER_LIMIT < workers)
 IsRefusalOf job workers run.ArenaFull = HasLimit job steps.ArenaFull
 IsRefusalOf job workers run.IncarnationLimit = HasLimit job steps.IncarnationLimit
 IsRefusalOf job workers fault = ⊤
 
--- a refusal: one of the run is of the job in the files; every other one is as of the run in order, but for its own
+-- a refusal: Memory of the run may come at any time; any other refusal of the run is one of the job in the files; a
+-- refusal of a run in order does not come; all others are as in a run in order
 abbrev pub IsFaultOfRun : (List ℕ → Option (List ℕ)) → Result BlockValue BlockFault → ℕ → Option (List ℕ) → Option (List ℕ) → Refusal → Type 0
 IsFaultOfRun content block workers old new (Run run.Memory) = ⊤
 IsFaultOfRun content block workers old new (Run fault) = IfSome (loaded_job content block) (λ wanted. IsOkAnd wanted (λ job. IsRefusalOf job workers fault))

@@ -10,9 +10,9 @@ use std::alloc::Global;
 use std::io::Read;
 use std::str;
 
-/// Reads a source to its end and gives the ELF file of the program that it stands for. Refused with
-/// the source's first fault, with BadEntry where it has no text words, with Unreadable where a read
-/// failed or the source is no UTF-8, or where memory ran out.
+/// Reads a source to its end and returns the ELF file of the program that it stands for. Refused
+/// with the source's first fault, as BadEntry where it has no text words, as Unreadable where a
+/// read failed or the source is not UTF-8, and as Memory where memory ran out.
 pub fn file_of_source<R: Read>(alloc: Global, source: &mut R) -> Result<Vec<u8>, Refusal>
     ensures ok { IfOk result (λ file. IfSome (R.remaining source.old) (λ bytes. IsUtf8 bytes × (file_of_source bytes ≡ Ok file.items))) }
     ensures err { IfErr result (λ e. IfSome (R.remaining source.old) (λ bytes. IsSourceFault bytes e)) }

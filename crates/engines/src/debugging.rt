@@ -17,10 +17,10 @@ use seq_exec::run_in_order;
 use std::alloc::Global;
 use std::io::{Read, Write};
 
-/// Reads a block file to its end and parses it, opens, reads and loads its programs in the order of
-/// their numbers, runs the calls in order, and replays the call of an index along the lines that are read,
-/// over the storage that the calls before it left. The first refusal ends it; what was read by then stands, and a
-/// beginning of what the session prints was written.
+/// Reads a block file to its end and parses it. Opens, reads and loads its programs in the order of their
+/// numbers. Runs the calls in order. Then replays the call at an index, over the storage that the calls
+/// before it left, along the lines that are read. The first refusal ends it. What was read by then stays
+/// read, and a beginning of what the session prints was written.
 pub fn debug_block_to<R: Read, P: Programs, L: Read, W: Write>(
     alloc: Global,
     block: &mut R,
@@ -50,7 +50,8 @@ pub fn debug_block_to<R: Read, P: Programs, L: Read, W: Write>(
     debug_lines(alloc, &mut replay, lines, out)
 }
 
-/// The replay of the call of an index of a job, at its first moment.
+/// The replay of the call at an index of a job, at its first moment. Refused as NoSuchCall where there is no
+/// such call, and as Memory where memory ran out.
 fn replay_of(alloc: Global, job: &Job, call: usize) -> Result<Replay, Refusal>
     ensures ok { IfOk result (λ r. first_moment job.now call ≡ Some r) }
     ensures err { IfErr result (λ e. IsReplayFault job.now call e) }

@@ -9,29 +9,30 @@ use std::io::{Read, Write};
 
 /// Files by their paths.
 pub trait Disk {
-    /// What reads a file.
+    /// A file that is open to be read.
     type File: Read + Drop;
 
-    /// What writes a file.
+    /// A file that is open to be written.
     type NewFile: Write + Drop;
 
     /// Opens a file to read it.
     fn open(&self, path: &str) -> io::Result<Self::File>;
 
-    /// Makes a file to write it; refused as AlreadyExists where something stands at the path.
+    /// Makes a file to write it; refused as AlreadyExists where something is at the path.
     fn create_new(&self, path: &str) -> io::Result<Self::NewFile>;
 
-    /// Opens what stands at a path to write into it from its start.
+    /// Opens what is at a path, to write into it from its start.
     fn create(&self, path: &str) -> io::Result<Self::NewFile>;
 
-    /// The path, with links followed, of the ordinary file that a path names or would name once made;
-    /// `None` where something else stands there, as a device. Refused where that file may not be written.
+    /// The path of the ordinary file that a path names, with links followed; the path itself where
+    /// nothing is there yet. `None` where something else is there, such as a device. Refused where the
+    /// file may not be written.
     fn file_path(&self, alloc: Global, path: &str) -> io::Result<Option<String>>;
 
-    /// Brings to the disk what was written to a file.
+    /// Makes sure that what was written to a file is on the disk.
     fn sync(&self, file: &Self::NewFile) -> io::Result<()>;
 
-    /// Renames a file, in the place of the one that has the new name.
+    /// Renames a file. It replaces the file that has the new name, if any.
     fn rename(&self, from: &str, to: &str) -> io::Result<()>;
 
     /// Removes a file.

@@ -22,9 +22,9 @@ use std::alloc::Global;
 use std::io::{Read, Write};
 use stm_core::{DriveFault, drive};
 
-/// Reads a block file to its end and parses it, opens, reads and loads its programs in the order of
-/// their numbers, runs the calls in order and writes the result. The first refusal ends it; where that is
-/// one of the output, a beginning of the result was written, and else nothing.
+/// Reads a block file to its end and parses it. Opens, reads and loads its programs in the order of their
+/// numbers. Then runs the calls in order and writes the result. The first refusal ends it. Where the
+/// output is refused, a beginning of the result was written; otherwise nothing was written.
 pub fn seq_to<R: Read, P: Programs, W: Write>(
     alloc: Global,
     block: &mut R,
@@ -45,10 +45,10 @@ pub fn seq_to<R: Read, P: Programs, W: Write>(
     run_job(alloc, &job, out)
 }
 
-/// Reads a block file to its end and parses it, opens, reads and loads its programs in the order of
-/// their numbers, reads a schedule file to its end and parses it, runs the calls by so many workers
-/// along it and writes the result, which is that of the calls in order. The first refusal ends it; where
-/// that is one of the output, a beginning of the result was written, and else nothing.
+/// Reads a block file to its end and parses it. Opens, reads and loads its programs in the order of their
+/// numbers. Reads a schedule file to its end and parses it. Then runs the calls on `workers` workers
+/// along the schedule and writes the result, which is that of the calls in order. The first refusal ends
+/// it. Where the output is refused, a beginning of the result was written; otherwise nothing was written.
 pub fn drive_to<R: Read, P: Programs, S: Read, W: Write>(
     alloc: Global,
     block: &mut R,

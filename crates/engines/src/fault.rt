@@ -13,7 +13,7 @@ use workers::RunFault;
 /// Why a file is refused.
 #[derive(Clone, Copy, Debug, PartialEq, Eq, Error)]
 pub enum FileFault {
-    /// It can't be opened or read.
+    /// It can't be opened or read, or a source is not UTF-8.
     Unreadable = 1,
     /// It can't be made or written.
     Unwritable = 2,
@@ -58,8 +58,8 @@ impl fmt::Display for SeqFault {
     }
 }
 
-/// Why a command is refused: the area, the refusal's name and its number; for a block file, a schedule
-/// file and a source also the line.
+/// Why a command is refused: the area, and the refusal in it. A refusal of a block file, a schedule
+/// file or a source has a line too.
 #[derive(Clone, Copy, Debug, PartialEq, Eq, Error)]
 pub enum Refusal {
     /// A file.
@@ -90,7 +90,7 @@ impl fmt::Display for Refusal {
 
     ghost output = { λ refusal. Some (refusal_text refusal) };
 
-    /// The area, and what is printed of the refusal in it.
+    /// The area, and what the refusal in it prints.
     fn fmt<W: fmt::Write>(&self, f: &mut fmt::Formatter<W>) -> fmt::Result {
         match self {
             Refusal::File(fault) => write!(f, "file {fault}"),

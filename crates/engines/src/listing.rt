@@ -17,8 +17,8 @@ use std::alloc::{AllocError, Global};
 use std::io::{Read, Write};
 
 /// Reads an ELF file of at most 131,072 bytes to its end, loads it and writes a line for each of its
-/// words: the address, the word and its text. The first refusal ends it; where that is one of the
-/// output, a beginning of the lines was written, and else nothing.
+/// words: the address, the word and its text. The first refusal ends it. Where the output is
+/// refused, a beginning of the lines was written; otherwise nothing was written.
 pub fn dis_to<R: Read, W: Write>(alloc: Global, file: &mut R, out: &mut W) -> Result<(), Refusal>
     ensures written { OnOk result (IfSome (R.remaining file.old) (λ bytes.
         IsOkAnd (listing_of_file bytes) (Appends (W.contents out.old) (W.contents out.new)))) }

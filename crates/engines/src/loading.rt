@@ -1,4 +1,4 @@
-//! The job of a block file and of the files of its programs.
+//! The job of a block file and the files of its programs.
 
 ghost use Rattle.std.specs.Prelude.{◌≡◌, ◌⊎◌, ◌<◌, ◌≤◌, length, map, vec_len, All, IfOk, IfErr, IfSome, Ok, Some};
 ghost use Rattle.std.specs.Arc.{arc_value};
@@ -18,9 +18,9 @@ use std::alloc::{AllocError, Global};
 use std::io::Read;
 use std::sync::Arc;
 
-/// Reads a block file to its end and parses it, opens, reads and loads its programs in the order of
-/// their numbers, and makes its job. The first refusal ends it; it is `memory` where memory for the
-/// calls ran out.
+/// Reads a block file to its end and parses it. Opens, reads and loads its programs in the order of
+/// their numbers. Then makes the job. The first refusal ends it. It is `memory` where memory for
+/// the calls ran out.
 pub(crate) fn load_job<R: Read, P: Programs>(
     alloc: Global,
     block: &mut R,
@@ -151,7 +151,7 @@ fn load_program(alloc: Global, bytes: &[u8]) -> Result<Arc<Image>, Refusal>
     }
 }
 
-/// The job of the calls over the loaded programs.
+/// The job of the calls over the loaded programs; refused where memory ran out.
 fn job_of(
     alloc: Global,
     images: &[Arc<Image>],
@@ -172,7 +172,7 @@ fn job_of(
     Ok(job)
 }
 
-/// The call of a line over the loaded programs.
+/// The call of a line over the loaded programs; refused where memory ran out.
 fn call_of(images: &[Arc<Image>], line: CallLine) -> Result<Call, AllocError>
     requires { line.program < length images.now }
     ensures { IfOk result (λ c. c ≡ call_over (map arc_value images.now) (call_value line)) }

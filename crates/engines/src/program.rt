@@ -1,4 +1,4 @@
-//! The program, over any command line, files, output and errors' writer.
+//! The program, over any command line, files, input and writers.
 
 use crate::assembling::file_of_source;
 use crate::debugging::debug_block_to;
@@ -20,9 +20,9 @@ use std::{env, io};
 /// The exit status of a wrong command line.
 const WRONG_LINE: u8 = 2;
 
-/// Does what the command line asks for, and gives the exit status: 0 where it is done, 1 where it is
-/// refused, 2 where the line is wrong. A debugger's lines are read from the input. A text of help is written
-/// to the output; what is refused or wrong is told on the errors' writer.
+/// Does what the command line asks for, and returns the exit status: 0 where it is done, 1 where it is
+/// refused, 2 where the line is wrong. The lines of `debug` are read from `input`. Results, help and the
+/// version are written to `out`. Refusals, and what is wrong with the line, are written to `errors`.
 pub fn status<R, T, D, I, W, E>(
     rt: &R,
     threads: &T,
@@ -72,7 +72,7 @@ fn words_of<R: Env + AllocGlobal>(rt: &R) -> io::Result<Vec<String>> {
     Ok(words.collect::<Vec<String>>(rt.alloc())?)
 }
 
-/// What is told of a command line that can't be read.
+/// The message for a command line that can't be read.
 fn text_of(error: &io::Error) -> &'static str {
     match error.kind() {
         io::ErrorKind::InvalidData => "error: a word of the command line is not UTF-8",
@@ -103,7 +103,7 @@ fn answer<T: Threads + Wait + Sync, D: Disk, I: Read, W: Write>(
     }
 }
 
-/// Runs the calls of a block file by workers, each on a thread of its own, and prints the result.
+/// Runs the calls of a block file on workers, each on a thread of its own, and prints the result.
 fn run<T: Threads + Wait + Sync, D: Disk, W: Write>(
     threads: &T,
     alloc: Global,
@@ -123,8 +123,8 @@ fn seq<D: Disk, W: Write>(alloc: Global, disk: &D, file: &str, out: &mut W) -> R
     seq_to(alloc, &mut block, &mut ProgramFiles { disk }, out)
 }
 
-/// Runs the calls of a block file along a schedule, whose file is opened behind those of the programs,
-/// and prints the result.
+/// Runs the calls of a block file along a schedule, and prints the result. The schedule file is opened
+/// after the files of the programs.
 fn drive<D: Disk, W: Write>(
     alloc: Global,
     disk: &D,
@@ -149,7 +149,8 @@ fn drive<D: Disk, W: Write>(
     )
 }
 
-/// Assembles a source and puts its ELF file at a path, which stays as it was where this is refused.
+/// Assembles a source and puts its ELF file at a path. Where this is refused, an ordinary file at the path
+/// stays as it was.
 fn asm<D: Disk>(alloc: Global, disk: &D, file: &str, out: &str) -> Result<(), Refusal> {
     let mut source = opened(disk, file)?;
     let bytes = file_of_source(alloc, &mut source)?;

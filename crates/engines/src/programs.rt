@@ -7,7 +7,7 @@ use std::io::Read;
 
 /// Where the programs of a block come from.
 pub trait Programs {
-    /// What reads a program's bytes.
+    /// An open program, whose bytes are read.
     type File: Read + Drop;
 
     /// The bytes of the program at a path, where they are known.

@@ -1,4 +1,4 @@
-//! Reading files to their ends.
+//! How files are read to their end.
 
 ghost use Rattle.std.specs.Prelude.{◌≡◌, ◌⊎◌, ◌<◌, ◌≤◌, length, vec_len, IfOk, IfErr, IfSome, Option, Some};
 ghost use Rattle.std.specs.Option.{option_map};
@@ -25,7 +25,7 @@ enum ReadFault {
 }
 
 /// All the bytes that a reader has left. Refused as TooLong where there are more than `limit`, as
-/// Unreadable where a read failed, or where memory ran out.
+/// Unreadable where a read failed, and as Memory where memory ran out.
 fn read_whole<R: Read>(alloc: Global, reader: &mut R, limit: usize) -> Result<Vec<u8>, ReadFault>
     ensures ok { IfOk result (λ v. IfSome (R.remaining reader.old) (λ bytes. v.items ≡ bytes)) }
     ensures short { IfOk result (λ v. vec_len v ≤ limit) }
@@ -68,7 +68,7 @@ pub(crate) fn read_text<R: Read>(
 }
 
 /// All the bytes that a reader of a program file has left. Refused as TooLong where there are more than
-/// 131,072, as Unreadable where a read failed, or where memory ran out.
+/// 131,072, as Unreadable where a read failed, and as Memory where memory ran out.
 pub(crate) fn read_elf<R: Read>(alloc: Global, reader: &mut R) -> Result<Vec<u8>, Refusal>
     ensures ok { IfOk result (λ v. IfSome (R.remaining reader.old) (λ bytes. v.items ≡ bytes)) }
     ensures short { IfOk result (λ v. vec_len v ≤ PROGRAM_FILE_LIMIT) }

@@ -1,4 +1,4 @@
-//! Putting a file in the place of another.
+//! How a file is put in the place of another.
 
 use crate::disk::Disk;
 use crate::fault::{FileFault, Refusal};
@@ -7,11 +7,13 @@ use rv_text::{AsmCause, AsmError};
 use std::alloc::Global;
 use std::io;
 
-/// How many names are tried for a new file.
+/// The number of names that are tried for a new file.
 const NAME_LIMIT: usize = 100;
 
-/// Puts bytes at a path. An ordinary file that stands there is replaced at once, by one that was written
-/// whole beside it, so that it stays as it was where this is refused; a device is written as it is.
+/// Puts bytes at a path. An ordinary file there is replaced in one step, by a file that was written in
+/// full beside it; where this is refused it stays as it was. A device is written directly. Refused as
+/// Unwritable where a file can't be made or written, and as Memory where memory ran out for the new
+/// file's name.
 pub fn replace<D: Disk>(alloc: Global, disk: &D, path: &str, bytes: &[u8]) -> Result<(), Refusal> {
     match disk.file_path(alloc, path) {
         Ok(Some(path)) => replace_file(alloc, disk, path.as_str(), bytes),
@@ -20,8 +22,8 @@ pub fn replace<D: Disk>(alloc: Global, disk: &D, path: &str, bytes: &[u8]) -> Re
     }
 }
 
-/// Writes bytes to a new file beside a path, and renames it to that path. Where anything is refused the
-/// new file is removed, and the path is as it was.
+/// Writes bytes to a new file beside a path, and renames it to that path. Where a step is refused, the
+/// new file is removed, and what is at the path stays as it was.
 fn replace_file<D: Disk>(alloc: Global, disk: &D, path: &str, bytes: &[u8]) -> Result<(), Refusal> {
     let (name, mut file) = new_beside(alloc, disk, path)?;
     let is_written = write_whole(bytes, &mut file).is_ok() && disk.sync(&file).is_ok();
@@ -33,8 +35,9 @@ fn replace_file<D: Disk>(alloc: Global, disk: &D, path: &str, bytes: &[u8]) -> R
     Err(Refusal::File(FileFault::Unwritable))
 }
 
-/// Makes a file beside a path, with the first of some names that no other file has, and gives its name
-/// too.
+/// Makes a file beside a path, and returns its name and the file. The name is the path with `.new0` to
+/// `.new99` added: the first that is free. Refused as Unwritable where none is free or the file can't be
+/// made, and as Memory where memory ran out.
 fn new_beside<D: Disk>(
     alloc: Global,
     disk: &D,
@@ -56,7 +59,7 @@ fn new_beside<D: Disk>(
     Err(Refusal::File(FileFault::Unwritable))
 }
 
-/// Writes bytes into what stands at a path.
+/// Writes bytes into what is at a path.
 fn write_into<D: Disk>(disk: &D, path: &str, bytes: &[u8]) -> Result<(), Refusal> {
     let Ok(mut file) = disk.create(path) else {
         return Err(Refusal::File(FileFault::Unwritable));

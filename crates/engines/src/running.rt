@@ -19,10 +19,10 @@ use std::sync::Wait;
 use std::thread::Threads;
 use workers::{Executor, RunFault};
 
-/// Reads a block file to its end and parses it, opens, reads and loads its programs in the order of
-/// their numbers, runs the calls by so many workers, each on a thread of its own, and writes the result,
-/// which is that of the calls in order. The first refusal ends it; where that is one of the output, a
-/// beginning of the result was written, and else nothing.
+/// Reads a block file to its end and parses it. Opens, reads and loads its programs in the order of
+/// their numbers. Then runs the calls on `workers` workers, each on a thread of its own, and writes the
+/// result, which is that of the calls in order. The first refusal ends it. Where the output is refused,
+/// a beginning of the result was written; otherwise nothing was written.
 pub fn run_to<T: Threads + Wait + Sync, R: Read, P: Programs, W: Write>(
     threads: &T,
     alloc: Global,
@@ -46,7 +46,7 @@ pub fn run_to<T: Threads + Wait + Sync, R: Read, P: Programs, W: Write>(
     run_threads(threads, alloc, job, workers, out)
 }
 
-/// Runs a job by workers and writes the result.
+/// Runs a job on workers and writes the result.
 fn run_threads<T: Threads + Wait + Sync, W: Write>(
     threads: &T,
     alloc: Global,

@@ -43,7 +43,7 @@ fn charges(rt: HostRuntime) {
     }
 }
 
-// A memory with the key of 32 bytes 7 and then the bytes 1 and 2 at 0x00100000.
+// A memory whose input, at 0x00100000, is 32 bytes 7 (a key) and then the bytes 1 and 2.
 fn memory(alloc: Global) -> Result<Memory, Fail> {
     let mut input = [7; 34];
     input[32] = 1;
@@ -56,14 +56,14 @@ fn traps(rt: HostRuntime) -> Result<(), Fail> {
     let memory = memory(rt.alloc())?;
     let fault = Some(Trap::MemoryFault);
     let table = [
-        // a key's last byte in memory, and just past it
+        // a key that ends with the last byte of memory, and one that ends past it
         ((0, 0x0010_ffe0, 0x0010_ffc0, 64), None),
         ((0, 0x0010_ffe1, 0x0010_ffc0, 64), fault),
-        // a buffer that may be read alone, one past the end, and none
+        // a buffer that may not be written, one that ends past memory, and one of no bytes
         ((0, 0x0010_0000, 0x0001_0000, 1), fault),
         ((0, 0x0010_0000, 0x0010_ffc1, 64), fault),
         ((0, 0x0010_0000, 0xffff_ffff, 0), None),
-        // a value that may be read alone, and one past the end
+        // a value that may not be written, and one that ends past memory
         ((1, 0x0010_0000, 0x0001_0000, 64), None),
         ((1, 0x0010_0000, 0x0010_ffff, 2), fault),
         ((2, 0x0000_fff0, 0, 0), fault),
@@ -71,7 +71,7 @@ fn traps(rt: HostRuntime) -> Result<(), Fail> {
         ((3, 0, 0, 0), None),
         ((4, 0x0010_ffff, 1, 0), None),
         ((4, 0x0010_ffff, 2, 0), fault),
-        // the number before the length, and the length before the rights
+        // the call's number is checked before the length, and the length before the rights
         ((5, 0, 257, 65), Some(Trap::UnknownCall)),
         ((0, 0, 0, 65), Some(Trap::BadLength)),
         ((1, 0, 0, 65), Some(Trap::BadLength)),
@@ -89,7 +89,7 @@ fn traps(rt: HostRuntime) -> Result<(), Fail> {
 fn requests_of_the_five_calls(rt: HostRuntime) -> Result<(), Fail> {
     let memory = memory(rt.alloc())?;
     for a7 in 0..5 {
-        // the key, and as value or output the bytes 7, 1, 2
+        // the key, and the bytes 7, 1, 2 as value or output
         let (a0, a1, a2) = if a7 < 3 {
             (0x0010_0000, 0x0010_001f, 3)
         } else {

@@ -6,7 +6,7 @@ use rv_program::Program;
 use std::alloc::{AllocError, Global};
 use std::test::Fail;
 
-// The same with a second segment: 4,096 readable and writable bytes at 0x000ff000, none in the file.
+// `ECHO` with a second segment: 4,096 readable and writable bytes at 0x000ff000, none in the file.
 const TWO_SEGMENTS: [u8; 124] = [
     0x7f, 0x45, 0x4c, 0x46, 1, 1, 1, 0, 0, 0, 0, 0, 0, 0, 0, 0, // e_ident
     2, 0, 0xf3, 0, 1, 0, 0, 0, 0, 0, 1, 0, 0x34, 0, 0, 0, // e_type to e_phoff
@@ -19,7 +19,7 @@ const TWO_SEGMENTS: [u8; 124] = [
     0x93, 0x08, 0x30, 0, 0x73, 0, 0, 0, // text
 ];
 
-// What `load` refuses the bytes with, if it does.
+// Why `load` refuses the bytes, if it does.
 fn refusal(alloc: Global, bytes: &[u8]) -> Option<ElfError> {
     match load(alloc, bytes) {
         Ok(_) => None,
@@ -27,7 +27,7 @@ fn refusal(alloc: Global, bytes: &[u8]) -> Option<ElfError> {
     }
 }
 
-// The file with the byte at each of these places replaced.
+// The file with the bytes at these places replaced.
 fn changed(alloc: Global, file: &[u8], changes: &[(usize, u8)]) -> Result<Vec<u8>, AllocError> {
     let mut bytes = Vec::from_slice(alloc, file)?;
     for (at, byte) in changes {
@@ -168,7 +168,7 @@ fn two_segments_changed(rt: HostRuntime) -> Result<(), Fail> {
             [(61, 0xff), (62, 0x0f), (63, 0)],
             Some(ElfError::SegmentOrder),
         ),
-        // the second with p_memsz 0, which has no address, and still a range, an order and rights
+        // the second with p_memsz 0: it has no byte, but its range, order and rights are checked
         ([(93, 0x00), (94, 0x01), (105, 0)], None),
         (
             [(93, 0xff), (94, 0x00), (105, 0)],
@@ -192,7 +192,7 @@ fn two_segments_changed(rt: HostRuntime) -> Result<(), Fail> {
     Ok(())
 }
 
-// The program of these sections, which fit.
+// The program of these sections; fails where they are too large.
 fn program(alloc: Global, text: &[u32], data: &[u8]) -> Result<Program, Fail> {
     let text = Vec::from_slice(alloc, text)?;
     match Program::new(text, Vec::from_slice(alloc, data)?) {

@@ -1,7 +1,7 @@
 //! The file of a program.
 
-/// A program of two instructions, `li a7, 3` and `ecall`, in one segment at 0x00010000 that may be read and
-/// not written.
+/// A program of two instructions, `li a7, 3` and `ecall`, in one segment at 0x00010000. The segment may be
+/// read and executed, but not written.
 pub const ECHO: [u8; 92] = [
     0x7f, 0x45, 0x4c, 0x46, 1, 1, 1, 0, 0, 0, 0, 0, 0, 0, 0, 0, // e_ident
     2, 0, 0xf3, 0, 1, 0, 0, 0, 0, 0, 1, 0, 0x34, 0, 0, 0, // e_type to e_phoff

@@ -6,7 +6,7 @@ use rv_ledger::*;
 use std::sync::Arc;
 use std::test::Fail;
 
-// The key with two bytes, the first and the last, that are not 0.
+// The key with this first and this last byte, and zeros between them.
 fn key(first: u8, last: u8) -> Key {
     let mut bytes = [0; 32];
     bytes[0] = first;

@@ -100,7 +100,7 @@ fn tests_ranges(rt: HostRuntime) -> Result<(), Fail> {
     Ok(())
 }
 
-// What one memory of an image writes is in no other one, and in no other page that was as it was.
+// A write to one memory of an image changes no other memory of it, and no other page of its own.
 #[test]
 fn shares_no_write(rt: HostRuntime) -> Result<(), Fail> {
     let image = image(rt.alloc())?;

@@ -5,7 +5,7 @@ use Rattle.rv_isa.specs.declared.instruction.Operation.TheVariants.{Mul, Mulh, M
 use Rattle.rv_isa.specs.declared.instruction.Instr.{Instr}
 use Rattle.rv_isa.specs.declared.instruction.Instr.TheVariants.{Load, Store, Compute, Ecall}
 
--- of an operation on two registers
+-- the gas of an operation on two registers
 abbrev pub cost_of_operation : Operation → ℕ
 cost_of_operation Mul = 4
 cost_of_operation Mulh = 4
@@ -17,7 +17,7 @@ cost_of_operation Rem = 16
 cost_of_operation Remu = 16
 cost_of_operation _ = 1
 
--- of an instruction; what ECALL asks for has a charge of its own
+-- the gas of an instruction; ECALL costs 0 here, since the storage call that it makes has a charge of its own
 abbrev pub cost_of : Instr → ℕ
 cost_of (Compute operation rd left right) = cost_of_operation operation
 cost_of (Load kind rd base offset) = 2

@@ -5,7 +5,7 @@ ghost use Rattle.gas.specs.Costs.{cost_of, cost_of_operation};
 
 use rv_isa::{Instr, Operation};
 
-/// The gas that `instr` costs. ECALL costs 0 here: what it asks for has a charge of its own.
+/// The gas that `instr` costs. ECALL costs 0 here: the storage call that it makes has a charge of its own.
 #[inline(always)]
 pub fn cost(instr: &Instr) -> u32
     ensures { result ≡ cost_of instr.now }

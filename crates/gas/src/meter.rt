@@ -34,8 +34,8 @@ impl Meter {
         self.rest
     }
 
-    /// Takes `amount` from what is left. False where less than `amount` is left; then nothing
-    /// changes.
+    /// Takes `amount` from the gas that is left, and answers true. Where less than `amount` is left it
+    /// answers false and changes nothing.
     #[inline(always)]
     pub fn charge(&mut self, amount: u32) -> bool
         ensures answer { result ≡ nat_le amount self.old }
@@ -50,7 +50,7 @@ impl Meter {
         }
     }
 
-    /// Takes all that is left: a call that runs out of gas uses its limit whole.
+    /// Takes all that is left: a call that runs out of gas uses its whole limit.
     pub fn spend_all(&mut self)
         ensures { self.new ≡ 0 }
     {

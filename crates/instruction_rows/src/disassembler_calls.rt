@@ -7,7 +7,7 @@ use std::alloc::Global;
 use std::process::Abort;
 use std::test::Fail;
 
-/// The word of a line of one instruction or one `.word`.
+/// The word of a line of one instruction or one `.word`; None for any other line.
 fn word(text: &str) -> Option<u32> {
     match read_line(Section::Text, text.as_bytes()) {
         Ok(line) => match line.statement {
@@ -19,7 +19,7 @@ fn word(text: &str) -> Option<u32> {
     }
 }
 
-/// The text of a word behind `pc `, and the word of that text.
+/// Checks a word both ways: its text, appended behind `pc `, and the word that this text gives.
 fn both_ways(rt: &impl Abort, alloc: Global, code: u32, text: &str) -> Result<(), Fail> {
     let mut line = String::from_str(alloc, "pc ")?;
     disassemble(alloc, code, &mut line)?;
@@ -56,8 +56,8 @@ fn more_words(rt: HostRuntime) -> Result<(), Fail> {
     both_ways(&rt, alloc, 0x0002_00b7, "lui x1,0x20")
 }
 
-/// A word of each instruction, and its text as GNU objdump tells it; in the text of a FENCE with
-/// other fields than the plain one it is a number.
+/// A word of each instruction, and its text as GNU objdump prints it. The text of a FENCE with
+/// other fields than the plain one is its word as a number.
 const WORDS: [(u32, &str); 49] = [
     (0x91b7_5863, "bge x14,x27,-3824"),
     (0x414c_0467, "jalr x8,1044(x24)"),

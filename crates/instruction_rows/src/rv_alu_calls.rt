@@ -9,7 +9,7 @@ use rv_isa::{
     Reg, Regs, Shift, ShiftAmount, Upper,
 };
 
-/// The pc after `instr` at 0x10000, where a1 holds `left` and a2 `right`, and what a0 then holds.
+/// Runs `instr` at 0x10000, where a1 holds `left` and a2 holds `right`. Returns the next pc and a0.
 fn run(instr: &Instr, left: u32, right: u32) -> (Option<u32>, u32)
     requires { IsTrue (is_plain instr.now) }
 {

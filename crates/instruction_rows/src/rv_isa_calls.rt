@@ -131,7 +131,7 @@ fn jalr(rd: u8, offset: i32, base: u8) -> Instr
     }
 }
 
-// A fence by its fields rd and rs1 and its bits 31 to 20 as a signed number.
+// A fence with these fields rd and rs1, and with bits 31 to 20 as a signed number.
 fn fence(rd: u8, source: u8, immediate: i32) -> Instr
     requires rd { rd < 32 }
     requires source { source < 32 }
@@ -144,7 +144,7 @@ fn fence(rd: u8, source: u8, immediate: i32) -> Instr
     }
 }
 
-// `word` is the word of `instr`, both ways.
+// Checks that `word` decodes to `instr`, and that `instr` encodes to `word`.
 fn stands_for(rt: &impl Abort, word: u32, instr: Instr) {
     assert_eq!(rt; decode(word), Some(instr), "{word:#010x}");
     assert_eq!(rt; encode(&instr), word, "{instr:?}");
@@ -190,7 +190,7 @@ fn illegal_words(rt: HostRuntime) {
         // slli x1,x1,32
         0x0200_9093,
         0xffff_ffff,
-        // a compressed ret and nothing
+        // a compressed ret, and 16 zero bits above it
         0x0000_8082,
         // beq, lb, sb, jalr and fence with a funct3 that has no meaning
         0x0000_2063,
@@ -388,7 +388,7 @@ fn jumps_and_uppers(rt: &impl Abort) {
     }
 }
 
-// Fences whose free bits other tools print as a bare word.
+// Fences that other tools print as a bare word because of their free bits.
 fn fences(rt: &impl Abort) {
     for word in [0xf927_0f0f, 0x0792_098f, 0x0176_070f, 0xaef4_058f] {
         let instr = decode(word);

@@ -7,7 +7,7 @@ use rv_names::{
 };
 use std::test::Fail;
 
-/// The word of a line of one instruction or one `.word`.
+/// The word of a line of one instruction or one `.word`; None for any other line.
 fn word(section: Section, text: &str) -> Option<u32> {
     match read_line(section, text.as_bytes()) {
         Ok(line) => match line.statement {
@@ -19,7 +19,7 @@ fn word(section: Section, text: &str) -> Option<u32> {
     }
 }
 
-/// The words of a line of two instructions.
+/// The words of a line of two instructions; None for any other line.
 fn pair(text: &str) -> Option<(u32, u32)> {
     match read_line(Section::Text, text.as_bytes()) {
         Ok(line) => match line.statement {

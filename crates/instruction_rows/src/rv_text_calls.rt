@@ -24,7 +24,7 @@ fn gives(
     Ok(program)
 }
 
-/// `before`, a line many times, and `after`.
+/// `before`, then a line `count` times, then `after`.
 fn around(
     alloc: Global,
     before: &str,
@@ -103,16 +103,16 @@ fn assembler_faults(rt: HostRuntime) -> Result<(), Fail> {
 #[test]
 fn readings(rt: HostRuntime) {
     for (source, fault) in [
-        // A label's place is in the section before its line's directive.
+        // A label belongs to the section before its line's directive.
         ("x: .data\n.word 1\n.text\nbeq x0,x0,x", None),
         (
             ".data\nx: .text\nbeq x0,x0,x",
             Some((3, AsmCause::LabelRange)),
         ),
-        // What stands before the first colon is the label.
+        // The label is what comes before the first colon.
         ("a : nop", Some((1, AsmCause::BadOperand))),
         ("a: \t nop", None),
-        // Causes on one line compete by their numbers.
+        // Of several causes on one line the least number is reported.
         ("1a: foo", Some((1, AsmCause::UnknownMnemonic))),
         ("1a: nop", Some((1, AsmCause::BadOperand))),
         ("a: a: nop", Some((1, AsmCause::UnknownMnemonic))),
@@ -125,12 +125,12 @@ fn readings(rt: HostRuntime) {
             "a:\n.data\n.zero 61440\na: .byte 1",
             Some((4, AsmCause::DuplicateLabel)),
         ),
-        // CR is no blank, and letters keep their case.
+        // CR is not a blank, and letters keep their case.
         ("nop\r\nnop", Some((1, AsmCause::UnknownMnemonic))),
         ("NOP", Some((1, AsmCause::UnknownMnemonic))),
         ("a:\nA: j a", None),
         ("mv X1,x2", Some((1, AsmCause::BadOperand))),
-        // A sign belongs to decimals of at most ten digits.
+        // Only a decimal may have a sign, and it has at most ten digits.
         ("addi x1,x0,-0x1", Some((1, AsmCause::BadOperand))),
         ("addi x1,x0,-0", None),
         ("addi x1,x0,00000000001", Some((1, AsmCause::BadOperand))),

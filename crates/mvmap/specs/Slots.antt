@@ -1,4 +1,4 @@
--- How a map of slots tells the versions; for `MvMap`'s view and private functions alone.
+-- The versions that a map of slots stands for; only `MvMap`'s view and private functions use this.
 use Rattle.std.specs.Prelude.{◌≡◌, ◌<◌, ◌⊎◌, ℕ, List, [], ◌∷◌, length, Option, None, Some, slice_get, if◌then◌else◌}
 use Rattle.std.specs.Option.{option_map}
 use Rattle.std.specs.Map.{lookup, keys_of}
@@ -35,21 +35,21 @@ versions_of records (s ∷ slots) = changed (versions_of records slots) s.0 (ent
 abbrev pub places_of : Slots → FinSet place_cmp
 places_of slots = from_list (keys_of slots)
 
--- each slot that names a record names one of these
+-- each slot that names a record names one of these records
 abbrev pub ArePlaced : List Record → Slots → Type 0
 ArePlaced records slots = (place : Place) (id : ℕ) → slot_at slots place ≡ Some (slot.Placed id) → id < length records
 
--- where a slot is there before, the same one is there after; elsewhere there is none or a vacant one
+-- each slot that was there is unchanged; elsewhere there is still none, or now a vacant one
 abbrev pub IsOpened : Slots → Slots → Type 0
 IsOpened old new = (place : Place) → (slot_at new place ≡ slot_at old place) ⊎ ((slot_at old place ≡ None) × (slot_at new place ≡ Some slot.Vacant))
 
--- what a key holds once an entry is applied to what it held
+-- the value of a key after an entry is applied to the value that it had
 abbrev pub value_over : Option (List ℕ) → Option Entry → Option (List ℕ)
 value_over base None = base
 value_over base (Some (Stands incarnation content)) = content
 value_over base (Some Estimate) = base
 
--- what a key holds once the slots at it are applied in turn to what it held
+-- the value of a key after the slots at it are applied in turn to the value that it had
 abbrev pub value_over_slots : List Record → Slots → List ℕ → Option (List ℕ) → Option (List ℕ)
 value_over_slots records [] key base = base
 value_over_slots records (s ∷ slots) key base = value_over_slots records slots key (if eq_by_cmp key_cmp key s.0.0 then value_over base (entry_of records s.1) else base)

@@ -11,11 +11,11 @@ use Rattle.version_arena.specs.ArenaState.{Content}
 abbrev pub Place : Type 0
 Place = List ℕ × ℕ
 
--- by key, and then by writer
+-- places are ordered by key, and then by writer
 abbrev pub place_cmp : Place → Place → Ordering
 place_cmp p q = ordering_then (key_cmp p.0 q.0) (nat_cmp p.1 q.1)
 
--- what stands at a place: what the writer's run of an incarnation wrote; or an estimate, where a run is
+-- what is at a place: what the writer's run of an incarnation wrote; or an estimate, where the writer is
 -- expected to write again
 pub data Entry : Type 0 where
   Stands : ℕ → Content → Entry

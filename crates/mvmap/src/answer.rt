@@ -1,4 +1,4 @@
-//! What a call is told of a key.
+//! What a call sees of a key.
 
 /// Which run of which call wrote a version.
 #[derive(Clone, Copy, Debug, PartialEq, Eq)]
@@ -16,6 +16,6 @@ pub enum Answer<'a> {
     Base,
     /// A version, with its bytes, or None where it removed the key.
     Found(Version, Option<&'a [u8]>),
-    /// An estimate of the call of this index: it is expected to write the key again.
+    /// An estimate: the call of this index is expected to write the key again.
     Estimate(u16),
 }

@@ -1,4 +1,4 @@
-//! The multi-version map of one block: for each key what each call's run wrote to it, so that a
+//! The multi-version map of one block: it keeps, for each key, what each call's run wrote to it. So a
 //! call sees what the calls before it wrote.
 #![tactic(auto)]
 

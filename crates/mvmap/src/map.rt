@@ -11,8 +11,8 @@ use std::collections::BTreeMap;
 use std::marker::Model;
 use version_arena::{Arena, RECORD_LIMIT, ReserveFault};
 
-/// For each key the entries of the calls that write it: versions, whose bytes stand in the map's
-/// arena, and estimates.
+/// For each key the entries of the calls that write it: versions, whose bytes are in the map's arena,
+/// and estimates.
 #[derive(Drop)]
 pub struct MvMap {
     slots: BTreeMap<(Key, u16), Slot>,
@@ -48,7 +48,7 @@ impl MvMap {
     ghost use Rattle.mvmap.specs.Reading.{value_seen, reading};
     ghost use Rattle.mvmap.specs.Answers.{IsShort, visible_of};
 
-    /// A map without versions over an arena, whose records are taken away and whose room stays.
+    /// A map without versions over an arena. The arena's records are removed, and their room stays.
     /// Takes no memory.
     pub fn over(alloc: Global, arena: Arena) -> MvMap
         ensures versions { result.versions ≡ map.empty }
@@ -64,7 +64,7 @@ impl MvMap {
         }
     }
 
-    /// The map's arena, without records and with their room. Takes no memory.
+    /// The map's arena, without its records and with their room. Takes no memory.
     pub fn into_arena(self) -> Arena
         ensures { result ≡ emptied self.arena }
     {
@@ -76,9 +76,8 @@ impl MvMap {
         left
     }
 
-    /// What the call of index `i` sees of a key: what the highest call below it wrote, or nothing
-    /// yet where an estimate of that call stands there, or the storage before the block. Takes no
-    /// memory.
+    /// What the call of index `i` sees of a key: the entry of the highest call below `i` that has one,
+    /// which is a version or an estimate; or Base where none has. Takes no memory.
     pub fn read(&self, key: &Key, i: u16) -> Answer<'_>
         ensures seen { visible_of result ≡ reading self.now.versions key.now i }
         ensures short { IsShort VALUE_LIMIT result }
@@ -86,10 +85,10 @@ impl MvMap {
         seek(&self.slots, &self.arena, key, i)
     }
 
-    /// Makes room for an entry of call `i` at each of these keys, beside the room that was made
-    /// before, and for this many more records and bytes of values. Refused as ArenaFull exactly
-    /// where there would be above 1,048,576 records, which is tested first and changes nothing, and
-    /// as Memory where memory ran out: then all is as before but for entries that have room by then.
+    /// Makes room for an entry of call `i` at each of these keys, beside the room that was made before,
+    /// and for `records` more records with `bytes` bytes of values. Refused as ArenaFull exactly where
+    /// there would be more than 1,048,576 records: this is tested first, and nothing changes. Refused as
+    /// Memory where memory ran out: then some entries may have got room, and nothing else changes.
     pub fn reserve_for(
         &mut self,
         keys: &[Key],
@@ -116,8 +115,8 @@ impl MvMap {
         self.arena.reserve(records, bytes)
     }
 
-    /// Sets what a call's run wrote to a key, None where it removed the key, in room that was made.
-    /// Takes no memory.
+    /// Makes the entry of a call at a key the version that its run wrote, None where it removed the key.
+    /// Room for the entry and its record must have been made. Takes no memory.
     pub fn publish(&mut self, key: &Key, writer: u16, incarnation: u16, value: Option<&Value>)
         requires place { IsTrue (set.contains self.old.places (key.now, writer)) }
         requires room { 1 ≤ self.old.arena.room }
@@ -130,14 +129,15 @@ impl MvMap {
         put(&mut self.slots, key, writer, Slot::Placed(id));
     }
 
-    /// Takes the entry of a call at a key out; nothing changes where there is none. Takes no memory.
+    /// Removes the entry of a call at a key; nothing changes where there is none. Takes no memory.
     pub fn withdraw(&mut self, key: &Key, writer: u16)
         ensures { self.new ≡ record self.old { versions = map.remove self.old.versions (key.now, writer) } }
     {
         put(&mut self.slots, key, writer, Slot::Vacant);
     }
 
-    /// Makes the entry of a call at a key an estimate, in room that was made. Takes no memory.
+    /// Makes the entry of a call at a key an estimate. Room for the entry must have been made. Takes no
+    /// memory.
     pub fn to_estimate(&mut self, key: &Key, writer: u16)
         requires { IsTrue (set.contains self.old.places (key.now, writer)) }
         ensures { self.new ≡ record self.old { versions = map.insert self.old.versions (key.now, writer) Estimate } }
@@ -153,8 +153,9 @@ impl MvMap {
         self.arena.len()
     }
 
-    /// Sets in a storage, for each key, what a call above all writers sees of it, where no entry is
-    /// an estimate. Where memory ran out the storage is to be dropped.
+    /// Applies the versions to a storage: then each key has what a call above all writers sees of it. No
+    /// entry may be an estimate. Refused where memory ran out, and then the storage is to be dropped,
+    /// since it may have some of the versions.
     pub fn snapshot_into(&self, store: &mut Store) -> Result<(), AllocError>
         requires { HasNoEstimate self.now.versions }
         ensures { OnOk result ((key : List ℕ) (i : ℕ) → ((w : ℕ) → i ≤ w → entry_at self.now.versions key w ≡ None) → map.get store.new key ≡ value_seen (map.get store.old key) (reading self.now.versions key i)) }
@@ -162,8 +163,8 @@ impl MvMap {
         apply_slots(&self.slots, &self.arena, store)
     }
 
-    /// Takes all versions, all room for entries and all records away; the room of the records stays.
-    /// Takes no memory.
+    /// Removes all versions, all room for entries and all records; the room of the records stays. Takes
+    /// no memory.
     pub fn clear(&mut self)
         ensures versions { self.new.versions ≡ map.empty }
         ensures places { self.new.places ≡ set.empty }

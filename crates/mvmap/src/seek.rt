@@ -12,8 +12,8 @@ use rv_ledger::Key;
 use rv_ledger::inline_bytes::VALUE_LIMIT;
 use version_arena::{Arena, Record};
 
-/// What the call of index `i` sees of a key: of the slots of lower calls the highest that isn't
-/// vacant. Searches the map once, and walks down from there.
+/// What the call of index `i` sees of a key: what is in the highest slot of a lower call that is not
+/// vacant, or Base where there is none. It searches the map once, and walks down from there.
 pub(crate) fn seek<'a>(slots: &'a Slots, arena: &'a Arena, key: &Key, i: u16) -> Answer<'a>
     requires { ArePlaced arena.now.records slots.now.entries }
     ensures seen { visible_of result ≡ reading (versions_of arena.now.records slots.now.entries) key.now i }
@@ -30,7 +30,7 @@ pub(crate) fn seek<'a>(slots: &'a Slots, arena: &'a Arena, key: &Key, i: u16) ->
     Answer::Base
 }
 
-/// The answer that a record of a call gives.
+/// The answer that a record of a call gives: its version, with its content.
 fn found<'a>(writer: u16, told: Record<'a>) -> Answer<'a>
     requires { IfSome told.content (λ bytes. length bytes.now ≤ VALUE_LIMIT) }
     ensures seen { visible_of result ≡ Found writer told.entry.incarnation (option_copied told.entry.content) }

@@ -1,4 +1,4 @@
-//! The slots of a map, which are made ahead, so that writing into one takes no memory.
+//! The slots of a map. They are made in advance, so that writing into one takes no memory.
 
 ghost use Rattle.std.specs.Prelude.{◌≡◌, ◌≢◌, ℕ, IsSome, Ok, OnOk, OnErr, Option, Some, None, cond};
 ghost use Rattle.std.specs.Option.{option_map};
@@ -15,19 +15,19 @@ use version_arena::VersionId;
 /// The slot of a call at a key.
 #[derive(Clone, Copy, Drop)]
 pub(crate) enum Slot {
-    /// Nothing stands there.
+    /// The call has no entry there.
     Vacant,
     /// The call is expected to write the key again.
     Estimate,
-    /// What the call wrote.
+    /// The call wrote this record.
     Placed(VersionId),
 }
 
 /// The slots by key, and then by the index of the call.
 pub(crate) type Slots = BTreeMap<(Key, u16), Slot>;
 
-/// Makes a slot of a call at each of these keys, beside those that are there; where memory ran out
-/// some of these were made.
+/// Makes a slot of a call at each of these keys that has none. Refused where memory ran out, and then
+/// some of the slots may have been made.
 pub(crate) fn open_all(slots: &mut Slots, keys: &[Key], writer: u16) -> Result<(), AllocError>
     ensures opened { IsOpened slots.old.entries slots.new.entries }
     ensures ok { OnOk result (All (λ key. IsSome (slot_at slots.new.entries (key, writer))) keys.now) }
@@ -40,7 +40,7 @@ pub(crate) fn open_all(slots: &mut Slots, keys: &[Key], writer: u16) -> Result<(
     Ok(())
 }
 
-/// Makes a slot of a call at a key, if none is there; refused where memory ran out.
+/// Makes a vacant slot of a call at a key, if none is there; refused where memory ran out.
 fn open(slots: &mut Slots, key: Key, writer: u16) -> Result<(), AllocError>
     ensures opened { IsOpened slots.old.entries slots.new.entries }
     ensures ok { OnOk result (IsSome (slot_at slots.new.entries (key, writer))) }
@@ -53,7 +53,7 @@ fn open(slots: &mut Slots, key: Key, writer: u16) -> Result<(), AllocError>
     Ok(())
 }
 
-/// Writes into the slot of a call at a key, if one is there.
+/// Writes into the slot of a call at a key; nothing changes where there is none.
 pub(crate) fn put(slots: &mut Slots, key: &Key, writer: u16, slot: Slot)
     ensures { (place : Place) → slot_at slots.new.entries place ≡ cond (is_at (place_cmp (key.now, writer)) place) (option_map (λ _. slot) (slot_at slots.old.entries place)) (slot_at slots.old.entries place) }
 {

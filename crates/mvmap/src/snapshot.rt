@@ -16,8 +16,8 @@ use rv_ledger::{Key, Store, Value};
 use std::alloc::AllocError;
 use version_arena::Arena;
 
-/// Applies the versions to a storage in the order of keys and writers; where memory ran out the
-/// storage is to be dropped.
+/// Applies the versions to a storage, by key and then by writer. Refused where memory ran out, and then
+/// the storage is to be dropped.
 pub(crate) fn apply_slots(slots: &Slots, arena: &Arena, store: &mut Store) -> Result<(), AllocError>
     ensures values { OnOk result ((key : List ℕ) → map.get store.new key ≡ value_over_slots arena.now.records slots.now.entries key (map.get store.old key)) }
     ensures ordered { OnOk result (IsStrictlySortedBy place_cmp (keys_of slots.now.entries)) }
@@ -28,7 +28,8 @@ pub(crate) fn apply_slots(slots: &Slots, arena: &Arena, store: &mut Store) -> Re
     Ok(())
 }
 
-/// Applies what a slot holds to a storage; where memory ran out the storage is to be dropped.
+/// Applies the version of a slot to a storage; a vacant slot or an estimate changes nothing. Refused
+/// where memory ran out, and then the storage is to be dropped.
 fn apply_slot(slot: &Slot, arena: &Arena, key: &Key, store: &mut Store) -> Result<(), AllocError>
     ensures { OnOk result ((k : List ℕ) → map.get store.new k ≡ cond (eq_by_cmp key_cmp k key.now) (value_over (map.get store.old k) (entry_of arena.now.records slot.now)) (map.get store.old k)) }
 {
@@ -41,8 +42,8 @@ fn apply_slot(slot: &Slot, arena: &Arena, key: &Key, store: &mut Store) -> Resul
     write(key, record.content, store)
 }
 
-/// Sets the value of a key, or takes the key out where there is none; where memory ran out the
-/// storage is to be dropped.
+/// Sets the value of a key, or removes the key where there is no value. Refused where memory ran out,
+/// and then the storage is to be dropped.
 fn write(key: &Key, content: Option<&[u8]>, store: &mut Store) -> Result<(), AllocError>
     requires { IfSome content (λ bytes. length bytes.now ≤ VALUE_LIMIT) }
     ensures { OnOk result ((k : List ℕ) → map.get store.new k ≡ cond (eq_by_cmp key_cmp k key.now) (option_copied content.entry) (map.get store.old k)) }

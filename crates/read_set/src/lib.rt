@@ -31,7 +31,7 @@ pub struct Read {
     pub origin: Origin,
 }
 
-/// The reads of one run, in the order in which they were made; a key that is read twice stands
+/// The reads of one run, in the order in which they were made. A key that is read twice is listed
 /// twice.
 #[derive(Debug, Drop)]
 pub struct ReadSet {

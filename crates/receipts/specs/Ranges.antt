@@ -1,4 +1,4 @@
--- The ranges of the numbers in what a result says: of 32 bits, and bytes.
+-- The ranges of the numbers in a result: 32 bits, or a byte.
 use Rattle.std.specs.Prelude.{ℕ, ◌<◌, ◌^◌, List, All, IfSome, Option}
 use Rattle.std.specs.FinMap.{entries}
 use Rattle.rv_ledger.specs.Key.{Storage}
@@ -30,7 +30,7 @@ pub record IsInRange (receipt : Receipt) : Type 0 where
   pub regs : AreWords receipt.regs
   pub writes : All IsWriteInRange (entries receipt.writes)
 
--- the ranges of some receipts and of a storage
+-- the numbers of some receipts and of a storage are in their ranges
 pub record AreInRange (receipts : List Receipt) (store : Storage) : Type 0 where
   pub each_receipt : All IsInRange receipts
   pub each_entry : All IsEntryInRange (entries store)

@@ -39,7 +39,7 @@ bytes_text (b ∷ bytes) = encode_lower (b ∷ bytes)
 abbrev pub word_text : ℕ → List ℕ
 word_text word = encode_lower (to_be_bytes w32 word)
 
--- what was written to a key: its value, or that it was removed
+-- what was written to a key: its value, or `gone` where it was removed
 abbrev pub content_text : Option (List ℕ) → List ℕ
 content_text (Some value) = bytes_text value
 content_text None = codes "gone"
@@ -49,7 +49,7 @@ abbrev pub more_fields : List (List ℕ) → List ℕ
 more_fields [] = codes "\n"
 more_fields (field ∷ fields) = 32 ∷ (field ++ more_fields fields)
 
--- a line: a word, and fields parted by one space each
+-- a line: a word, and the fields, each after one space
 abbrev pub line_of : List ℕ → List (List ℕ) → List ℕ
 line_of word fields = word ++ more_fields fields
 

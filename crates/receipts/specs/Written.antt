@@ -4,11 +4,11 @@ use Rattle.std.specs.Io.KnownBytes.{Appends}
 use Rattle.receipts.specs.declared.write.WriteFault.{WriteFault}
 use Rattle.receipts.specs.declared.write.WriteFault.TheVariants.{Io, WroteNothing}
 
--- known bytes grow by a beginning of bs, of which something is left
+-- the known bytes grow by a beginning of bs, and not by all of it
 abbrev pub AppendsPart : Option (List ℕ) → Option (List ℕ) → List ℕ → Type 0
 AppendsPart old new bs = (n : ℕ) × (n < length bs) × Appends old new (take n bs)
 
--- what a writer's answer tells: how many bytes it took, or the fault
+-- what a writer's answer means: the number of bytes that it took, at least one, or the fault
 abbrev pub taken_by : {E : Type 0} → Result ℕ E → Result ℕ WriteFault
 taken_by (Ok n) = if n == 0 then Err WroteNothing else Ok n
 taken_by (Err e) = Err Io

@@ -1,4 +1,4 @@
-//! The text of a block's result, and writing it.
+//! The text of a block's result, and how it is written.
 #![tactic(auto)]
 
 mod laws;

@@ -1,4 +1,4 @@
-//! The parts of the text.
+//! The words and lines of the text.
 
 ghost use Rattle.std.specs.Prelude.{◌≡◌, IfOk, OnOk, ◌++◌, map};
 ghost use Rattle.std.specs.String.{string_bytes};
@@ -54,7 +54,7 @@ pub fn word_text(alloc: Global, word: u32) -> Result<String, AllocError>
     hex::encode(alloc, word.to_be_bytes().as_slice())
 }
 
-/// What was written to a key.
+/// What was written to a key: its value, or `gone`; refused where memory ran out.
 fn content_text(alloc: Global, content: &Option<Value>) -> Result<String, AllocError>
     ensures { IfOk result (λ t. string_bytes t ≡ content_text content.now) }
 {
@@ -64,7 +64,7 @@ fn content_text(alloc: Global, content: &Option<Value>) -> Result<String, AllocE
     }
 }
 
-/// The line that says how the call of an index ended.
+/// The line that says how the call at an index ended; refused where memory ran out.
 pub(crate) fn call_line(
     alloc: Global,
     index: usize,
@@ -88,7 +88,7 @@ pub fn regs_line(alloc: Global, regs: &Regs) -> Result<String, AllocError>
     Ok(line)
 }
 
-/// The line of one write of the call of an index.
+/// The line of one write of the call at an index; refused where memory ran out.
 pub(crate) fn write_line(
     alloc: Global,
     index: usize,
@@ -102,7 +102,7 @@ pub(crate) fn write_line(
     format!(in alloc; "write {index} {key} {content}\n")
 }
 
-/// The line of one key of the storage.
+/// The line of one key of the storage; refused where memory ran out.
 pub(crate) fn store_line(alloc: Global, key: &Key, value: &Value) -> Result<String, AllocError>
     ensures { IfOk result (λ t. string_bytes t ≡ store_line (key.now, value.now)) }
 {
@@ -111,7 +111,7 @@ pub(crate) fn store_line(alloc: Global, key: &Key, value: &Value) -> Result<Stri
     format!(in alloc; "store {key} {value}\n")
 }
 
-/// Appends words, each after a space, and ends the line.
+/// Appends words, each after a space, and ends the line; refused where memory ran out.
 fn push_words(line: &mut String, alloc: Global, words: &[u32; 32]) -> Result<(), AllocError>
     ensures { OnOk result (string_bytes line.new
         ≡ string_bytes line.old ++ more_fields (map word_text words.now)) }

@@ -26,7 +26,7 @@ fn is_write_in_range(key: &Key, content: &Option<Value>)
     }
 }
 
-/// So are those of all writes of a call.
+/// The keys and values of all writes of a call are bytes.
 fn are_writes_in_range(writes: &Writes)
     ensures { All IsWriteInRange (entries writes.now) }
 {
@@ -35,7 +35,7 @@ fn are_writes_in_range(writes: &Writes)
     }
 }
 
-/// The numbers of a receipt have their ranges.
+/// The numbers of a receipt are in their ranges.
 fn is_in_range(receipt: &Receipt)
     ensures { IsInRange receipt.now }
 {
@@ -54,7 +54,7 @@ fn is_entry_in_range(key: &Key, value: &Value)
     are_bytes(value.bytes());
 }
 
-/// So are all of the storage.
+/// All keys and values of the storage are bytes.
 fn is_store_in_range(store: &Store)
     ensures { All IsEntryInRange (entries store.now) }
 {
@@ -63,7 +63,7 @@ fn is_store_in_range(store: &Store)
     }
 }
 
-/// The numbers of all receipts have their ranges.
+/// The numbers of all receipts are in their ranges.
 fn all_in_range(receipts: &[Receipt])
     ensures { All IsInRange receipts.now }
 {
@@ -72,7 +72,7 @@ fn all_in_range(receipts: &[Receipt])
     }
 }
 
-/// The numbers of a result have their ranges.
+/// The numbers of a result are in their ranges.
 pub(crate) fn are_in_range(receipts: &[Receipt], store: &Store)
     ensures { AreInRange receipts.now store.now }
 {

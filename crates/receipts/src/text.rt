@@ -33,7 +33,7 @@ fn push_calls(text: &mut String, alloc: Global, receipts: &[Receipt]) -> Result<
     Ok(())
 }
 
-/// Appends the lines of the call of an index.
+/// Appends the lines of the call at an index.
 fn push_call(
     text: &mut String,
     alloc: Global,
@@ -48,7 +48,7 @@ fn push_call(
     push_writes(text, alloc, index, &receipt.writes)
 }
 
-/// Appends the lines of the writes of the call of an index.
+/// Appends the lines of the writes of the call at an index.
 fn push_writes(
     text: &mut String,
     alloc: Global,

@@ -1,4 +1,4 @@
-//! Writing the text.
+//! How the text is written.
 
 ghost use Rattle.std.specs.Prelude.{◌≡◌, ◌≢◌, ◌<◌, ◌≤◌, length, take, IfOk, IfErr, OnErr, OnOk};
 ghost use Rattle.receipts.specs.Text.{result_text};
@@ -39,9 +39,8 @@ impl fmt::Display for WriteFault {
     }
 }
 
-/// Writes the text of an outcome's receipts and storage. Refused with Memory before anything is
-/// written, and else as `write_whole` is; then a beginning of the text was written, and not all of
-/// it.
+/// Writes the text of an outcome's receipts and storage. Refused as Memory before anything is
+/// written, or as `write_whole` is; then a beginning of the text was written, and not all of it.
 pub fn write_outcome<W: Write>(
     alloc: Global,
     outcome: &Outcome,
@@ -59,7 +58,7 @@ pub fn write_outcome<W: Write>(
     write_whole(text.as_bytes(), out)
 }
 
-/// Writes all the bytes. Refused with Io where a write failed, and with WroteNothing where one took
+/// Writes all the bytes. Refused as Io where a write failed, and as WroteNothing where a write took
 /// no bytes; then a beginning of the bytes was written, and not all of them.
 pub fn write_whole<W: Write>(bytes: &[u8], out: &mut W) -> Result<(), WriteFault>
     ensures ok { OnOk result (Appends (W.contents out.old) (W.contents out.new) bytes.now) }
@@ -74,7 +73,7 @@ pub fn write_whole<W: Write>(bytes: &[u8], out: &mut W) -> Result<(), WriteFault
     Ok(())
 }
 
-/// Writes at least one of the first bytes, and answers how many; where it is refused, nothing was
+/// Writes at least one of the first bytes, and returns how many. Where it is refused, nothing was
 /// written.
 fn write_some<W: Write>(bytes: &[u8], out: &mut W) -> Result<usize, WriteFault>
     ensures ok { IfOk result (λ n. (0 < n) × (n ≤ length bytes.now)
@@ -85,8 +84,8 @@ fn write_some<W: Write>(bytes: &[u8], out: &mut W) -> Result<usize, WriteFault>
     taken(out.write(bytes))
 }
 
-/// How many bytes a writer took, at least one; Io where the write failed, WroteNothing where it
-/// took none.
+/// The number of bytes that a writer took, at least one; Io where the write failed, WroteNothing
+/// where it took none.
 fn taken(answer: io::Result<usize>) -> Result<usize, WriteFault>
     ensures { result ≡ taken_by answer }
 {

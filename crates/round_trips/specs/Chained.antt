@@ -1,4 +1,4 @@
--- A storage, from a result's text to a block file's.
+-- A storage, from the text of a result to the text of a block file.
 use Rattle.std.specs.Prelude.{◌≡◌, ◌≤◌, ◌++◌, ℕ, List, [], length, codes, flat_map, Ok}
 use Rattle.std.specs.FinMap.{empty, entries}
 use Rattle.rv_ledger.specs.Key.{Storage}
@@ -17,16 +17,15 @@ pub record IsEntry (entry : List ℕ × List ℕ) : Type 0 where
 abbrev pub store_lines : Storage → List ℕ
 store_lines store = flat_map store_line (entries store)
 
--- a storage, and neither programs nor calls
+-- a block with this storage, and neither programs nor calls
 abbrev pub block_with : Storage → BlockValue
 block_with store = record { programs = []; store = store; calls = [] }
 
--- behind the first line of a block file they are read as that storage
+-- behind the first line of a block file, the `store` lines are read as that storage
 abbrev pub IsReadBack : Storage → Type 0
 IsReadBack store = block_of (codes "rvblock 1\n" ++ store_lines store) ≡ Ok (block_with store)
 
--- and so they are between the programs and the calls of a block file without storage: the programs and
--- the calls stay
+-- the same between the programs and the calls of a block file without storage; its programs and calls stay
 abbrev pub IsReadInBlocks : Storage → Type 0
 IsReadInBlocks store =
     (front back : List ℕ) (programs : List (List ℕ)) (calls : List CallValue)

@@ -1,4 +1,4 @@
-//! The storage of a result, read as that of a block file.
+//! The storage of a result, read back as the storage of a block file.
 
 ghost use Rattle.std.specs.Prelude.{All};
 ghost use Rattle.std.specs.FinMap.{entries};
@@ -9,14 +9,14 @@ ghost use Rattle.round_trips.specs.Chained.{IsEntry, IsReadBack, IsReadInBlocks}
 use rv_ledger::{Key, Store, Value};
 
 /// A law, and no code: the `store` lines of a result, put into a block file, are read as the result's
-/// storage, where its keys have 32 bytes and its values at most 64: behind the first line alone, and
-/// between the programs and the calls of any block file without storage.
+/// storage: alone behind the first line, and between the programs and the calls of any block file
+/// without storage. This holds where the storage's keys have 32 bytes and its values at most 64.
 pub fn storage_is_read_back()
     ensures alone { (store : Storage) → All IsEntry (entries store) → IsReadBack store }
     ensures between { (store : Storage) → All IsEntry (entries store) → IsReadInBlocks store }
 {}
 
-/// The same law of a storage that a program holds. It walks over it and changes nothing.
+/// The same law for a storage that a program holds. It walks over the storage and changes nothing.
 pub fn storage_is_read_back_of(store: &Store)
     ensures alone { IsReadBack store.now }
     ensures between { IsReadInBlocks store.now }

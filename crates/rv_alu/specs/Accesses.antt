@@ -7,7 +7,7 @@ use Rattle.rv_isa.specs.declared.instruction.LoadKind.TheVariants.{Lb, Lh, Lw, L
 use Rattle.rv_isa.specs.declared.instruction.StoreKind.{StoreKind}
 use Rattle.rv_isa.specs.declared.instruction.StoreKind.TheVariants.{Sb, Sh, Sw}
 
--- the address of a load or a store: rs1 and the offset
+-- the address of a load or a store: rs1 plus the offset, modulo 2^32
 abbrev pub address_from : ℕ → Immediate → ℕ
 address_from base offset = wrapped (pos base +ℤ offset.value)
 
@@ -25,8 +25,8 @@ store_width Sb = 1
 store_width Sh = 2
 store_width Sw = 4
 
--- what a load writes to rd of the number n that it reads: LB and LH sign-extend, LBU and LHU
--- zero-extend
+-- what a load writes to rd when it reads the number n: LB and LH sign-extend it, LBU and LHU
+-- zero-extend it
 abbrev pub extended_of : LoadKind → ℕ → ℕ
 extended_of Lb n = if nat_lt n (2 ^ 7) then n else (n + (2 ^ 32 - 2 ^ 8))
 extended_of Lh n = if nat_lt n (2 ^ 15) then n else (n + (2 ^ 32 - 2 ^ 16))

@@ -4,7 +4,7 @@ use Rattle.rv_isa.specs.Number.{signed}
 use Rattle.rv_isa.specs.declared.instruction.Condition.{Condition}
 use Rattle.rv_isa.specs.declared.instruction.Condition.TheVariants.{Beq, Bne, Blt, Bge, Bltu, Bgeu}
 
--- rs1 holds a and rs2 holds b
+-- whether a branch is taken when rs1 holds a and rs2 holds b
 abbrev pub is_taken : Condition → ℕ → ℕ → Bool
 is_taken Beq a b = a == b
 is_taken Bne a b = not (a == b)

@@ -3,7 +3,7 @@ use Rattle.std.specs.Prelude.{Bool, true, false}
 use Rattle.rv_isa.specs.declared.instruction.Instr.{Instr}
 use Rattle.rv_isa.specs.declared.instruction.Instr.TheVariants.{Lui, Auipc, ComputeImmediate, ShiftImmediate, Compute, Fence}
 
--- it writes a register, or nothing, and goes on
+-- an instruction that writes rd, or nothing, and goes on to the next instruction
 abbrev pub is_computation : Instr → Bool
 is_computation (Lui rd immediate) = true
 is_computation (Auipc rd immediate) = true

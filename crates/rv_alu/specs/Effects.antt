@@ -21,12 +21,12 @@ put registers rd z = written registers rd.number (wrapped z)
 abbrev pub onward : List ℕ → ℕ → Option (List ℕ × ℕ)
 onward registers pc = Some (registers, wrapped (pos pc +ℤ pos 4))
 
--- goes to the target; None where it is no multiple of 4: an instruction-address-misaligned exception
+-- goes to the target; None where it is not a multiple of 4: an instruction-address-misaligned exception
 abbrev pub jumped : List ℕ → ℕ → Option (List ℕ × ℕ)
 jumped registers target = if target % 4 == 0 then Some (registers, target) else None
 
--- the registers and the pc after an instruction at pc; None where its target is misaligned. A load, a store,
--- ECALL and EBREAK do what this does not speak of: for them it only goes on
+-- the registers and the pc after an instruction at pc; None where its target is misaligned. What a load, a store,
+-- ECALL and EBREAK do is not defined here: for them this only goes on to the next instruction
 abbrev pub effect_of : Instr → List ℕ → ℕ → Option (List ℕ × ℕ)
 effect_of (Lui rd immediate) registers pc = onward (put registers rd (pos (immediate.value * 2 ^ 12))) pc
 effect_of (Auipc rd immediate) registers pc =
@@ -51,7 +51,7 @@ effect_of (Store kind source base offset) registers pc = onward registers pc
 effect_of Ecall registers pc = onward registers pc
 effect_of Ebreak registers pc = onward registers pc
 
--- effect_of is all that it does: it is no load, no store, no ECALL and no EBREAK
+-- whether effect_of is all that an instruction does: it is not a load, a store, ECALL or EBREAK
 abbrev pub is_plain : Instr → Bool
 is_plain (Load kind rd base offset) = false
 is_plain (Store kind source base offset) = false

@@ -1,4 +1,4 @@
--- What an operation gives, before it is taken modulo 2^32: RISC-V Unprivileged ISA, 2.4 "Integer
+-- The result of an operation, before it is taken modulo 2^32: RISC-V Unprivileged ISA, 2.4 "Integer
 -- Computational Instructions", 7.1 "Multiplication Operations" and 7.2 "Division Operations"
 use Rattle.std.specs.Prelude.{ℕ, ℤ, pos, Bool, ◌+ℤ◌, ◌-ℤ◌, ◌*ℤ◌, ◌-◌, ◌*◌, ◌/◌, ◌%◌, ◌^◌, ◌==◌, nat_lt, int_lt, int_div, bit_and, bit_or, bit_xor, if◌then◌else◌}
 use Rattle.std.specs.Int.{int_div_euclid}
@@ -18,7 +18,7 @@ floor z n = int_div_euclid z (pos n)
 abbrev pub flag : Bool → ℤ
 flag test = if test then pos 1 else pos 0
 
--- of rs1, which holds a, and rs2, which holds b; int_div rounds towards zero
+-- the result of an operation when rs1 holds a and rs2 holds b; int_div rounds towards zero
 abbrev pub value_of : Operation → ℕ → ℕ → ℤ
 value_of operation.Add a b = pos a +ℤ pos b
 value_of operation.Sub a b = pos a -ℤ pos b
@@ -40,7 +40,7 @@ value_of operation.Rem a b =
     if b == 0 then pos a else (signed a -ℤ (signed b *ℤ int_div (signed a) (signed b)))
 value_of operation.Remu a b = if b == 0 then pos a else pos (a % b)
 
--- of rs1, which holds a, and the sign-extended immediate m
+-- the result of an operation on rs1, which holds a, and the sign-extended immediate m
 abbrev pub immediate_value : ImmediateOperation → ℕ → ℤ → ℤ
 immediate_value immediate.Addi a m = pos a +ℤ m
 immediate_value immediate.Slti a m = flag (int_lt (signed a) m)
@@ -49,7 +49,7 @@ immediate_value immediate.Xori a m = pos (bit_xor a (wrapped m))
 immediate_value immediate.Ori a m = pos (bit_or a (wrapped m))
 immediate_value immediate.Andi a m = pos (bit_and a (wrapped m))
 
--- of rs1, which holds a, shifted by the constant k
+-- the result of shifting rs1, which holds a, by the constant k
 abbrev pub shift_value : Shift → ℕ → ℕ → ℤ
 shift_value shift.Slli a k = pos (a * 2 ^ k)
 shift_value shift.Srli a k = pos (a / 2 ^ k)

@@ -5,7 +5,7 @@ ghost use Rattle.rv_alu.specs.Accesses.{address_from, extended_of, width_of};
 
 use rv_isa::{Immediate, LoadKind};
 
-/// The address of a load or a store at `base`, rs1, plus `offset`, modulo 2^32.
+/// The address of a load or a store: `base`, the value of rs1, plus `offset`, modulo 2^32.
 #[inline(always)]
 pub fn address(base: u32, offset: Immediate) -> u32
     ensures { result ≡ address_from base offset }
@@ -13,7 +13,8 @@ pub fn address(base: u32, offset: Immediate) -> u32
     base.wrapping_add_signed(offset.value)
 }
 
-/// What a load writes to rd where it reads `number`: below 2^8 for LB and LBU, 2^16 for LH and LHU.
+/// What a load writes to rd when it reads `number`, which is below 2^8 for LB and LBU and below 2^16 for
+/// LH and LHU. LB and LH sign-extend it, LBU and LHU zero-extend it.
 #[inline(always)]
 pub fn extended(kind: LoadKind, number: u32) -> u32
     requires { number < 2 ^ (8 * width_of kind) }

@@ -5,7 +5,7 @@ ghost use Rattle.rv_alu.specs.Branches.{is_taken};
 
 use rv_isa::Condition;
 
-/// Whether a branch on `left`, rs1, and `right`, rs2, is taken.
+/// Whether a branch is taken when rs1 holds `left` and rs2 holds `right`.
 #[inline(always)]
 pub(crate) fn holds(condition: Condition, left: u32, right: u32) -> bool
     ensures { result ≡ is_taken condition left right }

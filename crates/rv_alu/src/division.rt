@@ -5,10 +5,11 @@ ghost use Rattle.rv_isa.specs.Number.{wrapped};
 ghost use Rattle.rv_alu.specs.Operations.{value_of};
 ghost use Rattle.rv_isa.specs.declared.instruction.Operation.TheVariants as operation;
 
-/// What DIV and DIVU give where the divisor is 0.
+/// The result of DIV and DIVU where the divisor is 0: 2^32 - 1.
 const QUOTIENT_BY_ZERO: u32 = u32::MAX;
 
-/// The quotient of two signed numbers, rounded towards zero; 2^32 - 1 where the divisor is 0.
+/// The quotient of two signed numbers, rounded towards zero; 2^32 - 1 where the divisor is 0. -2^31 divided
+/// by -1 gives -2^31.
 pub(crate) fn quotient(left: u32, right: u32) -> u32
     ensures { result ≡ wrapped (value_of operation.Div left right) }
 {
@@ -32,7 +33,8 @@ pub(crate) fn unsigned_quotient(left: u32, right: u32) -> u32
     }
 }
 
-/// What `quotient` leaves of `left`, with the sign of `left`; `left` where the divisor is 0.
+/// The remainder that belongs to `quotient`: 0, or a number with the sign of `left`; `left` where the
+/// divisor is 0.
 pub(crate) fn remainder(left: u32, right: u32) -> u32
     ensures { result ≡ wrapped (value_of operation.Rem left right) }
 {
@@ -43,14 +45,14 @@ pub(crate) fn remainder(left: u32, right: u32) -> u32
     }
 }
 
-/// What `unsigned_quotient` leaves of `left`; `left` where the divisor is 0.
+/// The remainder that belongs to `unsigned_quotient`; `left` where the divisor is 0.
 pub(crate) fn unsigned_remainder(left: u32, right: u32) -> u32
     ensures { result ≡ wrapped (value_of operation.Remu left right) }
 {
     if right == 0 { left } else { left % right }
 }
 
-/// What a division leaves.
+/// The remainder of a division that rounds towards zero; 0 for -2^31 by -1.
 #[tactic(auto, using(crate::proofs::Rest::rem_is_rest))]
 fn rest(dividend: i32, divisor: i32) -> i32
     requires { divisor ≢ pos 0 }

@@ -1,4 +1,4 @@
-//! The effect of an instruction without memory.
+//! The effect of an instruction that does not use memory.
 
 ghost use Rattle.std.specs.Prelude.{◌≡◌, pos, ◌+ℤ◌, IsTrue, IfSome, IfNone};
 ghost use Rattle.rv_alu.specs.Effects.{effect_of, is_plain, put, onward, jumped};
@@ -10,9 +10,9 @@ use crate::immediates::{compute_immediate, compute_shift};
 use crate::operations::compute;
 use rv_isa::{Instr, Reg, Regs};
 
-/// Makes `instr`, which stands at `pc`, and gives the pc after it. None where it jumps or branches
-/// to an address that is no multiple of 4; then nothing changes. `instr` is no load, store, ECALL or
-/// EBREAK.
+/// Executes `instr`, which stands at `pc`, and gives the pc after it. `instr` is not a load, a store,
+/// ECALL or EBREAK. None where it is a jump or a taken branch to an address that is not a multiple of 4,
+/// an instruction-address-misaligned exception; then nothing changes.
 #[inline(always)]
 pub fn execute(instr: &Instr, registers: &mut Regs, pc: u32) -> Option<u32>
     requires { IsTrue (is_plain instr.now) }
@@ -49,8 +49,8 @@ pub fn execute(instr: &Instr, registers: &mut Regs, pc: u32) -> Option<u32>
     }
 }
 
-/// Goes from `pc` to `target` and writes the address after `pc` to `rd`. None where `target` is no
-/// multiple of 4; then nothing changes.
+/// Jumps from `pc` to `target` and writes pc + 4 to `rd`. None where `target` is not a multiple of 4;
+/// then nothing changes.
 #[inline(always)]
 fn jump(registers: &mut Regs, rd: Reg, pc: u32, target: u32) -> Option<u32>
     ensures done { let linked = put registers.old rd (pos pc +ℤ pos 4) in
@@ -66,7 +66,8 @@ fn jump(registers: &mut Regs, rd: Reg, pc: u32, target: u32) -> Option<u32>
     Some(target)
 }
 
-/// Writes what `instr`, which stands at `pc` and goes on to the next, computes.
+/// Writes to rd what `instr`, which stands at `pc`, computes. A FENCE writes nothing. After `instr` the
+/// program goes on with the next instruction.
 #[inline(always)]
 fn write_value(instr: &Instr, registers: &mut Regs, pc: u32)
     requires { IsTrue (is_computation instr.now) }

@@ -6,7 +6,7 @@ ghost use Rattle.rv_alu.specs.Operations.{immediate_value, shift_value};
 
 use rv_isa::{Immediate, ImmediateOperation, Shift, ShiftAmount};
 
-/// What `operation` gives of `source`, rs1, and `immediate`.
+/// The result of `operation` on `source`, the value of rs1, and `immediate`.
 #[inline(always)]
 pub(crate) fn compute_immediate(
     operation: ImmediateOperation,
@@ -27,7 +27,7 @@ pub(crate) fn compute_immediate(
     }
 }
 
-/// What `shift` gives of `source`, rs1, by `amount` places.
+/// The result of shifting `source`, the value of rs1, by `amount` places.
 #[inline(always)]
 pub(crate) fn compute_shift(shift: Shift, source: u32, amount: ShiftAmount) -> u32
     ensures { result ≡ wrapped (shift_value shift source amount.value) }

@@ -1,5 +1,5 @@
-//! What the instructions of RV32IM do to the registers and the pc, and of loads and stores the
-//! address and the number that a load writes.
+//! What the instructions of RV32IM do to the registers and the pc. For loads and stores only two parts are
+//! here: the address, and the number that a load writes to rd.
 #![tactic(auto)]
 
 mod accesses;

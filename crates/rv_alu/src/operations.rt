@@ -8,7 +8,7 @@ use crate::division::{quotient, remainder, unsigned_quotient, unsigned_remainder
 use crate::products::{high_mixed, high_signed, high_unsigned};
 use rv_isa::Operation;
 
-/// What `operation` gives of `left`, rs1, and `right`, rs2.
+/// The result of `operation` when rs1 holds `left` and rs2 holds `right`.
 #[inline(always)]
 pub(crate) fn compute(operation: Operation, left: u32, right: u32) -> u32
     ensures { result ≡ wrapped (value_of operation left right) }

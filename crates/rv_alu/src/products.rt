@@ -1,4 +1,4 @@
-//! Products of 64 bits.
+//! The upper halves of products of 64 bits.
 
 ghost use Rattle.std.specs.Prelude.{◌≡◌, pos, ◌*ℤ◌, ◌*◌, ◌/◌, ◌^◌};
 ghost use Rattle.rv_isa.specs.Number.{signed, wrapped};
@@ -12,7 +12,7 @@ pub(crate) fn high_signed(left: u32, right: u32) -> u32
     high(i64::from(left.cast_signed()) * i64::from(right.cast_signed()))
 }
 
-/// The upper 32 bits of the product of a signed and an unsigned number.
+/// The upper 32 bits of the product of `left`, signed, and `right`, unsigned.
 pub(crate) fn high_mixed(left: u32, right: u32) -> u32
     ensures { result ≡ wrapped (value_of operation.Mulhsu left right) }
 {

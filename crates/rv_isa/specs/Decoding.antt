@@ -1,5 +1,5 @@
--- Words read backwards: the slots of a word, and the instruction of slots. What the operands of a source stand for is
--- said by the definitions whose names end in `_at`.
+-- Words read backwards: the slots of a word, and the instruction of slots. A definition whose name ends in `_at` makes
+-- an operand, or an entry of a table, from a number. The assembler uses those of operands too.
 use Rattle.std.specs.Prelude.{ℕ, ◌+◌, ◌*◌, ◌/◌, ◌%◌, ◌^◌, ℤ, pos, ◌-ℤ◌, nat_lt, ◌==◌, ◌&&◌, if◌then◌else◌}
 use Rattle.std.specs.Option.{option_map}
 use Rattle.std.specs.Prelude.{Option, Some, None}
@@ -27,7 +27,7 @@ use Rattle.rv_isa.specs.declared.instruction.Operation.TheVariants.{Add, Sub, Sl
 use Rattle.rv_isa.specs.declared.instruction.Instr.{Instr}
 use Rattle.rv_isa.specs.declared.instruction.Instr.TheVariants.{Lui, Auipc, Jal, Jalr, Branch, Load, Store, ComputeImmediate, ShiftImmediate, Compute, Fence, Ecall, Ebreak}
 
--- the places of the R format
+-- the fields of a word, cut as in the R format
 pub record Slots : Type 0 where
   pub opcode : ℕ
   pub rd : ℕ
@@ -72,14 +72,14 @@ immediate_small n = grind (arith, ints)
 abbrev pub immediate_at : ℕ → Immediate
 immediate_at n = record { value = extended 12 (n % 2 ^ 12); in_range = immediate_small n }
 
--- half of the offset, as its bits 12 to 1
+-- the offset whose bits 12 to 1 are `half`; bit 0 is 0
 pub branch_small : (half : ℕ) → IsBranchOffset (extended 13 (half % 2 ^ 12 * 2))
 branch_small half = grind (arith, ints)
 
 abbrev pub branch_at : ℕ → BranchOffset
 branch_at half = record { value = extended 13 (half % 2 ^ 12 * 2); in_range = branch_small half }
 
--- half of the offset, as its bits 20 to 1
+-- the offset whose bits 20 to 1 are `half`; bit 0 is 0
 pub jump_small : (half : ℕ) → IsJumpOffset (extended 21 (half % 2 ^ 20 * 2))
 jump_small half = grind (arith, ints)
 

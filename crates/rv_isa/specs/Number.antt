@@ -10,10 +10,10 @@ residue k z = unsigned_abs (int_rem_euclid z (pos (2 ^ k)))
 abbrev pub bits : ℕ → ℕ → ℕ → ℕ
 bits n low count = n / 2 ^ low % 2 ^ count
 
--- what a register that holds n means as a signed number
+-- the signed number that a register holding n stands for
 abbrev pub signed : ℕ → ℤ
 signed n = if nat_lt n (2 ^ 31) then pos n else (pos n -ℤ pos (2 ^ 32))
 
--- z modulo 2^32: what a register holds of it
+-- z modulo 2^32, as a register holds it
 abbrev pub wrapped : ℤ → ℕ
 wrapped z = residue 32 z

@@ -1,4 +1,4 @@
--- What the operands of an instruction range over: RISC-V Unprivileged ISA, 2.2 and 2.3
+-- The ranges of the operands of an instruction: RISC-V Unprivileged ISA, 2.2 and 2.3
 use Rattle.std.specs.Prelude.{◌≡◌, ℕ, ◌<◌, ◌^◌, ℤ, pos, negsuc, ◌≤ℤ◌}
 use Rattle.rv_isa.specs.Number.{residue}
 

@@ -102,7 +102,7 @@ operation_funct7 Divu = 0b0000001
 operation_funct7 Rem = 0b0000001
 operation_funct7 Remu = 0b0000001
 
--- the word of an instruction; a word of none is illegal
+-- the word of an instruction; a word that no instruction has is illegal
 abbrev pub word_of : Instr → ℕ
 word_of (Lui rd immediate) = u_word immediate.value rd.number 0b0110111
 word_of (Auipc rd immediate) = u_word immediate.value rd.number 0b0010111

@@ -13,7 +13,7 @@ use crate::fields::{
 use crate::tables::{condition, immediate_operation, load_kind, operation, shift, store_kind};
 use crate::{Instr, opcode};
 
-/// The instruction whose word is `word`; `None` where there is none, which is an illegal word.
+/// The instruction whose word is `word`; `None` where `word` is illegal, that is, no instruction has it.
 #[inline(always)]
 #[tactic(auto, using(crate::proofs::Again::decoded_again), unfolding(crate::specs::Decoded::decoded))]
 pub fn decode(word: u32) -> Option<Instr>
@@ -154,8 +154,8 @@ pub fn decode_store(word: u32) -> Option<Instr>
     })
 }
 
-/// The computation of a word of the opcode OP-IMM, of which funct3 001 and 101 are the shifts; `None`
-/// where no shift has its funct7.
+/// The computation or shift of a word of the opcode OP-IMM. The shifts are those with funct3 001 and 101;
+/// `None` where no shift has the word's funct7.
 #[inline(always)]
 #[tactic(auto, unfolding(crate::specs::Decoded::decoded, crate::specs::Decoding::instr_of))]
 pub fn decode_immediate(word: u32) -> Option<Instr>
@@ -169,7 +169,7 @@ pub fn decode_immediate(word: u32) -> Option<Instr>
     }
 }
 
-/// A shift by an amount.
+/// A shift by a fixed amount; `None` where no shift has its funct7.
 #[inline(always)]
 fn decode_shift(word: u32) -> Option<Instr>
     requires { word % 2 ^ 7 ≡ 0b0010011 }
@@ -184,7 +184,7 @@ fn decode_shift(word: u32) -> Option<Instr>
     })
 }
 
-/// A computation with an immediate.
+/// A computation with an immediate; `None` where none has its funct3.
 #[inline(always)]
 fn decode_compute_immediate(word: u32) -> Option<Instr>
     requires { word % 2 ^ 7 ≡ 0b0010011 }

@@ -69,7 +69,7 @@ pub fn encode(instr: &Instr) -> u32
     }
 }
 
-/// The word of a shift.
+/// The word of a shift by a fixed amount.
 fn shift_word(shift: Shift, rd: Reg, source: Reg, amount: ShiftAmount) -> u32
     ensures { result ≡ word_of (ShiftImmediate shift rd source amount) }
 {
@@ -92,7 +92,7 @@ fn compute_word(operation: Operation, rd: Reg, left: Reg, right: Reg) -> u32
     r_word(funct7, u32::from(right.number), left, funct3, rd, 0b0110011)
 }
 
-/// A law: two instructions with one word are one.
+/// A law: two instructions that have the same word are the same instruction.
 #[tactic(auto, using(crate::proofs::Again::one_word))]
 pub fn one_instr()
     ensures { (x y : Instr) → word_of x ≡ word_of y → x ≡ y }

@@ -16,28 +16,28 @@ fn register(number: u32) -> Reg
     }
 }
 
-/// The destination.
+/// The destination, rd.
 pub fn rd(word: u32) -> Reg
     ensures { result ≡ register_at (slots_of word).rd }
 {
     register(word >> 7 & 0x1f)
 }
 
-/// The first source.
+/// The first source, rs1.
 pub fn rs1(word: u32) -> Reg
     ensures { result ≡ register_at (slots_of word).rs1 }
 {
     register(word >> 15 & 0x1f)
 }
 
-/// The second source.
+/// The second source, rs2.
 pub fn rs2(word: u32) -> Reg
     ensures { result ≡ register_at (slots_of word).rs2 }
 {
     register(word >> 20 & 0x1f)
 }
 
-/// The field funct3.
+/// The field funct3, bits 14 to 12.
 pub fn funct3(word: u32) -> u32
     ensures value { result ≡ (slots_of word).funct3 }
     ensures small { result < 2 ^ 3 }
@@ -45,7 +45,7 @@ pub fn funct3(word: u32) -> u32
     word >> 12 & 0x7
 }
 
-/// The field funct7.
+/// The field funct7, bits 31 to 25.
 pub fn funct7(word: u32) -> u32
     ensures value { result ≡ (slots_of word).funct7 }
     ensures small { result < 2 ^ 7 }
@@ -64,14 +64,14 @@ fn amount(number: u32) -> ShiftAmount
     }
 }
 
-/// The shift amount.
+/// The shift amount, in the bits of rs2.
 pub fn shift_amount(word: u32) -> ShiftAmount
     ensures { result ≡ amount_at (slots_of word).rs2 }
 {
     amount(word >> 20 & 0x1f)
 }
 
-/// The signed number whose 12 bits are `number`.
+/// The signed number whose 12-bit two's complement is `number`.
 #[tactic(auto, using(crate::proofs::Same::same_immediate))]
 fn extend_12(number: u32) -> Immediate
     requires { number < 2 ^ 12 }

@@ -13,7 +13,7 @@ pub enum Condition {
     Bgeu,
 }
 
-/// What a load reads, by its mnemonic.
+/// What a load reads and how it extends it, by its mnemonic.
 #[derive(Clone, Copy, Debug, PartialEq, Eq)]
 pub enum LoadKind {
     Lb,
@@ -106,7 +106,7 @@ pub enum Instr {
         base: Reg,
         offset: Immediate,
     },
-    /// `source`, rs2, is stored at `base`, rs1, plus `offset`.
+    /// Stores `source`, rs2, at the address `base`, rs1, plus `offset`.
     Store {
         kind: StoreKind,
         source: Reg,
@@ -132,8 +132,8 @@ pub enum Instr {
         left: Reg,
         right: Reg,
     },
-    /// A fence with all its fields: `immediate` is fm, pred and succ; `rd` and `source`, which is rs1,
-    /// have no meaning.
+    /// A fence with all its fields: `immediate` is fm, pred and succ. `rd` and `source`, which is rs1, have
+    /// no meaning; they are kept so that each word of a fence has its own instruction.
     Fence {
         rd: Reg,
         source: Reg,

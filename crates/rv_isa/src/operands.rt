@@ -23,7 +23,7 @@ pub struct JumpOffset {
     pub ghost in_range: { IsJumpOffset value },
 }
 
-/// The upper 20 bits that LUI and AUIPC name, imm\[31:12\]: 0 to 2^20 - 1.
+/// The operand of LUI and AUIPC, the upper 20 bits imm\[31:12\]: 0 to 2^20 - 1.
 #[derive(Clone, Copy, Debug, PartialEq, Eq)]
 pub struct Upper {
     pub value: u32,

@@ -6,7 +6,7 @@ ghost use Rattle.rv_isa.specs.Registers.{zeros, written};
 use crate::Reg;
 use std::marker::Model;
 
-/// The registers x0 to x31, of which x0 is always 0.
+/// The registers x0 to x31. x0 is always 0.
 #[derive(Clone, Copy, Debug, PartialEq, Eq)]
 pub struct Regs {
     numbers: [u32; 32],
@@ -23,7 +23,7 @@ impl Model for Regs {
 }
 
 impl Regs {
-    /// All registers 0.
+    /// The register file with all registers 0.
     pub fn zero() -> Self
         ensures { result ≡ zeros }
     {

@@ -5,7 +5,7 @@ use Rattle.std.specs.Ordering.{nat_cmp}
 use Rattle.std.specs.Cmp.Lexicographic.{slice_cmp}
 use Rattle.std.specs.FinMap.{FinMap, contains_key, len}
 
--- keys are ordered by their bytes, the first one first
+-- keys are ordered byte by byte, from the first byte on
 abbrev pub key_cmp : List ℕ → List ℕ → Ordering
 key_cmp = slice_cmp nat_cmp
 
@@ -17,6 +17,6 @@ Storage = FinMap key_cmp (List ℕ)
 abbrev pub WriteMap : Type 0
 WriteMap = FinMap key_cmp (Option (List ℕ))
 
--- whether one more write to a key is within the limit of 256 keys
+-- whether a key may be written: it was written already, or fewer than 256 other keys were
 abbrev pub has_room : WriteMap → List ℕ → Bool
 has_room writes key = contains_key writes key || nat_lt (len writes) 256

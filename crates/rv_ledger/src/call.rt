@@ -47,8 +47,8 @@ impl Call {
     ghost use Rattle.std.specs.Arc.{arc_value};
     ghost use Rattle.rv_ledger.specs.Call.{call_of, IsInLimits};
 
-    /// The call of a program, a gas limit and an input; or BadGas where the gas limit is not 1 to
-    /// 10,000,000, and else InputTooLong where the input is longer than 4,096 bytes.
+    /// The call of a program with a gas limit and an input. Refused as BadGas where the gas limit is
+    /// not 1 to 10,000,000, and else as InputTooLong where the input is longer than 4,096 bytes.
     pub fn new(image: Arc<Image>, gas: u32, input: Vec<u8>) -> Result<Call, CallFault>
         ensures { result ≡ call_of (arc_value image) gas input.items }
     {

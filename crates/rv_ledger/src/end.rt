@@ -3,21 +3,22 @@
 /// Why a call is trapped.
 #[derive(Clone, Copy, Debug, PartialEq, Eq)]
 pub enum Trap {
-    /// The word is no instruction's.
+    /// The word is not an instruction.
     Illegal,
-    /// The target of a jump or a branch, or the address of a halfword or a word, is not aligned.
+    /// The target of a jump or a branch is not a multiple of 4, or the address of a halfword or a word
+    /// is not aligned.
     Misaligned,
-    /// A byte without the right that a load, a store or a storage call needs.
+    /// A load, a store or a storage call needs a right that one of its bytes does not have.
     MemoryFault,
     /// A byte of the instruction may not be fetched.
     FetchFault,
     /// EBREAK.
     Breakpoint,
-    /// A storage call of no known number.
+    /// The number in a7 is not that of a storage call.
     UnknownCall,
-    /// A storage call with a length above its limit.
+    /// The length of a storage call is above its limit.
     BadLength,
-    /// A write or a removal of one key more than the 256 that a call may write.
+    /// A write or a removal of a key, where the call has written 256 other keys.
     TooManyWrites,
 }
 
@@ -28,7 +29,7 @@ pub enum End {
     Returned,
     /// It reverted.
     Reverted,
-    /// An instruction's charge was above the rest of the gas.
+    /// Less gas was left than the charge of the next instruction.
     OutOfGas,
     /// It was trapped.
     Trapped(Trap),

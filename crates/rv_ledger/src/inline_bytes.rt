@@ -1,5 +1,5 @@
-//! Byte strings of a bounded length that stand in an array of their own, so that copying one takes
-//! no memory.
+//! Byte strings of a bounded length. Each keeps its bytes in an array of its own, so that copying
+//! one takes no memory.
 
 ghost use Rattle.std.specs.Prelude.{◌≡◌, ◌≤◌, ◌↔◌, ◌++◌, ◌==◌, [], drop, IsSome, IfSome, IsTrue, length};
 ghost use Rattle.std.specs.Option.{option_copied};
@@ -17,7 +17,7 @@ pub const VALUE_LIMIT: usize = 64;
 /// The greatest length of a call's output, in bytes.
 pub const OUTPUT_LIMIT: usize = 256;
 
-/// At most `LIMIT` bytes.
+/// A byte string of at most `LIMIT` bytes.
 #[derive(Drop)]
 pub struct InlineBytes<const LIMIT: usize> {
     len: usize,
@@ -85,7 +85,7 @@ impl<const LIMIT: usize> InlineBytes<LIMIT> {
         }
     }
 
-    /// An equal byte string, where there is one.
+    /// An equal byte string, or None for None.
     pub fn copied(bytes: Option<&InlineBytes<LIMIT>>) -> Option<InlineBytes<LIMIT>>
         ensures { result ≡ option_copied bytes.entry }
     {
@@ -122,7 +122,7 @@ impl<const LIMIT: usize> fmt::Debug for InlineBytes<LIMIT> {
     }
 }
 
-/// Writes bytes over the first ones of a longer slice.
+/// Writes bytes over the beginning of a slice that is at least as long.
 fn begin(room: &mut [u8], bytes: &[u8])
     requires { length bytes.now ≤ length room.old }
     ensures { room.new ≡ bytes.now ++ drop (length bytes.now) room.old }

@@ -19,7 +19,7 @@ pub enum JobFault {
     TooManyCalls = 1,
 }
 
-/// At most 1,024 calls, in the order in which they count.
+/// The calls of a block, at most 1,024, in block order.
 #[derive(Drop)]
 pub struct Block {
     calls: Vec<Call>,
@@ -56,7 +56,7 @@ impl Block {
     }
 }
 
-/// A block, and the storage that it starts from.
+/// What is to be run: a block, and the storage that it starts from.
 #[derive(Drop)]
 pub struct Job {
     /// The calls.
@@ -69,7 +69,7 @@ impl Job {
     ghost use Rattle.std.specs.Prelude.{◌≡◌, IfOk};
     ghost use Rattle.rv_ledger.specs.Job.{job_of};
 
-    /// The job of these calls, or TooManyCalls where there are more than 1,024.
+    /// The job of these calls over a storage; or TooManyCalls where there are more than 1,024 calls.
     pub fn new(calls: Vec<Call>, store: Store) -> Result<Job, JobFault>
         ensures { result ≡ job_of calls.items store }
     {

@@ -18,10 +18,10 @@ const KEY_SIZE: usize = 32;
 /// The number of bytes that are compared at once.
 const WORD_SIZE: usize = 8;
 
-/// How often these are compared.
+/// The number of such words in a key.
 const WORD_COUNT: usize = 4;
 
-/// A key of the storage: 32 bytes, in the order of the bytes from the first on.
+/// A key of the storage: 32 bytes. Keys are ordered byte by byte, from the first byte on.
 #[derive(Clone, Copy, Debug, PartialEq, Eq)]
 pub struct Key {
     bytes: [u8; 32],
@@ -78,7 +78,7 @@ impl Ord for Key {
     }
 }
 
-/// The order of two keys by their bytes. Eight bytes at once are compared as one number, the first one highest.
+/// The order of two keys by their bytes. Eight bytes at a time are compared as one big-endian number.
 #[inline]
 fn compared(left: &[u8; KEY_SIZE], right: &[u8; KEY_SIZE]) -> Ordering
     ensures { result ≡ slice_cmp nat_cmp left.now right.now }
@@ -93,7 +93,7 @@ fn compared(left: &[u8; KEY_SIZE], right: &[u8; KEY_SIZE]) -> Ordering
     Ordering::Equal
 }
 
-/// Eight bytes of a key as a number.
+/// The eight bytes of a key from byte `8 * word` on, as a big-endian number.
 #[inline]
 fn word_at(bytes: &[u8; KEY_SIZE], word: usize) -> u64
     requires { word < WORD_COUNT }

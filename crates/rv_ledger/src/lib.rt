@@ -1,5 +1,5 @@
 //! What a block is made of, and what running it leaves: keys, values, calls, jobs, receipts and
-//! outcomes. Each limit of a block is kept in the type that has it.
+//! outcomes. Each type keeps its own limits, so that a value of it is always within them.
 #![tactic(auto)]
 
 pub mod call;

@@ -7,11 +7,11 @@ use crate::store::Store;
 /// What one worker did.
 #[derive(Clone, Copy, Debug, PartialEq, Eq)]
 pub struct Counts {
-    /// All its steps.
+    /// Its steps of every kind.
     pub steps: u64,
-    /// Its askings for work.
+    /// The number of times that it asked for work.
     pub asks: u64,
-    /// Its runs that were accepted.
+    /// Its runs that were recorded.
     pub executions: u64,
     /// Its validations that came to a decision.
     pub validations: u64,
@@ -26,6 +26,6 @@ pub struct Outcome {
     pub receipts: Vec<Receipt>,
     /// The storage after the last call.
     pub store: Store,
-    /// What each worker did; empty where the calls were run in order.
+    /// What each worker did; empty where the calls were run one after another, without workers.
     pub counts: Vec<Counts>,
 }

@@ -15,11 +15,11 @@ pub struct Receipt {
     pub gas: u32,
     /// The address of the instruction that ended it.
     pub pc: u32,
-    /// What it returned or reverted with, else empty.
+    /// What it returned or reverted with; empty after any other end.
     pub out: Output,
     /// The registers at its end.
     pub regs: Regs,
-    /// What it wrote where it returned, else nothing.
+    /// What it wrote; empty unless it returned.
     pub writes: Writes,
 }
 

@@ -30,7 +30,7 @@ impl Store {
     ghost use Rattle.std.specs.Option.{option_copied};
     ghost use Rattle.std.specs.FinMap as map;
 
-    /// The storage without a key.
+    /// An empty storage.
     pub fn new(alloc: Global) -> Store
         ensures { result ≡ map.empty }
     {
@@ -55,7 +55,7 @@ impl Store {
         Ok(())
     }
 
-    /// Takes a key out; nothing changes where it is absent.
+    /// Removes a key; nothing changes where it is absent.
     pub fn remove(&mut self, key: &Key)
         ensures { self.new ≡ map.remove self.old key.now }
     {

@@ -10,7 +10,7 @@ use std::marker::Model;
 /// The greatest number of keys that one call may write.
 pub const WRITE_LIMIT: usize = 256;
 
-/// A write to one key: the value that it has from now on, or None where it is removed.
+/// A write to one key: its new value, or None where the key is removed.
 #[derive(Debug, Drop)]
 pub struct Write {
     /// The key.
@@ -63,7 +63,7 @@ impl Writes {
         self.entries.get(key)
     }
 
-    /// Whether a key may be written: it was already, or there are fewer than 256 others.
+    /// Whether a key may be written: it was written already, or fewer than 256 other keys were.
     pub fn has_room(&self, key: &Key) -> bool
         ensures { result ≡ has_room self.now key.now }
     {
@@ -71,8 +71,8 @@ impl Writes {
         self.entries.contains_key(key) || len < WRITE_LIMIT
     }
 
-    /// Records a write to a key that `has_room` allows, in place of an earlier one to that key;
-    /// refused where memory ran out, and then nothing changes.
+    /// Records a write, in place of an earlier one to the same key. `has_room` must allow the key.
+    /// Refused where memory ran out, and then nothing changes.
     pub fn insert(&mut self, write: Write) -> Result<(), AllocError>
         requires { IsTrue (has_room self.old write.key) }
         ensures ok { OnOk result (self.new ≡ map.insert self.old write.key write.value) }

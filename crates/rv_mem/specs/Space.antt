@@ -9,8 +9,8 @@ use Rattle.rv_mem.specs.declared.access.Access.TheVariants.{Read, Write, Execute
 use Rattle.rv_mem.specs.declared.fault.Fault.{Fault}
 use Rattle.rv_mem.specs.declared.fault.Fault.TheVariants.{Misaligned, MemoryFault, FetchFault, Memory}
 
--- memory: the byte at the address 0x10000 + k is the k-th, and the k-th rights are those of the
--- 4,096 bytes from 0x10000 + 4096 k on
+-- memory: the k-th byte has the address 0x10000 + k, and the k-th rights are those of the 4,096 bytes
+-- from 0x10000 + 4096 k on
 pub record Space : Type 0 where
   pub bytes : List ℕ
   pub rights : List Rights
@@ -33,11 +33,11 @@ allows Execute rights = rights.executable
 abbrev pub no_rights : Rights
 no_rights = record { readable = false; writable = false; executable = false }
 
--- the byte at an address may be used so: it is in memory, and its page has the right
+-- the byte at an address may be used by an access: it is in memory, and its page has the right
 abbrev pub may : Access → List Rights → ℕ → Bool
 may access rights a = is_address a && allows access (slice_index_or rights ((a - first_address) / page_size) no_rights)
 
--- each of the n bytes from an address on may be used so
+-- each of the n bytes from an address on may be used by an access
 unfoldable pub each : Access → List Rights → ℕ → ℕ → Bool
 each access rights a zero = true
 each access rights a (suc n) = may access rights a && each access rights (a + 1) n
@@ -76,8 +76,8 @@ abbrev pub copied : Space → ℕ → List ℕ → Result Space Fault
 copied m a new =
     if each Write m.rights a (length new) then Ok (written m new (a - first_address)) else Err MemoryFault
 
--- a call that should leave memory as `want` has it: it does so, or it answers want's fault, or for
--- want of memory refuses what is no fault. A refused call changes nothing
+-- a call that should leave memory as `want` has it: it does so, or it answers the fault that `want` has. Where
+-- `want` has no fault it may also answer Memory. A refused call changes nothing
 abbrev pub Leaves : {X : Type 0} → Result X Fault → Result Space Fault → Space → Space → Type 0
 Leaves (Ok x) want old new = want ≡ Ok new
 Leaves (Err Memory) want old new = IsOk want × (new ≡ old)

@@ -6,7 +6,7 @@ ghost use Rattle.rv_mem.specs.Space.{allows, fault_of};
 use crate::fault::Fault;
 use elf32::Rights;
 
-/// A way to use a byte: a right allows each.
+/// A way to use a byte of memory. Each needs a right of the byte's page.
 #[derive(Clone, Copy, Debug, PartialEq, Eq)]
 pub enum Access {
     /// A load.
@@ -18,7 +18,7 @@ pub enum Access {
 }
 
 impl Access {
-    /// Whether a page with these rights may be used so.
+    /// Whether a page with these rights allows this access.
     #[inline(always)]
     pub(crate) fn is_allowed_by(self, rights: Rights) -> bool
         ensures { result ≡ allows self rights }
@@ -30,7 +30,7 @@ impl Access {
         }
     }
 
-    /// The fault of a use without the right.
+    /// The fault of an access without the right.
     pub(crate) fn fault(self) -> Fault
         ensures { result ≡ fault_of self }
     {

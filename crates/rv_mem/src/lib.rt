@@ -1,5 +1,5 @@
-//! The memory of one contract call: one mebibyte of bytes, in pages that are
-//! shared until they are written, with rights a page.
+//! The memory of one contract call: one mebibyte, in pages that are shared until they are written. Each
+//! page has rights of its own.
 #![tactic(auto)]
 
 pub mod access;

@@ -20,7 +20,7 @@ use std::alloc::{AllocError, Global};
 use std::marker::Model;
 use std::sync::Arc;
 
-/// The place of the input.
+/// The place of the input, in bytes from the first address of memory.
 const INPUT: usize = (INPUT_ADDRESS - FIRST_ADDRESS) as usize;
 
 /// Writes the input at its address; refused where memory ran out.
@@ -62,9 +62,9 @@ impl Model for Memory {
 }
 
 impl Memory {
-    /// The memory of a call before its first instruction: the image's segments, and from
-    /// 0x00100000 on the input, of at most 4,096 bytes; refused where memory ran out. The pages of the
-    /// image are shared, pages of zeros are not kept, and the input gets a page of its own.
+    /// The memory of a call before its first instruction: the image's segments, and the input, of at most
+    /// 4,096 bytes, from 0x00100000 on. Refused where memory ran out. The pages of the image are shared, and
+    /// its pages of zeros take no bytes. An input that is not empty gets a page of its own.
     pub fn of(alloc: Global, image: &Image, input: &[u8]) -> Result<Memory, AllocError>
         requires { length input.now ≤ 4096 }
         ensures { IfOk result (λ m. m ≡ start_space image.now input.now) }
@@ -79,8 +79,8 @@ impl Memory {
         })
     }
 
-    /// The instruction word at the address, or Misaligned, or FetchFault where one of its bytes may
-    /// not be executed.
+    /// The instruction word at the address, or Misaligned where the address is not a multiple of 4, or
+    /// FetchFault where one of the word's bytes may not be executed.
     #[inline(always)]
     pub fn fetch(&self, address: u32) -> Result<u32, Fault>
         ensures { result ≡ loaded 4 Execute self.now address }
@@ -89,7 +89,7 @@ impl Memory {
         Ok(word_at(&self.pages, at))
     }
 
-    /// The byte at the address, or MemoryFault.
+    /// The byte at the address, or MemoryFault where it may not be loaded.
     #[inline(always)]
     pub fn load8(&self, address: u32) -> Result<u8, Fault>
         ensures { result ≡ loaded 1 Read self.now address }
@@ -98,7 +98,8 @@ impl Memory {
         Ok(byte_at(&self.pages, at))
     }
 
-    /// The halfword at the address, or Misaligned where the address is odd, or MemoryFault.
+    /// The halfword at the address, or Misaligned where the address is odd, or MemoryFault where one of its
+    /// bytes may not be loaded.
     #[inline(always)]
     pub fn load16(&self, address: u32) -> Result<u16, Fault>
         ensures { result ≡ loaded 2 Read self.now address }
@@ -107,7 +108,8 @@ impl Memory {
         Ok(halfword_at(&self.pages, at))
     }
 
-    /// The word at the address, or Misaligned where the address is no multiple of 4, or MemoryFault.
+    /// The word at the address, or Misaligned where the address is not a multiple of 4, or MemoryFault where
+    /// one of its bytes may not be loaded.
     #[inline(always)]
     pub fn load32(&self, address: u32) -> Result<u32, Fault>
         ensures { result ≡ loaded 4 Read self.now address }
@@ -163,8 +165,8 @@ impl Memory {
         range_has(&*self.rights, Access::Write, address, len)
     }
 
-    /// Fills `out`, of less than 2^32 bytes, with those from the address on, at any alignment, or
-    /// answers MemoryFault and leaves it where one may not be loaded.
+    /// Fills `out` with the bytes from the address on, at any alignment. Where one of them may not be loaded
+    /// it answers MemoryFault and leaves `out` as it was. `out` has less than 2^32 bytes.
     pub fn copy_out(&self, address: u32, out: &mut [u8]) -> Result<(), Fault>
         requires { length out.old < 2 ^ 32 }
         ensures copied { OnOk result (out.new ≡ bytes_at self.now address (length out.old)) }
@@ -180,8 +182,8 @@ impl Memory {
         Ok(())
     }
 
-    /// Fills `out` with the bytes from the address on, whatever the rights of their pages: for one who
-    /// looks at memory from outside. All of them lie in memory.
+    /// Fills `out` with the bytes from the address on, whatever the rights of their pages. All of the bytes
+    /// lie in memory. This is for a debugger, which looks at the memory of a call from outside.
     pub fn inspect(&self, address: u32, out: &mut [u8])
         requires first { first_address ≤ address }
         requires last { address + length out.old ≤ end_address }
@@ -192,8 +194,8 @@ impl Memory {
         }
     }
 
-    /// Writes the bytes, less than 2^32 of them, from the address on, at any alignment, or refuses
-    /// with MemoryFault or Memory and changes nothing.
+    /// Writes the bytes from the address on, at any alignment, or refuses with MemoryFault or Memory and
+    /// changes nothing. They are less than 2^32 bytes.
     #[tactic(auto, using(crate::proofs::Copied::copied_nothing))]
     pub fn copy_in(&mut self, address: u32, bytes: &[u8]) -> Result<(), Fault>
         requires { length bytes.now < 2 ^ 32 }

@@ -13,10 +13,10 @@ use elf32::extent::{PAGE_COUNT, PAGE_SIZE};
 use std::alloc::{AllocError, Global};
 use std::sync::Arc;
 
-/// A page that nobody wrote.
+/// The bytes of a page that is None: zeros.
 static ZERO_PAGE: Page = [0; PAGE_SIZE];
 
-/// The bytes of a page, of which one of zeros is not kept.
+/// The bytes of a page. None is a page of zeros.
 #[inline(always)]
 fn bytes_of(page: &Option<Arc<Page>>) -> &Page
     ensures { result.now ≡ page_bytes page.now }
@@ -27,7 +27,7 @@ fn bytes_of(page: &Option<Arc<Page>>) -> &Page
     }
 }
 
-/// The page of a program, shared with it.
+/// The page of a program, shared with it; refused where memory ran out.
 fn shared_page(page: &Option<Arc<Page>>) -> Result<Option<Arc<Page>>, AllocError>
     ensures { IfOk result (λ shared. page_bytes shared ≡ page_bytes page.now) }
 {
@@ -37,7 +37,7 @@ fn shared_page(page: &Option<Arc<Page>>) -> Result<Option<Arc<Page>>, AllocError
     }
 }
 
-/// The pages of a program, shared with it, in order.
+/// The pages of a program, shared with it, in order; refused where memory ran out.
 pub fn shared_pages(
     alloc: Global,
     pages: &[Option<Arc<Page>>],
@@ -54,8 +54,8 @@ pub fn shared_pages(
     Ok(shared)
 }
 
-/// A copy of the page with the bytes written at a place in it. It is kept out of its callers, whose frames
-/// would hold a page and be cleared at each call.
+/// A copy of the page with the bytes written at a place in it; refused where memory ran out. It is not
+/// inlined: the frames of its callers would hold a page, which would be cleared at each call.
 #[cold]
 #[inline(never)]
 fn written_page(alloc: Global, page: &Page, at: usize, new: &[u8]) -> Result<Arc<Page>, AllocError>
@@ -69,8 +69,8 @@ fn written_page(alloc: Global, page: &Page, at: usize, new: &[u8]) -> Result<Arc
     Ok(Arc::new(alloc, copy)?)
 }
 
-/// Puts a copy with the bytes written in the place of a shared page; refused where memory ran out, and
-/// then nothing changes.
+/// Replaces a page that is shared, or None, by a copy with the bytes written at a place in it; refused
+/// where memory ran out, and then nothing changes.
 #[cold]
 #[inline(never)]
 fn copy_and_write(
@@ -89,8 +89,8 @@ fn copy_and_write(
     Ok(())
 }
 
-/// Writes the bytes at a place in the page, of which a shared one is copied first; refused where memory
-/// ran out, and then nothing changes.
+/// Writes the bytes at a place in the page. A page that is shared, or None, is copied first. Refused
+/// where memory ran out, and then nothing changes.
 #[inline(always)]
 fn write_page(
     page: &mut Option<Arc<Page>>,
@@ -134,8 +134,8 @@ pub fn write_in_page(
     write_page(&mut pages[at / PAGE_SIZE], alloc, at % PAGE_SIZE, new)
 }
 
-/// Writes the bytes from a place in memory on; refused where memory ran out, and then nothing changes. So
-/// a page is only replaced when those after it are written.
+/// Writes the bytes from a place in memory on; refused where memory ran out, and then nothing changes. To
+/// keep this, a page is replaced only after the later pages are written.
 pub fn write(
     pages: &mut [Option<Arc<Page>>],
     alloc: Global,

@@ -9,10 +9,10 @@ use crate::fault::Fault;
 use elf32::Rights;
 use elf32::extent::{END_ADDRESS, FIRST_ADDRESS, PAGE_SIZE};
 
-/// The number of bytes of a page, as wide as an address.
+/// The number of bytes of a page, of the type of an address.
 const PAGE: u32 = PAGE_SIZE as u32;
 
-/// Whether the byte at the address may be used so.
+/// Whether the byte at the address lies in memory and its page allows the access.
 #[inline(always)]
 pub fn may(rights: &[Rights], access: Access, address: u32) -> bool
     requires { length rights.now ≡ page_count }
@@ -23,7 +23,8 @@ pub fn may(rights: &[Rights], access: Access, address: u32) -> bool
         && access.is_allowed_by(rights[((address - FIRST_ADDRESS) / PAGE) as usize])
 }
 
-/// Whether each of the bytes from the address on may be used so.
+/// Whether each of the `len` bytes from the address on lies in memory and its page allows the access.
+/// Addresses do not wrap. For `len` 0 it is true at any address.
 pub fn range_has(rights: &[Rights], access: Access, address: u32, len: u32) -> bool
     requires { length rights.now ≡ page_count }
     ensures value { result ≡ each access rights.now address len }
@@ -48,7 +49,9 @@ pub fn range_has(rights: &[Rights], access: Access, address: u32, len: u32) -> b
     true
 }
 
-/// The place in memory of the number of `size` bytes at the address, or why it may not be used so.
+/// The place, from the start of memory, of the number of `size` bytes at the address. Refused with
+/// Misaligned, else with the fault of the access where a byte is outside memory or its page does not allow
+/// the access.
 #[inline(always)]
 pub fn place(rights: &[Rights], access: Access, address: u32, size: u32) -> Result<usize, Fault>
     requires pages { length rights.now ≡ page_count }

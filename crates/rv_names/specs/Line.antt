@@ -12,7 +12,7 @@ use Rattle.rv_names.specs.declared.lines.Cause.TheVariants.{UnknownMnemonic, Bad
 use Rattle.rv_names.specs.declared.lines.Line.{Line}
 use Rattle.rv_names.specs.declared.lines.Statement.TheVariants.{Empty}
 
--- `#` begins a comment
+-- a line without its comment, which begins with `#`, and without the blanks at both ends
 unfoldable pub content_of : List ℕ → List ℕ
 content_of text = trimmed (before_first (λ b. b == 35) text)
 
@@ -28,7 +28,7 @@ label_of content =
     if is_name label then Ok (Some label) else Err BadOperand)
     else Ok None
 
--- and the rest is the statement
+-- the statement is what stands behind the first `:`, or the whole content where there is no label
 unfoldable pub body_of : List ℕ → List ℕ
 body_of content = if has_label content then trimmed (after_first (λ b. b == 58) content) else content
 
@@ -39,7 +39,7 @@ word_of_body body = before_first is_blank body
 abbrev pub rest_of_body : List ℕ → List ℕ
 rest_of_body body = trimmed (after_first is_blank body)
 
--- the shape of a statement, where there is one
+-- the shape of a statement; None where the statement is empty
 unfoldable pub command_of : List ℕ → Result (Option Shape) Cause
 command_of body =
     if length body == 0 then Ok None else ok_or (option_map Some (shape_of (word_of_body body))) UnknownMnemonic
@@ -48,7 +48,7 @@ abbrev pub said_by : Section → List ℕ → Option Shape → Result Said Cause
 said_by section body None = Ok (saying Empty)
 said_by section body (Some shape) = statement_of section shape (rest_of_body body)
 
--- what a line says; the causes come in their order
+-- what a line says, or the least-numbered cause that holds of it
 unfoldable pub line_of : Section → List ℕ → Result (Line (List ℕ)) Cause
 line_of section text =
     let content = content_of text in

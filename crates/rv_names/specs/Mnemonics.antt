@@ -26,7 +26,7 @@ condition_name Bge = codes "bge"
 condition_name Bltu = codes "bltu"
 condition_name Bgeu = codes "bgeu"
 
--- of a load
+-- the mnemonic of a load
 abbrev pub load_name : LoadKind → List ℕ
 load_name Lb = codes "lb"
 load_name Lh = codes "lh"
@@ -34,13 +34,13 @@ load_name Lw = codes "lw"
 load_name Lbu = codes "lbu"
 load_name Lhu = codes "lhu"
 
--- of a store
+-- the mnemonic of a store
 abbrev pub store_name : StoreKind → List ℕ
 store_name Sb = codes "sb"
 store_name Sh = codes "sh"
 store_name Sw = codes "sw"
 
--- of an operation on a register and an immediate
+-- the mnemonic of an operation on a register and an immediate
 abbrev pub immediate_name : ImmediateOperation → List ℕ
 immediate_name Addi = codes "addi"
 immediate_name Slti = codes "slti"
@@ -49,13 +49,13 @@ immediate_name Xori = codes "xori"
 immediate_name Ori = codes "ori"
 immediate_name Andi = codes "andi"
 
--- of a shift by a fixed amount
+-- the mnemonic of a shift by a fixed amount
 abbrev pub shift_name : Shift → List ℕ
 shift_name Slli = codes "slli"
 shift_name Srli = codes "srli"
 shift_name Srai = codes "srai"
 
--- of an operation on two registers
+-- the mnemonic of an operation on two registers
 abbrev pub operation_name : Operation → List ℕ
 operation_name Add = codes "add"
 operation_name Sub = codes "sub"
@@ -119,6 +119,6 @@ shapes =
     ∷ Nothing ∷ Move ∷ Jump ∷ Return ∷ LoadConstant
     ∷ TextSection ∷ DataSection ∷ WordDirective ∷ ByteDirective ∷ ZeroDirective ∷ []
 
--- the shape whose mnemonic a word is
+-- the shape whose mnemonic or directive is `word`
 unfoldable pub shape_of : List ℕ → Option Shape
 shape_of word = find (λ shape. bytes_eq (mnemonic shape) word) shapes

@@ -5,11 +5,11 @@ use Rattle.std.specs.List.{list_all, starts_with}
 use Rattle.std.specs.Char.{is_digit}
 use Rattle.std.specs.Str.Parse.{digits_value}
 
--- at least one digit and at most so many
+-- 1 to `most` digits of the radix
 abbrev pub is_numeral : ℕ → ℕ → List ℕ → Bool
 is_numeral radix most digits = nat_le 1 (length digits) && nat_le (length digits) most && list_all (λ c. is_digit c radix) digits
 
--- the number that they write; a hex digit is of either case
+-- the number that the digits write; a hex digit is of either case
 unfoldable pub numeral_of : ℕ → ℕ → List ℕ → Option ℕ
 numeral_of radix most digits = if is_numeral radix most digits then Some (digits_value radix digits) else None
 

@@ -18,7 +18,7 @@ use Rattle.rv_names.specs.declared.target.Target.TheVariants.{Number, Label}
 use Rattle.rv_names.specs.declared.lines.Cause.{Cause}
 use Rattle.rv_names.specs.declared.lines.Cause.TheVariants.{BadOperand, ImmediateRange}
 
--- the second step, where the first gave a value
+-- goes on with f where the first step gave a value; else keeps its cause
 infixl 10 ◌>>=◌
 abbrev pub ◌>>=◌ : {A B : Type 0} → Result A Cause → (A → Result B Cause) → Result B Cause
 (Ok x) >>= f = f x
@@ -28,7 +28,7 @@ abbrev pub ◌>>=◌ : {A B : Type 0} → Result A Cause → (A → Result B Cau
 abbrev pub is_blank : ℕ → Bool
 is_blank b = b == 32 || b == 9
 
--- a text without the blanks at its ends
+-- a text without the blanks at its beginning, at its end, and at both
 abbrev pub without_blanks_before : List ℕ → List ℕ
 without_blanks_before text = drop (prefix_len is_blank text) text
 
@@ -38,7 +38,7 @@ without_blanks_behind text = take (length text - suffix_len is_blank text) text
 unfoldable pub trimmed : List ℕ → List ℕ
 trimmed text = without_blanks_behind (without_blanks_before text)
 
--- ---- operands are parted by commas
+-- ---- operands, which are separated by commas
 
 abbrev pub is_comma : ℕ → Bool
 is_comma b = b == 44
@@ -52,7 +52,7 @@ first_operand text =
 abbrev pub last_operand : List ℕ → Result (List ℕ) Cause
 last_operand text = if list_any is_comma text then Err BadOperand else Ok (trimmed text)
 
--- as many operands as there must be; an empty text has none
+-- exactly this number of operands; an empty text has none
 unfoldable pub no_operand : List ℕ → Result (Unit {0}) Cause
 no_operand text = if length text == 0 then Ok tt else Err BadOperand
 
@@ -74,7 +74,7 @@ three_operands text = do
 
 -- ---- their forms
 
--- letters, digits and `_`, the first of them no digit
+-- a name has one or more ASCII letters, ASCII digits and `_`, and the first is not a digit
 abbrev pub is_name_byte : ℕ → Bool
 is_name_byte b = is_ascii_alphanumeric b || b == 95
 
@@ -137,6 +137,6 @@ amount_of z = if is_between (pos 0) (pos 31) z then Ok (amount_at (unsigned_abs 
 unfoldable pub word_value_of : ℤ → Result ℕ Cause
 word_value_of z = if is_between (negsuc 2147483647) (pos 4294967295) z then Ok (residue 32 z) else Err ImmediateRange
 
--- 0 to the greatest
+-- 0 to `most`
 unfoldable pub count_of : ℕ → ℤ → Result ℕ Cause
 count_of most z = if is_between (pos 0) (pos most) z then Ok (unsigned_abs z) else Err ImmediateRange

@@ -1,14 +1,14 @@
--- What the code's values say, whose names are borrowed from the source.
+-- The code's lines and targets, whose names are borrowed from the source, with the names replaced.
 use Rattle.std.specs.Option.{option_map}
 use Rattle.rv_names.specs.declared.lines.Line.{Line}
 use Rattle.rv_names.specs.declared.target.Target.{Target}
 use Rattle.rv_names.specs.declared.target.Target.TheVariants.{Number, Label}
 
--- the same target with its name seen by f
+-- the target with f applied to its name
 abbrev pub target_map : {A B : Type 0} → (A → B) → Target A → Target B
 target_map f (Number n) = Number n
 target_map f (Label label) = Label (f label)
 
--- the same line
+-- the line with f applied to its names
 abbrev pub line_map : {A B : Type 0} → (A → B) → Line A → Line B
 line_map f line = record { label = option_map f line.label; statement = line.statement; target = option_map f line.target }

@@ -38,7 +38,7 @@ naming target statement = record { label = None; statement = statement; target =
 
 -- ---- LUI and then ADDI
 
--- a number below 2^32 is what LUI and ADDI make of these two
+-- the parts of a number v below 2^32: LUI loads the high one, and ADDI adds the low one, which gives v modulo 2^32
 abbrev pub low_of : ℕ → ℤ
 low_of v = (immediate_at v).value
 
@@ -155,7 +155,7 @@ on_registers operation rest = do
   right ← register_operand operands.2
   Ok (saying (Plain (Compute operation rd left right)))
 
--- what has no operand
+-- a statement without operands
 abbrev pub alone : Statement → List ℕ → Result Said Cause
 alone statement rest = do
   none ← no_operand rest
@@ -232,7 +232,7 @@ zero_statement rest = do
 
 -- ---- all of them
 
--- the statement of a shape, where it may stand
+-- the statement of a shape, in a section where it may stand
 unfoldable pub shaped : Shape → List ℕ → Result Said Cause
 shaped LoadUpper rest = load_upper rest
 shaped AddUpper rest = add_upper rest
@@ -271,6 +271,6 @@ may_stand_in section ByteDirective = is_data section
 may_stand_in section ZeroDirective = is_data section
 may_stand_in section _ = not (is_data section)
 
--- the statement of a shape in a section
+-- the statement of a shape; BadOperand where it may not stand in the section
 unfoldable pub statement_of : Section → Shape → List ℕ → Result Said Cause
 statement_of section shape rest = if may_stand_in section shape then shaped shape rest else Err BadOperand

@@ -16,7 +16,7 @@ use Rattle.rv_names.specs.Mnemonics.{mnemonic}
 use Rattle.rv_names.specs.declared.shapes.Shape.{Shape}
 use Rattle.rv_names.specs.declared.shapes.Shape.TheVariants.{LoadUpper, AddUpper, JumpAndLink, JumpRegister, Branching, Loading, Storing, OnImmediate, OnAmount, OnRegisters, Barrier, Call, Break, WordDirective}
 
--- a mnemonic, one blank, and the operands with a comma between two
+-- a mnemonic, one blank, and the operands, separated by commas
 abbrev pub command : Shape → List (List ℕ) → List ℕ
 command shape operands = mnemonic shape ++ 32 ∷ join_with_byte 44 operands
 
@@ -24,15 +24,15 @@ command shape operands = mnemonic shape ++ 32 ∷ join_with_byte 44 operands
 abbrev pub upper_text : Upper → List ℕ
 upper_text immediate = codes "0x" ++ digits 16 false immediate.value
 
--- the place at an offset from a register
+-- `N(REGISTER)`: an offset and the register that it is added to
 abbrev pub place_text : Immediate → Reg → List ℕ
 place_text offset base = signed_decimal offset.value ++ 40 ∷ (x_name base ++ 41 ∷ [])
 
--- a word as a number of eight hex digits
+-- `.word 0x` and the word in eight hex digits
 abbrev pub word_directive : ℕ → List ℕ
 word_directive word = command WordDirective ((codes "0x" ++ encode_lower (to_be_bytes w32 word)) ∷ [])
 
--- the word of `fence` is one alone
+-- the text of a FENCE by its word: `fence` for 0x0ff0000f alone
 abbrev pub fence_text : ℕ → List ℕ
 fence_text word = if word == 0x0ff0000f then mnemonic Barrier else word_directive word
 
@@ -56,7 +56,7 @@ text_of (Fence rd source immediate) = fence_text (word_of (Fence rd source immed
 text_of Ecall = mnemonic Call
 text_of Ebreak = mnemonic Break
 
--- the text of a word: of its instruction, where it has one
+-- the text of a word: the text of its instruction, or `.word 0x` and eight hex digits where it has none
 abbrev pub text_or_word : ℕ → Option Instr → List ℕ
 text_or_word word None = word_directive word
 text_or_word word (Some instr) = text_of instr

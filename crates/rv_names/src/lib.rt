@@ -1,4 +1,5 @@
-//! The names of assembly: what a line of source says, and the text of an instruction.
+//! The names of registers and instructions in assembly: what a line of source says, and the text of an
+//! instruction.
 #![tactic(auto)]
 
 mod lines;

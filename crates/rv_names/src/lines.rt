@@ -13,14 +13,15 @@ pub enum Section {
     Data,
 }
 
-/// What is wrong with a line by itself. Of several on one line the least number is answered.
+/// What is wrong with a line by itself. Where several hold, the one with the least number is answered.
 #[derive(Clone, Copy, Debug, PartialEq, Eq)]
 pub enum Cause {
-    /// The first word is no mnemonic and no directive.
+    /// The first word is neither a mnemonic nor a directive.
     UnknownMnemonic = 1,
-    /// A label that is no name, operands of a wrong number or form, or the wrong section.
+    /// The label is not a name, the operands are wrong in number or form, or the statement may not stand
+    /// in the section.
     BadOperand = 2,
-    /// A number that is out of its operand's range.
+    /// A number is out of its operand's range.
     ImmediateRange = 3,
 }
 
@@ -31,7 +32,7 @@ pub enum Statement {
     Empty,
     /// One instruction.
     Plain(Instr),
-    /// Two instructions, the first one first.
+    /// Two instructions, in this order.
     Pair(Instr, Instr),
     /// A branch to the line's target.
     BranchTo {
@@ -51,26 +52,26 @@ pub enum Statement {
     WordValue(u32),
     /// One byte.
     ByteValue(u8),
-    /// So many bytes of 0, at most 65,536.
+    /// This number of bytes of 0, at most 65,536.
     ZeroBytes(u32),
     /// The section of the lines that follow.
     Enter(Section),
 }
 
-/// A line of source; a name in it is an `N`.
+/// A line of source. `N` is the type of the names of labels in it.
 #[derive(Clone, Copy, Debug, PartialEq, Eq)]
 pub struct Line<N> {
     /// The name of the place where the line begins.
     pub label: Option<N>,
-    /// What the line says beside it.
+    /// What the line says beside its label.
     pub statement: Statement,
-    /// The label that the statement speaks of: there is one for `BranchTo`, `JumpTo` and
-    /// `AddressOf`, and for no other statement.
+    /// The label that the statement refers to. `BranchTo`, `JumpTo` and `AddressOf` have one, and no other
+    /// statement has.
     pub target: Option<N>,
 }
 
 impl<N> Line<N> {
-    /// A statement that names no label.
+    /// A line with a statement that refers to no label.
     pub(crate) fn saying(statement: Statement) -> Self
         ensures { result ≡ record { label = None; statement = statement; target = None } }
     {
@@ -81,7 +82,7 @@ impl<N> Line<N> {
         }
     }
 
-    /// A statement that names a label.
+    /// A line with a statement that refers to the label `target`.
     pub(crate) fn naming(target: N, statement: Statement) -> Self
         ensures { result ≡ record { label = None; statement = statement; target = Some target } }
     {

@@ -122,7 +122,7 @@ fn immediate_name(operation: ImmediateOperation) -> &'static str
     }
 }
 
-/// The mnemonic of a shift by an amount.
+/// The mnemonic of a shift by a fixed amount.
 fn shift_name(shift: Shift) -> &'static str
     ensures { result.now ≡ shift_name shift }
 {
@@ -191,7 +191,7 @@ pub fn mnemonic(shape: Shape) -> &'static str
     }
 }
 
-/// The first of some shapes whose mnemonic a word is.
+/// The first of the shapes whose mnemonic or directive is `word`; `None` where there is none.
 fn found(shapes: &[Shape], word: &[u8]) -> Option<Shape>
     ensures { result ≡ find (λ shape. bytes_eq (mnemonic shape) word.now) shapes.now }
 {
@@ -201,7 +201,7 @@ fn found(shapes: &[Shape], word: &[u8]) -> Option<Shape>
         .find(|shape| mnemonic(*shape).as_bytes() == word)
 }
 
-/// The shape whose mnemonic or directive a word is; `None` for any other word, also one in capitals.
+/// The shape whose mnemonic or directive is `word`; `None` for any other word, also for one in capitals.
 #[tactic(auto, unfolding(crate::specs::Mnemonics::shape_of))]
 pub fn shape(word: &[u8]) -> Option<Shape>
     ensures { result ≡ shape_of word.now }

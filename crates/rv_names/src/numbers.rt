@@ -17,7 +17,7 @@ fn are_digits(radix: u32, digits: &[u8]) -> bool
     digits.iter().all(|byte| char::from(*byte).is_digit(radix))
 }
 
-/// The number that some digits write.
+/// The number that 1 to 10 digits write; it is never `None`.
 fn value(radix: u32, digits: &[u8]) -> Option<u64>
     requires low { 2 ≤ radix }
     requires high { radix ≤ 16 }
@@ -33,7 +33,7 @@ fn value(radix: u32, digits: &[u8]) -> Option<u64>
     u64::from_str_radix(text, radix).ok()
 }
 
-/// The number that 1 to `most` digits write.
+/// The number that 1 to `most` digits write; `None` for any other text.
 #[tactic(auto, unfolding(crate::specs::Numbers::numeral_of))]
 fn numeral(radix: u32, most: usize, digits: &[u8]) -> Option<u64>
     requires low { 2 ≤ radix }
@@ -48,8 +48,8 @@ fn numeral(radix: u32, most: usize, digits: &[u8]) -> Option<u64>
     value(radix, digits)
 }
 
-/// The number that a text writes: 1 to 10 decimal digits, `-` before them or not, or `0x` and 1 to
-/// 8 hex digits of either case. `None` for any other text.
+/// The number that a text writes: 1 to 10 decimal digits, with or without `-` before them, or `0x` and
+/// 1 to 8 hex digits of either case. `None` for any other text.
 #[tactic(auto, unfolding(crate::specs::Numbers::number_of))]
 pub fn number(text: &[u8]) -> Option<i64>
     ensures { result ≡ number_of text.now }

@@ -12,7 +12,7 @@ use crate::registers::register;
 use crate::target::Target;
 use rv_isa::Reg;
 
-/// Space and tab.
+/// Whether a byte is a blank, that is, a space or a tab.
 pub(crate) fn is_blank(byte: u8) -> bool
     ensures { result ≡ is_blank byte }
 {
@@ -27,7 +27,7 @@ fn blanks_before(text: &[u8]) -> usize
     text.iter().take_while(|byte| is_blank(**byte)).count()
 }
 
-/// How many blanks it ends with.
+/// How many blanks a text ends with.
 fn blanks_behind(text: &[u8]) -> usize
     ensures count { result ≡ suffix_len is_blank text.now }
     ensures within { result ≤ length text.now }
@@ -38,21 +38,21 @@ fn blanks_behind(text: &[u8]) -> usize
         .count()
 }
 
-/// The text from its first byte that is no blank on.
+/// A text without the blanks at its beginning.
 fn without_blanks_before(text: &[u8]) -> &[u8]
     ensures { result.now ≡ without_blanks_before text.now }
 {
     &text[blanks_before(text)..]
 }
 
-/// The text to its last byte that is no blank.
+/// A text without the blanks at its end.
 fn without_blanks_behind(text: &[u8]) -> &[u8]
     ensures { result.now ≡ without_blanks_behind text.now }
 {
     &text[..text.len() - blanks_behind(text)]
 }
 
-/// A text without the blanks, which are space and tab, at its ends.
+/// A text without the blanks at its beginning and its end. Blanks are space and tab.
 #[tactic(auto, unfolding(crate::specs::Operands::trimmed))]
 pub fn trimmed(text: &[u8]) -> &[u8]
     ensures { result.now ≡ trimmed text.now }
@@ -60,14 +60,14 @@ pub fn trimmed(text: &[u8]) -> &[u8]
     without_blanks_behind(without_blanks_before(text))
 }
 
-/// The first place of a byte.
+/// The first place of a byte in a text; `None` where the text does not have it.
 pub(crate) fn place_of(text: &[u8], byte: u8) -> Option<usize>
     ensures { result ≡ position (λ b. b == byte) text.now }
 {
     text.iter().position(|b| *b == byte)
 }
 
-/// What stands before a byte, or all where it does not stand.
+/// What stands before the first such byte; the whole text where there is none.
 pub(crate) fn before(text: &[u8], byte: u8) -> &[u8]
     ensures { result.now ≡ before_first (λ b. b == byte) text.now }
 {
@@ -77,7 +77,7 @@ pub(crate) fn before(text: &[u8], byte: u8) -> &[u8]
     }
 }
 
-/// What stands behind a byte, or nothing where it does not stand.
+/// What stands behind the first such byte; nothing where there is none.
 pub(crate) fn behind(text: &[u8], byte: u8) -> &[u8]
     ensures { result.now ≡ after_first (λ b. b == byte) text.now }
 {
@@ -87,14 +87,14 @@ pub(crate) fn behind(text: &[u8], byte: u8) -> &[u8]
     }
 }
 
-/// Whether a byte stands in a text.
+/// Whether a text contains a byte.
 pub(crate) fn has(text: &[u8], byte: u8) -> bool
     ensures { result ≡ list_any (λ b. b == byte) text.now }
 {
     text.iter().any(|b| *b == byte)
 }
 
-/// The first of several operands, and the text of the others; else BadOperand.
+/// The first of several operands, and the text of the others; BadOperand where there is no comma.
 fn first_operand(text: &[u8]) -> Result<(&[u8], &[u8]), Cause>
     ensures { result_map_both (λ p. (p.0.now, p.1.now)) (λ cause. cause) result ≡ first_operand text.now }
 {
@@ -104,7 +104,7 @@ fn first_operand(text: &[u8]) -> Result<(&[u8], &[u8]), Cause>
     Ok((trimmed(before(text, b',')), behind(text, b',')))
 }
 
-/// The operand, where it is the last one; else BadOperand.
+/// The last operand; BadOperand where there is a comma.
 fn last_operand(text: &[u8]) -> Result<&[u8], Cause>
     ensures { result_map_both (λ a. a.now) (λ cause. cause) result ≡ last_operand text.now }
 {
@@ -114,7 +114,7 @@ fn last_operand(text: &[u8]) -> Result<&[u8], Cause>
     Ok(trimmed(text))
 }
 
-/// No operand, else BadOperand.
+/// Checks that there is no operand; else BadOperand.
 #[tactic(auto, unfolding(crate::specs::Operands::no_operand))]
 pub(crate) fn no_operand(text: &[u8]) -> Result<(), Cause>
     ensures { result ≡ no_operand text.now }
@@ -125,7 +125,7 @@ pub(crate) fn no_operand(text: &[u8]) -> Result<(), Cause>
     Err(Cause::BadOperand)
 }
 
-/// The one operand, else BadOperand.
+/// The one operand; BadOperand where there is none or more than one.
 #[tactic(auto, unfolding(crate::specs::Operands::one_operand))]
 pub(crate) fn one_operand(text: &[u8]) -> Result<&[u8], Cause>
     ensures { result_map_both (λ a. a.now) (λ cause. cause) result ≡ one_operand text.now }
@@ -136,7 +136,7 @@ pub(crate) fn one_operand(text: &[u8]) -> Result<&[u8], Cause>
     last_operand(text)
 }
 
-/// The two operands, else BadOperand.
+/// The two operands; BadOperand where there is another number of them.
 #[tactic(auto, unfolding(crate::specs::Operands::two_operands))]
 pub(crate) fn two_operands(text: &[u8]) -> Result<(&[u8], &[u8]), Cause>
     ensures { result_map_both (λ p. (p.0.now, p.1.now)) (λ cause. cause) result ≡ two_operands text.now }
@@ -146,7 +146,7 @@ pub(crate) fn two_operands(text: &[u8]) -> Result<(&[u8], &[u8]), Cause>
     Ok((first, last))
 }
 
-/// The three operands, else BadOperand.
+/// The three operands; BadOperand where there is another number of them.
 #[tactic(auto, unfolding(crate::specs::Operands::three_operands))]
 pub(crate) fn three_operands(text: &[u8]) -> Result<(&[u8], &[u8], &[u8]), Cause>
     ensures { result_map_both (λ p. (p.0.now, p.1.now, p.2.now)) (λ cause. cause) result ≡ three_operands text.now }
@@ -164,14 +164,14 @@ fn is_name_byte(byte: u8) -> bool
     byte.is_ascii_alphanumeric() || byte == b'_'
 }
 
-/// Whether all bytes may stand in a name.
+/// Whether each byte may stand in a name.
 fn are_name_bytes(text: &[u8]) -> bool
     ensures { result ≡ list_all is_name_byte text.now }
 {
     text.iter().all(|byte| is_name_byte(*byte))
 }
 
-/// Whether a text is a name: letters, digits and `_`, the first of them no digit.
+/// Whether a text is a name: one or more ASCII letters, ASCII digits and `_`, and the first is not a digit.
 #[tactic(auto, unfolding(crate::specs::Operands::is_name))]
 pub(crate) fn is_name(text: &[u8]) -> bool
     ensures { result ≡ is_name text.now }
@@ -196,7 +196,7 @@ pub(crate) fn number_operand(text: &[u8]) -> Result<i64, Cause>
     number(text).ok_or(Cause::BadOperand)
 }
 
-/// What stands before a parenthesis that ends a text, else BadOperand.
+/// The text without the closing parenthesis at its end; BadOperand where it has none there.
 fn inside_parenthesis(text: &[u8]) -> Result<&[u8], Cause>
     ensures { result_map_both (λ a. a.now) (λ cause. cause) result ≡ inside_parenthesis text.now }
 {
@@ -206,7 +206,7 @@ fn inside_parenthesis(text: &[u8]) -> Result<&[u8], Cause>
     Ok(&text[..text.len() - 1])
 }
 
-/// `N(REGISTER)`, else BadOperand.
+/// The number and the register of `N(REGISTER)`, else BadOperand.
 #[tactic(auto, unfolding(crate::specs::Operands::place_operand))]
 pub(crate) fn place_operand(text: &[u8]) -> Result<(i64, Reg), Cause>
     ensures { result ≡ place_operand text.now }

@@ -1,4 +1,4 @@
-//! The ranges of numbers.
+//! The ranges of the numbers in source.
 
 ghost use Rattle.std.specs.Prelude.{◌≡◌, ◌<◌, ◌≤◌, ◌/◌, ◌^◌, IfOk};
 ghost use Rattle.rv_isa.specs.Number.{residue};
@@ -102,7 +102,7 @@ fn amount_in_range(n: u8) -> ShiftAmount
     ShiftAmount { value: n }
 }
 
-/// The places of a shift, 0 to 31, else ImmediateRange.
+/// The number of places of a shift, 0 to 31, else ImmediateRange.
 #[tactic(auto, unfolding(crate::specs::Operands::amount_of))]
 pub(crate) fn amount(number: i64) -> Result<ShiftAmount, Cause>
     ensures { result ≡ amount_of number }
@@ -113,7 +113,7 @@ pub(crate) fn amount(number: i64) -> Result<ShiftAmount, Cause>
     Ok(amount_in_range(number as u8))
 }
 
-/// A word, -2147483648 to 4294967295 and then modulo 2^32, else ImmediateRange.
+/// A word: a number from -2147483648 to 4294967295, taken modulo 2^32; else ImmediateRange.
 #[tactic(auto, unfolding(crate::specs::Operands::word_value_of))]
 pub(crate) fn word_value(number: i64) -> Result<u32, Cause>
     ensures { result ≡ word_value_of number }
@@ -124,7 +124,7 @@ pub(crate) fn word_value(number: i64) -> Result<u32, Cause>
     Ok(number.rem_euclid(4294967296) as u32)
 }
 
-/// A number of 0 to `most`, else ImmediateRange.
+/// A number from 0 to `most`, else ImmediateRange.
 #[tactic(auto, unfolding(crate::specs::Operands::count_of))]
 pub(crate) fn count(most: u32, number: i64) -> Result<u32, Cause>
     ensures count { result ≡ count_of most number }
@@ -146,7 +146,7 @@ fn low_part(number: u32) -> Immediate
     }
 }
 
-/// What LUI takes beside that.
+/// The upper 20 bits that LUI loads, so that adding the low part gives the number modulo 2^32.
 fn high_part(number: u32) -> Upper
     ensures { result ≡ upper_at (high_of number) }
 {

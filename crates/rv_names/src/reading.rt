@@ -13,7 +13,7 @@ use crate::operands::{before, behind, has, is_blank, is_name, trimmed};
 use crate::statements::statement;
 use crate::{Cause, Line, Section, Shape, Statement};
 
-/// A line without its comment and the blanks at its ends.
+/// A line without its comment, and without the blanks at its beginning and its end.
 #[tactic(auto, unfolding(crate::specs::Line::content_of))]
 fn content(text: &[u8]) -> &[u8]
     ensures { result.now ≡ content_of text.now }
@@ -21,7 +21,7 @@ fn content(text: &[u8]) -> &[u8]
     trimmed(before(text, b'#'))
 }
 
-/// The label, where there is one; BadOperand where it is no name.
+/// The label, where there is one; BadOperand where it is not a name.
 #[tactic(auto, unfolding(crate::specs::Line::label_of))]
 fn label(content: &[u8]) -> Result<Option<&[u8]>, Cause>
     ensures { result_map_both (option_map (λ label. label.now)) (λ cause. cause) result ≡ label_of content.now }
@@ -36,7 +36,7 @@ fn label(content: &[u8]) -> Result<Option<&[u8]>, Cause>
     Ok(Some(label))
 }
 
-/// What stands beside the label.
+/// What stands behind the label; the whole content where there is no label.
 #[tactic(auto, unfolding(crate::specs::Line::body_of))]
 fn body(content: &[u8]) -> &[u8]
     ensures { result.now ≡ body_of content.now }
@@ -47,7 +47,7 @@ fn body(content: &[u8]) -> &[u8]
     trimmed(behind(content, b':'))
 }
 
-/// The place of the first blank.
+/// The place of the first blank; `None` where there is none.
 fn first_blank(body: &[u8]) -> Option<usize>
     ensures { result ≡ position is_blank body.now }
 {
@@ -64,7 +64,7 @@ fn first_word(body: &[u8]) -> &[u8]
     }
 }
 
-/// What stands behind the first blank.
+/// What stands behind the first blank; nothing where there is none.
 fn behind_word(body: &[u8]) -> &[u8]
     ensures { result.now ≡ after_first is_blank body.now }
 {
@@ -74,7 +74,8 @@ fn behind_word(body: &[u8]) -> &[u8]
     }
 }
 
-/// The shape of a statement, where there is one; UnknownMnemonic where its word has none.
+/// The shape of a statement; `None` where the statement is empty, UnknownMnemonic where its first word is
+/// neither a mnemonic nor a directive.
 #[tactic(auto, unfolding(crate::specs::Line::command_of))]
 fn command(body: &[u8]) -> Result<Option<Shape>, Cause>
     ensures { result ≡ command_of body.now }
@@ -88,7 +89,7 @@ fn command(body: &[u8]) -> Result<Option<Shape>, Cause>
     }
 }
 
-/// The statement of a shape, or the empty one.
+/// The statement of a shape, or the empty statement where there is no shape.
 fn said(section: Section, body: &[u8], command: Option<Shape>) -> Result<Line<&[u8]>, Cause>
     ensures { result_map_both (line_map (λ label. label.now)) (λ cause. cause) result ≡ said_by section body.now command }
 {
@@ -98,9 +99,10 @@ fn said(section: Section, body: &[u8], command: Option<Shape>) -> Result<Line<&[
     }
 }
 
-/// What a line of source says, in a section; without its end. Names are borrowed from it.
-/// Refused with the least cause that holds of the line by itself: UnknownMnemonic where the first
-/// word is no mnemonic or directive, else BadOperand, else ImmediateRange.
+/// What a line of source says. `text` is the line without its line feed, and `section` is the section that
+/// is in force. Names are borrowed from `text`. Refused with the least cause that holds of the line by
+/// itself: UnknownMnemonic where the first word is neither a mnemonic nor a directive, else BadOperand,
+/// else ImmediateRange.
 #[tactic(auto, unfolding(crate::specs::Line::line_of))]
 pub fn read_line(section: Section, text: &[u8]) -> Result<Line<&[u8]>, Cause>
     ensures { result_map_both (line_map (λ label. label.now)) (λ cause. cause) result ≡ line_of section text.now }

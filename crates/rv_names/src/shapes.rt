@@ -2,7 +2,7 @@
 
 use rv_isa::{Condition, ImmediateOperation, LoadKind, Operation, Shift, StoreKind};
 
-/// What a mnemonic or directive stands for, by the operands that follow it.
+/// What a mnemonic or directive stands for. Each comment shows one with the operands that follow it.
 #[derive(Clone, Copy, Debug, PartialEq, Eq)]
 pub enum Shape {
     /// `lui rd,N`

@@ -1,4 +1,4 @@
-//! The statements, each by the shape of its mnemonic or directive.
+//! The statements of source: one function for each shape, which reads the operands.
 
 ghost use Rattle.std.specs.Prelude.{◌≡◌, ◌<◌};
 ghost use Rattle.std.specs.Result.{result_map_both};
@@ -69,7 +69,7 @@ fn add_upper(rest: &[u8]) -> Result<Line<&[u8]>, Cause>
     Ok(Line::saying(Statement::Plain(Instr::Auipc { rd, immediate })))
 }
 
-/// JAL to a target.
+/// JAL to a target; ImmediateRange where a number is odd or out of range.
 fn jump_to(rd: Reg, target: Target<&[u8]>) -> Result<Line<&[u8]>, Cause>
     ensures { result_map_both (line_map (λ label. label.now)) (λ cause. cause) result ≡ jump_to rd (target_map (λ label. label.now) target.entry) }
 {
@@ -104,7 +104,7 @@ fn jump_register(rest: &[u8]) -> Result<Line<&[u8]>, Cause>
     Ok(Line::saying(Statement::Plain(Instr::Jalr { rd, base, offset })))
 }
 
-/// A branch to a target.
+/// A branch to a target; ImmediateRange where a number is odd or out of range.
 fn branch_to(
     condition: Condition,
     left: Reg,
@@ -230,7 +230,7 @@ fn on_registers(operation: Operation, rest: &[u8]) -> Result<Line<&[u8]>, Cause>
     })))
 }
 
-/// An instruction without operands.
+/// An instruction without operands; BadOperand where there are any.
 fn alone(instr: Instr, rest: &[u8]) -> Result<Line<&[u8]>, Cause>
     ensures { result_map_both (line_map (λ label. label.now)) (λ cause. cause) result ≡ alone (Plain instr) rest.now }
 {
@@ -271,7 +271,7 @@ fn jump(rest: &[u8]) -> Result<Line<&[u8]>, Cause>
     jump_to(zero(), target)
 }
 
-/// LUI and ADDI that load a target.
+/// LUI and ADDI that load a number or the address of a label; ImmediateRange where a number is out of range.
 fn load_target(rd: Reg, target: Target<&[u8]>) -> Result<Line<&[u8]>, Cause>
     ensures { result_map_both (line_map (λ label. label.now)) (λ cause. cause) result ≡ load_target rd (target_map (λ label. label.now) target.entry) }
 {
@@ -294,7 +294,7 @@ fn load_constant(rest: &[u8]) -> Result<Line<&[u8]>, Cause>
     load_target(rd, target_operand(target)?)
 }
 
-/// The number of a directive.
+/// The one operand of a directive, a number; else BadOperand.
 fn only_number(rest: &[u8]) -> Result<i64, Cause>
     ensures { result ≡ only_number rest.now }
 {
@@ -362,7 +362,7 @@ fn return_jump() -> Instr
     }
 }
 
-/// The statement of a shape.
+/// The statement of a shape with the operands `rest`.
 #[tactic(auto, unfolding(crate::specs::Statements::shaped))]
 fn shaped(shape: Shape, rest: &[u8]) -> Result<Line<&[u8]>, Cause>
     ensures { result_map_both (line_map (λ label. label.now)) (λ cause. cause) result ≡ shaped shape rest.now }
@@ -406,7 +406,7 @@ fn may_stand_in(section: Section, shape: Shape) -> bool
     }
 }
 
-/// Whether it is the section of data.
+/// Whether a section is the one of data.
 fn is_data(section: Section) -> bool
     ensures { result ≡ is_data section }
 {
@@ -416,7 +416,7 @@ fn is_data(section: Section) -> bool
     }
 }
 
-/// The statement of a shape in a section: BadOperand where it may not stand there.
+/// The statement of a shape with the operands `rest`; BadOperand where it may not stand in the section.
 #[tactic(auto, unfolding(crate::specs::Statements::statement_of))]
 pub(crate) fn statement(section: Section, shape: Shape, rest: &[u8]) -> Result<Line<&[u8]>, Cause>
     ensures { result_map_both (line_map (λ label. label.now)) (λ cause. cause) result ≡ statement_of section shape rest.now }

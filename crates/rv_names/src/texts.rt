@@ -36,14 +36,14 @@ fn with_three(
     format!(in alloc; "{name} {first},{second},{third}")
 }
 
-/// The text of a signed number.
+/// The text of a signed number, in decimal.
 fn signed_text(alloc: Global, value: i32) -> Result<String, AllocError>
     ensures { IfOk result (λ t. string_bytes t ≡ signed_decimal value) }
 {
     format!(in alloc; "{value}")
 }
 
-/// A register and the upper 20 bits.
+/// A command with a register and the upper 20 bits in hex.
 fn upper_text(alloc: Global, shape: Shape, rd: Reg, immediate: Upper) -> Result<String, AllocError>
     ensures { IfOk result (λ t. string_bytes t ≡ command shape (x_name rd ∷ upper_text immediate ∷ [])) }
 {
@@ -52,7 +52,7 @@ fn upper_text(alloc: Global, shape: Shape, rd: Reg, immediate: Upper) -> Result<
     with_two(alloc, shape, x_name(rd), operand.as_str())
 }
 
-/// A register and a place.
+/// A command with a register and the operand `N(REGISTER)`.
 fn place_text(
     alloc: Global,
     shape: Shape,
@@ -68,7 +68,7 @@ fn place_text(
     with_two(alloc, shape, x_name(register), operand.as_str())
 }
 
-/// Two registers and a signed number.
+/// A command with two registers and a signed number.
 fn number_text(
     alloc: Global,
     shape: Shape,
@@ -88,7 +88,7 @@ fn number_text(
     )
 }
 
-/// Two registers and the places of a shift.
+/// A command with two registers and the number of places of a shift.
 fn amount_text(
     alloc: Global,
     shape: Shape,
@@ -108,7 +108,7 @@ fn amount_text(
     )
 }
 
-/// JAL and its distance.
+/// JAL with its register and its distance in bytes.
 fn jump_text(alloc: Global, rd: Reg, value: i32) -> Result<String, AllocError>
     ensures { IfOk result (λ t. string_bytes t ≡ command JumpAndLink (x_name rd ∷ signed_decimal value ∷ [])) }
 {
@@ -116,7 +116,7 @@ fn jump_text(alloc: Global, rd: Reg, value: i32) -> Result<String, AllocError>
     with_two(alloc, Shape::JumpAndLink, x_name(rd), operand.as_str())
 }
 
-/// `.word` and eight hex digits.
+/// `.word 0x` and eight hex digits.
 fn word_directive(alloc: Global, word: u32) -> Result<String, AllocError>
     ensures { IfOk result (λ t. string_bytes t ≡ word_directive word) }
 {
@@ -132,7 +132,7 @@ fn alone(alloc: Global, shape: Shape) -> Result<String, AllocError>
     String::from_str(alloc, mnemonic(shape))
 }
 
-/// `fence` for its one word, else the word.
+/// `fence` for the word 0x0ff0000f; for any other word `.word 0x` and eight hex digits.
 fn fence_text(alloc: Global, word: u32) -> Result<String, AllocError>
     ensures { IfOk result (λ t. string_bytes t ≡ fence_text word) }
 {
@@ -142,8 +142,8 @@ fn fence_text(alloc: Global, word: u32) -> Result<String, AllocError>
     word_directive(alloc, word)
 }
 
-/// The text of an instruction: registers by their x names, distances in bytes. A fence other than
-/// that of the word 0x0ff0000f is told as its word. Refused where memory ran out.
+/// The text of an instruction: registers by their x names, distances in bytes. A fence whose word is not
+/// 0x0ff0000f is printed as `.word 0x` and eight hex digits. Refused where memory ran out.
 #[tactic(auto, unfolding(crate::specs::Text::text_of))]
 pub fn instruction_text(alloc: Global, instr: &Instr) -> Result<String, AllocError>
     ensures { IfOk result (λ t. string_bytes t ≡ text_of instr.now) }
@@ -215,8 +215,8 @@ pub fn instruction_text(alloc: Global, instr: &Instr) -> Result<String, AllocErr
     }
 }
 
-/// The text of a word: of its instruction, where it has one, else `.word` and its number in eight
-/// hex digits. Refused where memory ran out.
+/// The text of a word: the text of its instruction, or `.word 0x` and eight hex digits where the word is
+/// illegal. Refused where memory ran out.
 #[tactic(auto, unfolding(crate::specs::Text::word_text))]
 pub fn word_text(alloc: Global, word: u32) -> Result<String, AllocError>
     ensures { IfOk result (λ t. string_bytes t ≡ word_text word) }

@@ -6,7 +6,7 @@ pub record Sections : Type 0 where
   pub text : List ℕ
   pub data_bytes : List ℕ
 
--- text has at most 65,536 bytes, four a word, and data at most 61,440
+-- text has at most 65,536 bytes, four for each word, and data at most 61,440
 pub record IsSized (p : Sections) : Type 0 where
   pub text : 4 * length p.text ≤ 65536
   pub data_bytes : length p.data_bytes ≤ 61440

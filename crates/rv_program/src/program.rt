@@ -6,13 +6,13 @@ use std::marker::Model;
 pub const TEXT_START: u32 = 0x0001_0000;
 /// The address of the first data byte.
 pub const DATA_START: u32 = 0x0002_0000;
-/// How many bytes the text section may have, four of each word.
+/// How many bytes the text section may have at most. A word has four.
 pub const TEXT_LIMIT: usize = 65_536;
-/// How many bytes the data section may have.
+/// How many bytes the data section may have at most.
 pub const DATA_LIMIT: usize = 61_440;
 
-/// An assembled program: its text words from `TEXT_START` on and its data bytes from `DATA_START` on,
-/// at most `TEXT_LIMIT` and `DATA_LIMIT` bytes of them.
+/// An assembled program: its text words from `TEXT_START` on and its data bytes from `DATA_START` on. Text
+/// has at most `TEXT_LIMIT` bytes, and data at most `DATA_LIMIT`.
 #[derive(Debug, Drop)]
 pub struct Program {
     text: Vec<u32>,
@@ -33,8 +33,8 @@ impl Program {
     ghost use Rattle.std.specs.Prelude.{◌≡◌};
     ghost use Rattle.rv_program.specs.Sections.{IsSized, program_of};
 
-    /// The program of these text words and data bytes, or None where they are more than `TEXT_LIMIT` or
-    /// `DATA_LIMIT` bytes.
+    /// The program of these text words and data bytes. None where the text has more than `TEXT_LIMIT`
+    /// bytes or the data more than `DATA_LIMIT`.
     pub fn new(text: Vec<u32>, data_bytes: Vec<u8>) -> Option<Program>
         ensures { result ≡ program_of text.items data_bytes.items }
     {
@@ -44,7 +44,7 @@ impl Program {
         Some(Program { text, data_bytes })
     }
 
-    /// The text words, in the order of their addresses: at most `TEXT_LIMIT` bytes, four a word.
+    /// The text words, in the order of their addresses: at most `TEXT_LIMIT` bytes, four for each word.
     pub fn text(&self) -> &[u32]
         ensures value { result.now ≡ self.now.text }
         ensures sized { IsSized self.now }

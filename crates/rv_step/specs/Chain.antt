@@ -39,7 +39,7 @@ receipt_of limit end out s = record { end = end; gas = limit - s.gas; pc = s.pc;
 abbrev pub Reply : Type 0
 Reply = List ℕ × Option (List ℕ)
 
--- the receipt at the end where no answer is left over
+-- the receipt at the end, if no answer is left over
 abbrev pub closed : List Reply → Receipt → Option Receipt
 closed [] receipt = Some receipt
 closed (reply ∷ replies) receipt = None
@@ -60,22 +60,22 @@ abbrev pub followed : (Machine → List Reply → Option Receipt) → ℕ → Ma
 followed rest limit s (Asks key) replies = after_ask rest limit s key replies
 followed rest limit s outcome replies = after_step rest limit outcome replies
 
--- the receipt that the chain comes to in at most so many steps with these answers, all of them used in order
+-- the receipt that the chain comes to in at most `steps` steps, if it uses these answers in order and all of them
 unfoldable pub replayed : ℕ → ℕ → Machine → List Reply → Option Receipt
 replayed limit zero s replies = None
 replayed limit (suc steps) s replies = followed (λ t rest. replayed limit steps t rest) limit s (step s) replies
 
--- the answers bear the receipt out where this is Some receipt; a step after which the call goes on takes gas, so that
--- one step more than the gas suffices
+-- the answers bear a receipt out if this is Some of it. Each step after which the call goes on takes gas, so one step more
+-- than the gas is enough
 abbrev pub borne_out : Invocation → List Reply → Option Receipt
 borne_out call replies = replayed call.gas (suc call.gas) (start call) replies
 
--- a step whose asking is answered by a storage
+-- a step, answered by a storage if it asks
 abbrev pub answered_by : Storage → Machine → StepResult → StepResult
 answered_by store s (Asks key) = answered s (map.get store key)
 answered_by store s outcome = outcome
 
--- what follows it; a storage has answered, so that nothing is asked
+-- what follows that step; the storage has answered it, so the case of `Asks` does not occur
 abbrev pub settled : (Machine → Receipt) → ℕ → Machine → StepResult → Receipt
 settled rest limit s (Next t) = rest t
 settled rest limit s (Asks key) = receipt_of limit OutOfGas [] s
@@ -95,8 +95,8 @@ abbrev pub AreFrom : Storage → List Reply → Type 0
 AreFrom store [] = Unit {0}
 AreFrom store (reply ∷ replies) = (reply.1 ≡ map.get store reply.0) × AreFrom store replies
 
--- for each call and storage there is exactly one receipt: answers of the storage bear out `ends`, and answers of the
--- storage bear out nothing else
+-- for each call and storage there is exactly one receipt: some answers of the storage bear out `ends`, and no answers of
+-- the storage bear out another receipt
 pub record HasOneReceipt (call : Invocation) (store : Storage) : Type 0 where
   pub some_answers : (replies : List Reply) × AreFrom store replies × (borne_out call replies ≡ Some (ends call store))
   pub no_other : (replies : List Reply) (receipt : Receipt) → AreFrom store replies → borne_out call replies ≡ Some receipt → receipt ≡ ends call store

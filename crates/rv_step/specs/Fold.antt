@@ -6,12 +6,12 @@ use Rattle.rv_ledger.specs.Call.{Invocation}
 use Rattle.rv_ledger.specs.declared.receipt.Receipt.{Receipt}
 use Rattle.rv_step.specs.Chain.{ends}
 
--- one write over a storage: a removal takes the key out
+-- a storage after one write: a removal removes the key
 abbrev pub apply_write : Storage → List ℕ → Option (List ℕ) → Storage
 apply_write store key (Some value) = map.insert store key value
 apply_write store key None = map.remove store key
 
--- the writes of a receipt over a storage
+-- a storage after the writes of a receipt
 unfoldable pub apply_writes : Storage → WriteMap → Storage
 apply_writes store writes = fold (λ before write. apply_write before write.0 write.1) store (map.entries writes)
 

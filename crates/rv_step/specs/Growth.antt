@@ -1,4 +1,4 @@
--- Where a step may be refused for want of memory.
+-- Where a step may be refused because memory ran out.
 use Rattle.std.specs.Prelude.{ℕ, Bool, true, false, Option, Some, None, Result, Ok, Err, IsTrue}
 use Rattle.rv_isa.specs.Decoded.{decoded}
 use Rattle.rv_isa.specs.declared.instruction.Instr.{Instr}
@@ -18,7 +18,7 @@ fetched_instruction (Err fault) = None
 abbrev pub instruction_at : Machine → Option Instr
 instruction_at s = fetched_instruction (loaded 4 access.Execute s.memory s.pc)
 
--- a store changes memory; an ECALL may copy a value into it or record a write
+-- a store changes memory; an ECALL may copy a value into memory or record a write; nothing else takes memory
 abbrev pub may_grow : Option Instr → Bool
 may_grow (Some (Store kind source base offset)) = true
 may_grow (Some Ecall) = true
@@ -29,7 +29,7 @@ abbrev pub goes_on : StepResult → Bool
 goes_on (Next t) = true
 goes_on _ = false
 
--- the machine's next step takes memory: it is a store or an ECALL after which the call goes on, so that it neither
--- traps, nor runs out of gas, nor asks the storage, nor ends the call
+-- the machine's next step may take memory: it is a store or an ECALL after which the call goes on. So it does not trap,
+-- run out of gas, ask the storage or end the call
 abbrev pub TakesMemory : Machine → Type 0
 TakesMemory s = IsTrue (may_grow (instruction_at s)) × IsTrue (goes_on (step s))

@@ -1,4 +1,4 @@
--- Answers of the storage without where they came from.
+-- Answers of the storage, without their origins.
 use Rattle.std.specs.Prelude.{List, map}
 use Rattle.rv_step.specs.declared.answer.StorageAnswer.{StorageAnswer}
 use Rattle.rv_step.specs.Chain.{Reply}

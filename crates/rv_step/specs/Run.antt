@@ -23,7 +23,7 @@ pub record RunView : Type 0 where
 abbrev pub run_at_start : Invocation → RunView
 run_at_start call = record { call = call; machine = start call; answers = []; stage = Running }
 
--- where a run stands after what a step came to
+-- a run after a step with this result
 abbrev pub after_result : StepResult → RunView → RunView
 after_result (Next t) r = record r { machine = t; stage = Running }
 after_result (Asks key) r = record r { stage = Asked key }
@@ -42,7 +42,7 @@ unfoldable pub after_steps : ℕ → RunView → RunView
 after_steps zero r = r
 after_steps (suc n) r = after_one (after_steps n r)
 
--- how many steps and answers may still come, at most: each instruction takes gas, so that a call ends
+-- the greatest number of steps and answers that may still come: each instruction takes gas, so that a call ends
 abbrev pub left_for : ℕ → Stage → ℕ
 left_for gas Running = 2 * gas + 2
 left_for gas (Asked key) = 2 * gas + 1
@@ -51,7 +51,7 @@ left_for gas (Ended end out) = 0
 abbrev pub steps_left : RunView → ℕ
 steps_left r = left_for r.machine.gas r.stage
 
--- what the storage is asked for
+-- the key that the storage is asked for
 abbrev pub asked_key : Stage → Option (List ℕ)
 asked_key (Asked key) = Some key
 asked_key _ = None
@@ -61,18 +61,18 @@ abbrev pub after_answer : List ℕ → Option (List ℕ) → Origin → RunView 
 after_answer key content origin r =
     after_result (answered r.machine content) (record r { answers = r.answers ++ record { key = key; value = content; origin = origin } ∷ [] })
 
--- the receipt that is left to come with further answers
+-- the receipt that these further answers lead to
 abbrev pub left_over : ℕ → Machine → Stage → List Reply → Option Receipt
 left_over limit s (Ended end out) replies = closed replies (receipt_of limit end out s)
 left_over limit s _ replies = replayed limit (suc s.gas) s replies
 
--- what a stage says of the machine
+-- what a stage says about the machine
 abbrev pub IsStage : ℕ → Machine → Stage → Type 0
 IsStage limit s (Asked key) = (s.gas ≤ limit) × (step s ≡ Asks key)
 IsStage limit s _ = s.gas ≤ limit
 
--- a run is so far a beginning of its call's chain: with whatever answers come, the whole chain comes to the
--- receipt that is left to come
+-- the run so far is a beginning of its call's chain: whatever answers come, the whole chain comes to the receipt that these
+-- answers lead to from here
 pub record IsSoFar (r : RunView) : Type 0 where
   pub stands : IsStage r.call.gas r.machine r.stage
   pub chain : (rest : List Reply) → borne_out r.call (replies_of r.answers ++ rest) ≡ left_over r.call.gas r.machine r.stage rest
@@ -82,7 +82,7 @@ abbrev pub IsEnded : Stage → Type 0
 IsEnded (Ended end out) = Unit {0}
 IsEnded _ = ⊥
 
--- what a run that stands still tells of its stage
+-- what the pause of a run says about its stage
 abbrev pub IsPause : Pause → Stage → Type 0
 IsPause (pause.Ask key) stage = stage ≡ Asked key
 IsPause pause.Ended stage = IsEnded stage

@@ -28,8 +28,8 @@ use Rattle.ecalls.specs.declared.request_kind.Request.{Request}
 use Rattle.ecalls.specs.declared.request_kind.Request.TheVariants as request
 use Rattle.rv_step.specs.declared.machine.Machine.{Machine}
 
--- what a step comes to: the machine goes on; or it asks the storage for a key, and stands before the READ,
--- uncharged; or the call ends with an output, the machine being left so
+-- what a step comes to: the machine goes on; or it asks the storage for a key, and stands before the READ, which is not
+-- charged yet; or the call ends with an output and leaves this machine
 pub data StepResult : Type 0 where
   Next : Machine → StepResult
   Asks : List ℕ → StepResult
@@ -46,11 +46,11 @@ trap_of fault.MemoryFault = trap.MemoryFault
 trap_of fault.FetchFault = trap.FetchFault
 trap_of fault.Memory = trap.MemoryFault
 
--- the charge is taken before the instruction acts; where the rest is less, all of it is spent and nothing is done
+-- the charge is taken before the instruction acts; where less gas is left, all of it is spent and nothing is done
 abbrev pub charged : ℕ → Machine → (Machine → StepResult) → StepResult
 charged cost s act = if nat_le cost s.gas then act (record s { gas = s.gas - cost }) else Ends OutOfGas [] (record s { gas = 0 })
 
--- on to the next instruction
+-- the machine goes on to the next instruction
 abbrev pub next_instruction : Machine → StepResult
 next_instruction s = Next (record s { pc = wrapped (pos s.pc +ℤ pos 4) })
 
@@ -58,7 +58,7 @@ next_instruction s = Next (record s { pc = wrapped (pos s.pc +ℤ pos 4) })
 abbrev pub address_of : Machine → Reg → Immediate → ℕ
 address_of s base offset = address_from (register_value s.regs base) offset
 
--- a load: rd takes the number that is read, extended
+-- a load: rd gets the number that is read, extended
 abbrev pub load_result : LoadKind → Reg → Machine → Result ℕ Fault → StepResult
 load_result kind rd s (Ok number) = next_instruction (record s { regs = written s.regs rd.number (extended_of kind number) })
 load_result kind rd s (Err fault) = trapped (trap_of fault) s
@@ -68,7 +68,7 @@ abbrev pub memory_result : Machine → List ℕ → Result Space Fault → StepR
 memory_result s registers (Ok memory) = next_instruction (record s { memory = memory; regs = registers })
 memory_result s registers (Err fault) = trapped (trap_of fault) s
 
--- an instruction without memory
+-- an instruction that does not touch memory
 abbrev pub compute_result : Machine → Option (List ℕ × ℕ) → StepResult
 compute_result s (Some (registers, pc)) = Next (record s { regs = registers; pc = pc })
 compute_result s None = trapped trap.Misaligned s
@@ -80,20 +80,20 @@ instruction_result (Store kind source base offset) s = memory_result s s.regs (s
 instruction_result Ebreak s = trapped trap.Breakpoint s
 instruction_result instr s = compute_result s (effect_of instr s.regs s.pc)
 
--- a0 tells how a READ went: 2^32 - 1 for absence, 2^32 - 2 for a value longer than the buffer, else the length;
--- and then the value is copied
+-- a0 says how a READ went: 2^32 - 1 for absence, 2^32 - 2 for a value longer than the buffer, else the length, and only
+-- then the value is copied
 unfoldable pub delivery_result : Machine → Option (List ℕ) → StepResult
 delivery_result s None = next_instruction (record s { regs = written s.regs 10 0xffff_ffff })
 delivery_result s (Some value) =
     if nat_lt (a2 s.regs) (length value) then next_instruction (record s { regs = written s.regs 10 0xffff_fffe })
     else memory_result s (written s.regs 10 (length value)) (copied s.memory (a1 s.regs) value)
 
--- a READ of a key that the call has written is answered by its own writes
+-- a READ of a key that the call has written or removed is answered from its own writes
 abbrev pub read_result : Machine → List ℕ → Option (Option (List ℕ)) → StepResult
 read_result s key (Some content) = delivery_result s content
 read_result s key None = Asks key
 
--- a write or a removal, of at most 256 keys
+-- a write or a removal; TooManyWrites where the call has written 256 other keys
 unfoldable pub write_result : Machine → Write → StepResult
 write_result s write = if has_room s.own write.key then next_instruction (record s { own = map.insert s.own write.key write.value }) else trapped trap.TooManyWrites s
 
@@ -129,7 +129,7 @@ step s = fetch_result s (loaded 4 access.Execute s.memory s.pc)
 unfoldable pub answered : Machine → Option (List ℕ) → StepResult
 answered s content = charged (charge_of call.Read s.regs) s (λ t. delivery_result t content)
 
--- gas falls where the call goes on, and does not rise where it ends
+-- the gas falls where the call goes on, and does not rise where it ends
 abbrev pub TakesGas : Machine → StepResult → Type 0
 TakesGas s (Next t) = t.gas < s.gas
 TakesGas s (Asks key) = Unit {0}

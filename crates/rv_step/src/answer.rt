@@ -1,4 +1,4 @@
-//! Answers of the storage.
+//! Answers from the storage.
 
 use read_set::Origin;
 use rv_ledger::{Key, Value};

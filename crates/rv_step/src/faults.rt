@@ -1,4 +1,4 @@
-//! Faults of memory, and the traps that they are to a call.
+//! Faults of memory, and what they mean for a call.
 
 ghost use Rattle.std.specs.Prelude.{◌≡◌};
 ghost use Rattle.rv_step.specs.Meets.{refusal_of};
@@ -8,7 +8,7 @@ use rv_ledger::{End, Trap};
 use rv_mem::Fault;
 use std::alloc::AllocError;
 
-/// The trap of a fault of memory.
+/// The trap that a fault of memory causes.
 pub(crate) fn trap_of(fault: Fault) -> Trap
     ensures { result ≡ trap_of fault }
 {
@@ -19,7 +19,8 @@ pub(crate) fn trap_of(fault: Fault) -> Trap
     }
 }
 
-/// What a refused change of memory comes to: want of memory is no trap.
+/// What a refused change of memory means for a call: it ends with a trap. Running out of memory is not a
+/// trap, and is handed on as an error.
 pub(crate) fn refusal(fault: Fault) -> Result<End, AllocError>
     ensures { result ≡ refusal_of fault }
 {

@@ -16,10 +16,10 @@ pub fn one_receipt()
     ensures { (call : Invocation) (store : Storage) → HasOneReceipt call store }
 {}
 
-/// Each step and each answer after which the call goes on takes gas, and no end gives any back; each
-/// instruction has a charge above 0, and so has each storage call. So a call makes at most as many
-/// charged instructions as its gas limit, whatever it is answered; a last one that is not charged, as
-/// an illegal word, may come on top.
+/// Each step and each answer after which the call goes on takes gas, and no end gives any back. Each
+/// instruction has a charge above 0, and so has each storage call. So a call executes at most as many
+/// charged instructions as its gas limit, whatever it is answered. One more, which is not charged, may
+/// end it: an illegal word, for example.
 pub fn each_step_takes_gas()
     ensures step { (s : Machine) → TakesGas s (step s) }
     ensures answer { (s : Machine) (content : Option (List ℕ)) → TakesGas s (answered s content) }

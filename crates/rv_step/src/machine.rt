@@ -29,15 +29,16 @@ use rv_ledger::{Call, End, Key, Output, Value, Write, Writes};
 use rv_mem::Memory;
 use std::alloc::{AllocError, Global};
 
-/// What a0 tells of an absent key.
+/// The number in a0 after a READ of an absent key.
 const ABSENT: u32 = 0xffff_ffff;
 
-/// What a0 tells of a value that is longer than the buffer.
+/// The number in a0 after a READ of a value that is longer than the buffer.
 const TOO_LONG: u32 = 0xffff_fffe;
 
-/// Returns an expression, written into a branch for each funct3 of a word. The compiler knows funct3 in
-/// each, and does not look up there again which operation it names. Comparisons rather than a match,
-/// since a match of so many becomes a jump through a table, which may cost more than three branches.
+/// Returns the value of an expression. The expression is written into a branch for each of the eight
+/// funct3 of a word, so the compiler knows funct3 there and does not look up again which operation it
+/// names. The branches are comparisons, since a match of eight cases becomes a jump through a table, which
+/// may cost more than three branches.
 macro_rules! return_by_funct3 {
     ($word:expr, $execution:expr) => {{
         let field = funct3($word);
@@ -106,9 +107,10 @@ impl Machine {
         })
     }
 
-    /// Makes instructions up to one after which the machine does not go on, and that one; but an ECALL
-    /// is only found. Refused where memory ran out; then the machine stands before that instruction.
-    /// The loop is a function of its own, since it runs faster where it holds no call.
+    /// Executes instructions up to and including the first one after which the machine does not go on. An
+    /// ECALL is only found: the machine stops before it. Refused where memory ran out; then the machine
+    /// stands before the instruction that needed memory. The loop is a function of its own, since it runs
+    /// faster without a function call in it.
     #[inline(never)]
     pub(crate) fn execute_until_stop(&mut self) -> Result<InstructionOutcome, AllocError>
         ensures did { MeetsInstructions result self.old self.new }
@@ -126,8 +128,8 @@ impl Machine {
         }
     }
 
-    /// One step: fetch, decode, charge, act; but an ECALL is only found. Refused where memory ran
-    /// out, and then nothing changes.
+    /// Makes one step: fetch, decode, charge, act. An ECALL is only found, and nothing changes. Refused
+    /// where memory ran out, and then nothing changes.
     #[tactic(auto, unfolding(crate::specs::Step::step))]
     pub(crate) fn execute_instruction(&mut self) -> Result<InstructionOutcome, AllocError>
         ensures { MeetsInstruction result (instruction_at self.old) (step self.old) self.old self.new }
@@ -138,8 +140,8 @@ impl Machine {
         }
     }
 
-    /// One step, as `execute_instruction`, by branches on the word. The loop alone calls it, since the
-    /// compiler puts so large a function only into a single caller.
+    /// Makes one step like `execute_instruction`, but decodes by branches on the word. Only the loop calls
+    /// it, since the compiler inlines so large a function into a single caller only.
     #[inline(always)]
     #[tactic(auto, unfolding(crate::specs::Step::step))]
     fn execute_next(&mut self) -> Result<InstructionOutcome, AllocError>
@@ -151,8 +153,9 @@ impl Machine {
         }
     }
 
-    /// The answer to the READ at which the machine stands: the value, or None for absence. Refused
-    /// where memory ran out, and then nothing changes.
+    /// Gives the answer to the READ at which the machine stands: the value, or None for absence. Charges
+    /// the READ; the call ends out of gas where less is left. Refused where memory ran out, and then
+    /// nothing changes.
     #[tactic(auto, unfolding(crate::specs::Step::answered))]
     pub(crate) fn answer(&mut self, content: Option<&Value>) -> Result<Stage, AllocError>
         ensures { MeetsResult result (answered self.old (option_copied content.entry)) self.old self.new }
@@ -170,7 +173,7 @@ impl Machine {
         }
     }
 
-    /// Gives the gas back where the storage was asked, since an asking is not charged.
+    /// Gives the gas back where the storage was asked: such a READ is charged when its answer comes.
     fn refund_if_asked(&mut self, gas: Meter, stage: Stage) -> Stage
         ensures stage { result ≡ stage }
         ensures gas { self.new ≡ (if is_asked stage then record self.old { gas = gas } else self.old) }
@@ -181,7 +184,7 @@ impl Machine {
         stage
     }
 
-    /// Ends the call for want of gas, all of which is spent.
+    /// Ends the call out of gas: all that is left is spent.
     fn run_out(&mut self) -> End
         ensures end { result ≡ OutOfGas }
         ensures spent { self.new ≡ record self.old { gas = 0 } }
@@ -190,9 +193,9 @@ impl Machine {
         End::OutOfGas
     }
 
-    /// Charges the instruction of a word and does it, as `execute_decoded` of `decode`. Each opcode has
-    /// a branch of its own, so that the compiler knows there which instructions may come. Each branch
-    /// returns, since the compiler then goes on from there to the next instruction.
+    /// Charges the instruction of a word and executes it, with the result of `execute_decoded(decode(word))`.
+    /// Each opcode has a branch of its own, so that the compiler knows there which instructions may come.
+    /// Each branch returns, since the compiler then goes on from there to the next instruction.
     #[inline(always)]
     fn execute_word(&mut self, word: u32) -> Result<InstructionOutcome, AllocError>
         ensures { MeetsInstruction result (decoded word) (decode_result self.old (decoded word)) self.old self.new }
@@ -207,7 +210,8 @@ impl Machine {
         self.execute_from_branch(word)
     }
 
-    /// Does a word of an opcode below STORE: the computations with an immediate, the loads and two more.
+    /// Executes a word whose opcode is below STORE: the loads, FENCE, the computations with an immediate
+    /// and AUIPC. A word of any other opcode there is illegal.
     #[inline(always)]
     #[tactic(auto, unfolding(rv_isa::specs::Decoded::decoded, rv_isa::specs::Decoding::instr_of))]
     fn execute_below_store(&mut self, word: u32) -> Result<InstructionOutcome, AllocError>
@@ -233,7 +237,8 @@ impl Machine {
         self.execute_decoded(None)
     }
 
-    /// Does a word of an opcode from STORE to LUI: the computations of two registers, the stores and LUI.
+    /// Executes a word whose opcode is from STORE up to LUI: the stores, the computations of two registers
+    /// and LUI. A word of any other opcode there is illegal.
     #[inline(always)]
     #[tactic(auto, unfolding(rv_isa::specs::Decoded::decoded, rv_isa::specs::Decoding::instr_of))]
     fn execute_store_to_lui(&mut self, word: u32) -> Result<InstructionOutcome, AllocError>
@@ -257,7 +262,8 @@ impl Machine {
         self.execute_decoded(None)
     }
 
-    /// Does a word of an opcode from BRANCH on: the branches, the jumps, ECALL and EBREAK.
+    /// Executes a word whose opcode is from BRANCH on: the branches, the jumps, ECALL and EBREAK. A word of
+    /// any other opcode there is illegal.
     #[inline(always)]
     #[tactic(auto, unfolding(rv_isa::specs::Decoded::decoded, rv_isa::specs::Decoding::instr_of))]
     fn execute_from_branch(&mut self, word: u32) -> Result<InstructionOutcome, AllocError>
@@ -283,7 +289,8 @@ impl Machine {
         self.execute_decoded(None)
     }
 
-    /// Charges an instruction and does it; a word of none is a trap, and an ECALL is only found.
+    /// Charges an instruction and executes it. The call ends out of gas where less is left than the charge.
+    /// None stands for an illegal word, which traps and costs nothing. An ECALL is only found.
     #[inline(always)]
     fn execute_decoded(&mut self, instr: Option<Instr>) -> Result<InstructionOutcome, AllocError>
         ensures { MeetsInstruction result instr (decode_result self.old instr) self.old self.new }
@@ -308,8 +315,8 @@ impl Machine {
         }
     }
 
-    /// The storage call at which the machine stands: charges it and does it. An asking is not
-    /// charged before its answer. Refused where memory ran out, and then nothing changes.
+    /// Charges the storage call at which the machine stands and does it. A READ that asks the storage is
+    /// charged only when its answer comes. Refused where memory ran out, and then nothing changes.
     #[inline(never)]
     #[tactic(auto, unfolding(ecalls::specs::StorageCalls::request_of))]
     pub(crate) fn execute_ecall(&mut self) -> Result<Stage, AllocError>
@@ -332,7 +339,7 @@ impl Machine {
         }
     }
 
-    /// Does a storage call that was charged.
+    /// Does a storage call that has been charged; it may trap MemoryFault or TooManyWrites.
     #[tactic(auto, unfolding(crate::specs::Step::storage_call_result))]
     fn serve_request(&mut self, call: StorageCall) -> Result<Stage, AllocError>
         requires { length_of call self.old.regs ≤ longest call }
@@ -350,7 +357,7 @@ impl Machine {
         }
     }
 
-    /// Reads a key: from the call's own writes, or else by asking.
+    /// Reads a key: from the call's own writes, or else by asking the storage.
     fn read(&mut self, key: Key) -> Result<Stage, AllocError>
         ensures { MeetsResult result (read_result self.old key (map.get self.old.own key)) self.old self.new }
     {
@@ -361,7 +368,7 @@ impl Machine {
         self.deliver(content.as_ref())
     }
 
-    /// Writes or removes a key of which the call has room.
+    /// Writes or removes a key; traps TooManyWrites where the call has written 256 other keys.
     #[tactic(auto, unfolding(crate::specs::Step::write_result))]
     fn write(&mut self, write: Write) -> Result<Stage, AllocError>
         ensures { MeetsResult result (write_result self.old write) self.old self.new }
@@ -374,7 +381,7 @@ impl Machine {
         Ok(Stage::Running)
     }
 
-    /// Tells a READ's answer in a0 and copies the value into its buffer.
+    /// Delivers the answer to a READ: sets a0, and copies the value into the buffer where it fits.
     #[tactic(auto, unfolding(crate::specs::Step::delivery_result))]
     fn deliver(&mut self, content: Option<&Value>) -> Result<Stage, AllocError>
         ensures { MeetsResult result (delivery_result self.old (option_copied content.entry)) self.old self.new }
@@ -394,7 +401,8 @@ impl Machine {
         Ok(Stage::Running)
     }
 
-    /// Does an instruction that is no ECALL: None where the machine goes on, or how the call ends.
+    /// Executes an instruction that has been charged and is not an ECALL. None where the machine goes on,
+    /// or how the call ends.
     #[tactic(auto, unfolding(crate::specs::Step::instruction_result))]
     #[inline(always)]
     fn execute_charged(&mut self, instr: &Instr) -> Result<Option<End>, AllocError>
@@ -419,7 +427,8 @@ impl Machine {
         }
     }
 
-    /// Does an instruction that touches registers and the pc alone.
+    /// Executes an instruction that changes only registers and the pc; traps Misaligned where it jumps or
+    /// branches to an address that is not aligned.
     #[inline(always)]
     fn compute(&mut self, instr: &Instr) -> Option<End>
         requires { IsTrue (is_plain instr.now) }
@@ -434,7 +443,7 @@ impl Machine {
         }
     }
 
-    /// Does a load.
+    /// Executes a load; a fault of memory traps.
     #[inline(always)]
     fn load(&mut self, kind: LoadKind, rd: Reg, base: Reg, offset: Immediate) -> Option<End>
         ensures { MeetsEffect (Ok result) (Load kind rd base offset) (load_result kind rd self.old (loaded (width_of kind) access.Read self.old.memory (address_of self.old base offset))) self.old self.new }
@@ -450,7 +459,7 @@ impl Machine {
         }
     }
 
-    /// Does a store.
+    /// Executes a store; a fault of memory traps. Refused where memory ran out, and then nothing changes.
     #[inline(always)]
     fn store(
         &mut self,

@@ -6,13 +6,13 @@ ghost use Rattle.rv_step.specs.Step.{is_ecall};
 use rv_isa::Instr;
 use rv_ledger::End;
 
-/// What one instruction comes to, but for the work of an ECALL, which is only found. It is small,
-/// since each instruction hands one up.
+/// What one instruction comes to. An ECALL is only found, and its work is left to be done. The type is
+/// small, since every instruction returns one.
 #[derive(Clone, Copy, Debug, PartialEq, Eq)]
 pub enum InstructionOutcome {
     /// The machine goes on.
     Next,
-    /// It stands at an ECALL.
+    /// The machine stands at an ECALL.
     StorageCall,
     /// The call ends, without an output.
     End(End),

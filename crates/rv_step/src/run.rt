@@ -1,4 +1,4 @@
-//! A run of one call, which stops where it needs an answer of the storage.
+//! A run of one call, which stops where it needs an answer from the storage.
 
 ghost use Rattle.std.specs.Prelude.{◌≡◌, ◌≤◌, [], IsTrue, Ok, OnErr, OnOk};
 ghost use Rattle.rv_step.specs.Chain.{receipt_of};
@@ -72,14 +72,14 @@ impl Run {
         })
     }
 
-    /// Whether it can make a step.
+    /// Whether the run can make a step: it neither asks the storage nor has ended.
     pub fn is_running(&self) -> bool
         ensures { result ≡ is_running self.now.stage }
     {
         matches!(self.stage, Stage::Running)
     }
 
-    /// Where the machine stands.
+    /// The machine of the call, as the last step left it.
     pub fn machine(&self) -> &Machine
         ensures { result.now ≡ self.now.machine }
     {
@@ -93,8 +93,8 @@ impl Run {
         &self.stage
     }
 
-    /// Makes one instruction of a run that can. Refused where memory ran out, at a step that takes
-    /// memory alone, and then nothing changes.
+    /// Makes one step of a run that is running. Refused where memory ran out, and then nothing changes.
+    /// Only a store or a storage call after which the call goes on can be refused.
     pub fn step_one(&mut self) -> Result<(), AllocError>
         requires { IsTrue (is_running self.old.stage) }
         ensures ok { OnOk result (self.new ≡ after_result (step self.old.machine) self.old) }
@@ -110,8 +110,9 @@ impl Run {
         Ok(())
     }
 
-    /// Makes instructions until the run asks the storage or has ended. Refused where memory ran out,
-    /// at a step that takes memory alone; then the run stands before that instruction, and may go on.
+    /// Makes steps until the run asks the storage or has ended. A run that asks or has ended stays as it
+    /// is. Refused where memory ran out: then the run stands before the instruction that needed memory, a
+    /// store or a storage call, and may go on.
     pub fn go(&mut self) -> Result<Pause, AllocError>
         ensures call { self.new.call ≡ self.old.call }
         ensures answers { self.new.answers ≡ self.old.answers }
@@ -129,8 +130,8 @@ impl Run {
         Ok(self.pause())
     }
 
-    /// Makes instructions up to an ECALL or the end of the call, of a run that can make one. Refused
-    /// where memory ran out; then it stands before the instruction that took memory.
+    /// Makes steps of a run that is running, up to and including the first ECALL, or up to the end of the
+    /// call. Refused where memory ran out; then the run stands before the instruction that needed memory.
     fn step_until_stop(&mut self) -> Result<(), AllocError>
         requires { IsTrue (is_running self.old.stage) }
         ensures call { self.new.call ≡ self.old.call }
@@ -149,7 +150,7 @@ impl Run {
         Ok(())
     }
 
-    /// Why a run that stands still does so.
+    /// Why the run stands still. It must not be running.
     fn pause(&self) -> Pause
         requires { is_running self.now.stage ≡ false }
         ensures pause { IsPause result self.now.stage }
@@ -189,7 +190,7 @@ impl Run {
         Ok(())
     }
 
-    /// The ended run with its receipt, of a run whose call has ended. Takes no memory.
+    /// Turns a run whose call has ended into its receipt and answers. Takes no memory.
     pub fn finish(self) -> EndedRun
         requires { IsEnded self.stage }
         ensures call { result.call ≡ self.call }
@@ -216,8 +217,9 @@ impl Run {
     }
 }
 
-/// Does the storage call at which a machine stands. It is kept out of the loop over instructions,
-/// since a frame is cleared at each entry and an output takes much room in it.
+/// Does the storage call at which a machine stands. Refused where memory ran out, and then nothing
+/// changes. It is kept out of the loop over instructions, since a function's frame is cleared at each
+/// entry, and an output takes much room in the frame.
 #[inline(never)]
 fn execute_ecall(machine: &mut Machine, stage: &mut Stage) -> Result<(), AllocError>
     ensures ok { OnOk result (MeetsResult (Ok stage.new) (ecall_result machine.old (ecall_charge machine.old.regs)) machine.old machine.new) }
@@ -229,7 +231,7 @@ fn execute_ecall(machine: &mut Machine, stage: &mut Stage) -> Result<(), AllocEr
     Ok(())
 }
 
-/// Sets the stage of a call that ends without an output; kept out of the loop for the same reason.
+/// Sets the stage of a call that ends without an output. It is kept out of the loop for the same reason.
 #[inline(never)]
 fn end_with(stage: &mut Stage, end: End)
     ensures { stage.new ≡ Ended end [] }
@@ -237,7 +239,7 @@ fn end_with(stage: &mut Stage, end: End)
     *stage = Stage::Ended(end, Output::empty());
 }
 
-/// The receipt of a call with this gas limit that ended so.
+/// The receipt of a call with this gas limit that ended so; only a call that returned keeps its writes.
 fn receipt(limit: u32, end: End, out: Output, machine: Machine) -> Receipt
     requires { machine.gas ≤ limit }
     ensures { result ≡ receipt_of limit end out machine }

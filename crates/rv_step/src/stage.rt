@@ -18,7 +18,7 @@ pub enum Stage {
     Ended(End, Output),
 }
 
-/// Whether the storage is asked.
+/// Whether a run waits for the storage's answer.
 pub(crate) fn is_asked(stage: &Stage) -> bool
     ensures { result ≡ is_asked stage.now }
 {

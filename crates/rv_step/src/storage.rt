@@ -1,4 +1,4 @@
-//! The writes of a call over a storage.
+//! Applying the writes of a call to a storage.
 
 ghost use Rattle.std.specs.Prelude.{◌≡◌, OnOk};
 ghost use Rattle.rv_step.specs.Fold.{apply_writes};
@@ -6,8 +6,8 @@ ghost use Rattle.rv_step.specs.Fold.{apply_writes};
 use rv_ledger::{Store, Writes};
 use std::alloc::AllocError;
 
-/// Applies the writes of a call to a storage, and takes out what the call removed; refused where memory ran
-/// out, and then a part of them may be applied.
+/// Applies the writes of a call to a storage; a key that the call removed is removed. Refused where memory
+/// ran out, and then some of the writes may be applied.
 #[tactic(auto, unfolding(crate::specs::Fold::apply_writes))]
 pub fn apply_writes(store: &mut Store, writes: &Writes) -> Result<(), AllocError>
     ensures { OnOk result (store.new ≡ apply_writes store.old writes.now) }

@@ -1,15 +1,15 @@
--- Private help of contracts: what a private function answers, beside what is wanted of it.
+-- Private help of contracts: what a private function may answer where an answer is wanted. No public clause cites it.
 use Rattle.std.specs.Prelude.{◌≡◌, ◌⊎◌, Result, Ok, Err}
 use Rattle.rv_text.specs.declared.fault.AsmCause.{AsmCause}
 use Rattle.rv_text.specs.declared.fault.AsmCause.TheVariants.{Memory}
 use Rattle.rv_text.specs.declared.fault.AsmError.{AsmError}
 
--- of a line: the value or the cause that is wanted, or else want of memory
+-- for one line: the value or the cause that is wanted, or Memory, which may be answered at any time
 abbrev pub Answers : {X Y : Type 0} → (X → Y) → Result X AsmCause → Result Y AsmCause → Type 0
 Answers view (Ok x) wanted = wanted ≡ Ok (view x)
 Answers view (Err cause) wanted = (cause ≡ Memory) ⊎ (wanted ≡ Err cause)
 
--- of several lines: the value or the fault that is wanted, or else want of memory
+-- for several lines: the value or the fault that is wanted, or Memory, which may be answered at any time
 abbrev pub Reads : {X Y : Type 0} → (X → Y) → Result X AsmError → Result Y AsmError → Type 0
 Reads view (Ok x) wanted = wanted ≡ Ok (view x)
 Reads view (Err fault) wanted = (fault.cause ≡ Memory) ⊎ (wanted ≡ Err fault)

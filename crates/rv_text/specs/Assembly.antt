@@ -24,18 +24,18 @@ use Rattle.rv_text.specs.declared.fault.AsmCause.{AsmCause}
 use Rattle.rv_text.specs.declared.fault.AsmCause.TheVariants.{UnknownMnemonic, BadOperand, ImmediateRange, UnknownLabel, DuplicateLabel, LabelRange, TooLarge, Memory}
 use Rattle.rv_text.specs.declared.fault.AsmError.{AsmError}
 
--- the second step, where the first gave a value
+-- goes on with f where the first step gave a value; else keeps its cause
 infixl 10 ◌>>=◌
 abbrev pub ◌>>=◌ : {A B : Type 0} → Result A AsmCause → (A → Result B AsmCause) → Result B AsmCause
 (Ok x) >>= f = f x
 (Err cause) >>= f = Err cause
 
--- the second step, where the first gave a value, else the cause on line n
+-- goes on with f where the first step gave a value; else gives its cause on line n
 abbrev pub on_line : {A B : Type 0} → ℕ → Result A AsmCause → (A → Result B AsmError) → Result B AsmError
 on_line n (Ok x) f = f x
 on_line n (Err cause) f = Err (record { line = n; cause = cause })
 
--- a statement of the text section: its line, its address, and the label that it speaks of
+-- a statement of the text section, with its line, its address, and the label that it refers to
 pub record Item : Type 0 where
   pub line : ℕ
   pub address : ℕ
@@ -59,7 +59,7 @@ pub record SourceLayout : Type 0 where
   pub data_bytes : List ℕ
   pub labels : Labels
 
--- no line so far
+-- the empty layout: no line is laid down, and text is in force
 abbrev pub empty_layout : SourceLayout
 empty_layout = record { section = Text; items = []; text_size = 0; data_bytes = []; labels = [] }
 
@@ -81,7 +81,7 @@ with_label None l = Ok l
 with_label (Some name) l =
     if is_some (place_of l.labels name) then Err DuplicateLabel else Ok (record l { labels = l.labels ++ (name, place_in l.section l) ∷ [] })
 
--- the bytes that a statement takes in text
+-- how many bytes a statement takes in text
 abbrev pub text_bytes_of : Statement → ℕ
 text_bytes_of (Pair first second) = 8
 text_bytes_of (AddressOf rd) = 8
@@ -131,14 +131,14 @@ unfoldable pub layout_from : ℕ → List (List ℕ) → SourceLayout → Result
 layout_from n [] l = Ok l
 layout_from n (text ∷ texts) l = on_line n (with_line n text l) (λ m. layout_from (n + 1) texts m)
 
--- ---- the faults of labels, where there is none of lines: 4 and 6
+-- ---- the faults of labels, where no line has one: 4 and 6
 
--- the place of the label that an item speaks of
+-- the place of the label that an item refers to
 abbrev pub target_place : Labels → Option (List ℕ) → Result ℕ AsmCause
 target_place labels None = Err UnknownLabel
 target_place labels (Some name) = ok_or (place_of labels name) UnknownLabel
 
--- a branch, and JAL, at a distance from their own address
+-- a branch over a distance from its own address, and JAL
 abbrev pub branch_words : Condition → Reg → Reg → ℤ → Result (List ℕ) AsmCause
 branch_words condition left right distance = do
   offset ← ok_or (branch_offset_of distance) LabelRange
@@ -182,11 +182,11 @@ abbrev pub program_from : Result SourceLayout AsmError → Result Sections AsmEr
 program_from (Ok l) = program_of l
 program_from (Err fault) = Err fault
 
--- what a source stands for; its lines are parted by LF and counted from 1
+-- what a source stands for; its lines are separated by LF and counted from 1
 unfoldable pub assembled : List ℕ → Result Sections AsmError
 assembled source = program_from (layout_from 1 (slice_split (λ b. b == 10) source) empty_layout)
 
--- a call answers what is wanted, or want of memory
+-- a call answers what is wanted, or Memory, which may be answered for any source
 abbrev pub Gives : Result Sections AsmError → Result Sections AsmError → Type 0
 Gives (Ok program) want = want ≡ Ok program
 Gives (Err fault) want = (fault.cause ≡ Memory) ⊎ (want ≡ Err fault)

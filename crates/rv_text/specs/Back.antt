@@ -1,4 +1,4 @@
--- The way back from the texts of words.
+-- Assembling the texts of words: the words come back.
 use Rattle.std.specs.Prelude.{◌≡◌, ◌++◌, ℕ, List, [], None, Result, Ok, IsOkAnd, codes, flat_map}
 use Rattle.rv_isa.specs.Word.{word_of}
 use Rattle.rv_names.specs.Line.{line_of}
@@ -16,7 +16,7 @@ IsWord (Plain instr) word = word_of instr ≡ word
 IsWord (WordValue n) word = n ≡ word
 IsWord _ word = ⊥
 
--- a line without a label that does so
+-- a line without a label whose statement stands for one word alone
 abbrev pub IsLineOf : ℕ → Result Said Cause → Type 0
 IsLineOf word r = IsOkAnd r (λ line. (line.label ≡ None) × IsWord line.statement word)
 
@@ -28,6 +28,6 @@ IsReadBack word = IsLineOf word (line_of Text (word_text word))
 abbrev pub listing : List ℕ → List ℕ
 listing words = flat_map (λ word. word_text word ++ codes "\n") words
 
--- they are the source of the program of just these words and no data
+-- the listing of words, as a source, gives the program with just these words and no data
 abbrev pub IsAssembledBack : List ℕ → Type 0
 IsAssembledBack words = assembled (listing words) ≡ Ok (record { text = words; data_bytes = [] })

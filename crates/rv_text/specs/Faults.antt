@@ -16,7 +16,7 @@ cause_text LabelRange = codes "LabelRange 6"
 cause_text TooLarge = codes "TooLarge 7"
 cause_text Memory = codes "Memory 8"
 
--- before them the number of the line, which want of memory has not
+-- before them the number of the line; Memory has none
 abbrev pub line_text : ℕ → AsmCause → List ℕ
 line_text line Memory = cause_text Memory
 line_text line cause = decimal line ++ codes " " ++ cause_text cause

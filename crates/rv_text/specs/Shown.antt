@@ -11,7 +11,7 @@ use Rattle.rv_text.specs.declared.words.Words.TheVariants.{Nothing, One, Two}
 abbrev pub shown_item : code.Item → Item
 shown_item item = record { line = item.line; address = item.address; statement = item.statement; target = option_map (λ name. name.now) item.target }
 
--- labels, whose names are borrowed from it
+-- labels, whose names are borrowed from the source
 abbrev pub shown_labels : List (Bor (List ℕ) × ℕ) → Labels
 shown_labels entries = map (λ entry. (entry.0.now, entry.1)) entries
 

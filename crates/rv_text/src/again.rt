@@ -1,4 +1,4 @@
-//! The way back from the texts of words.
+//! Laws of assembling the texts of words: the words come back.
 
 ghost use Rattle.std.specs.Prelude.{◌≡◌, ◌≤◌, ◌*◌, ◌∷◌, [], All, Ok, length};
 ghost use Rattle.rv_names.specs.Text.{word_text};
@@ -8,7 +8,7 @@ ghost use Rattle.rv_text.specs.Back.{IsAssembledBack, IsReadBack};
 use crate::laws::text_is_read_back;
 use rv_program::Program;
 
-/// A law: the text of a word is the source of the program of just that word and no data.
+/// A law: the text of a word, as a source, gives the program with just that word and no data.
 #[tactic(auto, using(crate::proofs::OneLine::assembled_word_text))]
 pub fn assembled_again(word: u32)
     ensures { assembled (word_text word) ≡ Ok (record { text = word ∷ []; data_bytes = [] }) }
@@ -16,22 +16,23 @@ pub fn assembled_again(word: u32)
     text_is_read_back(word);
 }
 
-/// A law: the texts of some words, each on a line of its own, are the source of the program of just these
-/// words and no data, where they fit in the text section. It walks over them and changes nothing.
+/// A law: the texts of some words, each on a line of its own, as a source give the program with just these
+/// words and no data, where the words fit in the text section. The call walks over the words and changes
+/// nothing.
 pub fn words_assembled_again(words: &[u32])
     ensures { 4 * length words.now ≤ 65536 → IsAssembledBack words.now }
 {
     are_read_back(words);
 }
 
-/// The same law of the words of a program, which always fit.
+/// The same law for the text words of a program, which always fit.
 pub fn program_assembled_again(program: &Program)
     ensures { IsAssembledBack program.now.text }
 {
     words_assembled_again(program.text());
 }
 
-/// Each word's text is a line of source that stands for it.
+/// The text of each word is a line of source that stands for it.
 fn are_read_back(words: &[u32])
     ensures { All IsReadBack words.now }
 {

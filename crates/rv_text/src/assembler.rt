@@ -12,14 +12,14 @@ use crate::words::words_of;
 use rv_program::Program;
 use std::alloc::{AllocError, Global};
 
-/// The lines of a source.
+/// The lines of a source, without their line feeds.
 fn lines(alloc: Global, source: &[u8]) -> Result<Vec<&[u8]>, AllocError>
     ensures { IfOk result (λ v. map (λ line. line.now) v.items ≡ slice_split (λ b. b == 10) source.now) }
 {
     source.split(|byte| *byte == b'\n').collect(alloc)
 }
 
-/// What some lines lay down.
+/// What the lines lay down, or the first fault of a line, of the causes 1, 2, 3, 5 and 7.
 fn lay_out<'a>(alloc: Global, lines: &[&'a [u8]]) -> Result<Layout<'a>, AsmError>
     ensures { Reads layout_of result (layout_from 1 (map (λ line. line.now) lines.now) empty_layout) }
 {
@@ -36,7 +36,7 @@ fn lay_out<'a>(alloc: Global, lines: &[&'a [u8]]) -> Result<Layout<'a>, AsmError
     Ok(layout)
 }
 
-/// The program of what was laid down.
+/// The program of what was laid down, or the first fault of a label, of the causes 4 and 6.
 fn program(alloc: Global, layout: Layout<'_>) -> Result<Program, AsmError>
     ensures { Gives result (program_of (layout_of layout.entry)) }
 {
@@ -47,9 +47,9 @@ fn program(alloc: Global, layout: Layout<'_>) -> Result<Program, AsmError>
     }
 }
 
-/// The program that a source stands for, or its first fault, with its line: of the causes 1, 2, 3, 5
-/// and 7 that of the least line, and on it the least number; where none of these holds, of 4 and 6 in
-/// the same way. Memory may come for any source.
+/// The program that a source stands for, or its first fault, with its line. Of the causes 1, 2, 3, 5 and 7
+/// the one on the least line is answered, and on that line the one with the least number. Where none of
+/// these holds, 4 and 6 are answered in the same way. `Memory` may be answered for any source.
 #[tactic(auto, unfolding(crate::specs::Assembly::assembled))]
 pub fn assemble(alloc: Global, source: &str) -> Result<Program, AsmError>
     ensures { Gives result (assembled source.now) }

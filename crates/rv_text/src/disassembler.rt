@@ -7,9 +7,10 @@ ghost use Rattle.rv_names.specs.Text.{word_text};
 use rv_names::word_text;
 use std::alloc::{AllocError, Global};
 
-/// Appends the text of a word: of its instruction, with x names, signed decimals, distances in bytes and
-/// the upper 20 bits in hex; or `.word` and eight hex digits where it has none, or is a FENCE other than
-/// 0x0ff0000f. Refused where memory ran out; the string is then as before.
+/// Appends the text of a word. The text of an instruction has registers by their x names, signed decimals,
+/// distances in bytes, and the upper 20 bits of LUI and AUIPC in hex. An illegal word and a FENCE other
+/// than 0x0ff0000f are printed as `.word 0x` and eight hex digits. Refused where memory ran out; the string
+/// is then as before.
 pub fn disassemble(alloc: Global, word: u32, text: &mut String) -> Result<(), AllocError>
     ensures { MatchResult result
         (λ _. string_bytes text.new ≡ string_bytes text.old ++ word_text word)

@@ -11,19 +11,20 @@ use thiserror::Error;
 /// What is wrong with a source.
 #[derive(Clone, Copy, Debug, PartialEq, Eq, Error)]
 pub enum AsmCause {
-    /// The first word of a line is no mnemonic and no directive.
+    /// The first word of a line is neither a mnemonic nor a directive.
     UnknownMnemonic = 1,
-    /// A label that is no name, operands of a wrong number or form, or the wrong section.
+    /// A label is not a name, operands are wrong in number or form, or a statement may not stand in its
+    /// section.
     BadOperand = 2,
-    /// A number that is out of its operand's range.
+    /// A number is out of its operand's range.
     ImmediateRange = 3,
     /// An operand is a label that no line defines.
     UnknownLabel = 4,
     /// A label that an earlier line defines is defined again.
     DuplicateLabel = 5,
-    /// A label is out of the range of a branch's or jump's distance, or at an odd distance.
+    /// A label is out of reach of a branch or jump, or at an odd distance.
     LabelRange = 6,
-    /// The line's bytes pass the section's size.
+    /// The line's bytes do not fit in the section.
     TooLarge = 7,
     /// Memory ran out.
     Memory = 8,
@@ -80,11 +81,12 @@ impl From<Cause> for AsmCause {
     }
 }
 
-/// The first fault of a source: of the causes 1, 2, 3, 5 and 7 that of the least line, and on it the
-/// least number; where none of these holds, of 4 and 6 in the same way.
+/// The first fault of a source. Of the causes 1, 2, 3, 5 and 7 it is the one on the least line, and on that
+/// line the one with the least number. Where none of these holds, it is found among 4 and 6 in the same
+/// way.
 #[derive(Clone, Copy, Debug, PartialEq, Eq)]
 pub struct AsmError {
-    /// The number of the line, counted from 1; any line where memory ran out.
+    /// The number of the line, counted from 1. Where memory ran out it may be any line.
     pub line: usize,
     /// What is wrong with it.
     pub cause: AsmCause,
@@ -96,7 +98,7 @@ impl fmt::Display for AsmError {
 
     ghost output = { λ fault. Some (fault_text fault) };
 
-    /// The line, the cause's name and its number; want of memory has no line.
+    /// The line, the cause's name and its number. `Memory` is written without a line.
     fn fmt<W: fmt::Write>(&self, f: &mut fmt::Formatter<W>) -> fmt::Result {
         match self.cause {
             AsmCause::Memory => write!(f, "{}", self.cause),

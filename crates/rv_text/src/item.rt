@@ -14,11 +14,11 @@ pub struct Item<'a> {
     pub address: u32,
     /// What it says.
     pub statement: Statement,
-    /// The label that it speaks of.
+    /// The label that it refers to.
     pub target: Option<&'a [u8]>,
 }
 
-/// How many bytes a statement takes in text.
+/// How many bytes a statement of the text section takes.
 pub fn text_bytes(statement: Statement) -> usize
     ensures { result ≡ text_bytes_of statement }
 {

@@ -1,4 +1,4 @@
-//! What holds of the definitions together.
+//! A law of the definitions of `rv_names`: how texts of words and lines of source belong together.
 
 ghost use Rattle.rv_text.specs.Back.{IsReadBack};
 

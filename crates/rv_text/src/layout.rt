@@ -16,7 +16,7 @@ use std::alloc::Global;
 pub struct Layout<'a> {
     /// The section in force.
     pub section: Section,
-    /// The statements of text.
+    /// The statements of text, in order.
     pub items: Vec<Item<'a>>,
     /// How many bytes they take.
     pub text_size: usize,
@@ -37,7 +37,7 @@ impl<'a> Layout<'a> {
     ghost use Rattle.rv_text.specs.Assembly.{empty_layout, place_in, data_bytes_of, with_label, with_text, with_data, with_statement, with_line};
     ghost use Rattle.rv_text.specs.Layout.{layout_of};
 
-    /// No line so far.
+    /// The empty layout: no line is laid down, and text is in force.
     pub fn new(alloc: Global) -> Layout<'a>
         ensures { layout_of result ≡ empty_layout }
     {
@@ -50,7 +50,8 @@ impl<'a> Layout<'a> {
         }
     }
 
-    /// Lays down the next line.
+    /// Lays down the next line, which has this number. Refused with the least cause of `read_line`, else with
+    /// DuplicateLabel, else with TooLarge, and with Memory where memory ran out.
     #[tactic(auto, unfolding(crate::specs::Assembly::with_line))]
     pub fn read(&mut self, number: usize, text: &'a [u8]) -> Result<(), AsmCause>
         ensures { Answers (λ _. layout_of self.new) result (with_line number text.now (layout_of self.old)) }
@@ -70,7 +71,7 @@ impl<'a> Layout<'a> {
         }
     }
 
-    /// Defines a line's label, where it has one.
+    /// Defines a line's label, where it has one; DuplicateLabel where an earlier line defines it.
     #[tactic(auto, unfolding(crate::specs::Assembly::with_label))]
     fn define(&mut self, label: Option<&'a [u8]>) -> Result<(), AsmCause>
         ensures { Answers (λ _. layout_of self.new) result (with_label (option_map (λ name. name.now) label.entry) (layout_of self.old)) }
@@ -102,7 +103,7 @@ impl<'a> Layout<'a> {
         }
     }
 
-    /// Lays down a statement of text.
+    /// Lays down a statement of text; TooLarge where it does not fit.
     #[tactic(auto, unfolding(crate::specs::Assembly::with_text))]
     fn add_item(&mut self, number: usize, line: Line<&'a [u8]>) -> Result<(), AsmCause>
         ensures { Answers (λ _. layout_of self.new) result (with_text number (line_map (λ name. name.now) line.entry) (layout_of self.old)) }
@@ -133,7 +134,7 @@ impl<'a> Layout<'a> {
         }
     }
 
-    /// Lays down bytes of data.
+    /// Lays down bytes of data; TooLarge where they do not fit.
     #[tactic(auto, unfolding(crate::specs::Assembly::with_data))]
     fn add_bytes(&mut self, bytes: &[u8]) -> Result<(), AsmCause>
         ensures { Answers (λ _. layout_of self.new) result (with_data bytes.now (layout_of self.old)) }
@@ -145,7 +146,7 @@ impl<'a> Layout<'a> {
         Ok(())
     }
 
-    /// Lays down zeros of data.
+    /// Lays down zeros of data; TooLarge where they do not fit.
     #[tactic(auto, unfolding(crate::specs::Assembly::with_data))]
     fn add_zeros(&mut self, count: u32) -> Result<(), AsmCause>
         ensures { Answers (λ _. layout_of self.new) result (with_data (replicate count 0) (layout_of self.old)) }

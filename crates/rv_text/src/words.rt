@@ -22,7 +22,7 @@ pub enum Words {
     Nothing,
     /// One.
     One(u32),
-    /// Two, the first one first.
+    /// Two, in this order.
     Two(u32, u32),
 }
 
@@ -44,7 +44,7 @@ fn distance(place: u32, address: u32) -> i64
     i64::from(place) - i64::from(address)
 }
 
-/// A branch to a place; LabelRange where it is out of reach or at an odd distance.
+/// The branch over this distance; LabelRange where the distance is out of range or odd.
 fn branch(condition: Condition, left: Reg, right: Reg, distance: i64) -> Result<Words, AsmCause>
     ensures { result_map_both shown_words (λ cause. cause) result ≡ branch_words condition left right distance }
 {
@@ -59,7 +59,7 @@ fn branch(condition: Condition, left: Reg, right: Reg, distance: i64) -> Result<
     }
 }
 
-/// JAL to a place; LabelRange where it is out of reach or at an odd distance.
+/// JAL over this distance; LabelRange where the distance is out of range or odd.
 fn jump(rd: Reg, distance: i64) -> Result<Words, AsmCause>
     ensures { result_map_both shown_words (λ cause. cause) result ≡ jump_words rd distance }
 {
@@ -76,7 +76,7 @@ fn pair(first: Instr, second: Instr) -> Words
     Words::Two(encode(&first), encode(&second))
 }
 
-/// The words of a statement of text.
+/// The words of a statement of text; UnknownLabel or LabelRange where its label is at fault.
 #[tactic(auto, unfolding(crate::specs::Assembly::words_of_item))]
 fn words_at(labels: &IndexMap<&[u8], u32>, item: &Item<'_>) -> Result<Words, AsmCause>
     ensures { result_map_both shown_words (λ cause. cause) result ≡ words_of_item (shown_labels labels.now.entries) (shown_item item.now) }
@@ -105,7 +105,7 @@ fn words_at(labels: &IndexMap<&[u8], u32>, item: &Item<'_>) -> Result<Words, Asm
     }
 }
 
-/// Appends the words of a statement.
+/// Appends words to text; refused where memory ran out.
 fn push(text: &mut Vec<u32>, words: Words) -> Result<(), AllocError>
     ensures { OnOk result (text.new.items ≡ text.old.items ++ shown_words words) }
 {
@@ -123,7 +123,7 @@ fn push(text: &mut Vec<u32>, words: Words) -> Result<(), AllocError>
     }
 }
 
-/// Appends the words of a statement of text.
+/// Appends the words of a statement; UnknownLabel, LabelRange, or Memory where memory ran out.
 fn add_words(
     text: &mut Vec<u32>,
     labels: &IndexMap<&[u8], u32>,
@@ -135,7 +135,7 @@ fn add_words(
     Ok(())
 }
 
-/// The words of all statements of text.
+/// The words of all statements of text, or the first fault of a label.
 pub fn words_of(
     alloc: Global,
     labels: &IndexMap<&[u8], u32>,

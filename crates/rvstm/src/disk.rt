@@ -6,7 +6,7 @@ use std::fs::{File, OpenFile, OpenOptions};
 use std::rt::Files;
 use std::{fs, io};
 
-/// The files that a runtime opens, by paths relative to the working directory.
+/// The files that a runtime opens, by their paths. A relative path starts at the working directory.
 #[derive(Drop)]
 pub struct SystemDisk<'a, R: Files> {
     /// The runtime.
@@ -58,7 +58,8 @@ impl<'a, R: Files + AllocGlobal> Disk for SystemDisk<'a, R> {
     }
 }
 
-/// A path at which nothing stands; `None` for a link that leads nowhere.
+/// The path itself where nothing is there; `None` where something is, such as a link that leads
+/// nowhere. Refused where memory ran out.
 fn free_path<R: Files>(rt: &R, alloc: Global, path: &str) -> io::Result<Option<String>> {
     match fs::symlink_metadata(rt, path) {
         Ok(_) => Ok(None),

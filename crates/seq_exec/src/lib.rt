@@ -1,4 +1,4 @@
-//! Calls run one after another in block order.
+//! The engine that runs the calls of a block one after another, in block order.
 #![tactic(auto)]
 
 ghost use Rattle.std.specs.Prelude.{◌≡◌, [], IfOk, OnOk};
@@ -10,8 +10,8 @@ use rv_ledger::{Call, Job, Outcome, Receipt, Store};
 use rv_step::{EndedRun, Pause, Run, apply_writes, one_receipt};
 use std::alloc::{AllocError, Global};
 
-/// Runs the calls of a job one after another on one storage. The outcome has no counts. Refused
-/// where memory ran out.
+/// Runs the calls of a job one after another on one storage, which starts as the job's. The outcome has
+/// no counts. Refused where memory ran out.
 pub fn run_in_order(alloc: Global, job: &Job) -> Result<Outcome, AllocError>
     ensures job { IfOk result (λ o. o.job ≡ job.now) }
     ensures receipts { IfOk result (λ o. o.receipts.items ≡ receipts_of job.now.block job.now.store) }
@@ -28,7 +28,8 @@ pub fn run_in_order(alloc: Global, job: &Job) -> Result<Outcome, AllocError>
     })
 }
 
-/// Runs calls in order, each on the storage that the ones before it left.
+/// Runs calls in order, each on the storage that the ones before it left. Refused where memory ran out,
+/// and then the storage may have some of their writes.
 #[tactic(auto, unfolding(rv_step::specs::Fold::receipts_of, rv_step::specs::Fold::store_after))]
 fn run_all(alloc: Global, calls: &[Call], store: &mut Store) -> Result<Vec<Receipt>, AllocError>
     ensures receipts { IfOk result (λ r. r.items ≡ receipts_of calls.now store.old) }
@@ -43,7 +44,7 @@ fn run_all(alloc: Global, calls: &[Call], store: &mut Store) -> Result<Vec<Recei
     Ok(receipts)
 }
 
-/// Runs a call on a storage.
+/// Runs one call on a storage, and returns its receipt. Refused where memory ran out.
 fn run_one(alloc: Global, call: &Call, store: &Store) -> Result<Receipt, AllocError>
     ensures { IfOk result (λ r. r ≡ ends call.now store.now) }
 {

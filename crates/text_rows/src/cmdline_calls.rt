@@ -4,7 +4,7 @@ use cmdline::{Request, request_of};
 use std::alloc::{AllocError, Global};
 use std::test::Fail;
 
-// The words of a line, which one space parts.
+// The words of a line, between single spaces.
 fn words_of(alloc: Global, line: &str) -> Result<Vec<String>, AllocError> {
     let mut words = Vec::new(alloc);
     for word in line.split(' ') {

@@ -1,4 +1,4 @@
-//! The text against one written out by hand, and writers that stop at each place.
+//! The text, compared with one that was written by hand, and writers that stop at each place.
 
 use receipts::{WriteFault, end_name, one_text_of, result_text, write_outcome, write_whole};
 use rv_isa::{Reg, Regs};
@@ -11,7 +11,7 @@ use std::io;
 use std::io::{ErrorKind, Write};
 use std::test::Fail;
 
-/// What two calls leave: one that writes nothing, and one that writes three keys.
+/// The text of a result of two calls: one that writes nothing, and one that writes three keys.
 const TEXT: &str = "\
     call 0 returned gas 13 pc 00010004 out 0102\n\
     regs \
@@ -37,7 +37,7 @@ const TEXT: &str = "\
     ffffffffffffffffffffffffffffffffffffffffffffffffffffffffffffffff 01\n\
     end\n";
 
-/// The outcome of that text.
+/// The outcome whose text that is.
 fn outcome(alloc: Global) -> Result<Outcome, Fail> {
     let mut receipts = Vec::new(alloc);
     receipts.push(echo(alloc)?)?;
@@ -53,7 +53,7 @@ fn outcome(alloc: Global) -> Result<Outcome, Fail> {
     })
 }
 
-/// A call that returned two bytes.
+/// The receipt of a call that returned two bytes.
 fn echo(alloc: Global) -> Result<Receipt, Fail> {
     let mut regs = Regs::zero();
     regs.set(Reg::sp(), 0x0011_0000);
@@ -70,7 +70,7 @@ fn echo(alloc: Global) -> Result<Receipt, Fail> {
     })
 }
 
-/// A call that removed a key, and wrote no bytes to a second one and three to a third.
+/// The receipt of a call that removed a key, wrote no bytes to a second and three to a third.
 fn writer(alloc: Global) -> Result<Receipt, Fail> {
     let mut writes = Writes::new(alloc);
     write(&mut writes, [0xff; 32], Some(value(&[0, 0xab, 9])?))?;
@@ -98,7 +98,7 @@ fn write(writes: &mut Writes, key: [u8; 32], value: Option<Value>) -> Result<(),
     Ok(())
 }
 
-/// A writer that takes a byte a call while it has room, and then fails or takes nothing.
+/// A writer that takes one byte per call while it has room, and then fails or takes nothing.
 #[derive(Drop)]
 struct Slow {
     held: Vec<u8>,

@@ -1,4 +1,4 @@
-//! Checks of the reads that a run made: whether the map still answers them as it did.
+//! Checks the reads that a run made: whether the map still answers them as it did then.
 #![tactic(auto)]
 
 ghost use Rattle.std.specs.Prelude.{◌≡◌, slice_get};
@@ -9,8 +9,9 @@ ghost use Rattle.version_arena.specs.ArenaState.{Content};
 use mvmap::{Answer, MvMap, Version};
 use read_set::{Origin, Read};
 
-/// Whether a read of the call of index `i` stands: reading its key for that call now gives that very
-/// origin, the storage before the block included, and no estimate. Takes no memory.
+/// Whether a read of the call of index `i` stands: reading its key for that call now gives the same
+/// origin. The storage before the block is checked as an origin too. A read that now meets an estimate
+/// does not stand. Takes no memory.
 pub fn still_read(map: &MvMap, i: u16, read: &Read) -> bool
     ensures { result ≡ stands map.now.versions i read.now }
 {
@@ -21,7 +22,7 @@ pub fn still_read(map: &MvMap, i: u16, read: &Read) -> bool
     }
 }
 
-/// Whether the read at a place of a list stands, or None where no read is left. Takes no memory.
+/// Whether the read at index `next` of a list stands, or None past the end of the list. Takes no memory.
 pub fn next_read(map: &MvMap, i: u16, reads: &[Read], next: usize) -> Option<bool>
     ensures { result ≡ option_map (stands map.now.versions i) (slice_get reads.now next) }
 {
@@ -41,7 +42,7 @@ fn is_base(origin: &Origin) -> bool
     }
 }
 
-/// Whether an origin is a version.
+/// Whether an origin is this version: the same writer and the same incarnation.
 fn is_version(origin: &Origin, version: Version) -> bool
     ensures { (content : Content) → result ≡ is_origin origin.now (Found version.writer version.incarnation content) }
 {

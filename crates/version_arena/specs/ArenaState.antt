@@ -11,13 +11,14 @@ pub record Record : Type 0 where
   pub incarnation : ℕ
   pub content : Content
 
--- the records in the order in which they were placed, and for how many more, and for how many more bytes of values, there is room
+-- the records in the order in which they were placed, the number of further records that there is room for, and the number
+-- of bytes of further values that there is room for
 pub record ArenaState : Type 0 where
   pub records : List Record
   pub room : ℕ
   pub bytes : ℕ
 
--- how many bytes of values a content takes
+-- the number of bytes that a content takes
 abbrev pub bytes_of : Content → ℕ
 bytes_of None = 0
 bytes_of (Some value) = length value
@@ -31,6 +32,6 @@ placed writer incarnation content arena =
       bytes = arena.bytes - bytes_of content;
     }
 
--- an arena without its records, which leave their room
+-- an arena after its records are removed, which leave their room
 abbrev pub emptied : ArenaState → ArenaState
 emptied arena = record { records = []; room = length arena.records + arena.room; bytes = arena.bytes }

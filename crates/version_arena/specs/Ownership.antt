@@ -22,7 +22,7 @@ bytes_at b o (x ∷ xs) = fsep (part_at u8 full_share x b o) (bytes_at b (o + 1)
 abbrev pub fit : List ℕ → ℕ → Fml
 fit xs n = flt (length xs + n) (2 ^ 63)
 
--- written bytes, and room for n more behind them
+-- written bytes, and room for n more after them
 abbrev pub bytes_own : Ptr → List ℕ → ℕ → Fml
 bytes_own (block_ptr b o) xs n = fsep (fit xs n) (fsep (bytes_at b o xs) (froom (bytes_type n) b (o + length xs)))
 bytes_own null_ptr xs n = ffalse

@@ -1,4 +1,4 @@
--- The records that stand in the places of an arena.
+-- The records at the places of an arena.
 use Rattle.std.specs.Prelude.{◌≤◌, IfSome, List}
 use Rattle.std.specs.Option.{option_map}
 use Rattle.version_arena.specs.ArenaState.{Record}
@@ -10,10 +10,10 @@ use Rattle.version_arena.specs.declared.slot.Slot.{Slot}
 abbrev pub record_of : List ChunkState → Slot → Record
 record_of cs s = record { writer = s.writer; incarnation = s.incarnation; content = option_map (part cs) s.content }
 
--- bytes in the chunks, at most 64
+-- a span within the chunks, of at most 64 bytes
 abbrev pub IsShortSpan : List ChunkState → Span → Type 0
 IsShortSpan cs span = LiesWithin cs span × (span.len ≤ 64)
 
--- so are those of a place's record
+-- the record of a place has such a span, if it has any
 abbrev pub IsStored : List ChunkState → Slot → Type 0
 IsStored cs s = IfSome s.content (IsShortSpan cs)

@@ -55,10 +55,10 @@ impl Arena {
         }
     }
 
-    /// Makes room for this many more records, whose values have together at most this many bytes.
-    /// Refused as ArenaFull exactly where there would be above 1,048,576 records, and as Memory
-    /// where memory ran out; a refusal changes nothing. Bytes take no memory of their
-    /// own: each record brings room for 64 of them.
+    /// Makes room for `records` more records, whose values together have at most `bytes` bytes.
+    /// Refused as ArenaFull exactly where there would be more than 1,048,576 records, and as Memory
+    /// where memory ran out; a refusal changes nothing. The bytes take no memory of their own, since
+    /// each record comes with room for 64 of them.
     pub fn reserve(&mut self, records: usize, bytes: usize) -> Result<(), ReserveFault>
         ensures full { (result ≡ Err ArenaFull) ↔ (RECORD_LIMIT < length self.old.records + records) }
         ensures ok { OnOk result ((records ≤ self.new.room) × (bytes ≤ self.new.bytes)) }
@@ -78,7 +78,7 @@ impl Arena {
         Ok(())
     }
 
-    /// Whether with this many more records there would be above 1,048,576.
+    /// Whether this many more records would make more than 1,048,576 in all.
     pub fn is_full_for(&self, records: usize) -> bool
         ensures full { result ≡ nat_lt RECORD_LIMIT (length self.now.records + records) }
         ensures limit { length self.now.records + self.now.room ≤ RECORD_LIMIT }
@@ -86,7 +86,7 @@ impl Arena {
         records > RECORD_LIMIT - self.len
     }
 
-    /// Adds a record at the end, in room that is there, and gives its name. Takes no memory.
+    /// Adds a record at the end, in room that was reserved, and returns its name. Takes no memory.
     pub fn place(&mut self, writer: u16, incarnation: u16, value: Option<&Value>) -> VersionId
         requires room { 1 ≤ self.old.room }
         requires bytes { bytes_of (option_copied value) ≤ self.old.bytes }
@@ -100,7 +100,7 @@ impl Arena {
         VersionId { place }
     }
 
-    /// The record of a name, or None where no record has it.
+    /// The record that has a name, or None where none has it.
     pub fn get(&self, id: VersionId) -> Option<Record<'_>>
         ensures record { option_map lent result ≡ slice_get self.now.records id }
         ensures short { IfSome result (λ r. IfSome r.content (λ bytes. length bytes.now ≤ VALUE_LIMIT)) }
@@ -120,8 +120,8 @@ impl Arena {
         self.len
     }
 
-    /// Takes all records away, and keeps their room; names from before name none of them again.
-    /// Takes no memory.
+    /// Removes all records and keeps their room. A name from before never gives a removed record again,
+    /// but it may give one that is placed later. Takes no memory.
     pub fn reset(&mut self)
         ensures { self.new ≡ emptied self.old }
     {
@@ -130,7 +130,8 @@ impl Arena {
     }
 }
 
-/// Adds vacant places until there are as many as asked for; refused where memory ran out.
+/// Adds vacant places until there are at least `count`. Refused where memory ran out, and then nothing
+/// changes.
 fn grow(slots: &mut Vec<Slot>, count: usize) -> Result<(), AllocError>
     requires { (count ≤ RECORD_LIMIT) × (length slots.old.items ≤ RECORD_LIMIT) }
     ensures ok { OnOk result (length slots.new.items ≡ max count (length slots.old.items)) }
@@ -145,7 +146,7 @@ fn grow(slots: &mut Vec<Slot>, count: usize) -> Result<(), AllocError>
     Ok(())
 }
 
-/// How many bytes a value has, absence having none.
+/// The number of bytes of a value; absence has none.
 fn len_of(value: Option<&Value>) -> usize
     ensures { result ≡ bytes_of (option_copied value.entry) }
 {

@@ -60,7 +60,7 @@ impl Chunk {
         self.size - self.used
     }
 
-    /// Copies bytes behind those in use.
+    /// Copies bytes into the chunk, after those in use.
     pub(crate) fn append(&mut self, bytes: &[u8])
         requires { length bytes.now ≤ free self.old }
         ensures { self.new ≡ record { bytes = self.old.bytes ++ bytes.now; size = self.old.size } }
@@ -72,7 +72,7 @@ impl Chunk {
         }
     }
 
-    /// Writes one byte behind those in use.
+    /// Writes one byte after those in use.
     fn push(&mut self, byte: u8)
         requires { 0 < free self.old }
         ensures { self.new ≡ record { bytes = self.old.bytes ++ byte ∷ []; size = self.old.size } }

@@ -9,7 +9,7 @@ use thiserror::Error;
 /// Why room for more records is refused.
 #[derive(Clone, Copy, Debug, PartialEq, Eq, Error)]
 pub enum ReserveFault {
-    /// With that many more there would be above 1,048,576 records.
+    /// There would be more than 1,048,576 records.
     #[error("ArenaFull 1")]
     ArenaFull = 1,
     /// Memory ran out.

@@ -1,5 +1,5 @@
-//! The arena of one block: a list of the versions that the runs of its calls have written, with
-//! room reserved ahead, so that writing one takes no memory.
+//! The arena of one block: a list of the versions that the runs of its calls have written. Room is
+//! reserved in advance, so that writing a version takes no memory.
 #![tactic(auto)]
 
 pub mod arena;

@@ -1,4 +1,4 @@
-//! A pool of chunks, which are filled one after another.
+//! A pool of chunks, which are filled one after another with the bytes of values.
 
 ghost use Rattle.std.specs.Prelude.{◌≡◌, ◌+◌, ◌<◌, ◌≤◌, OnErr, OnOk, Ok, [], drop, get_or, length, map};
 ghost use Rattle.version_arena.specs.Chunks.{Grows, KeepsBytes, LiesWithin, capacity_of, empty_chunk, free, part, rewound, room, spare, with_capacity};
@@ -11,7 +11,7 @@ use std::marker::Model;
 /// The least number of bytes of a chunk.
 pub(crate) const CHUNK_BYTES: usize = 65_536;
 
-/// Where bytes lie: the number of their chunk, the first of them there, and how many they are.
+/// Where bytes lie: the index of their chunk, the place of the first byte in it, and how many there are.
 #[derive(Clone, Copy)]
 pub(crate) struct Span {
     chunk: usize,
@@ -19,8 +19,8 @@ pub(crate) struct Span {
     len: usize,
 }
 
-/// Chunks, of which those before the current one are full, and for how many values of 64 bytes
-/// they have room in all.
+/// Chunks that are filled in order: those before the current one are not written again until `rewind`.
+/// `capacity` is the number of values of 64 bytes that they have room for when they are empty.
 #[derive(Drop)]
 pub(crate) struct Pool {
     chunks: Vec<Chunk>,
@@ -53,8 +53,8 @@ impl Pool {
         }
     }
 
-    /// Makes room for this many values of 64 bytes in all, at most 1,048,576, by at most one more
-    /// chunk; refused where memory ran out.
+    /// Makes room for this many values of 64 bytes in all, at most 1,048,576, by adding at most one
+    /// chunk. Refused where memory ran out, and then nothing changes.
     pub(crate) fn reserve(&mut self, values: usize) -> Result<(), AllocError>
         requires { values ≤ 1048576 }
         ensures ok { OnOk result (self.new ≡ with_capacity values self.old) }
@@ -73,7 +73,7 @@ impl Pool {
         Ok(())
     }
 
-    /// Writes at most 64 bytes, in room that is there, and says where they lie. Takes no memory.
+    /// Writes at most 64 bytes, in room that was reserved, and returns where they lie. Takes no memory.
     pub(crate) fn write(&mut self, bytes: &[u8]) -> Span
         requires short { length bytes.now ≤ 64 }
         requires room { 1 ≤ room self.old }
@@ -95,7 +95,7 @@ impl Pool {
         }
     }
 
-    /// Lends the bytes that lie there.
+    /// Lends the bytes of a span.
     pub(crate) fn read(&self, span: Span) -> &[u8]
         requires { LiesWithin self.now.chunks span }
         ensures { result.now ≡ part self.now.chunks span }
@@ -112,7 +112,7 @@ impl Pool {
     }
 }
 
-/// The first chunk from a place on that has room for so many bytes.
+/// The first chunk, from the one of index `from` on, that has room for `len` bytes.
 fn find(chunks: &Vec<Chunk>, from: usize, len: usize) -> usize
     requires { (len ≤ 64) × (1 ≤ spare (drop from chunks.now.items)) }
     ensures within { result < length chunks.now.items }

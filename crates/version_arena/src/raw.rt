@@ -1,4 +1,4 @@
-//! Raw memory: a block of bytes, of which the first are written.
+//! Raw memory: blocks of bytes, each written from its start on.
 
 ghost use Rattle.std.specs.Prelude.{◌≡◌, ℕ, ◌+◌, ◌<◌, ◌^◌, List, [], ◌∷◌, ◌++◌, length, IfOk, ⊤};
 ghost use base.Fml.{ftrue};
@@ -30,7 +30,7 @@ unsafe impl Send for BaseAddress {}
 
 unsafe impl Sync for BaseAddress {}
 
-/// The owner of a block's memory: the written bytes from `at` on, and room for `room` more behind
+/// The owner of a block's memory: the written bytes from `at` on, and room for `room` more after
 /// them. It takes no space.
 pub(crate) struct Bytes {
     ghost at: { Ptr },
@@ -64,7 +64,7 @@ impl<A: Allocator> Model for Allocation<A> {
 
 unsafe impl<A: Allocator + Send> Send for Allocation<A> {}
 
-// A `&` to it holds nothing.
+// A shared reference to it gives no right, so any thread may have one.
 unsafe impl<A: Allocator> Sync for Allocation<A> {}
 
 /// Takes a block of `size` bytes, none of them written; refused where memory ran out.
@@ -84,7 +84,7 @@ pub(crate) fn allocate<A: Allocator>(
     }
 }
 
-/// Gives a block with no written byte back.
+/// Gives a block without written bytes back to its allocator.
 pub(crate) fn deallocate<A: Allocator>(
     alloc: &A,
     base: BaseAddress,
@@ -100,7 +100,7 @@ pub(crate) fn deallocate<A: Allocator>(
 }
 
 impl Bytes {
-    /// Writes a byte behind the written ones.
+    /// Writes a byte after the written ones.
     pub(crate) fn put(&mut self, base: BaseAddress, at: usize, byte: u8)
         requires { (base.ptr ≡ self.old.at) × (at ≡ length self.old.bytes) × (0 < self.old.room) }
         ensures { (self.new.at ≡ self.old.at) × (self.new.bytes ≡ self.old.bytes ++ byte ∷ []) × (self.new.room + 1 ≡ self.old.room) }
@@ -108,7 +108,7 @@ impl Bytes {
         unsafe { base.ptr.add(at).write(byte) }
     }
 
-    /// Lends the written bytes, of which there are `len`.
+    /// Lends the `len` written bytes.
     pub(crate) fn lend(&self, base: BaseAddress, len: usize) -> &[u8]
         requires { (base.ptr ≡ self.now.at) × (len ≡ length self.now.bytes) }
         ensures { result.now ≡ self.now.bytes }
@@ -116,7 +116,7 @@ impl Bytes {
         unsafe { slice::from_raw_parts(base.ptr, len) }
     }
 
-    /// Makes the written bytes room again.
+    /// Turns the written bytes into room again.
     pub(crate) fn clear(&mut self)
         ensures { (self.new.at ≡ self.old.at) × (self.new.bytes ≡ []) × (self.new.room ≡ length self.old.bytes + self.old.room) }
     {}

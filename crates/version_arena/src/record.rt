@@ -1,4 +1,4 @@
-//! What an arena lends of a record, and the record's name.
+//! A record as an arena lends it, and the name of a record.
 
 use std::marker::Model;
 
@@ -18,7 +18,7 @@ impl Model for VersionId {
     ghost inverse = { λ n. record { place = n } };
 }
 
-/// A record of the arena, lent.
+/// A record, lent by its arena: what one run of a call wrote to one key.
 #[derive(Clone, Copy, Debug, PartialEq, Eq)]
 pub struct Record<'a> {
     /// The index of the call that wrote it.

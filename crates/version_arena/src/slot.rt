@@ -1,4 +1,4 @@
-//! Where a record stands.
+//! The places of an arena's records.
 
 ghost use Rattle.std.specs.Prelude.{◌≡◌, ◌+◌, ◌≤◌, IfSome, length};
 ghost use Rattle.std.specs.Option.{option_copied, option_map};
@@ -11,7 +11,7 @@ use crate::record::Record;
 use rv_ledger::Value;
 use rv_ledger::inline_bytes::VALUE_LIMIT;
 
-/// The place of one record: who wrote it, and where its bytes lie, None where it removed the key.
+/// The place of one record: who wrote it, and where its bytes lie; None where it removed the key.
 #[derive(Clone, Copy)]
 pub(crate) struct Slot {
     writer: u16,
@@ -20,8 +20,8 @@ pub(crate) struct Slot {
 }
 
 impl Slot {
-    /// The place of a record of this writer, incarnation and value, absence being None, whose bytes
-    /// are copied into room that is there. Takes no memory.
+    /// The place of a record with this writer, incarnation and value, None for absence. The bytes are
+    /// copied into room that was reserved. Takes no memory.
     pub(crate) fn of(pool: &mut Pool, writer: u16, incarnation: u16, value: Option<&Value>) -> Slot
         requires { 1 ≤ room pool.old }
         ensures record { record_of pool.new.chunks result ≡ record { writer = writer; incarnation = incarnation; content = option_copied value.entry } }
@@ -46,7 +46,7 @@ impl Slot {
         }
     }
 
-    /// The record that stands here.
+    /// The record at this place.
     pub(crate) fn record<'a>(&self, pool: &'a Pool) -> Record<'a>
         requires { IsStored pool.now.chunks self.now }
         ensures record { lent result ≡ record_of pool.now.chunks self.now }
@@ -60,7 +60,7 @@ impl Slot {
     }
 }
 
-/// Copies the bytes of a value into the pool, where there is one.
+/// Copies the bytes of a value into the pool; None where there is no value.
 fn store(pool: &mut Pool, value: Option<&Value>) -> Option<Span>
     requires { 1 ≤ room pool.old }
     ensures value { option_map (part pool.new.chunks) result ≡ option_copied value.entry }
@@ -75,7 +75,7 @@ fn store(pool: &mut Pool, value: Option<&Value>) -> Option<Span>
     }
 }
 
-/// Lends the bytes that lie there, where there are some.
+/// Lends the bytes of a span; None where there is no span.
 fn load(pool: &Pool, content: Option<Span>) -> Option<&[u8]>
     requires { IfSome content (IsShortSpan pool.now.chunks) }
     ensures value { option_copied result ≡ option_map (part pool.now.chunks) content }

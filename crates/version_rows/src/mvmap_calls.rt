@@ -7,7 +7,7 @@ use std::alloc::{AllocError, Global};
 use std::test::Fail;
 use version_arena::{Arena, ReserveFault};
 
-// The key whose last byte this is.
+// The key of zeros with this last byte.
 fn key(last: u8) -> Key {
     let mut bytes = [0; 32];
     bytes[31] = last;
@@ -26,7 +26,7 @@ fn empty(alloc: Global) -> MvMap
     MvMap::over(alloc, Arena::new(alloc))
 }
 
-// Sets what a call's run wrote to a key, None for a removal.
+// Publishes what a call's run wrote to a key; None is a removal.
 fn set(
     map: &mut MvMap,
     key: Key,
@@ -49,7 +49,7 @@ fn estimate(map: &mut MvMap, key: Key, writer: u16) -> Result<(), ReserveFault> 
     Ok(())
 }
 
-// The answer that a version of one byte gives, None for a removal.
+// The answer that a version with these bytes gives; None is a removal.
 fn found(writer: u16, incarnation: u16, bytes: Option<&[u8]>) -> Answer<'_> {
     Answer::Found(
         Version {
@@ -116,7 +116,7 @@ fn room(rt: HostRuntime) -> Result<(), Fail> {
     Ok(())
 }
 
-// The byte that a storage has at a key.
+// The first byte of the value that a storage has at the key with this last byte.
 fn value_seen(store: &Store, last: u8) -> Option<u8> {
     match store.get(&key(last)) {
         Some(value) => value.bytes().first().copied(),

@@ -16,7 +16,7 @@ fn empty(alloc: Global) -> MvMap {
     MvMap::over(alloc, Arena::new(alloc))
 }
 
-// Publishes a value at a key.
+// Publishes the empty value at a key.
 fn publish(map: &mut MvMap, key: Key, writer: u16, incarnation: u16) -> Result<(), ReserveFault> {
     map.reserve_for(&[key], writer, 1, 64)?;
     let value = Value::empty();

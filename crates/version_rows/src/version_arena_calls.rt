@@ -14,7 +14,7 @@ fn value(byte: u8) -> Value
     }
 }
 
-// What a record says of its key, as a byte: 0 where the key was removed.
+// A record's writer, incarnation and byte; the byte is 0 where the key was removed.
 fn byte(record: Option<Record<'_>>) -> Option<(u16, u16, u8)> {
     match record {
         Some(record) => match record.content {
