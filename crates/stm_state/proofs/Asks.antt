@@ -1,18 +1,17 @@
 -- Asking for work keeps the invariant.
-use Rattle.std.proofs.Common.{◌≡◌, ◌<◌, ◌≢◌, ◌+◌, nat_lt, ℕ, Bool, true, false, List, [], length, None, Some, arith, refl, sym, ap, subst, ◌∙◌, inl, inr, length-set}
-use Rattle.std.specs.List.{AllByRecursion}
+use Rattle.std.proofs.Common.{◌≡◌, ◌<◌, ◌≢◌, ◌+◌, nat_lt, ℕ, Bool, true, false, List, [], length, None, arith, refl, sym, ap, ◌∙◌, inl, inr, length-set}
 use Rattle.std.proofs.lemmas.Bool.{cases_eq, cond_both}
-use Rattle.std.proofs.lemmas.List.{get_or-set_same, get_or-set_other}
 use Rattle.stm_state.specs.declared.state.Status.TheVariants.{Ready, Executing, Executed}
 use Rattle.stm_state.specs.declared.state.CallState.{CallState}
 use Rattle.stm_state.specs.declared.state.Task.{Task}
 use Rattle.stm_state.specs.declared.state.Task.TheVariants.{Idle, Running, Validating}
 use Rattle.stm_state.specs.State.{State, fresh, call_at, task_at, with_call, with_task, is_ready, is_executed, is_done}
 use Rattle.stm_state.specs.Steps.{Block, reads_of, count_done, ask_validation, ask_execution, asked, version_of, write_of}
-use Rattle.stm_state.specs.Invariant.{View, view_of, ViewInvariant, IsRightAnswer, Invariant, IsSized, IsUnturned, entry_by, lowered_by, owned_by}
-use Rattle.stm_state.proofs.Frames.{Frame, frame_kept, none_waits, unowned, unturned}
+use Rattle.stm_state.specs.Invariant.{View, view_of, ViewInvariant, Invariant, IsSized, IsUnturned, entry_by, lowered_by, owned_by}
+use Rattle.stm_state.proofs.Lists.{stays_at, set_at}
+use Rattle.stm_state.proofs.Frames.{Frame, entries_stay, keeps_itself, keeps_unchecked, still_executed, unturned}
 use Rattle.stm_state.proofs.Rests.{rested_facts}
-use Rattle.stm_state.proofs.Safes.{cover_same, safe_begun, safe_other, safe_still}
+use Rattle.stm_state.proofs.Safes.{cover_same, others_kept, safe_begun, safe_still}
 use Rattle.stm_state.proofs.Tests.{is_ready_says, not_ready_says, is_executed_says, not_executed_says, lt_says, resized}
 
 -- what a call that isn't EXECUTED has as entries, where nobody turns its keys, stays where only its status changes
@@ -29,18 +28,6 @@ executed_entries block v f i done key =
     f.entries i key (unturned block v f i (λ h. cc) (λ h. cc)) ∙ ap (λ st. entry_by (is_executed st) (v.calls i).incarnation (write_of (v.calls i).last key)) done
 
 module _ (block : Block) (s : State) (w : ℕ) (f : ViewInvariant block (view_of s)) (idle : task_at s w ≡ Idle) (w_in : w < length s.tasks) where
-  -- the worker validates nothing
-  free : (j n left : ℕ) (failed : Bool) → task_at s w ≢ Validating j n left failed
-  free j n left failed h = cc
-
-  -- the worker has no call
-  has_none : (j : ℕ) → owned_by (task_at s w) ≢ Some j
-  has_none j h = let none : owned_by (task_at s w) ≡ None = ap owned_by idle in cc
-
-  -- nor is it ahead of one
-  lowers_none : (j : ℕ) → lowered_by (task_at s w) ≢ Some j
-  lowers_none j h = let none : lowered_by (task_at s w) ≡ None = ap lowered_by idle in cc
-
   -- a call to validate
   abbrev to_check : ℕ → Task
   to_check i = Validating i (call_at s i).incarnation (length (reads_of (call_at s i).last)) false
@@ -49,38 +36,18 @@ module _ (block : Block) (s : State) (w : ℕ) (f : ViewInvariant block (view_of
   validation_move : (i : ℕ) → i ≡ s.validation → i < s.execution → (call_at s i).status ≡ Executed
       → Frame block (view_of s) (view_of (with_task w (to_check i) (record s { validation = i + 1 }))) i w (call_at s i) (to_check i)
   validation_move i at below done = record {
-    calls = λ j ne. refl;
-    tasks = λ x ne. get_or-set_other s.tasks w x (to_check i) Idle ne;
-    entries = λ j key ne. refl;
-    call = refl;
-    task = get_or-set_same s.tasks w (to_check i) Idle w_in;
-    execution_within = f.execution_within;
-    validation_within = let within = f.execution_within in omega (arith, within);
-    named = λ j h. let within = f.execution_within in let same : i ≡ j = cc in omega (arith, within, same);
-    ready_others = λ j ne h. h;
-    ready = f.ready i;
-    was = λ j h. absurd (has_none j h);
-    alone = λ x h. absurd (unowned block (view_of s) f i (λ k. cc) (λ k. cc) x h);
-    now = inr (λ h. cc, inr refl);
-    blocked = λ j b answers h. cc;
-    aborting = λ h. cc;
-    unparked = f.unparked i;
-    nobody_waits = λ _. none_waits block (view_of s) f i done;
-    limit = f.limit i;
-    executed_limit = f.executed_limit i;
-    aborting_limit = f.aborting_limit i;
-    grows = omega arith;
-    past = λ n h. h;
-    versions = λ key n x h. inl h;
-    known = λ key n x h. inl h;
+    calls = stays_at (call_at s) i;
+    tasks = set_at s.tasks w (to_check i) Idle w_in;
+    entries = entries_stay (view_of s) i (call_at s i);
+    execution = inl (omega arith);
+    validation = inr (sym at, refl);
+    within = let within = f.execution_within in omega (arith, within, below);
+    owner = inr (ap owned_by idle, λ h. cc, λ h. cc);
+    by_task = (refl, λ h. cc, refl, inl (done, omega arith));
+    by_status = still_executed block (view_of s) f i (to_check i) done;
+    grows = inr (keeps_itself (call_at s i));
     own_entries = λ _ key. f.entries i key (unturned block (view_of s) f i (λ h. cc) (λ h. cc));
-    own_moving = λ j keys new h. cc;
-    own_marking = λ j keys h. cc;
-    executed = f.executed i;
     recorded = f.recorded i;
-    answered = λ j answers waits h. cc;
-    validating = λ j n left failed h. (cc, cc, inl (done, let same : length (reads_of (call_at s i).last) ≡ left = cc in omega (arith, same)));
-    current = λ x left failed ne h. f.current x i left failed h;
   }
 
   -- a validation may begin: it covers all reads of its call
@@ -88,10 +55,8 @@ module _ (block : Block) (s : State) (w : ℕ) (f : ViewInvariant block (view_of
   validation_begun i at below done =
       let m = validation_move i at below done in
       let u : View = view_of (with_task w (to_check i) (record s { validation = i + 1 })) in
-      frame_kept block (view_of s) u i w (call_at s i) (to_check i) m f (λ j h l. elim (cases_eq j i) [
-        | inl e ↦ safe_begun u j w (m.task ∙ ap to_check (sym e))
-        | inr ne ↦ safe_other block (view_of s) u i w (call_at s i) (to_check i) m j ne (free j (call_at s j).incarnation) (λ k _. absurd (lowers_none i k)) (λ read k. k) (f.safe j h (omega (arith, at)))
-      ])
+      others_kept block (view_of s) u i w (call_at s i) (to_check i) m f (λ _ _. safe_begun u i w m.tasks.there)
+      (λ j left failed ne h. cc) (inl (ap lowered_by idle)) (λ j read k. k)
 
   -- the validation index passes a call that is not EXECUTED
   validation_passed : (i : ℕ) → i ≡ s.validation → i < s.execution → (call_at s i).status ≢ Executed → ViewInvariant block (view_of (record s { validation = i + 1 }))
@@ -116,53 +81,22 @@ module _ (block : Block) (s : State) (w : ℕ) (f : ViewInvariant block (view_of
   abbrev after_begin : ℕ → State
   after_begin i = with_task w (Running i [] None) (with_call i (begun i) (record s { execution = i + 1 }))
 
-  -- what an execution that begins changes
-  execution_move : (i : ℕ) → i ≡ s.execution → i < length s.calls → i < block.count → (call_at s i).status ≡ Ready → Frame block (view_of s) (view_of (after_begin i)) i w (begun i) (Running i [] None)
-  execution_move i at i_in within ready = record {
-    calls = λ j ne. get_or-set_other s.calls i j (begun i) fresh ne;
-    tasks = λ x ne. get_or-set_other s.tasks w x (Running i [] None) Idle ne;
-    entries = λ j key ne. refl;
-    call = get_or-set_same s.calls i (begun i) fresh i_in;
-    task = get_or-set_same s.tasks w (Running i [] None) Idle w_in;
-    execution_within = omega (arith, within);
-    validation_within = f.validation_within;
-    named = λ j h. let same : i ≡ j = cc in omega (arith, within, same);
-    ready_others = λ j ne h. omega (arith, at);
-    ready = λ h. cc;
-    was = λ j h. absurd (has_none j h);
-    alone = λ x h. absurd (unowned block (view_of s) f i (λ k. cc) (λ k. cc) x h);
-    now = inl (refl, refl);
-    blocked = λ j b answers h. cc;
-    aborting = λ h. cc;
-    unparked = λ _. f.unparked i (λ h. cc);
-    nobody_waits = λ h. cc;
-    limit = f.limit i;
-    executed_limit = λ h. cc;
-    aborting_limit = λ h. cc;
-    grows = omega arith;
-    past = λ n h. elim h [ inl old ↦ inl old | inr q ↦ let r = q.1 in cc ];
-    versions = λ key n x h. inl h;
-    known = λ key n x h. inl h;
-    own_entries = λ _. same_entries block (view_of s) f i (λ h. cc) (unturned block (view_of s) f i (λ h. cc) (λ h. cc));
-    own_moving = λ j keys new h. cc;
-    own_marking = λ j keys h. cc;
-    executed = λ h. cc;
-    recorded = f.recorded i;
-    answered = λ j answers waits h. let none : answers ≡ [] = cc in subst (λ xs. AllByRecursion (IsRightAnswer block (view_of s) j) xs) (sym none) tt;
-    validating = λ j n left failed h. cc;
-    current = λ x left failed ne h. elim (f.current x i left failed h) [ inl q ↦ let r = q.0 in cc | inr q ↦ let r = q.0 in cc ];
-  }
-
   -- an execution may begin
   execution_begun : (i : ℕ) → i ≡ s.execution → i < length s.calls → i < block.count → (call_at s i).status ≡ Ready → ViewInvariant block (view_of (after_begin i))
-  execution_begun i at i_in within ready =
-      let m = execution_move i at i_in within ready in
-      let u : View = view_of (after_begin i) in
-      frame_kept block (view_of s) u i w (begun i) (Running i [] None) m f (λ j h l. elim (cases_eq j i) [
-        | inl e ↦ let c : u.calls j ≡ begun i = ap u.calls e ∙ m.call in let r : (u.calls j).status ≡ Executing = ap (λ (call : CallState). call.status) c in cc
-        | inr ne ↦ safe_other block (view_of s) u i w (begun i) (Running i [] None) m j ne (free j (call_at s j).incarnation) (λ k _. absurd (lowers_none i k)) (λ read k. k)
-            (f.safe j (ap (λ (call : CallState). call.status) (sym (m.calls j ne)) ∙ h) l)
-      ])
+  execution_begun i at i_in within ready = others_kept block (view_of s) (view_of (after_begin i)) i w (begun i) (Running i [] None) (record {
+    calls = set_at s.calls i (begun i) fresh i_in;
+    tasks = set_at s.tasks w (Running i [] None) Idle w_in;
+    entries = entries_stay (view_of s) i (begun i);
+    execution = inr (sym at, refl);
+    validation = inl (omega arith);
+    within = within;
+    owner = inr (ap owned_by idle, λ h. cc, λ h. cc);
+    by_task = (refl, refl, λ b h. cc, tt);
+    by_status = (f.unparked i (λ h. cc), f.limit i);
+    grows = inr (keeps_unchecked (call_at s i) (begun i) (λ h. cc) (λ h. cc) refl);
+    own_entries = λ _. same_entries block (view_of s) f i (λ h. cc) (unturned block (view_of s) f i (λ h. cc) (λ h. cc));
+    recorded = f.recorded i;
+  }) f (λ h. cc) (λ j left failed ne h. cc) (inl (ap lowered_by idle)) (λ j read k. k)
 
   -- the execution index passes a call that is not READY
   execution_passed : (i : ℕ) → i ≡ s.execution → i < block.count → (call_at s i).status ≢ Ready → ViewInvariant block (view_of (record s { execution = i + 1 }))

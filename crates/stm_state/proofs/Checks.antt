@@ -12,8 +12,9 @@ use Rattle.stm_state.specs.declared.state.Task.{Task}
 use Rattle.stm_state.specs.declared.state.Task.TheVariants.{Idle, Validating}
 use Rattle.stm_state.specs.State.{State, call_at, task_at, with_task, is_executed}
 use Rattle.stm_state.specs.Steps.{Block, reads_of, is_executed_at, read_stands, next_stands, checked}
-use Rattle.stm_state.specs.Invariant.{view_of, ViewInvariant, Invariant, IsChecked, IsCovered, IsSized, validated, ahead, lowered_by, named_by, owned_by}
-use Rattle.stm_state.proofs.Frames.{Frame, frame_kept, none_waits, unowned, unturned}
+use Rattle.stm_state.specs.Invariant.{view_of, ViewInvariant, AreSafe, Invariant, IsChecked, IsCovered, validated, ahead, lowered_by, named_by, owned_by}
+use Rattle.stm_state.proofs.Lists.{stays_at, set_at}
+use Rattle.stm_state.proofs.Frames.{Frame, frame_kept, entries_stay, keeps_itself, still_executed, unturned}
 use Rattle.stm_state.proofs.Rests.{rested_facts}
 use Rattle.stm_state.proofs.Safes.{checked_on, safe_still}
 use Rattle.stm_state.proofs.Tests.{is_executed_says, equal_says, equal_itself, resized}
@@ -26,12 +27,8 @@ pub executed_at_is : (n : ℕ) (call : CallState) → call.status ≡ Executed �
 executed_at_is n call done at = and_from (is_executed call.status) (call.incarnation == n) (ap is_executed done) (ap (λ x. call.incarnation == x) at ∙ equal_itself call.incarnation)
 
 module _ (block : Block) (s : State) (w i n left : ℕ) (failed : Bool) (f : ViewInvariant block (view_of s)) (checks : task_at s w ≡ Validating i n left failed) (w_in : w < length s.tasks) where
-  -- the worker has no call
-  pub has_none : (j : ℕ) → owned_by (task_at s w) ≢ Some j
-  has_none j h = let none : owned_by (task_at s w) ≡ None = ap owned_by checks in cc
-
-  -- nor is it ahead of one
-  pub lowers_none : (j : ℕ) → lowered_by (task_at s w) ≢ Some j
+  -- the worker is ahead of no call
+  lowers_none : (j : ℕ) → lowered_by (task_at s w) ≢ Some j
   lowers_none j h = let none : lowered_by (task_at s w) ≡ None = ap lowered_by checks in cc
 
   -- what a validation says of this worker's task
@@ -92,38 +89,18 @@ module _ (block : Block) (s : State) (w i n left : ℕ) (failed : Bool) (f : Vie
   -- what a check changes
   check_frame : (k : ℕ) (b : Bool) → (call_at s i).status ≡ Executed → (call_at s i).incarnation ≡ n → k ≤ length (reads_of (call_at s i).last) → Frame block (view_of s) (view_of (after (Validating i n k b))) i w (call_at s i) (Validating i n k b)
   check_frame k b done at few = record {
-    calls = λ j ne. refl;
-    tasks = λ x ne. get_or-set_other s.tasks w x (Validating i n k b) Idle ne;
-    entries = λ j key ne. refl;
-    call = refl;
-    task = get_or-set_same s.tasks w (Validating i n k b) Idle w_in;
-    execution_within = f.execution_within;
-    validation_within = f.validation_within;
-    named = λ j h. f.named w j (ap named_by checks ∙ h);
-    ready_others = λ j ne h. h;
-    ready = f.ready i;
-    was = λ j h. absurd (has_none j h);
-    alone = λ x h. absurd (unowned block (view_of s) f i (λ q. cc) (λ q. cc) x h);
-    now = inr (λ h. cc, inr refl);
-    blocked = λ j x xs h. cc;
-    aborting = λ h. cc;
-    unparked = f.unparked i;
-    nobody_waits = λ _. none_waits block (view_of s) f i done;
-    limit = f.limit i;
-    executed_limit = f.executed_limit i;
-    aborting_limit = f.aborting_limit i;
-    grows = omega arith;
-    past = λ m h. h;
-    versions = λ key m x h. inl h;
-    known = λ key m x h. inl h;
+    calls = stays_at (call_at s) i;
+    tasks = set_at s.tasks w (Validating i n k b) Idle w_in;
+    entries = entries_stay (view_of s) i (call_at s i);
+    execution = inl (omega arith);
+    validation = inl (omega arith);
+    within = f.named w i (ap named_by checks);
+    owner = inr (ap owned_by checks, λ h. cc, λ h. cc);
+    by_task = (refl, λ h. cc, sym at, inl (done, few));
+    by_status = still_executed block (view_of s) f i (Validating i n k b) done;
+    grows = inr (keeps_itself (call_at s i));
     own_entries = λ _ key. f.entries i key (unturned block (view_of s) f i (λ h. cc) (λ h. cc));
-    own_moving = λ j keys new h. cc;
-    own_marking = λ j keys h. cc;
-    executed = f.executed i;
     recorded = f.recorded i;
-    answered = λ j xs waits h. cc;
-    validating = λ j m x y h. (cc, let one : n ≡ m = cc in sym one ∙ sym at, inl (done, let same : k ≡ x = cc in omega (arith, same, few)));
-    current = λ x y z ne h. f.current x i y z h;
   }
 
   module _ (k : ℕ) (b : Bool) (is : is_executed_at n (call_at s i) ≡ true) (fewer : k ≤ left) (stays : failed ≡ true → b ≡ true)
@@ -159,9 +136,10 @@ module _ (block : Block) (s : State) (w i n left : ℕ) (failed : Bool) (f : Vie
     pub goes : ViewInvariant block (view_of (with_task w (Validating i n k b) s))
     goes =
         let m = check_frame k b at.0 at.1 (few (f.current w i left failed (checks ∙ ap (λ x. Validating i x left failed) (sym at.1)))) in
-        frame_kept block (view_of s) (view_of (after task)) i w (call_at s i) task m f
-        (λ j h l. safe_still (view_of s) (view_of (after task)) j refl (λ read q. q)
-        (λ place read there. cover_on task j place read (λ x y own meets. let same = own_task j (call_at s j).incarnation x y own in meets_still j same.0 place x y read same.2 same.3 there meets)) (f.safe j h l))
+        let safe : (j : ℕ) → (call_at s j).status ≡ Executed → j < s.validation → AreSafe (view_of (after task)) j = λ j h l.
+        safe_still (view_of s) (view_of (after task)) j refl (λ read q. q)
+        (λ place read there. cover_on task j place read (λ x y own meets. let same = own_task j (call_at s j).incarnation x y own in meets_still j same.0 place x y read same.2 same.3 there meets)) (f.safe j h l) in
+        frame_kept block (view_of s) (view_of (after task)) i w (call_at s i) task m f (safe i) (λ j _. safe j)
 
 -- ---- a check of a read
 
@@ -175,27 +153,22 @@ next_met s i left stand place read at late = elim (cases_lt (place + left) (leng
   | inr later ↦ inr (inr later)
 ]
 
--- a check of a read keeps the facts of the invariant
-checked_facts : (block : Block) (s : State) (w i n left : ℕ) → ViewInvariant block (view_of s) → task_at s w ≡ Validating i n (suc left) false → w < length s.tasks → ViewInvariant block (view_of (checked w i n left s))
-unfolding checked
-checked_facts block s w i n left f checks w_in = cond_both (is_executed_at n (call_at s i)) _ _ (λ t. ViewInvariant block (view_of t))
-    (λ is. cond_both (next_stands i (suc left) s) _ _ (λ t. ViewInvariant block (view_of t))
-    (λ stand. goes block s w i n (suc left) false f checks w_in left false is (omega arith) (λ h. h) (next_met s i left stand))
-    (λ _. goes block s w i n (suc left) false f checks w_in (suc left) true is (omega arith) (λ h. refl) (λ place read at late. inr (inl refl))))
-    (λ none. ends block s w i n (suc left) false f checks w_in (λ is. cc))
-
--- a check of a read keeps the sizes
-checked_sized : (count workers w i n left : ℕ) (s : State) → IsSized count workers s → IsSized count workers (checked w i n left s)
-unfolding checked
-checked_sized count workers w i n left s h = cond_both (is_executed_at n (call_at s i)) _ _ (λ t. IsSized count workers t)
-    (λ _. cond_both (next_stands i (suc left) s) _ _ (λ t. IsSized count workers t)
-    (λ _. resized count workers s _ refl (length-set s.tasks w _) refl refl h)
-    (λ _. resized count workers s _ refl (length-set s.tasks w _) refl refl h))
-    (λ _. resized count workers s _ refl (length-set s.tasks w _) refl refl h)
-
 -- a check of a read keeps the invariant
 pub check_kept : (block : Block) (workers w i n left : ℕ) (s : State) → Invariant block workers s → w < workers → task_at s w ≡ Validating i n (suc left) false → Invariant block workers (checked w i n left s)
-check_kept block workers w i n left s h w_in checks = record {
-  sized = checked_sized block.count workers w i n left s h.sized;
-  facts = checked_facts block s w i n left h.facts checks (let e = h.sized.tasks in omega (arith, e));
-}
+unfolding checked
+check_kept block workers w i n left s h w_in checks =
+    let w_there : w < length s.tasks = let e = h.sized.tasks in omega (arith, e) in
+    cond_both (is_executed_at n (call_at s i)) _ _ (λ t. Invariant block workers t)
+    (λ is. cond_both (next_stands i (suc left) s) _ _ (λ t. Invariant block workers t)
+    (λ stand. record {
+      sized = resized block.count workers s _ refl (length-set s.tasks w _) refl refl h.sized;
+      facts = goes block s w i n (suc left) false h.facts checks w_there left false is (omega arith) (λ k. k) (next_met s i left stand);
+    })
+    (λ _. record {
+      sized = resized block.count workers s _ refl (length-set s.tasks w _) refl refl h.sized;
+      facts = goes block s w i n (suc left) false h.facts checks w_there (suc left) true is (omega arith) (λ k. refl) (λ place read at late. inr (inl refl));
+    }))
+    (λ none. record {
+      sized = resized block.count workers s _ refl (length-set s.tasks w _) refl refl h.sized;
+      facts = ends block s w i n (suc left) false h.facts checks w_there (λ is. cc);
+    })

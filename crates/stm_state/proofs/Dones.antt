@@ -4,7 +4,7 @@ use Rattle.std.specs.List.{AllByRecursion}
 use Rattle.std.proofs.lemmas.Bool.{cases_eq, cases_lt, cond_both, cond-true}
 use Rattle.std.proofs.lemmas.List.{get_or-set_same, get_or-set_other, get_or_past, length-replicate}
 use Rattle.stm_state.specs.State.{State, start, is_done}
-use Rattle.stm_state.specs.Steps.{Block, Step, Ask, ask_validation, ask_execution, asked, count_done, worker_step}
+use Rattle.stm_state.specs.Steps.{Block, Step, Ask, ask_validation, ask_execution, asked, count_done, worker_step, counted, one_asking}
 use Rattle.stm_state.specs.Done.{Reached}
 use Rattle.stm_state.specs.Walk.{walk}
 use Rattle.stm_state.specs.Dones.{dones_of, DoneIsAsked, DoneStays, OtherDonesStay, DonesAreAsked, DonesGrowAtDone, LastEntryIsDone}
@@ -24,38 +24,29 @@ done_again w s done = subst (λ t. is_done t ≡ true) (sym (cond-true (is_done 
 
 module _ (block : Block) (w : ℕ) (s : State) (done : is_done s ≡ true) where
   -- only an asking is made
-  only_asked : (step : Step) (t : State) → IsMade block w s step t → step ≡ Ask
-  only_asked step t (by_ask at) = refl
-  only_asked step t (by_read i answers key at) = let idle = idle_at_done s done w in cc
-  only_asked step t (by_park i b answers at below) = let idle = idle_at_done s done w in cc
-  only_asked step t (by_record i answers receipt at bears below) = let idle = idle_at_done s done w in cc
-  only_asked step t (by_move i key keys new at) = let idle = idle_at_done s done w in cc
-  only_asked step t (by_finish i new at) = let idle = idle_at_done s done w in cc
-  only_asked step t (by_check i n left at) = let idle = idle_at_done s done w in cc
-  only_asked step t (by_decide i n left failed at last) = let idle = idle_at_done s done w in cc
-  only_asked step t (by_mark i key keys at) = let idle = idle_at_done s done w in cc
-  only_asked step t (by_abort i at) = let idle = idle_at_done s done w in cc
+  only_asked : (step : Step) (t : State) → IsMade block w s step t → (step ≡ Ask) × (t ≡ counted one_asking w (asked w s))
+  only_asked step t (by_ask at) = (refl, refl)
+  only_asked step t (by_read i answers key at) = let idle = idle_at_done s done w in (cc, cc)
+  only_asked step t (by_park i b answers at below) = let idle = idle_at_done s done w in (cc, cc)
+  only_asked step t (by_record i answers receipt at bears below) = let idle = idle_at_done s done w in (cc, cc)
+  only_asked step t (by_move i key keys new at) = let idle = idle_at_done s done w in (cc, cc)
+  only_asked step t (by_finish i new at) = let idle = idle_at_done s done w in (cc, cc)
+  only_asked step t (by_check i n left at) = let idle = idle_at_done s done w in (cc, cc)
+  only_asked step t (by_decide i n left failed at last) = let idle = idle_at_done s done w in (cc, cc)
+  only_asked step t (by_mark i key keys at) = let idle = idle_at_done s done w in (cc, cc)
+  only_asked step t (by_abort i at) = let idle = idle_at_done s done w in (cc, cc)
 
   -- and workers are done after it
-  still_done : (step : Step) (t : State) → IsMade block w s step t → is_done t ≡ true
+  still_done : (t : State) → t ≡ counted one_asking w (asked w s) → is_done t ≡ true
   unfolding is_done
-  still_done step t (by_ask at) = done_again w s done
-  still_done step t (by_read i answers key at) = let idle = idle_at_done s done w in cc
-  still_done step t (by_park i b answers at below) = let idle = idle_at_done s done w in cc
-  still_done step t (by_record i answers receipt at bears below) = let idle = idle_at_done s done w in cc
-  still_done step t (by_move i key keys new at) = let idle = idle_at_done s done w in cc
-  still_done step t (by_finish i new at) = let idle = idle_at_done s done w in cc
-  still_done step t (by_check i n left at) = let idle = idle_at_done s done w in cc
-  still_done step t (by_decide i n left failed at last) = let idle = idle_at_done s done w in cc
-  still_done step t (by_mark i key keys at) = let idle = idle_at_done s done w in cc
-  still_done step t (by_abort i at) = let idle = idle_at_done s done w in cc
+  still_done t h = ap is_done h ∙ done_again w s done
 
 -- so it is of each step that a state follows
 pub asked_at_done : DoneIsAsked
-asked_at_done block w step s t done k = only_asked block w s done step t (made block w s t step k)
+asked_at_done block w step s t done k = (only_asked block w s done step t (made block w s t step k)).0
 
 pub done_after : DoneStays
-done_after block w step s t done k = still_done block w s done step t (made block w s t step k)
+done_after block w step s t done k = still_done block w s done t (only_asked block w s done step t (made block w s t step k)).1
 
 -- ---- what a step adds
 

@@ -1,5 +1,5 @@
 -- Finishing the execution of a call, whose keys are all moved, keeps the invariant.
-use Rattle.std.proofs.Common.{◌≡◌, ◌<◌, ◌≤◌, ◌≢◌, nat_lt, ℕ, zero, suc, Bool, true, false, List, [], ◌∷◌, length, map, set, get_or, None, Some, arith, refl, sym, ap, subst, ◌∙◌, inl, inr, length-set}
+use Rattle.std.proofs.Common.{◌≡◌, ◌<◌, ◌≤◌, ◌≢◌, ◌⊎◌, nat_lt, ℕ, zero, suc, Bool, true, false, List, [], ◌∷◌, length, map, set, get_or, None, arith, refl, sym, ap, subst, ◌∙◌, inl, inr, length-set}
 use Rattle.std.proofs.lemmas.Bool.{cases_eq, cond_both}
 use Rattle.std.proofs.lemmas.List.{get_or-set_same, get_or-set_other, length-map}
 use Rattle.mvmap.specs.Versions.{entry_at}
@@ -9,9 +9,10 @@ use Rattle.stm_state.specs.declared.state.Task.{Task}
 use Rattle.stm_state.specs.declared.state.Task.TheVariants.{Idle, Moving, Validating}
 use Rattle.stm_state.specs.State.{State, fresh, call_at, task_at, with_call, with_task}
 use Rattle.stm_state.specs.Steps.{Block, reads_of, is_parked_on, resume_if_parked, lowered, resume_dependents, to_validate, executed, version_of}
-use Rattle.stm_state.specs.Invariant.{View, view_of, ViewInvariant, Invariant, IsMoved, IsPast, IsSized, IsUnmovedEntry, lowered_by, named_by, owned_by, run_by}
-use Rattle.stm_state.proofs.Frames.{Frame, frame_kept}
-use Rattle.stm_state.proofs.Safes.{safe_begun, safe_other}
+use Rattle.stm_state.specs.Invariant.{View, view_of, ViewInvariant, Invariant, IsMoved, IsSized, IsUnmovedEntry, lowered_by, named_by, owned_by, run_by}
+use Rattle.stm_state.proofs.Lists.{set_at}
+use Rattle.stm_state.proofs.Frames.{Frame, Keeps, TaskOwes, entries_stay, keeps_unchecked}
+use Rattle.stm_state.proofs.Safes.{others_kept, safe_begun}
 use Rattle.stm_state.proofs.Tests.{lt_says, not_lt_says, resized}
 use Rattle.stm_state.proofs.Wakes.{woken_view, woken_facts, parked_aborting, not_parked, none_parked, lowered_low, lowered_at}
 use Rattle.stm_state.proofs.Targets.{amid_end}
@@ -23,18 +24,14 @@ mapped_at g (x ∷ xs) zero d e = refl
 mapped_at g (x ∷ xs) (suc j) d e = mapped_at g xs j d e
 
 module _ (block : Block) (s : State) (w i : ℕ) (new : Bool) (f : ViewInvariant block (view_of s)) (moves : task_at s w ≡ Moving i [] new) (w_in : w < length s.tasks) (i_in : i < length s.calls) where
-  -- the worker has call i
-  has_i : owned_by (task_at s w) ≡ Some i
-  has_i = ap owned_by moves
-
   -- call i is EXECUTING
   is_executing : (call_at s i).status ≡ Executing
   is_executing = f.running w i (ap run_by moves)
 
   -- a task that lowers V has a new key
-  lowers_new : (b : Bool) → lowered_by (Moving i [] b) ≡ Some i → b ≡ true
-  lowers_new true h = refl
-  lowers_new false h = cc
+  lowers_new : (b : Bool) → (lowered_by (Moving i [] b) ≡ None) ⊎ (b ≡ true)
+  lowers_new true = inr refl
+  lowers_new false = inl refl
 
   -- call i waits for nothing
   not_waiting : (call_at s i).status ≢ Aborting
@@ -83,63 +80,37 @@ module _ (block : Block) (s : State) (w i : ℕ) (new : Bool) (f : ViewInvariant
   before_call = not_parked i (call_at s i) not_waiting
 
   -- what finishing changes besides
-  finish_frame : (task : Task) (validation : ℕ) → owned_by task ≡ None → ((j n k : ℕ) (b : Bool) → task ≡ Validating j n k b → (j ≡ i) × (n ≡ (call_at s i).incarnation) × (k ≡ left)) → ((j : ℕ) → named_by task ≡ Some j → j ≡ i) → validation ≤ block.count
-      → Frame block before (view_of (after task validation)) i w done task
+  finish_frame : (task : Task) (validation : ℕ) → TaskOwes block before (entry_at s.versions) i done task → validation ≤ s.validation → Frame block before (view_of (after task validation)) i w done task
   unfolding resume_dependents
-  finish_frame task validation quiet checks name within = record {
-    calls = λ j ne. mapped_at (resume_if_parked i) (set s.calls i done) j fresh refl ∙ ap (resume_if_parked i) (get_or-set_other s.calls i j done fresh ne);
-    tasks = λ x ne. get_or-set_other s.tasks w x task Idle ne;
-    entries = λ j key ne. refl;
-    call = mapped_at (resume_if_parked i) (set s.calls i done) i fresh refl ∙ ap (resume_if_parked i) (get_or-set_same s.calls i done fresh i_in);
-    task = get_or-set_same s.tasks w task Idle w_in;
-    execution_within = before_facts.execution_within;
-    validation_within = within;
-    named = λ j h. let same = name j h in let low = f.named w i (ap named_by moves) in omega (arith, same, low);
-    ready_others = λ j ne h. h;
-    ready = λ h. cc;
-    was = λ j h. cc;
-    alone = λ x h. f.alone x w i h has_i;
-    now = inr (λ h. cc, inr quiet);
-    blocked = λ j b xs h. let r : owned_by task ≡ Some j = ap owned_by h in cc;
-    aborting = λ h. cc;
-    unparked = λ _. f.unparked i not_waiting;
-    nobody_waits = λ _ j h k. none_parked i (call_at s j) h k;
-    limit = f.limit i;
-    executed_limit = λ _. is_moved.below;
-    aborting_limit = λ h. cc;
-    grows = let e = ap (λ (c : CallState). c.incarnation) before_call in omega (arith, e);
-    past = λ n h. elim (subst (λ c. IsPast c n) before_call h) [ inl old ↦ inl old | inr q ↦ absurd (not_waiting q.1) ];
-    versions = λ key n x h. inl h;
-    known = λ key n x h. inl h;
+  finish_frame task validation by_task low = record {
+    calls = record {
+      there = mapped_at (resume_if_parked i) (set s.calls i done) i fresh refl ∙ ap (resume_if_parked i) (get_or-set_same s.calls i done fresh i_in);
+      other = λ j ne. mapped_at (resume_if_parked i) (set s.calls i done) j fresh refl ∙ ap (resume_if_parked i) (get_or-set_other s.calls i j done fresh ne);
+    };
+    tasks = set_at s.tasks w task Idle w_in;
+    entries = entries_stay before i done;
+    execution = inl (omega arith);
+    validation = inl low;
+    within = f.named w i (ap named_by moves);
+    owner = inl (ap owned_by moves);
+    by_task = by_task;
+    by_status = (f.unparked i not_waiting, is_moved.below, is_moved.run, λ j h k. none_parked i (call_at s j) h k);
+    grows = inr (subst (λ call. Keeps call done) (sym before_call) (keeps_unchecked (call_at s i) done (λ h. let r = is_executing in cc) not_waiting refl));
     own_entries = λ _ key. amid_end (version_of (call_at s i)) (λ k entry. IsUnmovedEntry new entry) (λ k. entry_at s.versions k i) is_moved.amid key;
-    own_moving = λ j keys b h. let r : owned_by task ≡ Some j = ap owned_by h in cc;
-    own_marking = λ j keys h. let r : owned_by task ≡ Some j = ap owned_by h in cc;
-    executed = λ _. is_moved.run;
     recorded = λ run h. before_facts.recorded i run (ap (λ (c : CallState). c.last) before_call ∙ h);
-    answered = λ j xs waits h. let r : owned_by task ≡ Some j = ap owned_by h in cc;
-    validating = λ j n k b h. let q = checks j n k b h in (q.0, q.1, inl (refl, let same = q.2 in omega (arith, same)));
-    current = λ x k b ne h. let e = is_executing in elim (f.current x i k b h) [ inl q ↦ let r = q.0 in cc | inr q ↦ let r = q.0 in cc ];
   }
 
   -- finishing keeps the invariant, where call i is validated if it is below the validation index, and so after a new key is each
   -- call above it
-  finish_facts : (task : Task) (validation : ℕ) → owned_by task ≡ None → ((j n k : ℕ) (b : Bool) → task ≡ Validating j n k b → (j ≡ i) × (n ≡ (call_at s i).incarnation) × (k ≡ left)) → ((j : ℕ) → named_by task ≡ Some j → j ≡ i) → validation ≤ s.validation
-      → (i < validation → task ≡ Validating i (call_at s i).incarnation left false) → (new ≡ true → validation ≤ i) → ViewInvariant block (view_of (after task validation))
+  finish_facts : (task : Task) (validation : ℕ) → TaskOwes block before (entry_at s.versions) i done task → validation ≤ s.validation → (i < validation → task ≡ Validating i (call_at s i).incarnation left false)
+      → (new ≡ true → validation ≤ i) → ViewInvariant block (view_of (after task validation))
   unfolding resume_dependents
-  finish_facts task validation quiet checks name within own all =
-      let m = finish_frame task validation quiet checks name (let most = f.validation_within in omega (arith, within, most)) in
+  finish_facts task validation by_task low own all =
+      let m = finish_frame task validation by_task low in
       let u : View = view_of (after task validation) in
-      frame_kept block before u i w done task m before_facts (λ j h l. elim (cases_eq j i) [
-        | inl e ↦
-            let at : i < validation = let l2 : j < validation = l in omega (arith, e, l2) in
-            let c : u.calls j ≡ done = ap u.calls e ∙ m.call in
-            safe_begun u j w (m.task ∙ own at ∙ ap (λ x. Validating x (call_at s i).incarnation left false) (sym e) ∙ ap (λ (call : CallState). Validating j call.incarnation (length (reads_of call.last)) false) (sym c))
-        | inr ne ↦
-            let below : j < validation = l in
-            safe_other block before u i w done task m j ne (λ k b h2. let r = moves in cc)
-            (λ h2 above. let low = all (lowers_new new (ap lowered_by (sym moves) ∙ h2)) in absurd (omega (arith, low, above, below))) (λ read k. k)
-            (before_facts.safe j (ap (λ (call : CallState). call.status) (sym (m.calls j ne)) ∙ h) (omega (arith, below, within)))
-      ])
+      others_kept block before u i w done task m before_facts
+      (λ _ l. safe_begun u i w (m.tasks.there ∙ own l ∙ ap (λ (call : CallState). Validating i call.incarnation (length (reads_of call.last)) false) (sym m.calls.there)))
+      (λ j k b ne h. let r = moves in cc) (elim (lowers_new new) [ inl none ↦ inl (ap lowered_by moves ∙ none) | inr is ↦ let most = all is in inr (omega (arith, most)) ]) (λ j read k. k)
 
   -- the validation of the run
   abbrev check : Task
@@ -151,9 +122,9 @@ module _ (block : Block) (s : State) (w i : ℕ) (new : Bool) (f : ViewInvariant
   unfolding to_validate resume_dependents
   executed_facts = cond_both (nat_lt i s.validation) _ _ (λ t. ViewInvariant block (view_of t))
       (λ l. let below = lt_says i s.validation l in cond_both new _ _ (λ t. ViewInvariant block (view_of t))
-      (λ _. finish_facts Idle i refl (λ j n k b h. cc) (λ j h. cc) (omega (arith, below)) (λ l2. absurd (omega (arith, l2))) (λ _. omega arith))
-      (λ none. finish_facts check s.validation refl (λ j n k b h. (cc, cc, cc)) (λ j h. cc) (omega arith) (λ _. refl) (λ h. cc)))
-      (λ l. let above = not_lt_says i s.validation l in finish_facts Idle s.validation refl (λ j n k b h. cc) (λ j h. cc) (omega arith) (λ l2. absurd (omega (arith, l2, above))) (λ _. above))
+      (λ _. finish_facts Idle i (λ h. cc) (omega (arith, below)) (λ l2. absurd (omega (arith, l2))) (λ _. omega arith))
+      (λ none. finish_facts check s.validation (refl, λ h. cc, refl, inl (refl, omega arith)) (omega arith) (λ _. refl) (λ h. cc)))
+      (λ l. let above = not_lt_says i s.validation l in finish_facts Idle s.validation (λ h. cc) (omega arith) (λ l2. absurd (omega (arith, l2, above))) (λ _. above))
 
 -- finishing keeps the sizes
 executed_sized : (count workers w i : ℕ) (new : Bool) (s : State) → IsSized count workers s → IsSized count workers (executed w i new s)

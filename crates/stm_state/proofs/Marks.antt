@@ -3,31 +3,22 @@ use Rattle.std.proofs.Common.{◌≡◌, ◌<◌, ◌≢◌, ◌⊎◌, ◌||◌
 use Rattle.std.specs.Ordering.{eq_by_cmp, is_eq}
 use Rattle.std.specs.Cmp.{tied_itself}
 use Rattle.std.specs.Cmp.Lexicographic.{nat_list_cmp_total}
-use Rattle.std.proofs.lemmas.Bool.{cases_eq, cases_lt}
-use Rattle.std.proofs.lemmas.List.{get_or-set_same, get_or-set_other}
+use Rattle.std.proofs.lemmas.Bool.{cases_lt}
 use Rattle.rv_ledger.specs.Key.{key_cmp}
 use Rattle.mvmap.specs.Versions.{Estimate, changed, entry_at}
-use Rattle.stm_state.specs.declared.state.Status.TheVariants.{Executed, Aborting}
+use Rattle.stm_state.specs.declared.state.Status.TheVariants.{Aborting}
 use Rattle.stm_state.specs.declared.state.Task.TheVariants.{Idle, Marking}
 use Rattle.stm_state.specs.State.{State, call_at, task_at}
 use Rattle.stm_state.specs.Steps.{Block, marked}
 use Rattle.stm_state.specs.Invariant.{view_of, ViewInvariant, Invariant, IsAhead, IsAmid, IsMarked, IsUnmarkedEntry, estimate_of, has_key, lowered_by, named_by, owned_by}
-use Rattle.stm_state.proofs.Frames.{Frame, frame_kept}
+use Rattle.stm_state.proofs.Lists.{stays_at, set_at}
+use Rattle.stm_state.proofs.Frames.{Frame, StatusOwes, frame_kept, keeps_itself}
 use Rattle.stm_state.proofs.Safes.{on_below, safe_ahead, safe_other}
 use Rattle.stm_state.proofs.Tests.{resized}
 use Rattle.stm_state.proofs.Targets.{amid_step, amid_cases}
-use Rattle.stm_state.proofs.Writes.{changed_at, changed_other}
-
--- a test beside one that holds
-or_true : (a b : Bool) → b ≡ true → (a || b) ≡ true
-or_true true b h = refl
-or_true false b h = h
+use Rattle.stm_state.proofs.Writes.{changed_at, changed_other, or_true}
 
 module _ (block : Block) (s : State) (w i : ℕ) (key : List ℕ) (keys : List (List ℕ)) (f : ViewInvariant block (view_of s)) (marks : task_at s w ≡ Marking i (key ∷ keys)) (w_in : w < length s.tasks) where
-  -- the worker has call i
-  has_i : owned_by (task_at s w) ≡ Some i
-  has_i = ap owned_by marks
-
   -- the entries of call i are on their way
   is_marked : IsMarked (call_at s i) (λ k. entry_at s.versions k i) (key ∷ keys)
   is_marked = f.marking w i (key ∷ keys) marks
@@ -74,53 +65,34 @@ module _ (block : Block) (s : State) (w i : ℕ) (key : List ℕ) (keys : List (
   -- what a mark changes
   mark_frame : Frame block (view_of s) (view_of after) i w (call_at s i) (Marking i keys)
   mark_frame = record {
-    calls = λ j ne. refl;
-    tasks = λ x ne. get_or-set_other s.tasks w x (Marking i keys) Idle ne;
-    entries = λ j k ne. entry_other k j ne;
-    call = refl;
-    task = get_or-set_same s.tasks w (Marking i keys) Idle w_in;
-    execution_within = f.execution_within;
-    validation_within = f.validation_within;
-    named = λ j h. f.named w j (ap named_by marks ∙ h);
-    ready_others = λ j ne h. h;
-    ready = f.ready i;
-    was = λ j h. cc;
-    alone = λ x h. f.alone x w i h has_i;
-    now = inr (λ h. let r = is_aborting in cc, inl refl);
-    blocked = λ j b xs h. cc;
-    aborting = λ h. inr refl;
-    unparked = f.unparked i;
-    nobody_waits = λ h. let r = is_aborting in cc;
-    limit = f.limit i;
-    executed_limit = f.executed_limit i;
-    aborting_limit = f.aborting_limit i;
-    grows = omega arith;
-    past = λ n h. h;
-    versions = λ k n x h. elim (entry_cases k) [ inl same ↦ inl (same ∙ h) | inr old ↦ let version = old.1 in inr (inr (cc, is_aborting)) ];
-    known = λ k n x h. elim (entry_now k) [ inl same ↦ inl (sym same ∙ h) | inr estimate ↦ cc ];
+    calls = stays_at (call_at s) i;
+    tasks = set_at s.tasks w (Marking i keys) Idle w_in;
+    entries = record {
+      others = λ j k ne. entry_other k j ne;
+      versions = λ k n x h. elim (entry_cases k) [ inl same ↦ inl (same ∙ h) | inr old ↦ let version = old.1 in inr (inr (cc, is_aborting)) ];
+      known = λ k n x h. elim (entry_now k) [ inl same ↦ inl (sym same ∙ h) | inr estimate ↦ cc ];
+    };
+    execution = inl (omega arith);
+    validation = inl (omega arith);
+    within = f.named w i (ap named_by marks);
+    owner = inl (ap owned_by marks);
+    by_task = (refl, still_marked);
+    by_status = subst (StatusOwes (view_of s) s.execution i (call_at s i) (Marking i keys)) (sym is_aborting) (f.aborting_limit i is_aborting, inr refl);
+    grows = inr (keeps_itself (call_at s i));
     own_entries = λ ne. absurd (ne refl);
-    own_moving = λ j ks new h. cc;
-    own_marking = λ j ks h. let same_call : i ≡ j = cc in let same_keys : keys ≡ ks = cc in (sym same_call, subst (λ y. IsMarked (call_at s i) (λ k. entry_at after.versions k i) y) same_keys still_marked);
-    executed = f.executed i;
     recorded = f.recorded i;
-    answered = λ j xs waits h. cc;
-    validating = λ j n left failed h. cc;
-    current = λ x left failed ne h. f.current x i left failed h;
   }
 
   -- the calls above are seen to by this very task
   is_ahead : (j : ℕ) → i < j → IsAhead (task_at after) j
-  is_ahead j l = record { worker = w; call = i; task = ap lowered_by mark_frame.task; lower = l }
+  is_ahead j l = record { worker = w; call = i; task = ap lowered_by mark_frame.tasks.there; lower = l }
 
   -- marking a key keeps the invariant: calls below see nothing of it, and calls above are validated again
   pub marked_facts : ViewInvariant block (view_of (marked w i key keys s))
-  marked_facts = frame_kept block (view_of s) (view_of after) i w (call_at s i) (Marking i keys) mark_frame f (λ j h l. elim (cases_eq j i) [
-    | inl e ↦ let r : (call_at s j).status ≡ Aborting = ap (λ x. (call_at s x).status) e ∙ is_aborting in let q : (call_at s j).status ≡ Executed = h in cc
-    | inr ne ↦ elim (cases_lt j i) [
-      | inl below ↦ safe_other block (view_of s) (view_of after) i w (call_at s i) (Marking i keys) mark_frame j ne (λ left failed k. cc) (λ _ above. is_ahead j above)
-          (on_below (view_of s) (view_of after) j (λ k x low. entry_other k x (omega (arith, low, below)))) (f.safe j h l)
-      | inr above ↦ safe_ahead (view_of after) j (is_ahead j (omega (arith, above, ne)))
-    ]
+  marked_facts = frame_kept block (view_of s) (view_of after) i w (call_at s i) (Marking i keys) mark_frame f (λ h. let r = is_aborting in cc) (λ j ne h l. elim (cases_lt j i) [
+    | inl below ↦ safe_other block (view_of s) (view_of after) i w (call_at s i) (Marking i keys) mark_frame f j ne (λ left failed k. cc) (λ _ above. is_ahead j above)
+        (on_below (view_of s) (view_of after) j (λ k x low. entry_other k x (omega (arith, low, below)))) (f.safe j h l)
+    | inr above ↦ safe_ahead (view_of after) j (is_ahead j (omega (arith, above, ne)))
   ])
 
 -- marking a key keeps the invariant

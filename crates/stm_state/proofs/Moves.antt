@@ -2,7 +2,6 @@
 use Rattle.std.proofs.Common.{◌≡◌, ◌<◌, ◌≢◌, ◌⊎◌, ℕ, Bool, true, false, List, ◌∷◌, length, Some, arith, refl, sym, ap, subst, ◌∙◌, inl, inr, length-set}
 use Rattle.std.specs.Ordering.{eq_by_cmp}
 use Rattle.std.proofs.lemmas.Bool.{cases_eq, cases_lt}
-use Rattle.std.proofs.lemmas.List.{get_or-set_same, get_or-set_other}
 use Rattle.version_arena.specs.ArenaState.{Content}
 use Rattle.rv_ledger.specs.Key.{key_cmp}
 use Rattle.mvmap.specs.Versions.{Estimate, Stands, entry_at}
@@ -11,17 +10,14 @@ use Rattle.stm_state.specs.declared.state.Task.TheVariants.{Idle, Moving}
 use Rattle.stm_state.specs.State.{State, call_at, task_at}
 use Rattle.stm_state.specs.Steps.{Block, moved, version_of, write_of}
 use Rattle.stm_state.specs.Invariant.{view_of, ViewInvariant, AreSafe, Invariant, IsAhead, IsMoved, IsPast, IsUnmovedEntry, has_key, lowered_by, named_by, owned_by, run_by}
-use Rattle.stm_state.proofs.Frames.{Frame, frame_kept}
+use Rattle.stm_state.proofs.Lists.{stays_at, set_at}
+use Rattle.stm_state.proofs.Frames.{Frame, frame_kept, keeps_itself, still_executing}
 use Rattle.stm_state.proofs.Safes.{StandsOn, on_below, on_estimates, safe_ahead, safe_other}
 use Rattle.stm_state.proofs.Tests.{resized}
 use Rattle.stm_state.proofs.Writes.{changed_other, or_true, version_is}
 use Rattle.stm_state.proofs.Targets.{amid_step, amid_cases, left_stays}
 
 module _ (block : Block) (s : State) (w i : ℕ) (key : List ℕ) (keys : List (List ℕ)) (new : Bool) (f : ViewInvariant block (view_of s)) (moves : task_at s w ≡ Moving i (key ∷ keys) new) (w_in : w < length s.tasks) where
-  -- the worker has call i
-  has_i : owned_by (task_at s w) ≡ Some i
-  has_i = ap owned_by moves
-
   -- call i is EXECUTING
   is_executing : (call_at s i).status ≡ Executing
   is_executing = f.running w i (ap run_by moves)
@@ -70,47 +66,27 @@ module _ (block : Block) (s : State) (w i : ℕ) (key : List ℕ) (keys : List (
   -- what a move changes
   move_frame : Frame block (view_of s) (view_of after) i w (call_at s i) (Moving i keys new)
   move_frame = record {
-    calls = λ j ne. refl;
-    tasks = λ x ne. get_or-set_other s.tasks w x (Moving i keys new) Idle ne;
-    entries = λ j k ne. entry_other k j ne;
-    call = refl;
-    task = get_or-set_same s.tasks w (Moving i keys new) Idle w_in;
-    execution_within = f.execution_within;
-    validation_within = f.validation_within;
-    named = λ j h. f.named w j (ap named_by moves ∙ h);
-    ready_others = λ j ne h. h;
-    ready = f.ready i;
-    was = λ j h. cc;
-    alone = λ x h. f.alone x w i h has_i;
-    now = inl (refl, is_executing);
-    blocked = λ j b xs h. cc;
-    aborting = λ h. let r = is_executing in cc;
-    unparked = f.unparked i;
-    nobody_waits = λ h. let r = is_executing in cc;
-    limit = f.limit i;
-    executed_limit = f.executed_limit i;
-    aborting_limit = f.aborting_limit i;
-    grows = omega arith;
-    past = λ n h. h;
-    versions = λ k n x h. elim (entry_cases k) [ inl same ↦ inl (same ∙ h) | inr old ↦ elim old [ inl estimate ↦ cc | inr none ↦ let is_none = none.0 in cc ] ];
-    known = λ k n x h. elim (entry_cases k) [ inl same ↦ inl (sym same ∙ h) | inr old ↦ inr (none_stood k n old, not_past n (at_incarnation k n x h)) ];
+    calls = stays_at (call_at s) i;
+    tasks = set_at s.tasks w (Moving i keys new) Idle w_in;
+    entries = record {
+      others = λ j k ne. entry_other k j ne;
+      versions = λ k n x h. elim (entry_cases k) [ inl same ↦ inl (same ∙ h) | inr old ↦ elim old [ inl estimate ↦ cc | inr none ↦ let is_none = none.0 in cc ] ];
+      known = λ k n x h. elim (entry_cases k) [ inl same ↦ inl (sym same ∙ h) | inr old ↦ inr (none_stood k n old, not_past n (at_incarnation k n x h)) ];
+    };
+    execution = inl (omega arith);
+    validation = inl (omega arith);
+    within = f.named w i (ap named_by moves);
+    owner = inl (ap owned_by moves);
+    by_task = (refl, is_executing, still_moved);
+    by_status = still_executing block (view_of s) f i (Moving i keys new) is_executing;
+    grows = inr (keeps_itself (call_at s i));
     own_entries = λ ne. absurd (ne refl);
-    own_moving = λ j ks b h.
-        let same_call : i ≡ j = cc in
-        let same_keys : keys ≡ ks = cc in
-        let same_new : new ≡ b = cc in
-        (sym same_call, subst (λ y. IsMoved (call_at s i) (λ k. entry_at after.versions k i) ks y) same_new (subst (λ y. IsMoved (call_at s i) (λ k. entry_at after.versions k i) y new) same_keys still_moved));
-    own_marking = λ j ks h. cc;
-    executed = f.executed i;
     recorded = f.recorded i;
-    answered = λ j xs waits h. cc;
-    validating = λ j n left failed h. cc;
-    current = λ x left failed ne h. f.current x i left failed h;
   }
 
   -- with a new key the calls above are seen to by this very task
   is_ahead : new ≡ true → (j : ℕ) → i < j → IsAhead (task_at after) j
-  is_ahead new_key j l = record { worker = w; call = i; task = ap lowered_by (move_frame.task ∙ ap (Moving i keys) new_key); lower = l }
+  is_ahead new_key j l = record { worker = w; call = i; task = ap lowered_by (move_frame.tasks.there ∙ ap (Moving i keys) new_key); lower = l }
 
   -- what stands of calls below stays so
   below_stands : (j : ℕ) → j < i → StandsOn (view_of s) (view_of after) j
@@ -131,7 +107,7 @@ module _ (block : Block) (s : State) (w i : ℕ) (key : List ℕ) (keys : List (
 
   -- reads of another call stay safe, where what stands of it stays so
   still_safe : (j : ℕ) → j ≢ i → StandsOn (view_of s) (view_of after) j → AreSafe (view_of s) j → AreSafe (view_of after) j
-  still_safe j ne stood h = safe_other block (view_of s) (view_of after) i w (call_at s i) (Moving i keys new) move_frame j ne (λ left failed k. cc)
+  still_safe j ne stood h = safe_other block (view_of s) (view_of after) i w (call_at s i) (Moving i keys new) move_frame f j ne (λ left failed k. cc)
       (λ k l. is_ahead (lowers_new new (ap lowered_by (sym moves) ∙ k)) j l) stood h
 
   -- reads of another call stay safe
@@ -147,10 +123,7 @@ module _ (block : Block) (s : State) (w i : ℕ) (key : List ℕ) (keys : List (
 
   -- moving a key keeps the invariant
   pub moved_facts : ViewInvariant block (view_of (moved w i key keys new s))
-  moved_facts = frame_kept block (view_of s) (view_of after) i w (call_at s i) (Moving i keys new) move_frame f (λ j h l. elim (cases_eq j i) [
-    | inl e ↦ let r : (call_at s j).status ≡ Executing = ap (λ x. (call_at s x).status) e ∙ is_executing in let q : (call_at s j).status ≡ Executed = h in cc
-    | inr ne ↦ others_safe j ne h l
-  ])
+  moved_facts = frame_kept block (view_of s) (view_of after) i w (call_at s i) (Moving i keys new) move_frame f (λ h. let r = is_executing in cc) others_safe
 
 -- moving a key keeps the invariant
 pub move_kept : (block : Block) (workers w i : ℕ) (key : List ℕ) (keys : List (List ℕ)) (new : Bool) (s : State) → Invariant block workers s → w < workers → task_at s w ≡ Moving i (key ∷ keys) new → Invariant block workers (moved w i key keys new s)

@@ -10,7 +10,7 @@ use Rattle.mvmap.specs.Versions.{Stands, entry_at}
 use Rattle.stm_state.specs.declared.state.Status.{Status}
 use Rattle.stm_state.specs.declared.state.Status.TheVariants.{Ready, Executing, Executed, Aborting}
 use Rattle.stm_state.specs.declared.state.Task.{Task}
-use Rattle.stm_state.specs.declared.state.Task.TheVariants.{Idle, Running, Moving, Validating, Marking}
+use Rattle.stm_state.specs.declared.state.Task.TheVariants.{Running, Moving, Marking}
 use Rattle.stm_state.specs.State.{State, call_at, task_at}
 use Rattle.stm_state.specs.Steps.{Block, write_of}
 use Rattle.stm_state.specs.Invariant.{view_of, ViewInvariant, IsCovered, IsRight, IsRightAnswer, IsUnturned, IsWaiting, has_key, validated, ahead, lowered_by, marked_by, owned_by, run_by, turned_by}
@@ -22,28 +22,20 @@ use Rattle.stm_state.proofs.Whole.{invariant_kept}
 
 -- a worker that has a call runs it or moves its keys
 run_of : (s : State) (w i : ℕ) (task : Task) → task_at s w ≡ task → run_by task ≡ Some i → IsRun s i
-run_of s w i Idle at h = cc
 run_of s w i (Running j answers waits) at h = runs w answers waits (let same : j ≡ i = cc in at ∙ ap (λ x. Running x answers waits) same)
 run_of s w i (Moving j keys new) at h = moves w keys new (let same : j ≡ i = cc in at ∙ ap (λ x. Moving x keys new) same)
-run_of s w i (Validating j n left failed) at h = cc
-run_of s w i (Marking j keys) at h = cc
+run_of s w i task at h = cc
 
 -- a worker that marks a call takes it back
 taken_back_of : (s : State) (w i : ℕ) (task : Task) → task_at s w ≡ task → marked_by task ≡ Some i → IsTakenBack s i
-taken_back_of s w i Idle at h = cc
-taken_back_of s w i (Running j answers waits) at h = cc
-taken_back_of s w i (Moving j keys new) at h = cc
-taken_back_of s w i (Validating j n left failed) at h = cc
 taken_back_of s w i (Marking j keys) at h = record { worker = w; keys = keys; task = let same : j ≡ i = cc in at ∙ ap (λ x. Marking x keys) same }
+taken_back_of s w i task at h = cc
 
 -- a worker that is ahead of a call has an unfinished record with a new key, or an unfinished abort, of a lower one
 behind_of : (s : State) (w i j : ℕ) (task : Task) → task_at s w ≡ task → lowered_by task ≡ Some j → j < i → IsBehindNewKey s i ⊎ IsBehindAbort s i
-behind_of s w i j Idle at h low = cc
-behind_of s w i j (Running x answers waits) at h low = cc
 behind_of s w i j (Moving x keys true) at h low = inl (record { worker = w; call = j; keys = keys; task = let same : x ≡ j = cc in at ∙ ap (λ y. Moving y keys true) same; lower = low })
-behind_of s w i j (Moving x keys false) at h low = cc
-behind_of s w i j (Validating x n left failed) at h low = cc
 behind_of s w i j (Marking x keys) at h low = inr (record { call = j; taken_back = record { worker = w; keys = keys; task = let same : x ≡ j = cc in at ∙ ap (λ y. Marking y keys) same }; lower = low })
+behind_of s w i j task at h low = cc
 
 module _ (block : Block) (s : State) (f : ViewInvariant block (view_of s)) where
   -- part 1

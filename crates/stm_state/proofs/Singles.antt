@@ -41,33 +41,24 @@ module _ (s u : State) (counts : u.counts ≡ s.counts) (dones : u.dones ≡ s.d
   same_dones : dones_of 0 u ≡ dones_of 0 s
   same_dones = ap (λ l. get_or l 0 0) dones
 
-  after_step : Did asked run decided (counted one_step 0 u)
-  after_step = record {
-    asks = let is = ap (λ (c : Counts). c.asks) (count one_step) in let was = h.asks in let d = same_dones in omega (arith, is, was, d);
-    executions = ap (λ (c : Counts). c.executions) (count one_step) ∙ h.executions;
-    validations = ap (λ (c : Counts). c.validations) (count one_step) ∙ h.validations;
+  after_counted : (add : Counts → Counts) (asked2 run2 decided2 : ℕ) → (add (did_by s)).asks ≡ asked2 + dones_of 0 s → (add (did_by s)).executions ≡ run2 → (add (did_by s)).validations ≡ decided2 → Did asked2 run2 decided2 (counted add 0 u)
+  after_counted add asked2 run2 decided2 asks executions validations = record {
+    asks = ap (λ (c : Counts). c.asks) (count add) ∙ asks ∙ ap (λ n. asked2 + n) (sym same_dones);
+    executions = ap (λ (c : Counts). c.executions) (count add) ∙ executions;
+    validations = ap (λ (c : Counts). c.validations) (count add) ∙ validations;
   }
+
+  after_step : Did asked run decided (counted one_step 0 u)
+  after_step = after_counted one_step asked run decided h.asks h.executions h.validations
 
   after_asking : Did (asked + 1) run decided (counted one_asking 0 u)
-  after_asking = record {
-    asks = let is = ap (λ (c : Counts). c.asks) (count one_asking) in let was = h.asks in let d = same_dones in omega (arith, is, was, d);
-    executions = ap (λ (c : Counts). c.executions) (count one_asking) ∙ h.executions;
-    validations = ap (λ (c : Counts). c.validations) (count one_asking) ∙ h.validations;
-  }
+  after_asking = after_counted one_asking (asked + 1) run decided (let was = h.asks in omega (arith, was)) h.executions h.validations
 
   after_execution : Did asked (run + 1) decided (counted one_execution 0 u)
-  after_execution = record {
-    asks = let is = ap (λ (c : Counts). c.asks) (count one_execution) in let was = h.asks in let d = same_dones in omega (arith, is, was, d);
-    executions = let is = ap (λ (c : Counts). c.executions) (count one_execution) in let was = h.executions in omega (arith, is, was);
-    validations = ap (λ (c : Counts). c.validations) (count one_execution) ∙ h.validations;
-  }
+  after_execution = after_counted one_execution asked (run + 1) decided h.asks (ap (λ n. n + 1) h.executions) h.validations
 
   after_validation : Did asked run (decided + 1) (counted one_validation 0 u)
-  after_validation = record {
-    asks = let is = ap (λ (c : Counts). c.asks) (count one_validation) in let was = h.asks in let d = same_dones in omega (arith, is, was, d);
-    executions = ap (λ (c : Counts). c.executions) (count one_validation) ∙ h.executions;
-    validations = let is = ap (λ (c : Counts). c.validations) (count one_validation) in let was = h.validations in omega (arith, is, was);
-  }
+  after_validation = after_counted one_validation asked run (decided + 1) h.asks h.executions (ap (λ n. n + 1) h.validations)
 
 -- counts are told by their numbers
 same_counts : (c d : Counts) → c.steps ≡ d.steps → c.asks ≡ d.asks → c.executions ≡ d.executions → c.validations ≡ d.validations → c ≡ d

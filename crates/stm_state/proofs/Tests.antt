@@ -4,36 +4,30 @@ use Rattle.std.specs.List.{list_all}
 use Rattle.std.proofs.lemmas.Bool.{and_parts}
 use Rattle.std.proofs.lemmas.Bool.Decides.{nat_tests}
 use Rattle.stm_state.specs.declared.state.Status.{Status}
-use Rattle.stm_state.specs.declared.state.Status.TheVariants.{Ready, Executing, Executed, Aborting}
+use Rattle.stm_state.specs.declared.state.Status.TheVariants.{Ready, Executed, Aborting}
 use Rattle.stm_state.specs.declared.state.Task.{Task}
-use Rattle.stm_state.specs.declared.state.Task.TheVariants.{Idle, Running, Moving, Validating, Marking}
+use Rattle.stm_state.specs.declared.state.Task.TheVariants.{Idle}
 use Rattle.stm_state.specs.State.{State, is_ready, is_executed, is_aborting, is_idle, is_done}
 use Rattle.stm_state.specs.Invariant.{IsSized}
 
 -- what tests of a status say
 pub is_ready_says : (s : Status) → is_ready s ≡ true → s ≡ Ready
 is_ready_says Ready h = refl
-is_ready_says Executing h = cc
-is_ready_says Executed h = cc
-is_ready_says Aborting h = cc
+is_ready_says s h = cc
 
 pub not_ready_says : (s : Status) → is_ready s ≡ false → s ≢ Ready
 not_ready_says s h e = let r : is_ready s ≡ true = ap is_ready e in cc
 
 pub is_executed_says : (s : Status) → is_executed s ≡ true → s ≡ Executed
-is_executed_says Ready h = cc
-is_executed_says Executing h = cc
 is_executed_says Executed h = refl
-is_executed_says Aborting h = cc
+is_executed_says s h = cc
 
 pub not_executed_says : (s : Status) → is_executed s ≡ false → s ≢ Executed
 not_executed_says s h e = let r : is_executed s ≡ true = ap is_executed e in cc
 
 pub is_aborting_says : (s : Status) → is_aborting s ≡ true → s ≡ Aborting
-is_aborting_says Ready h = cc
-is_aborting_says Executing h = cc
-is_aborting_says Executed h = cc
 is_aborting_says Aborting h = refl
+is_aborting_says s h = cc
 
 -- what tests of numbers say
 pub lt_says : (a b : ℕ) → nat_lt a b ≡ true → a < b
@@ -63,10 +57,7 @@ equal_itself a = grind (arith, nat_tests)
 -- what the test of a task says
 pub idle_says : (task : Task) → is_idle task ≡ true → task ≡ Idle
 idle_says Idle h = refl
-idle_says (Running i answers blocked) h = cc
-idle_says (Moving i keys new) h = cc
-idle_says (Validating i n left failed) h = cc
-idle_says (Marking i keys) h = cc
+idle_says task h = cc
 
 -- where all tasks of a list are idle, so is the one at each index, and past the end
 all_idle : (tasks : List Task) (w : ℕ) → list_all is_idle tasks ≡ true → get_or tasks w Idle ≡ Idle
