@@ -1,4 +1,4 @@
-//! A core whose workers make their steps along a list of worker numbers.
+//! The steps of a core's workers, made one by one along a list of worker numbers.
 
 ghost use Rattle.std.specs.Prelude.{◌≡◌, ◌<◌, None, length, get_or};
 ghost use Rattle.rv_step.specs.Run.{IsEnded};
@@ -9,7 +9,7 @@ ghost use Rattle.stm_state.specs.declared.state.Task.TheVariants.{Running};
 ghost use Rattle.stm_core.specs.CoreState.{IsDue, answers_of};
 
 use crate::images::{copy_of, job_of};
-use crate::rows::{LATE_WRITER, Row, WITHDRAWN_WRITE, has_text};
+use crate::rows::{LATE_WRITER, Row, WITHDRAWN_WRITE, assert_text};
 use crate::runs::{answer, go, start_run};
 use rv_ledger::{Counts, Job, Key, Outcome};
 use rv_step::{Pause, Run};
@@ -19,14 +19,14 @@ use std::process::Abort;
 use std::test::Fail;
 use stm_core::{Core, NextStep, ReadResult, RecordFault, Refused};
 
-/// The number of workers of each core.
+/// The number of workers of each core. A list may leave one of them without a step.
 const WORKERS: usize = 3;
 
-/// What a core answers of a worker that it has: the step that the worker owes, its counts, and how often it was
-/// answered Done; and whether all is done.
+/// What a core answers about a worker: the step that it owes, its counts, and how often it was told that all is done.
+/// The last is whether all is done.
 type Answers = Option<(NextStep, Counts, u64, bool)>;
 
-/// What a core answers of a worker.
+/// What a core answers about a worker; None where it has no worker of that number.
 fn answers_of_worker(core: &Core, worker: usize) -> Answers {
     if worker < core.workers() {
         Some((
@@ -40,7 +40,7 @@ fn answers_of_worker(core: &Core, worker: usize) -> Answers {
     }
 }
 
-/// What a core answers of all its workers.
+/// What a core answers about all its workers.
 fn answers_of_all(core: &Core) -> [Answers; WORKERS] {
     [
         answers_of_worker(core, 0),
@@ -57,7 +57,7 @@ fn start(alloc: Global, job: &Job) -> Result<Core, AllocError> {
     }
 }
 
-/// Makes the step that a worker owes. `run` is the worker's run.
+/// Makes the step that a worker owes. `run` is its run under way.
 fn step(
     rt: &impl Abort,
     alloc: Global,
@@ -85,8 +85,8 @@ fn step(
     Ok(())
 }
 
-/// Lets a worker's run go on to its next read or its end, and makes that step. Gives the run where it has not
-/// ended.
+/// Lets a worker's run go on to its next read or its end, and makes that step. Gives the run that is under way
+/// then.
 fn run_on(
     rt: &impl Abort,
     alloc: Global,
@@ -113,8 +113,8 @@ fn run_on(
     }
 }
 
-/// Reads the key that a worker's run asks for. Room for the answer that is refused leaves the core as it was, and
-/// is made at the second try. Gives the run, unless it met an estimate.
+/// Reads the key that a worker's run asks for. Where room for the answer is refused, the core answers as before, and
+/// the second try makes it. Gives the run with its answer, unless it met an estimate.
 fn read(
     rt: &impl Abort,
     core: &mut Core,
@@ -139,8 +139,8 @@ fn read(
     }
 }
 
-/// Hands a worker's ended run in. One that is refused as Memory leaves the core as it was, and the run that is
-/// handed back is taken at the second try.
+/// Hands a worker's ended run in. Where that is refused, it is as Memory; the core answers as before, and takes the
+/// run that it handed back at the second try.
 fn hand_in(
     rt: &impl Abort,
     alloc: Global,
@@ -183,16 +183,26 @@ fn outcome_of(rt: &impl Abort, alloc: Global, core: &Core) -> Result<Outcome, Al
     }
 }
 
-/// Asserts that a core comes to the outcome of a row.
+/// The outcome of a core after the steps of a list of worker numbers.
+fn outcome_after(
+    rt: &impl Abort,
+    alloc: Global,
+    mut core: Core,
+    schedule: &[u16],
+) -> Result<Outcome, Fail> {
+    follow(rt, alloc, &mut core, schedule)?;
+    Ok(outcome_of(rt, alloc, &core)?)
+}
+
+/// Asserts that a core comes to a row's outcome.
 fn assert_row(rt: &impl Abort, alloc: Global, row: &Row) -> Result<(), Fail> {
-    let mut core = start(alloc, &job_of(alloc, row.calls)?)?;
-    follow(rt, alloc, &mut core, row.schedule)?;
-    let outcome = outcome_of(rt, alloc, &core)?;
-    assert!(rt; has_text(alloc, &outcome, row.text)?, "{}", row.name);
+    let job = job_of(alloc, row.calls)?;
+    let outcome = outcome_after(rt, alloc, start(alloc, &job)?, row.schedule)?;
+    assert_text(rt, alloc, &outcome, row.text)?;
     Ok(())
 }
 
-/// Cores come to the right outcomes, with each growth that is refused tried once more.
+/// Cores come to the right outcomes.
 #[test]
 fn core_growths_refused(rt: HostRuntime) -> Result<(), Fail> {
     assert_row(&rt, rt.alloc(), &LATE_WRITER)?;

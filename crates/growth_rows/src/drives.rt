@@ -1,14 +1,14 @@
 //! The engine along a list of worker numbers.
 
 use crate::images::{COUNT, KEY, job_of};
-use crate::rows::{LATE_WRITER, Row, WITHDRAWN_WRITE, are_counts, has_text};
+use crate::rows::{LATE_WRITER, Row, WITHDRAWN_WRITE, are_counts, assert_text};
 use rv_ledger::{Job, Outcome};
 use std::alloc::Global;
 use std::process::Abort;
 use std::test::Fail;
 use stm_core::{DriveFault, drive};
 
-/// What a list of worker numbers comes to. One that is refused as Memory is followed once more.
+/// Runs a job along a list of worker numbers, once more where that is refused as Memory.
 fn driven(
     alloc: Global,
     job: &Job,
@@ -21,7 +21,7 @@ fn driven(
     }
 }
 
-/// Two counts by one worker come to the right outcome, at the second try where they are refused as Memory.
+/// Two calls of COUNT by one worker come to the right outcome.
 #[test]
 fn counts_growths_refused(rt: HostRuntime) -> Result<(), Fail> {
     let alloc = rt.alloc();
@@ -31,15 +31,15 @@ fn counts_growths_refused(rt: HostRuntime) -> Result<(), Fail> {
     Ok(())
 }
 
-/// Asserts that a row's list of worker numbers comes to its outcome.
+/// Asserts that a row comes to its outcome.
 fn assert_row(rt: &impl Abort, alloc: Global, row: &Row) -> Result<(), Fail> {
     let job = job_of(alloc, row.calls)?;
     let outcome = driven(alloc, &job, row.workers, row.schedule)?;
-    assert!(rt; has_text(alloc, &outcome, row.text)?, "{}", row.name);
+    assert_text(rt, alloc, &outcome, row.text)?;
     Ok(())
 }
 
-/// So do blocks whose workers abort calls and withdraw writes.
+/// So do blocks in which a call is aborted and a write is withdrawn.
 #[test]
 fn drive_growths_refused(rt: HostRuntime) -> Result<(), Fail> {
     assert_row(&rt, rt.alloc(), &LATE_WRITER)?;

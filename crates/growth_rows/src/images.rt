@@ -1,7 +1,8 @@
-//! Images and calls of sources, each growth tried a second time.
+//! Programs of sources, their calls, and jobs. Each growth that is refused is tried once more.
 
 use elf32::{ElfError, Image, load, write};
 use rv_ledger::{Call, Job, Outcome, Store};
+use rv_program::Program;
 use rv_text::{AsmCause, AsmError, assemble};
 use seq_exec::run_in_order;
 use std::alloc::{AllocError, Global};
@@ -46,38 +47,56 @@ pub const COND: &str = "addi s0,a0,32\necall\naddi t0,x0,-1\nbne a0,t0,16\naddi 
 /// A key of 32 bytes.
 pub const KEY: &[u8] = &[0x28; 32];
 
-/// The image of a source. A call that is refused as Memory is made once more.
-fn image_of(alloc: Global, source: &str) -> Result<Image, Fail> {
-    let program = match assemble(alloc, source) {
+/// The program of a source. A call that is refused as Memory is made once more.
+fn program_of(alloc: Global, source: &str) -> Result<Program, AsmError> {
+    match assemble(alloc, source) {
         Err(
             AsmError {
                 cause: AsmCause::Memory,
                 ..
             },
-        ) => assemble(alloc, source)?,
-        answer => answer?,
-    };
-    let file = match write(alloc, &program) {
-        Err(ElfError::Memory) => write(alloc, &program)?,
-        answer => answer?,
-    };
-    Ok(match load(alloc, file.as_slice()) {
-        Err(ElfError::Memory) => load(alloc, file.as_slice())?,
-        answer => answer?,
-    })
+        ) => assemble(alloc, source),
+        answer => answer,
+    }
+}
+
+/// The file of a program. A call that is refused as Memory is made once more.
+fn file_of(alloc: Global, program: &Program) -> Result<Vec<u8>, ElfError> {
+    match write(alloc, program) {
+        Err(ElfError::Memory) => write(alloc, program),
+        answer => answer,
+    }
+}
+
+/// The image of a file. A call that is refused as Memory is made once more.
+fn image_of(alloc: Global, file: &[u8]) -> Result<Image, ElfError> {
+    match load(alloc, file) {
+        Err(ElfError::Memory) => load(alloc, file),
+        answer => answer,
+    }
+}
+
+/// An image that calls can share. A growth that is refused is tried once more.
+fn shared(alloc: Global, image: Image) -> Result<Arc<Image>, AllocError> {
+    match Arc::new(alloc, image) {
+        Ok(image) => Ok(image),
+        Err(refused) => Ok(Arc::new(alloc, refused.value)?),
+    }
+}
+
+/// The bytes of an input. A growth that is refused is tried once more.
+fn input_of(alloc: Global, bytes: &[u8]) -> Result<Vec<u8>, AllocError> {
+    match bytes.to_vec(alloc) {
+        Ok(input) => Ok(input),
+        Err(_) => bytes.to_vec(alloc),
+    }
 }
 
 /// A call of a source.
 pub fn call_of(alloc: Global, source: &str, input: &[u8]) -> Result<Call, Fail> {
-    let image = match Arc::new(alloc, image_of(alloc, source)?) {
-        Ok(image) => image,
-        Err(_) => Arc::new(alloc, image_of(alloc, source)?)?,
-    };
-    let input = match input.to_vec(alloc) {
-        Ok(input) => input,
-        Err(_) => input.to_vec(alloc)?,
-    };
-    Ok(Call::new(image, GAS, input)?)
+    let file = file_of(alloc, &program_of(alloc, source)?)?;
+    let image = shared(alloc, image_of(alloc, file.as_slice())?)?;
+    Ok(Call::new(image, GAS, input_of(alloc, input)?)?)
 }
 
 /// A job of calls, each a source and its input. A growth that is refused is tried once more.
@@ -100,10 +119,16 @@ pub fn copy_of(job: &Job) -> Result<Job, AllocError> {
     }
 }
 
-/// What running a job in order leaves. A growth that is refused is tried once more.
-pub fn in_order(alloc: Global, job: &Job) -> Result<Outcome, Fail> {
+/// The outcome of running a job in order. A growth that is refused is tried once more.
+fn in_order(alloc: Global, job: &Job) -> Result<Outcome, AllocError> {
     match run_in_order(alloc, job) {
         Ok(outcome) => Ok(outcome),
-        Err(_) => Ok(run_in_order(alloc, job)?),
+        Err(_) => run_in_order(alloc, job),
     }
+}
+
+/// The outcome of a block of one call of TOUCH.
+pub fn touch_outcome(alloc: Global) -> Result<Outcome, Fail> {
+    let job = job_of(alloc, &[(TOUCH, KEY)])?;
+    Ok(in_order(alloc, &job)?)
 }

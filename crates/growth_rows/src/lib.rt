@@ -1,4 +1,15 @@
-//! Tests of library calls of which one request for memory is refused.
+//! Tests of library calls in which one request for memory fails. `scripts/growths` runs each test again and again:
+//! its first request fails, then its second, and so on. Without that script none fails.
+//!
+//! A call that is refused is made once more, and must then give the right result. A call whose refusals have
+//! names must be refused as Memory, and `run_block` as Memory or as Spawn. What a refused call leaves is looked at
+//! in these cases alone:
+//!
+//! - after `step_one`, the pc, the registers, the gas and the word that the program writes,
+//! - after `room_for_read` and `record`, what the core answers about each worker, and whether all is done,
+//! - after `write_outcome`, the text that was written,
+//! - after `run_to` and `back`, the moment of the replay,
+//! - after `run_block`, the executor, which must run another block.
 #![tactic(auto)]
 
 #[cfg(test)]

@@ -1,19 +1,19 @@
 //! The debugger's replay of a call.
 
-use crate::images::{KEY, TOUCH, in_order, job_of};
+use crate::images::touch_outcome;
 use debugger::{Replay, ReplayFault};
 use rv_ledger::Outcome;
 use std::alloc::Global;
 use std::process::Abort;
 use std::test::Fail;
 
-/// The moment at which TOUCH has ended.
+/// The moment before the last instruction of TOUCH.
 const LAST_MOMENT: u64 = 8;
 
-/// The address of its last instruction.
+/// The address of that instruction.
 const LAST_PC: u32 = 0x0001_0020;
 
-/// The replay of the call of an outcome. One that is refused as Memory is opened once more.
+/// The replay of the first call of an outcome. A call that is refused as Memory is made once more.
 fn open(alloc: Global, outcome: &Outcome) -> Result<Replay, ReplayFault> {
     match Replay::open(alloc, outcome, 0) {
         Err(ReplayFault::Memory) => Replay::open(alloc, outcome, 0),
@@ -21,40 +21,50 @@ fn open(alloc: Global, outcome: &Outcome) -> Result<Replay, ReplayFault> {
     }
 }
 
-/// Runs a replay to the last instruction. Where that is refused as Memory, the replay stands at a moment before it,
-/// and goes on at the second try.
+/// The replay of a call of TOUCH.
+fn replay_of(alloc: Global) -> Result<Replay, Fail> {
+    let outcome = touch_outcome(alloc)?;
+    Ok(open(alloc, &outcome)?)
+}
+
+/// Whether a replay stands before the last instruction.
+fn is_at_last(replay: &Replay) -> bool {
+    replay.moment() == LAST_MOMENT && replay.pc() == LAST_PC
+}
+
+/// Runs a replay to the last instruction. Where that is refused as Memory, the replay stands at an earlier moment,
+/// and the second try gets there.
 fn run_to_last(rt: &impl Abort, replay: &mut Replay) -> Result<(), ReplayFault> {
     match replay.run_to(LAST_PC) {
         Err(ReplayFault::Memory) => {
             assert!(rt; replay.moment() < LAST_MOMENT);
-            replay.run_to(LAST_PC)
+            replay.run_to(LAST_PC)?;
         }
-        answer => answer,
+        answer => answer?,
     }
+    assert!(rt; is_at_last(replay));
+    Ok(())
 }
 
-/// Takes a replay back from the last moment. Where that is refused as Memory, nothing changes, and the second try
-/// succeeds.
+/// Takes a replay one moment back from there. Where that is refused as Memory, the replay has not moved, and the
+/// second try succeeds.
 fn back(rt: &impl Abort, replay: &mut Replay) -> Result<(), ReplayFault> {
     match replay.back() {
         Err(ReplayFault::Memory) => {
-            assert!(rt; replay.moment() == LAST_MOMENT && replay.pc() == LAST_PC);
-            replay.back()
+            assert!(rt; is_at_last(replay));
+            replay.back()?;
         }
-        answer => answer,
+        answer => answer?,
     }
+    assert_eq!(rt; replay.moment(), LAST_MOMENT - 1);
+    Ok(())
 }
 
-/// A replay of TOUCH goes to its end and one step back.
+/// A replay of TOUCH goes to the last instruction, and then one moment back.
 #[test]
 fn replay_growths_refused(rt: HostRuntime) -> Result<(), Fail> {
-    let alloc = rt.alloc();
-    let outcome = in_order(alloc, &job_of(alloc, &[(TOUCH, KEY)])?)?;
-    let mut replay = open(alloc, &outcome)?;
+    let mut replay = replay_of(rt.alloc())?;
     run_to_last(&rt, &mut replay)?;
-    assert_eq!(rt; replay.moment(), LAST_MOMENT);
-    assert_eq!(rt; replay.pc(), LAST_PC);
     back(&rt, &mut replay)?;
-    assert_eq!(rt; replay.moment(), LAST_MOMENT - 1);
     Ok(())
 }

@@ -1,11 +1,12 @@
-//! Blocks, the steps of their workers, and the right outcome of each.
+//! Blocks with the steps of their workers, and what is right of each outcome.
 
 use crate::images::{COND, GET, PUT, SEEN};
 use receipts::result_text;
 use rv_ledger::{End, Key, Outcome, Receipt, Value};
 use std::alloc::{AllocError, Global};
+use std::process::Abort;
 
-/// The key of `late_writer`.
+/// The key of LATE_WRITER.
 const K: &[u8] = b"\0\0\0\0\0\0\0\0\0\0\0\0\0\0\0\0\0\0\0\0\0\0\0\0\0\0\0\0\0\0\0\x01";
 
 /// That key and the byte 1.
@@ -14,7 +15,7 @@ const K_1: &[u8] = b"\0\0\0\0\0\0\0\0\0\0\0\0\0\0\0\0\0\0\0\0\0\0\0\0\0\0\0\0\0\
 /// That key and the byte 2.
 const K_2: &[u8] = b"\0\0\0\0\0\0\0\0\0\0\0\0\0\0\0\0\0\0\0\0\0\0\0\0\0\0\0\0\0\0\0\x01\x02";
 
-/// The first key of `withdrawn_write` and the byte 1.
+/// The first key of WITHDRAWN_WRITE and the byte 1.
 const A_1: &[u8] = b"\0\0\0\0\0\0\0\0\0\0\0\0\0\0\0\0\0\0\0\0\0\0\0\0\0\0\0\0\0\0\0\xaa\x01";
 
 /// Its second key.
@@ -24,23 +25,20 @@ const B: &[u8] = b"\0\0\0\0\0\0\0\0\0\0\0\0\0\0\0\0\0\0\0\0\0\0\0\0\0\0\0\0\0\0\
 const A_B: &[u8] = b"\0\0\0\0\0\0\0\0\0\0\0\0\0\0\0\0\0\0\0\0\0\0\0\0\0\0\0\0\0\0\0\xaa\
     \0\0\0\0\0\0\0\0\0\0\0\0\0\0\0\0\0\0\0\0\0\0\0\0\0\0\0\0\0\0\0\xbb";
 
-/// A block, the steps of its workers, and the text of its right outcome.
+/// A block, the steps of its workers, and its result.
 pub struct Row {
-    /// Its name.
-    pub name: &'static str,
     /// The source and the input of each call.
     pub calls: &'static [(&'static str, &'static [u8])],
     /// The number of workers.
     pub workers: usize,
     /// The worker of each step.
     pub schedule: &'static [u16],
-    /// The text of the outcome.
+    /// The text of the result.
     pub text: &'static str,
 }
 
-/// Two writers of a key and a reader of it. The reader first reads what the first call wrote, and is aborted.
+/// Two writers of a key and a reader of it. The reader first reads what the first call wrote, and is aborted then.
 pub const LATE_WRITER: Row = Row {
-    name: "late_writer",
     calls: &[(PUT, K_1), (PUT, K_2), (GET, K)],
     workers: 3,
     schedule: &[
@@ -71,7 +69,6 @@ pub const LATE_WRITER: Row = Row {
 /// A writer of a key, a call that writes another key where the first has no value, and a reader of that key. The
 /// write of the second call is made, and then withdrawn.
 pub const WITHDRAWN_WRITE: Row = Row {
-    name: "withdrawn_write",
     calls: &[(PUT, A_1), (COND, A_B), (SEEN, B)],
     workers: 2,
     schedule: &[
@@ -99,10 +96,10 @@ pub const WITHDRAWN_WRITE: Row = Row {
         end\n",
 };
 
-/// The input of the one call of a block, which returns it.
+/// An input of ECHO.
 pub const ECHOED: &[u8] = b"\x01\x02";
 
-/// The text of the outcome of that block.
+/// The result of a block of one call of ECHO with that input.
 pub const ECHO_TEXT: &str = "\
     call 0 returned gas 13 pc 00010004 out 0102\n\
     regs 00000000 00000000 00110000 00000000 00000000 00000000 00000000 00000000 \
@@ -111,17 +108,23 @@ pub const ECHO_TEXT: &str = "\
     00000000 00000000 00000000 00000000 00000000 00000000 00000000 00000000\n\
     end\n";
 
-/// Whether the text of an outcome is this. A growth that is refused is tried once more.
-pub fn has_text(alloc: Global, outcome: &Outcome, text: &str) -> Result<bool, AllocError> {
+/// Asserts that the result of an outcome has this text. A growth that is refused is tried once more.
+pub fn assert_text(
+    rt: &impl Abort,
+    alloc: Global,
+    outcome: &Outcome,
+    text: &str,
+) -> Result<(), AllocError> {
     let receipts = outcome.receipts.as_slice();
     let found = match result_text(alloc, receipts, &outcome.store) {
         Ok(found) => found,
         Err(_) => result_text(alloc, receipts, &outcome.store)?,
     };
-    Ok(found.as_str() == text)
+    assert_eq!(rt; found.as_str(), text);
+    Ok(())
 }
 
-/// Whether this is the right outcome of calls of COUNT: each counts the key up by one.
+/// Whether the calls of COUNT ended as they must: each counts the key up by one, and the storage has no other key.
 pub fn are_counts(outcome: &Outcome, calls: u32) -> bool {
     let key = Key::new([0x28; 32]);
     let mut count = 0_u32;
@@ -131,10 +134,11 @@ pub fn are_counts(outcome: &Outcome, calls: u32) -> bool {
             return false;
         }
     }
-    let Some(value) = outcome.store.get(&key) else {
+    let mut entries = outcome.store.iter();
+    let Some((found, value)) = entries.next() else {
         return false;
     };
-    count == calls && is_number(value, count)
+    count == calls && *found == key && is_number(value, count) && entries.next().is_none()
 }
 
 /// Whether this is the receipt of a call of COUNT that counts a key up to this number.

@@ -52,13 +52,18 @@ fn receipt_of(mut run: Run) -> Result<Option<Receipt>, AllocError> {
     }
 }
 
+/// Whether a call returned at this pc and used this gas.
+fn is_end(receipt: &Receipt, gas: u32, pc: u32) -> bool {
+    receipt.end == End::Returned && receipt.gas == gas && receipt.pc == pc
+}
+
 /// The pc of a machine, its registers, the gas that it has left, and the word of TOUCH.
 fn state_of(machine: &Machine) -> (u32, Regs, u32, Result<u32, Fault>) {
     let cell = machine.memory.load32(CELL);
     (machine.pc, machine.regs, machine.gas.left(), cell)
 }
 
-/// Makes an instruction. One that is refused changes nothing, and is made at the second try.
+/// Makes one instruction. Where that is refused, the machine is as before, and the second try makes it.
 fn step(rt: &impl Abort, run: &mut Run) -> Result<(), AllocError>
     requires { IsTrue (is_running run.old.stage) }
 {
@@ -70,54 +75,63 @@ fn step(rt: &impl Abort, run: &mut Run) -> Result<(), AllocError>
     run.step_one()
 }
 
-/// A run of TOUCH after its last instruction, each made alone.
-fn stepped(rt: &impl Abort, alloc: Global) -> Result<Run, Fail> {
-    let mut run = start_run(alloc, &call_of(alloc, TOUCH, b"")?)?;
+/// A run of a source at its start.
+fn run_of(alloc: Global, source: &str, input: &[u8]) -> Result<Run, Fail> {
+    let call = call_of(alloc, source, input)?;
+    Ok(start_run(alloc, &call)?)
+}
+
+/// Makes the instructions of a run one by one, 16 at most.
+fn step_through(rt: &impl Abort, run: &mut Run) -> Result<(), AllocError> {
     for _ in 0..16 {
         if !run.is_running() {
             break;
         }
-        step(rt, &mut run)?;
+        step(rt, run)?;
     }
-    Ok(run)
-}
-
-/// The store of TOUCH copies a page, which may be refused.
-#[test]
-fn touch_growth_refused(rt: HostRuntime) -> Result<(), Fail> {
-    let Some(receipt) = receipt_of(stepped(&rt, rt.alloc())?)? else {
-        panic!(rt; "it asks for a key");
-    };
-    assert_eq!(rt; receipt.end, End::Returned);
-    assert_eq!(rt; receipt.gas, 24);
-    assert_eq!(rt; receipt.pc, 0x0001_0020);
-    assert_eq!(rt; receipt.out.bytes(), b"\x08\0\0\0".as_slice());
     Ok(())
 }
 
-/// A run of LEN that was given a value which is longer than its room.
-fn answered(alloc: Global) -> Result<Option<Run>, Fail> {
-    let mut run = start_run(alloc, &call_of(alloc, LEN, KEY)?)?;
-    let Pause::Ask(_) = go(&mut run)? else {
-        return Ok(None);
+/// Lets a run of TOUCH go on to its end, and asserts that this is the right one.
+fn assert_touched(rt: &impl Abort, run: Run) -> Result<(), AllocError> {
+    let Some(receipt) = receipt_of(run)? else {
+        panic!(rt; "it asks for a key");
     };
-    let value = Value::of(&[0x11; 64]);
-    answer(&mut run, value.as_ref(), Origin::Base)?;
-    Ok(Some(run))
+    assert!(rt; is_end(&receipt, 24, 0x0001_0020));
+    assert!(rt; receipt.out.bytes() == b"\x08\0\0\0".as_slice());
+    Ok(())
 }
 
-/// A run goes on after a growth that was refused.
+/// The store of TOUCH copies a page, which may be refused: once instruction by instruction, and once on the way to
+/// the end.
+#[test]
+fn touch_growth_refused(rt: HostRuntime) -> Result<(), Fail> {
+    let mut run = run_of(rt.alloc(), TOUCH, b"")?;
+    step_through(&rt, &mut run)?;
+    assert_touched(&rt, run)?;
+    assert_touched(&rt, run_of(rt.alloc(), TOUCH, b"")?)?;
+    Ok(())
+}
+
+/// Gives a run of LEN a value that is longer than its room. Gives false where the run asks for no key.
+fn answer_long(run: &mut Run) -> Result<bool, AllocError> {
+    let Pause::Ask(_) = go(run)? else {
+        return Ok(false);
+    };
+    let value = Value::of(&[0x11; 64]);
+    answer(run, value.as_ref(), Origin::Base)?;
+    Ok(true)
+}
+
+/// A run of LEN goes on after a growth that was refused.
 #[test]
 fn length_growths_refused(rt: HostRuntime) -> Result<(), Fail> {
-    let Some(run) = answered(rt.alloc())? else {
-        panic!(rt; "it asks for no key");
-    };
+    let mut run = run_of(rt.alloc(), LEN, KEY)?;
+    assert!(rt; answer_long(&mut run)?);
     let Some(receipt) = receipt_of(run)? else {
         panic!(rt; "it asks for a second key");
     };
-    assert_eq!(rt; receipt.end, End::Returned);
-    assert_eq!(rt; receipt.gas, 214);
-    assert_eq!(rt; receipt.pc, 0x0001_0014);
-    assert_eq!(rt; receipt.regs.values()[10], 0xffff_fffe);
+    assert!(rt; is_end(&receipt, 214, 0x0001_0014));
+    assert!(rt; receipt.regs.values()[10] == 0xffff_fffe);
     Ok(())
 }

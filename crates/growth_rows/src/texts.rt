@@ -1,6 +1,6 @@
 //! Texts that are read and written.
 
-use crate::images::{KEY, TOUCH, in_order, job_of};
+use crate::images::touch_outcome;
 use block_file::{BlockFault, Cause, parse};
 use receipts::{WriteFault, write_outcome};
 use rv_ledger::Outcome;
@@ -8,7 +8,7 @@ use std::alloc::{AllocError, Global};
 use std::process::Abort;
 use std::test::Fail;
 
-/// The text of a block of one call of TOUCH, whose word lies at 0x00020000.
+/// The result of a block of one call of TOUCH. Its word lies at 0x00020000.
 const TOUCH_TEXT: &[u8] = b"\
     call 0 returned gas 24 pc 00010020 out 08000000\n\
     regs 00000000 00000000 00110000 00000000 00000000 00020000 00000008 00000000 \
@@ -25,8 +25,8 @@ fn room(alloc: Global) -> Result<Vec<u8>, AllocError> {
     }
 }
 
-/// Writes the result of TOUCH. Where that is refused as Memory, a beginning of the text was written, and the second
-/// try writes the whole.
+/// Writes the result of TOUCH. Where that is refused as Memory, a beginning of the text was written, and the result
+/// is written once more.
 fn write(
     rt: &impl Abort,
     alloc: Global,
@@ -43,14 +43,12 @@ fn write(
     }
 }
 
-/// The result of TOUCH is written as the whole of its text, at the second try where it is refused as Memory.
+/// The whole result of TOUCH is written, at the second try where the first is refused as Memory.
 #[test]
 fn write_growths_refused(rt: HostRuntime) -> Result<(), Fail> {
-    let alloc = rt.alloc();
-    let outcome = in_order(alloc, &job_of(alloc, &[(TOUCH, KEY)])?)?;
-    let mut text = room(alloc)?;
-    write(&rt, alloc, &outcome, &mut text)?;
-    assert_eq!(rt; text.as_slice(), TOUCH_TEXT);
+    let mut text = room(rt.alloc())?;
+    write(&rt, rt.alloc(), &touch_outcome(rt.alloc())?, &mut text)?;
+    assert!(rt; text.as_slice() == TOUCH_TEXT);
     Ok(())
 }
 

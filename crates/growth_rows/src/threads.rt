@@ -1,7 +1,7 @@
 //! Blocks run by threads.
 
 use crate::images::{COUNT, ECHO, KEY, copy_of, job_of};
-use crate::rows::{ECHO_TEXT, ECHOED, are_counts, has_text};
+use crate::rows::{ECHO_TEXT, ECHOED, are_counts, assert_text};
 use rv_ledger::{Job, Outcome};
 use std::alloc::Global;
 use std::process::Abort;
@@ -13,7 +13,7 @@ use workers::{Executor, RunFault};
 /// The number of threads.
 const WORKERS: usize = 4;
 
-/// What an executor makes of a job.
+/// Runs a job by threads.
 fn run<R: Threads + Wait + Sync>(
     rt: &R,
     alloc: Global,
@@ -23,30 +23,41 @@ fn run<R: Threads + Wait + Sync>(
     executor.run_block(rt, alloc, job, WORKERS)
 }
 
-/// Runs one echo and then eight counts on an executor, and gives the outcome of the counts.
-fn run_both<R: Threads + Wait + Sync + Abort>(
+/// Runs one call of ECHO on an executor, and asserts that the outcome is right.
+fn run_echo<R: Threads + Wait + Sync + Abort>(
     rt: &R,
     alloc: Global,
     executor: &mut Executor,
-    counts: Job,
-) -> Result<Outcome, Fail> {
+) -> Result<(), Fail> {
     let echo = job_of(alloc, &[(ECHO, ECHOED)])?;
-    let echoed = run(rt, alloc, executor, echo)?;
-    assert!(rt; has_text(alloc, &echoed, ECHO_TEXT)?);
-    Ok(run(rt, alloc, executor, counts)?)
+    let outcome = run(rt, alloc, executor, echo)?;
+    assert_text(rt, alloc, &outcome, ECHO_TEXT)?;
+    Ok(())
 }
 
-/// Eight counts by four threads come to the right outcome. Where they are refused, it is as Memory or as Spawn;
-/// then the same executor runs one echo, and the eight counts at the next try.
+/// Runs a job on an executor. Where that is refused as Memory or as Spawn, the executor runs another block, and then
+/// the job once more.
+fn run_or_again<R: Threads + Wait + Sync + Abort>(
+    rt: &R,
+    alloc: Global,
+    executor: &mut Executor,
+    job: Job,
+) -> Result<Outcome, Fail> {
+    match run(rt, alloc, executor, copy_of(&job)?) {
+        Err(RunFault::Memory | RunFault::Spawn) => {
+            run_echo(rt, alloc, executor)?;
+            Ok(run(rt, alloc, executor, job)?)
+        }
+        answer => Ok(answer?),
+    }
+}
+
+/// Eight calls of COUNT by four threads come to the right outcome.
 #[test]
 fn run_block_growths_refused(rt: HostRuntime) -> Result<(), Fail> {
-    let alloc = rt.alloc();
-    let counts = job_of(alloc, &[(COUNT, KEY); 8])?;
-    let mut executor = Executor::new(alloc);
-    let outcome = match run(&rt, alloc, &mut executor, copy_of(&counts)?) {
-        Err(RunFault::Memory | RunFault::Spawn) => run_both(&rt, alloc, &mut executor, counts)?,
-        answer => answer?,
-    };
+    let mut executor = Executor::new(rt.alloc());
+    let counts = job_of(rt.alloc(), &[(COUNT, KEY); 8])?;
+    let outcome = run_or_again(&rt, rt.alloc(), &mut executor, counts)?;
     assert!(rt; are_counts(&outcome, 8));
     Ok(())
 }
