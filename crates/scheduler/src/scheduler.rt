@@ -150,7 +150,8 @@ impl Scheduler {
         self.workers[worker].answers()
     }
 
-    /// The next key that a worker is to move or to mark; None where no key is left.
+    /// The next key that a worker is to move or to mark; None where no key is left. Nothing is promised of a
+    /// worker with another task.
     pub fn next_key(&self, worker: usize) -> Option<&Key>
         requires { worker < length self.now.tasks }
         ensures moving { (i : ℕ) (keys : List (List ℕ)) (new : Bool) → get_or self.now.tasks worker Task.Idle ≡ Task.Moving i keys new → option_copied result ≡ slice_get keys 0 }

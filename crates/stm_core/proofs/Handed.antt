@@ -1,5 +1,5 @@
 -- A run that is handed in, a key that is moved and a key that is marked, over the parts of a job's run.
-use Rattle.std.proofs.Common.{◌≡◌, ◌<◌, ◌≤◌, ◌+◌, ◌*◌, ℕ, Bool, IsSome, List, [], ◌∷◌, length, get_or, None, Some, Ok, refl, sym, ap, subst, ◌∙◌}
+use Rattle.std.proofs.Common.{◌≡◌, ◌<◌, ◌≤◌, ◌+◌, ◌*◌, ℕ, Bool, true, IsSome, List, [], ◌∷◌, length, get_or, slice_get, None, Some, Ok, refl, sym, ap, subst, ◌∙◌}
 use Rattle.std.specs.FinMap.{get, len}
 use Rattle.rv_ledger.specs.declared.job.Job.{Job}
 use Rattle.rv_ledger.specs.declared.inline_bytes.TheConstants.{VALUE_LIMIT}
@@ -7,13 +7,15 @@ use Rattle.rv_step.specs.declared.answer.StorageAnswer.{StorageAnswer}
 use Rattle.rv_step.specs.declared.ended_run.EndedRun.{EndedRun}
 use Rattle.mvmap.specs.Table.{Table}
 use Rattle.mvmap.specs.Versions.{Estimate, Versions, changed}
+use Rattle.stm_state.specs.declared.state.Task.{Task}
 use Rattle.stm_state.specs.declared.state.Task.TheVariants.{Idle, Running, Moving, Marking}
-use Rattle.stm_state.specs.State.{State, fresh}
+use Rattle.stm_state.specs.State.{State, fresh, task_at}
 use Rattle.stm_state.specs.Steps.{Record, Move_key, Mark_estimate, counted, marked, moved, one_execution, one_step, recorded, version_of, worker_step}
 use Rattle.stm_state.specs.Done.{block_of}
 use Rattle.stm_state.specs.Invariant.{named_by}
+use Rattle.stm_state.proofs.Tests.{equal_itself}
 use Rattle.scheduler.specs.Schedule.{KeepsRooms, Schedule}
-use Rattle.stm_core.specs.CoreState.{CoreState, IsDue, Makes}
+use Rattle.stm_core.specs.CoreState.{CoreState, IsDue, Makes, runs}
 use Rattle.stm_core.specs.Inner.{AreOpen, IsGrown, IsHanded, IsPromised, IsReached, KeepsPromises, core_state_of, state_in, writes_at}
 use Rattle.stm_core.proofs.Open.{Within, marked_within, moved_within}
 use Rattle.stm_core.proofs.Made.{due_at, goes_on, goes_on_quietly, invariant_at, makes, mark_has_place, mark_made, move_made, named_in, own_made}
@@ -21,6 +23,13 @@ use Rattle.stm_core.proofs.Promises.{moved_kept, next_has_place, next_is_promise
 
 module _ (job : Job) (table : Table) (promised : ℕ) (schedule : Schedule) (h : IsReached job table promised schedule) (b : CoreState) (is : core_state_of job table promised schedule ≡ b) (w i : ℕ) where
   -- ---- record
+
+  -- a run that is known to be of the job's call is handed in with the answers that it was given
+  pub is_handed : (run : EndedRun) (answers : List StorageAnswer) → get_or schedule.tasks w Idle ≡ Running i answers None → ((j : ℕ) → runs (task_at b.state w) j ≡ true → slice_get b.job.block j ≡ Some run.call)
+      → run.answers.items ≡ answers → IsHanded job.block i answers run
+  is_handed run answers at known same =
+      let task : runs (get_or schedule.tasks w Idle) i ≡ true = ap (λ (t : Task). runs t i) at ∙ equal_itself i in
+      (subst (λ (x : CoreState). slice_get x.job.block i ≡ Some run.call) (sym is) (known i (subst (λ (x : CoreState). runs (task_at x.state w) i ≡ true) is task)), same)
 
   module _ (due : IsDue w Record b) (run : EndedRun) (answers : List StorageAnswer) (at : get_or schedule.tasks w Idle ≡ Running i answers None) (handed : IsHanded job.block i answers run) where
     -- a worker's own run within the limits leads on

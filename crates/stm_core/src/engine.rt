@@ -243,7 +243,7 @@ fn hand_in(alloc: Global, core: &mut Core, worker: usize, run: Run) -> Result<()
     ensures makes { OnOk result (Makes worker Record core.old core.new) }
     ensures refused { IfErr result (λ e. IsStepRefusal e (worker_step (block_in core.old) worker Record core.old.state)) }
 {
-    match core.record(alloc, worker, run.finish()) {
+    match core.record_known(alloc, worker, run.finish()) {
         Ok(()) => Ok(()),
         Err(refused) => Err(match refused.fault {
             RecordFault::ArenaFull => DriveFault::ArenaFull,

@@ -1,6 +1,6 @@
 //! How a run that is handed in is checked and recorded.
 
-ghost use Rattle.std.specs.Prelude.{◌≡◌, ◌≢◌, ◌<◌, ◌≤◌, ◌+◌, ◌*◌, ◌↔◌, List, length, get_or, true, Some, None, IfOk, IfErr, OnOk};
+ghost use Rattle.std.specs.Prelude.{◌≡◌, ◌≢◌, ◌<◌, ◌≤◌, ◌+◌, ◌*◌, ◌↔◌, ℕ, List, length, get_or, slice_get, true, Some, None, IfOk, IfErr, OnOk};
 ghost use Rattle.std.specs.FinMap.{entries, len};
 ghost use Rattle.rv_step.specs.declared.answer.StorageAnswer.{StorageAnswer};
 ghost use Rattle.stm_state.specs.declared.state.Status.TheVariants.{Executing};
@@ -10,7 +10,7 @@ ghost use Rattle.stm_state.specs.Steps.{counted, keys_to_move, one_execution, re
 ghost use Rattle.scheduler.specs.Schedule.{KeepsRooms, MayCount};
 ghost use Rattle.scheduler.specs.Workers.{IsRunning, NobodyMoves};
 ghost use Rattle.stm_core.specs.declared.fault.RecordFault.TheVariants as fault;
-ghost use Rattle.stm_core.specs.Inner.{AreOpen, IsGrown, IsHanded, IsPromised, reads_in, state_in};
+ghost use Rattle.stm_core.specs.Inner.{AreOpen, IsGrown, IsPromised, reads_in, state_in};
 
 use crate::fault::{RecordFault, Refused};
 use crate::reads::reads_of;
@@ -26,26 +26,23 @@ use std::alloc::Global;
 use stm_state::Recorded;
 use version_arena::{RECORD_LIMIT, ReserveFault};
 
-/// Whether a run is a run of the job's call that a worker runs, and was given exactly the answers that
-/// the worker's run was given. Takes no memory.
-pub(crate) fn is_own(
-    job: &Job,
-    scheduler: &Scheduler,
-    worker: usize,
-    call: u16,
-    run: &EndedRun,
-) -> bool
-    requires worker { worker < length scheduler.now.tasks }
-    requires running { IsRunning (get_or scheduler.now.tasks worker task.Idle) }
-    ensures { (answers : List StorageAnswer) → get_or scheduler.now.tasks worker task.Idle ≡ task.Running call answers None → (result ≡ true) ↔ IsHanded job.now.block call answers run.now }
+/// Whether a run is a run of the job's call at an index. Takes no memory.
+pub(crate) fn is_run_of(job: &Job, call: u16, run: &EndedRun) -> bool
+    ensures { (result ≡ true) ↔ (slice_get job.now.block call ≡ Some run.now.call) }
 {
     match job.block.calls().get(usize::from(call)) {
-        Some(own) => {
-            same_answers(run.answers.as_slice(), scheduler.answers(worker))
-                && same_call(own, &run.call)
-        }
+        Some(own) => same_call(own, &run.call),
         None => false,
     }
+}
+
+/// Whether a run was given exactly the answers that a worker's run was given. Takes no memory.
+pub(crate) fn has_own_answers(scheduler: &Scheduler, worker: usize, run: &EndedRun) -> bool
+    requires worker { worker < length scheduler.now.tasks }
+    requires running { IsRunning (get_or scheduler.now.tasks worker task.Idle) }
+    ensures { (call : ℕ) (answers : List StorageAnswer) → get_or scheduler.now.tasks worker task.Idle ≡ task.Running call answers None → (result ≡ true) ↔ (run.now.answers.items ≡ answers) }
+{
+    same_answers(run.answers.as_slice(), scheduler.answers(worker))
 }
 
 /// Records a worker's own run of a call: the run is kept, its keys are to be moved, and room for what it

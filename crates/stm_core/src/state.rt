@@ -10,7 +10,7 @@ use crate::next_step::{AskResult, NextStep, ReadResult};
 use crate::outcome::outcome_of;
 use crate::reading::{next_step_of, read_at};
 use crate::reads::next_stands;
-use crate::recording::{is_own, record_run};
+use crate::recording::{has_own_answers, is_run_of, record_run};
 use crate::versions::{mark_key, move_key};
 use mvmap::MvMap;
 use rv_ledger::{Counts, Job, Key, Outcome};
@@ -52,7 +52,7 @@ impl Model for Core {
 }
 
 impl Core {
-    ghost use Rattle.std.specs.Prelude.{◌≡◌, ◌≢◌, ◌<◌, ◌≤◌, ◌↔◌, ℕ, true, length, get_or, [], IfOk, IfErr, OnOk, OnErr, Ok};
+    ghost use Rattle.std.specs.Prelude.{◌≡◌, ◌≢◌, ◌<◌, ◌≤◌, ◌↔◌, ℕ, Some, true, length, get_or, slice_get, [], IfOk, IfErr, OnOk, OnErr, Ok};
     ghost use Rattle.version_arena.specs.ArenaState.{emptied};
     ghost use Rattle.mvmap.specs.Reading.{reading};
     ghost use Rattle.rv_step.specs.Fold.{receipts_of, store_after};
@@ -234,7 +234,36 @@ impl Core {
         let TaskKind::Running { call, .. } = self.scheduler.task_kind(worker) else {
             unreachable!();
         };
-        if !is_own(&self.job, &self.scheduler, worker, call, &run) {
+        if !is_run_of(&self.job, call, &run) {
+            return Err(Refused {
+                fault: RecordFault::Foreign,
+                run,
+            });
+        }
+        self.record_known(alloc, worker, run)
+    }
+
+    /// A worker hands in its ended run, which is known to be a run of the job's call at that index. Refused
+    /// as `record` is, but the calls are not compared.
+    pub fn record_known(
+        &mut self,
+        alloc: Global,
+        worker: usize,
+        run: EndedRun,
+    ) -> Result<(), Refused>
+        requires due { IsDue worker steps.Record self.old }
+        requires call { (i : ℕ) → runs (task_at self.old.state worker) i ≡ true → slice_get self.old.job.block i ≡ Some run.call }
+        ensures makes { OnOk result (Makes worker steps.Record self.old self.new) }
+        ensures own { (IfErr result (λ e. e.fault ≢ fault.Foreign)) ↔ IsOwn worker run self.old }
+        ensures full { IfErr result (λ e. e.fault ≡ fault.ArenaFull → IsRefused worker steps.Record steps.ArenaFull self.old) }
+        ensures limit { IfErr result (λ e. e.fault ≡ fault.IncarnationLimit → IsRefused worker steps.Record steps.IncarnationLimit self.old) }
+        ensures memory { IfErr result (λ e. e.fault ≡ fault.Memory → IsTaken worker steps.Record self.old) }
+        ensures back { IfErr result (λ e. (e.run ≡ run) × (self.new ≡ self.old)) }
+    {
+        let TaskKind::Running { call, .. } = self.scheduler.task_kind(worker) else {
+            unreachable!();
+        };
+        if !has_own_answers(&self.scheduler, worker, &run) {
             return Err(Refused {
                 fault: RecordFault::Foreign,
                 run,

@@ -13,31 +13,31 @@ use Rattle.workers.specs.declared.share.Share.{Share}
 use Rattle.workers.specs.Book.{Tells}
 
 -- an asking is answered Done just where all was done
-pub done_where_told : (done : Bool) (task : Task) → ask_result.Done ≡ ask_result_of done task → done ≡ true
-done_where_told true task e = refl
-done_where_told false Idle e = cc
-done_where_told false (Running i answers blocked) e = cc
-done_where_told false (Moving i keys new) e = cc
-done_where_told false (Validating i n left failed) e = cc
-done_where_told false (Marking i keys) e = cc
+pub done_where_answered : (done : Bool) (task : Task) → ask_result.Done ≡ ask_result_of done task → done ≡ true
+done_where_answered true task e = refl
+done_where_answered false Idle e = cc
+done_where_answered false (Running i answers blocked) e = cc
+done_where_answered false (Moving i keys new) e = cc
+done_where_answered false (Validating i n left failed) e = cc
+done_where_answered false (Marking i keys) e = cc
 
-pub not_done_where_told : (done : Bool) (task : Task) (answer : AskResult) → answer ≡ ask_result_of done task → (answer ≡ ask_result.Done → ⊥) → done ≡ false
-not_done_where_told true task answer e other = absurd (other e)
-not_done_where_told false task answer e other = refl
+pub not_done_where_answered : (done : Bool) (task : Task) (answer : AskResult) → answer ≡ ask_result_of done task → (answer ≡ ask_result.Done → ⊥) → done ≡ false
+not_done_where_answered true task answer e other = absurd (other e)
+not_done_where_answered false task answer e other = refl
 
 module _ (law : DonesGrowAtDone) (old new : CoreState) (share counted : Share) (made : Makes share.worker Ask old new)
-    (inv : Invariant (block_in old) (length old.state.tasks) old.state) (told : Tells share old) (tells : Tells counted new) (same : counted.worker ≡ share.worker) where
+    (inv : Invariant (block_in old) (length old.state.tasks) old.state) (before : Tells share old) (tells : Tells counted new) (same : counted.worker ≡ share.worker) where
   grown : counted.dones ≡ (if is_done old.state then share.dones + 1 else share.dones)
   grown =
       let size = inv.sized.dones in
-      let within = told.within in
+      let within = before.within in
       tells.dones ∙ ap (λ w. get_or new.state.dones w 0) same
       ∙ law (block_in old) share.worker old.state new.state made.0 (omega (arith, size, within))
-      ∙ ap (λ d. if is_done old.state then d + 1 else d) (sym told.dones)
+      ∙ ap (λ d. if is_done old.state then d + 1 else d) (sym before.dones)
 
   -- one asking answered Done more where all was done, and else none
-  pub one_told : is_done old.state ≡ true → counted.dones ≡ share.dones + 1
-  one_told e = grown ∙ ap (λ b. if b then share.dones + 1 else share.dones) e
+  pub one_done_more : is_done old.state ≡ true → counted.dones ≡ share.dones + 1
+  one_done_more e = grown ∙ ap (λ b. if b then share.dones + 1 else share.dones) e
 
-  pub none_told : is_done old.state ≡ false → counted.dones ≡ share.dones
-  none_told e = grown ∙ ap (λ b. if b then share.dones + 1 else share.dones) e
+  pub no_done_more : is_done old.state ≡ false → counted.dones ≡ share.dones
+  no_done_more e = grown ∙ ap (λ b. if b then share.dones + 1 else share.dones) e

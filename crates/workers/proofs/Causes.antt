@@ -1,10 +1,11 @@
 -- Why a step call is refused before its step is tried.
-use Rattle.std.proofs.Common.{◌≡◌, ◌≢◌, ◌<◌, ◌↔◌, ℕ, Option, None, Some, length, refl}
+use Rattle.std.proofs.Common.{◌≡◌, ◌≢◌, ◌<◌, ◌↔◌, ℕ, Option, None, Some, Result, Err, IfErr, length, refl, sym, subst}
 use Rattle.stm_state.specs.Steps.{Step, Record}
 use Rattle.stm_state.specs.Steps as steps
 use Rattle.rv_step.specs.declared.ended_run.EndedRun.{EndedRun}
 use Rattle.stm_core.specs.CoreState.{CoreState, IsOwn, IsRefused, IsTaken}
 use Rattle.stm_core.specs.declared.fault.RecordFault.{RecordFault}
+use Rattle.stm_core.specs.declared.fault.Refused.{Refused}
 use Rattle.stm_core.specs.declared.fault.RecordFault.TheVariants as record_faults
 use Rattle.stm_core.specs.declared.next_step.NextStep.{NextStep}
 use Rattle.workers.specs.declared.share.Share.{Share}
@@ -52,3 +53,29 @@ module _ (w : ℕ) (run : EndedRun) (b : CoreState) (f : RecordFault)
   -- it may be written
   pub record_may_write : w < length b.state.tasks → MayWrite (fault_of f) b
   record_may_write within = may_write_by f refl within
+
+-- ---- a run that is handed in to a core
+
+-- what the core says of a run that is handed in, by its answer
+pub record IsHandedIn (w : ℕ) (run : EndedRun) (b after : CoreState) (answer : Result Unit Refused) : Type 0 where
+  pub own : IfErr answer (λ e. e.fault ≢ record_faults.Foreign) ↔ IsOwn w run b
+  pub full : IfErr answer (λ e. e.fault ≡ record_faults.ArenaFull → IsRefused w Record steps.ArenaFull b)
+  pub limit : IfErr answer (λ e. e.fault ≡ record_faults.IncarnationLimit → IsRefused w Record steps.IncarnationLimit b)
+  pub memory : IfErr answer (λ e. e.fault ≡ record_faults.Memory → IsTaken w Record b)
+  pub back : IfErr answer (λ e. (e.run ≡ run) × (after ≡ b))
+
+-- however it was handed in
+pub handed_in : (w : ℕ) (run : EndedRun) (b after now : CoreState) (answer told : Result Unit Refused) → told ≡ answer → now ≡ after → IsHandedIn w run b after answer → IsHandedIn w run b now told
+handed_in w run b after now answer told same kept h = subst (λ (x : CoreState). IsHandedIn w run b x told) (sym kept) (subst (IsHandedIn w run b after) (sym same) h)
+
+module _ (w : ℕ) (run : EndedRun) (b after : CoreState) (answer : Result Unit Refused) (h : IsHandedIn w run b after answer) (refused : Refused) (is : answer ≡ Err refused) where
+  said : IsHandedIn w run b after (Err refused)
+  said = subst (IsHandedIn w run b after) is h
+
+  -- its refusal is a cause
+  pub refusal_cause : (Owed : Type 0) → IsCauseAfter None Owed (IsOwn w run b) (IsTaken w Record b) Record w b (fault_of refused.fault)
+  refusal_cause Owed = record_cause w run b refused.fault said.own said.full said.limit said.memory Owed
+
+  -- it may be written
+  pub refusal_may_write : w < length b.state.tasks → MayWrite (fault_of refused.fault) after
+  refusal_may_write within = subst (MayWrite (fault_of refused.fault)) (sym said.back.1) (record_may_write w run b refused.fault said.own said.full said.limit said.memory within)

@@ -1,7 +1,7 @@
 pub mod Stays
 pub mod Zeros
 pub mod Causes
-pub mod Told
+pub mod AskResults
 pub mod Histories
 pub mod Chains
 pub mod Ways

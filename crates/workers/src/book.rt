@@ -1,6 +1,7 @@
 //! What stands under the lock: a core, and the first fault that was written.
 
-ghost use Rattle.std.specs.Prelude.{◌≡◌};
+ghost use Rattle.std.specs.Prelude.{◌≡◌, List, []};
+ghost use Rattle.rv_ledger.specs.Call.{Invocation};
 ghost use Rattle.workers.specs.Book.{fault_of};
 
 use crate::fault::RunFault;
@@ -9,22 +10,34 @@ use rv_ledger::Key;
 use rv_step::EndedRun;
 use scheduler::COUNT_LIMIT;
 use std::alloc::Global;
-use std::marker::Model;
+use std::marker::{Brand, Model, PhantomData};
 use stm_core::{AskResult, Core, NextStep, ReadResult, RecordFault};
+
+/// A name of a block's calls, for contracts alone. Who starts the block's threads picks the calls.
+pub trait BlockName {
+    ghost block: { List Invocation };
+}
+
+impl BlockName for Brand {
+    ghost block = { [] };
+}
 
 /// A core, and the first fault that was written beside it. A written ArenaFull or IncarnationLimit is true of
 /// the core: some worker's due step is refused for this limit. So is a written StepLimit: some worker has
-/// made 2^64 - 1 steps. A written fault is never BadCount.
+/// made 2^64 - 1 steps. A written fault is never BadCount. Where `known` is true the core has the calls that
+/// `B` names.
 #[derive(Drop)]
-pub struct Book {
+pub struct Book<B: BlockName = Brand> {
     core: Core,
     fault: Option<RunFault>,
+    known: bool,
+    of: PhantomData<B>,
 }
 
-impl Model for Book {
+impl<B: BlockName> Model for Book<B> {
     ghost use Rattle.std.specs.Coded.{codes};
     ghost use Rattle.stm_core.specs.contracts.state.Core.{the_row as core_row};
-    ghost use Rattle.workers.specs.Book.{BookState, FaultFits};
+    ghost use Rattle.workers.specs.Book.{BookState, FaultFits, HasKnownCalls};
 
     ghost Value = { BookState };
 
@@ -32,11 +45,22 @@ impl Model for Book {
 
     ghost view = { λ b. record { core = b.core; fault = b.fault } };
 
-    ghost invariant = { λ b. FaultFits b.core b.fault };
+    ghost invariant = { λ b. FaultFits b.core b.fault × HasKnownCalls B.block b.known b.core };
 }
 
 impl Book {
-    ghost use Rattle.std.specs.Prelude.{◌≡◌, ◌<◌, ◌↔◌, ⊤, None, Some, true, length, get_or, IfErr, IfOk, OnOk};
+    ghost use Rattle.std.specs.Prelude.{◌≡◌, None};
+
+    /// A core, and no fault. Nothing is known of its calls.
+    pub fn new(core: Core) -> Book
+        ensures { result ≡ record { core = core; fault = None } }
+    {
+        Book::over(core, false)
+    }
+}
+
+impl<B: BlockName> Book<B> {
+    ghost use Rattle.std.specs.Prelude.{◌≡◌, ◌<◌, ◌↔◌, ⊤, None, Some, true, length, get_or, slice_get, IfErr, IfOk, OnOk};
     ghost use Rattle.mvmap.specs.Reading.{reading};
     ghost use Rattle.stm_state.specs.Done.{Reached};
     ghost use Rattle.stm_state.specs.Invariant.{Invariant};
@@ -44,13 +68,32 @@ impl Book {
     ghost use Rattle.stm_state.specs.Steps as steps;
     ghost use Rattle.stm_core.specs.CoreState.{IsOwn, IsTaken, block_in, next_step_of, read_result_of};
     ghost use Rattle.stm_core.specs.declared.next_step.NextStep.TheVariants as next_step;
-    ghost use Rattle.workers.specs.Book.{FaultFits, IsAsked, IsCause, IsMade, IsUnready, LeavesWritten, MayWrite, Owes, Tells, first_fault};
+    ghost use Rattle.workers.specs.Book.{FaultFits, HasKnownCalls, IsAsked, IsCause, IsMade, IsUnready, LeavesWritten, MayWrite, Owes, Tells, first_fault};
 
-    /// A core, and no fault.
-    pub fn new(core: Core) -> Book
+    /// A core, and no fault. `known` says that the core has the calls that `B` names.
+    pub(crate) fn over(core: Core, known: bool) -> Book<B>
+        requires { HasKnownCalls B.block known core }
         ensures { result ≡ record { core = core; fault = None } }
     {
-        Book { core, fault: None }
+        Book {
+            core,
+            fault: None,
+            known,
+            of: PhantomData,
+        }
+    }
+
+    /// The same book. Nothing is known of its calls.
+    pub(crate) fn without_name(self) -> Book
+        ensures { result ≡ self }
+    {
+        let Book { core, fault, .. } = self;
+        Book {
+            core,
+            fault,
+            known: false,
+            of: PhantomData,
+        }
     }
 
     /// The core.
@@ -96,7 +139,7 @@ impl Book {
     pub fn into_core(self) -> Core
         ensures { result ≡ self.core }
     {
-        let Book { core, fault: _ } = self;
+        let Book { core, .. } = self;
         core
     }
 
@@ -179,7 +222,6 @@ impl Book {
     /// now. Refused as `ask` is, and as Foreign where the run is not of that call or its answers are not
     /// those that were given. Otherwise refused as ArenaFull, IncarnationLimit or Memory, tested in this
     /// order.
-    #[tactic(auto, using(crate::proofs::Stays::stays, crate::proofs::Causes::unready_cause))]
     pub fn record(
         &mut self,
         alloc: Global,
@@ -195,9 +237,37 @@ impl Book {
         ensures refused { IfErr result (λ e. LeavesWritten e self.old self.new share.old share.new) }
         ensures cause { IfErr result (λ e. IsCause (Owes (next_step.Run call incarnation) share.old self.old.core) (IsOwn share.old.worker run self.old.core) (IsTaken share.old.worker steps.Record self.old.core) steps.Record share.old.worker self.old e) }
     {
+        self.record_known(alloc, share, call, incarnation, run, false)
+    }
+
+    /// The same. `known` says that the run is of that call among those that `B` names. Where the core is known
+    /// to have these calls, the run's call is not compared with the core's.
+    #[tactic(auto, using(crate::proofs::Stays::stays, crate::proofs::Causes::unready_cause))]
+    pub(crate) fn record_known(
+        &mut self,
+        alloc: Global,
+        share: &mut Share,
+        call: u16,
+        incarnation: u16,
+        run: EndedRun,
+        known: bool,
+    ) -> Result<NextStep, RunFault>
+        requires known { known ≡ true → slice_get B.block call ≡ Some run.call }
+        ensures made { OnOk result (IsMade (next_step.Run call incarnation) steps.Record self.old self.new share.old share.new) }
+        ensures next { IfOk result (λ next. next ≡ next_step_of self.new.core.state (task_at self.new.core.state share.new.worker)) }
+        ensures own { OnOk result (IsOwn share.old.worker run self.old.core) }
+        ensures dones { OnOk result (share.new.dones ≡ share.old.dones) }
+        ensures refused { IfErr result (λ e. LeavesWritten e self.old self.new share.old share.new) }
+        ensures cause { IfErr result (λ e. IsCause (Owes (next_step.Run call incarnation) share.old self.old.core) (IsOwn share.old.worker run self.old.core) (IsTaken share.old.worker steps.Record self.old.core) steps.Record share.old.worker self.old e) }
+    {
         self.ready(share, NextStep::Run { call, incarnation })?;
         stm_state::dones_grow_at_done();
-        match self.core.record(alloc, share.worker, run) {
+        let recorded = if known && self.known {
+            self.core.record_known(alloc, share.worker, run)
+        } else {
+            self.core.record(alloc, share.worker, run)
+        };
+        match recorded {
             Ok(()) => {
                 self.tell(share);
                 Ok(self.core.doing(share.worker))

@@ -6,6 +6,7 @@ use crate::gate::Open;
 use rv_ledger::job::CALL_LIMIT;
 use rv_ledger::{Call, Job, Outcome, Receipt, Store};
 use std::alloc::{AllocError, Global};
+use std::marker::Brand;
 use std::sync::Wait;
 use std::thread::Threads;
 use std::{fmt, mem};
@@ -103,7 +104,7 @@ impl Executor {
             unreachable!()
         };
         let arena = mem::replace(&mut self.arena, Arena::new(alloc));
-        let (answer, arena) = run_over(rt, alloc, arena, &job, workers, &Open);
+        let (answer, arena) = run_over::<Brand, R, Open>(rt, alloc, arena, &job, workers, &Open);
         self.arena = arena;
         match answer {
             Ok(outcome) => {

@@ -70,7 +70,7 @@ impl DoneCell {
         requires cell { IsPassOf self.now pass.old }
         ensures cell { IsSamePass pass.old pass.new }
         ensures stays { cell_view pass.old ≡ 1 → result ≡ true }
-        ensures told { (result ≡ true) ↔ (cell_view pass.new ≡ 1) }
+        ensures shown { (result ≡ true) ↔ (cell_view pass.new ≡ 1) }
     {
         self.cell.load_as::<Sees, R>(rt, pass)[0] == DONE
     }
@@ -80,7 +80,7 @@ impl DoneCell {
     pub fn set_done<R: Wait>(&self, rt: &R, pass: &mut DonePass)
         requires cell { IsPassOf self.now pass.old }
         ensures cell { IsSamePass pass.old pass.new }
-        ensures told { cell_view pass.new ≡ 1 }
+        ensures shown { cell_view pass.new ≡ 1 }
     {
         let _ = self.cell.swap_as::<Sees, R>(rt, pass, [DONE]);
     }

@@ -8,6 +8,7 @@ ghost use Rattle.workers.specs.History.{HasHistory, HasLimit, HasOneWorkerCounts
 ghost use Rattle.workers.specs.declared.fault.RunFault.TheVariants as faults;
 
 use crate::answer::settle;
+use crate::book::BlockName;
 use crate::fault::RunFault;
 use crate::gate::{Gate, Open};
 use crate::share::Share;
@@ -15,6 +16,7 @@ use crate::shared::{OutsideFault, Shared};
 use crate::worker::work;
 use rv_ledger::{Job, Outcome};
 use std::alloc::Global;
+use std::marker::Brand;
 use std::sync::Wait;
 use std::thread::Threads;
 use std::{mem, thread};
@@ -89,7 +91,7 @@ impl Executor {
             return Err(RunFault::BadCount);
         }
         let arena = mem::replace(&mut self.arena, Arena::new(alloc));
-        let (answer, arena) = run_over(rt, alloc, arena, &job, workers, gate);
+        let (answer, arena) = run_over::<Brand, R, G>(rt, alloc, arena, &job, workers, gate);
         self.arena = arena;
         answer
     }
@@ -97,7 +99,7 @@ impl Executor {
 
 /// Runs a job on threads over an arena. The arena comes back without records. Refused as `run_block` is, but
 /// never as BadCount.
-pub(crate) fn run_over<R: Threads + Wait + Sync, G: Gate + Sync>(
+pub(crate) fn run_over<B: BlockName + Send + Sync, R: Threads + Wait + Sync, G: Gate + Sync>(
     rt: &R,
     alloc: Global,
     arena: Arena,
@@ -105,7 +107,8 @@ pub(crate) fn run_over<R: Threads + Wait + Sync, G: Gate + Sync>(
     workers: usize,
     gate: &G,
 ) -> (Result<Outcome, RunFault>, Arena)
-    requires { (1 ≤ workers) × (workers ≤ 32) }
+    requires count { (1 ≤ workers) × (workers ≤ 32) }
+    requires block { job.now.block ≡ B.block }
     ensures bad_count { IfErr result.0 (λ e. e ≢ faults.BadCount) }
     ensures job { IfOk result.0 (λ o. o.job ≡ job.now) }
     ensures receipts { IfOk result.0 (λ o. o.receipts.items ≡ receipts_of job.now.block job.now.store) }
@@ -116,7 +119,7 @@ pub(crate) fn run_over<R: Threads + Wait + Sync, G: Gate + Sync>(
     ensures limit { IfErr result.0 (λ e. e ≡ faults.IncarnationLimit → HasLimit job.now steps.IncarnationLimit) }
     ensures arena { result.1.records ≡ [] }
 {
-    let (shared, shares) = match share_out(alloc, arena, job, workers) {
+    let (shared, shares) = match share_out::<B>(alloc, arena, job, workers) {
         Ok(shared) => shared,
         Err(arena) => return (Err(RunFault::Memory), arena),
     };
@@ -145,13 +148,14 @@ fn answer_by(answer: Result<Outcome, RunFault>, workers: usize) -> Result<Outcom
 
 /// The lock and the cell over a job's core at its start, and its workers' shares. Where memory ran out the
 /// arena is handed back, without records.
-fn share_out(
+fn share_out<B: BlockName>(
     alloc: Global,
     arena: Arena,
     job: &Job,
     workers: usize,
-) -> Result<(Shared, Vec<Share>), Arena>
-    requires { (1 ≤ workers) × (workers ≤ 32) }
+) -> Result<(Shared<B>, Vec<Share>), Arena>
+    requires count { (1 ≤ workers) × (workers ≤ 32) }
+    requires block { job.now.block ≡ B.block }
     ensures passes { IfOk result (λ made. All (λ share. IsPassOf made.0.cell share.pass) made.1.items) }
     ensures back { IfErr result (λ arena. arena.records ≡ []) }
 {
@@ -161,15 +165,15 @@ fn share_out(
         return Err(arena);
     };
     let core = Core::over(alloc, arena, job, workers)?;
-    Shared::new(alloc, core)
+    Shared::over(alloc, core, true)
 }
 
 /// Runs a thread for each share, and waits for all of them. Returns the shares of the threads that were not
 /// refused. A fault is written where the system refuses a thread (Spawn), and where memory ran out (Memory).
-fn run_threads<R: Threads + Wait + Sync, G: Gate + Sync>(
+fn run_threads<B: BlockName + Send + Sync, R: Threads + Wait + Sync, G: Gate + Sync>(
     rt: &R,
     alloc: Global,
-    shared: &Shared,
+    shared: &Shared<B>,
     shares: Vec<Share>,
     gate: &G,
 ) -> Vec<Share>

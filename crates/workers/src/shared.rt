@@ -1,26 +1,29 @@
 //! What the threads of a block share.
 
-ghost use Rattle.std.specs.Prelude.{◌≡◌, All, IfOk, map};
+ghost use Rattle.std.specs.Prelude.{◌≡◌, true, All, IfOk, map};
 ghost use Rattle.workers.specs.Book.{zero_counts_of_all, counts_of_share};
 ghost use Rattle.workers.specs.DoneCell.{IsPassOf};
 
-use crate::book::Book;
+use crate::book::{BlockName, Book};
 use crate::done_cell::DoneCell;
 use crate::fault::RunFault;
 use crate::share::Share;
 use rv_ledger::Block;
 use std::alloc::{AllocError, Global};
+use std::marker::Brand;
 use std::sync::{Mutex, Wait};
 use stm_core::Core;
 use version_arena::Arena;
 
 /// What the threads of a block share: the lock with the book, the calls, which they run outside the lock, and
-/// the cell, which they look at outside the lock.
+/// the cell, which they look at outside the lock. Where `known` is true the calls are those that `B` names.
 #[derive(Drop)]
-pub struct Shared {
-    pub(crate) lock: Mutex<Book>,
+pub struct Shared<B: BlockName = Brand> {
+    pub(crate) lock: Mutex<Book<B>>,
     pub(crate) block: Block,
     pub(crate) cell: DoneCell,
+    pub(crate) known: bool,
+    ghost is: { known ≡ true → block ≡ B.block },
 }
 
 impl Shared {
@@ -36,6 +39,29 @@ impl Shared {
         ensures passes { IfOk result (λ made. All (λ share. IsPassOf made.0.cell share.pass) made.1.items) }
         ensures back { IfErr result (λ arena. arena.records ≡ []) }
     {
+        Shared::over(alloc, core, false)
+    }
+}
+
+impl<B: BlockName> Shared<B> {
+    ghost use Rattle.std.specs.Prelude.{◌≡◌, [], length, map, All, IfErr, IfOk};
+    ghost use Rattle.workers.specs.Book.{HasKnownCalls, zero_counts_of_all, counts_of_share};
+    ghost use Rattle.workers.specs.DoneCell.{IsPassOf};
+
+    /// The lock over a core at its start, with a cell that shows running. Beside it one share per worker, in
+    /// their order, each with counts of zero and a pass of the cell. Where memory ran out the core's arena is
+    /// handed back, without records. `known` says that the core has the calls
+    /// that `B` names.
+    pub(crate) fn over(
+        alloc: Global,
+        core: Core,
+        known: bool,
+    ) -> Result<(Shared<B>, Vec<Share>), Arena>
+        requires { HasKnownCalls B.block known core }
+        ensures shares { IfOk result (λ made. map counts_of_share made.1.items ≡ zero_counts_of_all (length core.state.tasks)) }
+        ensures passes { IfOk result (λ made. All (λ share. IsPassOf made.0.cell share.pass) made.1.items) }
+        ensures back { IfErr result (λ arena. arena.records ≡ []) }
+    {
         let Ok(block) = core.job().block.copy() else {
             return Err(core.into_arena());
         };
@@ -44,8 +70,14 @@ impl Shared {
         };
         match new_shares(alloc, core.workers(), &cell) {
             Ok(shares) => {
-                let lock = Mutex::new(Book::new(core));
-                Ok((Shared { lock, block, cell }, shares))
+                let lock = Mutex::new(Book::over(core, known));
+                let shared = Shared {
+                    lock,
+                    block,
+                    cell,
+                    known,
+                };
+                Ok((shared, shares))
             }
             Err(_) => Err(core.into_arena()),
         }
@@ -53,12 +85,8 @@ impl Shared {
 
     /// The book that was under the lock, once no thread has the lock any more.
     pub fn into_book(self) -> Book {
-        let Shared {
-            lock,
-            block: _,
-            cell: _,
-        } = self;
-        lock.into_inner()
+        let Shared { lock, .. } = self;
+        lock.into_inner().without_name()
     }
 
     /// Writes a fault that was met outside the lock, unless one was written before. Returns the first one.

@@ -1,9 +1,10 @@
 //! What one thread does: it asks for work, runs calls outside the lock, and makes their steps under it.
 
-ghost use Rattle.std.specs.Prelude.{◌≡◌, ◌+◌, None, IfOk, MatchOption, OnOk};
+ghost use Rattle.std.specs.Prelude.{◌≡◌, ◌+◌, None, Some, IfOk, MatchOption, OnOk, slice_get};
 ghost use Rattle.crossbeam_utils.specs.Seq.{cell_view};
 ghost use Rattle.workers.specs.DoneCell.{IsPassOf};
 
+use crate::book::BlockName;
 use crate::fault::RunFault;
 use crate::gate::Gate;
 use crate::share::Share;
@@ -17,17 +18,17 @@ use stm_core::{NextStep, ReadResult};
 /// hands the share back; the cell shows done then. Refused as the step call that was refused, as Memory where
 /// memory ran out, and as Foreign where the block has no such call. The fault is written, and the steps that
 /// were made stand.
-pub fn work<R: Wait, G: Gate>(
+pub fn work<B: BlockName, R: Wait, G: Gate>(
     rt: &R,
     alloc: Global,
-    shared: &Shared,
+    shared: &Shared<B>,
     share: Share,
     gate: &G,
 ) -> Result<Share, RunFault>
     requires cell { IsPassOf shared.now.cell share.pass }
-    ensures worker { IfOk result (λ told. told.worker ≡ share.worker) }
-    ensures dones { IfOk result (λ told. told.dones ≡ share.dones + 1) }
-    ensures shown { IfOk result (λ told. cell_view told.pass ≡ 1) }
+    ensures worker { IfOk result (λ back. back.worker ≡ share.worker) }
+    ensures dones { IfOk result (λ back. back.dones ≡ share.dones + 1) }
+    ensures shown { IfOk result (λ back. cell_view back.pass ≡ 1) }
 {
     let mut share = share;
     let mut next = NextStep::Ask;
@@ -76,7 +77,11 @@ pub fn work<R: Wait, G: Gate>(
 
 /// Asks for work, and returns the step that the worker owes then. Returns None where all is done, and then
 /// the cell shows it. A worker that gets no task looks at the cell before it asks again.
-fn ask<R: Wait>(rt: &R, shared: &Shared, share: &mut Share) -> Result<Option<NextStep>, RunFault>
+fn ask<B: BlockName, R: Wait>(
+    rt: &R,
+    shared: &Shared<B>,
+    share: &mut Share,
+) -> Result<Option<NextStep>, RunFault>
     requires cell { IsPassOf shared.now.cell share.old.pass }
     ensures cell { IsPassOf shared.now.cell share.new.pass }
     ensures worker { share.new.worker ≡ share.old.worker }
@@ -94,10 +99,10 @@ fn ask<R: Wait>(rt: &R, shared: &Shared, share: &mut Share) -> Result<Option<Nex
 
 /// Runs a call outside the lock up to its record, or up to a read that meets an estimate. Returns the step
 /// that the worker owes then.
-fn run_call<R: Wait, G: Gate>(
+fn run_call<B: BlockName, R: Wait, G: Gate>(
     rt: &R,
     alloc: Global,
-    shared: &Shared,
+    shared: &Shared<B>,
     share: &mut Share,
     call: u16,
     incarnation: u16,
@@ -128,11 +133,18 @@ fn run_call<R: Wait, G: Gate>(
     shared
         .lock
         .lock(rt)
-        .record(alloc, share, call, incarnation, ended)
+        .record_known(alloc, share, call, incarnation, ended, shared.known)
 }
 
 /// A run of a call of the block, before its first instruction.
-fn start<R: Wait>(rt: &R, alloc: Global, shared: &Shared, call: u16) -> Result<Run, RunFault> {
+fn start<B: BlockName, R: Wait>(
+    rt: &R,
+    alloc: Global,
+    shared: &Shared<B>,
+    call: u16,
+) -> Result<Run, RunFault>
+    ensures { IfOk result (λ run. slice_get shared.now.block call ≡ Some run.call) }
+{
     match shared.block.calls().get(usize::from(call)) {
         Some(own) => match Run::start(alloc, own) {
             Ok(run) => Ok(run),
