@@ -1,33 +1,69 @@
 //! The line of each refusal.
 
+use crate::asserts::{assert_reported, assert_shown};
 use block_file::{BlockFault, Cause};
 use debugger::ReplayFault;
 use elf32::ElfError;
-use engines::{FileFault, Refusal, SeqFault, report};
+use engines::{FileFault, Refusal, SeqFault};
 use receipts::WriteFault;
 use rv_text::{AsmCause, AsmError};
+use std::alloc::Global;
+use std::process::Abort;
 use std::test::Fail;
 use stm_core::{DriveFault, RecordFault};
 use workers::RunFault;
 
-const CAUSES: [(Cause, &str); 7] = [
-    (Cause::BadHeader, "2 BadHeader 1\n"),
-    (Cause::BadLine, "2 BadLine 2\n"),
-    (Cause::BadNumber, "2 BadNumber 3\n"),
-    (Cause::BadHex, "2 BadHex 4\n"),
-    (Cause::KeyOrder, "2 KeyOrder 5\n"),
-    (Cause::UnknownProgram, "2 UnknownProgram 6\n"),
-    (Cause::Limit, "2 Limit 7\n"),
+/// The causes at line 2 of a block file and of a schedule file, with the lines of both refusals.
+const CAUSES: &[(Cause, &str, &str)] = &[
+    (
+        Cause::BadHeader,
+        "rvstm: block 2 BadHeader 1\n",
+        "rvstm: schedule 2 BadHeader 1\n",
+    ),
+    (
+        Cause::BadLine,
+        "rvstm: block 2 BadLine 2\n",
+        "rvstm: schedule 2 BadLine 2\n",
+    ),
+    (
+        Cause::BadNumber,
+        "rvstm: block 2 BadNumber 3\n",
+        "rvstm: schedule 2 BadNumber 3\n",
+    ),
+    (
+        Cause::BadHex,
+        "rvstm: block 2 BadHex 4\n",
+        "rvstm: schedule 2 BadHex 4\n",
+    ),
+    (
+        Cause::KeyOrder,
+        "rvstm: block 2 KeyOrder 5\n",
+        "rvstm: schedule 2 KeyOrder 5\n",
+    ),
+    (
+        Cause::UnknownProgram,
+        "rvstm: block 2 UnknownProgram 6\n",
+        "rvstm: schedule 2 UnknownProgram 6\n",
+    ),
+    (
+        Cause::Limit,
+        "rvstm: block 2 Limit 7\n",
+        "rvstm: schedule 2 Limit 7\n",
+    ),
 ];
 
-const ASM_CAUSES: [(AsmCause, &str); 7] = [
-    (AsmCause::UnknownMnemonic, "3 UnknownMnemonic 1\n"),
-    (AsmCause::BadOperand, "3 BadOperand 2\n"),
-    (AsmCause::ImmediateRange, "3 ImmediateRange 3\n"),
-    (AsmCause::UnknownLabel, "3 UnknownLabel 4\n"),
-    (AsmCause::DuplicateLabel, "3 DuplicateLabel 5\n"),
-    (AsmCause::LabelRange, "3 LabelRange 6\n"),
-    (AsmCause::TooLarge, "3 TooLarge 7\n"),
+/// The causes at line 3 of a source, with the line of the refusal.
+const ASM_CAUSES: &[(AsmCause, &str)] = &[
+    (
+        AsmCause::UnknownMnemonic,
+        "rvstm: asm 3 UnknownMnemonic 1\n",
+    ),
+    (AsmCause::BadOperand, "rvstm: asm 3 BadOperand 2\n"),
+    (AsmCause::ImmediateRange, "rvstm: asm 3 ImmediateRange 3\n"),
+    (AsmCause::UnknownLabel, "rvstm: asm 3 UnknownLabel 4\n"),
+    (AsmCause::DuplicateLabel, "rvstm: asm 3 DuplicateLabel 5\n"),
+    (AsmCause::LabelRange, "rvstm: asm 3 LabelRange 6\n"),
+    (AsmCause::TooLarge, "rvstm: asm 3 TooLarge 7\n"),
 ];
 
 const NO_BLOCK_MEMORY: BlockFault = BlockFault {
@@ -40,7 +76,8 @@ const NO_ASM_MEMORY: AsmError = AsmError {
     cause: AsmCause::Memory,
 };
 
-const OTHERS: [(Refusal, &str); 43] = [
+/// The refusals that `others` gives.
+const OTHERS: &[(Refusal, &str)] = &[
     (
         Refusal::File(FileFault::Unreadable),
         "rvstm: file Unreadable 1\n",
@@ -161,49 +198,49 @@ const OTHERS: [(Refusal, &str); 43] = [
     ),
 ];
 
-#[test]
-fn each_refusal_has_its_line(rt: HostRuntime) -> Result<(), Fail> {
-    for (refusal, line) in OTHERS {
-        let mut errors = Vec::new(rt.alloc());
-        assert_eq!(rt; report(&refusal, &mut errors), 1);
-        assert_eq!(rt; errors.as_slice(), line.as_bytes());
-    }
-    for (cause, line) in CAUSES {
-        let fault = BlockFault { line: 2, cause };
-        for (refusal, area) in [
-            (Refusal::Block(fault), "rvstm: block "),
-            (Refusal::Schedule(fault), "rvstm: schedule "),
-        ] {
-            let mut errors = Vec::new(rt.alloc());
-            assert_eq!(rt; report(&refusal, &mut errors), 1);
-            assert!(rt;
-                errors.as_slice().strip_prefix(area.as_bytes()) == Some(line.as_bytes()),
-                "{line}"
-            );
-        }
-    }
-    for (cause, line) in ASM_CAUSES {
-        let refusal = Refusal::Asm(AsmError { line: 3, cause });
-        let mut errors = Vec::new(rt.alloc());
-        assert_eq!(rt; report(&refusal, &mut errors), 1);
-        assert!(rt;
-            errors.as_slice().strip_prefix(b"rvstm: asm ".as_slice()) == Some(line.as_bytes()),
-            "{line}"
-        );
-    }
-    Ok(())
+/// The other refusals, with their lines.
+fn others() -> &'static [(Refusal, &'static str)] {
+    OTHERS
+}
+
+/// Asserts the lines of a cause at line 2 of a block file and of a schedule file.
+fn assert_block_lines(rt: &impl Abort, alloc: Global, cause: Cause, block: &str, schedule: &str) {
+    let fault = BlockFault { line: 2, cause };
+    assert_reported(rt, alloc, &Refusal::Block(fault), block);
+    assert_reported(rt, alloc, &Refusal::Schedule(fault), schedule);
+}
+
+/// Asserts the line of a cause at line 3 of a source.
+fn assert_asm_line(rt: &impl Abort, alloc: Global, cause: AsmCause, line: &str) {
+    let fault = AsmError { line: 3, cause };
+    assert_reported(rt, alloc, &Refusal::Asm(fault), line);
 }
 
 #[test]
+fn each_refusal_has_its_line(rt: HostRuntime) {
+    for (refusal, line) in others() {
+        assert_reported(&rt, rt.alloc(), refusal, line);
+    }
+    for (cause, block, schedule) in CAUSES {
+        assert_block_lines(&rt, rt.alloc(), *cause, block, schedule);
+    }
+    for (cause, line) in ASM_CAUSES {
+        assert_asm_line(&rt, rt.alloc(), *cause, line);
+    }
+}
+
+/// The faults of handing in a run, with what they print.
+const RECORD_FAULTS: &[(RecordFault, &str)] = &[
+    (RecordFault::Foreign, "Foreign 1"),
+    (RecordFault::ArenaFull, "ArenaFull 2"),
+    (RecordFault::Memory, "Memory 3"),
+    (RecordFault::IncarnationLimit, "IncarnationLimit 4"),
+];
+
+#[test]
 fn record_faults_have_their_numbers(rt: HostRuntime) -> Result<(), Fail> {
-    for (fault, name) in [
-        (RecordFault::Foreign, "Foreign 1"),
-        (RecordFault::ArenaFull, "ArenaFull 2"),
-        (RecordFault::Memory, "Memory 3"),
-        (RecordFault::IncarnationLimit, "IncarnationLimit 4"),
-    ] {
-        let text = format!(in rt.alloc(); "{fault}")?;
-        assert_eq!(rt; text.as_str(), name);
+    for (fault, text) in RECORD_FAULTS {
+        assert_shown(&rt, rt.alloc(), fault, text)?;
     }
     Ok(())
 }

@@ -1,10 +1,13 @@
-//! Tests of the engine over programs in memory.
+//! Blocks in memory, run in order.
 
 ghost use Rattle.std.specs.Prelude.{None};
 
-use crate::rows::{COUNT, ROWS, Row};
-use engines::{Programs, seq_to};
+use crate::asserts::assert_pieces;
+use crate::rows::{COUNT, Row, rows};
+use engines::{Programs, Refusal, seq_to};
 use std::alloc::{AllocError, Global};
+use std::io::{Read, Write};
+use std::process::Abort;
 use std::test::Fail;
 use std::{io, str};
 
@@ -31,25 +34,72 @@ impl<'a> Programs for InMemory<'a> {
     }
 }
 
+/// A block file and the files of its programs.
+#[derive(Drop)]
+pub struct BlockInMemory {
+    /// The text of the block file.
+    pub text: String,
+    /// The files of the programs.
+    pub files: Vec<Vec<u8>>,
+}
+
+impl BlockInMemory {
+    /// A block of some programs and further lines.
+    pub fn new(
+        alloc: Global,
+        programs: &[&[u32]],
+        lines: &str,
+    ) -> Result<BlockInMemory, AllocError> {
+        Ok(BlockInMemory {
+            text: block_of(alloc, programs.len(), lines)?,
+            files: files_of(alloc, programs)?,
+        })
+    }
+}
+
+/// The words of an ELF header and of one program header: a segment of so many bytes at 0x10000, to read
+/// and execute.
+fn header_words(size: u32) -> [u32; 16] {
+    [
+        1,
+        0x1_0000,
+        52,
+        0,
+        0,
+        0x0020_0034,
+        1,
+        0,
+        1,
+        84,
+        0x1_0000,
+        0x1_0000,
+        size,
+        size,
+        5,
+        4,
+    ]
+}
+
+/// Appends words to a file, the lowest byte of each first.
+fn push_words(file: &mut Vec<u8>, words: &[u32]) -> Result<(), AllocError> {
+    for word in words {
+        file.extend_from_slice(u32::to_le_bytes(*word).as_slice())?;
+    }
+    Ok(())
+}
+
 /// The ELF file of a program: a header, one segment to read and execute at 0x10000, and the words.
 pub fn elf_of(alloc: Global, words: &[u32]) -> Result<Vec<u8>, AllocError> {
     let size = u32::try_from(words.len()).unwrap_or(0).wrapping_mul(4);
     let mut file = Vec::new(alloc);
     file.extend_from_slice(b"\x7fELF\x01\x01\x01\0\0\0\0\0\0\0\0\0\x02\0\xf3\0")?;
-    for word in [1, 0x1_0000, 52, 0, 0, 0x0020_0034, 1, 0] {
-        file.extend_from_slice(u32::to_le_bytes(word).as_slice())?;
-    }
-    for word in [1, 84, 0x1_0000, 0x1_0000, size, size, 5, 4] {
-        file.extend_from_slice(u32::to_le_bytes(word).as_slice())?;
-    }
-    for word in words {
-        file.extend_from_slice(u32::to_le_bytes(*word).as_slice())?;
-    }
+    push_words(&mut file, &header_words(size))?;
+    push_words(&mut file, words)?;
     Ok(file)
 }
 
 /// The files of some programs.
-pub fn files_of(alloc: Global, programs: &[&[u32]]) -> Result<Vec<Vec<u8>>, AllocError> {
+fn files_of(alloc: Global, programs: &[&[u32]]) -> Result<Vec<Vec<u8>>, AllocError> {
     let mut files = Vec::new(alloc);
     for words in programs {
         files.push(elf_of(alloc, words)?)?;
@@ -57,55 +107,62 @@ pub fn files_of(alloc: Global, programs: &[&[u32]]) -> Result<Vec<Vec<u8>>, Allo
     Ok(files)
 }
 
+/// Appends the line of a program whose path is its number.
+fn push_program(alloc: Global, block: &mut String, number: usize) -> Result<(), AllocError> {
+    let line = format!(in alloc; "program {number} {number}\n")?;
+    block.push_str(line.as_str())
+}
+
 /// The block file of some programs and further lines.
 pub fn block_of(alloc: Global, programs: usize, lines: &str) -> Result<String, AllocError> {
     let mut block = String::from_str(alloc, "rvblock 1\n")?;
     for number in 0..programs {
-        block.push_str(format!(in alloc; "program {number} {number}\n")?.as_str())?;
+        push_program(alloc, &mut block, number)?;
     }
     block.push_str(lines)?;
     Ok(block)
 }
 
-/// What the engine prints.
-pub fn printed(alloc: Global, programs: &[&[u32]], lines: &str) -> Result<Vec<u8>, Fail> {
-    let files = files_of(alloc, programs)?;
-    let block = block_of(alloc, programs.len(), lines)?;
+/// Runs a block file in order over programs in memory.
+pub fn run_in_memory<R: Read, W: Write>(
+    alloc: Global,
+    block: &mut R,
+    files: &[Vec<u8>],
+    out: &mut W,
+) -> Result<(), Refusal> {
+    let mut programs = InMemory { files };
+    seq_to(alloc, block, &mut programs, out)
+}
+
+/// What the engine prints of a block.
+pub fn printed(alloc: Global, block: &BlockInMemory) -> Result<Vec<u8>, Refusal> {
     let mut text = Vec::new(alloc);
-    let mut programs = InMemory {
-        files: files.as_slice(),
-    };
-    seq_to(alloc, &mut block.as_bytes(), &mut programs, &mut text)?;
+    run_in_memory(
+        alloc,
+        &mut block.text.as_bytes(),
+        block.files.as_slice(),
+        &mut text,
+    )?;
     Ok(text)
 }
 
-/// Whether a text has these pieces in their order.
-pub fn has_all(text: &[u8], pieces: &[&str]) -> Result<bool, Fail> {
-    let mut rest = str::from_utf8(text)?;
-    for piece in pieces {
-        match rest.split_once(*piece) {
-            Some((_, behind)) => rest = behind,
-            None => return Ok(false),
-        }
-    }
-    Ok(true)
+/// What the engine prints of a row's block.
+pub fn printed_row(alloc: Global, row: &Row) -> Result<Vec<u8>, Fail> {
+    let block = BlockInMemory::new(alloc, row.programs, row.lines)?;
+    Ok(printed(alloc, &block)?)
+}
+
+/// Asserts that the engine prints the pieces of a row.
+fn assert_row(rt: &impl Abort, alloc: Global, row: &Row) -> Result<(), Fail> {
+    let text = printed_row(alloc, row)?;
+    assert_pieces(rt, text.as_slice(), row.pieces, row.name)?;
+    Ok(())
 }
 
 #[test]
 fn rows_print_what_they_say(rt: HostRuntime) -> Result<(), Fail> {
-    for row in ROWS {
-        let Row {
-            name,
-            programs,
-            lines,
-            pieces,
-        } = row;
-        let text = printed(rt.alloc(), programs, lines)?;
-        let shown = str::from_utf8(text.as_slice())?;
-        assert!(rt;
-            has_all(text.as_slice(), pieces)?,
-            "{name} lacks a piece of {pieces:?} in {shown}"
-        );
+    for row in rows() {
+        assert_row(&rt, rt.alloc(), row)?;
     }
     Ok(())
 }
@@ -121,17 +178,31 @@ pub fn forty_count_lines(alloc: Global) -> Result<String, AllocError> {
     Ok(lines)
 }
 
-/// Whether a text is that of forty counts: call i ends with x5 = i + 1, and the key holds 40.
-pub fn shows_forty_counts(alloc: Global, text: &[u8]) -> Result<bool, Fail> {
-    let mut rest = str::from_utf8(text)?;
+/// A block of forty counts of a key.
+pub fn forty_counts_block(alloc: Global) -> Result<BlockInMemory, AllocError> {
+    let lines = forty_count_lines(alloc)?;
+    BlockInMemory::new(alloc, &[COUNT], lines.as_str())
+}
+
+/// What stands behind the end of one of forty counts: call i ends with x5 = i + 1.
+fn behind_count(alloc: Global, text: &str, call: u32) -> Result<Option<&str>, AllocError> {
+    let count = call.wrapping_add(1);
+    let end = format!(in alloc;
+        "call {call} returned gas 639 pc 00010034 out -\n\
+        regs 00000000 00000000 00110000 00000000 00000000 {count:08x} "
+    )?;
+    match text.split_once(end.as_str()) {
+        Some((_, behind)) => Ok(Some(behind)),
+        None => Ok(None),
+    }
+}
+
+/// Whether a text shows forty counts: those of the calls in their order, and 40 at the key.
+fn is_forty_counts(alloc: Global, text: &str) -> Result<bool, AllocError> {
+    let mut rest = text;
     for call in 0..40_u32 {
-        let count = call.wrapping_add(1);
-        let end = format!(in alloc;
-            "call {call} returned gas 639 pc 00010034 out -\n\
-            regs 00000000 00000000 00110000 00000000 00000000 {count:08x} "
-        )?;
-        match rest.split_once(end.as_str()) {
-            Some((_, behind)) => rest = behind,
+        match behind_count(alloc, rest, call)? {
+            Some(behind) => rest = behind,
             None => return Ok(false),
         }
     }
@@ -140,10 +211,14 @@ pub fn shows_forty_counts(alloc: Global, text: &[u8]) -> Result<bool, Fail> {
     ))
 }
 
+/// Whether a text shows forty counts.
+pub fn shows_forty_counts(alloc: Global, text: &[u8]) -> Result<bool, Fail> {
+    Ok(is_forty_counts(alloc, str::from_utf8(text)?)?)
+}
+
 #[test]
 fn forty_counts(rt: HostRuntime) -> Result<(), Fail> {
-    let lines = forty_count_lines(rt.alloc())?;
-    let text = printed(rt.alloc(), &[COUNT], lines.as_str())?;
+    let text = printed(rt.alloc(), &forty_counts_block(rt.alloc())?)?;
     assert!(rt; shows_forty_counts(rt.alloc(), text.as_slice())?);
     Ok(())
 }

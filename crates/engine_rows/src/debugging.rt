@@ -1,45 +1,61 @@
 //! Tests of the debugger.
 
-use crate::blocks::elf_of;
-use crate::failing::{FailingReader, FailingWriter};
+use crate::asserts::{assert_bytes, assert_number};
+use crate::calls::{in_order, job_of_inputs};
+use crate::failing::{FailingReader, FailingWriter, assert_begins, write_fault};
 use crate::rows::{COUNT, ECHO};
 use debugger::{DebugFault, Replay, ReplayFault, debug_to};
-use elf32::load;
-use receipts::WriteFault;
-use rv_ledger::{Call, Job, Outcome, Store};
-use seq_exec::run_in_order;
+use rv_ledger::Outcome;
 use std::alloc::Global;
-use std::sync::Arc;
+use std::io::{Read, Write};
+use std::process::Abort;
 use std::test::Fail;
 
-/// The gas limit of each call.
-const GAS: u32 = 1000;
-
-/// What running some calls of one program in order leaves, each with its input.
+/// The outcome of running some calls of one program in order, each with its input.
 fn outcome_of(alloc: Global, words: &[u32], inputs: &[&[u8]]) -> Result<Outcome, Fail> {
-    let file = elf_of(alloc, words)?;
-    let image = Arc::new(alloc, load(alloc, file.as_slice())?)?;
-    let mut calls = Vec::new(alloc);
-    for input in inputs {
-        let input = input.to_vec(alloc)?;
-        calls.push(Call::new(Arc::try_clone(&image)?, GAS, input)?)?;
-    }
-    let job = Job::new(calls, Store::new(alloc))?;
-    Ok(run_in_order(alloc, &job)?)
+    let job = job_of_inputs(alloc, words, inputs)?;
+    Ok(in_order(alloc, &job)?)
 }
 
-/// A replay of the echo of two bytes, at its moment 0.
+/// The outcome of an echo of two bytes.
+fn echo_outcome(alloc: Global) -> Result<Outcome, Fail> {
+    outcome_of(alloc, ECHO, &[b"\x01\x02"])
+}
+
+/// The replay of a call of an outcome, at its moment 0.
+fn open(alloc: Global, outcome: &Outcome, index: usize) -> Result<Replay, ReplayFault> {
+    Replay::open(alloc, outcome, index)
+}
+
+/// The replay of the echo, at its moment 0.
 fn echo(alloc: Global) -> Result<Replay, Fail> {
-    let outcome = outcome_of(alloc, ECHO, &[b"\x01\x02"])?;
-    Ok(Replay::open(alloc, &outcome, 0)?)
+    let outcome = echo_outcome(alloc)?;
+    Ok(open(alloc, &outcome, 0)?)
+}
+
+/// Debugs a replay along the lines of a reader.
+fn debug<R: Read, W: Write>(
+    alloc: Global,
+    replay: &mut Replay,
+    lines: &mut R,
+    out: &mut W,
+) -> Result<(), DebugFault> {
+    debug_to(alloc, replay, lines, out)
 }
 
 /// What a session over the echo prints.
 fn printed(alloc: Global, lines: &str) -> Result<Vec<u8>, Fail> {
     let mut replay = echo(alloc)?;
     let mut text = Vec::new(alloc);
-    debug_to(alloc, &mut replay, &mut lines.as_bytes(), &mut text)?;
+    debug(alloc, &mut replay, &mut lines.as_bytes(), &mut text)?;
     Ok(text)
+}
+
+/// Asserts what a session over the echo prints.
+fn assert_prints(rt: &impl Abort, alloc: Global, lines: &str, text: &str) -> Result<(), Fail> {
+    let found = printed(alloc, lines)?;
+    assert_bytes(rt, found.as_slice(), text.as_bytes(), lines);
+    Ok(())
 }
 
 /// Lines, and what they print.
@@ -125,32 +141,57 @@ const WRONG_LINES: &[&str] = &[
     "\u{e9}\n",
 ];
 
+/// Asserts where a replay stands.
+fn assert_place(
+    rt: &impl Abort,
+    alloc: Global,
+    replay: &Replay,
+    place: &str,
+) -> Result<(), ReplayFault> {
+    let mut text = String::new(alloc);
+    replay.where_text(&mut text)?;
+    assert_bytes(rt, text.as_bytes(), place.as_bytes(), place);
+    Ok(())
+}
+
+/// Makes a step and asserts where a replay stands then.
+fn step_to(
+    rt: &impl Abort,
+    alloc: Global,
+    replay: &mut Replay,
+    place: &str,
+) -> Result<(), ReplayFault> {
+    replay.step()?;
+    assert_place(rt, alloc, replay, place)
+}
+
+/// Asserts that a replay of the echo is at its end.
+fn assert_at_end(rt: &impl Abort, replay: &mut Replay) {
+    assert_eq!(rt; replay.step(), Err(ReplayFault::AtEnd));
+    assert_number(rt, replay.moment(), 2, "the moment");
+    assert_number(rt, replay.pc() as u64, 0x0001_0004, "the pc");
+}
+
+/// Makes the steps of a replay of the echo, and asserts where it stands before and after each.
+fn step_through(rt: &impl Abort, alloc: Global, replay: &mut Replay) -> Result<(), ReplayFault> {
+    assert_place(rt, alloc, replay, "0 00010000 addi x17,x0,3")?;
+    step_to(rt, alloc, replay, "1 00010004 ecall")?;
+    step_to(rt, alloc, replay, "2 00010004 ecall")?;
+    assert_at_end(rt, replay);
+    Ok(())
+}
+
 #[test]
 fn debug_echo(rt: HostRuntime) -> Result<(), Fail> {
     let mut replay = echo(rt.alloc())?;
-    for place in [
-        "0 00010000 addi x17,x0,3",
-        "1 00010004 ecall",
-        "2 00010004 ecall",
-    ] {
-        let mut text = String::new(rt.alloc());
-        replay.where_text(&mut text)?;
-        assert_eq!(rt; text.as_str(), place);
-        if replay.moment() < 2 {
-            replay.step()?;
-        }
-    }
-    assert_eq!(rt; replay.step(), Err(ReplayFault::AtEnd));
-    assert_eq!(rt; replay.moment(), 2);
-    assert_eq!(rt; replay.pc(), 0x0001_0004);
+    step_through(&rt, rt.alloc(), &mut replay)?;
     Ok(())
 }
 
 #[test]
 fn debug_lines(rt: HostRuntime) -> Result<(), Fail> {
     for (lines, text) in SESSIONS {
-        let printed = printed(rt.alloc(), lines)?;
-        assert!(rt; printed.as_slice() == text.as_bytes(), "{lines}");
+        assert_prints(&rt, rt.alloc(), lines, text)?;
     }
     Ok(())
 }
@@ -158,18 +199,45 @@ fn debug_lines(rt: HostRuntime) -> Result<(), Fail> {
 #[test]
 fn wrong_lines(rt: HostRuntime) -> Result<(), Fail> {
     for line in WRONG_LINES {
-        let printed = printed(rt.alloc(), line)?;
-        assert!(rt; printed.as_slice() == b"what\n".as_slice(), "{line}");
+        assert_prints(&rt, rt.alloc(), line, "what\n")?;
     }
     Ok(())
 }
 
 #[test]
 fn debug_no_such_call(rt: HostRuntime) -> Result<(), Fail> {
-    let outcome = outcome_of(rt.alloc(), ECHO, &[b"\x01\x02"])?;
-    let opened = Replay::open(rt.alloc(), &outcome, 1);
-    assert_eq!(rt; opened.err(), Some(ReplayFault::NoSuchCall));
+    let outcome = echo_outcome(rt.alloc())?;
+    let fault = open(rt.alloc(), &outcome, 1).err();
+    assert_eq!(rt; fault, Some(ReplayFault::NoSuchCall));
     Ok(())
+}
+
+/// Runs a replay to a pc, and returns register x5 there.
+fn register_at(replay: &mut Replay, pc: u32) -> Result<u32, ReplayFault> {
+    replay.run_to(pc)?;
+    Ok(replay.regs().values()[5])
+}
+
+/// Asserts which count a replay of a call of COUNT reads, and that it counts one up.
+fn assert_counts(rt: &impl Abort, replay: &mut Replay, count: u32) -> Result<(), ReplayFault> {
+    // The instruction behind the READ and the load of what it gave.
+    let read = register_at(replay, 0x0001_0014)?;
+    let written = register_at(replay, 0)?;
+    assert_number(rt, read as u64, count as u64, "read");
+    assert_number(rt, written as u64, count.wrapping_add(1) as u64, "written");
+    Ok(())
+}
+
+/// Asserts which count the replay of a call of an outcome reads, and that it counts one up.
+fn assert_count(
+    rt: &impl Abort,
+    alloc: Global,
+    outcome: &Outcome,
+    index: usize,
+    count: u32,
+) -> Result<(), ReplayFault> {
+    let mut replay = open(alloc, outcome, index)?;
+    assert_counts(rt, &mut replay, count)
 }
 
 /// Each of three counts of one key reads what the one before it wrote, and not what the last one wrote.
@@ -177,18 +245,13 @@ fn debug_no_such_call(rt: HostRuntime) -> Result<(), Fail> {
 fn a_call_is_replayed_over_the_storage_before_it(rt: HostRuntime) -> Result<(), Fail> {
     let key = [0xaa; 32];
     let outcome = outcome_of(rt.alloc(), COUNT, &[&key, &key, &key])?;
-    for (index, count) in [(0, 0u32), (1, 1), (2, 2)] {
-        let mut replay = Replay::open(rt.alloc(), &outcome, index)?;
-        // The instruction behind the READ and the load of what it gave.
-        replay.run_to(0x0001_0014)?;
-        assert_eq!(rt; replay.regs().values()[5], count);
-        replay.run_to(0)?;
-        assert_eq!(rt; replay.regs().values()[5], count.wrapping_add(1));
-    }
+    assert_count(&rt, rt.alloc(), &outcome, 0, 0)?;
+    assert_count(&rt, rt.alloc(), &outcome, 1, 1)?;
+    assert_count(&rt, rt.alloc(), &outcome, 2, 2)?;
     Ok(())
 }
 
-/// What is typed where a read or a write fails: lines of two bytes each.
+/// The lines of a session of which a read or a write fails, each of two bytes.
 const TYPED: &[u8] = b"s\nx\nb\n";
 
 /// What is printed when no line, one, two and all three of them are read.
@@ -199,47 +262,68 @@ const PRINTED: [&str; 4] = [
     "1 00010004 ecall\nwhat\n0 00010000 addi x17,x0,3\n",
 ];
 
-#[test]
-fn failing_reads(rt: HostRuntime) -> Result<(), Fail> {
-    let alloc = rt.alloc();
-    for reads in 0..=TYPED.len() {
-        let mut replay = echo(alloc)?;
-        let mut text = Vec::new(alloc);
-        let mut lines = FailingReader {
-            bytes: TYPED,
-            reads,
-        };
-        let answer = debug_to(alloc, &mut replay, &mut lines, &mut text);
-        assert_eq!(rt; answer, Err(DebugFault::Unreadable));
-        let printed = PRINTED.get(reads / 2).copied().unwrap_or("");
-        assert!(rt; text.as_slice() == printed.as_bytes(), "{reads}");
-        let moment = if reads / 2 == 1 || reads / 2 == 2 {
-            1
-        } else {
-            0
-        };
-        assert_eq!(rt; replay.moment(), moment);
-    }
+/// Asserts that a session was unreadable after so many lines, with what it printed before and the moment at
+/// which its replay stands then.
+fn assert_unread(
+    rt: &impl Abort,
+    answer: Result<(), DebugFault>,
+    text: &[u8],
+    moment: u64,
+    lines: usize,
+) {
+    assert_eq!(rt; answer, Err(DebugFault::Unreadable), "after {lines} lines");
+    let printed = PRINTED.get(lines).copied().unwrap_or("");
+    assert_bytes(rt, text, printed.as_bytes(), "a read fails");
+    let reached = if lines == 1 || lines == 2 { 1 } else { 0 };
+    assert_number(rt, moment, reached, "the moment where a read fails");
+}
+
+/// Asserts what a session does whose reader fails after so many reads of one byte.
+fn assert_read_fails(rt: &impl Abort, alloc: Global, reads: usize) -> Result<(), Fail> {
+    let mut replay = echo(alloc)?;
+    let mut text = Vec::new(alloc);
+    let mut lines = FailingReader {
+        bytes: TYPED,
+        reads,
+    };
+    let answer = debug(alloc, &mut replay, &mut lines, &mut text);
+    assert_unread(rt, answer, text.as_slice(), replay.moment(), reads / 2);
     Ok(())
 }
 
 #[test]
+fn failing_reads(rt: HostRuntime) -> Result<(), Fail> {
+    for reads in 0..=TYPED.len() {
+        assert_read_fails(&rt, rt.alloc(), reads)?;
+    }
+    Ok(())
+}
+
+/// Asserts what a session does whose writer takes so many bytes, and then fails or takes nothing.
+fn assert_write_fails(
+    rt: &impl Abort,
+    alloc: Global,
+    left: usize,
+    fails: bool,
+) -> Result<(), Fail> {
+    let mut replay = echo(alloc)?;
+    let mut out = FailingWriter::new(alloc, left, fails);
+    let answer = debug(alloc, &mut replay, &mut &*TYPED, &mut out);
+    assert_refused_write(rt, answer, fails);
+    assert_begins(rt, PRINTED[3].as_bytes(), out.taken.as_slice(), left);
+    Ok(())
+}
+
+/// Asserts what a session answers where its writer fails, or takes nothing.
+fn assert_refused_write(rt: &impl Abort, answer: Result<(), DebugFault>, fails: bool) {
+    assert_eq!(rt; answer, Err(DebugFault::Output(write_fault(fails))));
+}
+
+#[test]
 fn failing_writes(rt: HostRuntime) -> Result<(), Fail> {
-    let alloc = rt.alloc();
-    let [.., whole] = PRINTED;
-    for left in 0..whole.len() {
-        for (fails, fault) in [(true, WriteFault::Io), (false, WriteFault::WroteNothing)] {
-            let mut replay = echo(alloc)?;
-            let mut out = FailingWriter {
-                taken: Vec::new(alloc),
-                left,
-                fails,
-            };
-            let answer = debug_to(alloc, &mut replay, &mut &*TYPED, &mut out);
-            assert_eq!(rt; answer, Err(DebugFault::Output(fault)));
-            assert_eq!(rt; out.taken.len(), left);
-            assert!(rt; whole.as_bytes().starts_with(out.taken.as_slice()));
-        }
+    for left in 0..PRINTED[3].len() {
+        assert_write_fails(&rt, rt.alloc(), left, true)?;
+        assert_write_fails(&rt, rt.alloc(), left, false)?;
     }
     Ok(())
 }

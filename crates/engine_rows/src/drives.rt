@@ -1,42 +1,49 @@
 //! Blocks run along schedules.
 
-use crate::blocks::{InMemory, block_of, files_of, has_all, printed};
+use crate::asserts::{assert_bytes, assert_pieces, assert_reported, assert_unreadable};
+use crate::blocks::{BlockInMemory, InMemory, printed_row};
 use crate::failing::FailingReader;
-use crate::rows::{ECHO, ROWS, Row};
-use engines::{FileFault, Refusal, drive_to, report};
+use crate::rows::{ECHO, Row, rows};
+use engines::{Refusal, drive_to};
 use std::alloc::{AllocError, Global};
+use std::io::Read;
+use std::process::Abort;
 use std::test::Fail;
-use stm_core::DriveFault;
 
 /// The calls of three echoes.
 const THREE_ECHOES: &str = "call 0 1000 -\ncall 0 1000 01\ncall 0 1000 0102\n";
 
-/// What the engine prints along a schedule, or its refusal.
+/// Runs a block by so many workers along the schedule of a reader.
+fn drive<S: Read>(
+    alloc: Global,
+    block: &BlockInMemory,
+    workers: usize,
+    schedule: &mut S,
+    out: &mut Vec<u8>,
+) -> Result<(), Refusal> {
+    let mut programs = InMemory {
+        files: block.files.as_slice(),
+    };
+    let mut text = block.text.as_bytes();
+    drive_to(alloc, &mut text, &mut programs, schedule, workers, out)
+}
+
+/// What the engine prints of a block along a schedule.
 pub fn driven(
     alloc: Global,
-    programs: &[&[u32]],
-    lines: &str,
+    block: &BlockInMemory,
     workers: usize,
     schedule: &str,
-) -> Result<Result<Vec<u8>, Refusal>, Fail> {
-    let files = files_of(alloc, programs)?;
-    let block = block_of(alloc, programs.len(), lines)?;
+) -> Result<Vec<u8>, Refusal> {
     let mut text = Vec::new(alloc);
-    let mut programs = InMemory {
-        files: files.as_slice(),
-    };
-    let answer = drive_to(
-        alloc,
-        &mut block.as_bytes(),
-        &mut programs,
-        &mut schedule.as_bytes(),
-        workers,
-        &mut text,
-    );
-    Ok(match answer {
-        Ok(()) => Ok(text),
-        Err(refusal) => Err(refusal),
-    })
+    drive(alloc, block, workers, &mut schedule.as_bytes(), &mut text)?;
+    Ok(text)
+}
+
+/// Appends the line of a worker number to a schedule.
+pub fn push_worker(alloc: Global, schedule: &mut String, worker: usize) -> Result<(), AllocError> {
+    let line = format!(in alloc; "{worker}\n")?;
+    schedule.push_str(line.as_str())
 }
 
 /// A schedule in which so many workers make their steps in turn.
@@ -44,31 +51,53 @@ fn in_turn(alloc: Global, workers: usize, steps: usize) -> Result<String, AllocE
     let mut schedule = String::new(alloc);
     for step in 0..steps {
         let worker = if workers == 0 { 0 } else { step % workers };
-        schedule.push_str(format!(in alloc; "{worker}\n")?.as_str())?;
+        push_worker(alloc, &mut schedule, worker)?;
     }
     Ok(schedule)
 }
 
+/// What the engine prints of a row's block where so many workers make their steps in turn.
+fn driven_in_turn(
+    rt: &impl Abort,
+    alloc: Global,
+    row: &Row,
+    workers: usize,
+) -> Result<Vec<u8>, AllocError> {
+    let block = BlockInMemory::new(alloc, row.programs, row.lines)?;
+    let schedule = in_turn(alloc, workers, 1000)?;
+    match driven(alloc, &block, workers, schedule.as_str()) {
+        Ok(text) => Ok(text),
+        Err(refusal) => panic!(rt; "{} by {workers} is refused: {refusal}", row.name),
+    }
+}
+
+/// Asserts that a text is what the engine prints of a row's block in order, and that it has the row's pieces.
+pub fn assert_in_order(
+    rt: &impl Abort,
+    alloc: Global,
+    row: &Row,
+    text: &[u8],
+    case: &str,
+) -> Result<(), Fail> {
+    let wanted = printed_row(alloc, row)?;
+    assert_bytes(rt, text, wanted.as_slice(), case);
+    assert_pieces(rt, text, row.pieces, case)?;
+    Ok(())
+}
+
+/// Asserts that so many workers in turn come to what the calls of a row come to in order.
+fn assert_row(rt: &impl Abort, alloc: Global, row: &Row, workers: usize) -> Result<(), Fail> {
+    let text = driven_in_turn(rt, alloc, row, workers)?;
+    let case = format!(in alloc; "{} by {workers}", row.name)?;
+    assert_in_order(rt, alloc, row, text.as_slice(), case.as_str())
+}
+
 #[test]
 fn rows_print_the_same_along_schedules(rt: HostRuntime) -> Result<(), Fail> {
-    let alloc = rt.alloc();
-    for row in ROWS {
-        let Row {
-            name,
-            programs,
-            lines,
-            pieces,
-        } = row;
-        let in_order = printed(alloc, programs, lines)?;
-        for workers in [1, 2, 3] {
-            let schedule = in_turn(alloc, workers, 1000)?;
-            let answer = driven(alloc, programs, lines, workers, schedule.as_str())?;
-            let Ok(text) = answer else {
-                panic!(rt; "{name} by {workers} is refused");
-            };
-            assert_eq!(rt; text.as_slice(), in_order.as_slice(), "{name} by {workers}");
-            assert!(rt; has_all(text.as_slice(), pieces)?, "{name} by {workers}");
-        }
+    for row in rows() {
+        assert_row(&rt, rt.alloc(), row, 1)?;
+        assert_row(&rt, rt.alloc(), row, 2)?;
+        assert_row(&rt, rt.alloc(), row, 3)?;
     }
     Ok(())
 }
@@ -76,72 +105,82 @@ fn rows_print_the_same_along_schedules(rt: HostRuntime) -> Result<(), Fail> {
 #[test]
 fn an_empty_block_is_done_at_once(rt: HostRuntime) -> Result<(), Fail> {
     let lines = "store 0000000000000000000000000000000000000000000000000000000000000001 07\n";
-    let answer = driven(rt.alloc(), &[], lines, 1, "")?;
-    let Ok(text) = answer else {
-        panic!(rt; "an empty block is refused");
-    };
+    let block = BlockInMemory::new(rt.alloc(), &[], lines)?;
+    let text = driven(rt.alloc(), &block, 1, "")?;
     let wanted = "store 0000000000000000000000000000000000000000000000000000000000000001 07\nend\n";
-    assert_eq!(rt; text.as_slice(), wanted.as_bytes());
+    assert_bytes(&rt, text.as_slice(), wanted.as_bytes(), "an empty block");
     Ok(())
 }
 
-#[test]
-fn refused_schedules_are_reported(rt: HostRuntime) -> Result<(), Fail> {
-    let alloc = rt.alloc();
-    for (lines, workers, schedule, line) in [
-        (THREE_ECHOES, 1, "0\n", "rvstm: drive NotDone 1\n"),
-        (THREE_ECHOES, 2, "0\n2\n", "rvstm: drive BadWorker 2\n"),
-        (THREE_ECHOES, 0, "", "rvstm: drive BadWorker 2\n"),
-        (THREE_ECHOES, 33, "0\n", "rvstm: drive BadWorker 2\n"),
-        (
-            THREE_ECHOES,
-            1,
-            "0\n01\n",
-            "rvstm: schedule 2 BadNumber 3\n",
-        ),
-        (THREE_ECHOES, 1, "0\n1", "rvstm: schedule 2 BadNumber 3\n"),
-        (
-            "call 1 1 -\n",
-            1,
-            "x\n",
-            "rvstm: block 3 UnknownProgram 6\n",
-        ),
-    ] {
-        let Err(refusal) = driven(alloc, &[ECHO], lines, workers, schedule)? else {
-            panic!(rt; "{schedule:?} is taken");
-        };
-        let mut errors = Vec::new(alloc);
-        assert_eq!(rt; report(&refusal, &mut errors), 1);
-        assert_eq!(rt; errors.as_slice(), line.as_bytes());
+/// The call lines of a block of ECHO, the number of workers, a schedule, and the line of the refusal.
+const REFUSED: &[(&str, usize, &str, &str)] = &[
+    (THREE_ECHOES, 1, "0\n", "rvstm: drive NotDone 1\n"),
+    (THREE_ECHOES, 2, "0\n2\n", "rvstm: drive BadWorker 2\n"),
+    (THREE_ECHOES, 0, "", "rvstm: drive BadWorker 2\n"),
+    (THREE_ECHOES, 33, "0\n", "rvstm: drive BadWorker 2\n"),
+    (
+        THREE_ECHOES,
+        1,
+        "0\n01\n",
+        "rvstm: schedule 2 BadNumber 3\n",
+    ),
+    (THREE_ECHOES, 1, "0\n1", "rvstm: schedule 2 BadNumber 3\n"),
+    (
+        "call 1 1 -\n",
+        1,
+        "x\n",
+        "rvstm: block 3 UnknownProgram 6\n",
+    ),
+];
+
+/// Asserts that a block of ECHO is refused along a schedule, with a line.
+fn assert_refused(
+    rt: &impl Abort,
+    alloc: Global,
+    lines: &str,
+    workers: usize,
+    schedule: &str,
+    line: &str,
+) -> Result<(), AllocError> {
+    let block = BlockInMemory::new(alloc, &[ECHO], lines)?;
+    match driven(alloc, &block, workers, schedule) {
+        Ok(_) => panic!(rt; "{schedule:?} is taken"),
+        Err(refusal) => assert_reported(rt, alloc, &refusal, line),
     }
     Ok(())
 }
 
 #[test]
+fn refused_schedules_are_reported(rt: HostRuntime) -> Result<(), Fail> {
+    for (lines, workers, schedule, line) in REFUSED {
+        assert_refused(&rt, rt.alloc(), lines, *workers, schedule, line)?;
+    }
+    Ok(())
+}
+
+/// Asserts that a schedule is unreadable where its reader fails after so many reads.
+fn assert_read_fails(
+    rt: &impl Abort,
+    alloc: Global,
+    block: &BlockInMemory,
+    schedule: &str,
+    reads: usize,
+) {
+    let mut reader = FailingReader {
+        bytes: schedule.as_bytes(),
+        reads,
+    };
+    let mut out = Vec::new(alloc);
+    let answer = drive(alloc, block, 1, &mut reader, &mut out);
+    assert_unreadable(rt, answer, out.as_slice(), reads);
+}
+
+#[test]
 fn a_failing_schedule_is_unreadable(rt: HostRuntime) -> Result<(), Fail> {
-    let alloc = rt.alloc();
-    let files = files_of(alloc, &[ECHO])?;
-    let block = block_of(alloc, 1, THREE_ECHOES)?;
-    let schedule = in_turn(alloc, 1, 12)?;
+    let block = BlockInMemory::new(rt.alloc(), &[ECHO], THREE_ECHOES)?;
+    let schedule = in_turn(rt.alloc(), 1, 12)?;
     for reads in 0..schedule.len() {
-        let mut programs = InMemory {
-            files: files.as_slice(),
-        };
-        let mut reader = FailingReader {
-            bytes: schedule.as_bytes(),
-            reads,
-        };
-        let mut out = Vec::new(alloc);
-        let answer = drive_to(
-            alloc,
-            &mut block.as_bytes(),
-            &mut programs,
-            &mut reader,
-            1,
-            &mut out,
-        );
-        assert_eq!(rt; answer, Err(Refusal::File(FileFault::Unreadable)));
-        assert!(rt; out.is_empty());
+        assert_read_fails(&rt, rt.alloc(), &block, schedule.as_str(), reads);
     }
     Ok(())
 }

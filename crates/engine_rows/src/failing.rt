@@ -1,11 +1,14 @@
 //! Readers, programs and writers that fail.
 
-use crate::blocks::{InMemory, block_of, files_of};
+use crate::asserts::{assert_number, assert_reported, assert_unreadable};
+use crate::blocks::{BlockInMemory, printed, run_in_memory};
 use crate::rows::ECHO;
-use engines::{FileFault, Refusal, report, seq_to};
+use engines::Refusal;
 use receipts::WriteFault;
+use std::alloc::{AllocError, Global};
 use std::io;
 use std::io::{Read, Write};
+use std::process::Abort;
 use std::test::Fail;
 
 /// A reader of which a read fails: it gives one byte a read.
@@ -45,6 +48,17 @@ pub struct FailingWriter {
     pub fails: bool,
 }
 
+impl FailingWriter {
+    /// A writer that took nothing yet.
+    pub fn new(alloc: Global, left: usize, fails: bool) -> FailingWriter {
+        FailingWriter {
+            taken: Vec::new(alloc),
+            left,
+            fails,
+        }
+    }
+}
+
 impl Write for FailingWriter {
     fn write(&mut self, buf: &[u8]) -> io::Result<usize> {
         if self.left == 0 {
@@ -69,80 +83,116 @@ impl Write for FailingWriter {
     }
 }
 
+/// What an engine answers where its writer fails, or takes nothing.
+pub fn write_fault(fails: bool) -> WriteFault {
+    if fails {
+        WriteFault::Io
+    } else {
+        WriteFault::WroteNothing
+    }
+}
+
+/// Asserts that a writer took the first bytes of a text, so many as it was to take.
+pub fn assert_begins(rt: &impl Abort, text: &[u8], taken: &[u8], count: usize) {
+    assert_number(rt, taken.len() as u64, count as u64, "bytes taken");
+    assert!(rt; text.starts_with(taken), "after {count} bytes");
+}
+
+/// A block of one program and one key with a value.
+fn block_of_one_value(alloc: Global) -> Result<BlockInMemory, AllocError> {
+    BlockInMemory::new(
+        alloc,
+        &[ECHO],
+        "store 00000000000000000000000000000000000000000000000000000000000000ff 0102\n",
+    )
+}
+
+/// Asserts that a block is unreadable where its reader fails after so many reads.
+fn assert_read_fails(rt: &impl Abort, alloc: Global, block: &BlockInMemory, reads: usize) {
+    let mut reader = FailingReader {
+        bytes: block.text.as_bytes(),
+        reads,
+    };
+    let mut out = Vec::new(alloc);
+    let answer = run_in_memory(alloc, &mut reader, block.files.as_slice(), &mut out);
+    assert_unreadable(rt, answer, out.as_slice(), reads);
+}
+
+/// Asserts that a block is unreadable where its program is missing.
+fn assert_program_fails(rt: &impl Abort, alloc: Global, block: &BlockInMemory) {
+    let mut out = Vec::new(alloc);
+    let answer = run_in_memory(alloc, &mut block.text.as_bytes(), &[], &mut out);
+    assert_unreadable(rt, answer, out.as_slice(), block.text.len());
+}
+
+/// Asserts that the output is refused where a writer takes so many bytes, and then fails or takes nothing.
+fn assert_write_fails(
+    rt: &impl Abort,
+    alloc: Global,
+    block: &BlockInMemory,
+    text: &[u8],
+    left: usize,
+    fails: bool,
+) {
+    let mut writer = FailingWriter::new(alloc, left, fails);
+    let answer = run_in_memory(
+        alloc,
+        &mut block.text.as_bytes(),
+        block.files.as_slice(),
+        &mut writer,
+    );
+    assert_refused_write(rt, answer, fails);
+    assert_begins(rt, text, writer.taken.as_slice(), left);
+}
+
+/// Asserts what an engine answers where its writer fails, or takes nothing.
+pub fn assert_refused_write(rt: &impl Abort, answer: Result<(), Refusal>, fails: bool) {
+    assert_eq!(rt; answer, Err(Refusal::Output(write_fault(fails))));
+}
+
 #[test]
 fn failing_files(rt: HostRuntime) -> Result<(), Fail> {
-    let files = files_of(rt.alloc(), &[ECHO])?;
-    let block = block_of(
-        rt.alloc(),
-        1,
-        "store 00000000000000000000000000000000000000000000000000000000000000ff 0102\n",
-    )?;
-    let mut text = Vec::new(rt.alloc());
-    let mut programs = InMemory {
-        files: files.as_slice(),
-    };
-    seq_to(rt.alloc(), &mut block.as_bytes(), &mut programs, &mut text)?;
-    for reads in 0..block.len() {
-        let mut reader = FailingReader {
-            bytes: block.as_bytes(),
-            reads,
-        };
-        let mut out = Vec::new(rt.alloc());
-        let answer = seq_to(rt.alloc(), &mut reader, &mut programs, &mut out);
-        assert_eq!(rt; answer, Err(Refusal::File(FileFault::Unreadable)));
-        assert!(rt; out.is_empty());
+    let block = block_of_one_value(rt.alloc())?;
+    let text = printed(rt.alloc(), &block)?;
+    for reads in 0..block.text.len() {
+        assert_read_fails(&rt, rt.alloc(), &block, reads);
     }
-    let mut none = InMemory { files: &[] };
-    let mut out = Vec::new(rt.alloc());
-    let answer = seq_to(rt.alloc(), &mut block.as_bytes(), &mut none, &mut out);
-    assert_eq!(rt; answer, Err(Refusal::File(FileFault::Unreadable)));
-    assert!(rt; out.is_empty());
+    assert_program_fails(&rt, rt.alloc(), &block);
     for left in 0..text.len() {
-        for (fails, fault) in [(true, WriteFault::Io), (false, WriteFault::WroteNothing)] {
-            let mut writer = FailingWriter {
-                taken: Vec::new(rt.alloc()),
-                left,
-                fails,
-            };
-            let answer = seq_to(
-                rt.alloc(),
-                &mut block.as_bytes(),
-                &mut programs,
-                &mut writer,
-            );
-            assert_eq!(rt; answer, Err(Refusal::Output(fault)));
-            assert_eq!(rt; writer.taken.len(), left);
-            assert!(rt; text.as_slice().starts_with(writer.taken.as_slice()));
-        }
+        assert_write_fails(&rt, rt.alloc(), &block, text.as_slice(), left, true);
+        assert_write_fails(&rt, rt.alloc(), &block, text.as_slice(), left, false);
     }
     Ok(())
 }
 
-#[test]
-fn refusals_are_reported(rt: HostRuntime) -> Result<(), Fail> {
-    let mut programs = InMemory { files: &[] };
-    let rows = [
-        ("", "rvstm: block 1 BadHeader 1\n"),
-        (
-            "rvblock 1\nprogram 0 a\nprogram 2 b\n",
-            "rvstm: block 3 BadNumber 3\n",
-        ),
-        (
-            "rvblock 1\nprogram 0 a\ncall 0 0 -\n",
-            "rvstm: block 3 Limit 7\n",
-        ),
-        ("rvblock 1", "rvstm: block 1 BadLine 2\n"),
-        ("rvblock 1\nprogram 0 a\n", "rvstm: file Unreadable 1\n"),
-    ];
-    for (block, line) in rows {
-        let mut out = Vec::new(rt.alloc());
-        let Err(refusal) = seq_to(rt.alloc(), &mut block.as_bytes(), &mut programs, &mut out) else {
-            panic!(rt; "{block:?} is taken");
-        };
-        let mut errors = Vec::new(rt.alloc());
-        assert_eq!(rt; report(&refusal, &mut errors), 1);
-        assert_eq!(rt; errors.as_slice(), line.as_bytes());
-        assert!(rt; out.is_empty());
+/// Blocks over no programs, each with the line of its refusal.
+const REFUSED: &[(&str, &str)] = &[
+    ("", "rvstm: block 1 BadHeader 1\n"),
+    (
+        "rvblock 1\nprogram 0 a\nprogram 2 b\n",
+        "rvstm: block 3 BadNumber 3\n",
+    ),
+    (
+        "rvblock 1\nprogram 0 a\ncall 0 0 -\n",
+        "rvstm: block 3 Limit 7\n",
+    ),
+    ("rvblock 1", "rvstm: block 1 BadLine 2\n"),
+    ("rvblock 1\nprogram 0 a\n", "rvstm: file Unreadable 1\n"),
+];
+
+/// Asserts that a block over no programs is refused with a line, and that nothing is printed.
+fn assert_refused(rt: &impl Abort, alloc: Global, block: &str, line: &str) {
+    let mut out = Vec::new(alloc);
+    match run_in_memory(alloc, &mut block.as_bytes(), &[], &mut out) {
+        Ok(()) => panic!(rt; "{block:?} is taken"),
+        Err(refusal) => assert_reported(rt, alloc, &refusal, line),
     }
-    Ok(())
+    assert!(rt; out.is_empty(), "{block:?}");
+}
+
+#[test]
+fn refusals_are_reported(rt: HostRuntime) {
+    for (block, line) in REFUSED {
+        assert_refused(&rt, rt.alloc(), block, line);
+    }
 }

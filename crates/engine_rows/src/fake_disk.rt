@@ -1,11 +1,13 @@
 //! A disk in memory, which keeps a record of what it was asked, and of which one request can fail.
 
+use crate::asserts::{assert_bytes, assert_number};
 use engines::{Disk, status};
 use std::alloc::{AllocError, Global};
-use std::cell::{Cell, RefCell};
+use std::cell::{Cell, Ref, RefCell, RefMut};
 use std::env::FillError;
 use std::io;
 use std::io::{Read, Write};
+use std::process::Abort;
 use std::rt::Env;
 use std::sync::Wait;
 use std::thread::Threads;
@@ -20,6 +22,41 @@ pub struct StoredFile {
     pub path: String,
     /// Its bytes.
     pub bytes: Vec<u8>,
+}
+
+impl StoredFile {
+    /// A file of some bytes.
+    fn new(alloc: Global, path: &str, bytes: &[u8]) -> Result<StoredFile, AllocError> {
+        Ok(StoredFile {
+            path: String::from_str(alloc, path)?,
+            bytes: bytes.to_vec(alloc)?,
+        })
+    }
+}
+
+/// The file with a path.
+fn file_at<'a>(files: &'a [StoredFile], path: &str) -> Option<&'a StoredFile> {
+    for file in files {
+        if file.path.as_str() == path {
+            return Some(file);
+        }
+    }
+    None
+}
+
+/// The files that don't have a path.
+fn files_without(
+    alloc: Global,
+    files: Vec<StoredFile>,
+    path: &str,
+) -> Result<Vec<StoredFile>, AllocError> {
+    let mut kept = Vec::new(alloc);
+    for file in files {
+        if file.path.as_str() != path {
+            kept.push(file)?;
+        }
+    }
+    Ok(kept)
 }
 
 /// What the disk has and was asked.
@@ -49,34 +86,53 @@ impl Stored {
         }
     }
 
+    /// The files.
+    fn files(&self) -> io::Result<Ref<'_, Vec<StoredFile>>> {
+        match self.files.try_borrow() {
+            Ok(files) => Ok(files),
+            Err(_) => Err(busy()),
+        }
+    }
+
+    /// The files, to change them.
+    fn files_mut(&self) -> io::Result<RefMut<'_, Vec<StoredFile>>> {
+        match self.files.try_borrow_mut() {
+            Ok(files) => Ok(files),
+            Err(_) => Err(busy()),
+        }
+    }
+
     /// Puts a file on the disk.
     pub fn put(&self, alloc: Global, path: &str, bytes: &[u8]) -> io::Result<()> {
-        let mut file = StoredFile {
-            path: String::from_str(alloc, path)?,
-            bytes: Vec::new(alloc),
-        };
-        file.bytes.extend_from_slice(bytes)?;
-        let mut files = self.files.try_borrow_mut().map_err(|_| busy())?;
+        let file = StoredFile::new(alloc, path, bytes)?;
+        let mut files = self.files_mut()?;
         files.push(file)?;
         Ok(())
     }
 
     /// The bytes of a file.
     pub fn bytes_of(&self, alloc: Global, path: &str) -> io::Result<Vec<u8>> {
-        let files = self.files.try_borrow().map_err(|_| busy())?;
-        for file in files.as_slice() {
+        let files = self.files()?;
+        match file_at(files.as_slice(), path) {
+            Some(file) => Ok(file.bytes.as_slice().to_vec(alloc)?),
+            None => Err(io::Error::from(io::ErrorKind::NotFound)),
+        }
+    }
+
+    /// Appends bytes to the files with a path.
+    fn append(&self, path: &str, bytes: &[u8]) -> io::Result<()> {
+        let mut files = self.files_mut()?;
+        for file in files.as_mut_slice() {
             if file.path.as_str() == path {
-                let mut bytes = Vec::new(alloc);
-                bytes.extend_from_slice(file.bytes.as_slice())?;
-                return Ok(bytes);
+                file.bytes.extend_from_slice(bytes)?;
             }
         }
-        Err(io::Error::from(io::ErrorKind::NotFound))
+        Ok(())
     }
 
     /// How many files there are.
     pub fn count(&self) -> usize {
-        match self.files.try_borrow() {
+        match self.files() {
             Ok(files) => files.len(),
             Err(_) => 0,
         }
@@ -84,18 +140,18 @@ impl Stored {
 
     /// What was asked, a line each.
     pub fn asked(&self, alloc: Global) -> io::Result<String> {
-        let requests = self.requests.try_borrow().map_err(|_| busy())?;
-        Ok(String::from_str(alloc, requests.as_str())?)
+        match self.requests.try_borrow() {
+            Ok(requests) => Ok(String::from_str(alloc, requests.as_str())?),
+            Err(_) => Err(busy()),
+        }
     }
 
     /// Keeps a record of a request.
     fn note(&self, kind: &str, path: &str) -> io::Result<()> {
-        let mut requests = self.requests.try_borrow_mut().map_err(|_| busy())?;
-        requests.push_str(kind)?;
-        requests.push_str(" ")?;
-        requests.push_str(path)?;
-        requests.push_str("\n")?;
-        Ok(())
+        match self.requests.try_borrow_mut() {
+            Ok(mut requests) => Ok(push_request(&mut requests, kind, path)?),
+            Err(_) => Err(busy()),
+        }
     }
 
     /// Counts a request to change something; refused where it is the one that fails.
@@ -110,24 +166,42 @@ impl Stored {
 
     /// Whether a file has a path.
     fn has(&self, path: &str) -> bool {
-        match self.files.try_borrow() {
-            Ok(files) => files.iter().any(|file| file.path.as_str() == path),
+        match self.files() {
+            Ok(files) => file_at(files.as_slice(), path).is_some(),
             Err(_) => false,
+        }
+    }
+
+    /// Puts other files in place of all, and returns those that were there.
+    fn replace(&self, files: Vec<StoredFile>) -> io::Result<Vec<StoredFile>> {
+        match self.files.try_replace(files) {
+            Ok(files) => Ok(files),
+            Err(_) => Err(busy()),
         }
     }
 
     /// Takes the files with a path away.
     fn drop_file(&self, alloc: Global, path: &str) -> io::Result<()> {
-        let all = self.files.try_replace(Vec::new(alloc)).map_err(|_| busy())?;
-        let mut kept = Vec::new(alloc);
-        for file in all {
-            if file.path.as_str() != path {
-                kept.push(file)?;
-            }
-        }
-        self.files.try_replace(kept).map_err(|_| busy())?;
+        let files = self.replace(Vec::new(alloc))?;
+        self.replace(files_without(alloc, files, path)?)?;
         Ok(())
     }
+
+    /// Gives a file another path, in place of the files that have it.
+    fn move_file(&self, alloc: Global, from: &str, to: &str) -> io::Result<()> {
+        let bytes = self.bytes_of(alloc, from)?;
+        self.drop_file(alloc, from)?;
+        self.drop_file(alloc, to)?;
+        self.put(alloc, to, bytes.as_slice())
+    }
+}
+
+/// Appends the line of a request.
+fn push_request(requests: &mut String, kind: &str, path: &str) -> Result<(), AllocError> {
+    requests.push_str(kind)?;
+    requests.push_str(" ")?;
+    requests.push_str(path)?;
+    requests.push_str("\n")
 }
 
 /// A cell that is in use.
@@ -144,7 +218,7 @@ pub struct FakeDisk<'a> {
     pub alloc: Global,
 }
 
-/// A file that is read, of which the record tells when it was read to its end.
+/// A file that is read. The record shows when it was read to its end.
 #[derive(Drop)]
 pub struct FakeReader<'a> {
     stored: &'a Stored,
@@ -183,12 +257,7 @@ impl<'a> Write for FakeWriter<'a> {
             };
         }
         let count = buf.len().min(WRITE_SIZE);
-        let mut files = self.stored.files.try_borrow_mut().map_err(|_| busy())?;
-        for file in files.as_mut_slice() {
-            if file.path.as_str() == self.path.as_str() {
-                file.bytes.extend_from_slice(&buf[..count])?;
-            }
-        }
+        self.stored.append(self.path.as_str(), &buf[..count])?;
         Ok(count)
     }
 
@@ -245,10 +314,7 @@ impl<'a> Disk for FakeDisk<'a> {
     fn rename(&self, from: &str, to: &str) -> io::Result<()> {
         self.stored.note("rename", to)?;
         self.stored.change()?;
-        let bytes = self.stored.bytes_of(self.alloc, from)?;
-        self.stored.drop_file(self.alloc, from)?;
-        self.stored.drop_file(self.alloc, to)?;
-        self.stored.put(self.alloc, to, bytes.as_slice())
+        self.stored.move_file(self.alloc, from, to)
     }
 
     fn remove_file(&self, path: &str) -> io::Result<()> {
@@ -257,7 +323,7 @@ impl<'a> Disk for FakeDisk<'a> {
     }
 }
 
-/// The words of a command line, which one space parts.
+/// The words of a command line, with one space between them.
 #[derive(Drop)]
 pub struct Words<'a> {
     /// The line.
@@ -314,18 +380,9 @@ pub fn answer_with<T: Threads + Wait + Sync>(
     stored: &Stored,
     input: &[u8],
 ) -> Answer {
-    let mut input = input;
     let mut out = Vec::new(alloc);
     let mut errors = Vec::new(alloc);
-    let disk = FakeDisk { stored, alloc };
-    let status = status(
-        &(Words { line }, alloc),
-        threads,
-        &disk,
-        &mut input,
-        &mut out,
-        &mut errors,
-    );
+    let status = answer_on(threads, alloc, line, stored, input, &mut out, &mut errors);
     Answer {
         status,
         out,
@@ -333,11 +390,53 @@ pub fn answer_with<T: Threads + Wait + Sync>(
     }
 }
 
-/// The text of some equal lines.
-pub fn repeated(alloc: Global, line: &str, count: usize) -> Result<String, AllocError> {
-    let mut text = String::new(alloc);
-    for _ in 0..count {
-        text.push_str(line)?;
+/// The exit status for a command line over a disk, with these bytes on its input and a writer for what it prints.
+pub fn answer_on<T: Threads + Wait + Sync, W: Write>(
+    threads: &T,
+    alloc: Global,
+    line: &[u8],
+    stored: &Stored,
+    input: &[u8],
+    out: &mut W,
+    errors: &mut Vec<u8>,
+) -> u8 {
+    let mut input = input;
+    let disk = FakeDisk { stored, alloc };
+    let words = Words { line };
+    status(&(words, alloc), threads, &disk, &mut input, out, errors)
+}
+
+impl Answer {
+    /// Asserts what the answer to a command line is.
+    pub fn assert_is(&self, rt: &impl Abort, status: u8, out: &str, errors: &str, line: &str) {
+        assert_number(rt, self.status as u64, status as u64, line);
+        assert_bytes(rt, self.out.as_slice(), out.as_bytes(), line);
+        assert_bytes(rt, self.errors.as_slice(), errors.as_bytes(), line);
     }
-    Ok(text)
+}
+
+/// Asserts that a file has these bytes.
+pub fn assert_file(
+    rt: &impl Abort,
+    alloc: Global,
+    stored: &Stored,
+    path: &str,
+    bytes: &[u8],
+) -> io::Result<()> {
+    let found = stored.bytes_of(alloc, path)?;
+    assert_bytes(rt, found.as_slice(), bytes, path);
+    Ok(())
+}
+
+/// Asserts what a disk was asked by a command line.
+pub fn assert_asked(
+    rt: &impl Abort,
+    alloc: Global,
+    stored: &Stored,
+    requests: &str,
+    line: &str,
+) -> io::Result<()> {
+    let asked = stored.asked(alloc)?;
+    assert_bytes(rt, asked.as_bytes(), requests.as_bytes(), line);
+    Ok(())
 }

@@ -7,7 +7,11 @@ mod areas;
 #[cfg(test)]
 mod assembled;
 #[cfg(test)]
+mod asserts;
+#[cfg(test)]
 mod blocks;
+#[cfg(test)]
+mod calls;
 #[cfg(test)]
 mod chains;
 #[cfg(test)]

@@ -1,9 +1,10 @@
-//! Programs that other tools made, as other tools say that they end: their files hold the segments
-//! alone, one behind the other, in hex.
+//! Programs that other tools made, and the ends that other tools say they come to. The files are in hex, and hold
+//! the segments alone, one behind the other.
 
-use crate::blocks::{InMemory, has_all};
-use engines::seq_to;
+use crate::asserts::assert_pieces;
+use crate::blocks::{BlockInMemory, block_of, printed};
 use std::alloc::Global;
+use std::process::Abort;
 use std::test::Fail;
 
 /// CRC-32 of the input in C, compiled by GNU gcc.
@@ -99,31 +100,43 @@ pub const TORTURE: &str = "\
     000000000000000000000000000000000000000000000000000000000000000000000000000000000000000000\
     000000000000000000000000000000";
 
-/// What the engine prints of a block of some files and further lines.
-fn printed(alloc: Global, files: &[&str], lines: &str) -> Result<Vec<u8>, Fail> {
-    let mut programs = Vec::new(alloc);
-    let mut block = String::from_str(alloc, "rvblock 1\n")?;
-    for (number, file) in files.iter().enumerate() {
-        programs.push(hex::decode(alloc, file)?)?;
-        block.push_str(format!(in alloc; "program {number} {number}\n")?.as_str())?;
+/// Files of some programs in hex.
+fn files_of(alloc: Global, programs: &[&str]) -> Result<Vec<Vec<u8>>, Fail> {
+    let mut files = Vec::new(alloc);
+    for program in programs {
+        files.push(hex::decode(alloc, program)?)?;
     }
-    block.push_str(lines)?;
-    let mut text = Vec::new(alloc);
-    let mut programs = InMemory {
-        files: programs.as_slice(),
-    };
-    seq_to(alloc, &mut block.as_bytes(), &mut programs, &mut text)?;
-    Ok(text)
+    Ok(files)
+}
+
+/// A block of some programs in hex and further lines.
+fn block_of_hex(alloc: Global, programs: &[&str], lines: &str) -> Result<BlockInMemory, Fail> {
+    Ok(BlockInMemory {
+        files: files_of(alloc, programs)?,
+        text: block_of(alloc, programs.len(), lines)?,
+    })
+}
+
+/// Asserts that the engine prints pieces of a text in their order.
+fn assert_prints(
+    rt: &impl Abort,
+    alloc: Global,
+    programs: &[&str],
+    lines: &str,
+    pieces: &[&str],
+) -> Result<(), Fail> {
+    let block = block_of_hex(alloc, programs, lines)?;
+    let text = printed(alloc, &block)?;
+    assert_pieces(rt, text.as_slice(), pieces, lines)?;
+    Ok(())
 }
 
 // The sums are those of zlib.
 #[test]
 fn crc32_of_a_contract(rt: HostRuntime) -> Result<(), Fail> {
     let lines = "call 0 10000000 -\ncall 0 10000000 c6\ncall 0 10000000 c1304b\n";
-    let text = printed(rt.alloc(), &[CRC32], lines)?;
     let pieces = [" out 00000000\n", " out 088805a0\n", " out 8e8b6451\n"];
-    assert!(rt; has_all(text.as_slice(), &pieces)?);
-    Ok(())
+    assert_prints(&rt, rt.alloc(), &[CRC32], lines, &pieces)
 }
 
 // The counts are those of a model in Python.
@@ -133,7 +146,6 @@ fn block_of_counters(rt: HostRuntime) -> Result<(), Fail> {
         "call 1 2000 7f5d1618e7d28cc7bf32788672be04c24877d9a8911f65fef8e3e013c9cbc3730100000000000000\n\
         call 0 2000 7f5d1618e7d28cc7bf32788672be04c24877d9a8911f65fef8e3e013c9cbc3730200000000000000\n\
         call 1 2000 7f5d1618e7d28cc7bf32788672be04c24877d9a8911f65fef8e3e013c9cbc3730300000000000000\n";
-    let text = printed(rt.alloc(), &[COUNTER_CLANG, COUNTER], lines)?;
     let pieces = [
         "call 0 returned ",
         " out 0100000000000000\n",
@@ -143,14 +155,13 @@ fn block_of_counters(rt: HostRuntime) -> Result<(), Fail> {
         " out 0600000000000000\n",
         "store 7f5d1618e7d28cc7bf32788672be04c24877d9a8911f65fef8e3e013c9cbc373 0600000000000000\nend\n",
     ];
-    assert!(rt; has_all(text.as_slice(), &pieces)?);
-    Ok(())
+    let programs = [COUNTER_CLANG, COUNTER];
+    assert_prints(&rt, rt.alloc(), &programs, lines, &pieces)
 }
 
 // The registers are those that qemu-riscv32 shows.
 #[test]
 fn registers_of_edge_values(rt: HostRuntime) -> Result<(), Fail> {
-    let text = printed(rt.alloc(), &[TORTURE], "call 0 10000000 -\n")?;
     let pieces = [
         "call 0 returned ",
         " out 962e6bba93010001000000000000000000000000400002004000020040000200f9fffffff9ffffff\
@@ -158,6 +169,6 @@ fn registers_of_edge_values(rt: HostRuntime) -> Result<(), Fail> {
          4ff711d5b7f20eb589dd39c739cf78778f8506b42888898a0070aa6cdad0424c3cc6dcac1e26f2a7\
          5e30e03900040200\n",
     ];
-    assert!(rt; has_all(text.as_slice(), &pieces)?);
-    Ok(())
+    let lines = "call 0 10000000 -\n";
+    assert_prints(&rt, rt.alloc(), &[TORTURE], lines, &pieces)
 }

@@ -1,22 +1,27 @@
 //! The program over a disk in memory: command lines, exit statuses, the order of what is opened, and
 //! blocks at their limits.
 
-use crate::blocks::{elf_of, files_of};
+use crate::asserts::{assert_bytes, assert_number};
+use crate::blocks::elf_of;
 use crate::failing::FailingWriter;
-use crate::fake_disk::{FakeDisk, Stored, Words, answer_to, answer_with, repeated};
+use crate::fake_disk::{Answer, Stored, answer_on, answer_to, answer_with, assert_asked};
 use crate::rows::ECHO;
 use crate::sources::{ECHO_LISTING, ECHO_SOURCE};
-use engines::status;
-use std::alloc::Global;
+use std::alloc::{AllocError, Global};
+use std::process::Abort;
+use std::str::Utf8Error;
+use std::sync::Wait;
 use std::test::Fail;
+use std::thread::Threads;
 use std::{io, str};
 
 /// No request fails.
 const NONE: usize = usize::MAX;
 
-/// A block of one call, and what it prints.
+/// A block of one call.
 const BLOCK: &str = "rvblock 1\nprogram 0 echo.elf\ncall 0 100 0102\n";
 
+/// What it prints.
 const RESULT: &str = "call 0 returned gas 13 pc 00010004 out 0102\n\
     regs 00000000 00000000 00110000 00000000 00000000 00000000 00000000 00000000 \
     00000000 00000000 00100000 00000002 00000000 00000000 00000000 00000000 \
@@ -24,32 +29,42 @@ const RESULT: &str = "call 0 returned gas 13 pc 00010004 out 0102\n\
     00000000 00000000 00000000 00000000 00000000 00000000 00000000 00000000\n\
     end\n";
 
-/// A disk with an echo program, its source, blocks and schedules.
+/// The other files of the disk: the source of the echo, blocks and schedules.
+const FILES: &[(&str, &str)] = &[
+    ("echo.s", ECHO_SOURCE),
+    ("echo.block", BLOCK),
+    ("wrong.block", "rvblock 2\n"),
+    ("one.schedule", "0\n0\n0\n0\n0\n"),
+    ("short.schedule", "0\n"),
+    (
+        "two.block",
+        "rvblock 1\nprogram 0 echo.elf\nprogram 1 other.elf\ncall 1 100 0102\n",
+    ),
+    (
+        "lost.block",
+        "rvblock 1\nprogram 0 echo.elf\nprogram 1 lost.elf\n",
+    ),
+    ("no.s", "foo\n"),
+];
+
+/// Puts the file of the echo on a disk.
+fn put_echo(alloc: Global, stored: &Stored, path: &str) -> io::Result<()> {
+    let file = elf_of(alloc, ECHO)?;
+    stored.put(alloc, path, file.as_slice())
+}
+
+/// A disk with the echo program at two paths, and the other files.
 fn disk_of_echo(alloc: Global) -> io::Result<Stored> {
     let stored = Stored::new(alloc, NONE);
-    let file = elf_of(alloc, ECHO)?;
-    stored.put(alloc, "echo.elf", file.as_slice())?;
-    stored.put(alloc, "echo.s", ECHO_SOURCE.as_bytes())?;
-    stored.put(alloc, "echo.block", BLOCK.as_bytes())?;
-    stored.put(alloc, "wrong.block", b"rvblock 2\n")?;
-    stored.put(alloc, "one.schedule", b"0\n0\n0\n0\n0\n")?;
-    stored.put(alloc, "short.schedule", b"0\n")?;
-    stored.put(
-        alloc,
-        "two.block",
-        b"rvblock 1\nprogram 0 echo.elf\nprogram 1 other.elf\ncall 1 100 0102\n",
-    )?;
-    stored.put(alloc, "other.elf", file.as_slice())?;
-    stored.put(
-        alloc,
-        "lost.block",
-        b"rvblock 1\nprogram 0 echo.elf\nprogram 1 lost.elf\n",
-    )?;
-    stored.put(alloc, "no.s", b"foo\n")?;
+    put_echo(alloc, &stored, "echo.elf")?;
+    put_echo(alloc, &stored, "other.elf")?;
+    for (path, text) in FILES {
+        stored.put(alloc, path, text.as_bytes())?;
+    }
     Ok(stored)
 }
 
-/// Command lines, with the exit status, what is printed and what is told on the errors' writer.
+/// Command lines, each with the exit status, what is printed, and what stands on standard error.
 const LINES: &[(&str, u8, &str, &str)] = &[
     ("rvstm seq echo.block", 0, RESULT, ""),
     ("rvstm run echo.block --workers 1", 0, RESULT, ""),
@@ -135,90 +150,136 @@ const LINES: &[(&str, u8, &str, &str)] = &[
     ),
 ];
 
+/// Asserts the answer to a command line.
+fn assert_answer<R: Threads + Wait + Sync + Abort>(
+    rt: &R,
+    alloc: Global,
+    line: &str,
+    status: u8,
+    out: &str,
+    errors: &str,
+) -> io::Result<()> {
+    let stored = disk_of_echo(alloc)?;
+    let answer = answer_to(rt, alloc, line.as_bytes(), &stored);
+    answer.assert_is(rt, status, out, errors, line);
+    Ok(())
+}
+
 #[test]
 fn commands_reach_their_engines(rt: HostRuntime) -> Result<(), Fail> {
-    let alloc = rt.alloc();
     for (line, status, out, errors) in LINES {
-        let stored = disk_of_echo(alloc)?;
-        let answer = answer_to(&rt, alloc, line.as_bytes(), &stored);
-        assert_eq!(rt; answer.status, *status, "{line}");
-        assert_eq!(rt; answer.out.as_slice(), out.as_bytes(), "{line}");
-        assert_eq!(rt; answer.errors.as_slice(), errors.as_bytes(), "{line}");
+        assert_answer(&rt, rt.alloc(), line, *status, out, errors)?;
     }
     Ok(())
 }
 
 #[test]
 fn a_call_is_replayed_along_the_input(rt: HostRuntime) -> Result<(), Fail> {
-    let alloc = rt.alloc();
-    let stored = disk_of_echo(alloc)?;
-    let line = b"rvstm debug echo.block --call 0";
-    let answer = answer_with(&rt, alloc, line, &stored, b"w\ns\nq\ns\n");
-    assert_eq!(rt; answer.status, 0);
+    let stored = disk_of_echo(rt.alloc())?;
+    let line = "rvstm debug echo.block --call 0";
+    let input = b"w\ns\nq\ns\n";
+    let answer = answer_with(&rt, rt.alloc(), line.as_bytes(), &stored, input);
     let shown = "0 00010000 addi x17,x0,3\n1 00010004 ecall\n";
-    assert_eq!(rt; answer.out.as_slice(), shown.as_bytes());
-    assert!(rt; answer.errors.is_empty());
+    answer.assert_is(&rt, 0, shown, "", line);
     Ok(())
 }
 
-/// Whether a text has a piece.
-fn has(text: &[u8], piece: &str) -> Result<bool, Fail> {
-    Ok(str::from_utf8(text)?.contains(piece))
+/// Asserts that a text has a piece.
+fn assert_has(rt: &impl Abort, text: &[u8], piece: &str, case: &str) -> Result<(), Utf8Error> {
+    let text = str::from_utf8(text)?;
+    assert!(rt; text.contains(piece), "{case} lacks {piece}");
+    Ok(())
+}
+
+/// Asserts that a command line prints a piece.
+fn assert_help<R: Threads + Wait + Sync + Abort>(
+    rt: &R,
+    alloc: Global,
+    line: &str,
+    piece: &str,
+) -> Result<(), Utf8Error> {
+    let stored = Stored::new(alloc, NONE);
+    let answer = answer_to(rt, alloc, line.as_bytes(), &stored);
+    assert_printed(rt, &answer, piece, line)
+}
+
+/// Asserts that a piece is printed, and nothing on standard error.
+fn assert_printed(
+    rt: &impl Abort,
+    answer: &Answer,
+    piece: &str,
+    case: &str,
+) -> Result<(), Utf8Error> {
+    assert_number(rt, answer.status as u64, 0, case);
+    assert_bytes(rt, answer.errors.as_slice(), b"", case);
+    assert_has(rt, answer.out.as_slice(), piece, case)
 }
 
 #[test]
 fn help_is_printed(rt: HostRuntime) -> Result<(), Fail> {
-    let alloc = rt.alloc();
     for (line, piece) in [
         ("rvstm --help", "Executes blocks of RV32IM contract calls"),
         ("rvstm seq --help", "The block file"),
         ("rvstm --version", "0.1.0"),
     ] {
-        let stored = Stored::new(alloc, NONE);
-        let answer = answer_to(&rt, alloc, line.as_bytes(), &stored);
-        assert_eq!(rt; answer.status, 0, "{line}");
-        assert!(rt; has(answer.out.as_slice(), piece)?, "{line}");
-        assert!(rt; answer.errors.is_empty(), "{line}");
+        assert_help(&rt, rt.alloc(), line, piece)?;
     }
+    Ok(())
+}
+
+/// Wrong command lines, each with a piece of what stands on standard error.
+const WRONG_LINES: &[(&[u8], &str)] = &[
+    (b"rvstm", "error: "),
+    (b"rvstm fly", "error: "),
+    (b"rvstm seq", "error: "),
+    (
+        b"rvstm drive echo.block --workers 0 --schedule one.schedule",
+        "error: ",
+    ),
+    (
+        b"rvstm drive echo.block --workers 33 --schedule one.schedule",
+        "error: ",
+    ),
+    (b"rvstm run echo.block", "error: "),
+    (b"rvstm run echo.block --workers 33", "error: "),
+    (b"rvstm debug echo.block", "error: "),
+    (b"rvstm debug echo.block --call 1024", "error: "),
+    (
+        b"rvstm seq \xff.block",
+        "error: a word of the command line is not UTF-8\n",
+    ),
+];
+
+/// Asserts that a line is answered as a wrong one: a piece stands on standard error, and nothing is printed.
+fn assert_wrong(rt: &impl Abort, answer: &Answer, piece: &str) -> Result<(), Utf8Error> {
+    assert_number(rt, answer.status as u64, 2, piece);
+    assert_bytes(rt, answer.out.as_slice(), b"", piece);
+    assert_has(rt, answer.errors.as_slice(), piece, "a wrong line")
+}
+
+/// Asserts that a command line is wrong, and that the disk is asked nothing.
+fn assert_wrong_line<R: Threads + Wait + Sync + Abort>(
+    rt: &R,
+    alloc: Global,
+    line: &[u8],
+    piece: &str,
+) -> Result<(), Fail> {
+    let stored = disk_of_echo(alloc)?;
+    let answer = answer_to(rt, alloc, line, &stored);
+    assert_wrong(rt, &answer, piece)?;
+    assert_asked(rt, alloc, &stored, "", piece)?;
     Ok(())
 }
 
 #[test]
 fn wrong_lines_are_told(rt: HostRuntime) -> Result<(), Fail> {
-    let alloc = rt.alloc();
-    let rows: [(&[u8], &str); 10] = [
-        (b"rvstm", "error: "),
-        (b"rvstm fly", "error: "),
-        (b"rvstm seq", "error: "),
-        (
-            b"rvstm drive echo.block --workers 0 --schedule one.schedule",
-            "error: ",
-        ),
-        (
-            b"rvstm drive echo.block --workers 33 --schedule one.schedule",
-            "error: ",
-        ),
-        (b"rvstm run echo.block", "error: "),
-        (b"rvstm run echo.block --workers 33", "error: "),
-        (b"rvstm debug echo.block", "error: "),
-        (b"rvstm debug echo.block --call 1024", "error: "),
-        (
-            b"rvstm seq \xff.block",
-            "error: a word of the command line is not UTF-8\n",
-        ),
-    ];
-    for (line, piece) in rows {
-        let stored = disk_of_echo(alloc)?;
-        let answer = answer_to(&rt, alloc, line, &stored);
-        assert_eq!(rt; answer.status, 2, "{piece}");
-        assert!(rt; has(answer.errors.as_slice(), piece)?, "{piece}");
-        assert!(rt; answer.out.is_empty(), "{piece}");
-        assert!(rt; stored.asked(alloc)?.is_empty(), "{piece}");
+    for (line, piece) in WRONG_LINES {
+        assert_wrong_line(&rt, rt.alloc(), line, piece)?;
     }
     Ok(())
 }
 
-/// What the disk is asked by a command line, in its order.
+/// Command lines, each with what the disk is asked, in that order.
 const REQUESTS: &[(&str, &str)] = &[
     (
         "rvstm seq two.block",
@@ -261,103 +322,157 @@ const REQUESTS: &[(&str, &str)] = &[
     ("rvstm asm no.s --out new.elf", "open no.s\nend no.s\n"),
 ];
 
+/// Asserts what the disk is asked by a command line.
+fn assert_requests<R: Threads + Wait + Sync + Abort>(
+    rt: &R,
+    alloc: Global,
+    line: &str,
+    requests: &str,
+) -> io::Result<()> {
+    let stored = disk_of_echo(alloc)?;
+    let _ = answer_to(rt, alloc, line.as_bytes(), &stored);
+    assert_asked(rt, alloc, &stored, requests, line)
+}
+
 #[test]
 fn files_are_opened_in_their_order(rt: HostRuntime) -> Result<(), Fail> {
-    let alloc = rt.alloc();
     for (line, requests) in REQUESTS {
-        let stored = disk_of_echo(alloc)?;
-        let _ = answer_to(&rt, alloc, line.as_bytes(), &stored);
-        let asked = stored.asked(alloc)?;
-        assert_eq!(rt; asked.as_str(), *requests, "{line}");
+        assert_requests(&rt, rt.alloc(), line, requests)?;
     }
     Ok(())
+}
+
+/// Asserts the line on standard error where a writer takes three bytes, and then fails or takes nothing.
+fn assert_output_fails<R: Threads + Wait + Sync + Abort>(
+    rt: &R,
+    alloc: Global,
+    line: &str,
+    fails: bool,
+    error: &str,
+) -> io::Result<()> {
+    let stored = disk_of_echo(alloc)?;
+    let mut out = FailingWriter::new(alloc, 3, fails);
+    let mut errors = Vec::new(alloc);
+    let status = answer_on(
+        rt,
+        alloc,
+        line.as_bytes(),
+        &stored,
+        b"",
+        &mut out,
+        &mut errors,
+    );
+    assert_failed(rt, status, errors.as_slice(), error, line);
+    Ok(())
+}
+
+/// Asserts that a status is 1, and that this stands on standard error.
+fn assert_failed(rt: &impl Abort, status: u8, errors: &[u8], error: &str, line: &str) {
+    assert_number(rt, status as u64, 1, line);
+    assert_bytes(rt, errors, error.as_bytes(), line);
 }
 
 #[test]
 fn a_failing_output_is_told(rt: HostRuntime) -> Result<(), Fail> {
-    let alloc = rt.alloc();
-    let rows: [(bool, &str); 2] = [
+    for (fails, error) in [
         (true, "rvstm: output Io 1\n"),
         (false, "rvstm: output WroteNothing 2\n"),
-    ];
-    for (fails, told) in rows {
-        for line in ["rvstm seq echo.block", "rvstm dis echo.elf"] {
-            let stored = disk_of_echo(alloc)?;
-            let disk = FakeDisk {
-                stored: &stored,
-                alloc,
-            };
-            let mut out = FailingWriter {
-                taken: Vec::new(alloc),
-                left: 3,
-                fails,
-            };
-            let mut errors = Vec::new(alloc);
-            let words = Words {
-                line: line.as_bytes(),
-            };
-            assert_eq!(rt;
-                status(
-                    &(words, alloc),
-                    &rt,
-                    &disk,
-                    &mut io::empty(),
-                    &mut out,
-                    &mut errors
-                ),
-                1
-            );
-            assert_eq!(rt; errors.as_slice(), told.as_bytes(), "{line}");
-        }
+    ] {
+        assert_output_fails(&rt, rt.alloc(), "rvstm seq echo.block", fails, error)?;
+        assert_output_fails(&rt, rt.alloc(), "rvstm dis echo.elf", fails, error)?;
     }
     Ok(())
 }
 
-/// A block of so many programs and calls, each call of the last program, and the files of the programs.
-fn large_block(alloc: Global, programs: usize, calls: usize) -> Result<Stored, Fail> {
-    let stored = Stored::new(alloc, NONE);
-    let mut block = String::from_str(alloc, "rvblock 1\n")?;
-    let files = files_of(alloc, &[ECHO])?;
-    for number in 0..programs {
-        let path = format!(in alloc; "{number}.elf")?;
-        for file in files.as_slice() {
-            stored.put(alloc, path.as_str(), file.as_slice())?;
-        }
-        block.push_str(format!(in alloc; "program {number} {number}.elf\n")?.as_str())?;
+/// Puts the program of a number on a disk.
+fn put_program(alloc: Global, stored: &Stored, number: usize) -> io::Result<()> {
+    let path = format!(in alloc; "{number}.elf")?;
+    put_echo(alloc, stored, path.as_str())
+}
+
+/// Appends the line of a program to a block.
+fn push_program(alloc: Global, block: &mut String, number: usize) -> Result<(), AllocError> {
+    let line = format!(in alloc; "program {number} {number}.elf\n")?;
+    block.push_str(line.as_str())
+}
+
+/// Appends the lines of so many calls of a program to a block.
+fn push_calls(
+    alloc: Global,
+    block: &mut String,
+    program: usize,
+    calls: usize,
+) -> Result<(), AllocError> {
+    let line = format!(in alloc; "call {program} 100 -\n")?;
+    for _ in 0..calls {
+        block.push_str(line.as_str())?;
     }
-    let last = programs.saturating_sub(1);
-    let line = format!(in alloc; "call {last} 100 -\n")?;
-    block.push_str(repeated(alloc, line.as_str(), calls)?.as_str())?;
+    Ok(())
+}
+
+/// The text of a block of so many programs and calls, each call of the last program.
+fn large_text(alloc: Global, programs: usize, calls: usize) -> Result<String, AllocError> {
+    let mut block = String::from_str(alloc, "rvblock 1\n")?;
+    for number in 0..programs {
+        push_program(alloc, &mut block, number)?;
+    }
+    push_calls(alloc, &mut block, programs.saturating_sub(1), calls)?;
+    Ok(block)
+}
+
+/// A disk with such a block and its programs.
+fn large_block(alloc: Global, programs: usize, calls: usize) -> io::Result<Stored> {
+    let stored = Stored::new(alloc, NONE);
+    for number in 0..programs {
+        put_program(alloc, &stored, number)?;
+    }
+    let block = large_text(alloc, programs, calls)?;
     stored.put(alloc, "large.block", block.as_bytes())?;
     Ok(stored)
 }
 
+/// The answer to a run of such a block.
+fn large_answer<R: Threads + Wait + Sync>(
+    rt: &R,
+    alloc: Global,
+    programs: usize,
+    calls: usize,
+) -> io::Result<Answer> {
+    let stored = large_block(alloc, programs, calls)?;
+    Ok(answer_to(rt, alloc, b"rvstm seq large.block", &stored))
+}
+
 #[test]
 fn the_largest_block_is_run(rt: HostRuntime) -> Result<(), Fail> {
-    let alloc = rt.alloc();
-    let stored = large_block(alloc, 64, 1024)?;
-    let answer = answer_to(&rt, alloc, b"rvstm seq large.block", &stored);
-    assert_eq!(rt; answer.status, 0);
+    let answer = large_answer(&rt, rt.alloc(), 64, 1024)?;
+    assert_printed(
+        &rt,
+        &answer,
+        "\ncall 1023 returned gas 11 ",
+        "the largest block",
+    )?;
     assert!(rt; answer.out.starts_with(b"call 0 returned gas 11 "));
-    assert!(rt; has(answer.out.as_slice(), "\ncall 1023 returned gas 11 ")?);
     assert!(rt; answer.out.ends_with(b"\nend\n"));
-    assert!(rt; answer.errors.is_empty());
+    Ok(())
+}
+
+/// Asserts that a block of so many programs and calls is refused with a line.
+fn assert_too_large<R: Threads + Wait + Sync + Abort>(
+    rt: &R,
+    alloc: Global,
+    programs: usize,
+    calls: usize,
+    line: &str,
+) -> io::Result<()> {
+    let answer = large_answer(rt, alloc, programs, calls)?;
+    answer.assert_is(rt, 1, "", line, "a large block");
     Ok(())
 }
 
 #[test]
 fn larger_blocks_are_refused(rt: HostRuntime) -> Result<(), Fail> {
-    let alloc = rt.alloc();
-    for (programs, calls, told) in [
-        (64, 1025, "rvstm: block 1090 Limit 7\n"),
-        (1, 1025, "rvstm: block 1027 Limit 7\n"),
-        (65, 1, "rvstm: block 66 Limit 7\n"),
-    ] {
-        let stored = large_block(alloc, programs, calls)?;
-        let answer = answer_to(&rt, alloc, b"rvstm seq large.block", &stored);
-        assert_eq!(rt; answer.status, 1);
-        assert_eq!(rt; answer.errors.as_slice(), told.as_bytes());
-        assert!(rt; answer.out.is_empty());
-    }
+    assert_too_large(&rt, rt.alloc(), 64, 1025, "rvstm: block 1090 Limit 7\n")?;
+    assert_too_large(&rt, rt.alloc(), 1, 1025, "rvstm: block 1027 Limit 7\n")?;
+    assert_too_large(&rt, rt.alloc(), 65, 1, "rvstm: block 66 Limit 7\n")?;
     Ok(())
 }

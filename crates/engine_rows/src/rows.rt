@@ -162,8 +162,8 @@ pub const WITHDRAWN_WRITE: Row = Row {
     ],
 };
 
-/// The worked blocks.
-pub const ROWS: &[Row] = &[
+/// The rows that `rows` gives.
+const ROWS: &[Row] = &[
     Row {
         name: "echo",
         programs: &[ECHO],
@@ -274,3 +274,8 @@ pub const ROWS: &[Row] = &[
     READ_OF_ABSENCE,
     WITHDRAWN_WRITE,
 ];
+
+/// The worked blocks.
+pub fn rows() -> &'static [Row] {
+    ROWS
+}

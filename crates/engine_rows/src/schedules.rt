@@ -1,17 +1,19 @@
 //! Lists of worker numbers, over blocks whose calls meet each other's writes: what is printed is what
 //! running the calls in order prints.
 
-use crate::blocks::{elf_of, forty_count_lines, has_all, printed, shows_forty_counts};
-use crate::drives::driven;
+use crate::asserts::assert_bytes;
+use crate::blocks::{BlockInMemory, forty_counts_block, printed, shows_forty_counts};
+use crate::calls::job_of_inputs;
+use crate::drives::{assert_in_order, driven, push_worker};
 use crate::rows::{COUNT, ECHO, LATE_WRITER, READ_OF_ABSENCE, Row, WITHDRAWN_WRITE};
-use elf32::load;
 use engines::Refusal;
-use rv_ledger::{Call, Job, Store};
+use rv_ledger::{Counts, Job, Outcome};
 use std::alloc::{AllocError, Global};
-use std::sync::Arc;
+use std::process::Abort;
 use std::test::Fail;
 use stm_core::{DriveFault, drive};
 
+/// Three calls of ECHO.
 const THREE_ECHOES: Row = Row {
     name: "three_echoes",
     programs: &[ECHO],
@@ -24,6 +26,7 @@ const THREE_ECHOES: Row = Row {
     ],
 };
 
+/// Two calls of COUNT.
 const TWO_COUNTS: Row = Row {
     name: "two counts",
     programs: &[COUNT],
@@ -37,7 +40,7 @@ const TWO_COUNTS: Row = Row {
     ],
 };
 
-/// A list of worker numbers, each so many times, over the block of a row, and whether workers are done
+/// A list of worker numbers, each so many times, over the block of a row, and whether the workers are done
 /// after it.
 struct Schedule {
     name: &'static str,
@@ -47,6 +50,7 @@ struct Schedule {
     is_done: bool,
 }
 
+/// The schedules.
 const SCHEDULES: &[Schedule] = &[
     Schedule {
         name: "late_writer",
@@ -84,7 +88,7 @@ const SCHEDULES: &[Schedule] = &[
         is_done: false,
     },
     Schedule {
-        name: "three_echoes and an asking",
+        name: "three_echoes and a step more",
         row: THREE_ECHOES,
         workers: 1,
         turns: &[(0, 16)],
@@ -139,39 +143,46 @@ fn schedule_of(alloc: Global, turns: &[(u16, usize)]) -> Result<String, AllocErr
     let mut text = String::new(alloc);
     for (worker, times) in turns {
         for _ in 0..*times {
-            text.push_str(format!(in alloc; "{worker}\n")?.as_str())?;
+            push_worker(alloc, &mut text, usize::from(*worker))?;
         }
     }
     Ok(text)
 }
 
+/// What the engine answers to a case.
+fn answer_of(alloc: Global, case: &Schedule) -> Result<Result<Vec<u8>, Refusal>, AllocError> {
+    let block = BlockInMemory::new(alloc, case.row.programs, case.row.lines)?;
+    let schedule = schedule_of(alloc, case.turns)?;
+    Ok(driven(alloc, &block, case.workers, schedule.as_str()))
+}
+
+/// Asserts that a case whose workers are not done is refused so.
+fn assert_not_done(rt: &impl Abort, case: &Schedule, refusal: Refusal) {
+    assert!(rt; !case.is_done, "{}", case.name);
+    assert_eq!(rt;
+        refusal,
+        Refusal::Drive(DriveFault::NotDone),
+        "{}",
+        case.name
+    );
+}
+
+/// Asserts that a case comes to what its calls come to in order, or is refused where its workers are not done.
+fn assert_case(rt: &impl Abort, alloc: Global, case: &Schedule) -> Result<(), Fail> {
+    match answer_of(alloc, case)? {
+        Ok(text) => {
+            assert!(rt; case.is_done, "{}", case.name);
+            assert_in_order(rt, alloc, &case.row, text.as_slice(), case.name)?;
+        }
+        Err(refusal) => assert_not_done(rt, case, refusal),
+    }
+    Ok(())
+}
+
 #[test]
 fn schedules_print_what_in_order_prints(rt: HostRuntime) -> Result<(), Fail> {
-    let alloc = rt.alloc();
     for case in SCHEDULES {
-        let Schedule {
-            name,
-            row,
-            workers,
-            turns,
-            is_done,
-        } = case;
-        let schedule = schedule_of(alloc, turns)?;
-        let answer = driven(alloc, row.programs, row.lines, *workers, schedule.as_str())?;
-        let wanted = printed(alloc, row.programs, row.lines)?;
-        match answer {
-            Ok(text) => {
-                assert!(rt; *is_done, "{name}");
-                assert_eq!(rt; text.as_slice(), wanted.as_slice(), "{name}");
-                assert!(rt; has_all(text.as_slice(), row.pieces)?, "{name}");
-            }
-            Err(refusal) => {
-                assert!(rt;
-                    !*is_done && refusal == Refusal::Drive(DriveFault::NotDone),
-                    "{name}"
-                );
-            }
-        }
+        assert_case(&rt, rt.alloc(), case)?;
     }
     Ok(())
 }
@@ -183,81 +194,102 @@ fn mixed(alloc: Global, workers: u32, count: usize) -> Result<String, AllocError
     for _ in 0..count {
         seed = seed.wrapping_mul(1_103_515_245).wrapping_add(12_345);
         let worker = (seed >> 16).checked_rem(workers).unwrap_or(0);
-        text.push_str(format!(in alloc; "{worker}\n")?.as_str())?;
+        push_worker(alloc, &mut text, worker as usize)?;
     }
     Ok(text)
 }
 
-/// Whether a mixed list of so many entries leads so many workers to what forty calls of COUNT come to
-/// in order.
-fn is_in_order(alloc: Global, workers: u32, entries: usize) -> Result<bool, Fail> {
-    let lines = forty_count_lines(alloc)?;
-    let wanted = printed(alloc, &[COUNT], lines.as_str())?;
+/// What the engine prints of a block along a mixed list of so many entries.
+fn driven_mixed(
+    alloc: Global,
+    block: &BlockInMemory,
+    workers: u32,
+    entries: usize,
+) -> Result<Vec<u8>, Fail> {
     let schedule = mixed(alloc, workers, entries)?;
-    let answer = driven(
-        alloc,
-        &[COUNT],
-        lines.as_str(),
-        workers as usize,
-        schedule.as_str(),
-    )?;
-    match answer {
-        Ok(text) => Ok(
-            text.as_slice() == wanted.as_slice() && shows_forty_counts(alloc, text.as_slice())?,
-        ),
-        Err(_) => Ok(false),
-    }
+    Ok(driven(alloc, block, workers as usize, schedule.as_str())?)
+}
+
+/// Asserts that a text is what the engine prints of a block in order.
+fn assert_printed(
+    rt: &impl Abort,
+    alloc: Global,
+    block: &BlockInMemory,
+    text: &[u8],
+) -> Result<(), Refusal> {
+    let wanted = printed(alloc, block)?;
+    assert_bytes(rt, text, wanted.as_slice(), "in order");
+    Ok(())
+}
+
+/// Asserts that a mixed list of so many entries leads so many workers to what forty calls of COUNT come to
+/// in order.
+fn assert_forty_counts(
+    rt: &impl Abort,
+    alloc: Global,
+    workers: u32,
+    entries: usize,
+) -> Result<(), Fail> {
+    let block = forty_counts_block(alloc)?;
+    let text = driven_mixed(alloc, &block, workers, entries)?;
+    assert_printed(rt, alloc, &block, text.as_slice())?;
+    assert!(rt; shows_forty_counts(alloc, text.as_slice())?);
+    Ok(())
 }
 
 // 320 is 40 calls of eight steps; 540, 1430 and 5150 are entries after which a mixed list was seen done.
 #[test]
 fn forty_counts_by_1_worker(rt: HostRuntime) -> Result<(), Fail> {
-    assert!(rt; is_in_order(rt.alloc(), 1, 320)?);
-    Ok(())
+    assert_forty_counts(&rt, rt.alloc(), 1, 320)
 }
 
 #[test]
 fn forty_counts_by_2_workers(rt: HostRuntime) -> Result<(), Fail> {
-    assert!(rt; is_in_order(rt.alloc(), 2, 540)?);
-    Ok(())
+    assert_forty_counts(&rt, rt.alloc(), 2, 540)
 }
 
 #[test]
 fn forty_counts_by_8_workers(rt: HostRuntime) -> Result<(), Fail> {
-    assert!(rt; is_in_order(rt.alloc(), 8, 1430)?);
-    Ok(())
+    assert_forty_counts(&rt, rt.alloc(), 8, 1430)
 }
 
 #[test]
 fn forty_counts_by_32_workers(rt: HostRuntime) -> Result<(), Fail> {
-    assert!(rt; is_in_order(rt.alloc(), 32, 5150)?);
-    Ok(())
+    assert_forty_counts(&rt, rt.alloc(), 32, 5150)
 }
 
-/// Calls of ECHO.
-fn echoes(alloc: Global, count: usize) -> Result<Job, Fail> {
-    let file = elf_of(alloc, ECHO)?;
-    let mut calls = Vec::new(alloc);
-    for _ in 0..count {
-        let image = Arc::new(alloc, load(alloc, file.as_slice())?)?;
-        calls.push(Call::new(image, 1000, Vec::new(alloc))?)?;
-    }
-    Ok(Job::new(calls, Store::new(alloc))?)
+/// Runs a job by one worker along a list.
+fn driven_job(alloc: Global, job: &Job, schedule: &[u16]) -> Result<Outcome, DriveFault> {
+    drive(alloc, job, 1, schedule)
+}
+
+/// Asserts the counts of one worker who ran three calls.
+fn assert_counts(rt: &impl Abort, found: &[Counts], steps: u64, asks: u64) {
+    let wanted = Counts {
+        steps,
+        asks,
+        executions: 3,
+        validations: 3,
+    };
+    assert_eq!(rt; found.first().copied(), Some(wanted));
+}
+
+/// Asserts how many steps and asks a list comes to over three calls of ECHO.
+fn assert_echo_counts(
+    rt: &impl Abort,
+    alloc: Global,
+    schedule: &[u16],
+    steps: u64,
+    asks: u64,
+) -> Result<(), Fail> {
+    let job = job_of_inputs(alloc, ECHO, &[b"", b"", b""])?;
+    let outcome = driven_job(alloc, &job, schedule)?;
+    assert_counts(rt, outcome.counts.as_slice(), steps, asks);
+    Ok(())
 }
 
 #[test]
 fn counts_of_three_echoes(rt: HostRuntime) -> Result<(), Fail> {
-    let job = echoes(rt.alloc(), 3)?;
-    let rows: [(&[u16], u64, u64); 2] = [(&[0; 15], 15, 6), (&[0; 16], 16, 7)];
-    for (schedule, steps, asks) in rows {
-        let outcome = drive(rt.alloc(), &job, 1, schedule)?;
-        let Some(counts) = outcome.counts.as_slice().first() else {
-            panic!(rt; "there are no counts");
-        };
-        assert_eq!(rt; counts.steps, steps);
-        assert_eq!(rt; counts.asks, asks);
-        assert_eq!(rt; counts.executions, 3);
-        assert_eq!(rt; counts.validations, 3);
-    }
-    Ok(())
+    assert_echo_counts(&rt, rt.alloc(), &[0; 15], 15, 6)?;
+    assert_echo_counts(&rt, rt.alloc(), &[0; 16], 16, 7)
 }

@@ -1,20 +1,19 @@
 //! Blocks run by threads: whatever their number, what is printed is what running the calls in order
 //! prints.
 
-ghost use Rattle.std.specs.Prelude.{All};
+ghost use Rattle.std.specs.Prelude.{◌≤◌, All, IfOk};
 ghost use Rattle.workers.specs.DoneCell.{IsPassOf};
 
-use crate::blocks::{block_of, elf_of, forty_count_lines, has_all, shows_forty_counts};
+use crate::asserts::{assert_bytes, assert_number, assert_pieces, assert_shown};
+use crate::blocks::{forty_count_lines, shows_forty_counts};
+use crate::calls::{image_of, job_of, job_of_image, text_in_order, text_of};
 use crate::rows::{COUNT, ECHO, LATE_WRITER, READ_OF_ABSENCE, Row, WITHDRAWN_WRITE};
-use block_file::{BlockText, CallLine, parse};
-use elf32::load;
-use engines::file_of_source;
-use receipts::result_text;
-use rv_ledger::{Call, Counts, Job, Outcome, Store};
-use seq_exec::run_in_order;
+use crate::sources::assembled;
+use rv_ledger::{Counts, Job, Outcome};
 use std::alloc::{AllocError, Global};
+use std::process::Abort;
+use std::sync::Wait;
 use std::sync::atomic::{AtomicBool, Ordering};
-use std::sync::{Arc, Wait};
 use std::test::Fail;
 use std::thread::Threads;
 use stm_core::Core;
@@ -32,7 +31,7 @@ const TWO_ECHOES: &str = "call 0 100 0102\ncall 0 100 0102\n";
 
 const THREE_ECHOES: &str = "call 0 1000 -\ncall 0 1000 01\ncall 0 1000 0102\n";
 
-/// TOUCH: it counts up a word of its data, and returns it.
+/// Counts up a word of its data, and returns it.
 const TOUCH: &str =
     "li t0,cell\nlw t1,0(t0)\naddi t1,t1,1\nsw t1,0(t0)\naddi a0,t0,0\naddi a1,x0,4\n\
     addi a7,x0,3\necall\n.data\ncell: .word 7\n";
@@ -68,130 +67,195 @@ const BLOCKS: &[Row] = &[
     WITHDRAWN_WRITE,
 ];
 
-/// The calls of a block, and the storage before it.
-pub fn calls_of(
+/// Runs a job by so many workers.
+fn run<R: Threads + Wait + Sync>(
+    rt: &R,
     alloc: Global,
-    programs: &[&[u32]],
-    lines: &str,
-) -> Result<(Vec<Call>, Store), Fail> {
-    let block = block_of(alloc, programs.len(), lines)?;
-    let BlockText {
-        programs: _,
-        store,
-        calls: lines,
-    } = parse(alloc, block.as_bytes())?;
-    let mut calls = Vec::new(alloc);
-    for line in lines {
-        let CallLine {
-            program,
-            gas,
-            input,
-        } = line;
-        let words = programs.get(program).copied().unwrap_or(&[]);
-        let file = elf_of(alloc, words)?;
-        let image = Arc::new(alloc, load(alloc, file.as_slice())?)?;
-        calls.push(Call::new(image, gas, input)?)?;
-    }
-    Ok((calls, store))
+    executor: &mut Executor,
+    job: Job,
+    workers: usize,
+) -> Result<Outcome, RunFault> {
+    executor.run_block(rt, alloc, job, workers)
 }
 
-/// The job of a block.
-fn job_of(alloc: Global, programs: &[&[u32]], lines: &str) -> Result<Job, Fail> {
-    let (calls, store) = calls_of(alloc, programs, lines)?;
-    Ok(Job::new(calls, store)?)
+/// The text of the outcome of a job that so many workers run.
+fn run_text<R: Threads + Wait + Sync>(
+    rt: &R,
+    alloc: Global,
+    executor: &mut Executor,
+    job: Job,
+    workers: usize,
+) -> Result<String, Fail> {
+    let outcome = run(rt, alloc, executor, job, workers)?;
+    Ok(text_of(alloc, &outcome)?)
 }
 
-/// The text of an outcome.
-fn text_of(alloc: Global, outcome: &Outcome) -> Result<String, AllocError> {
-    result_text(alloc, outcome.receipts.as_slice(), &outcome.store)
+/// A job of forty counts of a key.
+fn forty_counts_job(alloc: Global) -> Result<Job, Fail> {
+    let lines = forty_count_lines(alloc)?;
+    job_of(alloc, &[COUNT], lines.as_str())
 }
 
-/// Forty counts of a key by so many workers, twice on one executor: whether the answers are as wanted.
-fn are_forty_counts<R: Threads + Wait + Sync>(
+/// Asserts that so many workers come to the right text of forty counts.
+fn assert_forty_counts<R: Threads + Wait + Sync + Abort>(
+    rt: &R,
+    alloc: Global,
+    executor: &mut Executor,
+    workers: usize,
+) -> Result<(), Fail> {
+    let job = forty_counts_job(alloc)?;
+    let text = run_text(rt, alloc, executor, job, workers)?;
+    assert!(rt; shows_forty_counts(alloc, text.as_bytes())?, "{workers}");
+    Ok(())
+}
+
+/// Runs forty counts by so many workers, twice on one executor.
+fn assert_forty_counts_twice<R: Threads + Wait + Sync + Abort>(
     rt: &R,
     alloc: Global,
     workers: usize,
-) -> Result<bool, Fail> {
-    let lines = forty_count_lines(alloc)?;
+) -> Result<(), Fail> {
     let mut executor = Executor::new(alloc);
-    let mut are = true;
-    for _ in 0..2 {
-        let job = job_of(alloc, &[COUNT], lines.as_str())?;
-        let outcome = executor.run_block(rt, alloc, job, workers)?;
-        let text = text_of(alloc, &outcome)?;
-        are = are && shows_forty_counts(alloc, text.as_bytes())?;
-    }
-    Ok(are)
+    assert_forty_counts(rt, alloc, &mut executor, workers)?;
+    assert_forty_counts(rt, alloc, &mut executor, workers)
 }
 
 #[test]
 fn forty_counts_by_threads(rt: HostRuntime) -> Result<(), Fail> {
     for workers in [1, 2, 8, 32] {
-        assert!(rt; are_forty_counts(&rt, rt.alloc(), workers)?, "{workers}");
+        assert_forty_counts_twice(&rt, rt.alloc(), workers)?;
     }
     Ok(())
 }
 
+/// The text of the outcome of a row's job that two workers run.
+fn text_by_two<R: Threads + Wait + Sync + Abort>(
+    rt: &R,
+    alloc: Global,
+    executor: &mut Executor,
+    job: Job,
+    name: &str,
+) -> Result<String, AllocError> {
+    match run(rt, alloc, executor, job, 2) {
+        Ok(outcome) => text_of(alloc, &outcome),
+        Err(fault) => panic!(rt; "{name} is refused: {fault}"),
+    }
+}
+
+/// Asserts that two workers come to what the calls of a row come to in order, and that its pieces are there.
+fn assert_row<R: Threads + Wait + Sync + Abort>(
+    rt: &R,
+    alloc: Global,
+    executor: &mut Executor,
+    row: &Row,
+) -> Result<(), Fail> {
+    let job = job_of(alloc, row.programs, row.lines)?;
+    let wanted = text_in_order(alloc, &job)?;
+    let text = text_by_two(rt, alloc, executor, job, row.name)?;
+    assert_text(rt, text.as_str(), wanted.as_str(), row.name);
+    assert_pieces(rt, text.as_bytes(), row.pieces, row.name)?;
+    Ok(())
+}
+
+/// Asserts that this is the text that a case wants.
+fn assert_text(rt: &impl Abort, found: &str, wanted: &str, case: &str) {
+    assert_bytes(rt, found.as_bytes(), wanted.as_bytes(), case);
+}
+
 #[test]
 fn answers_ok(rt: HostRuntime) -> Result<(), Fail> {
-    let alloc = rt.alloc();
-    let mut executor = Executor::new(alloc);
+    let mut executor = Executor::new(rt.alloc());
     for row in BLOCKS {
-        let job = job_of(alloc, row.programs, row.lines)?;
-        let in_order = run_in_order(alloc, &job)?;
-        let Ok(outcome) = executor.run_block(&rt, alloc, job, 2) else {
-            panic!(rt; "{} is refused", row.name);
-        };
-        let text = text_of(alloc, &outcome)?;
-        assert_eq!(rt;
-            text.as_str(),
-            text_of(alloc, &in_order)?.as_str(),
-            "{}",
-            row.name
-        );
-        assert!(rt; has_all(text.as_bytes(), row.pieces)?, "{}", row.name);
+        assert_row(&rt, rt.alloc(), &mut executor, row)?;
     }
+    Ok(())
+}
+
+/// The input of each call of TOUCH.
+const NO_INPUT: &[u8] = b"";
+
+/// A job of eight calls of TOUCH, which share its image.
+fn touch_job(alloc: Global) -> Result<Job, Fail> {
+    let file = assembled(alloc, &mut TOUCH.as_bytes())?;
+    let image = image_of(alloc, file.as_slice())?;
+    job_of_image(alloc, &image, &[NO_INPUT; 8])
+}
+
+/// Asserts that a call of TOUCH ended as it must.
+fn assert_touched(
+    rt: &impl Abort,
+    alloc: Global,
+    text: &str,
+    number: usize,
+) -> Result<(), AllocError> {
+    let end = format!(in alloc; "call {number} returned gas 24 pc 00010020 out 08000000\n")?;
+    assert!(rt; text.contains(end.as_str()), "{number}");
     Ok(())
 }
 
 /// Calls of one program share its pages, and none sees what another wrote to its own.
 #[test]
 fn eight_touches(rt: HostRuntime) -> Result<(), Fail> {
-    let alloc = rt.alloc();
-    let Ok(file) = file_of_source(alloc, &mut TOUCH.as_bytes()) else {
-        panic!(rt; "the source is refused");
-    };
-    let image = Arc::new(alloc, load(alloc, file.as_slice())?)?;
-    let mut calls = Vec::new(alloc);
-    for _ in 0..8 {
-        calls.push(Call::new(Arc::try_clone(&image)?, 1000, Vec::new(alloc))?)?;
-    }
-    let job = Job::new(calls, Store::new(alloc))?;
-    let outcome = Executor::new(alloc).run_block(&rt, alloc, job, 4)?;
-    let text = text_of(alloc, &outcome)?;
+    let job = touch_job(rt.alloc())?;
+    let text = run_text(&rt, rt.alloc(), &mut Executor::new(rt.alloc()), job, 4)?;
     for number in 0..8 {
-        let end = format!(in alloc; "call {number} returned gas 24 pc 00010020 out 08000000\n")?;
-        assert!(rt; text.contains(end.as_str()), "{number}");
+        assert_touched(&rt, rt.alloc(), text.as_str(), number)?;
     }
+    Ok(())
+}
+
+/// Asserts that no job is run by so many workers.
+fn assert_bad_count<R: Threads + Wait + Sync + Abort>(
+    rt: &R,
+    alloc: Global,
+    executor: &mut Executor,
+    workers: usize,
+) -> Result<(), Fail> {
+    let job = job_of(alloc, &[ECHO], ONE_ECHO)?;
+    let fault = run(rt, alloc, executor, job, workers).err();
+    assert_eq!(rt; fault, Some(RunFault::BadCount), "{workers} workers");
     Ok(())
 }
 
 #[test]
 fn bad_count(rt: HostRuntime) -> Result<(), Fail> {
-    let alloc = rt.alloc();
-    let mut executor = Executor::new(alloc);
-    for workers in [0, 33] {
-        let job = job_of(alloc, &[ECHO], ONE_ECHO)?;
-        let Err(fault) = executor.run_block(&rt, alloc, job, workers) else {
-            panic!(rt; "{workers} workers are taken");
-        };
-        assert_eq!(rt; fault, RunFault::BadCount);
-        assert_eq!(rt; format!(in alloc; "{fault}")?.as_str(), "BadCount 1");
-    }
+    let mut executor = Executor::new(rt.alloc());
+    assert_bad_count(&rt, rt.alloc(), &mut executor, 0)?;
+    assert_bad_count(&rt, rt.alloc(), &mut executor, 33)?;
+    assert_shown(&rt, rt.alloc(), &RunFault::BadCount, "BadCount 1")?;
     Ok(())
 }
 
-/// The work of workers one after another: their shares.
+/// What the workers of a job share, and the share of each.
+fn shares_of(
+    rt: &impl Abort,
+    alloc: Global,
+    job: &Job,
+    workers: usize,
+) -> Result<(Shared, Vec<Share>), Fail>
+    requires { (1 ≤ workers) × (workers ≤ 32) }
+    ensures { IfOk result (λ made. All (λ share. IsPassOf made.0.cell share.pass) made.1.items) }
+{
+    let core = Core::new(alloc, job.copy()?, workers)?;
+    match Shared::new(alloc, core) {
+        Ok(made) => Ok(made),
+        Err(_) => panic!(rt; "there is no memory"),
+    }
+}
+
+/// The share of a worker who works until all is done.
+fn work_alone<R: Wait>(
+    rt: &R,
+    alloc: Global,
+    shared: &Shared,
+    share: Share,
+) -> Result<Share, RunFault>
+    requires { IsPassOf shared.now.cell share.pass }
+{
+    work(rt, alloc, shared, share, &Open)
+}
+
+/// The shares of workers who work one after another.
 fn work_in_turn<R: Wait>(
     rt: &R,
     alloc: Global,
@@ -202,42 +266,42 @@ fn work_in_turn<R: Wait>(
 {
     let mut back = Vec::new(alloc);
     for share in shares {
-        back.push(work(rt, alloc, shared, share, &Open)?)?;
+        back.push(work_alone(rt, alloc, shared, share)?)?;
     }
     Ok(back)
 }
 
-/// One worker of three does all the work of three echoes, then the others ask once each.
-#[test]
-fn one_share_alone(rt: HostRuntime) -> Result<(), Fail> {
-    let alloc = rt.alloc();
-    for first in 0..3 {
-        let job = job_of(alloc, &[ECHO], THREE_ECHOES)?;
-        let core = Core::new(alloc, job.copy()?, 3)?;
-        let Ok((shared, mut shares)) = Shared::new(alloc, core) else {
-            panic!(rt; "there is no memory");
-        };
-        assert!(rt; first < shares.len());
-        let alone = work(&rt, alloc, &shared, shares.remove(first), &Open)?;
-        assert_eq!(rt; alone.worker(), first);
-        assert_eq!(rt; alone.counts(), counts(16, 7, 3));
-        assert_eq!(rt; alone.dones(), 1);
-        let mut back = work_in_turn(&rt, alloc, &shared, shares)?;
-        for share in &back {
-            assert_eq!(rt; share.counts(), counts(1, 1, 0));
-            assert_eq!(rt; share.dones(), 1);
-        }
-        assert!(rt; first <= back.len());
-        back.insert(first, alone)?;
-        let (answer, _) = settle(alloc, shared.into_book(), back, &job);
-        let text = text_of(alloc, &answer?)?;
-        let in_order = run_in_order(alloc, &job)?;
-        assert_eq!(rt; text.as_str(), text_of(alloc, &in_order)?.as_str());
-    }
-    Ok(())
+/// The shares of workers who work one after another, that of the given one first, in the order of the workers.
+fn work_from<R: Wait + Abort>(
+    rt: &R,
+    alloc: Global,
+    shared: &Shared,
+    shares: Vec<Share>,
+    first: usize,
+) -> Result<Vec<Share>, Fail>
+    requires { All (λ share. IsPassOf shared.now.cell share.pass) shares.items }
+{
+    let mut shares = shares;
+    assert!(rt; first < shares.len());
+    let alone = work_alone(rt, alloc, shared, shares.remove(first))?;
+    let mut back = work_in_turn(rt, alloc, shared, shares)?;
+    assert!(rt; first <= back.len());
+    back.insert(first, alone)?;
+    Ok(back)
 }
 
-/// So many steps and askings, and of so many calls an execution and a validation.
+/// The answer to a job from what its workers shared and the shares that they gave back.
+fn settled(
+    alloc: Global,
+    shared: Shared,
+    back: Vec<Share>,
+    job: &Job,
+) -> Result<Outcome, RunFault> {
+    let (answer, _) = settle(alloc, shared.into_book(), back, job);
+    answer
+}
+
+/// The counts of so many steps and asks, and of so many calls run and validated once.
 fn counts(steps: u64, asks: u64, calls: u64) -> Counts {
     Counts {
         steps,
@@ -247,21 +311,81 @@ fn counts(steps: u64, asks: u64, calls: u64) -> Counts {
     }
 }
 
+/// Asserts the counts of a worker, and that it was answered once that all is done.
+fn assert_share(rt: &impl Abort, share: &Share, wanted: Counts) {
+    assert_eq!(rt; share.counts(), wanted, "{}", share.worker());
+    assert_number(rt, share.dones(), 1, "answers that all is done");
+}
+
+/// Asserts that of three workers the first to work ran three echoes, and that each of the others asked once.
+fn assert_shares(rt: &impl Abort, shares: &[Share], first: usize) {
+    assert_number(rt, shares.len() as u64, 3, "shares");
+    assert!(rt; first < shares.len());
+    assert_number(
+        rt,
+        shares[first].worker() as u64,
+        first as u64,
+        "the first worker",
+    );
+    for worker in 0..shares.len() {
+        let wanted = if worker == first {
+            counts(16, 7, 3)
+        } else {
+            counts(1, 1, 0)
+        };
+        assert_share(rt, &shares[worker], wanted);
+    }
+}
+
+/// The outcome of three workers of which the given one works first.
+fn outcome_from<R: Wait + Abort>(
+    rt: &R,
+    alloc: Global,
+    job: &Job,
+    first: usize,
+) -> Result<Outcome, Fail> {
+    let (shared, shares) = shares_of(rt, alloc, job, 3)?;
+    let back = work_from(rt, alloc, &shared, shares, first)?;
+    assert_shares(rt, back.as_slice(), first);
+    Ok(settled(alloc, shared, back, job)?)
+}
+
+/// Asserts that one worker of three does all the work of three echoes, and that the text is that in order.
+fn assert_alone<R: Wait + Abort>(rt: &R, alloc: Global, first: usize) -> Result<(), Fail> {
+    let job = job_of(alloc, &[ECHO], THREE_ECHOES)?;
+    let wanted = text_in_order(alloc, &job)?;
+    let outcome = outcome_from(rt, alloc, &job, first)?;
+    let text = text_of(alloc, &outcome)?;
+    assert_text(rt, text.as_str(), wanted.as_str(), "three echoes");
+    Ok(())
+}
+
+/// One worker of three does all the work of three echoes, then the others ask once each.
+#[test]
+fn one_share_alone(rt: HostRuntime) -> Result<(), Fail> {
+    for first in 0..3 {
+        assert_alone(&rt, rt.alloc(), first)?;
+    }
+    Ok(())
+}
+
+/// The answer to a job whose second worker's share is not given back.
+fn settled_without_one<R: Wait + Abort>(
+    rt: &R,
+    alloc: Global,
+    job: &Job,
+) -> Result<Option<RunFault>, Fail> {
+    let (shared, shares) = shares_of(rt, alloc, job, 2)?;
+    let mut back = work_in_turn(rt, alloc, &shared, shares)?;
+    let _ = back.pop();
+    Ok(settled(alloc, shared, back, job).err())
+}
+
 #[test]
 fn settle_misses_a_share(rt: HostRuntime) -> Result<(), Fail> {
-    let alloc = rt.alloc();
-    let job = job_of(alloc, &[ECHO], ONE_ECHO)?;
-    let core = Core::new(alloc, job.copy()?, 2)?;
-    let Ok((shared, shares)) = Shared::new(alloc, core) else {
-        panic!(rt; "there is no memory");
-    };
-    let mut back = work_in_turn(&rt, alloc, &shared, shares)?;
-    let _ = back.pop();
-    let (answer, _) = settle(alloc, shared.into_book(), back, &job);
-    let Err(fault) = answer else {
-        panic!(rt; "a share that is missing is not seen");
-    };
-    assert_eq!(rt; fault, RunFault::Foreign);
+    let job = job_of(rt.alloc(), &[ECHO], ONE_ECHO)?;
+    let fault = settled_without_one(&rt, rt.alloc(), &job)?;
+    assert_eq!(rt; fault, Some(RunFault::Foreign));
     Ok(())
 }
 
@@ -301,22 +425,40 @@ impl Gate for Meeting {
     }
 }
 
+/// The text of two echoes that two workers run at a gate.
+fn text_at_gate<R: Threads + Wait + Sync>(
+    rt: &R,
+    alloc: Global,
+    executor: &mut Executor,
+    gate: &Meeting,
+) -> Result<String, Fail> {
+    let job = job_of(alloc, &[ECHO], TWO_ECHOES)?;
+    let outcome = executor.run_block_with(rt, alloc, job, 2, gate)?;
+    Ok(text_of(alloc, &outcome)?)
+}
+
+/// Whether two workers who run two echoes met. Asserts that the echoes are right.
+fn is_met<R: Threads + Wait + Sync + Abort>(
+    rt: &R,
+    alloc: Global,
+    executor: &mut Executor,
+) -> Result<bool, Fail> {
+    let gate = Meeting::new();
+    let text = text_at_gate(rt, alloc, executor, &gate)?;
+    assert_pieces(rt, text.as_bytes(), TWO_ENDS, "two echoes")?;
+    Ok(gate.is_met())
+}
+
 #[test]
 fn two_at_once(rt: HostRuntime) -> Result<(), Fail> {
-    let alloc = rt.alloc();
-    let mut executor = Executor::new(alloc);
-    let mut is_met = false;
+    let mut executor = Executor::new(rt.alloc());
+    let mut met = false;
     for _ in 0..TRIES {
-        let job = job_of(alloc, &[ECHO], TWO_ECHOES)?;
-        let gate = Meeting::new();
-        let outcome = executor.run_block_with(&rt, alloc, job, 2, &gate)?;
-        let text = text_of(alloc, &outcome)?;
-        assert!(rt; has_all(text.as_bytes(), TWO_ENDS)?);
-        is_met = is_met || gate.is_met();
-        if is_met {
+        met = is_met(&rt, rt.alloc(), &mut executor)?;
+        if met {
             break;
         }
     }
-    assert!(rt; is_met, "two workers were never met at once");
+    assert!(rt; met, "two workers were never met at once");
     Ok(())
 }

@@ -4,6 +4,7 @@ use crate::program_file::ECHO;
 use elf32::*;
 use rv_program::Program;
 use std::alloc::{AllocError, Global};
+use std::process::Abort;
 use std::test::Fail;
 
 // `ECHO` with a second segment: 4,096 readable and writable bytes at 0x000ff000, none in the file.
@@ -38,156 +39,195 @@ fn changed(alloc: Global, file: &[u8], changes: &[(usize, u8)]) -> Result<Vec<u8
     Ok(bytes)
 }
 
-#[test]
-fn echo_loads(rt: HostRuntime) -> Result<(), Fail> {
-    let image = load(rt.alloc(), &ECHO)?;
-    assert_eq!(rt; image.entry(), 65536);
-    assert_eq!(rt; image.segments().len(), 1);
-    let segment = &image.segments()[0];
-    assert_eq!(rt; segment.address, 65536);
-    assert_eq!(rt; segment.size, 8);
+// Why `load` refuses the file with the bytes at these places replaced, if it does.
+fn refusal_of_changed(
+    alloc: Global,
+    file: &[u8],
+    changes: &[(usize, u8)],
+) -> Result<Option<ElfError>, Fail> {
+    let bytes = changed(alloc, file, changes)?;
+    Ok(refusal(alloc, &bytes))
+}
+
+// Whether a segment has this place and this size, and these bytes in the file.
+fn is_segment(segment: &Segment, address: u32, size: u32, content: &[u8]) -> bool {
+    segment.address == address && segment.size == size && segment.content.bytes() == content
+}
+
+// Whether these are the segments of `ECHO`, with their rights.
+fn are_segments_of_echo(segments: &[Segment]) -> bool {
     let rights = Rights {
         readable: true,
         writable: false,
         executable: true,
     };
-    assert_eq!(rt; segment.rights, rights);
-    assert_eq!(rt; segment.content.bytes(), &ECHO[84..]);
+    match segments {
+        [text] => is_segment(text, 65536, 8, &ECHO[84..]) && text.rights == rights,
+        _ => false,
+    }
+}
+
+const ECHO_WORDS: &[PlacedWord] = &[
+    PlacedWord {
+        address: 65536,
+        word: 0x0030_0893,
+    },
+    PlacedWord {
+        address: 65540,
+        word: 0x0000_0073,
+    },
+];
+
+#[test]
+fn echo_loads(rt: HostRuntime) -> Result<(), Fail> {
+    let image = load(rt.alloc(), &ECHO)?;
+    assert!(rt; image.entry() == 65536);
+    assert!(rt; are_segments_of_echo(image.segments()));
     let words = image.words(rt.alloc())?;
-    let expected = [
-        PlacedWord {
-            address: 65536,
-            word: 0x0030_0893,
-        },
-        PlacedWord {
-            address: 65540,
-            word: 0x0000_0073,
-        },
-    ];
-    assert_eq!(rt; words.as_slice(), expected.as_slice());
+    assert!(rt; words.as_slice() == ECHO_WORDS);
     Ok(())
 }
 
-#[test]
-fn short_files(rt: HostRuntime) -> Result<(), Fail> {
+// Files that end within the headers, and within the text.
+fn short_echo(rt: &impl Abort, alloc: Global) {
     for len in 0..84 {
-        assert_eq!(rt;
-            refusal(rt.alloc(), &ECHO[..len]),
-            Some(ElfError::Truncated),
+        assert!(rt;
+            refusal(alloc, &ECHO[..len]) == Some(ElfError::Truncated),
             "at {len}"
         );
     }
     for len in 84..92 {
-        assert_eq!(rt;
-            refusal(rt.alloc(), &ECHO[..len]),
-            Some(ElfError::SegmentRange),
+        assert!(rt;
+            refusal(alloc, &ECHO[..len]) == Some(ElfError::SegmentRange),
             "at {len}"
         );
     }
-    let no_headers = changed(rt.alloc(), &ECHO[..52], &[(44, 0)])?;
-    assert_eq!(rt; refusal(rt.alloc(), &no_headers), Some(ElfError::BadCount));
-    let far_table = [(28, 0xff), (29, 0xff), (30, 0xff), (31, 0xff)];
-    let far_table = changed(rt.alloc(), &ECHO, &far_table)?;
-    assert_eq!(rt; refusal(rt.alloc(), &far_table), Some(ElfError::Truncated));
+}
+
+#[test]
+fn short_files(rt: HostRuntime) -> Result<(), Fail> {
+    let alloc = rt.alloc();
+    short_echo(&rt, alloc);
+    let no_headers = refusal_of_changed(alloc, &ECHO[..52], &[(44, 0)])?;
+    assert!(rt; no_headers == Some(ElfError::BadCount));
+    let far_table = &[(28, 0xff), (29, 0xff), (30, 0xff), (31, 0xff)];
+    let far_table = refusal_of_changed(alloc, &ECHO, far_table)?;
+    assert!(rt; far_table == Some(ElfError::Truncated));
     Ok(())
+}
+
+// Whether the second of two segments is this one.
+fn is_second(segments: &[Segment], address: u32, size: u32, content: &[u8]) -> bool {
+    match segments {
+        [_, second] => is_segment(second, address, size, content),
+        _ => false,
+    }
+}
+
+// The number of words of a program.
+fn word_count(alloc: Global, image: &Image) -> Result<usize, AllocError> {
+    Ok(image.words(alloc)?.len())
 }
 
 #[test]
 fn memory_only_segment(rt: HostRuntime) -> Result<(), Fail> {
     let image = load(rt.alloc(), &TWO_SEGMENTS)?;
-    assert_eq!(rt; image.segments().len(), 2);
-    let segment = &image.segments()[1];
-    assert_eq!(rt; segment.address, 0x000f_f000);
-    assert_eq!(rt; segment.size, 4096);
-    assert_eq!(rt; segment.content.bytes().len(), 0);
-    assert_eq!(rt; image.words(rt.alloc())?.len(), 2);
-    let longer = changed(rt.alloc(), &TWO_SEGMENTS, &[(104, 1)])?;
-    assert_eq!(rt; refusal(rt.alloc(), &longer), Some(ElfError::SegmentRange));
+    assert!(rt; is_second(image.segments(), 0x000f_f000, 4096, &[]));
+    assert!(rt; word_count(rt.alloc(), &image)? == 2);
+    let longer = refusal_of_changed(rt.alloc(), &TWO_SEGMENTS, &[(104, 1)])?;
+    assert!(rt; longer == Some(ElfError::SegmentRange));
     Ok(())
 }
 
+// Rows of a place in `ECHO`, the byte that is put there, and why `load` refuses the file.
+const CHANGES: &[(usize, u8, Option<ElfError>)] = &[
+    (0, 0x7e, Some(ElfError::BadMagic)),
+    (3, 0x47, Some(ElfError::BadMagic)),
+    (4, 2, Some(ElfError::BadClassOrData)),
+    (5, 2, Some(ElfError::BadClassOrData)),
+    (6, 0, Some(ElfError::BadVersion)),
+    (7, 9, None), // ignored
+    (16, 3, Some(ElfError::NotExec)),
+    (18, 0xf2, Some(ElfError::NotRiscv)),
+    (20, 2, Some(ElfError::BadVersion)),
+    (24, 4, None), // the last word
+    (24, 2, Some(ElfError::BadEntry)),
+    (24, 8, Some(ElfError::BadEntry)),
+    (25, 0x80, Some(ElfError::BadEntry)),
+    (32, 1, None), // e_shoff
+    (36, 1, Some(ElfError::BadFlags)),
+    (40, 51, Some(ElfError::BadHeaderSize)),
+    (42, 31, Some(ElfError::BadHeaderSize)),
+    (44, 0, Some(ElfError::BadCount)),
+    (44, 2, Some(ElfError::Truncated)),
+    (44, 9, Some(ElfError::BadCount)),
+    (52, 2, Some(ElfError::BadType)),
+    (52, 0, Some(ElfError::BadEntry)), // PT_NULL: no segment
+    (56, 0x55, Some(ElfError::SegmentRange)),
+    (62, 0, Some(ElfError::SegmentRange)),
+    (62, 0x10, Some(ElfError::SegmentRange)),
+    (64, 1, None), // p_paddr
+    (68, 9, Some(ElfError::SegmentRange)),
+    (72, 7, Some(ElfError::SegmentRange)),
+    (76, 1, None), // PF_X alone
+    (76, 4, Some(ElfError::BadEntry)),
+    (76, 13, None), // another bit
+    (76, 7, Some(ElfError::WriteExecute)),
+    (80, 1, None), // p_align
+];
+
 #[test]
 fn one_field_changed(rt: HostRuntime) -> Result<(), Fail> {
-    let table = [
-        (0, 0x7e, Some(ElfError::BadMagic)),
-        (3, 0x47, Some(ElfError::BadMagic)),
-        (4, 2, Some(ElfError::BadClassOrData)),
-        (5, 2, Some(ElfError::BadClassOrData)),
-        (6, 0, Some(ElfError::BadVersion)),
-        (7, 9, None), // ignored
-        (16, 3, Some(ElfError::NotExec)),
-        (18, 0xf2, Some(ElfError::NotRiscv)),
-        (20, 2, Some(ElfError::BadVersion)),
-        (24, 4, None), // the last word
-        (24, 2, Some(ElfError::BadEntry)),
-        (24, 8, Some(ElfError::BadEntry)),
-        (25, 0x80, Some(ElfError::BadEntry)),
-        (32, 1, None), // e_shoff
-        (36, 1, Some(ElfError::BadFlags)),
-        (40, 51, Some(ElfError::BadHeaderSize)),
-        (42, 31, Some(ElfError::BadHeaderSize)),
-        (44, 0, Some(ElfError::BadCount)),
-        (44, 2, Some(ElfError::Truncated)),
-        (44, 9, Some(ElfError::BadCount)),
-        (52, 2, Some(ElfError::BadType)),
-        (52, 0, Some(ElfError::BadEntry)), // PT_NULL: no segment
-        (56, 0x55, Some(ElfError::SegmentRange)),
-        (62, 0, Some(ElfError::SegmentRange)),
-        (62, 0x10, Some(ElfError::SegmentRange)),
-        (64, 1, None), // p_paddr
-        (68, 9, Some(ElfError::SegmentRange)),
-        (72, 7, Some(ElfError::SegmentRange)),
-        (76, 1, None), // PF_X alone
-        (76, 4, Some(ElfError::BadEntry)),
-        (76, 13, None), // another bit
-        (76, 7, Some(ElfError::WriteExecute)),
-        (80, 1, None), // p_align
-    ];
-    for (at, byte, expected) in table {
-        let bytes = changed(rt.alloc(), &ECHO, &[(at, byte)])?;
-        assert_eq!(rt; refusal(rt.alloc(), &bytes), expected, "{byte} at {at}");
+    for (at, byte, expected) in CHANGES {
+        let refusal = refusal_of_changed(rt.alloc(), &ECHO, &[(*at, *byte)])?;
+        assert!(rt; refusal == *expected, "{byte} at {at}");
     }
     Ok(())
 }
 
+// Rows of bytes that are put at places of `TWO_SEGMENTS`, and why `load` refuses the file.
+const SEGMENT_CHANGES: &[(&[(usize, u8)], Option<ElfError>)] = &[
+    // the second segment at 0x00010000, 0x00010f00 and 0x00011000
+    (
+        &[(93, 0x00), (94, 0x01), (95, 0)],
+        Some(ElfError::PageShared),
+    ),
+    (
+        &[(93, 0x0f), (94, 0x01), (95, 0)],
+        Some(ElfError::PageShared),
+    ),
+    (&[(93, 0x10), (94, 0x01), (95, 0)], None),
+    // the first at 0x000fff00
+    (
+        &[(61, 0xff), (62, 0x0f), (63, 0)],
+        Some(ElfError::SegmentOrder),
+    ),
+    // the second with p_memsz 0: it has no byte, but its range, order and rights are checked
+    (&[(93, 0x00), (94, 0x01), (105, 0)], None),
+    (
+        &[(93, 0xff), (94, 0x00), (105, 0)],
+        Some(ElfError::SegmentRange),
+    ),
+    (&[(88, 0x7c), (89, 0x00), (105, 0)], None),
+    (
+        &[(88, 0x7d), (89, 0x00), (105, 0)],
+        Some(ElfError::SegmentRange),
+    ),
+    (
+        &[(61, 0xff), (62, 0x0f), (105, 0)],
+        Some(ElfError::SegmentOrder),
+    ),
+    (
+        &[(108, 7), (109, 0), (105, 0)],
+        Some(ElfError::WriteExecute),
+    ),
+];
+
 #[test]
 fn two_segments_changed(rt: HostRuntime) -> Result<(), Fail> {
-    let table = [
-        // the second segment at 0x00010000, 0x00010f00 and 0x00011000
-        (
-            [(93, 0x00), (94, 0x01), (95, 0)],
-            Some(ElfError::PageShared),
-        ),
-        (
-            [(93, 0x0f), (94, 0x01), (95, 0)],
-            Some(ElfError::PageShared),
-        ),
-        ([(93, 0x10), (94, 0x01), (95, 0)], None),
-        // the first at 0x000fff00
-        (
-            [(61, 0xff), (62, 0x0f), (63, 0)],
-            Some(ElfError::SegmentOrder),
-        ),
-        // the second with p_memsz 0: it has no byte, but its range, order and rights are checked
-        ([(93, 0x00), (94, 0x01), (105, 0)], None),
-        (
-            [(93, 0xff), (94, 0x00), (105, 0)],
-            Some(ElfError::SegmentRange),
-        ),
-        ([(88, 0x7c), (89, 0x00), (105, 0)], None),
-        (
-            [(88, 0x7d), (89, 0x00), (105, 0)],
-            Some(ElfError::SegmentRange),
-        ),
-        (
-            [(61, 0xff), (62, 0x0f), (105, 0)],
-            Some(ElfError::SegmentOrder),
-        ),
-        ([(108, 7), (109, 0), (105, 0)], Some(ElfError::WriteExecute)),
-    ];
-    for (changes, expected) in table {
-        let bytes = changed(rt.alloc(), &TWO_SEGMENTS, &changes)?;
-        assert_eq!(rt; refusal(rt.alloc(), &bytes), expected, "{changes:?}");
+    for (changes, expected) in SEGMENT_CHANGES {
+        let refusal = refusal_of_changed(rt.alloc(), &TWO_SEGMENTS, changes)?;
+        assert!(rt; refusal == *expected, "{changes:?}");
     }
     Ok(())
 }
@@ -201,70 +241,92 @@ fn program(alloc: Global, text: &[u32], data: &[u8]) -> Result<Program, Fail> {
     }
 }
 
+// The file of the program of these sections.
+fn written(alloc: Global, text: &[u32], data: &[u8]) -> Result<Vec<u8>, Fail> {
+    let program = program(alloc, text, data)?;
+    Ok(write(alloc, &program)?)
+}
+
 #[test]
 fn writes_echo(rt: HostRuntime) -> Result<(), Fail> {
-    let echo = program(rt.alloc(), &[0x0030_0893, 0x0000_0073], &[])?;
-    let file = write(rt.alloc(), &echo)?;
-    assert_eq!(rt; file.as_slice(), ECHO.as_slice());
+    let file = written(rt.alloc(), &[0x0030_0893, 0x0000_0073], &[])?;
+    assert!(rt; file.as_slice() == ECHO.as_slice());
     Ok(())
 }
 
-// The words of `li x1,buf` and `loop: bne x1,x0,loop` and the data of `buf: .word 7`.
+// The words of `li x1,buf` and `loop: bne x1,x0,loop`.
+const FOUR_LINES: &[u32] = &[0x0002_00b7, 0x0000_8093, 0x0000_9063];
+
+// The data of `buf: .word 7`.
+const BUF: &[u8] = &[7, 0, 0, 0];
+
+// The words, placed.
+const FOUR_LINES_PLACED: &[PlacedWord] = &[
+    PlacedWord {
+        address: 0x0001_0000,
+        word: 0x0002_00b7,
+    },
+    PlacedWord {
+        address: 0x0001_0004,
+        word: 0x0000_8093,
+    },
+    PlacedWord {
+        address: 0x0001_0008,
+        word: 0x0000_9063,
+    },
+];
+
 #[test]
 fn four_lines(rt: HostRuntime) -> Result<(), Fail> {
-    let words = [0x0002_00b7, 0x0000_8093, 0x0000_9063];
-    let bytes = [7, 0, 0, 0];
-    let file = write(rt.alloc(), &program(rt.alloc(), &words, &bytes)?)?;
-    assert_eq!(rt; file.len(), 132);
+    let file = written(rt.alloc(), FOUR_LINES, BUF)?;
+    assert!(rt; file.len() == 132);
     let image = load(rt.alloc(), file.as_slice())?;
-    assert_eq!(rt; image.entry(), 0x0001_0000);
-    let placed = image.words(rt.alloc())?;
-    assert_eq!(rt; placed.len(), 3);
-    for (n, word) in words.iter().enumerate() {
-        assert_eq!(rt; placed[n].word, *word);
-    }
-    assert_eq!(rt; image.segments().len(), 2);
-    let segment = &image.segments()[1];
-    assert_eq!(rt; segment.address, 0x0002_0000);
-    assert_eq!(rt; segment.content.bytes(), bytes.as_slice());
+    assert!(rt; image.entry() == 0x0001_0000);
+    assert!(rt; is_second(image.segments(), 0x0002_0000, 4, BUF));
+    let words = image.words(rt.alloc())?;
+    assert!(rt; words.as_slice() == FOUR_LINES_PLACED);
     Ok(())
+}
+
+// Why `write` refuses a program, if it does.
+fn write_refusal(alloc: Global, program: &Program) -> Option<ElfError> {
+    match write(alloc, program) {
+        Ok(_) => None,
+        Err(error) => Some(error),
+    }
 }
 
 #[test]
 fn no_text(rt: HostRuntime) -> Result<(), Fail> {
     let program = program(rt.alloc(), &[], &[1])?;
-    match write(rt.alloc(), &program) {
-        Ok(_) => Err(Fail::from("a program without text words is written")),
-        Err(error) => {
-            assert_eq!(rt; error, ElfError::BadEntry);
-            Ok(())
-        }
-    }
+    assert!(rt; write_refusal(rt.alloc(), &program) == Some(ElfError::BadEntry));
+    Ok(())
 }
+
+const TEXTS: &[(ElfError, &str)] = &[
+    (ElfError::Truncated, "Truncated 1"),
+    (ElfError::BadMagic, "BadMagic 2"),
+    (ElfError::BadClassOrData, "BadClassOrData 3"),
+    (ElfError::BadVersion, "BadVersion 4"),
+    (ElfError::NotExec, "NotExec 5"),
+    (ElfError::NotRiscv, "NotRiscv 6"),
+    (ElfError::BadFlags, "BadFlags 7"),
+    (ElfError::BadHeaderSize, "BadHeaderSize 8"),
+    (ElfError::BadCount, "BadCount 9"),
+    (ElfError::BadType, "BadType 10"),
+    (ElfError::SegmentRange, "SegmentRange 11"),
+    (ElfError::SegmentOrder, "SegmentOrder 12"),
+    (ElfError::PageShared, "PageShared 13"),
+    (ElfError::WriteExecute, "WriteExecute 14"),
+    (ElfError::BadEntry, "BadEntry 15"),
+    (ElfError::Memory, "Memory 16"),
+];
 
 #[test]
 fn texts(rt: HostRuntime) -> Result<(), Fail> {
-    let table = [
-        (ElfError::Truncated, "Truncated 1"),
-        (ElfError::BadMagic, "BadMagic 2"),
-        (ElfError::BadClassOrData, "BadClassOrData 3"),
-        (ElfError::BadVersion, "BadVersion 4"),
-        (ElfError::NotExec, "NotExec 5"),
-        (ElfError::NotRiscv, "NotRiscv 6"),
-        (ElfError::BadFlags, "BadFlags 7"),
-        (ElfError::BadHeaderSize, "BadHeaderSize 8"),
-        (ElfError::BadCount, "BadCount 9"),
-        (ElfError::BadType, "BadType 10"),
-        (ElfError::SegmentRange, "SegmentRange 11"),
-        (ElfError::SegmentOrder, "SegmentOrder 12"),
-        (ElfError::PageShared, "PageShared 13"),
-        (ElfError::WriteExecute, "WriteExecute 14"),
-        (ElfError::BadEntry, "BadEntry 15"),
-        (ElfError::Memory, "Memory 16"),
-    ];
-    for (error, expected) in table {
+    for (error, expected) in TEXTS {
         let text = format!(in rt.alloc(); "{error}")?;
-        assert_eq!(rt; text.as_str(), expected);
+        assert!(rt; text.as_str() == *expected, "{text}");
     }
     Ok(())
 }

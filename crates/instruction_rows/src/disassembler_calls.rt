@@ -1,64 +1,68 @@
 //! Worked words, both ways.
 
-use rv_isa::encode;
-use rv_names::{Section, Statement, read_line};
+use crate::source_lines::word;
+use rv_names::Section;
 use rv_text::disassemble;
-use std::alloc::Global;
+use std::alloc::{AllocError, Global};
 use std::process::Abort;
 use std::test::Fail;
 
-/// The word of a line of one instruction or one `.word`; None for any other line.
-fn word(text: &str) -> Option<u32> {
-    match read_line(Section::Text, text.as_bytes()) {
-        Ok(line) => match line.statement {
-            Statement::Plain(instr) => Some(encode(&instr)),
-            Statement::WordValue(word) => Some(word),
-            _ => None,
-        },
-        Err(_) => None,
-    }
-}
-
-/// Checks a word both ways: its text, appended behind `pc `, and the word that this text gives.
-fn both_ways(rt: &impl Abort, alloc: Global, code: u32, text: &str) -> Result<(), Fail> {
+/// What the disassembler makes of `pc ` for a word.
+fn disassembled(alloc: Global, code: u32) -> Result<String, AllocError> {
     let mut line = String::from_str(alloc, "pc ")?;
     disassemble(alloc, code, &mut line)?;
-    let wanted = format!(in alloc; "pc {text}")?;
-    assert_eq!(rt; line.as_str(), wanted.as_str());
-    assert_eq!(rt; word(text), Some(code), "{text}");
+    Ok(line)
+}
+
+/// Checks words both ways: the text of each, appended behind `pc `, and the word that this text gives.
+fn both_ways(rt: &impl Abort, alloc: Global, rows: &[(u32, &str)]) -> Result<(), Fail> {
+    for (code, text) in rows {
+        assert!(rt; word(Section::Text, text) == Some(*code), "{text}");
+        let line = disassembled(alloc, *code)?;
+        assert!(rt; line.as_str().strip_prefix("pc ") == Some(*text), "{line}");
+    }
     Ok(())
 }
 
+const FIVE_WORDS: &[(u32, &str)] = &[
+    (0x0050_0093, "addi x1,x0,5"),
+    (0x0020_81b3, "add x3,x1,x2"),
+    (0xfe00_0ee3, "beq x0,x0,-4"),
+    (0xfe20_ae23, "sw x2,-4(x1)"),
+    (0x41f0_d093, "srai x1,x1,31"),
+];
+
 #[test]
 fn five_words(rt: HostRuntime) -> Result<(), Fail> {
-    let alloc = rt.alloc();
-    both_ways(&rt, alloc, 0x0050_0093, "addi x1,x0,5")?;
-    both_ways(&rt, alloc, 0x0020_81b3, "add x3,x1,x2")?;
-    both_ways(&rt, alloc, 0xfe00_0ee3, "beq x0,x0,-4")?;
-    both_ways(&rt, alloc, 0xfe20_ae23, "sw x2,-4(x1)")?;
-    both_ways(&rt, alloc, 0x41f0_d093, "srai x1,x1,31")
+    both_ways(&rt, rt.alloc(), FIVE_WORDS)
 }
+
+const ILLEGAL_WORDS: &[(u32, &str)] = &[
+    (0x0000_0000, ".word 0x00000000"),
+    (0x0200_9093, ".word 0x02009093"),
+];
 
 #[test]
 fn illegal_words(rt: HostRuntime) -> Result<(), Fail> {
-    let alloc = rt.alloc();
-    both_ways(&rt, alloc, 0x0000_0000, ".word 0x00000000")?;
-    both_ways(&rt, alloc, 0x0200_9093, ".word 0x02009093")
+    both_ways(&rt, rt.alloc(), ILLEGAL_WORDS)
 }
+
+const MORE_WORDS: &[(u32, &str)] = &[
+    (0x0ff0_000f, "fence"),
+    (0x0000_000f, ".word 0x0000000f"),
+    (0x0000_106f, "jal x0,4096"),
+    (0x0000_9063, "bne x1,x0,0"),
+    (0x0002_00b7, "lui x1,0x20"),
+];
 
 #[test]
 fn more_words(rt: HostRuntime) -> Result<(), Fail> {
-    let alloc = rt.alloc();
-    both_ways(&rt, alloc, 0x0ff0_000f, "fence")?;
-    both_ways(&rt, alloc, 0x0000_000f, ".word 0x0000000f")?;
-    both_ways(&rt, alloc, 0x0000_106f, "jal x0,4096")?;
-    both_ways(&rt, alloc, 0x0000_9063, "bne x1,x0,0")?;
-    both_ways(&rt, alloc, 0x0002_00b7, "lui x1,0x20")
+    both_ways(&rt, rt.alloc(), MORE_WORDS)
 }
 
 /// A word of each instruction, and its text as GNU objdump prints it. The text of a FENCE with
 /// other fields than the plain one is its word as a number.
-const WORDS: [(u32, &str); 49] = [
+const WORDS: &[(u32, &str)] = &[
     (0x91b7_5863, "bge x14,x27,-3824"),
     (0x414c_0467, "jalr x8,1044(x24)"),
     (0x7ed4_c563, "blt x9,x13,2026"),
@@ -112,8 +116,5 @@ const WORDS: [(u32, &str); 49] = [
 
 #[test]
 fn words_of_another_tool(rt: HostRuntime) -> Result<(), Fail> {
-    for (code, text) in WORDS {
-        both_ways(&rt, rt.alloc(), code, text)?;
-    }
-    Ok(())
+    both_ways(&rt, rt.alloc(), WORDS)
 }

@@ -14,3 +14,5 @@ mod rv_isa_calls;
 mod rv_names_calls;
 #[cfg(test)]
 mod rv_text_calls;
+#[cfg(test)]
+mod source_lines;

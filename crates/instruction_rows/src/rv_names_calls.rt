@@ -1,23 +1,13 @@
 //! Worked words and lines.
 
+use crate::source_lines::word;
 use rv_isa::{Reg, decode, encode};
 use rv_names::{
     Cause, Section, Statement, branch_offset, instruction_text, jump_offset, load_number, mnemonic,
-    number, read_line, register, shape, trimmed, word_text, x_name,
+    number, read_line, register, shape, trimmed, x_name,
 };
+use std::alloc::Global;
 use std::test::Fail;
-
-/// The word of a line of one instruction or one `.word`; None for any other line.
-fn word(section: Section, text: &str) -> Option<u32> {
-    match read_line(section, text.as_bytes()) {
-        Ok(line) => match line.statement {
-            Statement::Plain(instr) => Some(encode(&instr)),
-            Statement::WordValue(word) => Some(word),
-            _ => None,
-        },
-        Err(_) => None,
-    }
-}
 
 /// The words of a line of two instructions; None for any other line.
 fn pair(text: &str) -> Option<(u32, u32)> {
@@ -38,102 +28,145 @@ fn cause(section: Section, text: &str) -> Option<Cause> {
     }
 }
 
+const PAIRS: &[(&str, (u32, u32))] = &[
+    ("li x1,0x12345fff", (0x1234_60b7, 0xfff0_8093)),
+    ("li x1,-1", (0x0000_00b7, 0xfff0_8093)),
+];
+
+const WORDS: &[(Section, &str, u32)] = &[
+    (Section::Text, "nop", 0x0000_0013),
+    (Section::Text, "mv a0, sp", 0x0001_0513),
+    (Section::Text, "ret", 0x0000_8067),
+    (Section::Text, "j 8", 0x0080_006f),
+    (
+        Section::Text,
+        "\t addi\tfp , zero ,\t0xA # five",
+        0x00a0_0413,
+    ),
+    (Section::Data, "x:.word -1", 0xffff_ffff),
+];
+
 #[test]
 fn pseudo_instructions(rt: HostRuntime) {
-    assert_eq!(rt; pair("li x1,0x12345fff"), Some((0x1234_60b7, 0xfff0_8093)));
-    assert_eq!(rt; pair("li x1,-1"), Some((0x0000_00b7, 0xfff0_8093)));
-    assert_eq!(rt; word(Section::Text, "nop"), Some(0x0000_0013));
-    assert_eq!(rt; word(Section::Text, "mv a0, sp"), Some(0x0001_0513));
-    assert_eq!(rt; word(Section::Text, "ret"), Some(0x0000_8067));
-    assert_eq!(rt; word(Section::Text, "j 8"), Some(0x0080_006f));
-    assert_eq!(rt;
-        word(Section::Text, "\t addi\tfp , zero ,\t0xA # five"),
-        Some(0x00a0_0413)
-    );
-    assert_eq!(rt; word(Section::Data, "x:.word -1"), Some(0xffff_ffff));
+    for (text, words) in PAIRS {
+        assert!(rt; pair(text) == Some(*words), "{text}");
+    }
+    for (section, text, want) in WORDS {
+        assert!(rt; word(*section, text) == Some(*want), "{text}");
+    }
 }
+
+const CAUSES: &[(Section, &str, Cause)] = &[
+    (Section::Data, "addi x1,x0,1", Cause::BadOperand),
+    (Section::Text, "addi x1,x0,2048", Cause::ImmediateRange),
+    (Section::Text, "foo", Cause::UnknownMnemonic),
+    (Section::Text, "a : nop", Cause::BadOperand),
+    (Section::Text, "1a: foo", Cause::UnknownMnemonic),
+    (Section::Text, "1a:", Cause::BadOperand),
+    (Section::Text, "a: a: nop", Cause::UnknownMnemonic),
+    (Section::Text, "nop\r", Cause::UnknownMnemonic),
+    (Section::Text, "NOP", Cause::UnknownMnemonic),
+    (Section::Text, "addi x1,x0,-0x1", Cause::BadOperand),
+    (Section::Text, "addi x1,x0,0X1", Cause::BadOperand),
+    (Section::Text, "addi x1,x0,00000000001", Cause::BadOperand),
+    (Section::Text, "beq x0,x0,3", Cause::ImmediateRange),
+    (Section::Text, "beq x0,x0,4096", Cause::ImmediateRange),
+    (Section::Text, "j 1048576", Cause::ImmediateRange),
+    (Section::Text, ".text ,", Cause::BadOperand),
+    (Section::Text, "nop x1", Cause::BadOperand),
+    (Section::Text, "lw x1,4 (x2)", Cause::BadOperand),
+    (Section::Text, "lw x1,5000(x32)", Cause::BadOperand),
+    (Section::Text, "slli x1,x1,32", Cause::ImmediateRange),
+    (Section::Text, "lui x1,1048576", Cause::ImmediateRange),
+    (Section::Text, ".byte 1", Cause::BadOperand),
+    (Section::Data, ".byte 256", Cause::ImmediateRange),
+    (Section::Data, ".zero 65537", Cause::ImmediateRange),
+    (Section::Text, "li x1,4294967296", Cause::ImmediateRange),
+    (Section::Text, "j", Cause::BadOperand),
+];
 
 #[test]
 fn causes(rt: HostRuntime) {
-    let text = Section::Text;
-    let bad = Some(Cause::BadOperand);
-    let unknown = Some(Cause::UnknownMnemonic);
-    let range = Some(Cause::ImmediateRange);
-    assert_eq!(rt; cause(Section::Data, "addi x1,x0,1"), bad);
-    assert_eq!(rt; cause(text, "addi x1,x0,2048"), range);
-    assert_eq!(rt; cause(text, "foo"), unknown);
-    assert_eq!(rt; cause(text, "a : nop"), bad);
-    assert_eq!(rt; cause(text, "1a: foo"), unknown);
-    assert_eq!(rt; cause(text, "1a:"), bad);
-    assert_eq!(rt; cause(text, "a: a: nop"), unknown);
-    assert_eq!(rt; cause(text, "nop\r"), unknown);
-    assert_eq!(rt; cause(text, "NOP"), unknown);
-    assert_eq!(rt; cause(text, "addi x1,x0,-0x1"), bad);
-    assert_eq!(rt; cause(text, "addi x1,x0,0X1"), bad);
-    assert_eq!(rt; cause(text, "addi x1,x0,00000000001"), bad);
-    assert_eq!(rt; word(text, "addi x1,x0,-0"), Some(0x0000_0093));
-    assert_eq!(rt; cause(text, "beq x0,x0,3"), range);
-    assert_eq!(rt; cause(text, "beq x0,x0,4096"), range);
-    assert_eq!(rt; cause(text, "j 1048576"), range);
-    assert_eq!(rt; cause(text, ".text ,"), bad);
-    assert_eq!(rt; cause(text, "nop x1"), bad);
-    assert_eq!(rt; cause(text, "lw x1,4 (x2)"), bad);
-    assert_eq!(rt; cause(text, "lw x1,5000(x32)"), bad);
-    assert_eq!(rt; cause(text, "slli x1,x1,32"), range);
-    assert_eq!(rt; cause(text, "lui x1,1048576"), range);
-    assert_eq!(rt; cause(text, ".byte 1"), bad);
-    assert_eq!(rt; cause(Section::Data, ".byte 256"), range);
-    assert_eq!(rt; cause(Section::Data, ".zero 65537"), range);
-    assert_eq!(rt; cause(text, "li x1,4294967296"), range);
-    assert_eq!(rt; cause(text, "j"), bad);
+    for (section, text, want) in CAUSES {
+        assert!(rt; cause(*section, text) == Some(*want), "{text}");
+    }
+    let zero = "addi x1,x0,-0";
+    assert!(rt; word(Section::Text, zero) == Some(0x0000_0093));
 }
 
-/// The label, the statement and the target of a line that is right.
-fn parts(text: &str) -> Option<(Option<&[u8]>, Statement, Option<&[u8]>)> {
+/// The label and the target of a line that is right.
+fn names_in(text: &str) -> Option<(Option<&[u8]>, Option<&[u8]>)> {
     match read_line(Section::Text, text.as_bytes()) {
-        Ok(line) => Some((line.label, line.statement, line.target)),
+        Ok(line) => Some((line.label, line.target)),
         Err(_) => None,
     }
 }
 
+/// The statement of a line that is right.
+fn statement(text: &str) -> Option<Statement> {
+    match read_line(Section::Text, text.as_bytes()) {
+        Ok(line) => Some(line.statement),
+        Err(_) => None,
+    }
+}
+
+const LABELS: &[(&str, Option<&[u8]>, Option<&[u8]>)] = &[
+    ("x: .data", Some(b"x"), None),
+    ("  _l1:  # here", Some(b"_l1"), None),
+    ("j x1", None, Some(b"x1")),
+    ("li a0,buf", None, Some(b"buf")),
+];
+
 #[test]
 fn labels(rt: HostRuntime) {
-    let x = Some(b"x".as_slice());
+    for (text, label, target) in LABELS {
+        assert!(rt; names_in(text) == Some((*label, *target)), "{text}");
+    }
     let entered = Statement::Enter(Section::Data);
-    assert_eq!(rt; parts("x: .data"), Some((x, entered, None)));
-    let local = Some(b"_l1".as_slice());
-    assert_eq!(rt;
-        parts("  _l1:  # here"),
-        Some((local, Statement::Empty, None))
-    );
+    assert!(rt; statement("x: .data") == Some(entered));
+    assert!(rt; statement("  _l1:  # here") == Some(Statement::Empty));
     let jump = Statement::JumpTo {
         rd: Reg { number: 0 },
     };
-    assert_eq!(rt; parts("j x1"), Some((None, jump, Some(b"x1".as_slice()))));
+    assert!(rt; statement("j x1") == Some(jump));
     let address = Statement::AddressOf {
         rd: Reg { number: 10 },
     };
-    assert_eq!(rt;
-        parts("li a0,buf"),
-        Some((None, address, Some(b"buf".as_slice())))
-    );
+    assert!(rt; statement("li a0,buf") == Some(address));
+}
+
+/// The x name of a register.
+fn x_name_of(name: &[u8]) -> Option<&'static str> {
+    Some(x_name(register(name)?))
+}
+
+/// The mnemonic that a name is read as.
+fn mnemonic_of(name: &[u8]) -> Option<&'static str> {
+    Some(mnemonic(shape(name)?))
+}
+
+/// The first word of the two that load a number into a register.
+fn load_word(name: &[u8], number: u32) -> Option<u32> {
+    let (first, _) = load_number(register(name)?, number);
+    Some(encode(&first))
+}
+
+/// The text of a word's instruction.
+fn text_of(alloc: Global, word: u32) -> Result<String, Fail> {
+    let instr = decode(word).ok_or("illegal")?;
+    Ok(instruction_text(alloc, &instr)?)
 }
 
 #[test]
 fn names(rt: HostRuntime) -> Result<(), Fail> {
-    let alloc = rt.alloc();
-    let last = register(b"t6".as_slice()).ok_or("no register")?;
-    assert_eq!(rt; x_name(last), "x31");
-    assert_eq!(rt; number(b"4294967295".as_slice()), Some(4294967295));
-    let load = shape(b"lhu".as_slice()).ok_or("no shape")?;
-    assert_eq!(rt; mnemonic(load), "lhu");
-    assert_eq!(rt; trimmed(b" \ta b\t".as_slice()), b"a b".as_slice());
-    assert_eq!(rt; branch_offset(4094).is_some(), true);
-    assert_eq!(rt; jump_offset(-1048576).is_some(), true);
-    let (first, _) = load_number(last, 0x800);
-    assert_eq!(rt; encode(&first), 0x0000_1fb7);
-    let instr = decode(0x0050_0093).ok_or("illegal")?;
-    let text = instruction_text(alloc, &instr)?;
-    assert_eq!(rt; text.as_str(), "addi x1,x0,5");
+    assert!(rt; x_name_of(b"t6") == Some("x31"));
+    assert!(rt; mnemonic_of(b"lhu") == Some("lhu"));
+    assert!(rt; number(b"4294967295") == Some(4294967295));
+    assert!(rt; trimmed(b" \ta b\t") == b"a b".as_slice());
+    assert!(rt; branch_offset(4094).is_some());
+    assert!(rt; jump_offset(-1048576).is_some());
+    assert!(rt; load_word(b"t6", 0x800) == Some(0x0000_1fb7));
+    let text = text_of(rt.alloc(), 0x0050_0093)?;
+    assert!(rt; text.as_str() == "addi x1,x0,5", "{text}");
     Ok(())
 }

@@ -3,6 +3,8 @@
 #![tactic(auto)]
 
 #[cfg(test)]
+mod asserts;
+#[cfg(test)]
 mod block_file_calls;
 #[cfg(test)]
 mod cmdline_calls;

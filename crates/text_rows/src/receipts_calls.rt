@@ -1,14 +1,16 @@
 //! The text, compared with one that was written by hand, and writers that stop at each place.
 
+use crate::asserts::{assert_bytes, assert_text};
 use receipts::{WriteFault, end_name, one_text_of, result_text, write_outcome, write_whole};
 use rv_isa::{Reg, Regs};
 use rv_ledger::{
     End, InlineBytes, Job, Key, Outcome, Output, Receipt, Store, Trap, Value, Write as WriteTo,
     Writes,
 };
-use std::alloc::Global;
+use std::alloc::{AllocError, Global};
 use std::io;
 use std::io::{ErrorKind, Write};
+use std::process::Abort;
 use std::test::Fail;
 
 /// The text of a result of two calls: one that writes nothing, and one that writes three keys.
@@ -39,18 +41,34 @@ const TEXT: &str = "\
 
 /// The outcome whose text that is.
 fn outcome(alloc: Global) -> Result<Outcome, Fail> {
-    let mut receipts = Vec::new(alloc);
-    receipts.push(echo(alloc)?)?;
-    receipts.push(writer(alloc)?)?;
-    let mut store = Store::new(alloc);
-    store.insert(Key::new([0xff; 32]), value(&[1])?)?;
-    store.insert(Key::new([10; 32]), InlineBytes::empty())?;
+    let mut outcome = empty_outcome(alloc)?;
+    push_receipts(alloc, &mut outcome.receipts)?;
+    insert_values(&mut outcome.store)?;
+    Ok(outcome)
+}
+
+/// The outcome of no calls.
+fn empty_outcome(alloc: Global) -> Result<Outcome, Fail> {
     Ok(Outcome {
         job: Job::new(Vec::new(alloc), Store::new(alloc))?,
-        receipts,
-        store,
+        receipts: Vec::new(alloc),
+        store: Store::new(alloc),
         counts: Vec::new(alloc),
     })
+}
+
+/// Appends the receipts of that outcome.
+fn push_receipts(alloc: Global, receipts: &mut Vec<Receipt>) -> Result<(), Fail> {
+    receipts.push(echo(alloc)?)?;
+    receipts.push(writer(alloc)?)?;
+    Ok(())
+}
+
+/// Stores what that outcome stores.
+fn insert_values(store: &mut Store) -> Result<(), Fail> {
+    store.insert(Key::new([0xff; 32]), value(&[1])?)?;
+    store.insert(Key::new([10; 32]), InlineBytes::empty())?;
+    Ok(())
 }
 
 /// The receipt of a call that returned two bytes.
@@ -128,83 +146,168 @@ impl Write for Slow {
     }
 }
 
-#[test]
-fn writes_a_result(rt: HostRuntime) -> Result<(), Fail> {
-    let outcome = outcome(rt.alloc())?;
-    one_text_of(&outcome, &outcome);
-    let mut out = Vec::new(rt.alloc());
+/// Asserts that an output holds a 7 and the text.
+fn assert_behind(rt: &impl Abort, out: &[u8]) {
+    let [first, rest @ ..] = out else {
+        panic!(rt; "nothing is held");
+    };
+    assert_eq!(rt; *first, 7);
+    assert_bytes(rt, rest, TEXT.as_bytes());
+}
+
+/// Writes a 7 and then the outcome.
+fn write_behind(alloc: Global, outcome: &Outcome, out: &mut Vec<u8>) -> Result<(), Fail> {
     out.push(7)?;
-    write_outcome(rt.alloc(), &outcome, &mut out)?;
-    assert_eq!(rt; out.first().copied(), Some(7));
-    assert_eq!(rt; out.get(1..), Some(TEXT.as_bytes()));
-    let none = result_text(rt.alloc(), &[], &Store::new(rt.alloc()))?;
-    assert_eq!(rt; none.as_str(), "end\n");
+    write_outcome(alloc, outcome, out)?;
+    Ok(())
+}
+
+/// Asserts that an outcome is written behind what an output holds.
+fn assert_written(rt: &impl Abort, alloc: Global, outcome: &Outcome) -> Result<(), Fail> {
+    let mut out = Vec::new(alloc);
+    write_behind(alloc, outcome, &mut out)?;
+    assert_behind(rt, out.as_slice());
+    Ok(())
+}
+
+/// The text of a result without calls.
+fn empty_text(alloc: Global) -> Result<String, AllocError> {
+    result_text(alloc, &[], &Store::new(alloc))
+}
+
+/// Asserts that this text is right.
+fn assert_empty(rt: &impl Abort, alloc: Global) -> Result<(), AllocError> {
+    let text = empty_text(alloc)?;
+    assert_text(rt, text.as_str(), "end\n");
     Ok(())
 }
 
 #[test]
+fn writes_a_result(rt: HostRuntime) -> Result<(), Fail> {
+    assert_empty(&rt, rt.alloc())?;
+    let outcome = outcome(rt.alloc())?;
+    one_text_of(&outcome, &outcome);
+    assert_written(&rt, rt.alloc(), &outcome)
+}
+
+/// Each end with its name.
+const NAMES: &[(End, &str)] = &[
+    (End::Returned, "returned"),
+    (End::Reverted, "reverted"),
+    (End::OutOfGas, "out-of-gas"),
+    (End::Trapped(Trap::Illegal), "illegal"),
+    (End::Trapped(Trap::Misaligned), "misaligned"),
+    (End::Trapped(Trap::MemoryFault), "memory-fault"),
+    (End::Trapped(Trap::FetchFault), "fetch-fault"),
+    (End::Trapped(Trap::Breakpoint), "breakpoint"),
+    (End::Trapped(Trap::UnknownCall), "unknown-call"),
+    (End::Trapped(Trap::BadLength), "bad-length"),
+    (End::Trapped(Trap::TooManyWrites), "too-many-writes"),
+];
+
+#[test]
 fn names_ends(rt: HostRuntime) {
-    let names = [
-        (End::Returned, "returned"),
-        (End::Reverted, "reverted"),
-        (End::OutOfGas, "out-of-gas"),
-        (End::Trapped(Trap::Illegal), "illegal"),
-        (End::Trapped(Trap::Misaligned), "misaligned"),
-        (End::Trapped(Trap::MemoryFault), "memory-fault"),
-        (End::Trapped(Trap::FetchFault), "fetch-fault"),
-        (End::Trapped(Trap::Breakpoint), "breakpoint"),
-        (End::Trapped(Trap::UnknownCall), "unknown-call"),
-        (End::Trapped(Trap::BadLength), "bad-length"),
-        (End::Trapped(Trap::TooManyWrites), "too-many-writes"),
-    ];
-    for (end, name) in names {
-        assert_eq!(rt; end_name(end), name);
+    for (end, name) in NAMES {
+        assert_text(&rt, end_name(*end), name);
+    }
+}
+
+/// Asserts that a writer that takes this many bytes holds so much of the text.
+fn assert_held(rt: &impl Abort, held: &[u8], room: usize) {
+    assert_eq!(rt; Some(held), TEXT.as_bytes().get(..room), "at {room}");
+}
+
+/// Asserts what writing the text to a writer that takes this many bytes answers.
+fn assert_answer(rt: &impl Abort, answer: Result<(), WriteFault>, room: usize, fails: bool) {
+    assert_eq!(rt; answer, answer_at(room, fails), "at {room}");
+}
+
+/// Asserts what a writer that takes this many bytes answers and holds.
+fn assert_stops(rt: &impl Abort, alloc: Global, outcome: &Outcome, room: usize, fails: bool) {
+    let mut out = Slow {
+        held: Vec::new(alloc),
+        room,
+        fails,
+    };
+    let answer = write_outcome(alloc, outcome, &mut out);
+    assert_answer(rt, answer, room, fails);
+    assert_held(rt, out.held.as_slice(), room);
+}
+
+/// The answer to writing the text to a writer that takes this many bytes.
+fn answer_at(room: usize, fails: bool) -> Result<(), WriteFault> {
+    if room >= TEXT.len() {
+        Ok(())
+    } else if fails {
+        Err(WriteFault::Io)
+    } else {
+        Err(WriteFault::WroteNothing)
+    }
+}
+
+/// Asserts what writers that stop at each place answer and hold.
+fn assert_each(rt: &impl Abort, alloc: Global, outcome: &Outcome) {
+    for room in 0..=TEXT.len() {
+        assert_stops(rt, alloc, outcome, room, true);
+        assert_stops(rt, alloc, outcome, room, false);
     }
 }
 
 #[test]
 fn stops_at_each_place(rt: HostRuntime) -> Result<(), Fail> {
     let outcome = outcome(rt.alloc())?;
-    let text = TEXT.as_bytes();
-    for room in 0..=text.len() {
-        for (fails, fault) in [(true, WriteFault::Io), (false, WriteFault::WroteNothing)] {
-            let mut out = Slow {
-                held: Vec::new(rt.alloc()),
-                room,
-                fails,
-            };
-            let answer = write_outcome(rt.alloc(), &outcome, &mut out);
-            let wanted = if room < text.len() {
-                Err(fault)
-            } else {
-                Ok(())
-            };
-            assert_eq!(rt; answer, wanted, "at {room}");
-            assert_eq!(rt; Some(out.held.as_slice()), text.get(..room), "at {room}");
-        }
-    }
+    assert_each(&rt, rt.alloc(), &outcome);
     Ok(())
 }
 
+/// Writes no bytes, and then three.
+fn write_twice(out: &mut Vec<u8>) -> Result<(), WriteFault> {
+    write_whole(b"", out)?;
+    write_whole(b"two", out)
+}
+
 #[test]
-fn writes_whole(rt: HostRuntime) -> Result<(), Fail> {
+fn writes_whole(rt: HostRuntime) -> Result<(), WriteFault> {
     let mut out = Vec::new(rt.alloc());
-    write_whole(b"", &mut out)?;
-    write_whole(b"two", &mut out)?;
-    assert_eq!(rt; out.as_slice(), b"two".as_slice());
+    write_twice(&mut out)?;
+    assert_bytes(&rt, out.as_slice(), b"two");
     Ok(())
 }
 
+/// Asserts what a fault prints.
+fn assert_printed(
+    rt: &impl Abort,
+    alloc: Global,
+    fault: WriteFault,
+    text: &str,
+) -> Result<(), AllocError> {
+    let printed = fault.to_string(alloc)?;
+    assert_text(rt, printed.as_str(), text);
+    Ok(())
+}
+
+/// Asserts the number of a fault and what it prints.
+fn assert_fault(
+    rt: &impl Abort,
+    alloc: Global,
+    fault: WriteFault,
+    number: u8,
+    text: &str,
+) -> Result<(), AllocError> {
+    assert_eq!(rt; fault as u8, number);
+    assert_printed(rt, alloc, fault, text)
+}
+
 #[test]
-fn numbers_faults(rt: HostRuntime) -> Result<(), Fail> {
-    let names = [
-        (WriteFault::Io, "Io 1"),
-        (WriteFault::WroteNothing, "WroteNothing 2"),
-        (WriteFault::Memory, "Memory 3"),
-    ];
-    for (number, (fault, name)) in (1u8..).zip(names) {
-        assert_eq!(rt; fault as u8, number);
-        assert_eq!(rt; fault.to_string(rt.alloc())?.as_str(), name);
-    }
+fn numbers_faults(rt: HostRuntime) -> Result<(), AllocError> {
+    assert_fault(&rt, rt.alloc(), WriteFault::Io, 1, "Io 1")?;
+    assert_fault(
+        &rt,
+        rt.alloc(),
+        WriteFault::WroteNothing,
+        2,
+        "WroteNothing 2",
+    )?;
+    assert_fault(&rt, rt.alloc(), WriteFault::Memory, 3, "Memory 3")?;
     Ok(())
 }

@@ -2,7 +2,7 @@ use mvmap::MvMap;
 use read_set::{Origin, Read};
 use rv_ledger::{Key, Value};
 use std::alloc::Global;
-use std::test::Fail;
+use std::process::Abort;
 use validate::{next_read, still_read};
 use version_arena::{Arena, ReserveFault};
 
@@ -44,62 +44,106 @@ fn first_version() -> Read {
     })
 }
 
-#[test]
-fn version_then_higher_publish(rt: HostRuntime) -> Result<(), Fail> {
-    let mut map = empty(rt.alloc());
-    publish(&mut map, key(), 0, 0)?;
-    assert!(rt; still_read(&map, 2, &first_version()));
-    publish(&mut map, key(), 1, 0)?;
-    assert_eq!(rt; still_read(&map, 2, &first_version()), false);
+// Asserts whether a read of call 2 still stands.
+fn assert_stands(rt: &impl Abort, map: &MvMap, read: &Read, stands: bool) {
+    assert_eq!(rt; still_read(map, 2, read), stands);
+}
+
+// Asserts that a higher version than the one that was read takes its place.
+fn assert_higher(rt: &impl Abort, map: &mut MvMap) -> Result<(), ReserveFault> {
+    publish(map, key(), 0, 0)?;
+    assert_stands(rt, map, &first_version(), true);
+    publish(map, key(), 1, 0)?;
+    assert_stands(rt, map, &first_version(), false);
     Ok(())
 }
 
 #[test]
-fn base_then_publish(rt: HostRuntime) -> Result<(), Fail> {
+fn version_then_higher_publish(rt: HostRuntime) -> Result<(), ReserveFault> {
     let mut map = empty(rt.alloc());
-    assert!(rt; still_read(&map, 2, &read_of(Origin::Base)));
-    publish(&mut map, key(), 0, 0)?;
-    assert_eq!(rt; still_read(&map, 2, &read_of(Origin::Base)), false);
+    assert_higher(&rt, &mut map)
+}
+
+// Asserts that a version takes the place of the storage before the block.
+fn assert_above_base(rt: &impl Abort, map: &mut MvMap) -> Result<(), ReserveFault> {
+    assert_stands(rt, map, &read_of(Origin::Base), true);
+    publish(map, key(), 0, 0)?;
+    assert_stands(rt, map, &read_of(Origin::Base), false);
     Ok(())
 }
 
 #[test]
-fn version_withdrawn(rt: HostRuntime) -> Result<(), Fail> {
+fn base_then_publish(rt: HostRuntime) -> Result<(), ReserveFault> {
     let mut map = empty(rt.alloc());
-    publish(&mut map, key(), 0, 0)?;
+    assert_above_base(&rt, &mut map)
+}
+
+// Asserts that a version that is withdrawn stands no longer.
+fn assert_withdrawn(rt: &impl Abort, map: &mut MvMap) -> Result<(), ReserveFault> {
+    publish(map, key(), 0, 0)?;
     map.withdraw(&key(), 0);
-    assert_eq!(rt; still_read(&map, 2, &first_version()), false);
+    assert_stands(rt, map, &first_version(), false);
     Ok(())
 }
 
 #[test]
-fn version_turned_or_newer(rt: HostRuntime) -> Result<(), Fail> {
+fn version_withdrawn(rt: HostRuntime) -> Result<(), ReserveFault> {
     let mut map = empty(rt.alloc());
-    publish(&mut map, key(), 0, 0)?;
-    estimate(&mut map, key(), 0)?;
-    assert_eq!(rt; still_read(&map, 2, &first_version()), false);
-    publish(&mut map, key(), 0, 1)?;
-    assert_eq!(rt; still_read(&map, 2, &first_version()), false);
+    assert_withdrawn(&rt, &mut map)
+}
+
+// Asserts that a version stands neither after it was made an estimate nor after the next one.
+fn assert_turned(rt: &impl Abort, map: &mut MvMap) -> Result<(), ReserveFault> {
+    publish(map, key(), 0, 0)?;
+    estimate(map, key(), 0)?;
+    assert_stands(rt, map, &first_version(), false);
+    publish(map, key(), 0, 1)?;
+    assert_stands(rt, map, &first_version(), false);
     Ok(())
 }
 
 #[test]
-fn publishes_not_below(rt: HostRuntime) -> Result<(), Fail> {
+fn version_turned_or_newer(rt: HostRuntime) -> Result<(), ReserveFault> {
     let mut map = empty(rt.alloc());
-    publish(&mut map, key(), 0, 0)?;
-    publish(&mut map, key(), 2, 0)?;
-    publish(&mut map, key(), 3, 0)?;
-    assert!(rt; still_read(&map, 2, &first_version()));
+    assert_turned(&rt, &mut map)
+}
+
+// Asserts that a version stands under those of calls from the reader's on.
+fn assert_not_below(rt: &impl Abort, map: &mut MvMap) -> Result<(), ReserveFault> {
+    publish(map, key(), 0, 0)?;
+    publish(map, key(), 2, 0)?;
+    publish(map, key(), 3, 0)?;
+    assert_stands(rt, map, &first_version(), true);
     Ok(())
 }
 
 #[test]
-fn reads_in_turn(rt: HostRuntime) -> Result<(), Fail> {
+fn publishes_not_below(rt: HostRuntime) -> Result<(), ReserveFault> {
     let mut map = empty(rt.alloc());
-    publish(&mut map, key(), 0, 0)?;
-    let reads = [first_version(), read_of(Origin::Base)];
-    assert_eq!(rt; next_read(&map, 2, &reads, 0), Some(true));
-    assert_eq!(rt; next_read(&map, 2, &reads, 1), Some(false));
-    assert_eq!(rt; next_read(&map, 2, &reads, 2), None);
+    assert_not_below(&rt, &mut map)
+}
+
+// Asserts what is said of the read of this number, of reads of call 2.
+fn assert_next(rt: &impl Abort, map: &MvMap, reads: &[Read], next: usize, stands: Option<bool>) {
+    assert_eq!(rt; next_read(map, 2, reads, next), stands);
+}
+
+// Asserts what is said of a read that stands, of one that does not, and past both.
+fn assert_reads(rt: &impl Abort, map: &MvMap, reads: &[Read]) {
+    assert_next(rt, map, reads, 0, Some(true));
+    assert_next(rt, map, reads, 1, Some(false));
+    assert_next(rt, map, reads, 2, None);
+}
+
+// Publishes a version, and asserts what is said of reads of it and of the storage before the block.
+fn assert_in_turn(rt: &impl Abort, map: &mut MvMap) -> Result<(), ReserveFault> {
+    publish(map, key(), 0, 0)?;
+    assert_reads(rt, map, &[first_version(), read_of(Origin::Base)]);
     Ok(())
+}
+
+#[test]
+fn reads_in_turn(rt: HostRuntime) -> Result<(), ReserveFault> {
+    let mut map = empty(rt.alloc());
+    assert_in_turn(&rt, &mut map)
 }

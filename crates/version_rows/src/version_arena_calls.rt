@@ -1,8 +1,8 @@
 ghost use Rattle.std.specs.Prelude.{◌≤◌, length};
 
 use rv_ledger::Value;
-use std::test::Fail;
-use version_arena::{Arena, Record, ReserveFault};
+use std::process::Abort;
+use version_arena::{Arena, Record, ReserveFault, VersionId};
 
 // The value of one byte.
 fn value(byte: u8) -> Value
@@ -26,52 +26,97 @@ fn byte(record: Option<Record<'_>>) -> Option<(u16, u16, u8)> {
     }
 }
 
-#[test]
-fn arena_full(rt: HostRuntime) -> Result<(), Fail> {
-    let mut arena = Arena::new(rt.alloc());
-    assert_eq!(rt; arena.reserve(1_048_577, 0), Err(ReserveFault::ArenaFull));
+// Asserts that an arena has this record; None where it has none.
+fn assert_record(rt: &impl Abort, arena: &Arena, id: VersionId, record: Option<(u16, u16, u8)>) {
+    assert_eq!(rt; byte(arena.get(id)), record);
+}
+
+// Asserts that an arena refuses this room, as it has too many records then.
+fn assert_full(rt: &impl Abort, arena: &mut Arena, records: usize, bytes: usize) {
+    assert_eq!(rt;
+        arena.reserve(records, bytes),
+        Err(ReserveFault::ArenaFull),
+        "{records} records"
+    );
+}
+
+// Reserves room for a record of one byte, and places it.
+fn place_one(arena: &mut Arena) -> Result<VersionId, ReserveFault> {
     arena.reserve(1, 1)?;
     let one = value(1);
-    let id = arena.place(0, 0, Some(&one));
-    assert_eq!(rt; arena.reserve(1_048_576, 0), Err(ReserveFault::ArenaFull));
-    assert_eq!(rt;
-        arena.reserve(usize::MAX, usize::MAX),
-        Err(ReserveFault::ArenaFull)
-    );
+    Ok(arena.place(0, 0, Some(&one)))
+}
+
+// Asserts that an arena refuses what is too much, before and after a record is placed.
+fn assert_fills(rt: &impl Abort, arena: &mut Arena) -> Result<(), ReserveFault> {
+    assert_full(rt, arena, 1_048_577, 0);
+    let id = place_one(arena)?;
+    assert_full(rt, arena, 1_048_576, 0);
+    assert_full(rt, arena, usize::MAX, usize::MAX);
     assert_eq!(rt; arena.len(), 1);
-    assert_eq!(rt; byte(arena.get(id)), Some((0, 0, 1)));
-    assert_eq!(rt; ReserveFault::ArenaFull as u8, 1);
-    assert_eq!(rt; ReserveFault::Memory as u8, 2);
+    assert_record(rt, arena, id, Some((0, 0, 1)));
     Ok(())
 }
 
+// Asserts the numbers of the refusals.
+fn assert_numbers(rt: &impl Abort) {
+    assert_eq!(rt; ReserveFault::ArenaFull as u8, 1);
+    assert_eq!(rt; ReserveFault::Memory as u8, 2);
+}
+
 #[test]
-fn place_reset_get(rt: HostRuntime) -> Result<(), Fail> {
+fn arena_full(rt: HostRuntime) -> Result<(), ReserveFault> {
     let mut arena = Arena::new(rt.alloc());
-    arena.reserve(1, 1)?;
-    let one = value(1);
-    let id = arena.place(0, 0, Some(&one));
-    assert_eq!(rt; byte(arena.get(id)), Some((0, 0, 1)));
-    arena.reset();
-    assert_eq!(rt; byte(arena.get(id)), None);
+    assert_numbers(&rt);
+    assert_fills(&rt, &mut arena)
+}
+
+// Places a record of one byte and then one of a removal, whose name it answers.
+fn place_two(arena: &mut Arena) -> Result<VersionId, ReserveFault> {
     arena.reserve(2, 1)?;
     let two = value(2);
     let _ = arena.place(1, 0, Some(&two));
-    let gone = arena.place(1, 0, None);
+    Ok(arena.place(1, 0, None))
+}
+
+// Asserts that a name gives no record that was removed, though it may give one that was placed later.
+fn assert_resets(rt: &impl Abort, arena: &mut Arena) -> Result<(), ReserveFault> {
+    let id = place_one(arena)?;
+    assert_record(rt, arena, id, Some((0, 0, 1)));
+    arena.reset();
+    assert_record(rt, arena, id, None);
+    let gone = place_two(arena)?;
     let again = byte(arena.get(id));
     assert!(rt; again.is_none() || again == Some((1, 0, 2)));
-    assert_eq!(rt; byte(arena.get(gone)), Some((1, 0, 0)));
+    assert_record(rt, arena, gone, Some((1, 0, 0)));
     Ok(())
 }
 
 #[test]
-fn reset_keeps_room(rt: HostRuntime) -> Result<(), Fail> {
+fn place_reset_get(rt: HostRuntime) -> Result<(), ReserveFault> {
     let mut arena = Arena::new(rt.alloc());
+    assert_resets(&rt, &mut arena)
+}
+
+// Places a record, removes it, and places one of a removal in its room. Answers the name of the first.
+fn place_again(arena: &mut Arena) -> Result<VersionId, ReserveFault> {
     arena.reserve(1, 1)?;
     let one = value(1);
     let id = arena.place(0, 0, Some(&one));
     arena.reset();
     let _ = arena.place(2, 3, None);
-    assert_eq!(rt; byte(arena.get(id)), Some((2, 3, 0)));
+    Ok(id)
+}
+
+// Asserts that a record can be placed in the room of one that was removed.
+fn assert_keeps_room(rt: &impl Abort, arena: &mut Arena) -> Result<(), ReserveFault> {
+    let id = place_again(arena)?;
+    assert_record(rt, arena, id, Some((2, 3, 0)));
     Ok(())
+}
+
+#[test]
+fn reset_keeps_room(rt: HostRuntime) -> Result<(), ReserveFault> {
+    let mut arena = Arena::new(rt.alloc());
+    assert_keeps_room(&rt, &mut arena)
 }
