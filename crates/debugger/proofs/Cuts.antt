@@ -125,6 +125,11 @@ cut_over (Some all) None old input before after read cut = absurd read
 cut_over (Some all) (Some rest) old input before after read cut =
     (cut.0, (cut.2 rest).0, ap (λ (t : List ℕ). (session old (lines_of t)).text) read ∙ (cut.2 rest).1, cut.1)
 
+-- between two reads
+pub cut_between_reads : (r0 r1 : Option (List ℕ)) (old now : ReplayState) (input line : List ℕ) (before mid : Option (List ℕ)) → Consumes r0 r1 input → HasHeard true old input now line before mid → IfSome r0 (λ all. AppendsBeginning before mid (session old (lines_of all)).text)
+cut_between_reads r0 r1 old now input line before mid read heard = cut_over r0 r1 old input before mid read (cut_between old now input line before mid heard)
+
+-- at the end of the input
 pub cut_at : (r0 r1 : Option (List ℕ)) (old now : ReplayState) (input line : List ℕ) (before mid after : Option (List ℕ)) → Consumes r0 r1 input → IsAtEnd r1 → HasHeard true old input now line before mid → AppendsBeginning mid after (session now (lines_of line)).text → IfSome r0 (λ all. AppendsBeginning before after (session old (lines_of all)).text)
 cut_at r0 r1 old now input line before mid after read end heard h =
     Consumes-whole r0 r1 input (λ all. AppendsBeginning before after (session old (lines_of all)).text) read end

@@ -49,20 +49,35 @@ ends_fields : (fs : List (List ℕ)) (t : List ℕ) → ends (more_fields fs ++ 
 ends_fields [] t = refl
 ends_fields (f ∷ fs) t = refl
 
+-- a line's end is not the space before a field
+end_apart : (f : List ℕ) (fs : List (List ℕ)) (t u : List ℕ) → more_fields [] ++ t ≡ more_fields (f ∷ fs) ++ u → ⊥
+end_apart f fs t u h = cc
+
+-- what stands behind the lines' ends
+end_cut : (t u : List ℕ) → more_fields [] ++ t ≡ more_fields [] ++ u → t ≡ u
+end_cut t u h = cc
+
+-- what stands behind the spaces before the first fields
+space_cut : (f g : List ℕ) (fs gs : List (List ℕ)) (t u : List ℕ) → more_fields (f ∷ fs) ++ t ≡ more_fields (g ∷ gs) ++ u → f ++ (more_fields fs ++ t) ≡ g ++ (more_fields gs ++ u)
+space_cut f g fs gs t u h =
+    let behind : (f ++ more_fields fs) ++ t ≡ (g ++ more_fields gs) ++ u = cc in
+    sym (append_assoc f (more_fields fs) t) ∙ behind ∙ append_assoc g (more_fields gs) u
+
+-- equal first fields and equal further fields
+same_fields : (f g : List ℕ) (fs gs : List (List ℕ)) → f ≡ g → fs ≡ gs → f ∷ fs ≡ g ∷ gs
+same_fields f g fs gs first rest = cc
+
 -- the fields of a line and what comes behind it
 fields_cut : (fs gs : List (List ℕ)) (t u : List ℕ) → all_plain fs ≡ true → all_plain gs ≡ true → more_fields fs ++ t ≡ more_fields gs ++ u → (fs ≡ gs) × (t ≡ u)
-fields_cut [] [] t u p q h = (refl, cc)
-fields_cut [] (g ∷ gs) t u p q h = cc
-fields_cut (f ∷ fs) [] t u p q h = cc
+fields_cut [] [] t u p q h = (refl, end_cut t u h)
+fields_cut [] (g ∷ gs) t u p q h = absurd (end_apart g gs t u h)
+fields_cut (f ∷ fs) [] t u p q h = absurd (end_apart f fs u t (sym h))
 fields_cut (f ∷ fs) (g ∷ gs) t u p q h =
-    let behind : (f ++ more_fields fs) ++ t ≡ (g ++ more_fields gs) ++ u = cc in
-    let parted : f ++ (more_fields fs ++ t) ≡ g ++ (more_fields gs ++ u) = sym (append_assoc f (more_fields fs) t) ∙ behind ∙ append_assoc g (more_fields gs) u in
     let mine = both (plain f) (all_plain fs) p in
     let other = both (plain g) (all_plain gs) q in
-    let cut = field_cut f g (more_fields fs ++ t) (more_fields gs ++ u) mine.0 other.0 (ends_fields fs t) (ends_fields gs u) parted in
+    let cut = field_cut f g (more_fields fs ++ t) (more_fields gs ++ u) mine.0 other.0 (ends_fields fs t) (ends_fields gs u) (space_cut f g fs gs t u h) in
     let more = fields_cut fs gs t u mine.1 other.1 cut.1 in
-    let first : f ∷ fs ≡ g ∷ gs = cc (cut.0, more.0) in
-    (first, more.1)
+    (same_fields f g fs gs cut.0 more.0, more.1)
 
 -- a line: its word and its fields
 abbrev pub Line : Type 0

@@ -1,3 +1,5 @@
 pub mod Same
+mod Signs
+mod Bits
 mod Slots
 mod Again

@@ -72,7 +72,6 @@ pub fn shift_amount(word: u32) -> ShiftAmount
 }
 
 /// The signed number whose 12-bit two's complement is `number`.
-#[tactic(auto, using(crate::proofs::Same::same_immediate))]
 fn extend_12(number: u32) -> Immediate
     requires { number < 2 ^ 12 }
     ensures { result ≡ immediate_at number }
@@ -97,7 +96,6 @@ pub fn immediate_of_s(word: u32) -> Immediate
 }
 
 /// The even signed number whose bits 12 to 1 are `half`.
-#[tactic(auto, using(crate::proofs::Same::same_branch))]
 fn extend_13(half: u32) -> BranchOffset
     requires { half < 2 ^ 12 }
     ensures { result ≡ branch_at half }
@@ -128,7 +126,6 @@ pub fn upper(word: u32) -> Upper
 }
 
 /// The even signed number whose bits 20 to 1 are `half`.
-#[tactic(auto, using(crate::proofs::Same::same_jump))]
 fn extend_21(half: u32) -> JumpOffset
     requires { half < 2 ^ 20 }
     ensures { result ≡ jump_at half }

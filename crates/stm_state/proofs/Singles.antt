@@ -64,6 +64,54 @@ module _ (s u : State) (counts : u.counts ≡ s.counts) (dones : u.dones ≡ s.d
 same_counts : (c d : Counts) → c.steps ≡ d.steps → c.asks ≡ d.asks → c.executions ≡ d.executions → c.validations ≡ d.validations → c ≡ d
 same_counts c d p q r t = rw (p, q, r, t) refl
 
+-- ---- the kinds of tasks
+
+-- a worker without a task has none of another kind
+idle_not_running : (i : ℕ) (answers : List StorageAnswer) (blocked : Option ℕ) → Idle ≢ Running i answers blocked
+idle_not_running i answers blocked e = cc
+
+idle_not_moving : (i : ℕ) (keys : List (List ℕ)) (new : Bool) → Idle ≢ Moving i keys new
+idle_not_moving i keys new e = cc
+
+idle_not_validating : (i n left : ℕ) (failed : Bool) → Idle ≢ Validating i n left failed
+idle_not_validating i n left failed e = cc
+
+idle_not_marking : (i : ℕ) (keys : List (List ℕ)) → Idle ≢ Marking i keys
+idle_not_marking i keys e = cc
+
+-- a run is of no other kind, and equal runs have equal parts
+module _ (d : ℕ) (told : List StorageAnswer) (waits_for : Option ℕ) where
+  running_not_moving : (i : ℕ) (keys : List (List ℕ)) (new : Bool) → Running d told waits_for ≢ Moving i keys new
+  running_not_moving i keys new e = cc
+
+  running_not_validating : (i n left : ℕ) (failed : Bool) → Running d told waits_for ≢ Validating i n left failed
+  running_not_validating i n left failed e = cc
+
+  running_not_marking : (i : ℕ) (keys : List (List ℕ)) → Running d told waits_for ≢ Marking i keys
+  running_not_marking i keys e = cc
+
+  same_running : (i : ℕ) (answers : List StorageAnswer) (blocked : Option ℕ) → Running d told waits_for ≡ Running i answers blocked → (d ≡ i) × (told ≡ answers) × (waits_for ≡ blocked)
+  same_running i answers blocked e = (cc, cc, cc)
+
+-- the same of a move of keys
+module _ (d : ℕ) (keys : List (List ℕ)) (new : Bool) where
+  moving_not_validating : (i n left : ℕ) (failed : Bool) → Moving d keys new ≢ Validating i n left failed
+  moving_not_validating i n left failed e = cc
+
+  moving_not_marking : (i : ℕ) (changed : List (List ℕ)) → Moving d keys new ≢ Marking i changed
+  moving_not_marking i changed e = cc
+
+  same_moving : (i : ℕ) (left : List (List ℕ)) (more : Bool) → Moving d keys new ≡ Moving i left more → (d ≡ i) × (keys ≡ left) × (new ≡ more)
+  same_moving i left more e = (cc, cc, cc)
+
+-- the same of a validation
+module _ (d m more : ℕ) (fails : Bool) where
+  validating_not_marking : (i : ℕ) (keys : List (List ℕ)) → Validating d m more fails ≢ Marking i keys
+  validating_not_marking i keys e = cc
+
+  same_validating : (i n left : ℕ) (failed : Bool) → Validating d m more fails ≡ Validating i n left failed → (d ≡ i) × (m ≡ n) × (more ≡ left) × (fails ≡ failed)
+  same_validating i n left failed e = (cc, cc, cc, cc)
+
 -- ---- where it is
 
 module _ (block : Block) where
@@ -159,24 +207,22 @@ module _ (block : Block) where
 
     asks_on : Phase s → task_at s 0 ≡ Idle → Goes one_asking (asked 0 s)
     asks_on (rests d h) at = rest_asks d h
-    asks_on (runs d answers h) at = let does = h.now.does in cc
-    asks_on (moves d run keys new h) at = let does = h.now.does in cc
+    asks_on (runs d answers h) at = absurd (idle_not_running d answers None (sym at ∙ h.now.does))
+    asks_on (moves d run keys new h) at = absurd (idle_not_moving d keys new (sym at ∙ h.now.does))
     asks_on (waits d h) at = wait_asks d h
-    asks_on (checks d left h) at = let does = h.now.does in cc
+    asks_on (checks d left h) at = absurd (idle_not_validating d 0 left false (sym at ∙ h.now.does))
 
     -- ---- a run
 
     -- which call it runs
     runs_call : Phase s → (i : ℕ) (answers : List StorageAnswer) (blocked : Option ℕ) → task_at s 0 ≡ Running i answers blocked → Runs i answers s × (blocked ≡ None)
-    runs_call (rests d h) i answers blocked at = let does = h.now.does in cc
+    runs_call (rests d h) i answers blocked at = absurd (idle_not_running i answers blocked (sym h.now.does ∙ at))
     runs_call (runs d told h) i answers blocked at =
-        let does = h.now.does in
-        let call : d ≡ i = cc in
-        let same : told ≡ answers = cc in
-        (subst (λ x. Runs x answers s) call (subst (λ x. Runs d x s) same h), cc)
-    runs_call (moves d run keys new h) i answers blocked at = let does = h.now.does in cc
-    runs_call (waits d h) i answers blocked at = let does = h.now.does in cc
-    runs_call (checks d left h) i answers blocked at = let does = h.now.does in cc
+        let same = same_running d told None i answers blocked (sym h.now.does ∙ at) in
+        (subst (λ x. Runs x answers s) same.0 (subst (λ x. Runs d x s) same.1 h), sym same.2)
+    runs_call (moves d run keys new h) i answers blocked at = absurd (running_not_moving i answers blocked d keys new (sym at ∙ h.now.does))
+    runs_call (waits d h) i answers blocked at = absurd (idle_not_running i answers blocked (sym h.now.does ∙ at))
+    runs_call (checks d left h) i answers blocked at = absurd (running_not_validating i answers blocked d 0 left false (sym at ∙ h.now.does))
 
     -- a read
     read_on : (i : ℕ) (answers : List StorageAnswer) (key : List ℕ) → Runs i answers s → Goes one_step (read_at block.base key 0 i answers s)
@@ -202,16 +248,13 @@ module _ (block : Block) where
 
     -- of which run it moves the keys
     moves_call : Phase s → (i : ℕ) (keys : List (List ℕ)) (new : Bool) → task_at s 0 ≡ Moving i keys new → (run : Recorded) × Moves i run keys new s
-    moves_call (rests d h) i keys new at = let does = h.now.does in cc
-    moves_call (runs d told h) i keys new at = let does = h.now.does in cc
+    moves_call (rests d h) i keys new at = absurd (idle_not_moving i keys new (sym h.now.does ∙ at))
+    moves_call (runs d told h) i keys new at = absurd (running_not_moving d told None i keys new (sym h.now.does ∙ at))
     moves_call (moves d run left more h) i keys new at =
-        let does = h.now.does in
-        let call : d ≡ i = cc in
-        let same_keys : left ≡ keys = cc in
-        let same_new : more ≡ new = cc in
-        (run, subst (λ x. Moves x run keys new s) call (subst (λ x. Moves d run x new s) same_keys (subst (λ x. Moves d run left x s) same_new h)))
-    moves_call (waits d h) i keys new at = let does = h.now.does in cc
-    moves_call (checks d left h) i keys new at = let does = h.now.does in cc
+        let same = same_moving d left more i keys new (sym h.now.does ∙ at) in
+        (run, subst (λ x. Moves x run keys new s) same.0 (subst (λ x. Moves d run x new s) same.1 (subst (λ x. Moves d run left x s) same.2 h)))
+    moves_call (waits d h) i keys new at = absurd (idle_not_moving i keys new (sym h.now.does ∙ at))
+    moves_call (checks d left h) i keys new at = absurd (moving_not_validating i keys new d 0 left false (sym at ∙ h.now.does))
 
     -- a key
     move_on : (i : ℕ) (run : Recorded) (key : List ℕ) (keys : List (List ℕ)) (new : Bool) → Moves i run (key ∷ keys) new s → Goes one_step (moved 0 i key keys new s)
@@ -253,23 +296,21 @@ module _ (block : Block) where
 
     -- which call it validates
     checks_call : Phase s → (i n left : ℕ) (failed : Bool) → task_at s 0 ≡ Validating i n left failed → Checks i left s × (n ≡ 0) × (failed ≡ false)
-    checks_call (rests d h) i n left failed at = let does = h.now.does in cc
-    checks_call (runs d told h) i n left failed at = let does = h.now.does in cc
-    checks_call (moves d run keys new h) i n left failed at = let does = h.now.does in cc
-    checks_call (waits d h) i n left failed at = let does = h.now.does in cc
+    checks_call (rests d h) i n left failed at = absurd (idle_not_validating i n left failed (sym h.now.does ∙ at))
+    checks_call (runs d told h) i n left failed at = absurd (running_not_validating d told None i n left failed (sym h.now.does ∙ at))
+    checks_call (moves d run keys new h) i n left failed at = absurd (moving_not_validating d keys new i n left failed (sym h.now.does ∙ at))
+    checks_call (waits d h) i n left failed at = absurd (idle_not_validating i n left failed (sym h.now.does ∙ at))
     checks_call (checks d more h) i n left failed at =
-        let does = h.now.does in
-        let call : d ≡ i = cc in
-        let size : more ≡ left = cc in
-        (subst (λ x. Checks x left s) call (subst (λ x. Checks d x s) size h), cc, cc)
+        let same = same_validating d 0 more false i n left failed (sym h.now.does ∙ at) in
+        (subst (λ x. Checks x left s) same.0 (subst (λ x. Checks d x s) same.2 h), sym same.1, sym same.3)
 
     -- it takes no call back
     marks_none : Phase s → (i : ℕ) (keys : List (List ℕ)) → task_at s 0 ≢ Marking i keys
-    marks_none (rests d h) i keys at = let does = h.now.does in cc
-    marks_none (runs d told h) i keys at = let does = h.now.does in cc
-    marks_none (moves d run left new h) i keys at = let does = h.now.does in cc
-    marks_none (waits d h) i keys at = let does = h.now.does in cc
-    marks_none (checks d more h) i keys at = let does = h.now.does in cc
+    marks_none (rests d h) i keys at = absurd (idle_not_marking i keys (sym h.now.does ∙ at))
+    marks_none (runs d told h) i keys at = absurd (running_not_marking d told None i keys (sym h.now.does ∙ at))
+    marks_none (moves d run left new h) i keys at = absurd (moving_not_marking d left new i keys (sym h.now.does ∙ at))
+    marks_none (waits d h) i keys at = absurd (idle_not_marking i keys (sym h.now.does ∙ at))
+    marks_none (checks d more h) i keys at = absurd (validating_not_marking d 0 more false i keys (sym h.now.does ∙ at))
 
     -- a check of what it validates, and a decision
     checks_on : Phase s → (i n left : ℕ) → task_at s 0 ≡ Validating i n (suc left) false → Goes one_step (checked 0 i n left s)
@@ -317,11 +358,11 @@ module _ (block : Block) where
       over = over_at_done block 1 s inv done
 
       go : Phase s → Rests block.count s
-      go (rests d h) = let e = h.now.runs_from in let all = over.execution in let last : d ≡ block.count = cc in subst (λ x. Rests x s) last h
-      go (runs d answers h) = let does = h.now.does in let idle = over.idle 0 in cc
-      go (moves d run keys new h) = let does = h.now.does in let idle = over.idle 0 in cc
+      go (rests d h) = subst (λ x. Rests x s) (sym h.now.runs_from ∙ over.execution) h
+      go (runs d answers h) = absurd (idle_not_running d answers None (sym (over.idle 0) ∙ h.now.does))
+      go (moves d run keys new h) = absurd (idle_not_moving d keys new (sym (over.idle 0) ∙ h.now.does))
       go (waits d h) = let e = h.now.runs_from in let v = h.now.checks_from in let ran = over.execution in let checked = over.validation in absurd (omega (arith, e, v, ran, checked))
-      go (checks d left h) = let does = h.now.does in let idle = over.idle 0 in cc
+      go (checks d left h) = absurd (idle_not_validating d 0 left false (sym (over.idle 0) ∙ h.now.does))
 
   -- what it did
   did_all : (s : State) → Rests block.count s → OneWorkerDid block.count (did_by s).steps (2 * block.count + dones_of 0 s) (dones_of 0 s) s

@@ -1,0 +1,8 @@
+use Rattle.std.proofs.Common.{arith}
+use Rattle.rv_isa.proofs.Bits.{jump_fields}
+use Rattle.rv_isa.proofs.formats.j_word.Goals as goal
+
+pub returns : goal.returns
+returns c =
+    let fields = jump_fields c.args.offset.value c.cast_unsigned-bits.result c.args.offset.in_range c.cast_unsigned-bits.ensures in
+    omega arith
