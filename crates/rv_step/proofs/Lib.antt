@@ -1,3 +1,4 @@
+mod Illegal
 pub mod Falls
 pub mod Chains
 pub mod Beginnings

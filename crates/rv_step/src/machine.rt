@@ -1,6 +1,6 @@
 //! The machine of one call, and one step of it.
 
-ghost use Rattle.std.specs.Prelude.{◌≡◌, ◌<◌, ◌≤◌, ◌*◌, ◌%◌, ◌^◌, if◌then◌else◌, [], false, IfOk, IsTrue, Ok};
+ghost use Rattle.std.specs.Prelude.{◌≡◌, ◌<◌, ◌≤◌, ◌*◌, ◌%◌, ◌^◌, if◌then◌else◌, [], false, IfOk, IsTrue, None, Ok};
 ghost use Rattle.std.specs.Option.{option_copied};
 ghost use Rattle.std.specs.FinMap as map;
 ghost use Rattle.rv_alu.specs.Accesses.{store_width, width_of};
@@ -65,6 +65,14 @@ macro_rules! return_by_funct3 {
         }
         return $execution;
     }};
+}
+
+/// The opcode of a word.
+#[inline(always)]
+fn opcode_of(word: u32) -> u32
+    ensures { result ≡ word % 2 ^ 7 }
+{
+    word & opcode::MASK
 }
 
 /// The machine of one call between two instructions.
@@ -200,7 +208,7 @@ impl Machine {
     fn execute_word(&mut self, word: u32) -> Result<InstructionOutcome, AllocError>
         ensures { MeetsInstruction result (decoded word) (decode_result self.old (decoded word)) self.old self.new }
     {
-        let code = word & opcode::MASK;
+        let code = opcode_of(word);
         if code < opcode::STORE {
             return self.execute_below_store(word);
         }
@@ -213,12 +221,11 @@ impl Machine {
     /// Executes a word whose opcode is below STORE: the loads, FENCE, the computations with an immediate
     /// and AUIPC. A word of any other opcode there is illegal.
     #[inline(always)]
-    #[tactic(auto, unfolding(rv_isa::specs::Decoded::decoded, rv_isa::specs::Decoding::instr_of))]
     fn execute_below_store(&mut self, word: u32) -> Result<InstructionOutcome, AllocError>
         requires { word % 2 ^ 7 < 0b0100011 }
         ensures { MeetsInstruction result (decoded word) (decode_result self.old (decoded word)) self.old self.new }
     {
-        let code = word & opcode::MASK;
+        let code = opcode_of(word);
         if code == opcode::OP_IMM {
             return_by_funct3!(word, self.execute_decoded(decode_immediate(word)));
         }
@@ -229,24 +236,23 @@ impl Machine {
             if code == opcode::MISC_MEM {
                 return self.execute_decoded(decode_fence(word));
             }
-            return self.execute_decoded(None);
+            return self.execute_illegal(word);
         }
         if code == opcode::AUIPC {
             return self.execute_decoded(decode_auipc(word));
         }
-        self.execute_decoded(None)
+        self.execute_illegal(word)
     }
 
     /// Executes a word whose opcode is from STORE up to LUI: the stores, the computations of two registers
     /// and LUI. A word of any other opcode there is illegal.
     #[inline(always)]
-    #[tactic(auto, unfolding(rv_isa::specs::Decoded::decoded, rv_isa::specs::Decoding::instr_of))]
     fn execute_store_to_lui(&mut self, word: u32) -> Result<InstructionOutcome, AllocError>
         requires from { 0b0100011 ≤ word % 2 ^ 7 }
         requires below { word % 2 ^ 7 < 0b1100011 }
         ensures { MeetsInstruction result (decoded word) (decode_result self.old (decoded word)) self.old self.new }
     {
-        let code = word & opcode::MASK;
+        let code = opcode_of(word);
         if code == opcode::OP {
             return_by_funct3!(word, self.execute_decoded(decode_compute(word)));
         }
@@ -254,23 +260,22 @@ impl Machine {
             if code == opcode::STORE {
                 return_by_funct3!(word, self.execute_decoded(decode_store(word)));
             }
-            return self.execute_decoded(None);
+            return self.execute_illegal(word);
         }
         if code == opcode::LUI {
             return self.execute_decoded(decode_lui(word));
         }
-        self.execute_decoded(None)
+        self.execute_illegal(word)
     }
 
     /// Executes a word whose opcode is from BRANCH on: the branches, the jumps, ECALL and EBREAK. A word of
     /// any other opcode there is illegal.
     #[inline(always)]
-    #[tactic(auto, unfolding(rv_isa::specs::Decoded::decoded, rv_isa::specs::Decoding::instr_of))]
     fn execute_from_branch(&mut self, word: u32) -> Result<InstructionOutcome, AllocError>
         requires { 0b1100011 ≤ word % 2 ^ 7 }
         ensures { MeetsInstruction result (decoded word) (decode_result self.old (decoded word)) self.old self.new }
     {
-        let code = word & opcode::MASK;
+        let code = opcode_of(word);
         if code == opcode::BRANCH {
             return_by_funct3!(word, self.execute_decoded(decode_branch(word)));
         }
@@ -278,7 +283,7 @@ impl Machine {
             if code == opcode::JALR {
                 return self.execute_decoded(decode_jalr(word));
             }
-            return self.execute_decoded(None);
+            return self.execute_illegal(word);
         }
         if code == opcode::JAL {
             return self.execute_decoded(decode_jal(word));
@@ -286,6 +291,15 @@ impl Machine {
         if code == opcode::SYSTEM {
             return self.execute_decoded(decode_system(word));
         }
+        self.execute_illegal(word)
+    }
+
+    /// Traps at an illegal word, which costs nothing.
+    #[inline(always)]
+    fn execute_illegal(&mut self, word: u32) -> Result<InstructionOutcome, AllocError>
+        requires { decoded word ≡ None }
+        ensures { MeetsInstruction result (decoded word) (decode_result self.old (decoded word)) self.old self.new }
+    {
         self.execute_decoded(None)
     }
 
