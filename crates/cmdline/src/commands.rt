@@ -1,7 +1,7 @@
 //! The command of `rvstm` and its subcommands, as they are built for clap.
 
-ghost use Rattle.std.specs.Prelude.{◌≡◌, IfOk, false};
-ghost use Rattle.clap.specs.Words.{app_of, rule_of};
+ghost use Rattle.std.specs.Prelude.{◌≡◌, IfOk, Some, false, true};
+ghost use Rattle.clap.specs.Words.{App, app_of, new_app, rule_of, with_rule, with_subcommand};
 ghost use Rattle.cmdline.specs.Line.{asm_app, call_rule, debug_app, dis_app, drive_app, file_rule, out_rule, run_app, rvstm_app, schedule_rule, seq_app, top_app, workers_rule};
 
 use clap::{Arg, ArgAction, Command, value_parser};
@@ -17,13 +17,30 @@ const LAST_CALL: i64 = 1023;
 pub(crate) fn rvstm<'a>(alloc: Global) -> Result<Command<'a>, AllocError>
     ensures { IfOk result (λ c. app_of c ≡ rvstm_app) }
 {
-    program(alloc)
-        .subcommand(run(alloc)?)?
-        .subcommand(seq(alloc)?)?
-        .subcommand(drive(alloc)?)?
-        .subcommand(asm(alloc)?)?
-        .subcommand(dis(alloc)?)?
-        .subcommand(debug(alloc)?)
+    let command = add(runner(alloc), asm(alloc));
+    let command = add(command, dis(alloc));
+    add(command, debug(alloc))
+}
+
+/// The command with the subcommands that run a block file; refused where memory ran out.
+fn runner<'a>(alloc: Global) -> Result<Command<'a>, AllocError>
+    ensures { IfOk result (λ c. app_of c ≡ with_subcommand (with_subcommand
+        (with_subcommand top_app run_app.top) seq_app.top) drive_app.top) }
+{
+    let command = add(Ok(program(alloc)), run(alloc));
+    let command = add(command, seq(alloc));
+    add(command, drive(alloc))
+}
+
+/// Adds a subcommand to a command; refused where either was refused or memory ran out.
+fn add<'a>(
+    command: Result<Command<'a>, AllocError>,
+    subcommand: Result<Command<'a>, AllocError>,
+) -> Result<Command<'a>, AllocError>
+    ensures { (a b : App) → IfOk command.entry (λ c. app_of c ≡ a) → IfOk subcommand.entry (λ c. app_of c ≡ b)
+        → b.top.is_plain ≡ true → IfOk result (λ c. app_of c ≡ with_subcommand a b.top) }
+{
+    command?.subcommand(subcommand?)
 }
 
 /// The command, which requires a subcommand, before its subcommands are added.
@@ -40,71 +57,90 @@ fn program<'a>(alloc: Global) -> Command<'a>
 fn run<'a>(alloc: Global) -> Result<Command<'a>, AllocError>
     ensures { IfOk result (λ c. app_of c ≡ run_app) }
 {
-    Command::new(alloc, "run")
-        .about("Runs the calls of a block file by workers at the same time and prints the result")
-        .arg(file(alloc, "The block file that the workers run"))?
-        .arg(workers(alloc))
+    let about = "Runs the calls of a block file by workers at the same time and prints the result";
+    option_command(
+        alloc,
+        "run",
+        about,
+        "The block file that the workers run",
+        workers(alloc),
+    )
 }
 
 /// `seq FILE`
 fn seq<'a>(alloc: Global) -> Result<Command<'a>, AllocError>
     ensures { IfOk result (λ c. app_of c ≡ seq_app) }
 {
-    Command::new(alloc, "seq")
-        .about("Runs the calls of a block file in order and prints the result")
-        .arg(file(alloc, "The block file"))
+    let about = "Runs the calls of a block file in order and prints the result";
+    file_command(alloc, "seq", about, "The block file")
 }
 
 /// `drive FILE --workers N --schedule FILE`
 fn drive<'a>(alloc: Global) -> Result<Command<'a>, AllocError>
     ensures { IfOk result (λ c. app_of c ≡ drive_app) }
 {
-    Command::new(alloc, "drive")
-        .about("Runs the calls of a block file in the steps of a schedule and prints the result")
-        .arg(file(alloc, "The block file that is run"))?
-        .arg(workers(alloc))?
-        .arg(schedule(alloc))
+    let about = "Runs the calls of a block file in the steps of a schedule and prints the result";
+    let help = "The block file that is run";
+    option_command(alloc, "drive", about, help, workers(alloc))?.arg(schedule(alloc))
 }
 
 /// `asm FILE --out FILE`
 fn asm<'a>(alloc: Global) -> Result<Command<'a>, AllocError>
     ensures { IfOk result (λ c. app_of c ≡ asm_app) }
 {
-    Command::new(alloc, "asm")
-        .about("Assembles a source and writes its ELF file")
-        .arg(file(alloc, "The source"))?
-        .arg(out(alloc))
+    let about = "Assembles a source and writes its ELF file";
+    option_command(alloc, "asm", about, "The source", out(alloc))
 }
 
 /// `dis FILE`
 fn dis<'a>(alloc: Global) -> Result<Command<'a>, AllocError>
     ensures { IfOk result (λ c. app_of c ≡ dis_app) }
 {
-    Command::new(alloc, "dis")
-        .about("Prints the instructions of an ELF file")
-        .arg(file(alloc, "The ELF file"))
+    let about = "Prints the instructions of an ELF file";
+    file_command(alloc, "dis", about, "The ELF file")
 }
 
 /// `debug FILE --call N`
 fn debug<'a>(alloc: Global) -> Result<Command<'a>, AllocError>
     ensures { IfOk result (λ c. app_of c ≡ debug_app) }
 {
-    Command::new(alloc, "debug")
-        .about("Replays one call of a block file along the lines of the standard input")
-        .arg(file(alloc, "The block file of the call"))?
-        .arg(call(alloc))
+    let about = "Replays one call of a block file along the lines of the standard input";
+    option_command(
+        alloc,
+        "debug",
+        about,
+        "The block file of the call",
+        call(alloc),
+    )
 }
 
-/// The argument FILE of each subcommand.
-fn file<'a>(alloc: Global, help: &'a str) -> Arg<'a>
-    ensures rule { rule_of result ≡ file_rule }
-    ensures local { result.global ≡ false }
+/// The subcommand `NAME FILE` with one option.
+fn option_command<'a>(
+    alloc: Global,
+    name: &'a str,
+    about: &'a str,
+    help: &'a str,
+    option: Arg<'a>,
+) -> Result<Command<'a>, AllocError>
+    requires { option.global ≡ false }
+    ensures { IfOk result (λ c.
+        app_of c ≡ with_rule (with_rule (new_app name.now) file_rule) (rule_of option.entry)) }
 {
-    Arg::new(alloc, "file")
-        .value_name("FILE")
-        .help(help)
-        .required(true)
-        .action(ArgAction::Set)
+    file_command(alloc, name, about, help)?.arg(option)
+}
+
+/// The subcommand `NAME FILE`.
+fn file_command<'a>(
+    alloc: Global,
+    name: &'a str,
+    about: &'a str,
+    help: &'a str,
+) -> Result<Command<'a>, AllocError>
+    ensures { IfOk result (λ c. app_of c ≡ with_rule (new_app name.now) file_rule) }
+{
+    Command::new(alloc, name)
+        .about(about)
+        .arg(value(alloc, "file", "FILE", help))
 }
 
 /// The option `--workers N`.
@@ -112,13 +148,13 @@ fn workers<'a>(alloc: Global) -> Arg<'a>
     ensures rule { rule_of result ≡ workers_rule }
     ensures local { result.global ≡ false }
 {
-    Arg::new(alloc, "workers")
-        .long("workers")
-        .value_name("N")
-        .help("How many workers make the steps, 1 to 32")
-        .required(true)
-        .action(ArgAction::Set)
-        .value_parser(value_parser!(usize).range(1..=MAX_WORKERS))
+    option(
+        alloc,
+        "workers",
+        "N",
+        "How many workers make the steps, 1 to 32",
+    )
+    .value_parser(value_parser!(usize).range(1..=MAX_WORKERS))
 }
 
 /// The option `--call N`.
@@ -126,13 +162,8 @@ fn call<'a>(alloc: Global) -> Arg<'a>
     ensures rule { rule_of result ≡ call_rule }
     ensures local { result.global ≡ false }
 {
-    Arg::new(alloc, "call")
-        .long("call")
-        .value_name("N")
-        .help("The number of the call, 0 to 1023; the first call has 0")
-        .required(true)
-        .action(ArgAction::Set)
-        .value_parser(value_parser!(usize).range(0..=LAST_CALL))
+    let help = "The number of the call, 0 to 1023; the first call has 0";
+    option(alloc, "call", "N", help).value_parser(value_parser!(usize).range(0..=LAST_CALL))
 }
 
 /// The option `--schedule FILE`.
@@ -140,12 +171,8 @@ fn schedule<'a>(alloc: Global) -> Arg<'a>
     ensures rule { rule_of result ≡ schedule_rule }
     ensures local { result.global ≡ false }
 {
-    Arg::new(alloc, "schedule")
-        .long("schedule")
-        .value_name("FILE")
-        .help("The schedule file: the number of the worker of each step, one a line")
-        .required(true)
-        .action(ArgAction::Set)
+    let help = "The schedule file: the number of the worker of each step, one a line";
+    option(alloc, "schedule", "FILE", help)
 }
 
 /// The option `--out FILE`.
@@ -153,10 +180,25 @@ fn out<'a>(alloc: Global) -> Arg<'a>
     ensures rule { rule_of result ≡ out_rule }
     ensures local { result.global ≡ false }
 {
-    Arg::new(alloc, "out")
-        .long("out")
-        .value_name("FILE")
-        .help("The ELF file that is written")
+    option(alloc, "out", "FILE", "The ELF file that is written")
+}
+
+/// The option `--NAME VALUE`, which is required.
+fn option<'a>(alloc: Global, name: &'a str, value_name: &'a str, help: &'a str) -> Arg<'a>
+    ensures rule { rule_of result ≡ record file_rule { id = name.now; long = Some name.now } }
+    ensures local { result.global ≡ false }
+{
+    value(alloc, name, value_name, help).long(name)
+}
+
+/// An argument with one value, which is required.
+fn value<'a>(alloc: Global, name: &'a str, value_name: &'a str, help: &'a str) -> Arg<'a>
+    ensures rule { rule_of result ≡ record file_rule { id = name.now } }
+    ensures local { result.global ≡ false }
+{
+    Arg::new(alloc, name)
+        .value_name(value_name)
+        .help(help)
         .required(true)
         .action(ArgAction::Set)
 }

@@ -4,14 +4,15 @@
 mod commands;
 mod requests;
 
-ghost use Rattle.std.specs.Prelude.{◌≡◌, ◌∷◌, [], List, ℕ, IfOk, true, map, option_map, codes};
+ghost use Rattle.std.specs.Prelude.{◌≡◌, ◌∷◌, [], List, ℕ, IfErr, IfOk, true, map, option_map, codes};
 ghost use Rattle.std.specs.String.{string_bytes};
-ghost use Rattle.clap.specs.Words.{FailsBy, fault_of};
+ghost use Rattle.clap.specs.Words.{FailsBy, HasMatchesOf, fault_of, kind_of, takes};
+ghost use Rattle.clap.specs.declared.error.ErrorKind.TheVariants as kind;
 ghost use Rattle.cmdline.specs.Line.{AnswersUnlessMemory, AsmOf, DebugOf, DisOf, DriveOf, RunOf, SeqOf, asked, asked_by, is_call_number, is_operand, is_worker_number, number_in, rvstm_app};
 
 use crate::commands::rvstm;
 use crate::requests::request_in;
-use clap::Error;
+use clap::{ArgMatches, Error};
 use std::alloc::Global;
 
 /// What a command line asks for.
@@ -99,6 +100,16 @@ pub fn request_of<'a>(alloc: Global, words: &'a [String]) -> Result<Option<Reque
         → is_operand file ≡ true → is_call_number word ≡ true
         → AnswersUnlessMemory result (DebugOf file (number_in word)) }
 {
-    let matches = rvstm(alloc)?.try_get_matches_from(words)?;
+    let matches = matches_of(alloc, words)?;
     Ok(request_in(&matches))
+}
+
+/// What clap finds on a command line; refused where `request_of` is.
+fn matches_of<'a>(alloc: Global, words: &'a [String]) -> Result<ArgMatches<'a>, Error>
+    ensures found { IfOk result (HasMatchesOf rvstm_app (map string_bytes words.now)) }
+    ensures passes { takes rvstm_app (map string_bytes words.now) ≡ true
+        → IfErr result (λ e. kind_of e ≡ kind.OutOfMemory) }
+    ensures refused { FailsBy (fault_of rvstm_app (map string_bytes words.now)) result }
+{
+    rvstm(alloc)?.try_get_matches_from(words)
 }

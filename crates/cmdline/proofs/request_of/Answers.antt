@@ -1,86 +1,78 @@
-use Rattle.std.proofs.Common.{rules, ◌≡◌, ◌∙◌, ap, ap₂, sym, map, true, List, Option, Some, option_and_then, option_map}
-use Rattle.std.specs.String.{string_bytes}
-use Rattle.clap.specs.Words.{App, HasMatchesOf, Text, app_of, fault_of, is_simple, is_simple_and_free, kind_of, subcommand_of, subcommand_rows_of, takes}
+use Rattle.std.proofs.Common.{rules, ◌≡◌, ◌∙◌, ap, List, Option, Some, option_and_then, option_map}
+use Rattle.clap.specs.Words.{HasMatchesOf, Text, kind_of, subcommand_of, subcommand_rows_of, takes}
 use Rattle.clap.specs.declared.error.ErrorKind.TheVariants as kind
 use Rattle.clap.specs.declared.parser.matches.ArgMatches.{ArgMatches}
 use Rattle.cmdline.specs.Line.{Asked, asked, asked_by, asked_in, rvstm_app}
 use Rattle.cmdline.specs.declared.Request.{Request}
 use Rattle.cmdline.proofs.DriveLine.{drive_is_asked, drive_is_taken}
-use Rattle.cmdline.proofs.Lines.{asm_is_asked, asm_is_taken, debug_is_asked, debug_is_taken, dis_is_asked, dis_is_taken, is_free, is_plain, run_is_asked, run_is_taken, seq_is_asked, seq_is_taken}
+use Rattle.cmdline.proofs.Lines.{asm_is_asked, asm_is_taken, debug_is_asked, debug_is_taken, dis_is_asked, dis_is_taken, is_plain, run_is_asked, run_is_taken, seq_is_asked, seq_is_taken}
 use Rattle.cmdline.proofs.request_of.Goals as goal
 
 pub returns-clause-refused : goal.returns-clause-refused
-returns-clause-refused c =
-    let app_is : app_of c.in_ok-rvstm.field-0 ≡ rvstm_app = c.in_ok-rvstm.ensures in
-    ap (λ (a : App). fault_of a (map string_bytes c.args.words.now)) (sym app_is)
-    ∙ c.in_ok-matches.ensures.kinds (ap is_simple_and_free app_is ∙ is_free)
+returns-clause-refused c = c.in_ok-matches.ensures.refused
 
--- the command that was built, on the words of a line
-module _ (a : App) (words line : List Text) (app_is : a ≡ rvstm_app) (line_is : words ≡ line) where
-  line_is_taken : takes rvstm_app line ≡ true → takes a words ≡ true
-  line_is_taken taken = ap₂ takes app_is line_is ∙ taken
-
-  line_is_asked : (m : ArgMatches) (request : Option Request) (what : Asked) → HasMatchesOf a words m
-      → option_map asked_by request ≡ option_and_then asked_in (subcommand_rows_of m) → asked line ≡ Some what → option_map asked_by request ≡ Some what
-  line_is_asked m request what found read asks =
-      read ∙ ap (option_and_then asked_in) ((found (ap is_simple app_is ∙ is_plain)).1 ∙ ap₂ subcommand_of app_is line_is) ∙ asks
+-- what was asked, from what clap found
+is_asked : (words line : List Text) → words ≡ line → (m : ArgMatches) (request : Option Request) (what : Asked) → HasMatchesOf rvstm_app words m
+    → option_map asked_by request ≡ option_and_then asked_in (subcommand_rows_of m) → asked line ≡ Some what → option_map asked_by request ≡ Some what
+is_asked words line line_is m request what found read asks =
+    read ∙ ap (option_and_then asked_in) ((found is_plain).1 ∙ ap (subcommand_of rvstm_app) line_is) ∙ asks
 
 pub returns-in_err-matches-clause-run : goal.returns-in_err-matches-clause-run
 returns-in_err-matches-clause-run c = λ program file word line operand number.
     let kind_is : kind_of c.in_err-matches.field-0.0 ≡ kind.OutOfMemory =
-    c.in_err-matches.ensures.passes (line_is_taken _ _ _ c.in_ok-rvstm.ensures line (run_is_taken program file word operand number)) in
+    c.in_err-matches.ensures.passes (ap (takes rvstm_app) line ∙ run_is_taken program file word operand number) in
     search (rules, kind_is)
 
 pub returns-clause-run : goal.returns-clause-run
 returns-clause-run c = λ program file word line operand number.
-    line_is_asked _ _ _ c.in_ok-rvstm.ensures line _ _ _ c.in_ok-matches.ensures.matches c.request_in.ensures (run_is_asked program file word operand number)
+    is_asked _ _ line _ _ _ c.in_ok-matches.ensures.found c.request_in.ensures (run_is_asked program file word operand number)
 
 pub returns-in_err-matches-clause-seq : goal.returns-in_err-matches-clause-seq
 returns-in_err-matches-clause-seq c = λ program file line operand.
     let kind_is : kind_of c.in_err-matches.field-0.0 ≡ kind.OutOfMemory =
-    c.in_err-matches.ensures.passes (line_is_taken _ _ _ c.in_ok-rvstm.ensures line (seq_is_taken program file operand)) in
+    c.in_err-matches.ensures.passes (ap (takes rvstm_app) line ∙ seq_is_taken program file operand) in
     search (rules, kind_is)
 
 pub returns-clause-seq : goal.returns-clause-seq
 returns-clause-seq c = λ program file line operand.
-    line_is_asked _ _ _ c.in_ok-rvstm.ensures line _ _ _ c.in_ok-matches.ensures.matches c.request_in.ensures (seq_is_asked program file operand)
+    is_asked _ _ line _ _ _ c.in_ok-matches.ensures.found c.request_in.ensures (seq_is_asked program file operand)
 
 pub returns-in_err-matches-clause-drive : goal.returns-in_err-matches-clause-drive
 returns-in_err-matches-clause-drive c = λ program file word schedule line operand number second.
     let kind_is : kind_of c.in_err-matches.field-0.0 ≡ kind.OutOfMemory =
-    c.in_err-matches.ensures.passes (line_is_taken _ _ _ c.in_ok-rvstm.ensures line (drive_is_taken program file word schedule operand number second)) in
+    c.in_err-matches.ensures.passes (ap (takes rvstm_app) line ∙ drive_is_taken program file word schedule operand number second) in
     search (rules, kind_is)
 
 pub returns-clause-drive : goal.returns-clause-drive
 returns-clause-drive c = λ program file word schedule line operand number second.
-    line_is_asked _ _ _ c.in_ok-rvstm.ensures line _ _ _ c.in_ok-matches.ensures.matches c.request_in.ensures (drive_is_asked program file word schedule operand number second)
+    is_asked _ _ line _ _ _ c.in_ok-matches.ensures.found c.request_in.ensures (drive_is_asked program file word schedule operand number second)
 
 pub returns-in_err-matches-clause-asm : goal.returns-in_err-matches-clause-asm
 returns-in_err-matches-clause-asm c = λ program file out line operand second.
     let kind_is : kind_of c.in_err-matches.field-0.0 ≡ kind.OutOfMemory =
-    c.in_err-matches.ensures.passes (line_is_taken _ _ _ c.in_ok-rvstm.ensures line (asm_is_taken program file out operand second)) in
+    c.in_err-matches.ensures.passes (ap (takes rvstm_app) line ∙ asm_is_taken program file out operand second) in
     search (rules, kind_is)
 
 pub returns-clause-asm : goal.returns-clause-asm
 returns-clause-asm c = λ program file out line operand second.
-    line_is_asked _ _ _ c.in_ok-rvstm.ensures line _ _ _ c.in_ok-matches.ensures.matches c.request_in.ensures (asm_is_asked program file out operand second)
+    is_asked _ _ line _ _ _ c.in_ok-matches.ensures.found c.request_in.ensures (asm_is_asked program file out operand second)
 
 pub returns-in_err-matches-clause-dis : goal.returns-in_err-matches-clause-dis
 returns-in_err-matches-clause-dis c = λ program file line operand.
     let kind_is : kind_of c.in_err-matches.field-0.0 ≡ kind.OutOfMemory =
-    c.in_err-matches.ensures.passes (line_is_taken _ _ _ c.in_ok-rvstm.ensures line (dis_is_taken program file operand)) in
+    c.in_err-matches.ensures.passes (ap (takes rvstm_app) line ∙ dis_is_taken program file operand) in
     search (rules, kind_is)
 
 pub returns-clause-dis : goal.returns-clause-dis
 returns-clause-dis c = λ program file line operand.
-    line_is_asked _ _ _ c.in_ok-rvstm.ensures line _ _ _ c.in_ok-matches.ensures.matches c.request_in.ensures (dis_is_asked program file operand)
+    is_asked _ _ line _ _ _ c.in_ok-matches.ensures.found c.request_in.ensures (dis_is_asked program file operand)
 
 pub returns-in_err-matches-clause-debug : goal.returns-in_err-matches-clause-debug
 returns-in_err-matches-clause-debug c = λ program file word line operand number.
     let kind_is : kind_of c.in_err-matches.field-0.0 ≡ kind.OutOfMemory =
-    c.in_err-matches.ensures.passes (line_is_taken _ _ _ c.in_ok-rvstm.ensures line (debug_is_taken program file word operand number)) in
+    c.in_err-matches.ensures.passes (ap (takes rvstm_app) line ∙ debug_is_taken program file word operand number) in
     search (rules, kind_is)
 
 pub returns-clause-debug : goal.returns-clause-debug
 returns-clause-debug c = λ program file word line operand number.
-    line_is_asked _ _ _ c.in_ok-rvstm.ensures line _ _ _ c.in_ok-matches.ensures.matches c.request_in.ensures (debug_is_asked program file word operand number)
+    is_asked _ _ line _ _ _ c.in_ok-matches.ensures.found c.request_in.ensures (debug_is_asked program file word operand number)
