@@ -1,5 +1,9 @@
 //! Why a command is refused.
 
+ghost use Rattle.std.specs.Prelude.{◌++◌};
+ghost use Rattle.std.specs.Fmt.{DisplaysOnOk};
+ghost use Rattle.std.specs.Option.{option_map};
+
 use block_file::BlockFault;
 use debugger::ReplayFault;
 use elf32::ElfError;
@@ -93,16 +97,27 @@ impl fmt::Display for Refusal {
     /// The area, and what the refusal in it prints.
     fn fmt<W: fmt::Write>(&self, f: &mut fmt::Formatter<W>) -> fmt::Result {
         match self {
-            Refusal::File(fault) => write!(f, "file {fault}"),
-            Refusal::Block(fault) => write!(f, "block {fault}"),
-            Refusal::Elf(fault) => write!(f, "elf {fault}"),
-            Refusal::Asm(fault) => write!(f, "asm {fault}"),
-            Refusal::Seq(fault) => write!(f, "seq {fault}"),
-            Refusal::Schedule(fault) => write!(f, "schedule {fault}"),
-            Refusal::Run(fault) => write!(f, "run {fault}"),
-            Refusal::Drive(fault) => write!(f, "drive {fault}"),
-            Refusal::Debug(fault) => write!(f, "debug {fault}"),
-            Refusal::Output(fault) => write!(f, "output {fault}"),
+            Refusal::File(fault) => write_fault(f, "file ", fault),
+            Refusal::Block(fault) => write_fault(f, "block ", fault),
+            Refusal::Elf(fault) => write_fault(f, "elf ", fault),
+            Refusal::Asm(fault) => write_fault(f, "asm ", fault),
+            Refusal::Seq(fault) => write_fault(f, "seq ", fault),
+            Refusal::Schedule(fault) => write_fault(f, "schedule ", fault),
+            Refusal::Run(fault) => write_fault(f, "run ", fault),
+            Refusal::Drive(fault) => write_fault(f, "drive ", fault),
+            Refusal::Debug(fault) => write_fault(f, "debug ", fault),
+            Refusal::Output(fault) => write_fault(f, "output ", fault),
         }
     }
+}
+
+/// Writes the text of an area, then what a refusal in it prints.
+fn write_fault<F: fmt::Display, W: fmt::Write>(
+    f: &mut fmt::Formatter<W>,
+    area: &str,
+    fault: &F,
+) -> fmt::Result
+    ensures { DisplaysOnOk W.write_str_gives f.old result (option_map (λ text. area.now ++ text) (F.output fault.now)) f.new }
+{
+    write!(f, "{area}{fault}")
 }

@@ -1,12 +1,13 @@
 //! The engine of `rvstm dis`, over any reader and writer.
 
-ghost use Rattle.std.specs.Prelude.{◌≡◌, ◌++◌, flat_map, Ok, IfErr, IfOk, IfSome, IsOkAnd, OnOk};
+ghost use Rattle.std.specs.Prelude.{◌≡◌, ◌++◌, [], ◌∷◌, flat_map, Ok, IfErr, IfOk, IfSome, IsOkAnd, OnOk};
 ghost use Rattle.std.specs.Io.KnownBytes.{Appends};
 ghost use Rattle.std.specs.Option.{option_map};
 ghost use Rattle.std.specs.String.{string_bytes};
 ghost use Rattle.engines.specs.Engine.{IsUnwritten, program_of};
 ghost use Rattle.engines.specs.Listing.{IsListingFault, listing_line, listing_of, listing_of_file};
 ghost use Rattle.engines.specs.Parts.{IsProgramFault};
+ghost use Rattle.receipts.specs.Text.{word_text};
 
 use crate::fault::Refusal;
 use crate::reading::read_elf;
@@ -79,10 +80,16 @@ fn push_lines(alloc: Global, words: &[PlacedWord], text: &mut String) -> Result<
 fn push_line(alloc: Global, placed: &PlacedWord, text: &mut String) -> Result<(), AllocError>
     ensures { OnOk result (string_bytes text.new ≡ string_bytes text.old ++ listing_line placed.now) }
 {
-    text.push_str(word_text(alloc, placed.address)?.as_str())?;
-    text.push(' ')?;
-    text.push_str(word_text(alloc, placed.word)?.as_str())?;
-    text.push(' ')?;
+    push_word(alloc, placed.address, text)?;
+    push_word(alloc, placed.word, text)?;
     disassemble(alloc, placed.word, text)?;
     text.push('\n')
+}
+
+/// Appends the eight hex digits of a word and a space; refused where memory ran out.
+fn push_word(alloc: Global, word: u32, text: &mut String) -> Result<(), AllocError>
+    ensures { OnOk result (string_bytes text.new ≡ string_bytes text.old ++ (word_text word ++ 32 ∷ [])) }
+{
+    text.push_str(word_text(alloc, word)?.as_str())?;
+    text.push(' ')
 }

@@ -41,29 +41,46 @@ where
 {
     let words = match words_of(rt) {
         Ok(words) => words,
-        Err(error) => {
-            let _ = writeln!(errors, "{}", text_of(&error));
-            return WRONG_LINE;
-        }
+        Err(error) => return refuse_line(text_of(&error), errors),
     };
-    match request_of(rt.alloc(), words.as_slice()) {
-        Ok(Some(request)) => match answer(threads, rt.alloc(), disk, request, input, out) {
+    match read_request(rt.alloc(), words.as_slice(), out, errors) {
+        Ok(request) => match answer(threads, rt.alloc(), disk, request, input, out) {
             Ok(()) => 0,
             Err(refusal) => report(&refusal, errors),
         },
-        Ok(None) => {
-            let _ = writeln!(errors, "error: a value is missing");
-            WRONG_LINE
-        }
-        Err(error) if error.use_stderr() => {
-            let _ = write!(errors, "{error}");
-            WRONG_LINE
-        }
-        Err(error) => {
-            let _ = write!(out, "{error}");
-            0
-        }
+        Err(status) => status,
     }
+}
+
+/// The request of a command line. Where there is none, prints why, and refuses with the exit status.
+fn read_request<'a, W: Write, E: Write>(
+    alloc: Global,
+    words: &'a [String],
+    out: &mut W,
+    errors: &mut E,
+) -> Result<Request<'a>, u8> {
+    match request_of(alloc, words) {
+        Ok(Some(request)) => Ok(request),
+        Ok(None) => Err(refuse_line("error: a value is missing", errors)),
+        Err(error) => Err(print_error(&error, out, errors)),
+    }
+}
+
+/// Prints the help or the version to `out`, or what is wrong with a line to `errors`, and returns the exit
+/// status.
+fn print_error<W: Write, E: Write>(error: &clap::Error, out: &mut W, errors: &mut E) -> u8 {
+    if error.use_stderr() {
+        let _ = write!(errors, "{error}");
+        return WRONG_LINE;
+    }
+    let _ = write!(out, "{error}");
+    0
+}
+
+/// Prints what is wrong with a command line, and returns the exit status.
+fn refuse_line<E: Write>(message: &str, errors: &mut E) -> u8 {
+    let _ = writeln!(errors, "{message}");
+    WRONG_LINE
 }
 
 /// The words of the command line, the program's name first.
