@@ -31,14 +31,14 @@ pub(crate) fn seek<'a>(slots: &'a Slots, arena: &'a Arena, key: &Key, i: u16) ->
 }
 
 /// The answer that a record of a call gives: its version, with its content.
-fn found<'a>(writer: u16, told: Record<'a>) -> Answer<'a>
-    requires { IfSome told.content (λ bytes. length bytes.now ≤ VALUE_LIMIT) }
-    ensures seen { visible_of result ≡ Found writer told.entry.incarnation (option_copied told.entry.content) }
+fn found<'a>(writer: u16, record: Record<'a>) -> Answer<'a>
+    requires { IfSome record.content (λ bytes. length bytes.now ≤ VALUE_LIMIT) }
+    ensures seen { visible_of result ≡ Found writer record.entry.incarnation (option_copied record.entry.content) }
     ensures short { IsShort VALUE_LIMIT result }
 {
     let version = Version {
         writer,
-        incarnation: told.incarnation,
+        incarnation: record.incarnation,
     };
-    Answer::Found(version, told.content)
+    Answer::Found(version, record.content)
 }

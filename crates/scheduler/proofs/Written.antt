@@ -13,7 +13,7 @@ use Rattle.stm_state.specs.State.{fresh}
 use Rattle.stm_state.specs.Steps.{keys_of, next_incarnation, resume_if_parked, is_parked_on, written_by}
 use Rattle.scheduler.specs.declared.worker.TaskKind.{TaskKind}
 use Rattle.scheduler.specs.declared.worker.TaskKind.TheVariants as task_kind
-use Rattle.scheduler.specs.Workers.{WorkerState, HasKeyLeft, HasNoKeys, NobodyMoves, answered, blocked_on, failed_check, idle_worker, task_of, task_with}
+use Rattle.scheduler.specs.Workers.{WorkerState, HasKeyLeft, HasNoKeys, NobodyMoves, with_answer, blocked_on, failed_check, idle_worker, task_of, task_with}
 use Rattle.scheduler.specs.Written.{BeginWithWritten, HasWrittenKeys}
 
 -- all keys that a worker was given
@@ -21,7 +21,7 @@ abbrev pub given_keys : WorkerState → List (List ℕ)
 given_keys w = w.keys
 
 -- ---- tasks that move keys before, where they do after
-pub moves_answered : (answer : StorageAnswer) (t : Task) (i : ℕ) (keys : List (List ℕ)) (new : Bool) → answered answer t ≡ Moving i keys new → t ≡ Moving i keys new
+pub moves_answered : (answer : StorageAnswer) (t : Task) (i : ℕ) (keys : List (List ℕ)) (new : Bool) → with_answer answer t ≡ Moving i keys new → t ≡ Moving i keys new
 moves_answered answer Idle i keys new h = cc
 moves_answered answer (Running c a b) i keys new h = cc
 moves_answered answer (Moving c k n) i keys new h = h

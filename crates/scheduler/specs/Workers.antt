@@ -43,12 +43,12 @@ idle_worker = record { task = task.Idle; keys = []; counts = no_counts; dones = 
 
 -- three changes of a task: a run gets one more answer, a run is blocked on a call, and a validation fails; a task of another
 -- kind stays as it is
-abbrev pub answered : StorageAnswer → Task → Task
-answered answer task.Idle = task.Idle
-answered answer (task.Running call answers blocked) = task.Running call (answers ++ answer ∷ []) blocked
-answered answer (task.Moving call keys new) = task.Moving call keys new
-answered answer (task.Validating call incarnation left failed) = task.Validating call incarnation left failed
-answered answer (task.Marking call keys) = task.Marking call keys
+abbrev pub with_answer : StorageAnswer → Task → Task
+with_answer answer task.Idle = task.Idle
+with_answer answer (task.Running call answers blocked) = task.Running call (answers ++ answer ∷ []) blocked
+with_answer answer (task.Moving call keys new) = task.Moving call keys new
+with_answer answer (task.Validating call incarnation left failed) = task.Validating call incarnation left failed
+with_answer answer (task.Marking call keys) = task.Marking call keys
 
 abbrev pub blocked_on : ℕ → Task → Task
 blocked_on on task.Idle = task.Idle

@@ -157,7 +157,7 @@ fn reads(last: &Option<Recorded>) -> usize
 }
 
 /// The number of keys that a run wrote; 0 where there is no run.
-pub(crate) fn written(last: &Option<Recorded>) -> usize
+pub(crate) fn write_count(last: &Option<Recorded>) -> usize
     ensures { result ≡ length (written_by last.now) }
 {
     match last {

@@ -54,7 +54,7 @@ impl Scheduler {
     ghost use Rattle.stm_state.specs.declared.state.Status.TheVariants as Status;
     ghost use Rattle.stm_state.specs.declared.state.Task.TheVariants as Task;
     ghost use Rattle.scheduler.specs.Schedule.{KeepsRooms, MayCount, state_of};
-    ghost use Rattle.scheduler.specs.Workers.{HasKeyLeft, HasNoKeys, IsTaskKindOf, IsRunning, NobodyMoves, answered, blocked_on, failed_check, task_with};
+    ghost use Rattle.scheduler.specs.Workers.{HasKeyLeft, HasNoKeys, IsTaskKindOf, IsRunning, NobodyMoves, with_answer, blocked_on, failed_check, task_with};
     ghost use Rattle.scheduler.specs.Written.{BeginWithWritten};
 
     /// The scheduler of `calls` calls, each READY at incarnation 0, and of `workers` workers without a task.
@@ -91,7 +91,7 @@ impl Scheduler {
     pub fn answer(&mut self, worker: usize, answer: StorageAnswer)
         requires counts { MayCount worker self.old }
         requires room { 1 ≤ get_or self.old.rooms worker 0 }
-        ensures state { (v : Versions) (p : ℕ) → state_of v p self.new ≡ counted one_step worker (with_task worker (answered answer (get_or self.old.tasks worker Task.Idle)) (state_of v p self.old)) }
+        ensures state { (v : Versions) (p : ℕ) → state_of v p self.new ≡ counted one_step worker (with_task worker (with_answer answer (get_or self.old.tasks worker Task.Idle)) (state_of v p self.old)) }
         ensures rooms { KeepsRooms worker self.old.rooms self.new.rooms }
     {
         self.count_step(worker);
@@ -385,7 +385,7 @@ impl Scheduler {
         let index = usize::from(call);
         let executed = &mut self.calls[index];
         executed.status = Status::Executed;
-        let count = calls::written(&executed.last);
+        let count = calls::write_count(&executed.last);
         self.workers[worker].hand_over(&mut self.written[index], count);
     }
 
@@ -419,7 +419,7 @@ impl Scheduler {
     fn push(&mut self, worker: usize, answer: StorageAnswer)
         requires within { worker < length self.old.tasks }
         requires room { 1 ≤ get_or self.old.rooms worker 0 }
-        ensures state { (v : Versions) (p : ℕ) → state_of v p self.new ≡ with_task worker (answered answer (get_or self.old.tasks worker Task.Idle)) (state_of v p self.old) }
+        ensures state { (v : Versions) (p : ℕ) → state_of v p self.new ≡ with_task worker (with_answer answer (get_or self.old.tasks worker Task.Idle)) (state_of v p self.old) }
         ensures rooms { KeepsRooms worker self.old.rooms self.new.rooms }
     {
         self.workers[worker].push(answer);

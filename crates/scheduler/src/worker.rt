@@ -6,7 +6,7 @@ ghost use Rattle.std.specs.List.{list_all};
 ghost use Rattle.rv_step.specs.declared.answer.StorageAnswer.{StorageAnswer};
 ghost use Rattle.stm_state.specs.State.{is_idle};
 ghost use Rattle.stm_state.specs.declared.state.Task.TheVariants as task;
-ghost use Rattle.scheduler.specs.Workers.{HasKeyLeft, IsRunning, IsTaskKindOf, answered, blocked_on, failed_check, idle_worker, task_of, task_with};
+ghost use Rattle.scheduler.specs.Workers.{HasKeyLeft, IsRunning, IsTaskKindOf, with_answer, blocked_on, failed_check, idle_worker, task_of, task_with};
 
 use crate::counting::COUNT_LIMIT;
 use rv_ledger::{Counts, Key};
@@ -205,7 +205,7 @@ impl Worker {
     /// Keeps one more answer in room that was made. Takes no memory.
     pub(crate) fn push(&mut self, answer: StorageAnswer)
         requires { 1 ≤ self.old.room }
-        ensures { self.new ≡ record self.old { task = answered answer self.old.task; room = self.old.room - 1 } }
+        ensures { self.new ≡ record self.old { task = with_answer answer self.old.task; room = self.old.room - 1 } }
     {
         self.answers.push_reserved(answer);
     }

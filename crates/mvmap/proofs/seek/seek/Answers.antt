@@ -35,9 +35,9 @@ returns-in-Placed-clause-seen c =
     let below = reading (versions_of rs c.args.slots.now.entries) c.args.key.now c.in-Some.place.now.1 in
     let seen = walk_stops rs c.args.slots.now c.args.key.now c.args.i c.range-below.result c.loop-place.below c.next_back.new.self c.in-Some.place.now c.in-Some.slot.now
     c.range-below.ensures.ordered (c.range-below.ensures.in_range tt) (c.range-below.ensures.between tt) c.loop-place.invariant c.in-Some.ensures.steps in
-    let told = ap (option_map (λ (x : Record). Stands x.incarnation x.content)) (sym (ap (option_map lent) c.unwrap.ensures) ∙ c.get.ensures.record) in
+    let stands = ap (option_map (λ (x : Record). Stands x.incarnation x.content)) (sym (ap (option_map lent) c.unwrap.ensures) ∙ c.get.ensures.record) in
     c.found.ensures.seen
-    ∙ ap (λ o. visible_over c.in-Some.place.now.1 o below) (told ∙ ap (entry_of rs) (sym c.in-Placed.is))
+    ∙ ap (λ o. visible_over c.in-Some.place.now.1 o below) (stands ∙ ap (entry_of rs) (sym c.in-Placed.is))
     ∙ sym seen.1
 
 pub unwrap-requires : goal.unwrap-requires

@@ -33,7 +33,7 @@ invariant_of-self c =
     let begins : BeginWithWritten (get_or calls i fresh) worker.keys = worker_has calls (map vec_items slots) workers c.self.invariant.2 c.args.worker i worker c.requires.moving.0 c.requires.moving.1 is_worker c.index_mut.ensures.value moving in
     let written : c.hand_over.new.slot.items ≡ keys_of (written_by old.last) =
     c.hand_over.ensures.slot
-    ∙ ap (λ (n : ℕ). take n worker.keys) (c.written-count.ensures ∙ ap (λ (k : CallState). length (written_by k.last)) was)
+    ∙ ap (λ (n : ℕ). take n worker.keys) (c.write_count-count.ensures ∙ ap (λ (k : CallState). length (written_by k.last)) was)
     ∙ begins ∙ ap (λ (k : CallState). keys_of (written_by k.last)) (sym was) in
     let idle : c.hand_over.new.self.task ≡ Idle = ap task_of c.hand_over.ensures.worker in
     let all = all_moved calls (map vec_items slots) workers c.self.invariant.2 i c.args.worker new c.hand_over.new.slot.items c.hand_over.new.self within is_worker (ap (λ (k : CallState). k.last) was) (λ j keys n h. let both : Idle ≡ Moving j keys n = sym idle ∙ h in cc) written in (
