@@ -4,7 +4,6 @@ use Rattle.std.proofs.lemmas.Bool.Decides.{nat_tests}
 use Rattle.std.proofs.lemmas.List.{drop_more}
 use Rattle.rv_ledger.specs.Key.{Storage}
 use Rattle.rv_ledger.specs.Call.{Invocation}
-use Rattle.rv_ledger.specs.declared.job.Job.{Job}
 use Rattle.stm_state.specs.State.{State, start, is_done}
 use Rattle.stm_state.specs.Steps.{Limit}
 use Rattle.stm_state.specs.Drive.{BadWorker, NotDone, drive_of, driven, due_result, continue_drive}
@@ -67,19 +66,19 @@ from_start calls store workers schedule low high =
     let at_most : nat_le workers 32 ≡ true = grind (arith, nat_tests) in
     rw (at_least, at_most) refl
 
--- the entries lead from the start of a copy of a job to a state
-module _ (job copy : Job) (old : CoreState) (workers : ℕ) (schedule : List ℕ) (s : State) (low : 1 ≤ workers) (high : workers ≤ 32)
-    (same : copy ≡ job) (of_copy : old.job ≡ copy) (first : old.state ≡ start (length copy.block) workers)
+-- the entries lead from a core's start to a state
+module _ (old : CoreState) (workers : ℕ) (schedule : List ℕ) (s : State) (low : 1 ≤ workers) (high : workers ≤ 32)
+    (first : old.state ≡ start (length old.job.block) workers)
     (all : driven old.job.block old.job.store workers schedule old.state ≡ driven old.job.block old.job.store workers [] s) where
-  comes_to : drive_of copy.block copy.store workers schedule ≡ cond (is_done s) (Ok s) (Err NotDone)
+  comes_to : drive_of old.job.block old.job.store workers schedule ≡ cond (is_done s) (Ok s) (Err NotDone)
   comes_to =
-      from_start copy.block copy.store workers schedule low high ∙ ap (driven copy.block copy.store workers schedule) (sym first)
-      ∙ subst (λ (j : Job). driven j.block j.store workers schedule old.state ≡ driven j.block j.store workers [] s) of_copy all ∙ used_up copy.block copy.store workers s
+      from_start old.job.block old.job.store workers schedule low high ∙ ap (driven old.job.block old.job.store workers schedule) (sym first)
+      ∙ all ∙ used_up old.job.block old.job.store workers s
 
   -- where workers are done there
-  pub ends_done : is_done s ≡ true → drive_of job.block job.store workers schedule ≡ Ok s
-  ends_done e = subst (λ (j : Job). drive_of j.block j.store workers schedule ≡ Ok s) same (comes_to ∙ ap (λ b. cond b (Ok s) (Err NotDone)) e)
+  pub ends_done : is_done s ≡ true → drive_of old.job.block old.job.store workers schedule ≡ Ok s
+  ends_done e = comes_to ∙ ap (λ b. cond b (Ok s) (Err NotDone)) e
 
   -- and where they are not
-  pub ends_early : is_done s ≡ false → drive_of job.block job.store workers schedule ≡ Err NotDone
-  ends_early e = subst (λ (j : Job). drive_of j.block j.store workers schedule ≡ Err NotDone) same (comes_to ∙ ap (λ b. cond b (Ok s) (Err NotDone)) e)
+  pub ends_early : is_done s ≡ false → drive_of old.job.block old.job.store workers schedule ≡ Err NotDone
+  ends_early e = comes_to ∙ ap (λ b. cond b (Ok s) (Err NotDone)) e

@@ -95,9 +95,37 @@ pub fn drive(
     if workers == 0 || workers > WORKER_LIMIT {
         return Err(DriveFault::BadWorker);
     }
-    let mut core = Core::new(alloc, job.copy()?, workers)?;
-    let mut runs = no_runs(alloc, workers)?;
-    follow(alloc, &mut core, &mut runs, workers, schedule)?;
+    match core_of(alloc, job, workers) {
+        Ok(mut core) => drive_core(alloc, &mut core, workers, schedule),
+        Err(_) => Err(DriveFault::Memory),
+    }
+}
+
+/// The state at the start of a copy of a job; refused where memory ran out.
+fn core_of(alloc: Global, job: &Job, workers: usize) -> Result<Core, AllocError>
+    requires { (1 ≤ workers) × (workers ≤ 32) }
+    ensures job { IfOk result (λ c. c.job ≡ job.now) }
+    ensures state { IfOk result (λ c. c.state ≡ start (length job.now.block) workers) }
+{
+    Core::new(alloc, job.copy()?, workers)
+}
+
+/// Runs a core that is at its start along a list of worker numbers; refused as `drive` is.
+fn drive_core(
+    alloc: Global,
+    core: &mut Core,
+    workers: usize,
+    schedule: &[u16],
+) -> Result<Outcome, DriveFault>
+    requires workers { (1 ≤ workers) × (workers ≤ 32) }
+    requires start { core.old.state ≡ start (length core.old.job.block) workers }
+    ensures counts { IfOk result (λ o. (s : State) × (drive_of core.old.job.block core.old.job.store workers schedule.now ≡ Ok s) × (o.counts.items ≡ s.counts)) }
+    ensures job { IfOk result (λ o. o.job ≡ core.old.job) }
+    ensures receipts { IfOk result (λ o. o.receipts.items ≡ receipts_of core.old.job.block core.old.job.store) }
+    ensures store { IfOk result (λ o. o.store ≡ store_after core.old.job.block core.old.job.store) }
+    ensures refused { IfErr result (λ e. IsRefusal e (drive_of core.old.job.block core.old.job.store workers schedule.now)) }
+{
+    follow(alloc, core, workers, schedule)?;
     if !core.done() {
         return Err(DriveFault::NotDone);
     }
@@ -116,8 +144,23 @@ fn no_runs(alloc: Global, workers: usize) -> Result<Vec<Option<Run>>, AllocError
 }
 
 /// Makes the steps of a list of worker numbers, from the start of the job, until one is refused.
-/// `runs` holds each worker's run under way.
 fn follow(
+    alloc: Global,
+    core: &mut Core,
+    workers: usize,
+    schedule: &[u16],
+) -> Result<(), DriveFault>
+    requires start { core.old.state ≡ start (length core.old.job.block) workers }
+    ensures job { OnOk result (core.new.job ≡ core.old.job) }
+    ensures driven { OnOk result (driven core.old.job.block core.old.job.store workers schedule.now core.old.state ≡ driven core.old.job.block core.old.job.store workers [] core.new.state) }
+    ensures refused { IfErr result (λ e. IsRefusal e (driven core.old.job.block core.old.job.store workers schedule.now core.old.state)) }
+{
+    let mut runs = no_runs(alloc, workers)?;
+    step_along(alloc, core, &mut runs, workers, schedule)
+}
+
+/// The same. `runs` holds each worker's run under way.
+fn step_along(
     alloc: Global,
     core: &mut Core,
     runs: &mut Vec<Option<Run>>,
@@ -202,16 +245,32 @@ fn run_on(
     ensures fits { IfOk result (λ next. FitsTask core.old.job.block next (task_at core.new.state worker)) }
     ensures refused { IfErr result (λ e. IsStepRefusal e (due_result core.old.job.block core.old.job.store worker core.old.state)) }
 {
-    let mut run = match run {
-        Some(run) => run,
-        None => Run::start(alloc, &core.job().block.calls()[usize::from(call)])?,
-    };
+    let mut run = run_of(alloc, core, worker, call, run)?;
     match run.go()? {
         Pause::Ask(key) => read(core, worker, run, &key),
         Pause::Ended => {
             hand_in(alloc, core, worker, run)?;
             Ok(None)
         }
+    }
+}
+
+/// A worker's run of its call: the one that is under way, or else a run before its first instruction.
+fn run_of(
+    alloc: Global,
+    core: &Core,
+    worker: usize,
+    call: u16,
+    run: Option<Run>,
+) -> Result<Run, AllocError>
+    requires within { call < length core.now.job.block }
+    requires running { task_at core.now.state worker ≡ Running call (answers_of (task_at core.now.state worker)) None }
+    requires fits { FitsTask core.now.job.block run (task_at core.now.state worker) }
+    ensures { IfOk result (λ run. FitsTask core.now.job.block (Some run) (task_at core.now.state worker)) }
+{
+    match run {
+        Some(run) => Ok(run),
+        None => Run::start(alloc, &core.job().block.calls()[usize::from(call)]),
     }
 }
 

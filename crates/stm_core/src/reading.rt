@@ -10,7 +10,7 @@ ghost use Rattle.stm_state.specs.State.{State, with_task};
 ghost use Rattle.stm_state.specs.Steps.{answered_with, counted, one_step};
 ghost use Rattle.stm_state.specs.Invariant.{named_by};
 ghost use Rattle.scheduler.specs.Schedule.{KeepsRooms, MayCount, state_of};
-ghost use Rattle.scheduler.specs.Workers.{answered};
+ghost use Rattle.scheduler.specs.Workers.{with_answer};
 ghost use Rattle.stm_core.specs.declared.next_step.ReadResult.TheVariants as read_result;
 ghost use Rattle.stm_core.specs.CoreState.{next_step_of, read_result_of};
 
@@ -146,7 +146,7 @@ fn give(
     requires counts { MayCount worker scheduler.old }
     requires room { 1 ≤ get_or scheduler.old.rooms worker 0 }
     ensures answers { result ≡ read_result.Given value origin }
-    ensures state { (v : Versions) (p : ℕ) → state_of v p scheduler.new ≡ counted one_step worker (with_task worker (answered (record { key = key.now; value = value; origin = origin }) (get_or scheduler.old.tasks worker task.Idle)) (state_of v p scheduler.old)) }
+    ensures state { (v : Versions) (p : ℕ) → state_of v p scheduler.new ≡ counted one_step worker (with_task worker (with_answer (record { key = key.now; value = value; origin = origin }) (get_or scheduler.old.tasks worker task.Idle)) (state_of v p scheduler.old)) }
     ensures rooms { KeepsRooms worker scheduler.old.rooms scheduler.new.rooms }
 {
     let answer = StorageAnswer {

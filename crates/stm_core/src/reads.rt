@@ -11,7 +11,7 @@ use stm_state::Recorded;
 use validate::next_read;
 
 /// The reads of a run that was given these answers; refused where memory ran out.
-pub(crate) fn reads_of(alloc: Global, answers: &[StorageAnswer]) -> Result<ReadSet, AllocError>
+pub(crate) fn reads_in(alloc: Global, answers: &[StorageAnswer]) -> Result<ReadSet, AllocError>
     ensures { IfOk result (λ reads. reads ≡ map read_of answers.now) }
 {
     let mut reads = ReadSet::new(alloc);

@@ -13,7 +13,7 @@ ghost use Rattle.stm_core.specs.declared.fault.RecordFault.TheVariants as fault;
 ghost use Rattle.stm_core.specs.Inner.{AreOpen, IsGrown, IsPromised, reads_in, state_in};
 
 use crate::fault::{RecordFault, Refused};
-use crate::reads::reads_of;
+use crate::reads::reads_in;
 use crate::same::same_answers;
 use crate::versions::{keys_to_move, written_count};
 use mvmap::MvMap;
@@ -126,7 +126,7 @@ fn make_room(
     ensures bytes { OnOk result (records * VALUE_LIMIT ≤ map.new.arena.bytes) }
     ensures grown { IsGrown map.old map.new }
 {
-    let reads = reads_of(alloc, run.answers.as_slice())?;
+    let reads = reads_in(alloc, run.answers.as_slice())?;
     let keys = keys_to_move(alloc, last, &run.receipt.writes)?;
     let written = &keys.as_slice()[..written_count(&run.receipt.writes)];
     map.reserve_for(written, call, records, records * VALUE_LIMIT)?;

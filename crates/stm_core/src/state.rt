@@ -174,7 +174,7 @@ impl Core {
     {
         let done = self.scheduler.done();
         self.scheduler.ask(worker);
-        answered(done, self.scheduler.task_kind(worker))
+        ask_result(done, self.scheduler.task_kind(worker))
     }
 
     /// A worker's run reads the key that it asks for, in room that `room_for_read` made. Takes no memory.
@@ -412,7 +412,7 @@ impl Core {
 }
 
 /// The answer to `ask`, by whether all was done before it and the task that the worker has now.
-fn answered(done: bool, task: TaskKind) -> AskResult
+fn ask_result(done: bool, task: TaskKind) -> AskResult
     ensures { (t : Task) → IsTaskKindOf task t → result ≡ ask_result_of done t }
 {
     match task {

@@ -75,7 +75,7 @@ pub(crate) fn move_key(
     ensures room { promised.new ≤ map.new.arena.room }
     ensures bytes { promised.new * VALUE_LIMIT ≤ map.new.arena.bytes }
 {
-    match written(&state.last, key) {
+    match write_at(&state.last, key) {
         Some(value) => {
             see_short(value);
             map.publish(key, call, state.incarnation, value.as_ref());
@@ -86,7 +86,7 @@ pub(crate) fn move_key(
 }
 
 /// What a run wrote at a key; None where it did not write it, and where there is no run.
-fn written<'a>(last: &'a Option<Recorded>, key: &Key) -> Option<&'a Option<Value>>
+fn write_at<'a>(last: &'a Option<Recorded>, key: &Key) -> Option<&'a Option<Value>>
     ensures { option_copied result ≡ write_of last.now key.now }
 {
     match last {
