@@ -10,7 +10,7 @@ use Rattle.stm_core.specs.CoreState.{CoreState, Makes, ask_result_of, block_in}
 use Rattle.stm_core.specs.declared.next_step.AskResult.{AskResult}
 use Rattle.stm_core.specs.declared.next_step.AskResult.TheVariants as ask_result
 use Rattle.workers.specs.declared.share.Share.{Share}
-use Rattle.workers.specs.Book.{Tells}
+use Rattle.workers.specs.Book.{AgreesWith}
 
 -- an asking is answered Done just where all was done
 pub done_where_answered : (done : Bool) (task : Task) → ask_result.Done ≡ ask_result_of done task → done ≡ true
@@ -26,12 +26,12 @@ not_done_where_answered true task answer e other = absurd (other e)
 not_done_where_answered false task answer e other = refl
 
 module _ (law : DonesGrowAtDone) (old new : CoreState) (share counted : Share) (made : Makes share.worker Ask old new)
-    (inv : Invariant (block_in old) (length old.state.tasks) old.state) (before : Tells share old) (tells : Tells counted new) (same : counted.worker ≡ share.worker) where
+    (inv : Invariant (block_in old) (length old.state.tasks) old.state) (before : AgreesWith share old) (agrees : AgreesWith counted new) (same : counted.worker ≡ share.worker) where
   grown : counted.dones ≡ (if is_done old.state then share.dones + 1 else share.dones)
   grown =
       let size = inv.sized.dones in
       let within = before.within in
-      tells.dones ∙ ap (λ w. get_or new.state.dones w 0) same
+      agrees.dones ∙ ap (λ w. get_or new.state.dones w 0) same
       ∙ law (block_in old) share.worker old.state new.state made.0 (omega (arith, size, within))
       ∙ ap (λ d. if is_done old.state then d + 1 else d) (sym before.dones)
 

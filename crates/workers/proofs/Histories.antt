@@ -18,7 +18,7 @@ use Rattle.workers.specs.declared.fault.RunFault.{RunFault}
 use Rattle.workers.specs.declared.fault.RunFault.TheVariants as faults
 use Rattle.workers.specs.Book.{BookState, FaultFits, IsAtLimit, MayWrite}
 use Rattle.workers.specs.Settle.{AreSettled, IsOutcomeOf, IsOutcomeOrMemory, IsSettledAfter, IsSettled}
-use Rattle.workers.specs.History.{HasHistory, HasLimit, HasOneWorkerCounts}
+use Rattle.workers.specs.History.{HasHistory, HasLimit, AreOneWorkerCounts}
 
 -- ---- what an answer says of the book
 
@@ -62,7 +62,7 @@ once_each b shares settled w within =
     let size = settled.count in
     let at = share_at shares w (omega (arith, size, within)) in
     let one = settled.each w at.0 at.1 in
-    sym (one.tells.dones ∙ ap (λ v. get_or b.state.dones v 0) one.worker) ∙ one.once
+    sym (one.agrees.dones ∙ ap (λ v. get_or b.state.dones v 0) one.worker) ∙ one.once
 
 module _ (b : CoreState) (shares : List Share) (settled : AreSettled b shares) (reached : Reached (block_in b) (length b.state.tasks) b.state) where
   -- some list leads to the core's state, with its counts
@@ -79,8 +79,8 @@ module _ (b : CoreState) (shares : List Share) (settled : AreSettled b shares) (
       }
 
   -- the counts of one worker
-  has_one_worker_counts : OneWorkerCountsWhereReached → length b.state.tasks ≡ 1 → HasOneWorkerCounts (length b.job.block) b.state.counts
-  has_one_worker_counts law one =
+  are_one_worker_counts : OneWorkerCountsWhereReached → length b.state.tasks ≡ 1 → AreOneWorkerCounts (length b.job.block) b.state.counts
+  are_one_worker_counts law one =
       let did = law (block_in b) b.state (subst (λ n. Reached (block_in b) n b.state) one reached) settled.done in
       let told : did.1 ≡ 1 = sym (ap (λ ds. get_or ds 0 0) did.2.dones) ∙ once_each b shares settled 0 (omega (arith, one)) in
       record {
@@ -114,12 +114,12 @@ module _ (job : Job) (workers : ℕ) (shares : List Share) (b : BookState) (sett
         (subst (λ n. HasHistory b.core.job n o.counts.items) (as_many o counts h.1)
         (subst (HasHistory b.core.job (length b.core.state.tasks)) (sym counts) (has_history b.core shares k.1.0 reached by_list last)))) ok
 
-    pub one_worker_is : OneWorkerCountsWhereReached → IfOk answer (λ o. workers ≡ 1 → HasOneWorkerCounts (length job.block) o.counts.items)
+    pub one_worker_is : OneWorkerCountsWhereReached → IfOk answer (λ o. workers ≡ 1 → AreOneWorkerCounts (length job.block) o.counts.items)
     one_worker_is law = IfOk-weaker answer _ _ (λ o h one.
         let k = ok_settled job shares b settled_answer settled o h.0 in
         let counts = k.1.1.counts in
-        subst (λ (j : Job). HasOneWorkerCounts (length j.block) o.counts.items) k.0
-        (subst (HasOneWorkerCounts (length b.core.job.block)) (sym counts) (has_one_worker_counts b.core shares k.1.0 reached law (as_many o counts h.1 ∙ one)))) ok
+        subst (λ (j : Job). AreOneWorkerCounts (length j.block) o.counts.items) k.0
+        (subst (AreOneWorkerCounts (length b.core.job.block)) (sym counts) (are_one_worker_counts b.core shares k.1.0 reached law (as_many o counts h.1 ∙ one)))) ok
 
   -- a limit that was written is met by some list
   limit_met : (limit : Limit) → IsAtLimit limit b.core → b.core.job ≡ job → HasLimit job limit

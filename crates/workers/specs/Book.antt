@@ -85,14 +85,14 @@ zero_counts_of_all zero = []
 zero_counts_of_all (suc n) = zero_counts_of_all n ++ zero_counts n ∷ []
 
 -- a share agrees with the core on the counts of its worker
-pub record Tells (share : Share) (b : CoreState) : Type 0 where
+pub record AgreesWith (share : Share) (b : CoreState) : Type 0 where
   pub within : share.worker < length b.state.tasks
   pub counts : share.counts ≡ get_or b.state.counts share.worker no_counts
   pub dones : share.dones ≡ get_or b.state.dones share.worker 0
 
 -- the same, and the worker owes this step
 pub record Owes (next : NextStep) (share : Share) (b : CoreState) : Type 0 where
-  pub tells : Tells share b
+  pub agrees : AgreesWith share b
   pub owed : next_step_of b.state (task_at b.state share.worker) ≡ next
 
 -- ---- step calls
@@ -106,7 +106,7 @@ pub record IsMade (owed : NextStep) (step : Step) (before after : BookState) (sh
   pub none_after : after.fault ≡ None
   pub worker : counted.worker ≡ share.worker
   pub pass : counted.pass ≡ share.pass
-  pub tells : Tells counted after.core
+  pub agrees : AgreesWith counted after.core
 
 -- a step call that is refused writes its fault, and leaves the core and the share as they were
 pub record LeavesWritten (fault : RunFault) (before after : BookState) (share left : Share) : Type 0 where

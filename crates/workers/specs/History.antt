@@ -24,6 +24,6 @@ pub record HasLimit (job : Job) (limit : Limit) : Type 0 where
   pub meets : MeetsLimit (block_of job.block job.store) workers limit
 
 -- what a single worker did: per call one execution, one validation and two asks, and one last ask that is answered Done
-pub record HasOneWorkerCounts (calls : ℕ) (found : List Counts) : Type 0 where
+pub record AreOneWorkerCounts (calls : ℕ) (found : List Counts) : Type 0 where
   pub steps : ℕ
   pub counts : found ≡ record { steps = steps; asks = 2 * calls + 1; executions = calls; validations = calls } ∷ []

@@ -8,12 +8,12 @@ use Rattle.stm_core.specs.CoreState.{CoreState}
 use Rattle.workers.specs.declared.share.Share.{Share}
 use Rattle.workers.specs.declared.fault.RunFault.{RunFault}
 use Rattle.workers.specs.declared.fault.RunFault.TheVariants as faults
-use Rattle.workers.specs.Book.{BookState, Tells}
+use Rattle.workers.specs.Book.{BookState, AgreesWith}
 
 -- a share is that of a worker, agrees with the core on its counts, and has exactly one ask that was answered Done
 pub record IsShareOf (w : ℕ) (b : CoreState) (share : Share) : Type 0 where
   pub worker : share.worker ≡ w
-  pub tells : Tells share b
+  pub agrees : AgreesWith share b
   pub once : share.dones ≡ 1
 
 -- workers are done, and there is one share of each, in their order, which agrees with the core

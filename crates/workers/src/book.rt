@@ -68,7 +68,7 @@ impl<B: BlockName> Book<B> {
     ghost use Rattle.stm_state.specs.Steps as steps;
     ghost use Rattle.stm_core.specs.CoreState.{IsOwn, IsTaken, block_in, next_step_of, read_result_of};
     ghost use Rattle.stm_core.specs.declared.next_step.NextStep.TheVariants as next_step;
-    ghost use Rattle.workers.specs.Book.{FaultFits, HasKnownCalls, IsAsked, IsCause, IsMade, IsUnready, LeavesWritten, MayWrite, Owes, Tells, first_fault};
+    ghost use Rattle.workers.specs.Book.{FaultFits, HasKnownCalls, IsAsked, IsCause, IsMade, IsUnready, LeavesWritten, MayWrite, Owes, AgreesWith, first_fault};
 
     /// A core, and no fault. `known` says that the core has the calls that `B` names.
     pub(crate) fn over(core: Core, known: bool) -> Book<B>
@@ -158,7 +158,7 @@ impl<B: BlockName> Book<B> {
         self.core.holds();
         stm_state::dones_grow_at_done();
         let answer = self.core.ask(share.worker);
-        self.tell(share);
+        self.update(share);
         Ok(match answer {
             AskResult::Done => None,
             AskResult::Nothing | AskResult::Task => Some(self.core.doing(share.worker)),
@@ -187,7 +187,7 @@ impl<B: BlockName> Book<B> {
             return Err(self.write(RunFault::Memory));
         }
         let answer = self.core.read(share.worker, key);
-        self.tell(share);
+        self.update(share);
         Ok(answer)
     }
 
@@ -211,7 +211,7 @@ impl<B: BlockName> Book<B> {
         stm_state::dones_grow_at_done();
         match self.core.park(share.worker) {
             Ok(()) => {
-                self.tell(share);
+                self.update(share);
                 Ok(self.core.doing(share.worker))
             }
             Err(_) => Err(self.write(RunFault::IncarnationLimit)),
@@ -269,7 +269,7 @@ impl<B: BlockName> Book<B> {
         };
         match recorded {
             Ok(()) => {
-                self.tell(share);
+                self.update(share);
                 Ok(self.core.doing(share.worker))
             }
             Err(refused) => Err(self.write(fault_of(refused.fault))),
@@ -294,7 +294,7 @@ impl<B: BlockName> Book<B> {
         self.ready(share, NextStep::MoveKey { call, incarnation })?;
         stm_state::dones_grow_at_done();
         self.core.move_key(share.worker);
-        self.tell(share);
+        self.update(share);
         Ok(self.core.doing(share.worker))
     }
 
@@ -316,7 +316,7 @@ impl<B: BlockName> Book<B> {
         self.ready(share, NextStep::FinishExecution { call, incarnation })?;
         stm_state::dones_grow_at_done();
         self.core.finish_execution(share.worker);
-        self.tell(share);
+        self.update(share);
         Ok(self.core.doing(share.worker))
     }
 
@@ -338,7 +338,7 @@ impl<B: BlockName> Book<B> {
         self.ready(share, NextStep::CheckRead { call, incarnation })?;
         stm_state::dones_grow_at_done();
         self.core.check_read(share.worker);
-        self.tell(share);
+        self.update(share);
         Ok(self.core.doing(share.worker))
     }
 
@@ -360,7 +360,7 @@ impl<B: BlockName> Book<B> {
         self.ready(share, NextStep::Decide { call, incarnation })?;
         stm_state::dones_grow_at_done();
         self.core.decide(share.worker);
-        self.tell(share);
+        self.update(share);
         Ok(self.core.doing(share.worker))
     }
 
@@ -382,7 +382,7 @@ impl<B: BlockName> Book<B> {
         self.ready(share, NextStep::MarkEstimate { call, incarnation })?;
         stm_state::dones_grow_at_done();
         self.core.mark_estimate(share.worker);
-        self.tell(share);
+        self.update(share);
         Ok(self.core.doing(share.worker))
     }
 
@@ -404,7 +404,7 @@ impl<B: BlockName> Book<B> {
         self.ready(share, NextStep::FinishAbort { call, incarnation })?;
         stm_state::dones_grow_at_done();
         self.core.finish_abort(share.worker);
-        self.tell(share);
+        self.update(share);
         Ok(self.core.doing(share.worker))
     }
 
@@ -437,9 +437,9 @@ impl<B: BlockName> Book<B> {
     }
 
     /// Copies the core's counts of a worker to its share.
-    fn tell(&self, share: &mut Share)
+    fn update(&self, share: &mut Share)
         requires { share.old.worker < length self.now.core.state.tasks }
-        ensures tells { Tells share.new self.now.core }
+        ensures agrees { AgreesWith share.new self.now.core }
         ensures worker { share.new.worker ≡ share.old.worker }
         ensures pass { share.new.pass ≡ share.old.pass }
     {

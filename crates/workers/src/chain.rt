@@ -48,7 +48,7 @@ pub struct Chain {
 }
 
 impl Executor {
-    ghost use Rattle.std.specs.Prelude.{◌≡◌, IfOk};
+    ghost use Rattle.std.specs.Prelude.{◌≡◌, ◌≤◌, IfOk};
     ghost use Rattle.rv_step.specs.Fold.{store_after};
     ghost use Rattle.workers.specs.Chain.{IsBlockAnswer, IsChain, calls_run, store_left};
 
@@ -103,6 +103,21 @@ impl Executor {
         let Ok(job) = Job::new(calls, store) else {
             unreachable!()
         };
+        self.run_next_job(rt, alloc, job, workers)
+    }
+
+    /// Runs the job of a block of a chain. Returns its answer and the storage that it leaves.
+    fn run_next_job<R: Threads + Wait + Sync>(
+        &mut self,
+        rt: &R,
+        alloc: Global,
+        job: Job,
+        workers: usize,
+    ) -> (Result<Vec<Receipt>, ChainFault>, Store)
+        requires { (1 ≤ workers) × (workers ≤ 32) }
+        ensures answer { IsBlockAnswer job.store job.block workers result.0 }
+        ensures left { result.1 ≡ store_left job.store job.block result.0 }
+    {
         let arena = mem::replace(&mut self.arena, Arena::new(alloc));
         let (answer, arena) = run_over::<Brand, R, Open>(rt, alloc, arena, &job, workers, &Open);
         self.arena = arena;

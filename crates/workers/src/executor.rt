@@ -4,7 +4,7 @@ ghost use Rattle.std.specs.Prelude.{◌≡◌, ◌≢◌, ◌≤◌, ◌⊎◌, 
 ghost use Rattle.rv_step.specs.Fold.{receipts_of, store_after};
 ghost use Rattle.stm_state.specs.Steps as steps;
 ghost use Rattle.workers.specs.DoneCell.{IsPassOf};
-ghost use Rattle.workers.specs.History.{HasHistory, HasLimit, HasOneWorkerCounts};
+ghost use Rattle.workers.specs.History.{HasHistory, HasLimit, AreOneWorkerCounts};
 ghost use Rattle.workers.specs.declared.fault.RunFault.TheVariants as faults;
 
 use crate::answer::settle;
@@ -35,7 +35,7 @@ impl Executor {
     ghost use Rattle.rv_step.specs.Fold.{receipts_of, store_after};
     ghost use Rattle.stm_state.specs.Steps as steps;
     ghost use Rattle.workers.specs.declared.fault.RunFault.TheVariants as faults;
-    ghost use Rattle.workers.specs.History.{HasHistory, HasLimit, HasOneWorkerCounts};
+    ghost use Rattle.workers.specs.History.{HasHistory, HasLimit, AreOneWorkerCounts};
 
     /// An executor whose arena has room for no record yet. Takes no memory.
     pub fn new(alloc: Global) -> Executor {
@@ -61,7 +61,7 @@ impl Executor {
         ensures receipts { IfOk result (λ o. o.receipts.items ≡ receipts_of job.block job.store) }
         ensures store { IfOk result (λ o. o.store ≡ store_after job.block job.store) }
         ensures history { IfOk result (λ o. HasHistory job workers o.counts.items) }
-        ensures one_worker { IfOk result (λ o. workers ≡ 1 → HasOneWorkerCounts (length job.block) o.counts.items) }
+        ensures one_worker { IfOk result (λ o. workers ≡ 1 → AreOneWorkerCounts (length job.block) o.counts.items) }
         ensures full { IfErr result (λ e. e ≡ faults.ArenaFull → HasLimit job steps.ArenaFull) }
         ensures limit { IfErr result (λ e. e ≡ faults.IncarnationLimit → HasLimit job steps.IncarnationLimit) }
     {
@@ -83,7 +83,7 @@ impl Executor {
         ensures receipts { IfOk result (λ o. o.receipts.items ≡ receipts_of job.block job.store) }
         ensures store { IfOk result (λ o. o.store ≡ store_after job.block job.store) }
         ensures history { IfOk result (λ o. HasHistory job workers o.counts.items) }
-        ensures one_worker { IfOk result (λ o. workers ≡ 1 → HasOneWorkerCounts (length job.block) o.counts.items) }
+        ensures one_worker { IfOk result (λ o. workers ≡ 1 → AreOneWorkerCounts (length job.block) o.counts.items) }
         ensures full { IfErr result (λ e. e ≡ faults.ArenaFull → HasLimit job steps.ArenaFull) }
         ensures limit { IfErr result (λ e. e ≡ faults.IncarnationLimit → HasLimit job steps.IncarnationLimit) }
     {
@@ -114,7 +114,7 @@ pub(crate) fn run_over<B: BlockName + Send + Sync, R: Threads + Wait + Sync, G: 
     ensures receipts { IfOk result.0 (λ o. o.receipts.items ≡ receipts_of job.now.block job.now.store) }
     ensures store { IfOk result.0 (λ o. o.store ≡ store_after job.now.block job.now.store) }
     ensures history { IfOk result.0 (λ o. HasHistory job.now workers o.counts.items) }
-    ensures one_worker { IfOk result.0 (λ o. workers ≡ 1 → HasOneWorkerCounts (length job.now.block) o.counts.items) }
+    ensures one_worker { IfOk result.0 (λ o. workers ≡ 1 → AreOneWorkerCounts (length job.now.block) o.counts.items) }
     ensures full { IfErr result.0 (λ e. e ≡ faults.ArenaFull → HasLimit job.now steps.ArenaFull) }
     ensures limit { IfErr result.0 (λ e. e ≡ faults.IncarnationLimit → HasLimit job.now steps.IncarnationLimit) }
     ensures arena { result.1.records ≡ [] }

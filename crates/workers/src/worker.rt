@@ -1,14 +1,17 @@
 //! What one thread does: it asks for work, runs calls outside the lock, and makes their steps under it.
 
-ghost use Rattle.std.specs.Prelude.{◌≡◌, ◌+◌, None, Some, IfOk, MatchOption, OnOk, slice_get};
+ghost use Rattle.std.specs.Prelude.{◌≡◌, ◌+◌, None, Some, true, IfOk, MatchOption, OnOk, slice_get};
 ghost use Rattle.crossbeam_utils.specs.Seq.{cell_view};
+ghost use Rattle.rv_step.specs.Run.{IsEnded};
+ghost use Rattle.rv_step.specs.declared.stage.Stage.TheVariants.{Asked};
 ghost use Rattle.workers.specs.DoneCell.{IsPassOf};
 
-use crate::book::BlockName;
+use crate::book::{BlockName, Book};
 use crate::fault::RunFault;
 use crate::gate::Gate;
 use crate::share::Share;
 use crate::shared::{OutsideFault, Shared};
+use rv_ledger::Key;
 use rv_step::{Pause, Run};
 use std::alloc::Global;
 use std::sync::Wait;
@@ -31,48 +34,87 @@ pub fn work<B: BlockName, R: Wait, G: Gate>(
     ensures shown { IfOk result (λ back. cell_view back.pass ≡ 1) }
 {
     let mut share = share;
+    make_steps(rt, alloc, shared, &mut share, gate)?;
+    Ok(share)
+}
+
+/// Makes the steps of a share's worker until an ask is answered Done. Refused as `work` is.
+fn make_steps<B: BlockName, R: Wait, G: Gate>(
+    rt: &R,
+    alloc: Global,
+    shared: &Shared<B>,
+    share: &mut Share,
+    gate: &G,
+) -> Result<(), RunFault>
+    requires cell { IsPassOf shared.now.cell share.old.pass }
+    ensures worker { OnOk result (share.new.worker ≡ share.old.worker) }
+    ensures dones { OnOk result (share.new.dones ≡ share.old.dones + 1) }
+    ensures shown { OnOk result (cell_view share.new.pass ≡ 1) }
+{
     let mut next = NextStep::Ask;
     for _ in rt.forever() {
-        next = match next {
-            NextStep::Ask => match ask(rt, shared, &mut share)? {
-                None => return Ok(share),
-                Some(next) => next,
-            },
-            NextStep::Run { call, incarnation } => {
-                run_call(rt, alloc, shared, &mut share, call, incarnation, gate)?
-            }
-            NextStep::Park { call, incarnation } => {
-                shared.lock.lock(rt).park(&mut share, call, incarnation)?
-            }
-            NextStep::MoveKey { call, incarnation } => {
-                shared
-                    .lock
-                    .lock(rt)
-                    .move_key(&mut share, call, incarnation)?
-            }
-            NextStep::FinishExecution { call, incarnation } => shared
-                .lock
-                .lock(rt)
-                .finish_execution(&mut share, call, incarnation)?,
-            NextStep::CheckRead { call, incarnation } => shared
-                .lock
-                .lock(rt)
-                .check_read(&mut share, call, incarnation)?,
-            NextStep::Decide { call, incarnation } => shared
-                .lock
-                .lock(rt)
-                .decide(&mut share, call, incarnation)?,
-            NextStep::MarkEstimate { call, incarnation } => shared
-                .lock
-                .lock(rt)
-                .mark_estimate(&mut share, call, incarnation)?,
-            NextStep::FinishAbort { call, incarnation } => shared
-                .lock
-                .lock(rt)
-                .finish_abort(&mut share, call, incarnation)?,
+        let Some(owed) = make_step(rt, alloc, shared, share, next, gate)? else {
+            return Ok(());
         };
+        next = owed;
     }
     unreachable!()
+}
+
+/// Makes a step that the worker owes, and returns the step that it owes then. Returns None where an ask is
+/// answered Done, and then the cell shows it.
+fn make_step<B: BlockName, R: Wait, G: Gate>(
+    rt: &R,
+    alloc: Global,
+    shared: &Shared<B>,
+    share: &mut Share,
+    step: NextStep,
+    gate: &G,
+) -> Result<Option<NextStep>, RunFault>
+    requires cell { IsPassOf shared.now.cell share.old.pass }
+    ensures cell { IsPassOf shared.now.cell share.new.pass }
+    ensures worker { share.new.worker ≡ share.old.worker }
+    ensures dones { IfOk result (λ next. MatchOption next (share.new.dones ≡ share.old.dones + 1) (λ _. share.new.dones ≡ share.old.dones)) }
+    ensures shown { IfOk result (λ next. next ≡ None → cell_view share.new.pass ≡ 1) }
+{
+    match step {
+        NextStep::Ask => ask(rt, shared, share),
+        NextStep::Run { call, incarnation } => {
+            let next = run_call(rt, alloc, shared, share, call, incarnation, gate)?;
+            Ok(Some(next))
+        }
+        _ => {
+            let next = make_task_step(&mut shared.lock.lock(rt), share, step)?;
+            Ok(Some(next))
+        }
+    }
+}
+
+/// Makes a step of a worker's task under the lock, and returns the step that the worker owes then. Refused as the
+/// step call is, and as Foreign for `ask` and the steps of a run, which are not made here.
+fn make_task_step<B: BlockName>(
+    book: &mut Book<B>,
+    share: &mut Share,
+    step: NextStep,
+) -> Result<NextStep, RunFault>
+    ensures worker { share.new.worker ≡ share.old.worker }
+    ensures pass { share.new.pass ≡ share.old.pass }
+    ensures dones { OnOk result (share.new.dones ≡ share.old.dones) }
+{
+    match step {
+        NextStep::Ask | NextStep::Run { .. } => Err(book.write(RunFault::Foreign)),
+        NextStep::Park { call, incarnation } => book.park(share, call, incarnation),
+        NextStep::MoveKey { call, incarnation } => book.move_key(share, call, incarnation),
+        NextStep::FinishExecution { call, incarnation } => {
+            book.finish_execution(share, call, incarnation)
+        }
+        NextStep::CheckRead { call, incarnation } => book.check_read(share, call, incarnation),
+        NextStep::Decide { call, incarnation } => book.decide(share, call, incarnation),
+        NextStep::MarkEstimate { call, incarnation } => {
+            book.mark_estimate(share, call, incarnation)
+        }
+        NextStep::FinishAbort { call, incarnation } => book.finish_abort(share, call, incarnation),
+    }
 }
 
 /// Asks for work, and returns the step that the worker owes then. Returns None where all is done, and then
@@ -113,27 +155,91 @@ fn run_call<B: BlockName, R: Wait, G: Gate>(
     ensures dones { OnOk result (share.new.dones ≡ share.old.dones) }
 {
     let mut run = start(rt, alloc, shared, call)?;
-    for _ in rt.forever() {
-        let Ok(pause) = run.go() else {
-            return Err(shared.refuse(rt, OutsideFault::Memory));
-        };
-        let Pause::Ask(key) = pause else {
-            break;
-        };
-        let answer = shared.lock.lock(rt).read(share, call, incarnation, &key)?;
-        let ReadResult::Given(value, origin) = answer else {
-            return Ok(NextStep::Park { call, incarnation });
-        };
-        if run.answer(value.as_ref(), origin).is_err() {
-            return Err(shared.refuse(rt, OutsideFault::Memory));
-        }
+    match run_to_end(rt, shared, share, call, incarnation, &mut run) {
+        Ok(true) => record(rt, alloc, shared, share, call, incarnation, gate, run),
+        Ok(false) => Ok(NextStep::Park { call, incarnation }),
+        Err(fault) => Err(fault),
     }
+}
+
+/// Passes the gate, and hands in a call's ended run. Returns the step that the worker owes then.
+fn record<B: BlockName, R: Wait, G: Gate>(
+    rt: &R,
+    alloc: Global,
+    shared: &Shared<B>,
+    share: &mut Share,
+    call: u16,
+    incarnation: u16,
+    gate: &G,
+    run: Run,
+) -> Result<NextStep, RunFault>
+    requires ended { IsEnded run.stage }
+    requires call { slice_get shared.now.block call ≡ Some run.call }
+    ensures worker { share.new.worker ≡ share.old.worker }
+    ensures pass { share.new.pass ≡ share.old.pass }
+    ensures dones { OnOk result (share.new.dones ≡ share.old.dones) }
+{
     gate.held(share.worker);
     let ended = run.finish();
     shared
         .lock
         .lock(rt)
         .record_known(alloc, share, call, incarnation, ended, shared.known)
+}
+
+/// Takes a call's run on to its end. Returns false where it meets an estimate before that.
+fn run_to_end<B: BlockName, R: Wait>(
+    rt: &R,
+    shared: &Shared<B>,
+    share: &mut Share,
+    call: u16,
+    incarnation: u16,
+    run: &mut Run,
+) -> Result<bool, RunFault>
+    ensures call { run.new.call ≡ run.old.call }
+    ensures ended { IfOk result (λ ended. ended ≡ true → IsEnded run.new.stage) }
+    ensures worker { share.new.worker ≡ share.old.worker }
+    ensures pass { share.new.pass ≡ share.old.pass }
+    ensures dones { OnOk result (share.new.dones ≡ share.old.dones) }
+{
+    for _ in rt.forever() {
+        let Ok(pause) = run.go() else {
+            return Err(shared.refuse(rt, OutsideFault::Memory));
+        };
+        let Pause::Ask(key) = pause else {
+            return Ok(true);
+        };
+        if !read(rt, shared, share, call, incarnation, run, &key)? {
+            return Ok(false);
+        }
+    }
+    unreachable!()
+}
+
+/// Reads the key that a call's run asks for, and answers the run. Returns false where the read meets an estimate.
+fn read<B: BlockName, R: Wait>(
+    rt: &R,
+    shared: &Shared<B>,
+    share: &mut Share,
+    call: u16,
+    incarnation: u16,
+    run: &mut Run,
+    key: &Key,
+) -> Result<bool, RunFault>
+    requires { run.old.stage ≡ Asked key.now }
+    ensures call { run.new.call ≡ run.old.call }
+    ensures worker { share.new.worker ≡ share.old.worker }
+    ensures pass { share.new.pass ≡ share.old.pass }
+    ensures dones { OnOk result (share.new.dones ≡ share.old.dones) }
+{
+    let answer = shared.lock.lock(rt).read(share, call, incarnation, key)?;
+    let ReadResult::Given(value, origin) = answer else {
+        return Ok(false);
+    };
+    match run.answer(value.as_ref(), origin) {
+        Ok(()) => Ok(true),
+        Err(_) => Err(shared.refuse(rt, OutsideFault::Memory)),
+    }
 }
 
 /// A run of a call of the block, before its first instruction.

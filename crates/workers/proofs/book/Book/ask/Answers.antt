@@ -1,7 +1,7 @@
 use Rattle.std.proofs.Common.{◌≡◌, sym, ap, subst, ◌∙◌, inl, inr}
 use Rattle.stm_state.specs.State.{is_done, task_at}
 use Rattle.stm_core.specs.CoreState.{CoreState, next_step_of}
-use Rattle.workers.specs.Book.{BookState, IsAsked, Tells}
+use Rattle.workers.specs.Book.{BookState, IsAsked, AgreesWith}
 use Rattle.workers.proofs.AskResults.{done_where_answered, not_done_where_answered, one_done_more, no_done_more}
 use Rattle.workers.proofs.book.Book.ask.Goals as goal
 use Rattle.workers.proofs.book.Book.ask.Goals.{in-Done, in-Nothing}
@@ -16,18 +16,18 @@ returns-clause-asked g c =
     let new = c.ask-answer.new.self in
     let task = task_at new.state w in
     let same : old ≡ b.core = ap (λ (x : BookState). x.core) (c.self.view_is ∙ ready.3) in
-    let counted : Tells c.args.share.now old = subst (λ (x : CoreState). Tells c.args.share.now x) (sym same) ready.0.tells in
+    let counted : AgreesWith c.args.share.now old = subst (λ (x : CoreState). AgreesWith c.args.share.now x) (sym same) ready.0.agrees in
     let before : is_done old.state ≡ is_done b.core.state = ap (λ (x : CoreState). is_done x.state) same in
     elim c.match-answer.branch [
       | in-Done x ↦ (
           let done = done_where_answered (is_done old.state) task (sym x.in-Done.is ∙ made.answer) in
-          subst (λ r. IsAsked r b.core new c.args.share.now c.tell.new.share) (sym x.result-is)
-          (sym before ∙ done, one_done_more c.dones_grow_at_done.ensures.askings old new c.args.share.now c.tell.new.share made.makes c.holds.ensures.invariant counted c.tell.ensures.tells c.tell.ensures.worker done))
+          subst (λ r. IsAsked r b.core new c.args.share.now c.update.new.share) (sym x.result-is)
+          (sym before ∙ done, one_done_more c.dones_grow_at_done.ensures.askings old new c.args.share.now c.update.new.share made.makes c.holds.ensures.invariant counted c.update.ensures.agrees c.update.ensures.worker done))
       | in-Nothing x ↦ (
           let not = not_done_where_answered (is_done old.state) task c.ask-answer.result made.answer (λ e. elim x.in-Nothing.is [ inl n ↦ cc | inr n ↦ cc ]) in
-          subst (λ r. IsAsked r b.core new c.args.share.now c.tell.new.share) (sym x.result-is) (
+          subst (λ r. IsAsked r b.core new c.args.share.now c.update.new.share) (sym x.result-is) (
             sym before ∙ not,
-            no_done_more c.dones_grow_at_done.ensures.askings old new c.args.share.now c.tell.new.share made.makes c.holds.ensures.invariant counted c.tell.ensures.tells c.tell.ensures.worker not,
-            subst (λ v. x.doing.result ≡ next_step_of new.state (task_at new.state v)) c.tell.ensures.worker x.doing.ensures.doing,
+            no_done_more c.dones_grow_at_done.ensures.askings old new c.args.share.now c.update.new.share made.makes c.holds.ensures.invariant counted c.update.ensures.agrees c.update.ensures.worker not,
+            subst (λ v. x.doing.result ≡ next_step_of new.state (task_at new.state v)) c.update.ensures.worker x.doing.ensures.doing,
           ))
     ]

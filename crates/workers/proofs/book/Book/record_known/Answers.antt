@@ -14,7 +14,7 @@ write-requires g c =
     let w = c.args.share.now.worker in
     let ready = c.in_ok-ready.ensures.ready in
     let same : b ≡ c.args.self.now.core = ap (λ (x : BookState). x.core) (c.self.view_is ∙ ready.3) in
-    let within : w < length b.state.tasks = subst (λ (x : CoreState). w < length x.state.tasks) (sym same) ready.0.tells.within in
+    let within : w < length b.state.tasks = subst (λ (x : CoreState). w < length x.state.tasks) (sym same) ready.0.agrees.within in
     let handed : IsHandedIn w c.args.run b c.if-known.self-inside.core c.if-known.recorded = elim c.if-known.branch [
       | then-known+then-self x ↦ (let said = x.record_known-recorded.ensures in handed_in w c.args.run b x.record_known-recorded.new.self c.if-known.self-inside.core x.record_known-recorded.result c.if-known.recorded x.recorded-is (ap (λ s. s.core) x.self-inside-is)
           (record { own = said.own; full = said.full; limit = said.limit; memory = said.memory; back = said.back }))

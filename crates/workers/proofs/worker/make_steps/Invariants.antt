@@ -1,6 +1,6 @@
 use Rattle.std.proofs.Common.{◌≡◌}
 use Rattle.workers.specs.DoneCell.{IsPassOf}
-use Rattle.workers.proofs.worker.work.Given as goal
+use Rattle.workers.proofs.worker.make_steps.Given as goal
 
 abbrev pub invariant-loop : goal.invariant-loop
 invariant-loop g l =

@@ -1,8 +1,8 @@
-use Rattle.std.proofs.Common.{◌≡◌, Some, slice_get}
-use Rattle.workers.proofs.worker.run_call.Given as goal
+use Rattle.std.proofs.Common.{◌≡◌}
+use Rattle.workers.proofs.worker.run_to_end.Given as goal
 
 abbrev pub invariant-loop : goal.invariant-loop
 invariant-loop g l =
     (goal.iterator-loop g).can_next l.iterator' × (goal.iterator-loop g).is_finite l.iterator'
     × (l.share.worker ≡ l.fn.share.worker) × (l.share.pass ≡ l.fn.share.pass) × (l.share.dones ≡ l.fn.share.dones)
-    × (slice_get l.shared.block l.call ≡ Some l.run.call)
+    × (l.run.call ≡ l.fn.run.call)
