@@ -46,8 +46,13 @@ fn debug<R: Read, W: Write>(
 /// What a session over the echo prints.
 fn printed(alloc: Global, lines: &str) -> Result<Vec<u8>, Fail> {
     let mut replay = echo(alloc)?;
+    Ok(printed_over(alloc, &mut replay, lines)?)
+}
+
+/// What a session over a replay prints.
+fn printed_over(alloc: Global, replay: &mut Replay, lines: &str) -> Result<Vec<u8>, DebugFault> {
     let mut text = Vec::new(alloc);
-    debug(alloc, &mut replay, &mut lines.as_bytes(), &mut text)?;
+    debug(alloc, replay, &mut lines.as_bytes(), &mut text)?;
     Ok(text)
 }
 
@@ -240,15 +245,23 @@ fn assert_count(
     assert_counts(rt, &mut replay, count)
 }
 
+/// Asserts that the replays of three calls read 0, 1 and 2.
+fn assert_three_counts(
+    rt: &impl Abort,
+    alloc: Global,
+    outcome: &Outcome,
+) -> Result<(), ReplayFault> {
+    assert_count(rt, alloc, outcome, 0, 0)?;
+    assert_count(rt, alloc, outcome, 1, 1)?;
+    assert_count(rt, alloc, outcome, 2, 2)
+}
+
 /// Each of three counts of one key reads what the one before it wrote, and not what the last one wrote.
 #[test]
 fn a_call_is_replayed_over_the_storage_before_it(rt: HostRuntime) -> Result<(), Fail> {
     let key = [0xaa; 32];
     let outcome = outcome_of(rt.alloc(), COUNT, &[&key, &key, &key])?;
-    assert_count(&rt, rt.alloc(), &outcome, 0, 0)?;
-    assert_count(&rt, rt.alloc(), &outcome, 1, 1)?;
-    assert_count(&rt, rt.alloc(), &outcome, 2, 2)?;
-    Ok(())
+    Ok(assert_three_counts(&rt, rt.alloc(), &outcome)?)
 }
 
 /// The lines of a session of which a read or a write fails, each of two bytes.

@@ -272,7 +272,7 @@ fn assert_wrong_line<R: Threads + Wait + Sync + Abort>(
 }
 
 #[test]
-fn wrong_lines_are_told(rt: HostRuntime) -> Result<(), Fail> {
+fn wrong_lines_are_refused(rt: HostRuntime) -> Result<(), Fail> {
     for (line, piece) in WRONG_LINES {
         assert_wrong_line(&rt, rt.alloc(), line, piece)?;
     }
@@ -373,7 +373,7 @@ fn assert_failed(rt: &impl Abort, status: u8, errors: &[u8], error: &str, line: 
 }
 
 #[test]
-fn a_failing_output_is_told(rt: HostRuntime) -> Result<(), Fail> {
+fn a_failing_output_is_reported(rt: HostRuntime) -> Result<(), Fail> {
     for (fails, error) in [
         (true, "rvstm: output Io 1\n"),
         (false, "rvstm: output WroteNothing 2\n"),

@@ -350,14 +350,34 @@ fn outcome_from<R: Wait + Abort>(
     Ok(settled(alloc, shared, back, job)?)
 }
 
+/// The text of a job of which the given one of three workers works first.
+fn text_from<R: Wait + Abort>(
+    rt: &R,
+    alloc: Global,
+    job: &Job,
+    first: usize,
+) -> Result<String, Fail> {
+    let outcome = outcome_from(rt, alloc, job, first)?;
+    Ok(text_of(alloc, &outcome)?)
+}
+
+/// Asserts that the text of a job of which the given one of three workers works first is that in order.
+fn assert_text_from<R: Wait + Abort>(
+    rt: &R,
+    alloc: Global,
+    job: &Job,
+    first: usize,
+) -> Result<(), Fail> {
+    let wanted = text_in_order(alloc, job)?;
+    let text = text_from(rt, alloc, job, first)?;
+    assert_text(rt, text.as_str(), wanted.as_str(), "three echoes");
+    Ok(())
+}
+
 /// Asserts that one worker of three does all the work of three echoes, and that the text is that in order.
 fn assert_alone<R: Wait + Abort>(rt: &R, alloc: Global, first: usize) -> Result<(), Fail> {
     let job = job_of(alloc, &[ECHO], THREE_ECHOES)?;
-    let wanted = text_in_order(alloc, &job)?;
-    let outcome = outcome_from(rt, alloc, &job, first)?;
-    let text = text_of(alloc, &outcome)?;
-    assert_text(rt, text.as_str(), wanted.as_str(), "three echoes");
-    Ok(())
+    assert_text_from(rt, alloc, &job, first)
 }
 
 /// One worker of three does all the work of three echoes, then the others ask once each.
@@ -433,7 +453,12 @@ fn text_at_gate<R: Threads + Wait + Sync>(
     gate: &Meeting,
 ) -> Result<String, Fail> {
     let job = job_of(alloc, &[ECHO], TWO_ECHOES)?;
-    let outcome = executor.run_block_with(rt, alloc, job, 2, gate)?;
+    text_of_answer(alloc, executor.run_block_with(rt, alloc, job, 2, gate))
+}
+
+/// The text of an outcome; refused where the run was refused, and where memory ran out.
+fn text_of_answer(alloc: Global, answer: Result<Outcome, RunFault>) -> Result<String, Fail> {
+    let outcome = answer?;
     Ok(text_of(alloc, &outcome)?)
 }
 

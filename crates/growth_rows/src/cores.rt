@@ -1,6 +1,6 @@
 //! The steps of a core's workers, made one by one along a list of worker numbers.
 
-ghost use Rattle.std.specs.Prelude.{◌≡◌, ◌<◌, None, length, get_or};
+ghost use Rattle.std.specs.Prelude.{◌≡◌, ◌<◌, ◌≤◌, None, OnOk, length, get_or};
 ghost use Rattle.rv_step.specs.Run.{IsEnded};
 ghost use Rattle.rv_step.specs.declared.stage.Stage.TheVariants.{Asked};
 ghost use Rattle.stm_state.specs.State.{no_counts, task_at};
@@ -113,8 +113,23 @@ fn run_on(
     }
 }
 
-/// Reads the key that a worker's run asks for. Where room for the answer is refused, the core answers as before, and
-/// the second try makes it. Gives the run with its answer, unless it met an estimate.
+/// Makes room for an answer to a worker's run. Where that is refused, the core answers as before, and the second try
+/// makes it.
+fn make_room(rt: &impl Abort, core: &mut Core, worker: usize) -> Result<(), AllocError>
+    requires { worker < length core.old.state.tasks }
+    ensures room { OnOk result (1 ≤ get_or core.new.rooms worker 0) }
+    ensures job { core.new.job ≡ core.old.job }
+    ensures state { core.new.state ≡ core.old.state }
+{
+    let before = answers_of_all(core);
+    if core.room_for_read(worker).is_err() {
+        assert!(rt; answers_of_all(core) == before);
+        core.room_for_read(worker)?;
+    }
+    Ok(())
+}
+
+/// Reads the key that a worker's run asks for. Gives the run with its answer, unless it met an estimate.
 fn read(
     rt: &impl Abort,
     core: &mut Core,
@@ -125,11 +140,7 @@ fn read(
     requires due { IsDue worker (Read_key key.now) core.old }
     requires asked { run.stage ≡ Asked key.now }
 {
-    let before = answers_of_all(core);
-    if core.room_for_read(worker).is_err() {
-        assert!(rt; answers_of_all(core) == before);
-        core.room_for_read(worker)?;
-    }
+    make_room(rt, core, worker)?;
     match core.read(worker, key) {
         ReadResult::Given(value, origin) => {
             answer(&mut run, value.as_ref(), origin)?;
@@ -187,17 +198,23 @@ fn outcome_of(rt: &impl Abort, alloc: Global, core: &Core) -> Result<Outcome, Al
 fn outcome_after(
     rt: &impl Abort,
     alloc: Global,
-    mut core: Core,
+    core: &mut Core,
     schedule: &[u16],
 ) -> Result<Outcome, Fail> {
-    follow(rt, alloc, &mut core, schedule)?;
-    Ok(outcome_of(rt, alloc, &core)?)
+    follow(rt, alloc, core, schedule)?;
+    Ok(outcome_of(rt, alloc, core)?)
+}
+
+/// The outcome of a core after the steps of a row.
+fn outcome_of_row(rt: &impl Abort, alloc: Global, row: &Row) -> Result<Outcome, Fail> {
+    let job = job_of(alloc, row.calls)?;
+    let mut core = start(alloc, &job)?;
+    outcome_after(rt, alloc, &mut core, row.schedule)
 }
 
 /// Asserts that a core comes to a row's outcome.
 fn assert_row(rt: &impl Abort, alloc: Global, row: &Row) -> Result<(), Fail> {
-    let job = job_of(alloc, row.calls)?;
-    let outcome = outcome_after(rt, alloc, start(alloc, &job)?, row.schedule)?;
+    let outcome = outcome_of_row(rt, alloc, row)?;
     assert_text(rt, alloc, &outcome, row.text)?;
     Ok(())
 }

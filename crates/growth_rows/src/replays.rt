@@ -64,7 +64,11 @@ fn back(rt: &impl Abort, replay: &mut Replay) -> Result<(), ReplayFault> {
 #[test]
 fn replay_growths_refused(rt: HostRuntime) -> Result<(), Fail> {
     let mut replay = replay_of(rt.alloc())?;
-    run_to_last(&rt, &mut replay)?;
-    back(&rt, &mut replay)?;
-    Ok(())
+    Ok(go_and_come_back(&rt, &mut replay)?)
+}
+
+/// Takes a replay of TOUCH to its last instruction, and then one moment back.
+fn go_and_come_back(rt: &impl Abort, replay: &mut Replay) -> Result<(), ReplayFault> {
+    run_to_last(rt, replay)?;
+    back(rt, replay)
 }
