@@ -91,7 +91,7 @@ pub(crate) fn behind(text: &[u8], byte: u8) -> &[u8]
 pub(crate) fn has(text: &[u8], byte: u8) -> bool
     ensures { result ≡ list_any (λ b. b == byte) text.now }
 {
-    text.iter().any(|b| *b == byte)
+    text.contains(&byte)
 }
 
 /// The first of several operands, and the text of the others; BadOperand where there is no comma.

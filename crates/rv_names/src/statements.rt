@@ -4,7 +4,6 @@ ghost use Rattle.std.specs.Prelude.{◌≡◌, ◌<◌};
 ghost use Rattle.std.specs.Result.{result_map_both};
 ghost use Rattle.rv_names.specs.Shown.{line_map, target_map};
 ghost use Rattle.rv_names.specs.Statements.{load_upper, add_upper, jump_to, jump_and_link, jump_register, branch_to, branching, loading, storing, on_immediate, on_amount, on_registers, alone, move_register, jump, load_target, load_constant, only_number, word_statement, byte_statement, zero_statement, full_fence, no_operation, return_jump, shaped, is_data, may_stand_in, statement_of};
-ghost use Rattle.rv_names.specs.declared.lines.Statement.TheVariants.{Plain, Enter};
 ghost use Rattle.rv_isa.specs.Decoding.{register_at, immediate_at};
 
 use crate::operands::{
@@ -230,20 +229,12 @@ fn on_registers(operation: Operation, rest: &[u8]) -> Result<Line<&[u8]>, Cause>
     })))
 }
 
-/// An instruction without operands; BadOperand where there are any.
-fn alone(instr: Instr, rest: &[u8]) -> Result<Line<&[u8]>, Cause>
-    ensures { result_map_both (line_map (λ label. label.now)) (λ cause. cause) result ≡ alone (Plain instr) rest.now }
+/// A statement without operands; BadOperand where there are any.
+fn alone(statement: Statement, rest: &[u8]) -> Result<Line<&[u8]>, Cause>
+    ensures { result_map_both (line_map (λ label. label.now)) (λ cause. cause) result ≡ alone statement rest.now }
 {
     no_operand(rest)?;
-    Ok(Line::saying(Statement::Plain(instr)))
-}
-
-/// `.text` and `.data`
-fn enter(section: Section, rest: &[u8]) -> Result<Line<&[u8]>, Cause>
-    ensures { result_map_both (line_map (λ label. label.now)) (λ cause. cause) result ≡ alone (Enter section) rest.now }
-{
-    no_operand(rest)?;
-    Ok(Line::saying(Statement::Enter(section)))
+    Ok(Line::saying(statement))
 }
 
 /// `mv rd,rs`, which is `addi rd,rs,0`
@@ -378,16 +369,16 @@ fn shaped(shape: Shape, rest: &[u8]) -> Result<Line<&[u8]>, Cause>
         Shape::OnImmediate(operation) => on_immediate(operation, rest),
         Shape::OnAmount(shift) => on_amount(shift, rest),
         Shape::OnRegisters(operation) => on_registers(operation, rest),
-        Shape::Barrier => alone(barrier(), rest),
-        Shape::Call => alone(Instr::Ecall, rest),
-        Shape::Break => alone(Instr::Ebreak, rest),
-        Shape::Nothing => alone(no_operation(), rest),
+        Shape::Barrier => alone(Statement::Plain(barrier()), rest),
+        Shape::Call => alone(Statement::Plain(Instr::Ecall), rest),
+        Shape::Break => alone(Statement::Plain(Instr::Ebreak), rest),
+        Shape::Nothing => alone(Statement::Plain(no_operation()), rest),
         Shape::Move => move_register(rest),
         Shape::Jump => jump(rest),
-        Shape::Return => alone(return_jump(), rest),
+        Shape::Return => alone(Statement::Plain(return_jump()), rest),
         Shape::LoadConstant => load_constant(rest),
-        Shape::TextSection => enter(Section::Text, rest),
-        Shape::DataSection => enter(Section::Data, rest),
+        Shape::TextSection => alone(Statement::Enter(Section::Text), rest),
+        Shape::DataSection => alone(Statement::Enter(Section::Data), rest),
         Shape::WordDirective => word_statement(rest),
         Shape::ByteDirective => byte_statement(rest),
         Shape::ZeroDirective => zero_statement(rest),

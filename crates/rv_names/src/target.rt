@@ -1,7 +1,6 @@
 //! Where a branch or jump goes, and what `li` loads.
 
 /// A number, or the name of a label.
-#[derive(Clone, Copy, Debug, PartialEq, Eq)]
 pub enum Target<N> {
     Number(i64),
     Label(N),
