@@ -31,14 +31,14 @@ pub(crate) fn seek<'a>(slots: &'a Slots, arena: &'a Arena, key: &Key, i: u16) ->
 }
 
 /// The answer that a record of a call gives: its version, with its content.
-fn found<'a>(writer: u16, record: Record<'a>) -> Answer<'a>
-    requires { IfSome record.content (λ bytes. length bytes.now ≤ VALUE_LIMIT) }
-    ensures seen { visible_of result ≡ Found writer record.entry.incarnation (option_copied record.entry.content) }
+fn found<'a>(writer: u16, version_record: Record<'a>) -> Answer<'a>
+    requires { IfSome version_record.content (λ bytes. length bytes.now ≤ VALUE_LIMIT) }
+    ensures seen { visible_of result ≡ Found writer version_record.entry.incarnation (option_copied version_record.entry.content) }
     ensures short { IsShort VALUE_LIMIT result }
 {
     let version = Version {
         writer,
-        incarnation: record.incarnation,
+        incarnation: version_record.incarnation,
     };
-    Answer::Found(version, record.content)
+    Answer::Found(version, version_record.content)
 }
