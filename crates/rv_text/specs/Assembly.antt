@@ -186,7 +186,7 @@ program_from (Err fault) = Err fault
 unfoldable pub assembled : List ℕ → Result Sections AsmError
 assembled source = program_from (layout_from 1 (slice_split (λ b. b == 10) source) empty_layout)
 
--- a call answers what is wanted, or Memory, which may be answered for any source
+-- a call answers what is wanted, or Memory on line 1, which may be answered for any source
 abbrev pub Gives : Result Sections AsmError → Result Sections AsmError → Type 0
 Gives (Ok program) want = want ≡ Ok program
-Gives (Err fault) want = (fault.cause ≡ Memory) ⊎ (want ≡ Err fault)
+Gives (Err fault) want = ((fault.cause ≡ Memory) × (fault.line ≡ 1)) ⊎ (want ≡ Err fault)

@@ -1,6 +1,6 @@
 //! The program that a source stands for.
 
-ghost use Rattle.std.specs.Prelude.{◌≡◌, ◌==◌, map, IfOk};
+ghost use Rattle.std.specs.Prelude.{◌≡◌, ◌≢◌, ◌==◌, map, IfOk};
 ghost use Rattle.std.specs.List.{slice_split};
 ghost use Rattle.rv_text.specs.Assembly.{Gives, empty_layout, layout_from, program_of, assembled};
 ghost use Rattle.rv_text.specs.Answer.{Reads};
@@ -38,7 +38,7 @@ fn lay_out<'a>(alloc: Global, lines: &[&'a [u8]]) -> Result<Layout<'a>, AsmError
 
 /// The program of what was laid down, or the first fault of a label, of the causes 4 and 6.
 fn program(alloc: Global, layout: Layout<'_>) -> Result<Program, AsmError>
-    ensures { Gives result (program_of (layout_of layout.entry)) }
+    ensures { Reads (λ program. program) result (program_of (layout_of layout.entry)) }
 {
     let text = words_of(alloc, &layout.labels, layout.items.as_slice())?;
     match Program::new(text, layout.data_bytes) {
@@ -49,10 +49,34 @@ fn program(alloc: Global, layout: Layout<'_>) -> Result<Program, AsmError>
 
 /// The program that a source stands for, or its first fault, with its line. Of the causes 1, 2, 3, 5 and 7
 /// the one on the least line is answered, and on that line the one with the least number. Where none of
-/// these holds, 4 and 6 are answered in the same way. `Memory` may be answered for any source.
-#[tactic(auto, unfolding(crate::specs::Assembly::assembled))]
+/// these holds, 4 and 6 are answered in the same way. `Memory` may be answered for any source, and has line 1.
 pub fn assemble(alloc: Global, source: &str) -> Result<Program, AsmError>
     ensures { Gives result (assembled source.now) }
+{
+    match program_or_fault(alloc, source) {
+        Ok(program) => Ok(program),
+        Err(fault) => Err(told(fault)),
+    }
+}
+
+/// A fault as it is told: `Memory` has line 1.
+fn told(fault: AsmError) -> AsmError
+    ensures memory { fault.cause ≡ AsmCause.Memory → result ≡ record { line = 1; cause = AsmCause.Memory } }
+    ensures other { fault.cause ≢ AsmCause.Memory → result ≡ fault }
+{
+    match fault.cause {
+        AsmCause::Memory => AsmError {
+            line: 1,
+            cause: AsmCause::Memory,
+        },
+        _ => fault,
+    }
+}
+
+/// The program that a source stands for, or its first fault, as in `assemble`; `Memory` may have any line.
+#[tactic(auto, unfolding(crate::specs::Assembly::assembled))]
+fn program_or_fault(alloc: Global, source: &str) -> Result<Program, AsmError>
+    ensures { Reads (λ program. program) result (assembled source.now) }
 {
     match lines(alloc, source.as_bytes()) {
         Ok(lines) => program(alloc, lay_out(alloc, lines.as_slice())?),

@@ -86,7 +86,7 @@ impl From<Cause> for AsmCause {
 /// way.
 #[derive(Clone, Copy, Debug, PartialEq, Eq)]
 pub struct AsmError {
-    /// The number of the line, counted from 1. Where memory ran out it may be any line.
+    /// The number of the line, counted from 1. Where memory ran out it is 1.
     pub line: usize,
     /// What is wrong with it.
     pub cause: AsmCause,
