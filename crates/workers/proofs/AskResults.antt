@@ -9,7 +9,7 @@ use Rattle.stm_state.specs.Dones.{DonesGrowAtDone}
 use Rattle.stm_core.specs.CoreState.{CoreState, Makes, ask_result_of, block_in}
 use Rattle.stm_core.specs.declared.next_step.AskResult.{AskResult}
 use Rattle.stm_core.specs.declared.next_step.AskResult.TheVariants as ask_result
-use Rattle.workers.specs.declared.share.Share.{Share}
+use Rattle.workers.specs.declared.book.share.Share.{Share}
 use Rattle.workers.specs.Book.{AgreesWith}
 
 -- an asking is answered Done just where all was done

@@ -1,5 +1,5 @@
 -- Why a step call is refused before its step is tried.
-use Rattle.std.proofs.Common.{◌≡◌, ◌≢◌, ◌<◌, ◌↔◌, ℕ, Option, None, Some, Result, Err, IfErr, length, refl, sym, subst}
+use Rattle.std.proofs.Common.{◌≡◌, ◌≢◌, ◌<◌, ◌↔◌, ℕ, Option, None, Some, Result, Err, IfErr, length, refl, sym, subst, inl, inr}
 use Rattle.stm_state.specs.Steps.{Step, Record}
 use Rattle.stm_state.specs.Steps as steps
 use Rattle.rv_step.specs.declared.ended_run.EndedRun.{EndedRun}
@@ -8,16 +8,16 @@ use Rattle.stm_core.specs.declared.fault.RecordFault.{RecordFault}
 use Rattle.stm_core.specs.declared.fault.Refused.{Refused}
 use Rattle.stm_core.specs.declared.fault.RecordFault.TheVariants as record_faults
 use Rattle.stm_core.specs.declared.next_step.NextStep.{NextStep}
-use Rattle.workers.specs.declared.share.Share.{Share}
+use Rattle.workers.specs.declared.book.share.Share.{Share}
 use Rattle.workers.specs.declared.fault.RunFault.{RunFault}
 use Rattle.workers.specs.declared.fault.RunFault.TheVariants as faults
-use Rattle.workers.specs.Book.{BookState, Owes, IsUnready, IsCause, IsCauseAfter, MayWrite, fault_of}
+use Rattle.workers.specs.Book.{BookState, Owes, IsUnready, IsCause, IsCauseAfter, MayCount, MayWrite, fault_of}
 
 cause_after : (first : Option RunFault) (next : NextStep) (share : Share) (b : CoreState) (Own : Type 0) (Wants : Type 0) (step : Step) (fault : RunFault)
     → IsUnready first next share b fault → IsCauseAfter first (Owes next share b) Own Wants step share.worker b fault
 cause_after (Some first) next share b Own Wants step fault h = h
 cause_after None next share b Own Wants step faults.BadCount h = h
-cause_after None next share b Own Wants step faults.Foreign h = λ fits. h fits.0
+cause_after None next share b Own Wants step faults.Foreign h = inl h
 cause_after None next share b Own Wants step faults.ArenaFull h = absurd h
 cause_after None next share b Own Wants step faults.IncarnationLimit h = absurd h
 cause_after None next share b Own Wants step faults.Memory h = absurd h
@@ -34,15 +34,16 @@ unready_cause next share b Own Wants step fault h = cause_after b.fault next sha
 module _ (w : ℕ) (run : EndedRun) (b : CoreState) (f : RecordFault)
     (own : (f ≢ record_faults.Foreign) ↔ IsOwn w run b) (full : f ≡ record_faults.ArenaFull → IsRefused w Record steps.ArenaFull b)
     (limit : f ≡ record_faults.IncarnationLimit → IsRefused w Record steps.IncarnationLimit b) (memory : f ≡ record_faults.Memory → IsTaken w Record b) where
-  cause_by : (g : RecordFault) → f ≡ g → (Owed : Type 0) → IsCauseAfter None Owed (IsOwn w run b) (IsTaken w Record b) Record w b (fault_of g)
-  cause_by record_faults.Foreign e Owed = λ fits. own.1 fits.1 e
-  cause_by record_faults.ArenaFull e Owed = full e
-  cause_by record_faults.IncarnationLimit e Owed = limit e
-  cause_by record_faults.Memory e Owed = memory e
+  module _ (Owed : Type 0) (owed : Owed) (may : MayCount w b) where
+    cause_by : (g : RecordFault) → f ≡ g → IsCauseAfter None Owed (IsOwn w run b) (IsTaken w Record b) Record w b (fault_of g)
+    cause_by record_faults.Foreign e = inr (owed, may, λ fits. own.1 fits e)
+    cause_by record_faults.ArenaFull e = (owed, may, own.0 (λ k. cc), full e)
+    cause_by record_faults.IncarnationLimit e = (owed, may, own.0 (λ k. cc), limit e)
+    cause_by record_faults.Memory e = (owed, may, own.0 (λ k. cc), memory e)
 
-  -- it is a cause
-  pub record_cause : (Owed : Type 0) → IsCauseAfter None Owed (IsOwn w run b) (IsTaken w Record b) Record w b (fault_of f)
-  record_cause Owed = cause_by f refl Owed
+    -- it is a cause
+    pub record_cause : IsCauseAfter None Owed (IsOwn w run b) (IsTaken w Record b) Record w b (fault_of f)
+    record_cause = cause_by f refl
 
   may_write_by : (g : RecordFault) → f ≡ g → w < length b.state.tasks → MayWrite (fault_of g) b
   may_write_by record_faults.Foreign e within = tt
@@ -73,8 +74,8 @@ module _ (w : ℕ) (run : EndedRun) (b after : CoreState) (answer : Result Unit 
   said = subst (IsHandedIn w run b after) is h
 
   -- its refusal is a cause
-  pub refusal_cause : (Owed : Type 0) → IsCauseAfter None Owed (IsOwn w run b) (IsTaken w Record b) Record w b (fault_of refused.fault)
-  refusal_cause Owed = record_cause w run b refused.fault said.own said.full said.limit said.memory Owed
+  pub refusal_cause : (Owed : Type 0) → Owed → MayCount w b → IsCauseAfter None Owed (IsOwn w run b) (IsTaken w Record b) Record w b (fault_of refused.fault)
+  refusal_cause Owed owed may = record_cause w run b refused.fault said.own said.full said.limit said.memory Owed owed may
 
   -- it may be written
   pub refusal_may_write : w < length b.state.tasks → MayWrite (fault_of refused.fault) after

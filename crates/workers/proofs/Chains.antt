@@ -1,17 +1,39 @@
 -- A chain of blocks, and one block more.
-use Rattle.std.proofs.Common.{◌≡◌, ℕ, List, [], ◌∷◌, ◌++◌, Result, Ok, Err, sym, subst, refl, ◌∙◌}
+use Rattle.std.proofs.Common.{◌≡◌, ◌≢◌, ◌<◌, ◌≤◌, ◌⊎◌, length, IfErr, inl, inr, arith, ℕ, List, [], ◌∷◌, ◌++◌, Result, Ok, Err, sym, subst, refl, ◌∙◌}
 use Rattle.std.specs.Global.{Vec}
 use Rattle.rv_ledger.specs.Key.{Storage}
 use Rattle.rv_ledger.specs.Call.{Invocation}
 use Rattle.rv_ledger.specs.declared.receipt.Receipt.{Receipt}
 use Rattle.rv_step.specs.Fold.{store_after, store_after_call}
+use Rattle.rv_ledger.specs.declared.job.Job.{Job}
+use Rattle.rv_ledger.specs.declared.outcome.Outcome.{Outcome}
+use Rattle.stm_state.specs.Steps as steps
+use Rattle.workers.specs.History.{HasLimit}
 use Rattle.workers.specs.declared.chain.ChainFault.{ChainFault}
+use Rattle.workers.specs.declared.chain.ChainFault.TheVariants.{Run, TooManyCalls}
+use Rattle.workers.specs.declared.fault.RunFault.{RunFault}
+use Rattle.workers.specs.declared.fault.RunFault.TheVariants as faults
 use Rattle.workers.specs.Chain.{IsBlockAnswer, IsChain, calls_run, store_left}
 
 -- no block leaves the storage
 pub no_blocks : (store : Storage) → IsChain store [] [] store
 unfolding IsChain
 no_blocks store = refl
+
+run_is : (a b : RunFault) → Run a ≡ Run b → a ≡ b
+run_is a b e = cc
+
+-- the answer to a block whose run was refused
+pub refused_block : (job : Job) (workers : ℕ) (answer : Result Outcome RunFault) (fault : RunFault) → answer ≡ Err fault → length job.block ≤ 1024 → 1 ≤ workers → workers ≤ 32
+    → IfErr answer (λ e. e ≢ faults.BadCount) → IfErr answer (λ e. e ≡ faults.ArenaFull → HasLimit job workers steps.ArenaFull)
+    → IfErr answer (λ e. e ≡ faults.IncarnationLimit → HasLimit job workers steps.IncarnationLimit) → IsBlockAnswer job.store job.block workers (Err (Run fault))
+refused_block job workers answer fault is short some few good full limit =
+    let not_bad = subst (λ (r : Result Outcome RunFault). IfErr r (λ e. e ≢ faults.BadCount)) is good in (
+      ((λ e. cc), (λ long. absurd (omega (arith, short, long)))),
+      ((λ e. absurd (not_bad (run_is fault faults.BadCount e))), (λ bad. absurd (elim bad.1 [ inl none ↦ omega (arith, none, some) | inr many ↦ omega (arith, many, few) ]))),
+      (λ e. subst (λ (r : Result Outcome RunFault). IfErr r (λ f. f ≡ faults.ArenaFull → HasLimit job workers steps.ArenaFull)) is full (run_is fault faults.ArenaFull e)),
+      (λ e. subst (λ (r : Result Outcome RunFault). IfErr r (λ f. f ≡ faults.IncarnationLimit → HasLimit job workers steps.IncarnationLimit)) is limit (run_is fault faults.IncarnationLimit e)),
+    )
 
 -- blocks after blocks
 chain_append : (blocks more : List (Vec Invocation × ℕ)) (answers others : List (Result (Vec Receipt) ChainFault)) (store middle last : Storage)

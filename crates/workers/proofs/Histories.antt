@@ -4,7 +4,9 @@ use Rattle.std.proofs.lemmas.Option.{slice_get-get_or}
 use Rattle.std.proofs.lemmas.Result.{IfOk-weaker, IfErr-weaker}
 use Rattle.rv_ledger.specs.declared.job.Job.{Job}
 use Rattle.rv_ledger.specs.declared.outcome.Outcome.{Outcome}
+use Rattle.rv_ledger.specs.declared.outcome.Counts.{Counts}
 use Rattle.rv_step.specs.Fold.{receipts_of, store_after}
+use Rattle.stm_state.specs.State.{no_counts}
 use Rattle.stm_state.specs.Steps.{Limit}
 use Rattle.stm_state.specs.Steps as steps
 use Rattle.stm_state.specs.Done.{Reached}
@@ -13,11 +15,11 @@ use Rattle.stm_state.specs.Walk.{ReachedByList}
 use Rattle.stm_state.specs.Dones.{LastEntryIsDone, dones_of}
 use Rattle.stm_state.specs.OneWorker.{OneWorkerCountsWhereReached}
 use Rattle.stm_core.specs.CoreState.{CoreState, block_in}
-use Rattle.workers.specs.declared.share.Share.{Share}
+use Rattle.workers.specs.declared.book.share.Share.{Share}
 use Rattle.workers.specs.declared.fault.RunFault.{RunFault}
 use Rattle.workers.specs.declared.fault.RunFault.TheVariants as faults
-use Rattle.workers.specs.Book.{BookState, FaultFits, IsAtLimit, MayWrite}
-use Rattle.workers.specs.Settle.{AreSettled, IsOutcomeOf, IsOutcomeOrMemory, IsSettledAfter, IsSettled}
+use Rattle.workers.specs.Book.{BookState, FaultFits, IsAtLimit, MayWrite, counts_of_share}
+use Rattle.workers.specs.Settle.{AreSettled, AreSharesOf, IsShareOf, IsOutcomeOf, IsOutcomeOrMemory, IsSettledAfter, IsSettled}
 use Rattle.workers.specs.History.{HasHistory, HasLimit, AreOneWorkerCounts}
 
 -- ---- what an answer says of the book
@@ -88,12 +90,29 @@ module _ (b : CoreState) (shares : List Share) (settled : AreSettled b shares) (
         counts = did.2.counts ∙ ap (λ n. record { steps = did.0; asks = 2 * length b.job.block + n; executions = length b.job.block; validations = length b.job.block } ∷ []) told;
       }
 
+-- ---- what the shares of a settled core say
+
+-- a share is that of its worker
+settled_share : (b : CoreState) (shares : List Share) (w : ℕ) (share : Share) → IsShareOf w b share
+    → counts_of_share share ≡ record { worker = w; counts = get_or b.state.counts w no_counts; dones = 1 }
+settled_share b shares w share h = λ k. record { worker = h.worker k; counts = (h.agrees.counts ∙ ap (λ v. get_or b.state.counts v no_counts) h.worker) k; dones = h.once k }
+
+settled_shares : (b : CoreState) (shares : List Share) → AreSettled b shares → Invariant (block_in b) (length b.state.tasks) b.state → AreSharesOf b.state.counts shares
+settled_shares b shares h inv = record {
+  count = h.count ∙ sym inv.sized.counts;
+  each = λ w share at. settled_share b shares w share (h.each w share at);
+}
+
+-- as many workers as the core has
+pub size_is : (core b : CoreState) (found : ℕ) → core ≡ b → found ≡ length core.state.tasks → found ≡ length b.state.tasks
+size_is core b found same is = is ∙ ap (λ (x : CoreState). length x.state.tasks) same
+
 -- ---- what is answered for a job and a number of workers
 
 module _ (job : Job) (workers : ℕ) (shares : List Share) (b : BookState) (settled_answer : Result Outcome RunFault) (settled : IsSettled job shares b settled_answer)
     (reached : Reached (block_in b.core) (length b.core.state.tasks) b.core.state) (inv : Invariant (block_in b.core) (length b.core.state.tasks) b.core.state)
-    (fits : FaultFits b.core b.fault) where
-  module _ (answer : Result Outcome RunFault) (ok : IfOk answer (λ o. (settled_answer ≡ Ok o) × (length o.counts.items ≡ workers))) where
+    (fits : FaultFits b.core b.fault) (found : ℕ) (size : found ≡ length b.core.state.tasks) where
+  module _ (answer : Result Outcome RunFault) (ok : IfOk answer (λ o. (settled_answer ≡ Ok o) × (found ≡ workers))) where
     pub job_is : IfOk answer (λ o. o.job ≡ job)
     job_is = IfOk-weaker answer _ _ (λ o h. let k = ok_settled job shares b settled_answer settled o h.0 in k.1.1.job ∙ k.0) ok
 
@@ -103,15 +122,17 @@ module _ (job : Job) (workers : ℕ) (shares : List Share) (b : BookState) (sett
     pub store_is : IfOk answer (λ o. o.store ≡ store_after job.block job.store)
     store_is = IfOk-weaker answer _ _ (λ o h. let k = ok_settled job shares b settled_answer settled o h.0 in k.1.1.store ∙ ap (λ (j : Job). store_after j.block j.store) k.0) ok
 
-    as_many : (o : Outcome) → o.counts.items ≡ b.core.state.counts → length o.counts.items ≡ workers → length b.core.state.tasks ≡ workers
-    as_many o same count = sym inv.sized.counts ∙ ap length (sym same) ∙ count
+    pub shares_are : IfOk answer (λ o. AreSharesOf o.counts.items shares)
+    shares_are = IfOk-weaker answer _ _ (λ o h.
+        let k = ok_settled job shares b settled_answer settled o h.0 in
+        subst (λ (counts : List Counts). AreSharesOf counts shares) (sym k.1.1.counts) (settled_shares b.core shares k.1.0 inv)) ok
 
     pub history_is : ReachedByList → LastEntryIsDone → IfOk answer (λ o. HasHistory job workers o.counts.items)
     history_is by_list last = IfOk-weaker answer _ _ (λ o h.
         let k = ok_settled job shares b settled_answer settled o h.0 in
         let counts = k.1.1.counts in
         subst (λ (j : Job). HasHistory j workers o.counts.items) k.0
-        (subst (λ n. HasHistory b.core.job n o.counts.items) (as_many o counts h.1)
+        (subst (λ n. HasHistory b.core.job n o.counts.items) (sym size ∙ h.1)
         (subst (HasHistory b.core.job (length b.core.state.tasks)) (sym counts) (has_history b.core shares k.1.0 reached by_list last)))) ok
 
     pub one_worker_is : OneWorkerCountsWhereReached → IfOk answer (λ o. workers ≡ 1 → AreOneWorkerCounts (length job.block) o.counts.items)
@@ -119,28 +140,29 @@ module _ (job : Job) (workers : ℕ) (shares : List Share) (b : BookState) (sett
         let k = ok_settled job shares b settled_answer settled o h.0 in
         let counts = k.1.1.counts in
         subst (λ (j : Job). AreOneWorkerCounts (length j.block) o.counts.items) k.0
-        (subst (AreOneWorkerCounts (length b.core.job.block)) (sym counts) (are_one_worker_counts b.core shares k.1.0 reached law (as_many o counts h.1 ∙ one)))) ok
+        (subst (AreOneWorkerCounts (length b.core.job.block)) (sym counts) (are_one_worker_counts b.core shares k.1.0 reached law (sym size ∙ h.1 ∙ one)))) ok
 
   -- a limit that was written is met by some list
-  limit_met : (limit : Limit) → IsAtLimit limit b.core → b.core.job ≡ job → HasLimit job limit
-  limit_met limit at same = subst (λ (j : Job). HasLimit j limit) same
-      (record { workers = length b.core.state.tasks; meets = record { state = b.core.state; reached = reached; worker = at.worker; within = at.within; step = at.step; refused = at.refused } })
+  limit_met : (limit : Limit) → IsAtLimit limit b.core → b.core.job ≡ job → found ≡ workers → HasLimit job workers limit
+  limit_met limit at same asked = subst (λ (j : Job). HasLimit j workers limit) same (subst (λ n. HasLimit b.core.job n limit) (sym size ∙ asked)
+      (record { state = b.core.state; reached = reached; worker = at.worker; within = at.within; step = at.step; refused = at.refused }))
 
   -- a fault that is neither Foreign nor Memory was written
-  written : (f : RunFault) → (settled_answer ≡ Err f) ⊎ (f ≡ faults.Foreign) → f ≢ faults.Foreign → f ≢ faults.Memory → (b.core.job ≡ job) × MayWrite f b.core
-  written f (inl h) foreign memory = elim (err_settled job shares b settled_answer settled f h) [
-    | inl k ↦ (k.0, subst (FaultFits b.core) k.1 fits)
+  written : (f : RunFault) → ((settled_answer ≡ Err f) × (found ≡ workers)) ⊎ ((f ≡ faults.Foreign) × (found ≢ workers)) → f ≢ faults.Foreign → f ≢ faults.Memory
+      → (b.core.job ≡ job) × MayWrite f b.core × (found ≡ workers)
+  written f (inl h) foreign memory = elim (err_settled job shares b settled_answer settled f h.0) [
+    | inl k ↦ (k.0, subst (FaultFits b.core) k.1 fits, h.1)
     | inr (inl k) ↦ absurd (foreign k)
     | inr (inr k) ↦ absurd (memory k)
   ]
-  written f (inr h) foreign memory = absurd (foreign h)
+  written f (inr h) foreign memory = absurd (foreign h.0)
 
-  module _ (answer : Result Outcome RunFault) (err : IfErr answer (λ f. (settled_answer ≡ Err f) ⊎ (f ≡ faults.Foreign))) where
+  module _ (answer : Result Outcome RunFault) (err : IfErr answer (λ f. ((settled_answer ≡ Err f) × (found ≡ workers)) ⊎ ((f ≡ faults.Foreign) × (found ≢ workers)))) where
     pub never_bad_count : IfErr answer (λ f. f ≢ faults.BadCount)
     never_bad_count = IfErr-weaker answer _ _ (λ f h e. (subst (λ (g : RunFault). MayWrite g b.core) e (written f h (λ k. cc) (λ k. cc)).1)) err
 
-    pub full_is : IfErr answer (λ f. f ≡ faults.ArenaFull → HasLimit job steps.ArenaFull)
-    full_is = IfErr-weaker answer _ _ (λ f h e. let w = written f h (λ k. cc) (λ k. cc) in limit_met steps.ArenaFull (subst (λ (g : RunFault). MayWrite g b.core) e w.1) w.0) err
+    pub full_is : IfErr answer (λ f. f ≡ faults.ArenaFull → HasLimit job workers steps.ArenaFull)
+    full_is = IfErr-weaker answer _ _ (λ f h e. let w = written f h (λ k. cc) (λ k. cc) in limit_met steps.ArenaFull (subst (λ (g : RunFault). MayWrite g b.core) e w.1) w.0 w.2) err
 
-    pub limit_is : IfErr answer (λ f. f ≡ faults.IncarnationLimit → HasLimit job steps.IncarnationLimit)
-    limit_is = IfErr-weaker answer _ _ (λ f h e. let w = written f h (λ k. cc) (λ k. cc) in limit_met steps.IncarnationLimit (subst (λ (g : RunFault). MayWrite g b.core) e w.1) w.0) err
+    pub limit_is : IfErr answer (λ f. f ≡ faults.IncarnationLimit → HasLimit job workers steps.IncarnationLimit)
+    limit_is = IfErr-weaker answer _ _ (λ f h e. let w = written f h (λ k. cc) (λ k. cc) in limit_met steps.IncarnationLimit (subst (λ (g : RunFault). MayWrite g b.core) e w.1) w.0 w.2) err

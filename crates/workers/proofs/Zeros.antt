@@ -1,7 +1,7 @@
 -- The shares of workers that did nothing yet.
 use Rattle.std.proofs.Common.{◌≡◌, ◌+◌, ℕ, zero, List, [], ◌∷◌, ◌++◌, map, add-one, ap, refl, sym, ◌∙◌}
 use Rattle.std.proofs.lemmas.List.{map-append}
-use Rattle.workers.specs.declared.share.Share.{Share}
+use Rattle.workers.specs.declared.book.share.Share.{Share}
 use Rattle.workers.specs.Book.{ShareCounts, counts_of_share, zero_counts, zero_counts_of_all}
 
 pub no_shares : zero_counts_of_all zero ≡ []

@@ -1,5 +1,5 @@
 -- A core with the first fault that was written, the share of a worker, and what the step calls owe.
-use Rattle.std.specs.Prelude.{◌≡◌, ◌<◌, ◌+◌, ℕ, zero, suc, Bool, true, false, List, [], ◌∷◌, ◌++◌, length, get_or, Option, None, Some}
+use Rattle.std.specs.Prelude.{◌≡◌, ◌<◌, ◌+◌, ◌⊎◌, ℕ, zero, suc, Bool, true, false, List, [], ◌∷◌, ◌++◌, length, get_or, Option, None, Some}
 use Rattle.rv_ledger.specs.Call.{Invocation}
 use Rattle.rv_ledger.specs.declared.outcome.Counts.{Counts}
 use Rattle.stm_state.specs.State.{task_at, no_counts, is_done}
@@ -10,7 +10,9 @@ use Rattle.stm_core.specs.CoreState.{CoreState, IsRefused, Makes, next_step_of}
 use Rattle.stm_core.specs.declared.next_step.NextStep.{NextStep}
 use Rattle.stm_core.specs.declared.fault.RecordFault.{RecordFault}
 use Rattle.stm_core.specs.declared.fault.RecordFault.TheVariants as record_faults
-use Rattle.workers.specs.declared.share.Share.{Share}
+use Rattle.workers.specs.declared.book.share.Share.{Share}
+use Rattle.workers.specs.declared.fault.OutsideFault.{OutsideFault}
+use Rattle.workers.specs.declared.fault.OutsideFault.TheVariants as outside
 use Rattle.workers.specs.declared.fault.RunFault.{RunFault}
 use Rattle.workers.specs.declared.fault.RunFault.TheVariants as faults
 
@@ -58,6 +60,12 @@ fault_of record_faults.Foreign = faults.Foreign
 fault_of record_faults.ArenaFull = faults.ArenaFull
 fault_of record_faults.Memory = faults.Memory
 fault_of record_faults.IncarnationLimit = faults.IncarnationLimit
+
+-- the fault that is written for one that was met outside the lock
+abbrev pub outside_fault : OutsideFault → RunFault
+outside_fault outside.Memory = faults.Memory
+outside_fault outside.Spawn = faults.Spawn
+outside_fault outside.Foreign = faults.Foreign
 
 -- the fault after one is written: the first one that was written
 abbrev pub first_fault : Option RunFault → RunFault → RunFault
@@ -114,16 +122,20 @@ pub record LeavesWritten (fault : RunFault) (before after : BookState) (share le
   pub written : after.fault ≡ Some fault
   pub kept : left ≡ share
 
--- why a step call is refused. Where a fault was written before, it is that one. Otherwise it is Foreign only where the
--- worker does not owe the step or the run is not its own, StepLimit only where it owes the step and can't count another
--- one, a limit only where the step meets it, and Memory only where `Wants` holds
+-- a worker may count one step more
+abbrev pub MayCount : ℕ → CoreState → Type 0
+MayCount w b = (get_or b.state.counts w no_counts).steps < COUNT_LIMIT
+
+-- why a step call is refused: the first of these that applies. The fault that was written before; Foreign where the worker
+-- does not owe the step; StepLimit where it can't count another one; Foreign where the run is not its own; a limit that the
+-- step meets; Memory where `Wants` holds
 abbrev pub IsCauseAfter : Option RunFault → (Owed : Type 0) → (Own : Type 0) → (Wants : Type 0) → Step → ℕ → CoreState → RunFault → Type 0
 IsCauseAfter (Some first) Owed Own Wants step w b fault = fault ≡ first
 IsCauseAfter None Owed Own Wants step w b faults.BadCount = ⊥
-IsCauseAfter None Owed Own Wants step w b faults.Foreign = Owed × Own → ⊥
-IsCauseAfter None Owed Own Wants step w b faults.ArenaFull = IsRefused w step steps.ArenaFull b
-IsCauseAfter None Owed Own Wants step w b faults.IncarnationLimit = IsRefused w step steps.IncarnationLimit b
-IsCauseAfter None Owed Own Wants step w b faults.Memory = Wants
+IsCauseAfter None Owed Own Wants step w b faults.Foreign = (Owed → ⊥) ⊎ (Owed × MayCount w b × (Own → ⊥))
+IsCauseAfter None Owed Own Wants step w b faults.ArenaFull = Owed × MayCount w b × Own × IsRefused w step steps.ArenaFull b
+IsCauseAfter None Owed Own Wants step w b faults.IncarnationLimit = Owed × MayCount w b × Own × IsRefused w step steps.IncarnationLimit b
+IsCauseAfter None Owed Own Wants step w b faults.Memory = Owed × MayCount w b × Own × Wants
 IsCauseAfter None Owed Own Wants step w b faults.Spawn = ⊥
 IsCauseAfter None Owed Own Wants step w b faults.StepLimit = Owed × ((get_or b.state.counts w no_counts).steps ≡ COUNT_LIMIT)
 

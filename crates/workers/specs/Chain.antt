@@ -9,16 +9,17 @@ use Rattle.stm_state.specs.Steps as steps
 use Rattle.workers.specs.declared.chain.ChainFault.{ChainFault}
 use Rattle.workers.specs.declared.chain.ChainFault.TheVariants.{Run, TooManyCalls}
 use Rattle.workers.specs.declared.fault.RunFault.TheVariants as faults
-use Rattle.workers.specs.History.{HasLimit}
+use Rattle.workers.specs.History.{HasLimit, IsRunBy}
 
 -- the answers that a block may get, by its calls, its number of workers and the storage before it
 abbrev pub IsBlockAnswer : Storage → List Invocation → ℕ → Result (Vec Receipt) ChainFault → Type 0
 IsBlockAnswer store calls workers (Ok receipts) = (receipts.items ≡ receipts_of calls store) × (length calls ≤ 1024) × (1 ≤ workers) × (workers ≤ 32)
+    × IsRunBy (record { block = calls; store = store }) workers
 IsBlockAnswer store calls workers (Err fault) =
     ((fault ≡ TooManyCalls) ↔ (1024 < length calls))
     × ((fault ≡ Run faults.BadCount) ↔ ((length calls ≤ 1024) × ((workers ≡ 0) ⊎ (32 < workers))))
-    × (fault ≡ Run faults.ArenaFull → HasLimit (record { block = calls; store = store }) steps.ArenaFull)
-    × (fault ≡ Run faults.IncarnationLimit → HasLimit (record { block = calls; store = store }) steps.IncarnationLimit)
+    × (fault ≡ Run faults.ArenaFull → HasLimit (record { block = calls; store = store }) workers steps.ArenaFull)
+    × (fault ≡ Run faults.IncarnationLimit → HasLimit (record { block = calls; store = store }) workers steps.IncarnationLimit)
 
 -- the storage that a block leaves: a refused one leaves it as it was
 abbrev pub store_left : Storage → List Invocation → Result (Vec Receipt) ChainFault → Storage

@@ -6,9 +6,14 @@ use Rattle.atomic_table.specs.declared.shared.Seat.{Seat}
 use Rattle.crossbeam_utils.specs.declared.atomic.seq_cell.Doing.{Doing}
 use Rattle.workers.specs.declared.done_cell.DoneCell.{DoneCell}
 
--- the cell has two states, and shows no less than any pass has seen: there is no way back from done
+-- the cell shows done only where some pass has seen it so
+abbrev pub HasSeenDone : List ℕ → List ℕ → Type 0
+HasSeenDone words views = slice_index words 0 ≡ 1 → (pass : ℕ) × (get_elem? views pass ≡ some 1)
+
+-- the cell has two states, and shows no less than any pass has seen: there is no way back from done. It is not done before
+-- a pass has made it so
 abbrev pub IsOneWay : List ℕ → List ℕ → Type 0
-IsOneWay words views = (slice_index words 0 ≤ 1) × ((pass seen : ℕ) → get_elem? views pass ≡ some seen → seen ≤ slice_index words 0)
+IsOneWay words views = (slice_index words 0 ≤ 1) × ((pass seen : ℕ) → get_elem? views pass ≡ some seen → seen ≤ slice_index words 0) × HasSeenDone words views
 
 -- a call with a pass finds no less than the pass had seen; after it the pass has seen what the call left
 abbrev pub IsSeen : ℕ → List ℕ → List ℕ → ℕ → Type 0

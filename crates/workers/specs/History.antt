@@ -18,10 +18,14 @@ pub record HasHistory (job : Job) (workers : ℕ) (found : List Counts) : Type 0
   pub counts : found ≡ state.counts
   pub ends : (w : ℕ) → w < workers → EndsAtDone (block_of job.block job.store) workers w entries 0
 
--- some list of worker steps leads from a job's start to a step that is refused for a limit
-pub record HasLimit (job : Job) (limit : Limit) : Type 0 where
-  pub workers : ℕ
-  pub meets : MeetsLimit (block_of job.block job.store) workers limit
+-- a job is run by this number of workers: some list of their steps leads from its start to a state where they are done
+pub record IsRunBy (job : Job) (workers : ℕ) : Type 0 where
+  pub counts : List Counts
+  pub history : HasHistory job workers counts
+
+-- some list of steps of this number of workers leads from a job's start to a step that is refused for a limit
+abbrev pub HasLimit : Job → ℕ → Limit → Type 0
+HasLimit job workers limit = MeetsLimit (block_of job.block job.store) workers limit
 
 -- what a single worker did: per call one execution, one validation and two asks, and one last ask that is answered Done
 pub record AreOneWorkerCounts (calls : ℕ) (found : List Counts) : Type 0 where

@@ -1,14 +1,15 @@
 -- The answer to a job, by its book and the shares that came back.
-use Rattle.std.specs.Prelude.{◌≡◌, ◌≢◌, ◌⊎◌, ℕ, true, List, length, Option, None, Some, Result, Ok, Err, slice_get}
+use Rattle.std.specs.Prelude.{◌≡◌, ◌≢◌, ◌⊎◌, ℕ, true, List, length, Option, None, Some, Result, Ok, Err, slice_get, get_or}
 use Rattle.rv_ledger.specs.declared.job.Job.{Job}
 use Rattle.rv_ledger.specs.declared.outcome.Outcome.{Outcome}
+use Rattle.rv_ledger.specs.declared.outcome.Counts.{Counts}
 use Rattle.rv_step.specs.Fold.{receipts_of, store_after}
-use Rattle.stm_state.specs.State.{is_done}
+use Rattle.stm_state.specs.State.{is_done, no_counts}
 use Rattle.stm_core.specs.CoreState.{CoreState}
-use Rattle.workers.specs.declared.share.Share.{Share}
+use Rattle.workers.specs.declared.book.share.Share.{Share}
 use Rattle.workers.specs.declared.fault.RunFault.{RunFault}
 use Rattle.workers.specs.declared.fault.RunFault.TheVariants as faults
-use Rattle.workers.specs.Book.{BookState, AgreesWith}
+use Rattle.workers.specs.Book.{BookState, AgreesWith, counts_of_share}
 
 -- a share is that of a worker, agrees with the core on its counts, and has exactly one ask that was answered Done
 pub record IsShareOf (w : ℕ) (b : CoreState) (share : Share) : Type 0 where
@@ -21,6 +22,11 @@ pub record AreSettled (b : CoreState) (shares : List Share) : Type 0 where
   pub done : is_done b.state ≡ true
   pub count : length shares ≡ length b.state.tasks
   pub each : (w : ℕ) (share : Share) → slice_get shares w ≡ Some share → IsShareOf w b share
+
+-- there is one share of each worker, in their order, with its counts and exactly one ask that was answered Done
+pub record AreSharesOf (counts : List Counts) (shares : List Share) : Type 0 where
+  pub count : length shares ≡ length counts
+  pub each : (w : ℕ) (share : Share) → slice_get shares w ≡ Some share → counts_of_share share ≡ record { worker = w; counts = get_or counts w no_counts; dones = 1 }
 
 -- the outcome of a core that is done
 pub record IsOutcomeOf (b : CoreState) (outcome : Outcome) : Type 0 where

@@ -3,9 +3,8 @@
 ghost use Rattle.std.specs.Prelude.{◌≡◌, ◌<◌, ◌↔◌, [], length, true};
 ghost use Rattle.workers.specs.Settle.{AreSettled, IsSettled, IsShareOf};
 
-use crate::book::Book;
+use crate::book::{Book, Share};
 use crate::fault::RunFault;
-use crate::share::Share;
 use rv_ledger::{Job, Outcome, same_job};
 use std::alloc::Global;
 use stm_core::Core;
@@ -25,7 +24,20 @@ pub fn settle(
     ensures answer { IsSettled job.now shares.items book result.0 }
     ensures arena { result.1.records ≡ [] }
 {
-    let answer = answer_of(alloc, &book, shares.as_slice(), job);
+    settle_shares(alloc, book, shares.as_slice(), job)
+}
+
+/// The same, with the shares of their owner.
+pub(crate) fn settle_shares(
+    alloc: Global,
+    book: Book,
+    shares: &[Share],
+    job: &Job,
+) -> (Result<Outcome, RunFault>, Arena)
+    ensures answer { IsSettled job.now shares.now book result.0 }
+    ensures arena { result.1.records ≡ [] }
+{
+    let answer = answer_of(alloc, &book, shares, job);
     (answer, book.into_core().into_arena())
 }
 
@@ -70,8 +82,8 @@ fn is_share_of(core: &Core, worker: usize, share: &Share) -> bool
     requires { worker < length core.now.state.tasks }
     ensures { (result ≡ true) ↔ IsShareOf worker core.now share.now }
 {
-    share.worker == worker
-        && share.dones == 1
-        && core.dones(worker) == share.dones
-        && core.counts(worker) == share.counts
+    share.worker() == worker
+        && share.dones() == 1
+        && core.dones(worker) == share.dones()
+        && core.counts(worker) == share.counts()
 }

@@ -1,17 +1,21 @@
 //! What stands under the lock: a core, and the first fault that was written.
 
+pub mod share;
+pub mod written;
+
 ghost use Rattle.std.specs.Prelude.{◌≡◌, List, []};
 ghost use Rattle.rv_ledger.specs.Call.{Invocation};
 ghost use Rattle.workers.specs.Book.{fault_of};
 
-use crate::fault::RunFault;
-use crate::share::Share;
+use crate::fault::{OutsideFault, RunFault};
 use rv_ledger::Key;
 use rv_step::EndedRun;
 use scheduler::COUNT_LIMIT;
+pub use share::Share;
 use std::alloc::Global;
 use std::marker::{Brand, Model, PhantomData};
 use stm_core::{AskResult, Core, NextStep, ReadResult, RecordFault};
+pub use written::WrittenFault;
 
 /// A name of a block's calls, for contracts alone. Who starts the block's threads picks the calls.
 pub trait BlockName {
@@ -68,7 +72,7 @@ impl<B: BlockName> Book<B> {
     ghost use Rattle.stm_state.specs.Steps as steps;
     ghost use Rattle.stm_core.specs.CoreState.{IsOwn, IsTaken, block_in, next_step_of, read_result_of};
     ghost use Rattle.stm_core.specs.declared.next_step.NextStep.TheVariants as next_step;
-    ghost use Rattle.workers.specs.Book.{FaultFits, HasKnownCalls, IsAsked, IsCause, IsMade, IsUnready, LeavesWritten, MayWrite, Owes, AgreesWith, first_fault};
+    ghost use Rattle.workers.specs.Book.{FaultFits, HasKnownCalls, IsAsked, IsCause, IsMade, IsUnready, LeavesWritten, MayWrite, Owes, AgreesWith, first_fault, outside_fault};
 
     /// A core, and no fault. `known` says that the core has the calls that `B` names.
     pub(crate) fn over(core: Core, known: bool) -> Book<B>
@@ -121,17 +125,30 @@ impl<B: BlockName> Book<B> {
     }
 
     /// Writes a fault, unless one was written before. Returns the first one that was written.
-    pub(crate) fn write(&mut self, fault: RunFault) -> RunFault
+    fn write(&mut self, fault: RunFault) -> WrittenFault
         requires { MayWrite fault self.old.core }
         ensures first { result ≡ first_fault self.old.fault fault }
         ensures written { self.new ≡ record self.old { fault = Some result } }
     {
         match self.fault {
-            Some(first) => first,
+            Some(first) => WrittenFault::of(first),
             None => {
                 self.fault = Some(fault);
-                fault
+                WrittenFault::of(fault)
             }
+        }
+    }
+
+    /// Writes a fault that was met outside the lock, unless one was written before. Returns the first one
+    /// that was written.
+    pub(crate) fn write_outside(&mut self, fault: OutsideFault) -> WrittenFault
+        ensures first { result ≡ first_fault self.old.fault (outside_fault fault) }
+        ensures written { self.new ≡ record self.old { fault = Some result } }
+    {
+        match fault {
+            OutsideFault::Memory => self.write(RunFault::Memory),
+            OutsideFault::Spawn => self.write(RunFault::Spawn),
+            OutsideFault::Foreign => self.write(RunFault::Foreign),
         }
     }
 
@@ -148,7 +165,7 @@ impl<B: BlockName> Book<B> {
     /// where the worker owes another step or its share has other counts than the core, and as StepLimit where
     /// the worker has made 2^64 - 1 steps. A refusal is written, and core and share stay. Takes no memory.
     #[tactic(auto, using(crate::proofs::Stays::stays, crate::proofs::Causes::unready_cause))]
-    pub fn ask(&mut self, share: &mut Share) -> Result<Option<NextStep>, RunFault>
+    pub fn ask(&mut self, share: &mut Share) -> Result<Option<NextStep>, WrittenFault>
         ensures made { OnOk result (IsMade next_step.Ask steps.Ask self.old self.new share.old share.new) }
         ensures asked { IfOk result (λ next. IsAsked next self.old.core self.new.core share.old share.new) }
         ensures refused { IfErr result (λ e. LeavesWritten e self.old self.new share.old share.new) }
@@ -174,7 +191,7 @@ impl<B: BlockName> Book<B> {
         call: u16,
         incarnation: u16,
         key: &Key,
-    ) -> Result<ReadResult, RunFault>
+    ) -> Result<ReadResult, WrittenFault>
         ensures made { OnOk result (IsMade (next_step.Run call incarnation) (steps.Read_key key.now) self.old self.new share.old share.new) }
         ensures answer { IfOk result (λ answer. answer ≡ read_result_of self.old.core.job.store key.now (reading self.old.core.state.versions key.now call)) }
         ensures dones { OnOk result (share.new.dones ≡ share.old.dones) }
@@ -200,7 +217,7 @@ impl<B: BlockName> Book<B> {
         share: &mut Share,
         call: u16,
         incarnation: u16,
-    ) -> Result<NextStep, RunFault>
+    ) -> Result<NextStep, WrittenFault>
         ensures made { OnOk result (IsMade (next_step.Park call incarnation) steps.Park self.old self.new share.old share.new) }
         ensures next { IfOk result (λ next. next ≡ next_step_of self.new.core.state (task_at self.new.core.state share.new.worker)) }
         ensures dones { OnOk result (share.new.dones ≡ share.old.dones) }
@@ -229,7 +246,7 @@ impl<B: BlockName> Book<B> {
         call: u16,
         incarnation: u16,
         run: EndedRun,
-    ) -> Result<NextStep, RunFault>
+    ) -> Result<NextStep, WrittenFault>
         ensures made { OnOk result (IsMade (next_step.Run call incarnation) steps.Record self.old self.new share.old share.new) }
         ensures next { IfOk result (λ next. next ≡ next_step_of self.new.core.state (task_at self.new.core.state share.new.worker)) }
         ensures own { OnOk result (IsOwn share.old.worker run self.old.core) }
@@ -251,7 +268,7 @@ impl<B: BlockName> Book<B> {
         incarnation: u16,
         run: EndedRun,
         known: bool,
-    ) -> Result<NextStep, RunFault>
+    ) -> Result<NextStep, WrittenFault>
         requires known { known ≡ true → slice_get B.block call ≡ Some run.call }
         ensures made { OnOk result (IsMade (next_step.Run call incarnation) steps.Record self.old self.new share.old share.new) }
         ensures next { IfOk result (λ next. next ≡ next_step_of self.new.core.state (task_at self.new.core.state share.new.worker)) }
@@ -284,7 +301,7 @@ impl<B: BlockName> Book<B> {
         share: &mut Share,
         call: u16,
         incarnation: u16,
-    ) -> Result<NextStep, RunFault>
+    ) -> Result<NextStep, WrittenFault>
         ensures made { OnOk result (IsMade (next_step.MoveKey call incarnation) steps.Move_key self.old self.new share.old share.new) }
         ensures next { IfOk result (λ next. next ≡ next_step_of self.new.core.state (task_at self.new.core.state share.new.worker)) }
         ensures dones { OnOk result (share.new.dones ≡ share.old.dones) }
@@ -306,7 +323,7 @@ impl<B: BlockName> Book<B> {
         share: &mut Share,
         call: u16,
         incarnation: u16,
-    ) -> Result<NextStep, RunFault>
+    ) -> Result<NextStep, WrittenFault>
         ensures made { OnOk result (IsMade (next_step.FinishExecution call incarnation) steps.Finish_execution self.old self.new share.old share.new) }
         ensures next { IfOk result (λ next. next ≡ next_step_of self.new.core.state (task_at self.new.core.state share.new.worker)) }
         ensures dones { OnOk result (share.new.dones ≡ share.old.dones) }
@@ -328,7 +345,7 @@ impl<B: BlockName> Book<B> {
         share: &mut Share,
         call: u16,
         incarnation: u16,
-    ) -> Result<NextStep, RunFault>
+    ) -> Result<NextStep, WrittenFault>
         ensures made { OnOk result (IsMade (next_step.CheckRead call incarnation) steps.Check_read self.old self.new share.old share.new) }
         ensures next { IfOk result (λ next. next ≡ next_step_of self.new.core.state (task_at self.new.core.state share.new.worker)) }
         ensures dones { OnOk result (share.new.dones ≡ share.old.dones) }
@@ -350,7 +367,7 @@ impl<B: BlockName> Book<B> {
         share: &mut Share,
         call: u16,
         incarnation: u16,
-    ) -> Result<NextStep, RunFault>
+    ) -> Result<NextStep, WrittenFault>
         ensures made { OnOk result (IsMade (next_step.Decide call incarnation) steps.Decide self.old self.new share.old share.new) }
         ensures next { IfOk result (λ next. next ≡ next_step_of self.new.core.state (task_at self.new.core.state share.new.worker)) }
         ensures dones { OnOk result (share.new.dones ≡ share.old.dones) }
@@ -372,7 +389,7 @@ impl<B: BlockName> Book<B> {
         share: &mut Share,
         call: u16,
         incarnation: u16,
-    ) -> Result<NextStep, RunFault>
+    ) -> Result<NextStep, WrittenFault>
         ensures made { OnOk result (IsMade (next_step.MarkEstimate call incarnation) steps.Mark_estimate self.old self.new share.old share.new) }
         ensures next { IfOk result (λ next. next ≡ next_step_of self.new.core.state (task_at self.new.core.state share.new.worker)) }
         ensures dones { OnOk result (share.new.dones ≡ share.old.dones) }
@@ -394,7 +411,7 @@ impl<B: BlockName> Book<B> {
         share: &mut Share,
         call: u16,
         incarnation: u16,
-    ) -> Result<NextStep, RunFault>
+    ) -> Result<NextStep, WrittenFault>
         ensures made { OnOk result (IsMade (next_step.FinishAbort call incarnation) steps.Finish_abort self.old self.new share.old share.new) }
         ensures next { IfOk result (λ next. next ≡ next_step_of self.new.core.state (task_at self.new.core.state share.new.worker)) }
         ensures dones { OnOk result (share.new.dones ≡ share.old.dones) }
@@ -409,13 +426,13 @@ impl<B: BlockName> Book<B> {
     }
 
     /// Checks that the share's worker may make a step now. Refused as `ask` is; the fault is written.
-    fn ready(&mut self, share: &Share, owed: NextStep) -> Result<(), RunFault>
+    fn ready(&mut self, share: &Share, owed: NextStep) -> Result<(), WrittenFault>
         ensures ready { OnOk result (Owes owed share.now self.old.core × (self.old.fault ≡ None) × (share.now.counts.steps < COUNT_LIMIT) × (self.new ≡ self.old)) }
         ensures refused { IfErr result (λ e. self.new ≡ record self.old { fault = Some e }) }
         ensures cause { IfErr result (λ e. IsUnready self.old.fault owed share.now self.old.core e) }
     {
         if let Some(fault) = self.fault {
-            return Err(fault);
+            return Err(WrittenFault::of(fault));
         }
         if !self.is_owed(share, owed) {
             return Err(self.write(RunFault::Foreign));

@@ -119,8 +119,11 @@ impl Executor {
         ensures left { result.1 ≡ store_left job.store job.block result.0 }
     {
         let arena = mem::replace(&mut self.arena, Arena::new(alloc));
-        let (answer, arena) = run_over::<Brand, R, Open>(rt, alloc, arena, &job, workers, &Open);
+        let (answer, arena, shares) = run_over::<Brand, R, Open>(
+            rt, alloc, arena, &job, workers, &Open,
+        );
         self.arena = arena;
+        self.shares = shares;
         match answer {
             Ok(outcome) => {
                 let Outcome {

@@ -5,14 +5,14 @@ ghost use Rattle.rv_step.specs.Fold.{receipts_of, store_after};
 ghost use Rattle.stm_state.specs.Steps as steps;
 ghost use Rattle.workers.specs.DoneCell.{IsPassOf};
 ghost use Rattle.workers.specs.History.{HasHistory, HasLimit, AreOneWorkerCounts};
+ghost use Rattle.workers.specs.Settle.{AreSharesOf};
 ghost use Rattle.workers.specs.declared.fault.RunFault.TheVariants as faults;
 
-use crate::answer::settle;
-use crate::book::BlockName;
-use crate::fault::RunFault;
+use crate::answer::settle_shares;
+use crate::book::{BlockName, Share, WrittenFault};
+use crate::fault::{OutsideFault, RunFault};
 use crate::gate::{Gate, Open};
-use crate::share::Share;
-use crate::shared::{OutsideFault, Shared};
+use crate::shared::Shared;
 use crate::worker::work;
 use rv_ledger::{Job, Outcome};
 use std::alloc::Global;
@@ -23,10 +23,12 @@ use std::{mem, thread};
 use stm_core::{Core, WORKER_LIMIT};
 use version_arena::Arena;
 
-/// Runs blocks one after another over one arena. The arena has no records between two blocks.
+/// Runs blocks one after another over one arena. The arena has no records between two blocks. The shares are
+/// those that the threads of the last block gave back.
 #[derive(Drop)]
 pub struct Executor {
     pub(crate) arena: Arena,
+    pub(crate) shares: Vec<Share>,
     ghost empty: { arena.records ≡ [] },
 }
 
@@ -36,12 +38,22 @@ impl Executor {
     ghost use Rattle.stm_state.specs.Steps as steps;
     ghost use Rattle.workers.specs.declared.fault.RunFault.TheVariants as faults;
     ghost use Rattle.workers.specs.History.{HasHistory, HasLimit, AreOneWorkerCounts};
+    ghost use Rattle.workers.specs.Settle.{AreSharesOf};
 
     /// An executor whose arena has room for no record yet. Takes no memory.
     pub fn new(alloc: Global) -> Executor {
         Executor {
             arena: Arena::new(alloc),
+            shares: Vec::new(alloc),
         }
+    }
+
+    /// The shares that the threads of the last block gave back, in the order of their workers. None where no
+    /// block was run, or the last one was refused before its threads had ended.
+    pub fn shares(&self) -> &[Share]
+        ensures { result.now ≡ self.now.shares.items }
+    {
+        self.shares.as_slice()
     }
 
     /// Runs a job on 1 to 32 threads. Refused as BadCount exactly where the number of workers is another;
@@ -56,14 +68,15 @@ impl Executor {
         job: Job,
         workers: usize,
     ) -> Result<Outcome, RunFault>
-        ensures bad_count { (result ≡ Err faults.BadCount) ↔ ((workers ≡ 0) ⊎ (WORKER_LIMIT < workers)) }
+        ensures bad_count { (result ≡ Err faults.BadCount) ↔ ((workers ≡ 0) ⊎ (32 < workers)) }
         ensures job { IfOk result (λ o. o.job ≡ job) }
         ensures receipts { IfOk result (λ o. o.receipts.items ≡ receipts_of job.block job.store) }
         ensures store { IfOk result (λ o. o.store ≡ store_after job.block job.store) }
         ensures history { IfOk result (λ o. HasHistory job workers o.counts.items) }
         ensures one_worker { IfOk result (λ o. workers ≡ 1 → AreOneWorkerCounts (length job.block) o.counts.items) }
-        ensures full { IfErr result (λ e. e ≡ faults.ArenaFull → HasLimit job steps.ArenaFull) }
-        ensures limit { IfErr result (λ e. e ≡ faults.IncarnationLimit → HasLimit job steps.IncarnationLimit) }
+        ensures shares { IfOk result (λ o. AreSharesOf o.counts.items self.new.shares.items) }
+        ensures full { IfErr result (λ e. e ≡ faults.ArenaFull → HasLimit job workers steps.ArenaFull) }
+        ensures limit { IfErr result (λ e. e ≡ faults.IncarnationLimit → HasLimit job workers steps.IncarnationLimit) }
     {
         self.run_block_with(rt, alloc, job, workers, &Open)
     }
@@ -78,27 +91,31 @@ impl Executor {
         workers: usize,
         gate: &G,
     ) -> Result<Outcome, RunFault>
-        ensures bad_count { (result ≡ Err faults.BadCount) ↔ ((workers ≡ 0) ⊎ (WORKER_LIMIT < workers)) }
+        ensures bad_count { (result ≡ Err faults.BadCount) ↔ ((workers ≡ 0) ⊎ (32 < workers)) }
         ensures job { IfOk result (λ o. o.job ≡ job) }
         ensures receipts { IfOk result (λ o. o.receipts.items ≡ receipts_of job.block job.store) }
         ensures store { IfOk result (λ o. o.store ≡ store_after job.block job.store) }
         ensures history { IfOk result (λ o. HasHistory job workers o.counts.items) }
         ensures one_worker { IfOk result (λ o. workers ≡ 1 → AreOneWorkerCounts (length job.block) o.counts.items) }
-        ensures full { IfErr result (λ e. e ≡ faults.ArenaFull → HasLimit job steps.ArenaFull) }
-        ensures limit { IfErr result (λ e. e ≡ faults.IncarnationLimit → HasLimit job steps.IncarnationLimit) }
+        ensures shares { IfOk result (λ o. AreSharesOf o.counts.items self.new.shares.items) }
+        ensures full { IfErr result (λ e. e ≡ faults.ArenaFull → HasLimit job workers steps.ArenaFull) }
+        ensures limit { IfErr result (λ e. e ≡ faults.IncarnationLimit → HasLimit job workers steps.IncarnationLimit) }
     {
         if workers == 0 || workers > WORKER_LIMIT {
             return Err(RunFault::BadCount);
         }
         let arena = mem::replace(&mut self.arena, Arena::new(alloc));
-        let (answer, arena) = run_over::<Brand, R, G>(rt, alloc, arena, &job, workers, gate);
+        let (answer, arena, shares) = run_over::<Brand, R, G>(
+            rt, alloc, arena, &job, workers, gate,
+        );
         self.arena = arena;
+        self.shares = shares;
         answer
     }
 }
 
 /// Runs a job on threads over an arena. The arena comes back without records. Refused as `run_block` is, but
-/// never as BadCount.
+/// never as BadCount. Beside it the shares that the threads gave back.
 pub(crate) fn run_over<B: BlockName + Send + Sync, R: Threads + Wait + Sync, G: Gate + Sync>(
     rt: &R,
     alloc: Global,
@@ -106,7 +123,7 @@ pub(crate) fn run_over<B: BlockName + Send + Sync, R: Threads + Wait + Sync, G: 
     job: &Job,
     workers: usize,
     gate: &G,
-) -> (Result<Outcome, RunFault>, Arena)
+) -> (Result<Outcome, RunFault>, Arena, Vec<Share>)
     requires count { (1 ≤ workers) × (workers ≤ 32) }
     requires block { job.now.block ≡ B.block }
     ensures bad_count { IfErr result.0 (λ e. e ≢ faults.BadCount) }
@@ -115,35 +132,42 @@ pub(crate) fn run_over<B: BlockName + Send + Sync, R: Threads + Wait + Sync, G: 
     ensures store { IfOk result.0 (λ o. o.store ≡ store_after job.now.block job.now.store) }
     ensures history { IfOk result.0 (λ o. HasHistory job.now workers o.counts.items) }
     ensures one_worker { IfOk result.0 (λ o. workers ≡ 1 → AreOneWorkerCounts (length job.now.block) o.counts.items) }
-    ensures full { IfErr result.0 (λ e. e ≡ faults.ArenaFull → HasLimit job.now steps.ArenaFull) }
-    ensures limit { IfErr result.0 (λ e. e ≡ faults.IncarnationLimit → HasLimit job.now steps.IncarnationLimit) }
+    ensures shares { IfOk result.0 (λ o. AreSharesOf o.counts.items result.2.items) }
+    ensures full { IfErr result.0 (λ e. e ≡ faults.ArenaFull → HasLimit job.now workers steps.ArenaFull) }
+    ensures limit { IfErr result.0 (λ e. e ≡ faults.IncarnationLimit → HasLimit job.now workers steps.IncarnationLimit) }
     ensures arena { result.1.records ≡ [] }
 {
     let (shared, shares) = match share_out::<B>(alloc, arena, job, workers) {
         Ok(shared) => shared,
-        Err(arena) => return (Err(RunFault::Memory), arena),
+        Err(arena) => return (Err(RunFault::Memory), arena, Vec::new(alloc)),
     };
-    let back = run_threads(rt, alloc, &shared, shares, gate);
+    let back = match run_threads(rt, alloc, &shared, shares, gate) {
+        Ok(back) => back,
+        Err(_) => Vec::new(alloc),
+    };
     let book = shared.into_book();
     book.holds();
     stm_state::reached_by_list();
     stm_state::last_entry_is_done();
     stm_state::one_worker_counts_where_reached();
-    let (answer, arena) = settle(alloc, book, back, job);
-    (answer_by(answer, workers), arena)
+    let found = book.core().workers();
+    let (answer, arena) = settle_shares(alloc, book, back.as_slice(), job);
+    (answer_by(answer, found, workers), arena, back)
 }
 
-/// The same answer, but Foreign where the outcome has the counts of another number of workers.
-fn answer_by(answer: Result<Outcome, RunFault>, workers: usize) -> Result<Outcome, RunFault>
-    ensures ok { IfOk result (λ o. (answer ≡ Ok o) × (length o.counts.items ≡ workers)) }
-    ensures err { IfErr result (λ e. (answer ≡ Err e) ⊎ (e ≡ faults.Foreign)) }
+/// The answer of a core that has so many workers, but Foreign where another number was asked for.
+fn answer_by(
+    answer: Result<Outcome, RunFault>,
+    found: usize,
+    workers: usize,
+) -> Result<Outcome, RunFault>
+    ensures ok { IfOk result (λ o. (answer ≡ Ok o) × (found ≡ workers)) }
+    ensures err { IfErr result (λ e. ((answer ≡ Err e) × (found ≡ workers)) ⊎ ((e ≡ faults.Foreign) × (found ≢ workers))) }
 {
-    let outcome = answer?;
-    if outcome.counts.len() == workers {
-        Ok(outcome)
-    } else {
-        Err(RunFault::Foreign)
+    if found != workers {
+        return Err(RunFault::Foreign);
     }
+    answer
 }
 
 /// The lock and the cell over a job's core at its start, and its workers' shares. Where memory ran out the
@@ -168,44 +192,48 @@ fn share_out<B: BlockName>(
     Shared::over(alloc, core, true)
 }
 
-/// Runs a thread for each share, and waits for all of them. Returns the shares of the threads that were not
-/// refused. A fault is written where the system refuses a thread (Spawn), and where memory ran out (Memory).
+/// Runs a thread for each share, and waits for all of them. Returns their shares, or a fault that stands
+/// written: that of a thread, Spawn where the system refuses a thread, and Memory where memory ran out.
 fn run_threads<B: BlockName + Send + Sync, R: Threads + Wait + Sync, G: Gate + Sync>(
     rt: &R,
     alloc: Global,
     shared: &Shared<B>,
     shares: Vec<Share>,
     gate: &G,
-) -> Vec<Share>
+) -> Result<Vec<Share>, WrittenFault>
     requires passes { All (λ share. IsPassOf shared.now.cell share.pass) shares.items }
 {
     thread::scope(
         thread::scope_env(),
         rt,
-        |scope| -> Vec<Share>
+        |scope| -> Result<Vec<Share>, WrittenFault>
             requires { All (λ share. IsPassOf shared.now.cell share.pass) shares.items }
         {
             let (mut handles, mut back) = (Vec::new(alloc), Vec::new(alloc));
             if handles.reserve(shares.len()).is_err() || back.reserve(shares.len()).is_err() {
-                shared.refuse(rt, OutsideFault::Memory);
-                return back;
+                return Err(shared.refuse(rt, OutsideFault::Memory));
             }
+            let mut refused = None;
             for share in shares {
-                let working = move || -> Result<Share, RunFault>
+                let working = move || -> Result<Share, WrittenFault>
                     requires { IsPassOf shared.now.cell share.pass }
                 { work(rt, alloc, shared, share, gate) };
                 match scope.spawn(working) {
                     // There is room.
                     Ok(handle) => drop(handles.push(handle)),
-                    Err(_) => drop(shared.refuse(rt, OutsideFault::Spawn)),
+                    Err(_) => refused = Some(shared.refuse(rt, OutsideFault::Spawn)),
                 }
             }
             for handle in handles {
-                if let Ok(share) = handle.join(rt) {
-                    let _ = back.push(share);
+                match handle.join(rt) {
+                    Ok(share) => drop(back.push(share)),
+                    Err(written) => refused = Some(written),
                 }
             }
-            back
+            match refused {
+                Some(written) => Err(written),
+                None => Ok(back),
+            }
         },
     )
 }

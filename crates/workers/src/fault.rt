@@ -41,3 +41,14 @@ impl fmt::Display for RunFault {
         }
     }
 }
+
+/// A fault that is met outside the lock.
+#[derive(Clone, Copy, Debug)]
+pub(crate) enum OutsideFault {
+    /// Memory ran out.
+    Memory,
+    /// A thread was refused.
+    Spawn,
+    /// The block has no call of that index.
+    Foreign,
+}

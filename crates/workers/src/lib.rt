@@ -9,17 +9,15 @@ pub mod done_cell;
 pub mod executor;
 pub mod fault;
 pub mod gate;
-pub mod share;
 pub mod shared;
 pub mod worker;
 
 pub use answer::settle;
-pub use book::Book;
+pub use book::{Book, Share, WrittenFault};
 pub use chain::{Chain, ChainFault};
 pub use done_cell::{DoneCell, DonePass};
 pub use executor::Executor;
 pub use fault::RunFault;
 pub use gate::{Gate, Open};
-pub use share::Share;
 pub use shared::Shared;
 pub use worker::work;

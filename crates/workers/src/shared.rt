@@ -4,10 +4,9 @@ ghost use Rattle.std.specs.Prelude.{◌≡◌, true, All, IfOk, map};
 ghost use Rattle.workers.specs.Book.{zero_counts_of_all, counts_of_share};
 ghost use Rattle.workers.specs.DoneCell.{IsPassOf};
 
-use crate::book::{BlockName, Book};
+use crate::book::{BlockName, Book, Share, WrittenFault};
 use crate::done_cell::DoneCell;
-use crate::fault::RunFault;
-use crate::share::Share;
+use crate::fault::OutsideFault;
 use rv_ledger::Block;
 use std::alloc::{AllocError, Global};
 use std::marker::Brand;
@@ -89,25 +88,11 @@ impl<B: BlockName> Shared<B> {
         lock.into_inner().without_name()
     }
 
-    /// Writes a fault that was met outside the lock, unless one was written before. Returns the first one.
-    pub(crate) fn refuse<R: Wait>(&self, rt: &R, fault: OutsideFault) -> RunFault {
-        self.lock.lock(rt).write(match fault {
-            OutsideFault::Memory => RunFault::Memory,
-            OutsideFault::Spawn => RunFault::Spawn,
-            OutsideFault::Foreign => RunFault::Foreign,
-        })
+    /// Writes a fault that was met outside the lock, unless one was written before. Returns the first one
+    /// that was written.
+    pub(crate) fn refuse<R: Wait>(&self, rt: &R, fault: OutsideFault) -> WrittenFault {
+        self.lock.lock(rt).write_outside(fault)
     }
-}
-
-/// A fault that is met outside the lock.
-#[derive(Clone, Copy, Debug)]
-pub(crate) enum OutsideFault {
-    /// Memory ran out.
-    Memory,
-    /// A thread was refused.
-    Spawn,
-    /// The block has no call of that index.
-    Foreign,
 }
 
 /// One share per worker, in their order, each with counts of zero and a pass of the cell; refused where

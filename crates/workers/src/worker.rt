@@ -6,11 +6,10 @@ ghost use Rattle.rv_step.specs.Run.{IsEnded};
 ghost use Rattle.rv_step.specs.declared.stage.Stage.TheVariants.{Asked};
 ghost use Rattle.workers.specs.DoneCell.{IsPassOf};
 
-use crate::book::{BlockName, Book};
-use crate::fault::RunFault;
+use crate::book::{BlockName, Book, Share, WrittenFault};
+use crate::fault::OutsideFault;
 use crate::gate::Gate;
-use crate::share::Share;
-use crate::shared::{OutsideFault, Shared};
+use crate::shared::Shared;
 use rv_ledger::Key;
 use rv_step::{Pause, Run};
 use std::alloc::Global;
@@ -27,7 +26,7 @@ pub fn work<B: BlockName, R: Wait, G: Gate>(
     shared: &Shared<B>,
     share: Share,
     gate: &G,
-) -> Result<Share, RunFault>
+) -> Result<Share, WrittenFault>
     requires cell { IsPassOf shared.now.cell share.pass }
     ensures worker { IfOk result (λ back. back.worker ≡ share.worker) }
     ensures dones { IfOk result (λ back. back.dones ≡ share.dones + 1) }
@@ -45,7 +44,7 @@ fn make_steps<B: BlockName, R: Wait, G: Gate>(
     shared: &Shared<B>,
     share: &mut Share,
     gate: &G,
-) -> Result<(), RunFault>
+) -> Result<(), WrittenFault>
     requires cell { IsPassOf shared.now.cell share.old.pass }
     ensures worker { OnOk result (share.new.worker ≡ share.old.worker) }
     ensures dones { OnOk result (share.new.dones ≡ share.old.dones + 1) }
@@ -70,7 +69,7 @@ fn make_step<B: BlockName, R: Wait, G: Gate>(
     share: &mut Share,
     step: NextStep,
     gate: &G,
-) -> Result<Option<NextStep>, RunFault>
+) -> Result<Option<NextStep>, WrittenFault>
     requires cell { IsPassOf shared.now.cell share.old.pass }
     ensures cell { IsPassOf shared.now.cell share.new.pass }
     ensures worker { share.new.worker ≡ share.old.worker }
@@ -96,13 +95,13 @@ fn make_task_step<B: BlockName>(
     book: &mut Book<B>,
     share: &mut Share,
     step: NextStep,
-) -> Result<NextStep, RunFault>
+) -> Result<NextStep, WrittenFault>
     ensures worker { share.new.worker ≡ share.old.worker }
     ensures pass { share.new.pass ≡ share.old.pass }
     ensures dones { OnOk result (share.new.dones ≡ share.old.dones) }
 {
     match step {
-        NextStep::Ask | NextStep::Run { .. } => Err(book.write(RunFault::Foreign)),
+        NextStep::Ask | NextStep::Run { .. } => Err(book.write_outside(OutsideFault::Foreign)),
         NextStep::Park { call, incarnation } => book.park(share, call, incarnation),
         NextStep::MoveKey { call, incarnation } => book.move_key(share, call, incarnation),
         NextStep::FinishExecution { call, incarnation } => {
@@ -123,7 +122,7 @@ fn ask<B: BlockName, R: Wait>(
     rt: &R,
     shared: &Shared<B>,
     share: &mut Share,
-) -> Result<Option<NextStep>, RunFault>
+) -> Result<Option<NextStep>, WrittenFault>
     requires cell { IsPassOf shared.now.cell share.old.pass }
     ensures cell { IsPassOf shared.now.cell share.new.pass }
     ensures worker { share.new.worker ≡ share.old.worker }
@@ -149,7 +148,7 @@ fn run_call<B: BlockName, R: Wait, G: Gate>(
     call: u16,
     incarnation: u16,
     gate: &G,
-) -> Result<NextStep, RunFault>
+) -> Result<NextStep, WrittenFault>
     ensures worker { share.new.worker ≡ share.old.worker }
     ensures pass { share.new.pass ≡ share.old.pass }
     ensures dones { OnOk result (share.new.dones ≡ share.old.dones) }
@@ -172,14 +171,14 @@ fn record<B: BlockName, R: Wait, G: Gate>(
     incarnation: u16,
     gate: &G,
     run: Run,
-) -> Result<NextStep, RunFault>
+) -> Result<NextStep, WrittenFault>
     requires ended { IsEnded run.stage }
     requires call { slice_get shared.now.block call ≡ Some run.call }
     ensures worker { share.new.worker ≡ share.old.worker }
     ensures pass { share.new.pass ≡ share.old.pass }
     ensures dones { OnOk result (share.new.dones ≡ share.old.dones) }
 {
-    gate.held(share.worker);
+    gate.held(share.worker());
     let ended = run.finish();
     shared
         .lock
@@ -195,7 +194,7 @@ fn run_to_end<B: BlockName, R: Wait>(
     call: u16,
     incarnation: u16,
     run: &mut Run,
-) -> Result<bool, RunFault>
+) -> Result<bool, WrittenFault>
     ensures call { run.new.call ≡ run.old.call }
     ensures ended { IfOk result (λ ended. ended ≡ true → IsEnded run.new.stage) }
     ensures worker { share.new.worker ≡ share.old.worker }
@@ -225,7 +224,7 @@ fn read<B: BlockName, R: Wait>(
     incarnation: u16,
     run: &mut Run,
     key: &Key,
-) -> Result<bool, RunFault>
+) -> Result<bool, WrittenFault>
     requires { run.old.stage ≡ Asked key.now }
     ensures call { run.new.call ≡ run.old.call }
     ensures worker { share.new.worker ≡ share.old.worker }
@@ -248,7 +247,7 @@ fn start<B: BlockName, R: Wait>(
     alloc: Global,
     shared: &Shared<B>,
     call: u16,
-) -> Result<Run, RunFault>
+) -> Result<Run, WrittenFault>
     ensures { IfOk result (λ run. slice_get shared.now.block call ≡ Some run.call) }
 {
     match shared.block.calls().get(usize::from(call)) {

@@ -1,7 +1,7 @@
 use Rattle.std.proofs.Common.{[], ◌∷◌, All, map, ap, sym, subst, ◌∙◌}
 use Rattle.std.proofs.lemmas.List.Elements.{All-append, All-cons, All-nil}
 use Rattle.workers.specs.DoneCell.{IsPassOf}
-use Rattle.workers.specs.declared.share.Share.{Share}
+use Rattle.workers.specs.declared.book.share.Share.{Share}
 use Rattle.workers.specs.Book.{counts_of_share}
 use Rattle.workers.proofs.Zeros.{one_share_more}
 use Rattle.workers.proofs.shared.new_shares.Goals as goal

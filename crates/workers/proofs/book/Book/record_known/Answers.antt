@@ -1,9 +1,11 @@
 use Rattle.std.proofs.Common.{◌≡◌, ◌<◌, None, length, sym, ap, subst, ◌∙◌}
 use Rattle.stm_state.specs.Steps.{Record}
+use Rattle.rv_ledger.specs.declared.outcome.Counts.{Counts}
+use Rattle.scheduler.specs.declared.counting.TheConstants.{COUNT_LIMIT}
 use Rattle.stm_core.specs.CoreState.{CoreState, IsOwn, IsTaken}
 use Rattle.stm_core.specs.declared.next_step.NextStep.TheVariants as next_step
 use Rattle.workers.specs.declared.fault.RunFault.{RunFault}
-use Rattle.workers.specs.Book.{BookState, IsCauseAfter, MayWrite, Owes, fault_of, first_fault}
+use Rattle.workers.specs.Book.{BookState, IsCauseAfter, MayCount, MayWrite, Owes, fault_of, first_fault}
 use Rattle.workers.proofs.Causes.{IsHandedIn, handed_in, refusal_cause, refusal_may_write}
 use Rattle.workers.proofs.book.Book.record_known.Goals as goal
 use Rattle.workers.proofs.book.Book.record_known.Goals.{then-known+then-self, else-known}
@@ -38,10 +40,12 @@ returns-in-Err-clause-cause g c =
       | else-known x ↦ (let said = x.record-recorded.ensures in handed_in w run c.self.inside.core x.record-recorded.new.self c.if-known.self-inside.core x.record-recorded.result c.if-known.recorded x.recorded-is (ap (λ s. s.core) x.self-inside-is)
           (record { own = said.own; full = said.full; limit = said.limit; memory = said.memory; back = said.back }))
     ] in
+    let may : MayCount w c.self.inside.core =
+    subst (λ (x : CoreState). MayCount w x) (sym same) (subst (λ (n : Counts). n.steps < COUNT_LIMIT) ready.0.agrees.counts ready.2) in
     let Owed = Owes (next_step.Run c.args.call c.args.incarnation) c.args.share.now b.core in
     let cause : IsCauseAfter None Owed (IsOwn w run b.core) (IsTaken w Record b.core) Record w b.core (fault_of c.in-Err.refused.fault) =
     subst (λ (x : CoreState). IsCauseAfter None Owed (IsOwn w run x) (IsTaken w Record x) Record w x (fault_of c.in-Err.refused.fault)) same
-    (refusal_cause w run c.self.inside.core c.if-known.self-inside.core c.if-known.recorded handed c.in-Err.refused c.in-Err.is Owed) in
+    (refusal_cause w run c.self.inside.core c.if-known.self-inside.core c.if-known.recorded handed c.in-Err.refused c.in-Err.is Owed ready.0 may) in
     let fault : c.if-known.self-inside.fault ≡ None = elim c.if-known.branch [
       | then-known+then-self x ↦ ap (λ s. s.fault) x.self-inside-is ∙ none
       | else-known x ↦ ap (λ s. s.fault) x.self-inside-is ∙ none

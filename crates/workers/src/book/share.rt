@@ -9,9 +9,9 @@ use rv_ledger::Counts;
 /// step calls of `Book` change them.
 #[derive(Drop)]
 pub struct Share {
-    pub(crate) worker: usize,
-    pub(crate) counts: Counts,
-    pub(crate) dones: u64,
+    pub(super) worker: usize,
+    pub(super) counts: Counts,
+    pub(super) dones: u64,
     pub(crate) pass: DonePass,
 }
 
