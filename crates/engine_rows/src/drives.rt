@@ -115,9 +115,6 @@ fn an_empty_block_is_done_at_once(rt: HostRuntime) -> Result<(), Fail> {
 /// The call lines of a block of ECHO, the number of workers, a schedule, and the line of the refusal.
 const REFUSED: &[(&str, usize, &str, &str)] = &[
     (THREE_ECHOES, 1, "0\n", "rvstm: drive NotDone 1\n"),
-    (THREE_ECHOES, 2, "0\n2\n", "rvstm: drive BadWorker 2\n"),
-    (THREE_ECHOES, 0, "", "rvstm: drive BadWorker 2\n"),
-    (THREE_ECHOES, 33, "0\n", "rvstm: drive BadWorker 2\n"),
     (
         THREE_ECHOES,
         1,
@@ -154,6 +151,21 @@ fn assert_refused(
 fn refused_schedules_are_reported(rt: HostRuntime) -> Result<(), Fail> {
     for (lines, workers, schedule, line) in REFUSED {
         assert_refused(&rt, rt.alloc(), lines, *workers, schedule, line)?;
+    }
+    Ok(())
+}
+
+#[test]
+fn bad_worker(rt: HostRuntime) -> Result<(), Fail> {
+    for (workers, schedule) in [(0, ""), (33, "0\n"), (2, "0\n2\n")] {
+        assert_refused(
+            &rt,
+            rt.alloc(),
+            THREE_ECHOES,
+            workers,
+            schedule,
+            "rvstm: drive BadWorker 2\n",
+        )?;
     }
     Ok(())
 }

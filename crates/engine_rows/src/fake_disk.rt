@@ -401,9 +401,22 @@ pub fn answer_on<T: Threads + Wait + Sync, W: Write>(
     errors: &mut Vec<u8>,
 ) -> u8 {
     let mut input = input;
+    answer_along(threads, alloc, line, stored, &mut input, out, errors)
+}
+
+/// The same with any reader of its input, and any writer for what stands on standard error.
+pub fn answer_along<T: Threads + Wait + Sync, I: Read, W: Write, E: Write>(
+    threads: &T,
+    alloc: Global,
+    line: &[u8],
+    stored: &Stored,
+    input: &mut I,
+    out: &mut W,
+    errors: &mut E,
+) -> u8 {
     let disk = FakeDisk { stored, alloc };
     let words = Words { line };
-    status(&(words, alloc), threads, &disk, &mut input, out, errors)
+    status(&(words, alloc), threads, &disk, input, out, errors)
 }
 
 impl Answer {

@@ -29,9 +29,13 @@ mod outside;
 #[cfg(test)]
 mod programs;
 #[cfg(test)]
+mod reports;
+#[cfg(test)]
 mod rows;
 #[cfg(test)]
 mod schedules;
+#[cfg(test)]
+mod sizes;
 #[cfg(test)]
 mod sources;
 #[cfg(test)]

@@ -19,10 +19,10 @@ use std::{io, str};
 const NONE: usize = usize::MAX;
 
 /// A block of one call.
-const BLOCK: &str = "rvblock 1\nprogram 0 echo.elf\ncall 0 100 0102\n";
+pub const BLOCK: &str = "rvblock 1\nprogram 0 echo.elf\ncall 0 100 0102\n";
 
 /// What it prints.
-const RESULT: &str = "call 0 returned gas 13 pc 00010004 out 0102\n\
+pub const RESULT: &str = "call 0 returned gas 13 pc 00010004 out 0102\n\
     regs 00000000 00000000 00110000 00000000 00000000 00000000 00000000 00000000 \
     00000000 00000000 00100000 00000002 00000000 00000000 00000000 00000000 \
     00000000 00000003 00000000 00000000 00000000 00000000 00000000 00000000 \
@@ -54,7 +54,7 @@ fn put_echo(alloc: Global, stored: &Stored, path: &str) -> io::Result<()> {
 }
 
 /// A disk with the echo program at two paths, and the other files.
-fn disk_of_echo(alloc: Global) -> io::Result<Stored> {
+pub fn disk_of_echo(alloc: Global) -> io::Result<Stored> {
     let stored = Stored::new(alloc, NONE);
     put_echo(alloc, &stored, "echo.elf")?;
     put_echo(alloc, &stored, "other.elf")?;
@@ -367,7 +367,7 @@ fn assert_output_fails<R: Threads + Wait + Sync + Abort>(
 }
 
 /// Asserts that a status is 1, and that this stands on standard error.
-fn assert_failed(rt: &impl Abort, status: u8, errors: &[u8], error: &str, line: &str) {
+pub fn assert_failed(rt: &impl Abort, status: u8, errors: &[u8], error: &str, line: &str) {
     assert_number(rt, status as u64, 1, line);
     assert_bytes(rt, errors, error.as_bytes(), line);
 }

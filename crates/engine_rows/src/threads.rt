@@ -223,6 +223,12 @@ fn bad_count(rt: HostRuntime) -> Result<(), Fail> {
     assert_bad_count(&rt, rt.alloc(), &mut executor, 0)?;
     assert_bad_count(&rt, rt.alloc(), &mut executor, 33)?;
     assert_shown(&rt, rt.alloc(), &RunFault::BadCount, "BadCount 1")?;
+    assert_shown(
+        &rt,
+        rt.alloc(),
+        &RunFault::IncarnationLimit,
+        "IncarnationLimit 4",
+    )?;
     Ok(())
 }
 
@@ -252,7 +258,10 @@ fn work_alone<R: Wait>(
 ) -> Result<Share, RunFault>
     requires { IsPassOf shared.now.cell share.pass }
 {
-    work(rt, alloc, shared, share, &Open)
+    match work(rt, alloc, shared, share, &Open) {
+        Ok(back) => Ok(back),
+        Err(written) => Err(written.fault()),
+    }
 }
 
 /// The shares of workers who work one after another.

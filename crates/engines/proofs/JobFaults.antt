@@ -1,6 +1,6 @@
 -- A refusal met before a job is made is one of the run in order.
-use Rattle.std.proofs.Common.{◌≡◌, ℕ, List, inl, inr}
-use Rattle.std.specs.Prelude.{Option, Some, None, Result, Ok, Err, IfSome}
+use Rattle.std.proofs.Common.{◌≡◌, ◌⊎◌, ℕ, List, inl, inr}
+use Rattle.std.specs.Prelude.{Option, Some, None, Result, Ok, Err, IfSome, IsOk}
 use Rattle.std.specs.Option.{option_map}
 use Rattle.std.specs.Result.{result_map_both}
 use Rattle.elf32.specs.Layout.{Layout}
@@ -9,21 +9,28 @@ use Rattle.block_file.specs.declared.fault.BlockFault.{BlockFault}
 use Rattle.engines.specs.declared.fault.Refusal.{Refusal}
 use Rattle.engines.specs.declared.fault.Refusal.TheVariants.{File, Block, Elf, Asm, Seq, Schedule, Run, Drive, Debug, Output}
 use Rattle.engines.specs.declared.fault.FileFault.TheVariants.{Unreadable, Unwritable, TooLong}
-use Rattle.engines.specs.Engine.{answer_of, files_of, job_over, loaded_job, programs_of, result_of, IsFaultOf}
+use Rattle.engines.specs.Engine.{answer_of, job_over, loaded_job, programs_of, result_of, IsFaultOf}
 use Rattle.engines.specs.Parts.{IsJobFault}
 
-with_programs : (block : BlockValue) (programs : Result (List Layout) Refusal) (e : Refusal) → result_map_both (job_over block) (λ fault. fault) programs ≡ Err e → result_map_both (result_of block) (λ fault. fault) programs ≡ Err e
-with_programs block (Ok images) e h = cc
-with_programs block (Err fault) e h = cc
-
-with_files : (block : BlockValue) (files : Option (List (List ℕ))) (e : Refusal) → IfSome (option_map (λ f. result_map_both (job_over block) (λ fault. fault) (programs_of f)) files) (λ w. w ≡ Err e) → IfSome (option_map (λ f. result_map_both (result_of block) (λ fault. fault) (programs_of f)) files) (λ a. a ≡ Err e)
-with_files block None e h = tt
-with_files block (Some files) e h = with_programs block (programs_of files) e h
+with_programs : (block : BlockValue) (programs : Option (Result (List Layout) Refusal)) (e : Refusal) → IfSome (option_map (result_map_both (job_over block) (λ fault. fault)) programs) (λ w. w ≡ Err e) → IfSome (option_map (result_map_both (result_of block) (λ fault. fault)) programs) (λ a. a ≡ Err e)
+with_programs block None e h = tt
+with_programs block (Some (Ok images)) e h = cc
+with_programs block (Some (Err fault)) e h = cc
 
 -- the first fault of a block file's job is that of its result
 first_fault : (content : List ℕ → Option (List ℕ)) (block : Result BlockValue BlockFault) (e : Refusal) → IfSome (loaded_job content block) (λ w. w ≡ Err e) → IfSome (answer_of content block) (λ a. a ≡ Err e)
 first_fault content (Err fault) e h = cc
-first_fault content (Ok block) e h = with_files block (files_of content block.programs) e h
+first_fault content (Ok block) e h = with_programs block (programs_of content block.programs) e h
+
+over_programs : (block : BlockValue) (programs : Option (Result (List Layout) Refusal)) → IfSome (option_map (result_map_both (job_over block) (λ fault. fault)) programs) (λ w. IsOk w) → IfSome (option_map (result_map_both (result_of block) (λ fault. fault)) programs) (λ a. IsOk a)
+over_programs block None h = tt
+over_programs block (Some (Ok images)) h = cc
+over_programs block (Some (Err fault)) h = h
+
+-- where there is a job, there is a result
+pub no_fault : (content : List ℕ → Option (List ℕ)) (block : Result BlockValue BlockFault) → IfSome (loaded_job content block) (λ w. IsOk w) → IfSome (answer_of content block) (λ a. IsOk a)
+no_fault content (Err fault) h = h
+no_fault content (Ok block) h = over_programs block (programs_of content block.programs) h
 
 pub job_fault : (content : List ℕ → Option (List ℕ)) (block : Result BlockValue BlockFault) (old new : Option (List ℕ)) (e : Refusal) → IsJobFault content block e → IsFaultOf content block old new e
 job_fault content block old new (Block fault) h = h

@@ -1,5 +1,5 @@
 -- What the engine of `rvstm debug` writes, and what it refuses.
-use Rattle.std.specs.Prelude.{ℕ, List, ◌≡◌, ⊤, Option, Some, None, IfSome, Result, Ok, Err, IsOkAnd, slice_get}
+use Rattle.std.specs.Prelude.{ℕ, List, ◌≡◌, ⊤, Option, Some, None, IfSome, Result, Ok, Err, IsOk, IsOkAnd, slice_get}
 use Rattle.std.specs.Option.{option_map}
 use Rattle.block_file.specs.Block.{BlockValue}
 use Rattle.block_file.specs.declared.fault.BlockFault.{BlockFault}
@@ -29,12 +29,12 @@ replayed_text (Err fault) index typed = Err fault
 replayed_text (Ok job) index typed = session_text (first_moment job index) typed
 
 -- a refusal: NoSuchCall only where the job of the files has no such call; a fault of the files is as in a run in order;
--- a refusal of the session's reads, writes or memory may come at any line
+-- a refusal of the session's writes or memory comes only where nothing that was read has a fault, and at any line
 abbrev pub IsFaultOfDebug : (List ℕ → Option (List ℕ)) → Result BlockValue BlockFault → ℕ → Option (List ℕ) → Option (List ℕ) → Refusal → Type 0
 IsFaultOfDebug content block index old new (Debug debug.NoSuchCall) = IfSome (loaded_job content block) (λ wanted. IsOkAnd wanted (λ job. slice_get job.block index ≡ None))
-IsFaultOfDebug content block index old new (Debug debug.Memory) = ⊤
+IsFaultOfDebug content block index old new (Debug debug.Memory) = IfSome (loaded_job content block) (λ wanted. IsOk wanted)
 IsFaultOfDebug content block index old new (Debug fault) = ⊥
-IsFaultOfDebug content block index old new (Output fault) = ⊤
+IsFaultOfDebug content block index old new (Output fault) = IfSome (loaded_job content block) (λ wanted. IsOk wanted)
 IsFaultOfDebug content block index old new fault = IsFaultOf content block old new fault
 
 -- a refusal that comes before the session leaves the output as it was

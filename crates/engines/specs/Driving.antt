@@ -1,5 +1,5 @@
 -- What the engine of `rvstm drive` writes, and what it refuses.
-use Rattle.std.specs.Prelude.{ℕ, List, ◌≡◌, ◌⊎◌, ⊤, map, Option, Some, IfSome, Result, Ok, Err, IsOkAnd, option_and_then}
+use Rattle.std.specs.Prelude.{ℕ, List, ◌≡◌, ◌⊎◌, ◌≤◌, ⊤, map, Option, Some, IfSome, Result, Ok, Err, IfErr, IsOk, IsOkAnd, option_and_then}
 use Rattle.std.specs.Option.{option_map}
 use Rattle.std.specs.Result.{result_map_both}
 use Rattle.elf32.specs.Layout.{Layout}
@@ -16,7 +16,7 @@ use Rattle.receipts.specs.Written.{AppendsPart}
 use Rattle.block_file.specs.Block.{BlockValue}
 use Rattle.block_file.specs.declared.fault.BlockFault.{BlockFault}
 use Rattle.block_file.specs.declared.fault.Cause.TheVariants as cause
-use Rattle.engines.specs.Engine.{call_over, files_of, programs_of}
+use Rattle.engines.specs.Engine.{call_over, loaded_job, programs_of, IsTextFault}
 use Rattle.engines.specs.declared.fault.Refusal.{Refusal}
 use Rattle.engines.specs.declared.fault.Refusal.TheVariants.{File, Block, Elf, Schedule, Drive, Output}
 use Rattle.engines.specs.declared.fault.FileFault.TheVariants.{Unreadable, TooLong}
@@ -49,16 +49,21 @@ text_over block workers schedule (Ok images) = option_map (text_by block images 
 -- its programs, in the schedule file, then along the schedule. None where the bytes that decide this are unknown
 abbrev pub driven_answer : (List ℕ → Option (List ℕ)) → Result BlockValue BlockFault → ℕ → Option (Result (List ℕ) BlockFault) → Option (Result (List ℕ) Refusal)
 driven_answer content (Err fault) workers schedule = Some (Err (Block fault))
-driven_answer content (Ok block) workers schedule = option_and_then (λ files. text_over block workers schedule (programs_of files)) (files_of content block.programs)
+driven_answer content (Ok block) workers schedule = option_and_then (text_over block workers schedule) (programs_of content block.programs)
 
--- a refusal: a fault of what was read or of the run along the schedule is the wanted one, or Memory; where the output
--- was refused, a beginning of the wanted text was written
-abbrev pub IsFaultIn : Option (Result (List ℕ) Refusal) → Option (List ℕ) → Option (List ℕ) → Refusal → Type 0
-IsFaultIn answer old new (Block fault) = (fault.cause ≡ cause.Memory) ⊎ IfSome answer (λ a. a ≡ Err (Block fault))
-IsFaultIn answer old new (Elf fault) = (fault ≡ elf.Memory) ⊎ IfSome answer (λ a. a ≡ Err (Elf fault))
-IsFaultIn answer old new (File TooLong) = IfSome answer (λ a. a ≡ Err (File TooLong))
-IsFaultIn answer old new (File Unreadable) = ⊤
-IsFaultIn answer old new (Schedule fault) = (fault.cause ≡ cause.Memory) ⊎ IfSome answer (λ a. a ≡ Err (Schedule fault))
-IsFaultIn answer old new (Drive fault) = (fault ≡ drive.Memory) ⊎ IfSome answer (λ a. a ≡ Err (Drive fault))
-IsFaultIn answer old new (Output fault) = IfSome answer (λ a. IsOkAnd a (AppendsPart old new))
-IsFaultIn answer old new _ = ⊥
+-- a refusal met in the schedule file: Memory on a line with no fault before it
+abbrev pub IsScheduleMemory : Option (Result (List ℕ) BlockFault) → BlockFault → Type 0
+IsScheduleMemory schedule fault = (fault.cause ≡ cause.Memory) × IfSome schedule (λ s. IfErr s (λ first. fault.line ≤ first.line))
+
+-- a refusal: a fault of what was read or of the run along the schedule is the first one. Memory for a program comes
+-- only where the block file has no fault, and Memory for the schedule or of the run only where the programs have none
+-- either. Where the output was refused, a beginning of the wanted text was written
+abbrev pub IsFaultOfDrive : (List ℕ → Option (List ℕ)) → Result BlockValue BlockFault → ℕ → Option (Result (List ℕ) BlockFault) → Option (List ℕ) → Option (List ℕ) → Refusal → Type 0
+IsFaultOfDrive content block workers schedule old new (Block fault) = IsTextFault block fault
+IsFaultOfDrive content block workers schedule old new (Elf fault) = ((fault ≡ elf.Memory) × IsOk block) ⊎ IfSome (driven_answer content block workers schedule) (λ a. a ≡ Err (Elf fault))
+IsFaultOfDrive content block workers schedule old new (File TooLong) = IfSome (driven_answer content block workers schedule) (λ a. a ≡ Err (File TooLong))
+IsFaultOfDrive content block workers schedule old new (File Unreadable) = ⊤
+IsFaultOfDrive content block workers schedule old new (Schedule fault) = (IsScheduleMemory schedule fault × IfSome (loaded_job content block) (λ wanted. IsOk wanted)) ⊎ IfSome (driven_answer content block workers schedule) (λ a. a ≡ Err (Schedule fault))
+IsFaultOfDrive content block workers schedule old new (Drive fault) = ((fault ≡ drive.Memory) × IfSome (loaded_job content block) (λ wanted. IsOk wanted)) ⊎ IfSome (driven_answer content block workers schedule) (λ a. a ≡ Err (Drive fault))
+IsFaultOfDrive content block workers schedule old new (Output fault) = IfSome (driven_answer content block workers schedule) (λ a. IsOkAnd a (AppendsPart old new))
+IsFaultOfDrive content block workers schedule old new _ = ⊥

@@ -1,5 +1,5 @@
 -- What the engine of `rvstm seq` writes, and what it refuses.
-use Rattle.std.specs.Prelude.{ℕ, List, [], ◌∷◌, ◌≡◌, ◌⊎◌, ⊤, map, length, nat_lt, slice_index_or, Option, Some, None, IfSome, Result, Ok, Err, IsOkAnd, if◌then◌else◌}
+use Rattle.std.specs.Prelude.{ℕ, List, [], ◌∷◌, ◌≡◌, ◌⊎◌, ◌≤◌, ⊤, map, length, nat_lt, slice_index_or, Option, Some, None, IfSome, Result, Ok, Err, IfErr, IsOk, IsOkAnd, if◌then◌else◌}
 use Rattle.std.specs.Option.{option_map}
 use Rattle.std.specs.Result.{result_map_both}
 use Rattle.elf32.specs.Layout.{Layout}
@@ -17,30 +17,22 @@ use Rattle.block_file.specs.declared.fault.Cause.TheVariants as cause
 use Rattle.engines.specs.declared.fault.Refusal.{Refusal}
 use Rattle.engines.specs.declared.fault.Refusal.TheVariants.{File, Block, Elf, Seq, Output}
 use Rattle.engines.specs.declared.fault.FileFault.TheVariants.{TooLong, Unreadable}
-use Rattle.engines.specs.declared.reading.TheConstants.{PROGRAM_FILE_LIMIT}
-
--- the bytes of the files at some paths; None where some are unknown
-abbrev pub with_file : Option (List ℕ) → Option (List (List ℕ)) → Option (List (List ℕ))
-with_file (Some bytes) (Some files) = Some (bytes ∷ files)
-with_file _ _ = None
-
-abbrev pub files_of : (List ℕ → Option (List ℕ)) → List (List ℕ) → Option (List (List ℕ))
-files_of content [] = Some []
-files_of content (path ∷ paths) = with_file (content path) (files_of content paths)
 
 -- the program of a file of at most 131,072 bytes, or its fault
 abbrev pub program_of : List ℕ → Result Layout Refusal
-program_of bytes = if nat_lt PROGRAM_FILE_LIMIT (length bytes) then Err (File TooLong) else result_map_both (λ image. image) Elf (image_of bytes)
+program_of bytes = if nat_lt 131072 (length bytes) then Err (File TooLong) else result_map_both (λ image. image) Elf (image_of bytes)
 
--- the programs of files, or the fault of the first faulty one
-abbrev pub with_program : Result Layout Refusal → Result (List Layout) Refusal → Result (List Layout) Refusal
-with_program (Err fault) rest = Err fault
-with_program (Ok image) (Err fault) = Err fault
-with_program (Ok image) (Ok images) = Ok (image ∷ images)
+-- a program before others, or the first fault; None where what decides this is unknown
+abbrev pub with_program : Option (Result Layout Refusal) → Option (Result (List Layout) Refusal) → Option (Result (List Layout) Refusal)
+with_program None rest = None
+with_program (Some (Err fault)) rest = Some (Err fault)
+with_program (Some (Ok image)) rest = option_map (result_map_both (λ images. image ∷ images) (λ fault. fault)) rest
 
-abbrev pub programs_of : List (List ℕ) → Result (List Layout) Refusal
-programs_of [] = Ok []
-programs_of (bytes ∷ files) = with_program (program_of bytes) (programs_of files)
+-- the programs of the files at some paths, or the fault of the first faulty one, whatever comes after it; None where a
+-- file before the first faulty one is unknown
+abbrev pub programs_of : (List ℕ → Option (List ℕ)) → List (List ℕ) → Option (Result (List Layout) Refusal)
+programs_of content [] = Some (Ok [])
+programs_of content (path ∷ paths) = with_program (option_map program_of (content path)) (programs_of content paths)
 
 -- the call of a line, over the program that has its number
 abbrev pub call_over : List Layout → CallValue → Invocation
@@ -54,31 +46,36 @@ call_over images line = record {
 abbrev pub job_over : BlockValue → List Layout → Job
 job_over block images = record { block = map (call_over images) block.calls; store = block.store }
 
--- the job of a block file, or the first fault in it or in the files of its programs; None where the block file has no
--- fault and one of these files is unknown
+-- the job of a block file, or the first fault in it or in the files of its programs; None where the bytes that decide
+-- this are unknown
 abbrev pub loaded_job : (List ℕ → Option (List ℕ)) → Result BlockValue BlockFault → Option (Result Job Refusal)
 loaded_job content (Err fault) = Some (Err (Block fault))
-loaded_job content (Ok block) = option_map (λ files. result_map_both (job_over block) (λ fault. fault) (programs_of files)) (files_of content block.programs)
+loaded_job content (Ok block) = option_map (result_map_both (job_over block) (λ fault. fault)) (programs_of content block.programs)
 
 -- the text of the result of a block: its calls are run in order, each over the storage that the ones before it left
 abbrev pub result_of : BlockValue → List Layout → List ℕ
 result_of block images = result_text (receipts_of (map (call_over images) block.calls) block.store) (store_after (map (call_over images) block.calls) block.store)
 
 -- what is to be written for a block file, or the first fault in it or in the files of its programs; None where the
--- block file has no fault and one of these files is unknown
+-- bytes that decide this are unknown
 abbrev pub answer_of : (List ℕ → Option (List ℕ)) → Result BlockValue BlockFault → Option (Result (List ℕ) Refusal)
 answer_of content (Err fault) = Some (Err (Block fault))
-answer_of content (Ok block) = option_map (λ files. result_map_both (result_of block) (λ fault. fault) (programs_of files)) (files_of content block.programs)
+answer_of content (Ok block) = option_map (result_map_both (result_of block) (λ fault. fault)) (programs_of content block.programs)
 
--- a refusal: a fault of the block file or of its programs is the wanted one, or Memory; where the output was refused, a
--- beginning of the wanted text was written
+-- a fault of a text is its first one, or Memory on a line with no fault before it
+abbrev pub IsTextFault : {X : Type 0} → Result X BlockFault → BlockFault → Type 0
+IsTextFault text fault = (text ≡ Err fault) ⊎ ((fault.cause ≡ cause.Memory) × IfErr text (λ first. fault.line ≤ first.line))
+
+-- a refusal: a fault of the block file or of its programs is the first one. Memory for a program comes only where the
+-- block file has no fault, and Memory of the run only where its programs have none either. Where the output was
+-- refused, a beginning of the wanted text was written
 abbrev pub IsFaultOf : (List ℕ → Option (List ℕ)) → Result BlockValue BlockFault → Option (List ℕ) → Option (List ℕ) → Refusal → Type 0
-IsFaultOf content block old new (Block fault) = (fault.cause ≡ cause.Memory) ⊎ (block ≡ Err fault)
-IsFaultOf content block old new (Elf fault) = (fault ≡ elf.Memory) ⊎ IfSome (answer_of content block) (λ answer. answer ≡ Err (Elf fault))
+IsFaultOf content block old new (Block fault) = IsTextFault block fault
+IsFaultOf content block old new (Elf fault) = ((fault ≡ elf.Memory) × IsOk block) ⊎ IfSome (answer_of content block) (λ answer. answer ≡ Err (Elf fault))
 IsFaultOf content block old new (File TooLong) = IfSome (answer_of content block) (λ answer. answer ≡ Err (File TooLong))
 IsFaultOf content block old new (Output fault) = IfSome (answer_of content block) (λ answer. IsOkAnd answer (AppendsPart old new))
 IsFaultOf content block old new (File Unreadable) = ⊤
-IsFaultOf content block old new (Seq fault) = ⊤
+IsFaultOf content block old new (Seq fault) = IfSome (answer_of content block) (λ answer. IsOk answer)
 IsFaultOf content block old new _ = ⊥
 
 -- a refused command wrote nothing, unless a write failed

@@ -1,5 +1,5 @@
 -- What `rvstm dis` prints and `rvstm asm` writes, and what they refuse.
-use Rattle.std.specs.Prelude.{◌≡◌, ◌⊎◌, ⊤, ℕ, List, [], ◌∷◌, ◌++◌, flat_map, Option, Result, Ok, Err, IsOkAnd, if◌then◌else◌, length, ◌==◌, IsUtf8}
+use Rattle.std.specs.Prelude.{◌≡◌, ◌⊎◌, ⊤, ℕ, List, [], ◌∷◌, ◌++◌, flat_map, Option, Result, Ok, Err, IsOk, IsOkAnd, if◌then◌else◌, length, ◌==◌, IsUtf8}
 use Rattle.std.specs.Result.{result_map_both}
 use Rattle.elf32.specs.Layout.{Layout}
 use Rattle.elf32.specs.Words.{words_of}
@@ -8,6 +8,7 @@ use Rattle.elf32.specs.declared.words.PlacedWord.{PlacedWord}
 use Rattle.elf32.specs.declared.error.ElfError.TheVariants as elf
 use Rattle.receipts.specs.Text.{word_text}
 use Rattle.receipts.specs.Written.{AppendsPart}
+use Rattle.receipts.specs.declared.write.WriteFault.TheVariants as output
 use Rattle.rv_names.specs.Text as text
 use Rattle.rv_program.specs.Sections.{Sections}
 use Rattle.rv_text.specs.Assembly.{assembled}
@@ -31,11 +32,12 @@ abbrev pub listing_of_file : List ℕ → Result (List ℕ) Refusal
 listing_of_file bytes = result_map_both listing_of (λ fault. fault) (program_of bytes)
 
 -- a refusal of `dis`: a fault of the file is the wanted one, or Memory; where the output was refused, a beginning of
--- the wanted text was written
+-- the wanted text was written. Memory of the output does not come
 abbrev pub IsListingFault : Result (List ℕ) Refusal → Option (List ℕ) → Option (List ℕ) → Refusal → Type 0
 IsListingFault answer old new (Elf fault) = (fault ≡ elf.Memory) ⊎ (answer ≡ Err (Elf fault))
 IsListingFault answer old new (File TooLong) = answer ≡ Err (File TooLong)
 IsListingFault answer old new (File Unreadable) = ⊤
+IsListingFault answer old new (Output output.Memory) = ⊥
 IsListingFault answer old new (Output fault) = IsOkAnd answer (AppendsPart old new)
 IsListingFault answer old new _ = ⊥
 
@@ -51,9 +53,10 @@ file_of_program (Err fault) = Err (Asm fault)
 abbrev pub file_of_source : List ℕ → Result (List ℕ) Refusal
 file_of_source source = file_of_program (assembled source)
 
--- a refusal of `asm` before anything is written: a fault of a source in UTF-8 is the wanted one, or Memory
+-- a refusal of `asm` before anything is written: a fault of a source in UTF-8 is the first one. Memory of the assembler
+-- has line 1, and Memory for the file comes only where the source has no fault
 abbrev pub IsSourceFault : List ℕ → Refusal → Type 0
-IsSourceFault source (Asm fault) = (fault.cause ≡ cause.Memory) ⊎ (IsUtf8 source × (file_of_source source ≡ Err (Asm fault)))
-IsSourceFault source (Elf fault) = (fault ≡ elf.Memory) ⊎ (IsUtf8 source × (file_of_source source ≡ Err (Elf fault)))
+IsSourceFault source (Asm fault) = ((fault.cause ≡ cause.Memory) × (fault.line ≡ 1)) ⊎ (IsUtf8 source × (file_of_source source ≡ Err (Asm fault)))
+IsSourceFault source (Elf fault) = IsUtf8 source × (((fault ≡ elf.Memory) × IsOk (file_of_source source)) ⊎ (file_of_source source ≡ Err (Elf fault)))
 IsSourceFault source (File Unreadable) = ⊤
 IsSourceFault source _ = ⊥

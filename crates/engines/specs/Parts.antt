@@ -1,26 +1,26 @@
 -- Private help of proofs: no public clause cites it.
-use Rattle.std.specs.Prelude.{◌≡◌, ◌⊎◌, ⊤, ℕ, List, map, Option, Some, None, IfSome, Result, Ok, Err, slice_get}
+use Rattle.std.specs.Prelude.{◌≡◌, ◌⊎◌, ⊤, ℕ, List, map, Option, Some, None, IfSome, Result, Ok, Err, IsOk, IsOkAnd, slice_get}
 use Rattle.std.specs.Option.{option_map}
 use Rattle.std.specs.Result.{result_map_both}
 use Rattle.elf32.specs.Layout.{Layout}
 use Rattle.elf32.specs.declared.error.ElfError.TheVariants as elf
 use Rattle.block_file.specs.Block.{BlockValue}
 use Rattle.block_file.specs.declared.fault.BlockFault.{BlockFault}
-use Rattle.block_file.specs.declared.fault.Cause.TheVariants as cause
 use Rattle.debugger.specs.declared.fault.ReplayFault.TheVariants as debug
 use Rattle.receipts.specs.Text.{result_text}
 use Rattle.receipts.specs.Written.{AppendsPart}
 use Rattle.rv_ledger.specs.declared.job.Job.{Job}
 use Rattle.rv_step.specs.Fold.{receipts_of, store_after}
-use Rattle.engines.specs.Engine.{loaded_job}
+use Rattle.stm_core.specs.declared.engine.DriveFault.TheVariants as drive
+use Rattle.engines.specs.Engine.{loaded_job, IsTextFault}
 use Rattle.engines.specs.Running.{IsRefusalOf}
 use Rattle.engines.specs.declared.fault.Refusal.{Refusal}
-use Rattle.engines.specs.declared.fault.Refusal.TheVariants.{File, Block, Elf, Seq, Schedule, Run, Debug, Output}
+use Rattle.engines.specs.declared.fault.Refusal.TheVariants.{File, Block, Elf, Seq, Schedule, Run, Drive, Debug, Output}
 use Rattle.engines.specs.declared.fault.FileFault.TheVariants.{Unreadable, TooLong}
 
--- a refusal met in the block file: the wanted one, Memory, or Unreadable
+-- a refusal met in the block file: the wanted one, Memory with no fault before it, or Unreadable
 abbrev pub IsBlockFault : Result BlockValue BlockFault → Refusal → Type 0
-IsBlockFault block (Block fault) = (fault.cause ≡ cause.Memory) ⊎ (block ≡ Err fault)
+IsBlockFault block (Block fault) = IsTextFault block fault
 IsBlockFault block (File Unreadable) = ⊤
 IsBlockFault block _ = ⊥
 
@@ -31,19 +31,23 @@ IsProgramFault wanted (File TooLong) = IfSome wanted (λ w. w ≡ Err (File TooL
 IsProgramFault wanted (File Unreadable) = ⊤
 IsProgramFault wanted _ = ⊥
 
--- a refusal met in the schedule file: the wanted one, Memory, or Unreadable
+-- a refusal met in the schedule file: the wanted one, Memory with no fault before it, or Unreadable
 abbrev pub IsScheduleFault : Option (Result (List ℕ) BlockFault) → Refusal → Type 0
-IsScheduleFault wanted (Schedule fault) = (fault.cause ≡ cause.Memory) ⊎ IfSome wanted (λ w. w ≡ Err fault)
+IsScheduleFault wanted (Schedule fault) = IfSome wanted (λ w. IsTextFault w fault)
 IsScheduleFault wanted (File Unreadable) = ⊤
 IsScheduleFault wanted _ = ⊥
 
--- a refusal met before a job is made: the wanted one, Memory, or Unreadable
+-- a refusal met before a job is made: the wanted one, Memory of the file in hand, or Unreadable
 abbrev pub IsJobFault : (List ℕ → Option (List ℕ)) → Result BlockValue BlockFault → Refusal → Type 0
-IsJobFault content block (Block fault) = (fault.cause ≡ cause.Memory) ⊎ (block ≡ Err fault)
-IsJobFault content block (Elf fault) = (fault ≡ elf.Memory) ⊎ IfSome (loaded_job content block) (λ wanted. wanted ≡ Err (Elf fault))
+IsJobFault content block (Block fault) = IsTextFault block fault
+IsJobFault content block (Elf fault) = ((fault ≡ elf.Memory) × IsOk block) ⊎ IfSome (loaded_job content block) (λ wanted. wanted ≡ Err (Elf fault))
 IsJobFault content block (File TooLong) = IfSome (loaded_job content block) (λ wanted. wanted ≡ Err (File TooLong))
 IsJobFault content block (File Unreadable) = ⊤
 IsJobFault content block _ = ⊥
+
+-- the same, or want of memory for the job, which comes only where nothing that was read has a fault
+abbrev pub IsLoadFault : (List ℕ → Option (List ℕ)) → Result BlockValue BlockFault → Refusal → Refusal → Type 0
+IsLoadFault content block memory e = ((e ≡ memory) × IfSome (loaded_job content block) (λ wanted. IsOk wanted)) ⊎ IsJobFault content block e
 
 -- the text of the result of a job whose calls are run in order
 abbrev pub text_of : Job → List ℕ
@@ -59,6 +63,12 @@ abbrev pub IsRunFault : List ℕ → Option (List ℕ) → Option (List ℕ) →
 IsRunFault text old new (Seq fault) = ⊤
 IsRunFault text old new (Output fault) = AppendsPart old new text
 IsRunFault text old new _ = ⊥
+
+-- a refusal of a run along a list: the wanted one, Memory, or one of the output
+abbrev pub IsDriveFault : Result (List ℕ) Refusal → Option (List ℕ) → Option (List ℕ) → Refusal → Type 0
+IsDriveFault wanted old new (Drive fault) = (fault ≡ drive.Memory) ⊎ (wanted ≡ Err (Drive fault))
+IsDriveFault wanted old new (Output fault) = IsOkAnd wanted (AppendsPart old new)
+IsDriveFault wanted old new _ = ⊥
 
 -- a refusal of a run by workers: one that the job may meet, or one of the output
 abbrev pub IsWorkersFault : Job → ℕ → Option (List ℕ) → Option (List ℕ) → Refusal → Type 0

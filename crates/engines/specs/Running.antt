@@ -3,7 +3,6 @@ use Rattle.std.specs.Prelude.{ℕ, List, ◌≡◌, ◌⊎◌, ◌<◌, ⊤, Opt
 use Rattle.block_file.specs.Block.{BlockValue}
 use Rattle.block_file.specs.declared.fault.BlockFault.{BlockFault}
 use Rattle.rv_ledger.specs.declared.job.Job.{Job}
-use Rattle.stm_core.specs.declared.engine.TheConstants.{WORKER_LIMIT}
 use Rattle.stm_state.specs.Steps as steps
 use Rattle.workers.specs.History.{HasLimit}
 use Rattle.workers.specs.declared.fault.RunFault.{RunFault}
@@ -15,15 +14,14 @@ use Rattle.engines.specs.declared.fault.Refusal.TheVariants.{Run, Seq}
 -- what a refusal of a job's run by workers says. BadCount: the number of workers is not 1 to 32. A limit: some list of
 -- steps of the job meets it. Any other refusal says nothing
 abbrev pub IsRefusalOf : Job → ℕ → RunFault → Type 0
-IsRefusalOf job workers run.BadCount = (workers ≡ 0) ⊎ (WORKER_LIMIT < workers)
-IsRefusalOf job workers run.ArenaFull = HasLimit job steps.ArenaFull
-IsRefusalOf job workers run.IncarnationLimit = HasLimit job steps.IncarnationLimit
+IsRefusalOf job workers run.BadCount = (workers ≡ 0) ⊎ (32 < workers)
+IsRefusalOf job workers run.ArenaFull = HasLimit job workers steps.ArenaFull
+IsRefusalOf job workers run.IncarnationLimit = HasLimit job workers steps.IncarnationLimit
 IsRefusalOf job workers fault = ⊤
 
--- a refusal: Memory of the run may come at any time; any other refusal of the run is one of the job in the files; a
--- refusal of a run in order does not come; all others are as in a run in order
+-- a refusal: one of the run, Memory too, comes only where nothing that was read has a fault, and is one of the job in
+-- the files; a refusal of a run in order does not come; all others are as in a run in order
 abbrev pub IsFaultOfRun : (List ℕ → Option (List ℕ)) → Result BlockValue BlockFault → ℕ → Option (List ℕ) → Option (List ℕ) → Refusal → Type 0
-IsFaultOfRun content block workers old new (Run run.Memory) = ⊤
 IsFaultOfRun content block workers old new (Run fault) = IfSome (loaded_job content block) (λ wanted. IsOkAnd wanted (λ job. IsRefusalOf job workers fault))
 IsFaultOfRun content block workers old new (Seq fault) = ⊥
 IsFaultOfRun content block workers old new fault = IsFaultOf content block old new fault

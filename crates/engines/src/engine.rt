@@ -6,9 +6,9 @@ ghost use Rattle.std.specs.Option.{option_map};
 ghost use Rattle.block_file.specs.Block.{block_of};
 ghost use Rattle.block_file.specs.Schedule.{schedule_of};
 ghost use Rattle.receipts.specs.Text.{result_text};
-ghost use Rattle.engines.specs.Driving.{IsFaultIn, driven_answer, text_along};
+ghost use Rattle.engines.specs.Driving.{IsFaultOfDrive, driven_answer, text_along};
 ghost use Rattle.engines.specs.Engine.{answer_of, IsFaultOf, IsUnwritten};
-ghost use Rattle.engines.specs.Parts.{IsOutputFault, IsRunFault, IsScheduleFault, text_of};
+ghost use Rattle.engines.specs.Parts.{IsDriveFault, IsOutputFault, IsRunFault, IsScheduleFault, text_of};
 
 use crate::fault::{Refusal, SeqFault};
 use crate::loading::load_job;
@@ -42,7 +42,7 @@ pub fn seq_to<R: Read, P: Programs, W: Write>(
         Ok(job) => job,
         Err(refusal) => return Err(refusal),
     };
-    run_job(alloc, &job, out)
+    seq_job(alloc, &job, out)
 }
 
 /// Reads a block file to its end and parses it. Opens, reads and loads its programs in the order of their
@@ -61,7 +61,7 @@ pub fn drive_to<R: Read, P: Programs, S: Read, W: Write>(
         IfSome (driven_answer (P.content programs.old) (block_of input) workers (option_map schedule_of (S.remaining schedule.old))) (λ answer.
         IsOkAnd answer (Appends (W.contents out.old) (W.contents out.new))))) }
     ensures refused { IfErr result (λ e. IfSome (R.remaining block.old) (λ input.
-        IsFaultIn (driven_answer (P.content programs.old) (block_of input) workers (option_map schedule_of (S.remaining schedule.old)))
+        IsFaultOfDrive (P.content programs.old) (block_of input) workers (option_map schedule_of (S.remaining schedule.old))
         (W.contents out.old) (W.contents out.new) e)) }
     ensures unwritten { IfErr result (λ e. IsUnwritten (W.contents out.old) (W.contents out.new) e) }
 {
@@ -96,7 +96,7 @@ fn read_schedule<S: Read>(alloc: Global, schedule: &mut S) -> Result<Vec<u16>, R
 }
 
 /// Runs a job in order and writes the result.
-fn run_job<W: Write>(alloc: Global, job: &Job, out: &mut W) -> Result<(), Refusal>
+fn seq_job<W: Write>(alloc: Global, job: &Job, out: &mut W) -> Result<(), Refusal>
     ensures written { OnOk result (Appends (W.contents out.old) (W.contents out.new) (text_of job.now)) }
     ensures refused { IfErr result (λ e. IsRunFault (text_of job.now) (W.contents out.old) (W.contents out.new) e) }
     ensures unwritten { IfErr result (λ e. IsUnwritten (W.contents out.old) (W.contents out.new) e) }
@@ -116,7 +116,7 @@ fn drive_job<W: Write>(
     out: &mut W,
 ) -> Result<(), Refusal>
     ensures written { OnOk result (IsOkAnd (text_along job.now.block job.now.store workers entries.now) (Appends (W.contents out.old) (W.contents out.new))) }
-    ensures refused { IfErr result (λ e. IsFaultIn (Some (text_along job.now.block job.now.store workers entries.now)) (W.contents out.old) (W.contents out.new) e) }
+    ensures refused { IfErr result (λ e. IsDriveFault (text_along job.now.block job.now.store workers entries.now) (W.contents out.old) (W.contents out.new) e) }
     ensures unwritten { IfErr result (λ e. IsUnwritten (W.contents out.old) (W.contents out.new) e) }
 {
     let outcome = match drive(alloc, job, workers, entries) {

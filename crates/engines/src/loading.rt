@@ -5,12 +5,12 @@ ghost use Rattle.std.specs.Arc.{arc_value};
 ghost use Rattle.std.specs.Option.{option_map};
 ghost use Rattle.std.specs.String.{string_bytes};
 ghost use Rattle.block_file.specs.Block.{block_of, block_value, call_value};
-ghost use Rattle.engines.specs.Engine.{call_over, files_of, loaded_job, program_of, programs_of};
-ghost use Rattle.engines.specs.Parts.{IsBlockFault, IsJobFault, IsProgramFault};
+ghost use Rattle.engines.specs.Engine.{call_over, loaded_job, program_of, programs_of};
+ghost use Rattle.engines.specs.Parts.{IsBlockFault, IsLoadFault, IsProgramFault};
 
 use crate::fault::{FileFault, Refusal};
 use crate::programs::Programs;
-use crate::reading::{PROGRAM_FILE_LIMIT, read_elf, read_text};
+use crate::reading::{read_elf, read_text};
 use block_file::{BlockFault, BlockText, CallLine, Cause, parse};
 use elf32::{ElfError, Image, load};
 use rv_ledger::{Call, Job, Store};
@@ -29,8 +29,8 @@ pub(crate) fn load_job<R: Read, P: Programs>(
 ) -> Result<Job, Refusal>
     ensures ok { IfOk result (λ job. IfSome (R.remaining block.old) (λ input.
         IfSome (loaded_job (P.content programs.old) (block_of input)) (λ wanted. wanted ≡ Ok job))) }
-    ensures err { IfErr result (λ e. (e ≡ memory) ⊎ IfSome (R.remaining block.old) (λ input.
-        IsJobFault (P.content programs.old) (block_of input) e)) }
+    ensures err { IfErr result (λ e. IfSome (R.remaining block.old) (λ input.
+        IsLoadFault (P.content programs.old) (block_of input) memory e)) }
 {
     match read_block(alloc, block) {
         Ok(text) => load_text(alloc, text, programs, memory),
@@ -65,7 +65,7 @@ fn load_text<P: Programs>(
     memory: Refusal,
 ) -> Result<Job, Refusal>
     ensures ok { IfOk result (λ job. IfSome (loaded_job (P.content programs.old) (Ok (block_value text))) (λ wanted. wanted ≡ Ok job)) }
-    ensures err { IfErr result (λ e. (e ≡ memory) ⊎ IsJobFault (P.content programs.old) (Ok (block_value text)) e) }
+    ensures err { IfErr result (λ e. IsLoadFault (P.content programs.old) (Ok (block_value text)) memory e) }
 {
     let BlockText {
         programs: paths,
@@ -89,9 +89,9 @@ fn load_all<P: Programs>(
     paths: &[String],
 ) -> Result<Vec<Arc<Image>>, Refusal>
     ensures all { IfOk result (λ v. vec_len v ≡ length paths.now) }
-    ensures ok { IfOk result (λ v. IfSome (files_of (P.content programs.old) (map string_bytes paths.now)) (λ files.
-        programs_of files ≡ Ok (map arc_value v.items))) }
-    ensures err { IfErr result (λ e. IsProgramFault (option_map programs_of (files_of (P.content programs.old) (map string_bytes paths.now))) e) }
+    ensures ok { IfOk result (λ v. IfSome (programs_of (P.content programs.old) (map string_bytes paths.now)) (λ wanted.
+        wanted ≡ Ok (map arc_value v.items))) }
+    ensures err { IfErr result (λ e. IsProgramFault (programs_of (P.content programs.old) (map string_bytes paths.now)) e) }
 {
     let mut images = Vec::new(alloc);
     for path in paths {
@@ -126,7 +126,7 @@ fn read_program<P: Programs>(
 ) -> Result<Vec<u8>, Refusal>
     ensures same { P.content programs.new ≡ P.content programs.old }
     ensures ok { IfOk result (λ v. IfSome (P.content programs.old path.now) (λ bytes. v.items ≡ bytes)) }
-    ensures short { IfOk result (λ v. vec_len v ≤ PROGRAM_FILE_LIMIT) }
+    ensures short { IfOk result (λ v. vec_len v ≤ 131072) }
     ensures err { IfErr result (λ e. IsProgramFault (option_map program_of (P.content programs.old path.now)) e) }
 {
     let Ok(mut file) = programs.open(path) else {
@@ -137,7 +137,7 @@ fn read_program<P: Programs>(
 
 /// Loads the program of a file of at most 131,072 bytes.
 fn load_program(alloc: Global, bytes: &[u8]) -> Result<Arc<Image>, Refusal>
-    requires { length bytes.now ≤ PROGRAM_FILE_LIMIT }
+    requires { length bytes.now ≤ 131072 }
     ensures ok { IfOk result (λ i. program_of bytes.now ≡ Ok (arc_value i)) }
     ensures err { IfErr result (λ e. IsProgramFault (Some (program_of bytes.now)) e) }
 {

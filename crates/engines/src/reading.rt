@@ -11,7 +11,7 @@ use std::alloc::Global;
 use std::io::Read;
 
 /// The greatest length of a program file, in bytes.
-pub const PROGRAM_FILE_LIMIT: usize = 131_072;
+const PROGRAM_FILE_LIMIT: usize = 131_072;
 
 /// Why a file is not read.
 #[derive(Clone, Copy, Debug, PartialEq, Eq)]
@@ -71,7 +71,7 @@ pub(crate) fn read_text<R: Read>(
 /// 131,072, as Unreadable where a read failed, and as Memory where memory ran out.
 pub(crate) fn read_elf<R: Read>(alloc: Global, reader: &mut R) -> Result<Vec<u8>, Refusal>
     ensures ok { IfOk result (λ v. IfSome (R.remaining reader.old) (λ bytes. v.items ≡ bytes)) }
-    ensures short { IfOk result (λ v. vec_len v ≤ PROGRAM_FILE_LIMIT) }
+    ensures short { IfOk result (λ v. vec_len v ≤ 131072) }
     ensures err { IfErr result (λ e. IsProgramFault (option_map program_of (R.remaining reader.old)) e) }
 {
     match read_whole(alloc, reader, PROGRAM_FILE_LIMIT) {

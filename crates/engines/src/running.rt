@@ -1,18 +1,19 @@
 //! The engine of `rvstm run`, over any reader, programs, writer and threads.
 
-ghost use Rattle.std.specs.Prelude.{◌≤◌, IfErr, IfOk, IfSome, IsOkAnd, OnOk};
+ghost use Rattle.std.specs.Prelude.{◌≡◌, ◌≤◌, length, IfErr, IfOk, IfSome, IsOkAnd, OnOk};
 ghost use Rattle.std.specs.Io.KnownBytes.{Appends};
 ghost use Rattle.block_file.specs.Block.{block_of};
-ghost use Rattle.engines.specs.Engine.{answer_of, IsUnwritten};
+ghost use Rattle.engines.specs.Engine.{answer_of, loaded_job, IsUnwritten};
 ghost use Rattle.engines.specs.Parts.{IsWorkersFault, text_of};
-ghost use Rattle.engines.specs.Running.{IsFaultOfRun};
-ghost use Rattle.stm_core.specs.declared.engine.TheConstants.{WORKER_LIMIT};
+ghost use Rattle.engines.specs.Running.{IsFaultOfRun, IsRefusalOf};
+ghost use Rattle.rv_step.specs.Fold.{receipts_of, store_after};
+ghost use Rattle.workers.specs.History.{AreOneWorkerCounts, HasHistory, IsRunBy};
 
 use crate::engine::write_result;
 use crate::fault::Refusal;
 use crate::loading::load_job;
 use crate::programs::Programs;
-use rv_ledger::Job;
+use rv_ledger::{Job, Outcome};
 use std::alloc::Global;
 use std::io::{Read, Write};
 use std::sync::Wait;
@@ -37,7 +38,9 @@ pub fn run_to<T: Threads + Wait + Sync, R: Read, P: Programs, W: Write>(
     ensures refused { IfErr result (λ e. IfSome (R.remaining block.old) (λ input.
         IsFaultOfRun (P.content programs.old) (block_of input) workers (W.contents out.old) (W.contents out.new) e)) }
     ensures unwritten { IfErr result (λ e. IsUnwritten (W.contents out.old) (W.contents out.new) e) }
-    ensures workers { OnOk result ((1 ≤ workers) × (workers ≤ WORKER_LIMIT)) }
+    ensures workers { OnOk result ((1 ≤ workers) × (workers ≤ 32)) }
+    ensures history { OnOk result (IfSome (R.remaining block.old) (λ input.
+        IfSome (loaded_job (P.content programs.old) (block_of input)) (λ wanted. IsOkAnd wanted (λ job. IsRunBy job workers)))) }
 {
     let job = match load_job(alloc, block, programs, Refusal::Run(RunFault::Memory)) {
         Ok(job) => job,
@@ -57,10 +60,28 @@ fn run_threads<T: Threads + Wait + Sync, W: Write>(
     ensures written { OnOk result (Appends (W.contents out.old) (W.contents out.new) (text_of job)) }
     ensures refused { IfErr result (λ e. IsWorkersFault job workers (W.contents out.old) (W.contents out.new) e) }
     ensures unwritten { IfErr result (λ e. IsUnwritten (W.contents out.old) (W.contents out.new) e) }
-    ensures workers { OnOk result ((1 ≤ workers) × (workers ≤ WORKER_LIMIT)) }
+    ensures workers { OnOk result ((1 ≤ workers) × (workers ≤ 32)) }
+    ensures history { OnOk result (IsRunBy job workers) }
 {
-    match Executor::new(alloc).run_block(threads, alloc, job, workers) {
+    match run_job(threads, alloc, job, workers) {
         Ok(outcome) => write_result(alloc, &outcome, out),
         Err(fault) => Err(Refusal::Run(fault)),
     }
+}
+
+/// Runs a job on so many workers, each on a thread of its own.
+fn run_job<T: Threads + Wait + Sync>(
+    threads: &T,
+    alloc: Global,
+    job: Job,
+    workers: usize,
+) -> Result<Outcome, RunFault>
+    ensures receipts { IfOk result (λ o. o.receipts.items ≡ receipts_of job.block job.store) }
+    ensures store { IfOk result (λ o. o.store ≡ store_after job.block job.store) }
+    ensures history { IfOk result (λ o. HasHistory job workers o.counts.items) }
+    ensures one_worker { IfOk result (λ o. workers ≡ 1 → AreOneWorkerCounts (length job.block) o.counts.items) }
+    ensures refused { IfErr result (λ e. IsRefusalOf job workers e) }
+    ensures workers { OnOk result ((1 ≤ workers) × (workers ≤ 32)) }
+{
+    Executor::new(alloc).run_block(threads, alloc, job, workers)
 }

@@ -1,0 +1,20 @@
+use Rattle.std.proofs.Common.{◌≡◌, ◌⊎◌, ℕ, List, refl, inl, inr}
+use Rattle.std.specs.Prelude.{Option, Some, None, IfSome}
+use Rattle.block_file.specs.Block.{block_of}
+use Rattle.block_file.specs.Line.{cut}
+use Rattle.block_file.specs.declared.fault.Cause.TheVariants.{Memory}
+use Rattle.block_file.proofs.Blocks.{from_first}
+use Rattle.engines.specs.declared.fault.FileFault.TheVariants.{Unreadable}
+use Rattle.engines.specs.declared.fault.Refusal.{Refusal}
+use Rattle.engines.specs.declared.fault.Refusal.TheVariants.{Block, File}
+use Rattle.engines.specs.Parts.{IsBlockFault}
+use Rattle.engines.proofs.loading.read_block.Goals as goal
+
+-- no fault of a block file is before line 1
+reading : (input : Option (List ℕ)) (e : Refusal) → (e ≡ Block (record { line = 1; cause = Memory })) ⊎ (e ≡ File Unreadable) → IfSome input (λ bytes. IsBlockFault (block_of bytes) e)
+reading None e h = tt
+reading (Some bytes) e (inl memory) = rw memory (inr (refl, from_first (cut 10 bytes)))
+reading (Some bytes) e (inr unreadable) = rw unreadable tt
+
+pub returns-in-Err-clause-err : goal.returns-in-Err-clause-err
+returns-in-Err-clause-err g c = reading (g.R.Read.remaining c.args.block.now) c.in-Err.refusal c.in-Err.ensures.err
