@@ -54,7 +54,14 @@ fn assert_lines_fail<R: Threads + Wait + Sync + Abort>(
 fn failing_lines_are_reported(rt: HostRuntime) -> Result<(), Fail> {
     let first = "0 00010000 addi x17,x0,3\n";
     let both = "0 00010000 addi x17,x0,3\n1 00010004 ecall\n";
-    for (reads, printed) in [(0, ""), (1, ""), (2, first), (3, first), (4, both), (5, both)] {
+    for (reads, printed) in [
+        (0, ""),
+        (1, ""),
+        (2, first),
+        (3, first),
+        (4, both),
+        (5, both),
+    ] {
         assert_lines_fail(&rt, rt.alloc(), reads, printed)?;
     }
     Ok(())
