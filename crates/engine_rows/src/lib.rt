@@ -25,6 +25,8 @@ mod failing;
 #[cfg(test)]
 mod fake_disk;
 #[cfg(test)]
+mod idling;
+#[cfg(test)]
 mod outside;
 #[cfg(test)]
 mod programs;

@@ -1,5 +1,5 @@
 -- A chain of blocks, and one block more.
-use Rattle.std.proofs.Common.{◌≡◌, ◌≢◌, ◌<◌, ◌≤◌, ◌⊎◌, length, IfErr, inl, inr, arith, ℕ, List, [], ◌∷◌, ◌++◌, Result, Ok, Err, sym, subst, refl, ◌∙◌}
+use Rattle.std.proofs.Common.{◌≡◌, ◌≢◌, ◌≤◌, length, IfErr, inl, inr, arith, ℕ, List, [], ◌∷◌, ◌++◌, Result, Ok, Err, sym, subst, refl, ◌∙◌}
 use Rattle.std.specs.Global.{Vec}
 use Rattle.rv_ledger.specs.Key.{Storage}
 use Rattle.rv_ledger.specs.Call.{Invocation}
@@ -10,7 +10,7 @@ use Rattle.rv_ledger.specs.declared.outcome.Outcome.{Outcome}
 use Rattle.stm_state.specs.Steps as steps
 use Rattle.workers.specs.History.{HasLimit}
 use Rattle.workers.specs.declared.chain.ChainFault.{ChainFault}
-use Rattle.workers.specs.declared.chain.ChainFault.TheVariants.{Run, TooManyCalls}
+use Rattle.workers.specs.declared.chain.ChainFault.TheVariants.{Run}
 use Rattle.workers.specs.declared.fault.RunFault.{RunFault}
 use Rattle.workers.specs.declared.fault.RunFault.TheVariants as faults
 use Rattle.workers.specs.Chain.{IsBlockAnswer, IsChain, calls_run, store_left}

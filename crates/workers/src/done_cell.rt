@@ -3,10 +3,10 @@
 ghost use Rattle.std.specs.Prelude.{◌≡◌};
 ghost use Rattle.workers.specs.DoneCell.{IsOneWay, IsSeen};
 
+use crate::gate::Spin;
 use crossbeam_utils::atomic::seq_cell::{Pass, RuledSeqCell};
 use crossbeam_utils::rule::{Outcome, Protocol};
 use std::alloc::{AllocError, Global};
-use std::hint::spin_loop;
 use std::sync::Wait;
 use std::thread::yield_now;
 
@@ -85,8 +85,9 @@ impl DoneCell {
         let _ = self.cell.swap_as::<Sees, R>(rt, pass, [DONE]);
     }
 
-    /// Looks at the cell until it shows done, at most 64 times, and then lets another thread run.
-    pub(crate) fn look<R: Wait>(&self, rt: &R, pass: &mut DonePass)
+    /// Looks at the cell until it shows done, at most 64 times, and then lets another thread run. Spins after each
+    /// look that does not show done.
+    pub fn look<R: Wait, S: Spin>(&self, rt: &R, pass: &mut DonePass, spin: &S)
         requires cell { IsPassOf self.now pass.old }
         ensures cell { IsSamePass pass.old pass.new }
     {
@@ -94,7 +95,7 @@ impl DoneCell {
             if self.shows_done(rt, pass) {
                 return;
             }
-            spin_loop();
+            spin.spin();
         }
         yield_now();
     }

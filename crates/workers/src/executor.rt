@@ -1,6 +1,7 @@
 //! Runs the calls of blocks on several threads, over one arena.
 
 ghost use Rattle.std.specs.Prelude.{◌≡◌, ◌≢◌, ◌≤◌, ◌⊎◌, [], All, Err, IfErr, IfOk, Ok, length};
+ghost use Rattle.std.specs.Vec.{vec_capacity};
 ghost use Rattle.rv_step.specs.Fold.{receipts_of, store_after};
 ghost use Rattle.stm_state.specs.Steps as steps;
 ghost use Rattle.workers.specs.DoneCell.{IsPassOf};
@@ -18,7 +19,7 @@ use rv_ledger::{Job, Outcome};
 use std::alloc::Global;
 use std::marker::Brand;
 use std::sync::Wait;
-use std::thread::Threads;
+use std::thread::{JoinHandle, Scope, Threads};
 use std::{mem, thread};
 use stm_core::{Core, WORKER_LIMIT};
 use version_arena::Arena;
@@ -192,7 +193,10 @@ fn share_out<B: BlockName>(
     Shared::over(alloc, core, true)
 }
 
-/// Runs a thread for each share, and waits for all of them. Returns their shares, or a fault that stands
+/// The handle of a thread that runs for a share.
+type Thread = JoinHandle<Result<Share, WrittenFault>>;
+
+/// Runs a thread for each share, and waits for all of them. Returns all their shares, or a fault that stands
 /// written: that of a thread, Spawn where the system refuses a thread, and Memory where memory ran out.
 fn run_threads<B: BlockName + Send + Sync, R: Threads + Wait + Sync, G: Gate + Sync>(
     rt: &R,
@@ -202,38 +206,73 @@ fn run_threads<B: BlockName + Send + Sync, R: Threads + Wait + Sync, G: Gate + S
     gate: &G,
 ) -> Result<Vec<Share>, WrittenFault>
     requires passes { All (λ share. IsPassOf shared.now.cell share.pass) shares.items }
+    ensures all { IfOk result (λ back. length back.items ≡ length shares.items) }
 {
     thread::scope(
         thread::scope_env(),
         rt,
         |scope| -> Result<Vec<Share>, WrittenFault>
             requires { All (λ share. IsPassOf shared.now.cell share.pass) shares.items }
+            ensures { IfOk result (λ back. length back.items ≡ length shares.items) }
         {
-            let (mut handles, mut back) = (Vec::new(alloc), Vec::new(alloc));
-            if handles.reserve(shares.len()).is_err() || back.reserve(shares.len()).is_err() {
+            let Ok(room) = Vec::with_capacity(alloc, shares.len()) else {
                 return Err(shared.refuse(rt, OutsideFault::Memory));
-            }
-            let mut refused = None;
-            for share in shares {
-                let working = move || -> Result<Share, WrittenFault>
-                    requires { IsPassOf shared.now.cell share.pass }
-                { work(rt, alloc, shared, share, gate) };
-                match scope.spawn(working) {
-                    // There is room.
-                    Ok(handle) => drop(handles.push(handle)),
-                    Err(_) => refused = Some(shared.refuse(rt, OutsideFault::Spawn)),
-                }
-            }
-            for handle in handles {
-                match handle.join(rt) {
-                    Ok(share) => drop(back.push(share)),
-                    Err(written) => refused = Some(written),
-                }
-            }
-            match refused {
-                Some(written) => Err(written),
-                None => Ok(back),
-            }
+            };
+            let threads = start_threads(scope, rt, alloc, shared, shares, gate)?;
+            join_threads(rt, threads, room)
         },
     )
+}
+
+/// Starts a thread for each share. Where the system refuses one, Spawn stands written in its place. Refused as
+/// Memory where memory ran out before the first.
+fn start_threads<'s, E, B: BlockName + Send + Sync, R: Threads + Wait + Sync, G: Gate + Sync>(
+    scope: &Scope<'s, E>,
+    rt: &'s R,
+    alloc: Global,
+    shared: &'s Shared<B>,
+    shares: Vec<Share>,
+    gate: &'s G,
+) -> Result<Vec<Result<Thread, WrittenFault>>, WrittenFault>
+    requires passes { All (λ share. IsPassOf shared.now.cell share.pass) shares.items }
+    ensures all { IfOk result (λ threads. length threads.items ≡ length shares.items) }
+{
+    let Ok(mut threads) = Vec::with_capacity(alloc, shares.len()) else {
+        return Err(shared.refuse(rt, OutsideFault::Memory));
+    };
+    for share in shares {
+        let working = move || -> Result<Share, WrittenFault>
+            requires { IsPassOf shared.now.cell share.pass }
+        { work(rt, alloc, shared, share, gate) };
+        let started = match scope.spawn(working) {
+            Ok(thread) => Ok(thread),
+            Err(_) => Err(shared.refuse(rt, OutsideFault::Spawn)),
+        };
+        threads.push_reserved(started);
+    }
+    Ok(threads)
+}
+
+/// Waits for all threads that were started. Returns all their shares, in room that was made, or the last fault
+/// among them.
+fn join_threads<R: Threads>(
+    rt: &R,
+    threads: Vec<Result<Thread, WrittenFault>>,
+    room: Vec<Share>,
+) -> Result<Vec<Share>, WrittenFault>
+    requires empty { room.items ≡ [] }
+    requires room { length threads.items ≤ vec_capacity room }
+    ensures all { IfOk result (λ back. length back.items ≡ length threads.items) }
+{
+    let (mut back, mut refused) = (room, None);
+    for thread in threads {
+        match thread.and_then(|started| started.join(rt)) {
+            Ok(share) => back.push_reserved(share),
+            Err(written) => refused = Some(written),
+        }
+    }
+    match refused {
+        Some(written) => Err(written),
+        None => Ok(back),
+    }
 }

@@ -1,4 +1,6 @@
-//! A place where a thread may be held, between the end of a run and its record.
+//! Places where tests hold a thread, and where they count what it does.
+
+use std::hint::spin_loop;
 
 /// What a thread does between the end of a run and its record, outside the lock. Tests hold a worker there.
 pub trait Gate {
@@ -13,4 +15,21 @@ pub struct Open;
 impl Gate for Open {
     /// Returns at once.
     fn held(&self, _worker: usize) {}
+}
+
+/// What an idle worker does after a look at a cell that does not show done. Tests count its looks there.
+pub trait Spin {
+    /// The cell did not show done. Promises nothing.
+    fn spin(&self);
+}
+
+/// Tells the processor that the thread spins.
+#[derive(Clone, Copy, Debug)]
+pub struct ProcessorHint;
+
+impl Spin for ProcessorHint {
+    /// Returns at once.
+    fn spin(&self) {
+        spin_loop();
+    }
 }

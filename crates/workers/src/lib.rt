@@ -18,6 +18,6 @@ pub use chain::{Chain, ChainFault};
 pub use done_cell::{DoneCell, DonePass};
 pub use executor::Executor;
 pub use fault::RunFault;
-pub use gate::{Gate, Open};
+pub use gate::{Gate, Open, ProcessorHint, Spin};
 pub use shared::Shared;
 pub use worker::work;

@@ -8,7 +8,7 @@ ghost use Rattle.workers.specs.DoneCell.{IsPassOf};
 
 use crate::book::{BlockName, Book, Share, WrittenFault};
 use crate::fault::OutsideFault;
-use crate::gate::Gate;
+use crate::gate::{Gate, ProcessorHint};
 use crate::shared::Shared;
 use rv_ledger::Key;
 use rv_step::{Pause, Run};
@@ -132,7 +132,7 @@ fn ask<B: BlockName, R: Wait>(
     let asked = shared.lock.lock(rt).ask(share)?;
     match asked {
         None => shared.cell.set_done(rt, &mut share.pass),
-        Some(NextStep::Ask) => shared.cell.look(rt, &mut share.pass),
+        Some(NextStep::Ask) => shared.cell.look(rt, &mut share.pass, &ProcessorHint),
         Some(_) => {}
     }
     Ok(asked)
