@@ -5,10 +5,13 @@ use crate::calls::{in_order, job_of_inputs};
 use crate::failing::{FailingReader, FailingWriter, assert_begins, write_fault};
 use crate::rows::{COUNT, ECHO};
 use debugger::{DebugFault, Replay, ReplayFault, debug_to};
+use receipts::WriteFault;
 use rv_ledger::Outcome;
 use std::alloc::Global;
+use std::io;
 use std::io::{Read, Write};
 use std::process::Abort;
+use std::sync::atomic::{AtomicU64, Ordering};
 use std::test::Fail;
 
 /// The outcome of running some calls of one program in order, each with its input.
@@ -339,4 +342,106 @@ fn failing_writes(rt: HostRuntime) -> Result<(), Fail> {
         assert_write_fails(&rt, rt.alloc(), left, false)?;
     }
     Ok(())
+}
+
+/// Lines that are typed one after another. Nothing may be read after the last.
+const TYPED_LINES: [&str; 4] = ["s\n", "x\n", "b\n", "q\n"];
+
+/// Someone who types a line once all is shown that is printed for the lines before it. A read that comes
+/// earlier, or after the last line, fails.
+#[derive(Drop)]
+struct Typist<'a> {
+    /// How many lines were typed.
+    typed: usize,
+    /// How many bytes are shown.
+    shown: &'a AtomicU64,
+}
+
+impl Read for Typist<'_> {
+    fn read(&mut self, buf: &mut [u8]) -> io::Result<usize> {
+        let shown = self.shown.load(Ordering::SeqCst);
+        match (TYPED_LINES.get(self.typed), PRINTED.get(self.typed)) {
+            (Some(line), Some(printed)) if printed.len() as u64 == shown => {
+                self.typed += 1;
+                line.as_bytes().read(buf)
+            }
+            _ => Err(io::Error::from(io::ErrorKind::Other)),
+        }
+    }
+}
+
+/// A writer whose bytes are shown when they are flushed.
+#[derive(Drop)]
+struct Screen<'a> {
+    /// How many bytes were written.
+    written: u64,
+    /// How many bytes are shown.
+    shown: &'a AtomicU64,
+    /// How many times it can be flushed before that fails.
+    flushes: usize,
+}
+
+impl Write for Screen<'_> {
+    fn write(&mut self, buf: &[u8]) -> io::Result<usize> {
+        self.written = self.written.wrapping_add(buf.len() as u64);
+        Ok(buf.len())
+    }
+
+    fn flush(&mut self) -> io::Result<()> {
+        if self.flushes == 0 {
+            return Err(io::Error::from(io::ErrorKind::Other));
+        }
+        self.flushes -= 1;
+        self.shown.store(self.written, Ordering::SeqCst);
+        Ok(())
+    }
+}
+
+/// What typing at a screen answers that can be flushed so often, the number of bytes that were written, and the
+/// moment at which the replay stands then.
+fn type_lines(alloc: Global, flushes: usize) -> Result<(Result<(), DebugFault>, u64, u64), Fail> {
+    let mut replay = echo(alloc)?;
+    let shown = AtomicU64::new(0);
+    let mut typist = Typist {
+        typed: 0,
+        shown: &shown,
+    };
+    let mut screen = Screen {
+        written: 0,
+        shown: &shown,
+        flushes,
+    };
+    let answer = debug(alloc, &mut replay, &mut typist, &mut screen);
+    Ok((answer, screen.written, replay.moment()))
+}
+
+/// Asserts what typing at a screen answers that can be flushed so often, when so many lines were answered.
+fn assert_typed(
+    rt: &impl Abort,
+    alloc: Global,
+    flushes: usize,
+    wanted: Result<(), DebugFault>,
+    answered: usize,
+) -> Result<(), Fail> {
+    let (answer, written, moment) = type_lines(alloc, flushes)?;
+    assert_eq!(rt; answer, wanted, "{flushes} flushes");
+    let printed = PRINTED.get(answered).copied().unwrap_or("");
+    assert_number(rt, written, printed.len() as u64, "bytes written");
+    let reached = if answered == 1 || answered == 2 { 1 } else { 0 };
+    assert_number(rt, moment, reached, "the moment");
+    Ok(())
+}
+
+#[test]
+fn a_line_is_answered_before_the_next_is_read(rt: HostRuntime) -> Result<(), Fail> {
+    assert_typed(&rt, rt.alloc(), 4, Ok(()), 3)
+}
+
+#[test]
+fn failing_flushes(rt: HostRuntime) -> Result<(), Fail> {
+    let fault = Err(DebugFault::Output(WriteFault::Io));
+    assert_typed(&rt, rt.alloc(), 0, fault, 1)?;
+    assert_typed(&rt, rt.alloc(), 1, fault, 2)?;
+    assert_typed(&rt, rt.alloc(), 2, fault, 3)?;
+    assert_typed(&rt, rt.alloc(), 3, fault, 3)
 }

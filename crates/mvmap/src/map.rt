@@ -4,12 +4,11 @@ use crate::answer::Answer;
 use crate::seek::seek;
 use crate::slot::{Slot, open_all, put};
 use crate::snapshot::apply_slots;
-use rv_ledger::inline_bytes::VALUE_LIMIT;
 use rv_ledger::{Key, Store, Value};
 use std::alloc::{AllocError, Global};
 use std::collections::BTreeMap;
 use std::marker::Model;
-use version_arena::{Arena, RECORD_LIMIT, ReserveFault};
+use version_arena::{Arena, ReserveFault};
 
 /// For each key the entries of the calls that write it: versions, whose bytes are in the map's arena,
 /// and estimates.
@@ -80,7 +79,7 @@ impl MvMap {
     /// which is a version or an estimate; or Base where none has. Takes no memory.
     pub fn read(&self, key: &Key, i: u16) -> Answer<'_>
         ensures seen { visible_of result ≡ reading self.now.versions key.now i }
-        ensures short { IsShort VALUE_LIMIT result }
+        ensures short { IsShort 64 result }
     {
         seek(&self.slots, &self.arena, key, i)
     }
@@ -96,7 +95,7 @@ impl MvMap {
         records: usize,
         bytes: usize,
     ) -> Result<(), ReserveFault>
-        ensures full { (result ≡ Err ArenaFull) ↔ (RECORD_LIMIT < length self.old.arena.records + records) }
+        ensures full { (result ≡ Err ArenaFull) ↔ (1048576 < length self.old.arena.records + records) }
         ensures ok { OnOk result (All (λ key. IsTrue (set.contains self.new.places (key, i))) keys.now × (records ≤ self.new.arena.room) × (bytes ≤ self.new.arena.bytes)) }
         ensures versions { self.new.versions ≡ self.old.versions }
         ensures records { self.new.arena.records ≡ self.old.arena.records }
@@ -148,7 +147,7 @@ impl MvMap {
     /// How many records the arena has, at most 1,048,576.
     pub fn placed(&self) -> usize
         ensures placed { result ≡ length self.now.arena.records }
-        ensures limit { result ≤ RECORD_LIMIT }
+        ensures limit { result ≤ 1048576 }
     {
         self.arena.len()
     }

@@ -11,7 +11,6 @@ ghost use Rattle.mvmap.specs.Versions.{place_cmp};
 ghost use Rattle.mvmap.specs.Slots.{entry_of, value_over, value_over_slots};
 
 use crate::slot::{Slot, Slots};
-use rv_ledger::inline_bytes::VALUE_LIMIT;
 use rv_ledger::{Key, Store, Value};
 use std::alloc::AllocError;
 use version_arena::Arena;
@@ -45,7 +44,7 @@ fn apply_slot(slot: &Slot, arena: &Arena, key: &Key, store: &mut Store) -> Resul
 /// Sets the value of a key, or removes the key where there is no value. Refused where memory ran out,
 /// and then the storage is to be dropped.
 fn write(key: &Key, content: Option<&[u8]>, store: &mut Store) -> Result<(), AllocError>
-    requires { IfSome content (λ bytes. length bytes.now ≤ VALUE_LIMIT) }
+    requires { IfSome content (λ bytes. length bytes.now ≤ 64) }
     ensures { OnOk result ((k : List ℕ) → map.get store.new k ≡ cond (eq_by_cmp key_cmp k key.now) (option_copied content.entry) (map.get store.old k)) }
 {
     let Some(bytes) = content else {

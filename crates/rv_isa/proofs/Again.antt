@@ -5,7 +5,8 @@ use Rattle.std.proofs.lemmas.Int.{ints}
 use Rattle.rv_isa.specs.Number.{residue, bits}
 use Rattle.rv_isa.specs.Ranges.{IsImmediate, IsBranchOffset, IsJumpOffset}
 use Rattle.rv_isa.specs.Word.{word_of, condition_funct3, load_funct3, store_funct3, immediate_funct3, shift_funct3, shift_funct7, operation_funct3, operation_funct7}
-use Rattle.rv_isa.specs.Decoding.{Slots, slots, slots_of, extended, register_at, immediate_at, amount_at, branch_at, jump_at, u_immediate, condition_at, load_at, store_at, immediate_operation_at, shift_at, operation_at, shift_of, compute_immediate_of, instr_of}
+use Rattle.rv_isa.specs.Decoding.{Slots, slots, slots_of, register_at, immediate_at, amount_at, branch_at, jump_at, u_immediate, condition_at, load_at, store_at, immediate_operation_at, shift_at, operation_at, shift_of, compute_immediate_of, instr_of}
+use Rattle.rv_isa.specs.Number.{extended}
 use Rattle.rv_isa.specs.declared.register.Reg.{Reg}
 use Rattle.rv_isa.specs.declared.operands.Immediate.{Immediate}
 use Rattle.rv_isa.specs.declared.operands.BranchOffset.{BranchOffset}

@@ -2,7 +2,7 @@
 use Rattle.std.proofs.Common.{◌≡◌, ℕ, ◌*◌, ◌%◌, ◌^◌, ◌<◌, ℤ, arith, to_z, of_z, w32}
 use Rattle.std.proofs.lemmas.Int.{ints}
 use lib.Signed.{shr_z}
-use Rattle.rv_isa.specs.Decoding.{extended}
+use Rattle.rv_isa.specs.Number.{extended}
 
 pub shifted_12 : (n : ℕ) (z : ℤ) → n < 2 ^ 12 → z ≡ to_z w32 (n * 2 ^ 20 % 2 ^ 32) → to_z w32 (of_z w32 (shr_z (to_z w32 (of_z w32 z)) (2 ^ 20))) ≡ extended 12 (n % 2 ^ 12)
 shifted_12 n z h e = grind (arith, ints)

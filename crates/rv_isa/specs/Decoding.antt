@@ -3,9 +3,8 @@
 use Rattle.std.specs.Prelude.{ℕ, ◌+◌, ◌*◌, ◌/◌, ◌%◌, ◌^◌, ℤ, pos, ◌-ℤ◌, nat_lt, ◌==◌, ◌&&◌, if◌then◌else◌}
 use Rattle.std.specs.Option.{option_map}
 use Rattle.std.specs.Prelude.{Option, Some, None}
-use Rattle.std.proofs.Common.{arith}
-use Rattle.std.proofs.lemmas.Int.{ints}
-use Rattle.rv_isa.specs.Ranges.{IsRegister, IsImmediate, IsBranchOffset, IsJumpOffset, IsUpper, IsShiftAmount}
+use Rattle.rv_isa.specs.Number.{extended}
+use Rattle.rv_isa.specs.InRange.{amount_small, branch_small, immediate_small, jump_small, register_small, upper_small}
 use Rattle.rv_isa.specs.declared.register.Reg.{Reg}
 use Rattle.rv_isa.specs.declared.operands.Immediate.{Immediate}
 use Rattle.rv_isa.specs.declared.operands.BranchOffset.{BranchOffset}
@@ -42,47 +41,25 @@ slots f7 r2 r1 f3 d op = record { opcode = op; rd = d; funct3 = f3; rs1 = r1; rs
 abbrev pub slots_of : ℕ → Slots
 slots_of w = slots (w / 2 ^ 25) (w / 2 ^ 20 % 2 ^ 5) (w / 2 ^ 15 % 2 ^ 5) (w / 2 ^ 12 % 2 ^ 3) (w / 2 ^ 7 % 2 ^ 5) (w % 2 ^ 7)
 
--- the k-bit number n with its top bit as its sign
-abbrev pub extended : ℕ → ℕ → ℤ
-extended k n = if nat_lt n (2 ^ k / 2) then pos n else (pos n -ℤ pos (2 ^ k))
-
 -- ---- operands
-
-pub register_small : (n : ℕ) → IsRegister (n % 2 ^ 5)
-register_small n = omega arith
 
 abbrev pub register_at : ℕ → Reg
 register_at n = record { number = n % 2 ^ 5; in_range = register_small n }
 
-pub amount_small : (n : ℕ) → IsShiftAmount (n % 2 ^ 5)
-amount_small n = omega arith
-
 abbrev pub amount_at : ℕ → ShiftAmount
 amount_at n = record { value = n % 2 ^ 5; in_range = amount_small n }
 
-pub upper_small : (n : ℕ) → IsUpper (n % 2 ^ 20)
-upper_small n = omega arith
-
 abbrev pub upper_at : ℕ → Upper
 upper_at n = record { value = n % 2 ^ 20; in_range = upper_small n }
-
-pub immediate_small : (n : ℕ) → IsImmediate (extended 12 (n % 2 ^ 12))
-immediate_small n = grind (arith, ints)
 
 abbrev pub immediate_at : ℕ → Immediate
 immediate_at n = record { value = extended 12 (n % 2 ^ 12); in_range = immediate_small n }
 
 -- the offset whose bits 12 to 1 are `half`; bit 0 is 0
-pub branch_small : (half : ℕ) → IsBranchOffset (extended 13 (half % 2 ^ 12 * 2))
-branch_small half = grind (arith, ints)
-
 abbrev pub branch_at : ℕ → BranchOffset
 branch_at half = record { value = extended 13 (half % 2 ^ 12 * 2); in_range = branch_small half }
 
 -- the offset whose bits 20 to 1 are `half`; bit 0 is 0
-pub jump_small : (half : ℕ) → IsJumpOffset (extended 21 (half % 2 ^ 20 * 2))
-jump_small half = grind (arith, ints)
-
 abbrev pub jump_at : ℕ → JumpOffset
 jump_at half = record { value = extended 21 (half % 2 ^ 20 * 2); in_range = jump_small half }
 

@@ -17,3 +17,7 @@ signed n = if nat_lt n (2 ^ 31) then pos n else (pos n -ℤ pos (2 ^ 32))
 -- z modulo 2^32, as a register holds it
 abbrev pub wrapped : ℤ → ℕ
 wrapped z = residue 32 z
+
+-- the k-bit number n with its top bit as its sign
+abbrev pub extended : ℕ → ℕ → ℤ
+extended k n = if nat_lt n (2 ^ k / 2) then pos n else (pos n -ℤ pos (2 ^ k))

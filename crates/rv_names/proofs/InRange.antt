@@ -3,7 +3,8 @@ use Rattle.std.proofs.Common.{◌≡◌, ℕ, ◌+◌, ◌*◌, ◌/◌, ◌%◌
 use Rattle.std.proofs.lemmas.Int.{ints}
 use Rattle.rv_isa.specs.Number.{residue}
 use Rattle.rv_isa.specs.Ranges.{IsImmediate, IsBranchOffset, IsJumpOffset}
-use Rattle.rv_isa.specs.Decoding.{extended, immediate_at, branch_at, jump_at, upper_at}
+use Rattle.rv_isa.specs.Number.{extended}
+use Rattle.rv_isa.specs.Decoding.{immediate_at, branch_at, jump_at, upper_at}
 use Rattle.rv_isa.specs.declared.operands.Immediate.{Immediate}
 use Rattle.rv_isa.specs.declared.operands.BranchOffset.{BranchOffset}
 use Rattle.rv_isa.specs.declared.operands.JumpOffset.{JumpOffset}

@@ -5,4 +5,5 @@ pub mod Beginnings
 pub mod Receipts
 pub mod Askings
 pub mod Steps
+pub mod PartlyApplied
 pub mod Reached

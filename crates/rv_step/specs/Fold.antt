@@ -1,5 +1,5 @@
 -- The calls of a block in order, over one storage.
-use Rattle.std.specs.Prelude.{ℕ, List, [], ◌∷◌, fold, take, Option, Some, None}
+use Rattle.std.specs.Prelude.{◌≡◌, ◌<◌, ℕ, List, [], ◌∷◌, fold, length, take, Option, Some, None}
 use Rattle.std.specs.FinMap as map
 use Rattle.rv_ledger.specs.Key.{Storage, WriteMap}
 use Rattle.rv_ledger.specs.Call.{Invocation}
@@ -11,9 +11,19 @@ abbrev pub apply_write : Storage → List ℕ → Option (List ℕ) → Storage
 apply_write store key (Some value) = map.insert store key value
 apply_write store key None = map.remove store key
 
--- a storage after the writes of a receipt
+-- a storage after some writes, one after another
+abbrev pub apply_each : Storage → List (List ℕ × Option (List ℕ)) → Storage
+apply_each store writes = fold (λ before write. apply_write before write.0 write.1) store writes
+
+-- a storage after the writes of a receipt, in the order of their keys
 unfoldable pub apply_writes : Storage → WriteMap → Storage
-apply_writes store writes = fold (λ before write. apply_write before write.0 write.1) store (map.entries writes)
+apply_writes store writes = apply_each store (map.entries writes)
+
+-- the first so many writes of a receipt were applied, and not all of them
+abbrev pub ArePartlyApplied : Storage → WriteMap → Storage → Type 0
+ArePartlyApplied store writes after =
+    (count : ℕ) × (count < length (map.entries writes))
+    × (after ≡ apply_each store (take count (map.entries writes)))
 
 -- the storage after a call
 abbrev pub store_after_call : Invocation → Storage → Storage

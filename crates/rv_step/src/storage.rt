@@ -1,16 +1,17 @@
 //! Applying the writes of a call to a storage.
 
-ghost use Rattle.std.specs.Prelude.{◌≡◌, OnOk};
-ghost use Rattle.rv_step.specs.Fold.{apply_writes};
+ghost use Rattle.std.specs.Prelude.{◌≡◌, OnErr, OnOk};
+ghost use Rattle.rv_step.specs.Fold.{ArePartlyApplied, apply_writes};
 
 use rv_ledger::{Store, Writes};
 use std::alloc::AllocError;
 
-/// Applies the writes of a call to a storage; a key that the call removed is removed. Refused where memory
-/// ran out, and then some of the writes may be applied.
+/// Applies the writes of a call to a storage in the order of their keys; a key that the call removed is removed.
+/// Refused where memory ran out for one of them, and then those before it are applied.
 #[tactic(auto, unfolding(crate::specs::Fold::apply_writes))]
 pub fn apply_writes(store: &mut Store, writes: &Writes) -> Result<(), AllocError>
-    ensures { OnOk result (store.new ≡ apply_writes store.old writes.now) }
+    ensures ok { OnOk result (store.new ≡ apply_writes store.old writes.now) }
+    ensures err { OnErr result (ArePartlyApplied store.old writes.now store.new) }
 {
     for (key, value) in writes.iter() {
         match value {

@@ -11,7 +11,6 @@ use crate::pool::Pool;
 use crate::record::{Record, VersionId};
 use crate::slot::Slot;
 use rv_ledger::Value;
-use rv_ledger::inline_bytes::VALUE_LIMIT;
 use std::alloc::{AllocError, Global};
 use std::marker::Model;
 
@@ -33,13 +32,12 @@ impl Model for Arena {
     ghost use Rattle.version_arena.specs.ArenaState.{ArenaState};
     ghost use Rattle.version_arena.specs.Chunks.{capacity_of, room};
     ghost use Rattle.version_arena.specs.Slots.{IsStored, record_of};
-    ghost use Rattle.version_arena.specs.declared.arena.TheConstants.{RECORD_LIMIT};
 
     ghost Value = { ArenaState };
 
     ghost view = { λ a. record { records = map (record_of a.pool.chunks) (take a.len a.slots.items); room = length a.slots.items - a.len; bytes = a.bytes } };
 
-    ghost invariant = { λ a. (a.len ≤ length a.slots.items) × (length a.slots.items ≤ RECORD_LIMIT) × (length a.slots.items ≤ capacity_of a.pool.chunks) × (capacity_of a.pool.chunks ≤ a.len + room a.pool) × All (IsStored a.pool.chunks) (take a.len a.slots.items) };
+    ghost invariant = { λ a. (a.len ≤ length a.slots.items) × (length a.slots.items ≤ 1048576) × (length a.slots.items ≤ capacity_of a.pool.chunks) × (capacity_of a.pool.chunks ≤ a.len + room a.pool) × All (IsStored a.pool.chunks) (take a.len a.slots.items) };
 }
 
 impl Arena {
@@ -60,7 +58,7 @@ impl Arena {
     /// where memory ran out; a refusal changes nothing. The bytes take no memory of their own, since
     /// each record comes with room for 64 of them.
     pub fn reserve(&mut self, records: usize, bytes: usize) -> Result<(), ReserveFault>
-        ensures full { (result ≡ Err ArenaFull) ↔ (RECORD_LIMIT < length self.old.records + records) }
+        ensures full { (result ≡ Err ArenaFull) ↔ (1048576 < length self.old.records + records) }
         ensures ok { OnOk result ((records ≤ self.new.room) × (bytes ≤ self.new.bytes)) }
         ensures records { self.new.records ≡ self.old.records }
         ensures room { self.old.room ≤ self.new.room }
@@ -80,8 +78,8 @@ impl Arena {
 
     /// Whether this many more records would make more than 1,048,576 in all.
     pub fn is_full_for(&self, records: usize) -> bool
-        ensures full { result ≡ nat_lt RECORD_LIMIT (length self.now.records + records) }
-        ensures limit { length self.now.records + self.now.room ≤ RECORD_LIMIT }
+        ensures full { result ≡ nat_lt 1048576 (length self.now.records + records) }
+        ensures limit { length self.now.records + self.now.room ≤ 1048576 }
     {
         records > RECORD_LIMIT - self.len
     }
@@ -103,7 +101,7 @@ impl Arena {
     /// The record that has a name, or None where none has it.
     pub fn get(&self, id: VersionId) -> Option<Record<'_>>
         ensures record { option_map lent result ≡ slice_get self.now.records id }
-        ensures short { IfSome result (λ r. IfSome r.content (λ bytes. length bytes.now ≤ VALUE_LIMIT)) }
+        ensures short { IfSome result (λ r. IfSome r.content (λ bytes. length bytes.now ≤ 64)) }
     {
         if id.place >= self.len {
             return None;
@@ -115,7 +113,7 @@ impl Arena {
     /// How many records there are, at most 1,048,576.
     pub fn len(&self) -> usize
         ensures len { result ≡ length self.now.records }
-        ensures limit { result ≤ RECORD_LIMIT }
+        ensures limit { result ≤ 1048576 }
     {
         self.len
     }
@@ -133,7 +131,7 @@ impl Arena {
 /// Adds vacant places until there are at least `count`. Refused where memory ran out, and then nothing
 /// changes.
 fn grow(slots: &mut Vec<Slot>, count: usize) -> Result<(), AllocError>
-    requires { (count ≤ RECORD_LIMIT) × (length slots.old.items ≤ RECORD_LIMIT) }
+    requires { (count ≤ 1048576) × (length slots.old.items ≤ 1048576) }
     ensures ok { OnOk result (length slots.new.items ≡ max count (length slots.old.items)) }
     ensures begins { take (length slots.old.items) slots.new.items ≡ slots.old.items }
     ensures unchanged { OnErr result (slots.new.items ≡ slots.old.items) }

@@ -9,7 +9,6 @@ ghost use Rattle.version_arena.specs.Slots.{IsShortSpan, IsStored, record_of};
 use crate::pool::{Pool, Span};
 use crate::record::Record;
 use rv_ledger::Value;
-use rv_ledger::inline_bytes::VALUE_LIMIT;
 
 /// The place of one record: who wrote it, and where its bytes lie; None where it removed the key.
 #[derive(Clone, Copy)]
@@ -50,7 +49,7 @@ impl Slot {
     pub(crate) fn record<'a>(&self, pool: &'a Pool) -> Record<'a>
         requires { IsStored pool.now.chunks self.now }
         ensures record { lent result ≡ record_of pool.now.chunks self.now }
-        ensures short { IfSome result.content (λ bytes. length bytes.now ≤ VALUE_LIMIT) }
+        ensures short { IfSome result.content (λ bytes. length bytes.now ≤ 64) }
     {
         Record {
             writer: self.writer,
@@ -79,7 +78,7 @@ fn store(pool: &mut Pool, value: Option<&Value>) -> Option<Span>
 fn load(pool: &Pool, content: Option<Span>) -> Option<&[u8]>
     requires { IfSome content (IsShortSpan pool.now.chunks) }
     ensures value { option_copied result ≡ option_map (part pool.now.chunks) content }
-    ensures short { IfSome result (λ bytes. length bytes.now ≤ VALUE_LIMIT) }
+    ensures short { IfSome result (λ bytes. length bytes.now ≤ 64) }
 {
     match content {
         Some(span) => Some(pool.read(span)),

@@ -1,6 +1,6 @@
 use Rattle.std.proofs.Common.{sym, subst}
 use Rattle.rv_isa.specs.Ranges.{IsImmediate}
-use Rattle.rv_isa.specs.Decoding.{immediate_small}
+use Rattle.rv_isa.specs.InRange.{immediate_small}
 use Rattle.rv_isa.proofs.Same.{same_immediate}
 use Rattle.rv_isa.proofs.Signs.{shifted_12}
 use Rattle.rv_isa.proofs.fields.extend_12.Goals as goal

@@ -1,6 +1,6 @@
 use Rattle.std.proofs.Common.{sym, subst}
 use Rattle.rv_isa.specs.Ranges.{IsBranchOffset}
-use Rattle.rv_isa.specs.Decoding.{branch_small}
+use Rattle.rv_isa.specs.InRange.{branch_small}
 use Rattle.rv_isa.proofs.Same.{same_branch}
 use Rattle.rv_isa.proofs.Signs.{shifted_13}
 use Rattle.rv_isa.proofs.fields.extend_13.Goals as goal

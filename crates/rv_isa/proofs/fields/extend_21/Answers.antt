@@ -1,6 +1,6 @@
 use Rattle.std.proofs.Common.{sym, subst}
 use Rattle.rv_isa.specs.Ranges.{IsJumpOffset}
-use Rattle.rv_isa.specs.Decoding.{jump_small}
+use Rattle.rv_isa.specs.InRange.{jump_small}
 use Rattle.rv_isa.proofs.Same.{same_jump}
 use Rattle.rv_isa.proofs.Signs.{shifted_21}
 use Rattle.rv_isa.proofs.fields.extend_21.Goals as goal

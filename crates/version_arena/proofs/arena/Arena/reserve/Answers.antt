@@ -5,7 +5,6 @@ use Rattle.std.proofs.lemmas.List.Elements.{All-same}
 use Rattle.version_arena.specs.ArenaState.{ArenaState}
 use Rattle.version_arena.specs.Slots.{IsStored, record_of}
 use Rattle.version_arena.specs.Chunks.{capacity_of}
-use Rattle.version_arena.specs.declared.arena.TheConstants.{RECORD_LIMIT}
 use Rattle.version_arena.proofs.Chunks.{has_capacity}
 use Rattle.version_arena.proofs.Slots.{all_stored, records_same, on_err, state_is}
 use Rattle.version_arena.proofs.arena.Arena.reserve.Goals as goal
@@ -44,11 +43,11 @@ invariant_of-self-2 c =
     let cs = c.self.inside.pool.chunks in let ds = c.reserve.new.self.chunks in let grows = c.reserve.ensures.grows in
     let long = c.in_ok-grow.ensures.ok in let count = len + c.args.records in
     let enough : count ≤ capacity_of ds = has_capacity count c.self.inside.pool c.reserve.new.self c.in_ok-reserve.ensures.ok in
-    let limit : count ≤ RECORD_LIMIT =
+    let limit : count ≤ 1048576 =
     let records = c.args.self.now.records in
     omega (
       arith,
-      ltb-false RECORD_LIMIT (length records + c.args.records) (sym c.if-is_full_for.ensures.full),
+      ltb-false 1048576 (length records + c.args.records) (sym c.if-is_full_for.ensures.full),
       ap (λ (a : ArenaState). length a.records) c.self.view_is,
       length-map (take len slots) (record_of cs),
       length-take len slots,
