@@ -63,6 +63,12 @@ module _ (calls : List CallState) (execution validation : ℕ) (workers : List W
       rw (seen_same task_of workers w old new is (ap task_of e), seen_same counts_of workers w old new is (ap counts_of e), seen_same dones_of workers w old new is (ap dones_of e)) refl
       ∙ ap (state_of v p) was
 
+  -- its task and its room change
+  pub answers_swapped : (g : Task → Task) (room : ℕ) → new ≡ record old { task = g old.task; room = room } → after ≡ record s { tasks = set s.tasks w (g (get_or s.tasks w Idle)); rooms = set s.rooms w room }
+  answers_swapped g room e =
+      rw (seen_step task_of workers w g old new Idle worker_within is (ap task_of e), seen_same counts_of workers w old new is (ap counts_of e), seen_same dones_of workers w old new is (ap dones_of e), seen_set room_of workers w new room (ap room_of e)) refl
+      ∙ ap (λ (t : Schedule). record t { tasks = set t.tasks w (g (get_or t.tasks w Idle)); rooms = set t.rooms w room }) was
+
   -- its counts alone change
   pub counts_changed : (counts : Counts) → new ≡ record old { counts = counts } → after ≡ record s { counts = set s.counts w counts }
   counts_changed counts e =

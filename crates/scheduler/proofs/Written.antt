@@ -13,12 +13,27 @@ use Rattle.stm_state.specs.State.{fresh}
 use Rattle.stm_state.specs.Steps.{keys_of, next_incarnation, resume_if_parked, is_parked_on, written_by}
 use Rattle.scheduler.specs.declared.worker.TaskKind.{TaskKind}
 use Rattle.scheduler.specs.declared.worker.TaskKind.TheVariants as task_kind
-use Rattle.scheduler.specs.Workers.{WorkerState, HasKeyLeft, HasNoKeys, NobodyMoves, with_answer, blocked_on, failed_check, idle_worker, task_of, task_with}
+use Rattle.scheduler.specs.Workers.{WorkerState, HasKeyLeft, HasNoKeys, NobodyMoves, with_answer, with_answers, blocked_on, failed_check, idle_worker, task_of, task_with}
 use Rattle.scheduler.specs.Written.{BeginWithWritten, HasWrittenKeys}
 
 -- all keys that a worker was given
 abbrev pub given_keys : WorkerState → List (List ℕ)
 given_keys w = w.keys
+
+-- ---- a task whose answers are swapped
+pub task_swapped : (kind : TaskKind) (before after : List StorageAnswer) (keys : List (List ℕ)) → task_with kind after keys ≡ with_answers after (task_with kind before keys)
+task_swapped task_kind.Idle before after keys = refl
+task_swapped (task_kind.Running c b) before after keys = refl
+task_swapped (task_kind.Moving c n) before after keys = refl
+task_swapped (task_kind.Validating c n l f) before after keys = refl
+task_swapped (task_kind.Marking c) before after keys = refl
+
+pub answers_of_run : (kind : TaskKind) (before : List StorageAnswer) (keys : List (List ℕ)) (i : ℕ) (answers : List StorageAnswer) (blocked : Option ℕ) → task_with kind before keys ≡ Running i answers blocked → before ≡ answers
+answers_of_run task_kind.Idle before keys i answers blocked h = cc
+answers_of_run (task_kind.Running c b) before keys i answers blocked h = cc
+answers_of_run (task_kind.Moving c n) before keys i answers blocked h = cc
+answers_of_run (task_kind.Validating c n l f) before keys i answers blocked h = cc
+answers_of_run (task_kind.Marking c) before keys i answers blocked h = cc
 
 -- ---- tasks that move keys before, where they do after
 pub moves_answered : (answer : StorageAnswer) (t : Task) (i : ℕ) (keys : List (List ℕ)) (new : Bool) → with_answer answer t ≡ Moving i keys new → t ≡ Moving i keys new
@@ -27,6 +42,13 @@ moves_answered answer (Running c a b) i keys new h = cc
 moves_answered answer (Moving c k n) i keys new h = h
 moves_answered answer (Validating c n l f) i keys new h = cc
 moves_answered answer (Marking c k) i keys new h = cc
+
+pub moves_swapped : (answers : List StorageAnswer) (t : Task) (i : ℕ) (keys : List (List ℕ)) (new : Bool) → with_answers answers t ≡ Moving i keys new → t ≡ Moving i keys new
+moves_swapped answers Idle i keys new h = cc
+moves_swapped answers (Running c a b) i keys new h = cc
+moves_swapped answers (Moving c k n) i keys new h = h
+moves_swapped answers (Validating c n l f) i keys new h = cc
+moves_swapped answers (Marking c k) i keys new h = cc
 
 pub moves_blocked : (on : ℕ) (t : Task) (i : ℕ) (keys : List (List ℕ)) (new : Bool) → blocked_on on t ≡ Moving i keys new → t ≡ Moving i keys new
 moves_blocked on Idle i keys new h = cc

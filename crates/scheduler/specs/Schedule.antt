@@ -6,7 +6,6 @@ use Rattle.stm_state.specs.declared.state.CallState.{CallState}
 use Rattle.stm_state.specs.declared.state.Task.{Task}
 use Rattle.stm_state.specs.State.{State, no_counts}
 use Rattle.scheduler.specs.Workers.{WorkerState, counts_of, dones_of, room_of, task_of}
-use Rattle.scheduler.specs.declared.counting.TheConstants.{COUNT_LIMIT}
 
 -- a state without its versions; and the number of further answers that each worker's run has room for
 pub record Schedule : Type 0 where
@@ -47,11 +46,15 @@ state_of versions placed s = record {
 abbrev pub KeepsRooms : ℕ → List ℕ → List ℕ → Type 0
 KeepsRooms w old new = (u : ℕ) → u ≢ w → get_or new u 0 ≡ get_or old u 0
 
--- each count of a worker may grow by one: it is below the greatest value of a count
+-- the greatest value of a count, 2^64 - 1
+abbrev pub count_limit : ℕ
+count_limit = 18446744073709551615
+
+-- each count of a worker may grow by one
 pub record MayCount (worker : ℕ) (s : Schedule) : Type 0 where
   pub within : worker < length s.tasks
-  pub steps : (get_or s.counts worker no_counts).steps < COUNT_LIMIT
-  pub asks : (get_or s.counts worker no_counts).asks < COUNT_LIMIT
-  pub executions : (get_or s.counts worker no_counts).executions < COUNT_LIMIT
-  pub validations : (get_or s.counts worker no_counts).validations < COUNT_LIMIT
-  pub dones : get_or s.dones worker 0 < COUNT_LIMIT
+  pub steps : (get_or s.counts worker no_counts).steps < count_limit
+  pub asks : (get_or s.counts worker no_counts).asks < count_limit
+  pub executions : (get_or s.counts worker no_counts).executions < count_limit
+  pub validations : (get_or s.counts worker no_counts).validations < count_limit
+  pub dones : get_or s.dones worker 0 < count_limit

@@ -41,7 +41,7 @@ room_of w = w.room
 abbrev pub idle_worker : WorkerState
 idle_worker = record { task = task.Idle; keys = []; counts = no_counts; dones = 0; room = 0 }
 
--- three changes of a task: a run gets one more answer, a run is blocked on a call, and a validation fails; a task of another
+-- four changes of a task: a run gets one more answer, a run has other answers, a run is blocked on a call, and a validation fails; a task of another
 -- kind stays as it is
 abbrev pub with_answer : StorageAnswer → Task → Task
 with_answer answer task.Idle = task.Idle
@@ -49,6 +49,14 @@ with_answer answer (task.Running call answers blocked) = task.Running call (answ
 with_answer answer (task.Moving call keys new) = task.Moving call keys new
 with_answer answer (task.Validating call incarnation left failed) = task.Validating call incarnation left failed
 with_answer answer (task.Marking call keys) = task.Marking call keys
+
+-- a run was given these answers; a task of another kind stays as it is
+abbrev pub with_answers : List StorageAnswer → Task → Task
+with_answers answers task.Idle = task.Idle
+with_answers answers (task.Running call before blocked) = task.Running call answers blocked
+with_answers answers (task.Moving call keys new) = task.Moving call keys new
+with_answers answers (task.Validating call incarnation left failed) = task.Validating call incarnation left failed
+with_answers answers (task.Marking call keys) = task.Marking call keys
 
 abbrev pub blocked_on : ℕ → Task → Task
 blocked_on on task.Idle = task.Idle
@@ -71,6 +79,14 @@ IsRunning (task.Running call answers blocked) = Unit {0}
 IsRunning (task.Moving call keys new) = ⊥
 IsRunning (task.Validating call incarnation left failed) = ⊥
 IsRunning (task.Marking call keys) = ⊥
+
+-- a task moves or marks keys
+abbrev pub HasKeys : Task → Type 0
+HasKeys task.Idle = ⊥
+HasKeys (task.Running call answers blocked) = ⊥
+HasKeys (task.Moving call keys new) = Unit {0}
+HasKeys (task.Validating call incarnation left failed) = ⊥
+HasKeys (task.Marking call keys) = Unit {0}
 
 -- a task moves or marks keys, and has one left
 abbrev pub HasKeyLeft : Task → Type 0

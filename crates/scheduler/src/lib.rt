@@ -1,5 +1,5 @@
 //! The scheduler of a block's run (Block-STM): how far each call is, the execution index, the validation
-//! index, and each worker's task. Once it is made, it takes memory only for the answers of runs.
+//! index, and each worker's task. Once it is made, it takes no memory.
 #![tactic(auto)]
 
 pub mod asking;

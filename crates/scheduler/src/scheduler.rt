@@ -27,7 +27,6 @@ pub struct Scheduler {
 impl Model for Scheduler {
     ghost use Rattle.std.specs.Prelude.{◌≤◌, length, map, vec_items};
     ghost use Rattle.std.specs.Coded.{codes};
-    ghost use Rattle.rv_ledger.specs.declared.job.TheConstants.{CALL_LIMIT};
     ghost use Rattle.stm_state.specs.contracts.state.CallState.{the_row as call_row};
     ghost use Rattle.stm_state.specs.contracts.state.Task.{the_row as task_row};
     ghost use Rattle.scheduler.specs.Awaited.{IsAwaited};
@@ -40,11 +39,11 @@ impl Model for Scheduler {
 
     ghost view = { λ s. schedule_of s.calls.items s.execution s.validation s.workers.items };
 
-    ghost invariant = { λ s. (length s.calls.items ≤ CALL_LIMIT) × IsAwaited s.calls.items s.awaited.items × HasWrittenKeys s.calls.items (map vec_items s.written.items) s.workers.items };
+    ghost invariant = { λ s. (length s.calls.items ≤ 1024) × IsAwaited s.calls.items s.awaited.items × HasWrittenKeys s.calls.items (map vec_items s.written.items) s.workers.items };
 }
 
 impl Scheduler {
-    ghost use Rattle.std.specs.Prelude.{◌≡◌, ◌≢◌, ◌≤◌, ◌<◌, ◌+◌, ◌∷◌, ℕ, [], Bool, List, Option, Some, None, IfOk, OnErr, OnOk, Ok, nat_lt, min, map, set, get_or, length, slice_get, ◌==◌, ◌&&◌};
+    ghost use Rattle.std.specs.Prelude.{◌≡◌, ◌≢◌, ◌≤◌, ◌<◌, ◌+◌, ◌∷◌, ℕ, [], Bool, List, Option, Some, None, IfOk, OnErr, OnOk, Ok, nat_lt, min, map, set, get_or, length, slice_get, ◌-◌, ◌==◌, ◌&&◌, vec_capacity, vec_len};
     ghost use Rattle.std.specs.List.{list_all};
     ghost use Rattle.std.specs.Option.{option_copied};
     ghost use Rattle.mvmap.specs.Versions.{Versions};
@@ -54,13 +53,13 @@ impl Scheduler {
     ghost use Rattle.stm_state.specs.declared.state.Status.TheVariants as Status;
     ghost use Rattle.stm_state.specs.declared.state.Task.TheVariants as Task;
     ghost use Rattle.scheduler.specs.Schedule.{KeepsRooms, MayCount, state_of};
-    ghost use Rattle.scheduler.specs.Workers.{HasKeyLeft, HasNoKeys, IsTaskKindOf, IsRunning, NobodyMoves, with_answer, blocked_on, failed_check, task_with};
+    ghost use Rattle.scheduler.specs.Workers.{HasKeyLeft, HasKeys, HasNoKeys, IsTaskKindOf, IsRunning, NobodyMoves, with_answer, with_answers, blocked_on, failed_check, task_with};
     ghost use Rattle.scheduler.specs.Written.{BeginWithWritten};
 
     /// The scheduler of `calls` calls, each READY at incarnation 0, and of `workers` workers without a task.
     /// Both indices are 0. Refused where memory ran out.
     pub fn new(alloc: Global, calls: usize, workers: usize) -> Result<Scheduler, AllocError>
-        requires { calls ≤ CALL_LIMIT }
+        requires { calls ≤ 1024 }
         ensures { IfOk result (λ s. (v : Versions) (p : ℕ) → state_of v p s ≡ record (start calls workers) { versions = v; placed = p }) }
     {
         Ok(Scheduler {
@@ -73,18 +72,16 @@ impl Scheduler {
         })
     }
 
-    /// Makes room for one more answer to a worker's run. This is not a step. Refused where memory ran out,
-    /// and then nothing changes.
-    pub fn room_for_read(&mut self, worker: usize) -> Result<(), AllocError>
+    /// Swaps the answers of a worker's run with a list, whose owner can then make room in them. This is not
+    /// a step. Takes no memory.
+    pub fn swap_answers(&mut self, worker: usize, list: &mut Vec<StorageAnswer>)
         requires { worker < length self.old.tasks }
-        ensures room { OnOk result (1 ≤ get_or self.new.rooms worker 0) }
-        ensures kept { get_or self.old.rooms worker 0 ≤ get_or self.new.rooms worker 0 }
-        ensures same { (v : Versions) (p : ℕ) → state_of v p self.new ≡ state_of v p self.old }
-        ensures rooms { KeepsRooms worker self.old.rooms self.new.rooms }
-        ensures unchanged { OnErr result (self.new ≡ self.old) }
-        ensures succeeds { 1 ≤ get_or self.old.rooms worker 0 → result ≡ Ok tt }
+        ensures answers { (i : ℕ) (answers : List StorageAnswer) (blocked : Option ℕ) → get_or self.old.tasks worker Task.Idle ≡ Task.Running i answers blocked → list.new.items ≡ answers }
+        ensures room { vec_capacity list.new - vec_len list.new ≡ get_or self.old.rooms worker 0 }
+        ensures own_room { get_or self.new.rooms worker 0 ≡ vec_capacity list.old - vec_len list.old }
+        ensures schedule { self.new ≡ record self.old { tasks = set self.old.tasks worker (with_answers list.old.items (get_or self.old.tasks worker Task.Idle)); rooms = set self.old.rooms worker (vec_capacity list.old - vec_len list.old) } }
     {
-        self.workers[worker].reserve()
+        self.workers[worker].swap_answers(list);
     }
 
     /// Adds an answer to those of a worker's run, in room that was made. Takes no memory.
@@ -150,10 +147,10 @@ impl Scheduler {
         self.workers[worker].answers()
     }
 
-    /// The next key that a worker is to move or to mark; None where no key is left. Nothing is promised of a
-    /// worker with another task.
+    /// The next key that a worker is to move or to mark; None where no key is left.
     pub fn next_key(&self, worker: usize) -> Option<&Key>
-        requires { worker < length self.now.tasks }
+        requires within { worker < length self.now.tasks }
+        requires keys { HasKeys (get_or self.now.tasks worker Task.Idle) }
         ensures moving { (i : ℕ) (keys : List (List ℕ)) (new : Bool) → get_or self.now.tasks worker Task.Idle ≡ Task.Moving i keys new → option_copied result ≡ slice_get keys 0 }
         ensures marking { (i : ℕ) (keys : List (List ℕ)) → get_or self.now.tasks worker Task.Idle ≡ Task.Marking i keys → option_copied result ≡ slice_get keys 0 }
     {

@@ -2,7 +2,6 @@
 //! taken back is readied.
 
 use crate::calls;
-use crate::calls::INCARNATION_LIMIT;
 use crate::scheduler::Scheduler;
 use crate::worker::TaskKind;
 
@@ -17,7 +16,7 @@ impl Scheduler {
     /// Ends a worker's check of the next read of a call that it validates. `stands` says whether the read
     /// stood, and `left` is the number of reads after it. A read that did not stand fails the validation.
     /// Where the call is no longer EXECUTED at the incarnation, the worker's task ends. Takes no memory.
-    pub fn finish_check(
+    pub fn finish_validation(
         &mut self,
         worker: usize,
         call: u16,
@@ -50,7 +49,7 @@ impl Scheduler {
     /// Decides a worker's validation of a call (Block-STM, `try_validation_abort`). If a read did not stand
     /// and the call is EXECUTED at the incarnation, the call is taken back, and the worker gets the keys that
     /// it wrote to mark. Else the worker's task ends. Takes no memory.
-    pub fn decide(&mut self, worker: usize, call: u16, incarnation: u16, failed: bool)
+    pub fn try_abort(&mut self, worker: usize, call: u16, incarnation: u16, failed: bool)
         requires counts { MayCount worker self.old }
         requires within { call < length self.old.calls }
         ensures state { (v : Versions) (p : ℕ) → state_of v p self.new ≡ counted one_validation worker (decided worker call incarnation failed (state_of v p self.old)) }
@@ -70,7 +69,7 @@ impl Scheduler {
     pub fn finish_abort(&mut self, worker: usize, call: u16)
         requires counts { MayCount worker self.old }
         requires within { call < length self.old.calls }
-        requires incarnation { (get_or self.old.calls call fresh).incarnation < INCARNATION_LIMIT }
+        requires incarnation { (get_or self.old.calls call fresh).incarnation < 65535 }
         ensures state { (v : Versions) (p : ℕ) → state_of v p self.new ≡ counted one_step worker (aborted worker call (state_of v p self.old)) }
         ensures rooms { KeepsRooms worker self.old.rooms self.new.rooms }
     {

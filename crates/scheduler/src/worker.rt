@@ -1,12 +1,12 @@
 //! What the scheduler keeps of a worker.
 
-ghost use Rattle.std.specs.Prelude.{◌≡◌, ◌≤◌, ◌<◌, ◌+◌, ◌-◌, ◌∷◌, ℕ, [], Bool, IfOk, List, OnErr, OnOk, Option, map, replicate, slice_get, take};
+ghost use Rattle.std.specs.Prelude.{◌≡◌, ◌≤◌, ◌<◌, ◌+◌, ◌-◌, ◌∷◌, ℕ, [], Bool, IfOk, List, OnErr, OnOk, Option, map, replicate, slice_get, take, vec_capacity, vec_len};
 ghost use Rattle.std.specs.Option.{option_copied};
 ghost use Rattle.std.specs.List.{list_all};
 ghost use Rattle.rv_step.specs.declared.answer.StorageAnswer.{StorageAnswer};
 ghost use Rattle.stm_state.specs.State.{is_idle};
 ghost use Rattle.stm_state.specs.declared.state.Task.TheVariants as task;
-ghost use Rattle.scheduler.specs.Workers.{HasKeyLeft, IsRunning, IsTaskKindOf, with_answer, blocked_on, failed_check, idle_worker, task_of, task_with};
+ghost use Rattle.scheduler.specs.Workers.{HasKeyLeft, IsRunning, IsTaskKindOf, with_answer, with_answers, blocked_on, failed_check, idle_worker, task_of, task_with};
 
 use crate::counting::COUNT_LIMIT;
 use rv_ledger::{Counts, Key};
@@ -191,15 +191,13 @@ impl Worker {
         self.dropped += 1;
     }
 
-    /// Makes room for one more answer. Refused where memory ran out, and then nothing changes.
-    pub(crate) fn reserve(&mut self) -> Result<(), AllocError>
-        ensures room { OnOk result (1 ≤ self.new.room) }
-        ensures kept { self.old.room ≤ self.new.room }
-        ensures same { self.new ≡ record self.old { room = self.new.room } }
-        ensures unchanged { OnErr result (self.new ≡ self.old) }
-        ensures succeeds { 1 ≤ self.old.room → result ≡ Ok tt }
+    /// Swaps the answers that its run was given with a list. Takes no memory.
+    pub(crate) fn swap_answers(&mut self, list: &mut Vec<StorageAnswer>)
+        ensures answers { (i : ℕ) (answers : List StorageAnswer) (blocked : Option ℕ) → self.old.task ≡ task.Running i answers blocked → list.new.items ≡ answers }
+        ensures room { vec_capacity list.new - vec_len list.new ≡ self.old.room }
+        ensures worker { self.new ≡ record self.old { task = with_answers list.old.items self.old.task; room = vec_capacity list.old - vec_len list.old } }
     {
-        self.answers.reserve(1)
+        mem::swap(&mut self.answers, list);
     }
 
     /// Keeps one more answer in room that was made. Takes no memory.

@@ -2,7 +2,6 @@
 use Rattle.std.proofs.Common.{◌≡◌, ◌<◌, ◌≤◌, ◌+◌, ◌*◌, ℕ, Bool, true, IsSome, List, [], ◌∷◌, length, get_or, slice_get, None, Some, Ok, refl, sym, ap, subst, ◌∙◌}
 use Rattle.std.specs.FinMap.{get, len}
 use Rattle.rv_ledger.specs.declared.job.Job.{Job}
-use Rattle.rv_ledger.specs.declared.inline_bytes.TheConstants.{VALUE_LIMIT}
 use Rattle.rv_step.specs.declared.answer.StorageAnswer.{StorageAnswer}
 use Rattle.rv_step.specs.declared.ended_run.EndedRun.{EndedRun}
 use Rattle.mvmap.specs.Table.{Table}
@@ -62,7 +61,7 @@ module _ (job : Job) (table : Table) (promised : ℕ) (schedule : Schedule) (h :
 
       -- the move leads on
       pub move_reached : after_table.places ≡ table.places → length after_table.arena.records + more ≡ length table.arena.records + promised → more + length (writes_at (get_or schedule.calls i fresh).last (key ∷ [])) ≡ promised
-          → more ≤ after_table.arena.room → more * VALUE_LIMIT ≤ after_table.arena.bytes → IsReached job after_table more after
+          → more ≤ after_table.arena.room → more * 64 ≤ after_table.arena.bytes → IsReached job after_table more after
       move_reached places placed taken room bytes =
           let versions : after_table.versions ≡ changed table.versions (key, i) (version_of (get_or schedule.calls i fresh) key) = ap (λ (t : State). t.versions) same in
           goes_on job table promised schedule h b is w Move_key due after_table more after move_is_made

@@ -7,3 +7,4 @@ pub mod Turns
 pub mod Promises
 pub mod Fits
 pub mod Drives
+pub mod Swapped

@@ -1,5 +1,5 @@
 -- The parts of steps come to the steps, and what a worker's duty says of its task.
-use Rattle.std.proofs.Common.{◌≡◌, ◌<◌, ℕ, zero, suc, Bool, true, false, List, [], ◌∷◌, slice_get, Option, None, Some, refl, ap, ◌∙◌}
+use Rattle.std.proofs.Common.{◌≡◌, ◌<◌, ℕ, zero, suc, Bool, true, false, List, [], ◌∷◌, slice_get, Option, None, Some, refl, sym, subst, ap, ◌∙◌}
 use Rattle.rv_step.specs.declared.answer.StorageAnswer.{StorageAnswer}
 use Rattle.mvmap.specs.Versions.{Versions, Estimate, changed}
 use Rattle.stm_state.specs.declared.state.Task.{Task}
@@ -8,7 +8,7 @@ use Rattle.stm_state.specs.State.{State, call_at, with_task}
 use Rattle.stm_state.specs.Steps.{Ask, Read_key, Record, Move_key, Finish_execution, Check_read, Mark_estimate, Finish_abort, marked, moved, version_of}
 use Rattle.stm_state.specs.Invariant.{named_by}
 use Rattle.scheduler.specs.declared.worker.TaskKind.TheVariants as task_kind
-use Rattle.scheduler.specs.Workers.{IsRunning, task_kind_of}
+use Rattle.scheduler.specs.Workers.{HasKeys, IsRunning, task_kind_of}
 use Rattle.stm_core.specs.declared.next_step.NextStep.TheVariants as next_step
 use Rattle.stm_core.specs.CoreState.{IsWithin, next_step_of, is_due}
 
@@ -175,6 +175,13 @@ names_running (Marking j keys) i blocked d = cc
 
 pub names_moving : (task : Task) (i : ℕ) (new : Bool) → task_kind.Moving i new ≡ task_kind_of task → named_by task ≡ Some i
 names_moving task i new d = let at = moving_at task i new d in ap named_by at.1
+
+-- a task that moves or marks has keys
+pub moving_has_keys : (task : Task) (i : ℕ) (new : Bool) → task_kind.Moving i new ≡ task_kind_of task → HasKeys task
+moving_has_keys task i new d = let at = moving_at task i new d in subst HasKeys (sym at.1) tt
+
+pub marking_has_keys : (task : Task) (i : ℕ) → task_kind.Marking i ≡ task_kind_of task → HasKeys task
+marking_has_keys task i d = let at = marking_at task i d in subst HasKeys (sym at.1) tt
 
 pub names_validating : (task : Task) (i n left : ℕ) (failed : Bool) → task_kind.Validating i n left failed ≡ task_kind_of task → named_by task ≡ Some i
 names_validating task i n left failed d = ap named_by (validates_at task i n left failed d)

@@ -12,8 +12,7 @@ use Rattle.stm_state.specs.declared.state.Task.TheVariants.{Idle, Running, Movin
 use Rattle.stm_state.specs.State.{State, call_at, task_at, no_counts}
 use Rattle.stm_state.specs.Steps.{Block, Step, Ask, Read_key, Park, Record, Move_key, Finish_execution, Check_read, Decide, Mark_estimate, Finish_abort, Limit, worker_step}
 use Rattle.stm_state.specs.Done.{block_of}
-use Rattle.scheduler.specs.declared.counting.TheConstants.{COUNT_LIMIT}
-use Rattle.scheduler.specs.Schedule.{KeepsRooms}
+use Rattle.scheduler.specs.Schedule.{KeepsRooms, count_limit}
 use Rattle.stm_core.specs.declared.next_step.AskResult.{AskResult}
 use Rattle.stm_core.specs.declared.next_step.AskResult.TheVariants as ask_result
 use Rattle.stm_core.specs.declared.next_step.NextStep.{NextStep}
@@ -49,7 +48,7 @@ is_due step task = false
 pub record IsDue (w : ℕ) (step : Step) (b : CoreState) : Type 0 where
   pub worker : w < length b.state.tasks
   pub due_step : is_due step (task_at b.state w) ≡ true
-  pub steps : (get_or b.state.counts w no_counts).steps < COUNT_LIMIT
+  pub steps : (get_or b.state.counts w no_counts).steps < count_limit
 
 -- a worker's step was made; the other workers' runs have room for as many answers as before
 abbrev pub Makes : ℕ → Step → CoreState → CoreState → Type 0

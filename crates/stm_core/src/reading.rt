@@ -1,6 +1,6 @@
 //! The step that a worker owes, and a read of its run.
 
-ghost use Rattle.std.specs.Prelude.{◌≡◌, ◌<◌, ◌≤◌, ℕ, Bool, List, length, get_or, IfSome, None, Some};
+ghost use Rattle.std.specs.Prelude.{◌≡◌, ◌<◌, ◌≤◌, ℕ, Bool, List, length, get_or, IfSome, None, Ok, OnErr, OnOk, Some};
 ghost use Rattle.std.specs.Option.{option_copied};
 ghost use Rattle.rv_step.specs.declared.answer.StorageAnswer.{StorageAnswer};
 ghost use Rattle.mvmap.specs.Versions.{Versions};
@@ -10,7 +10,7 @@ ghost use Rattle.stm_state.specs.State.{State, with_task};
 ghost use Rattle.stm_state.specs.Steps.{answered_with, counted, one_step};
 ghost use Rattle.stm_state.specs.Invariant.{named_by};
 ghost use Rattle.scheduler.specs.Schedule.{KeepsRooms, MayCount, state_of};
-ghost use Rattle.scheduler.specs.Workers.{with_answer};
+ghost use Rattle.scheduler.specs.Workers.{HasKeys, with_answer};
 ghost use Rattle.stm_core.specs.declared.next_step.ReadResult.TheVariants as read_result;
 ghost use Rattle.stm_core.specs.CoreState.{next_step_of, read_result_of};
 
@@ -20,6 +20,7 @@ use read_set::Origin;
 use rv_ledger::inline_bytes::VALUE_LIMIT;
 use rv_ledger::{Key, Store, Value};
 use rv_step::StorageAnswer;
+use std::alloc::AllocError;
 use scheduler::{Scheduler, TaskKind};
 
 /// The step that a worker owes.
@@ -58,6 +59,7 @@ pub(crate) fn next_step_of(scheduler: &Scheduler, worker: usize) -> NextStep
 /// The step that a worker owes while it moves the keys of a call's run.
 fn moving_step(scheduler: &Scheduler, worker: usize, call: u16) -> NextStep
     requires worker { worker < length scheduler.now.tasks }
+    requires keys { HasKeys (get_or scheduler.now.tasks worker task.Idle) }
     requires within { call < length scheduler.now.calls }
     ensures { (keys : List (List ℕ)) (new : Bool) → get_or scheduler.now.tasks worker task.Idle ≡ task.Moving call keys new → (v : Versions) (p : ℕ) → result ≡ next_step_of (state_of v p scheduler.now) (task.Moving call keys new) }
 {
@@ -82,6 +84,7 @@ fn validating_step(call: u16, incarnation: u16, left: usize, failed: bool) -> Ne
 /// The step that a worker owes while it marks the keys of a call.
 fn marking_step(scheduler: &Scheduler, worker: usize, call: u16) -> NextStep
     requires worker { worker < length scheduler.now.tasks }
+    requires keys { HasKeys (get_or scheduler.now.tasks worker task.Idle) }
     requires within { call < length scheduler.now.calls }
     ensures { (keys : List (List ℕ)) → get_or scheduler.now.tasks worker task.Idle ≡ task.Marking call keys → (v : Versions) (p : ℕ) → result ≡ next_step_of (state_of v p scheduler.now) (task.Marking call keys) }
 {
@@ -90,6 +93,27 @@ fn marking_step(scheduler: &Scheduler, worker: usize, call: u16) -> NextStep
         Some(_) => NextStep::MarkEstimate { call, incarnation },
         None => NextStep::FinishAbort { call, incarnation },
     }
+}
+
+/// Makes room for one more answer to a worker's run, which is in `spare` meanwhile. Refused where memory ran
+/// out, and then nothing changes.
+pub(crate) fn make_answer_room(
+    scheduler: &mut Scheduler,
+    worker: usize,
+    spare: &mut Vec<StorageAnswer>,
+) -> Result<(), AllocError>
+    requires { worker < length scheduler.old.tasks }
+    ensures room { OnOk result (1 ≤ get_or scheduler.new.rooms worker 0) }
+    ensures kept { get_or scheduler.old.rooms worker 0 ≤ get_or scheduler.new.rooms worker 0 }
+    ensures same { (v : Versions) (p : ℕ) → state_of v p scheduler.new ≡ state_of v p scheduler.old }
+    ensures rooms { KeepsRooms worker scheduler.old.rooms scheduler.new.rooms }
+    ensures unchanged { OnErr result (scheduler.new ≡ scheduler.old) }
+    ensures succeeds { 1 ≤ get_or scheduler.old.rooms worker 0 → result ≡ Ok tt }
+{
+    scheduler.swap_answers(worker, spare);
+    let made = spare.reserve(1);
+    scheduler.swap_answers(worker, spare);
+    made
 }
 
 /// A worker's run reads a key for its call, in room that was made. Of the calls below, the highest

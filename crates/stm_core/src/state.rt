@@ -8,13 +8,13 @@ ghost use Rattle.stm_core.specs.CoreState.{ask_result_of};
 use crate::fault::{IncarnationLimit, RecordFault, Refused};
 use crate::next_step::{AskResult, NextStep, ReadResult};
 use crate::outcome::outcome_of;
-use crate::reading::{next_step_of, read_at};
+use crate::reading::{make_answer_room, next_step_of, read_at};
 use crate::reads::next_stands;
 use crate::recording::{has_own_answers, is_run_of, record_run};
 use crate::versions::{mark_key, move_key};
 use mvmap::MvMap;
 use rv_ledger::{Counts, Job, Key, Outcome};
-use rv_step::EndedRun;
+use rv_step::{EndedRun, StorageAnswer};
 use scheduler::{Scheduler, TaskKind};
 use std::alloc::{AllocError, Global};
 use std::marker::Model;
@@ -29,6 +29,8 @@ pub struct Core {
     scheduler: Scheduler,
     /// The number of records that are promised to runs whose keys are being moved.
     promised: usize,
+    /// A list that takes the place of a run's answers while room is made for one more.
+    spare_answers: Vec<StorageAnswer>,
 }
 
 impl Model for Core {
@@ -91,6 +93,7 @@ impl Core {
                 map,
                 scheduler,
                 promised: 0,
+                spare_answers: Vec::new(alloc),
             }),
             Err(_) => Err(map.into_arena()),
         }
@@ -163,7 +166,7 @@ impl Core {
         ensures unchanged { OnErr result (self.new ≡ self.old) }
         ensures succeeds { 1 ≤ get_or self.old.rooms worker 0 → result ≡ Ok tt }
     {
-        self.scheduler.room_for_read(worker)
+        make_answer_room(&mut self.scheduler, worker, &mut self.spare_answers)
     }
 
     /// A worker without a task asks for work. Takes no memory.
@@ -334,7 +337,7 @@ impl Core {
         };
         let stands = next_stands(&self.map, call, &self.scheduler.call(call).last, left);
         self.scheduler
-            .finish_check(worker, call, incarnation, left - 1, stands);
+            .finish_validation(worker, call, incarnation, left - 1, stands);
     }
 
     /// A worker decides the validation whose reads it has checked. Where a read did not stand and the
@@ -354,7 +357,7 @@ impl Core {
         else {
             unreachable!();
         };
-        self.scheduler.decide(worker, call, incarnation, failed);
+        self.scheduler.try_abort(worker, call, incarnation, failed);
     }
 
     /// A worker marks the next key of the call that it aborts: the version there becomes an estimate
@@ -401,12 +404,7 @@ impl Core {
     pub fn into_arena(self) -> Arena
         ensures { result.records ≡ [] }
     {
-        let Core {
-            job: _,
-            map,
-            scheduler: _,
-            promised: _,
-        } = self;
+        let Core { map, .. } = self;
         map.into_arena()
     }
 }

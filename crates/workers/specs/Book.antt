@@ -5,7 +5,7 @@ use Rattle.rv_ledger.specs.declared.outcome.Counts.{Counts}
 use Rattle.stm_state.specs.State.{task_at, no_counts, is_done}
 use Rattle.stm_state.specs.Steps.{Step, Ask, Read_key, Park, Record}
 use Rattle.stm_state.specs.Steps as steps
-use Rattle.scheduler.specs.declared.counting.TheConstants.{COUNT_LIMIT}
+use Rattle.scheduler.specs.Schedule.{count_limit}
 use Rattle.stm_core.specs.CoreState.{CoreState, IsRefused, Makes, next_step_of}
 use Rattle.stm_core.specs.declared.next_step.NextStep.{NextStep}
 use Rattle.stm_core.specs.declared.fault.RecordFault.{RecordFault}
@@ -34,7 +34,7 @@ pub record IsAtLimit (limit : steps.Limit) (b : CoreState) : Type 0 where
 pub record HasFullCount (b : CoreState) : Type 0 where
   pub worker : ℕ
   pub within : worker < length b.state.tasks
-  pub steps : (get_or b.state.counts worker no_counts).steps ≡ COUNT_LIMIT
+  pub steps : (get_or b.state.counts worker no_counts).steps ≡ count_limit
 
 -- a fault that may be written beside a core
 abbrev pub MayWrite : RunFault → CoreState → Type 0
@@ -124,7 +124,7 @@ pub record LeavesWritten (fault : RunFault) (before after : BookState) (share le
 
 -- a worker may count one step more
 abbrev pub MayCount : ℕ → CoreState → Type 0
-MayCount w b = (get_or b.state.counts w no_counts).steps < COUNT_LIMIT
+MayCount w b = (get_or b.state.counts w no_counts).steps < count_limit
 
 -- why a step call is refused: the first of these that applies. The fault that was written before; Foreign where the worker
 -- does not owe the step; StepLimit where it can't count another one; Foreign where the run is not its own; a limit that the
@@ -137,7 +137,7 @@ IsCauseAfter None Owed Own Wants step w b faults.ArenaFull = Owed × MayCount w 
 IsCauseAfter None Owed Own Wants step w b faults.IncarnationLimit = Owed × MayCount w b × Own × IsRefused w step steps.IncarnationLimit b
 IsCauseAfter None Owed Own Wants step w b faults.Memory = Owed × MayCount w b × Own × Wants
 IsCauseAfter None Owed Own Wants step w b faults.Spawn = ⊥
-IsCauseAfter None Owed Own Wants step w b faults.StepLimit = Owed × ((get_or b.state.counts w no_counts).steps ≡ COUNT_LIMIT)
+IsCauseAfter None Owed Own Wants step w b faults.StepLimit = Owed × ((get_or b.state.counts w no_counts).steps ≡ count_limit)
 
 abbrev pub IsCause : (Owed : Type 0) → (Own : Type 0) → (Wants : Type 0) → Step → ℕ → BookState → RunFault → Type 0
 IsCause Owed Own Wants step w b fault = IsCauseAfter b.fault Owed Own Wants step w b.core fault
@@ -151,7 +151,7 @@ IsUnready None next share b faults.ArenaFull = ⊥
 IsUnready None next share b faults.IncarnationLimit = ⊥
 IsUnready None next share b faults.Memory = ⊥
 IsUnready None next share b faults.Spawn = ⊥
-IsUnready None next share b faults.StepLimit = Owes next share b × ((get_or b.state.counts share.worker no_counts).steps ≡ COUNT_LIMIT)
+IsUnready None next share b faults.StepLimit = Owes next share b × ((get_or b.state.counts share.worker no_counts).steps ≡ count_limit)
 
 -- the result of `ask`: None where all was done, with one more answer Done in the share; else the step that is owed now
 abbrev pub IsAsked : Option NextStep → CoreState → CoreState → Share → Share → Type 0

@@ -70,6 +70,7 @@ impl<B: BlockName> Book<B> {
     ghost use Rattle.stm_state.specs.Invariant.{Invariant};
     ghost use Rattle.stm_state.specs.State.{task_at};
     ghost use Rattle.stm_state.specs.Steps as steps;
+    ghost use Rattle.scheduler.specs.Schedule.{count_limit};
     ghost use Rattle.stm_core.specs.CoreState.{IsOwn, IsTaken, block_in, next_step_of, read_result_of};
     ghost use Rattle.stm_core.specs.declared.next_step.NextStep.TheVariants as next_step;
     ghost use Rattle.workers.specs.Book.{FaultFits, HasKnownCalls, IsAsked, IsCause, IsMade, IsUnready, LeavesWritten, MayWrite, Owes, AgreesWith, first_fault, outside_fault};
@@ -427,7 +428,7 @@ impl<B: BlockName> Book<B> {
 
     /// Checks that the share's worker may make a step now. Refused as `ask` is; the fault is written.
     fn ready(&mut self, share: &Share, owed: NextStep) -> Result<(), WrittenFault>
-        ensures ready { OnOk result (Owes owed share.now self.old.core × (self.old.fault ≡ None) × (share.now.counts.steps < COUNT_LIMIT) × (self.new ≡ self.old)) }
+        ensures ready { OnOk result (Owes owed share.now self.old.core × (self.old.fault ≡ None) × (share.now.counts.steps < count_limit) × (self.new ≡ self.old)) }
         ensures refused { IfErr result (λ e. self.new ≡ record self.old { fault = Some e }) }
         ensures cause { IfErr result (λ e. IsUnready self.old.fault owed share.now self.old.core e) }
     {

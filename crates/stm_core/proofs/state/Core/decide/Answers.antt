@@ -7,17 +7,17 @@ use Rattle.stm_core.proofs.Made.{decide_made, due_at, goes_on_quietly, may_count
 use Rattle.stm_core.proofs.Parted.{names_validating, validates_at}
 use Rattle.stm_core.proofs.state.Core.decide.Goals as goal
 
-pub decide-requires-clause-counts : goal.decide-requires-clause-counts
-decide-requires-clause-counts c = may_count c.self.inside.job c.self.inside.map c.self.inside.promised c.self.inside.scheduler c.self.invariant c.args.self.now c.self.view_is c.args.worker Decide c.requires
+pub try_abort-requires-clause-counts : goal.try_abort-requires-clause-counts
+try_abort-requires-clause-counts c = may_count c.self.inside.job c.self.inside.map c.self.inside.promised c.self.inside.scheduler c.self.invariant c.args.self.now c.self.view_is c.args.worker Decide c.requires
 
-pub decide-requires-clause-within : goal.decide-requires-clause-within
-decide-requires-clause-within c = named_in c.self.inside.job c.self.inside.map c.self.inside.promised c.self.inside.scheduler c.self.invariant c.args.worker c.in-Validating.call (names_validating (get_or c.self.inside.scheduler.tasks c.args.worker Idle) c.in-Validating.call c.in-Validating.incarnation c.in-Validating.left c.in-Validating.failed c.in-Validating.ensures)
+pub try_abort-requires-clause-within : goal.try_abort-requires-clause-within
+try_abort-requires-clause-within c = named_in c.self.inside.job c.self.inside.map c.self.inside.promised c.self.inside.scheduler c.self.invariant c.args.worker c.in-Validating.call (names_validating (get_or c.self.inside.scheduler.tasks c.args.worker Idle) c.in-Validating.call c.in-Validating.incarnation c.in-Validating.left c.in-Validating.failed c.in-Validating.ensures)
 
 pub invariant_of-self : goal.invariant_of-self
 invariant_of-self c =
     let due = due_at c.self.inside.job c.self.inside.map c.self.inside.promised c.self.inside.scheduler c.self.invariant c.args.self.now c.self.view_is c.args.worker Decide c.requires in
     let at = validates_at (get_or c.self.inside.scheduler.tasks c.args.worker Idle) c.in-Validating.call c.in-Validating.incarnation c.in-Validating.left c.in-Validating.failed c.in-Validating.ensures in
-    goes_on_quietly c.self.inside.job c.self.inside.map c.self.inside.promised c.self.inside.scheduler c.self.invariant c.args.self.now c.self.view_is c.args.worker Decide c.requires c.self.inside.map c.decide.new.self tt
+    goes_on_quietly c.self.inside.job c.self.inside.map c.self.inside.promised c.self.inside.scheduler c.self.invariant c.args.self.now c.self.view_is c.args.worker Decide c.requires c.self.inside.map c.try_abort.new.self tt
     (decide_made (block_of c.self.inside.job.block c.self.inside.job.store) c.args.worker (state_in c.self.inside.map c.self.inside.promised c.self.inside.scheduler) c.in-Validating.call c.in-Validating.incarnation c.in-Validating.left c.in-Validating.failed at due.due_step
-    ∙ ap (λ s. Some (Ok s)) (sym (c.decide.ensures.state c.self.inside.map.versions (length c.self.inside.map.arena.records + c.self.inside.promised))))
+    ∙ ap (λ s. Some (Ok s)) (sym (c.try_abort.ensures.state c.self.inside.map.versions (length c.self.inside.map.arena.records + c.self.inside.promised))))
     c.self.invariant.places refl refl

@@ -7,8 +7,11 @@ use Rattle.stm_core.specs.CoreState.{Makes}
 use Rattle.stm_core.specs.Inner.{IsReached, core_state_of}
 use Rattle.stm_core.proofs.Handed.{mark_makes, mark_reached}
 use Rattle.stm_core.proofs.Made.{due_at, mark_has_place, may_count}
-use Rattle.stm_core.proofs.Parted.{marks_key, marks_some_key}
+use Rattle.stm_core.proofs.Parted.{marking_has_keys, marks_key, marks_some_key}
 use Rattle.stm_core.proofs.state.Core.mark_estimate.Goals as goal
+
+pub next_key-requires-clause-keys : goal.next_key-requires-clause-keys
+next_key-requires-clause-keys c = marking_has_keys (get_or c.self.inside.scheduler.tasks c.args.worker Idle) c.in-Marking.call c.in-Marking.ensures
 
 pub unreachable-requires-in_default-next_key : goal.unreachable-requires-in_default-next_key
 unreachable-requires-in_default-next_key c =

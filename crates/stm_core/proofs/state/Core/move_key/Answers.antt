@@ -7,8 +7,11 @@ use Rattle.stm_state.specs.Steps.{Move_key, counted, moved, one_step, version_of
 use Rattle.stm_core.specs.Inner.{AreOpen, state_in, writes_at}
 use Rattle.stm_core.proofs.Handed.{key_has_place, key_is_promised, move_makes, move_reached}
 use Rattle.stm_core.proofs.Made.{due_at, may_count, named_in}
-use Rattle.stm_core.proofs.Parted.{moved_is, moves_key, moves_some_key, names_moving}
+use Rattle.stm_core.proofs.Parted.{moved_is, moving_has_keys, moves_key, moves_some_key, names_moving}
 use Rattle.stm_core.proofs.state.Core.move_key.Goals as goal
+
+pub next_key-requires-clause-keys : goal.next_key-requires-clause-keys
+next_key-requires-clause-keys c = moving_has_keys (get_or c.self.inside.scheduler.tasks c.args.worker Idle) c.in-Moving.call c.in-Moving.new_key c.in-Moving.ensures
 
 pub unreachable-requires-in_default-next_key : goal.unreachable-requires-in_default-next_key
 unreachable-requires-in_default-next_key c =

@@ -6,8 +6,8 @@ use Rattle.stm_state.specs.State.{fresh, with_call, with_task}
 use Rattle.stm_state.specs.Steps.{counted, decided, is_executed_at, keys_of, one_validation, written_by}
 use Rattle.scheduler.specs.Schedule.{Schedule, state_of}
 use Rattle.scheduler.proofs.Cases.{decided_late, decided_none, decided_abort}
-use Rattle.scheduler.proofs.scheduler.Scheduler.decide.Goals as goal
-use Rattle.scheduler.proofs.scheduler.Scheduler.decide.Goals.{else-failed-via-then-failed+else-is_executed_at, else-failed-via-else-failed}
+use Rattle.scheduler.proofs.scheduler.Scheduler.try_abort.Goals as goal
+use Rattle.scheduler.proofs.scheduler.Scheduler.try_abort.Goals.{else-failed-via-then-failed+else-is_executed_at, else-failed-via-else-failed}
 
 pub returns-then-is_executed_at-clause-state : goal.returns-then-is_executed_at-clause-state
 returns-then-is_executed_at-clause-state c =

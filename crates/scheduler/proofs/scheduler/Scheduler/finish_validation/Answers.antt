@@ -6,7 +6,7 @@ use Rattle.stm_state.specs.Steps.{counted, is_executed_at, one_step}
 use Rattle.scheduler.specs.Schedule.{Schedule, state_of}
 use Rattle.scheduler.specs.Workers.{failed_check}
 use Rattle.scheduler.proofs.Cases.{check_ended, check_failed, check_stood}
-use Rattle.scheduler.proofs.scheduler.Scheduler.finish_check.Goals as goal
+use Rattle.scheduler.proofs.scheduler.Scheduler.finish_validation.Goals as goal
 
 pub returns-then-not-is_executed_at-clause-state : goal.returns-then-not-is_executed_at-clause-state
 returns-then-not-is_executed_at-clause-state c =
