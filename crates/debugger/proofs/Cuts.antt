@@ -1,26 +1,24 @@
--- What a session that was cut short has written.
-use Rattle.std.proofs.Common.{◌≡◌, ℕ, ◌+◌, ◌<◌, ◌==◌, Bool, true, false, All, List, [], ◌∷◌, ◌++◌, take, drop, get_or, length, Option, Some, None, IfSome, refl, sym, ap, subst, ◌∙◌, append_assoc, append-nil, take-append-drop}
-use Rattle.std.specs.Io.KnownBytes.{Appends, Consumes, IsAtEnd, Keeps}
-use Rattle.std.proofs.KnownBytes.{Appends-kept, Appends-nil, Appends-trans, Consumes-trans, Consumes-whole}
+-- Where a session that was cut short stands, and what it has written.
+use Rattle.std.proofs.Common.{◌≡◌, ℕ, ◌+◌, ◌<◌, ◌==◌, Bool, true, false, All, List, [], ◌∷◌, ◌++◌, take, drop, get_or, length, Option, Some, None, IfSome, refl, sym, ap, subst, ◌∙◌, inl, inr, append_assoc, append-nil, take-append-drop}
+use Rattle.std.specs.Io.KnownBytes.{Appends, Consumes, IsAtEnd}
+use Rattle.std.proofs.KnownBytes.{Appends-nil, Consumes-trans, Consumes-whole}
+use Rattle.std.proofs.lemmas.List.Elements.{All-append, All-nil}
 use Rattle.receipts.specs.Written.{AppendsPart}
+use Rattle.debugger.specs.declared.command.Command.{Command}
+use Rattle.debugger.specs.declared.command.Command.TheVariants.{Step, Back, RunTo, Where, Registers, Bytes, Quit}
+use Rattle.debugger.specs.declared.fault.DebugFault.{DebugFault}
+use Rattle.debugger.specs.declared.fault.DebugFault.TheVariants.{Memory, Output, Unreadable}
 use Rattle.debugger.specs.Command.{command_of}
 use Rattle.debugger.specs.Replay.{ReplayState}
-use Rattle.debugger.specs.Session.{AppendsBeginning, Ending, is_quit, line_text, lines_of, session}
-use Rattle.debugger.specs.Hearing.{HasHeard, IsCutIn, IsInLine}
+use Rattle.debugger.specs.Session.{AppendsBeginning, Ending, IsCutAt, IsCutShort, IsHeardOn, IsOnWay, is_quit, line_text, lines_of, session}
+use Rattle.debugger.specs.Hearing.{HasAnswered, IsCutAnswer, IsCutIn, IsInLine}
 use Rattle.debugger.proofs.Lines.{last_line, line_and_more}
-use Rattle.debugger.proofs.Hearings.{all_of, session_on, session_quit}
+use Rattle.debugger.proofs.Stops.{still_past}
+use Rattle.debugger.proofs.Hearings.{all_of, more_text, session_append, session_nil, session_on, session_quit, with_more}
 
--- nothing of a text
-pub none_begins : (a : Option (List ℕ)) (text : List ℕ) → AppendsBeginning a a text
-none_begins a text = ([], text, refl, Appends-nil a)
-
--- a part of it
+-- a part of a text
 pub part_begins : (a b : Option (List ℕ)) (text : List ℕ) → AppendsPart a b text → AppendsBeginning a b text
 part_begins a b text h = (take h.0 text, drop h.0 text, sym (take-append-drop h.0 text), h.2)
-
--- all of it
-pub all_begins : (a b c : Option (List ℕ)) (text : List ℕ) → Appends a b text → Keeps b c → AppendsBeginning a c text
-all_begins a b c text writes keeps = (text, [], sym (append-nil text), Appends-kept a b c text writes keeps)
 
 begins_with : (r : ReplayState) (line : List ℕ) (lines : List (List ℕ)) (b : Bool) → is_quit (command_of line) ≡ b → (more : List ℕ) × ((session r (line ∷ lines)).text ≡ line_text r (command_of line) ++ more)
 begins_with r line lines true e =
@@ -31,109 +29,161 @@ begins_with r line lines false e = (_, ap (λ (end : Ending). end.text) (session
 first_text : (r : ReplayState) (line : List ℕ) (lines : List (List ℕ)) → (more : List ℕ) × ((session r (line ∷ lines)).text ≡ line_text r (command_of line) ++ more)
 first_text r line lines = begins_with r line lines (is_quit (command_of line)) refl
 
--- a beginning of a beginning
-longer : (a b : Option (List ℕ)) (text more whole : List ℕ) → AppendsBeginning a b text → whole ≡ text ++ more → AppendsBeginning a b whole
-longer a b text more whole h e =
-    (h.0, h.1 ++ more, e ∙ ap (λ (t : List ℕ). t ++ more) h.2 ∙ append_assoc h.0 h.1 more, h.3)
+none_begins : (part text : List ℕ) → part ≡ [] → (left : List ℕ) × (text ≡ part ++ left)
+none_begins part text none = (text, sym (ap (λ (t : List ℕ). t ++ text) none))
+
+-- what was written of the next answer begins what the session goes on to print
+cut_begins : (fault : DebugFault) (r : ReplayState) (rest : List (List ℕ)) (new : ReplayState) (part : List ℕ) → IsCutAt fault r rest new part → (left : List ℕ) × ((session r rest).text ≡ part ++ left)
+cut_begins Unreadable r rest new part cut = none_begins part (session r rest).text cut.1
+cut_begins (Output fault) r [] new part cut = absurd cut
+cut_begins (Output fault) r (line ∷ more) new part cut =
+    let first = first_text r line more in (
+      cut.1.0 ++ first.0,
+      first.1 ∙ ap (λ (t : List ℕ). t ++ first.0) cut.1.1 ∙ append_assoc part cut.1.0 first.0,
+    )
+cut_begins Memory r [] new part cut = none_begins part (session r []).text cut.1
+cut_begins Memory r (line ∷ more) new part cut = none_begins part (session r (line ∷ more)).text cut.1
+
+-- a session that was cut short has written a beginning of what it prints
+pub cut_short_begins : (fault : DebugFault) (old : ReplayState) (lines : List (List ℕ)) (new : ReplayState) (before after : Option (List ℕ)) → IsCutShort fault old lines new before after → AppendsBeginning before after (session old lines).text
+cut_short_begins fault old lines new before after (heard, rest, part, are, on, cut, writes) =
+    let begins = cut_begins fault (session old heard).replay rest new part cut in (
+      (session old heard).text ++ part,
+      begins.0,
+      ap (λ (ls : List (List ℕ)). (session old ls).text) are
+          ∙ ap (λ (end : Ending). end.text) (session_append old heard rest on)
+          ∙ ap (λ (t : List ℕ). (session old heard).text ++ t) begins.1
+          ∙ sym (append_assoc (session old heard).text part begins.0),
+      writes,
+    )
+
+-- a session that answered no line
+cut_here : (fault : DebugFault) (r new : ReplayState) (lines : List (List ℕ)) (part : List ℕ) (before after : Option (List ℕ)) → IsCutAt fault r lines new part → Appends before after part → IsCutShort fault r lines new before after
+cut_here fault r new lines part before after cut writes = (
+  [],
+  lines,
+  part,
+  refl,
+  All-nil IsHeardOn,
+  subst (λ (e : Ending). IsCutAt fault e.replay lines new part) (sym (session_nil r)) cut,
+  subst (λ (e : Ending). Appends before after (e.text ++ part)) (sym (session_nil r)) writes,
+)
+
+-- a line's move was not made
+not_moved : (r : ReplayState) (command : Option Command) → IsOnWay r command r
+not_moved r None = inl refl
+not_moved r (Some Step) = inl refl
+not_moved r (Some Back) = inl refl
+not_moved r (Some (RunTo pc)) = inr (still_past pc r)
+not_moved r (Some Where) = inl refl
+not_moved r (Some Registers) = inl refl
+not_moved r (Some (Bytes address count)) = inl refl
+not_moved r (Some Quit) = inl refl
+
+-- memory ran out between two lines
+no_memory : (r : ReplayState) (lines : List (List ℕ)) → IsCutAt Memory r lines r []
+no_memory r [] = (refl, refl)
+no_memory r (line ∷ more) = (not_moved r (command_of line), refl)
+
+-- the lines behind the next one do not matter
+any_more : (fault : DebugFault) (r new : ReplayState) (line part : List ℕ) (more : List (List ℕ)) → IsCutAt fault r (line ∷ []) new part → IsCutAt fault r (line ∷ more) new part
+any_more Unreadable r new line part more cut = cut
+any_more (Output fault) r new line part more cut = cut
+any_more Memory r new line part more cut = cut
+
+-- the answer to the first of some lines was cut
+first_cut : (fault : DebugFault) (r new : ReplayState) (line : List ℕ) (more lines : List (List ℕ)) (before after : Option (List ℕ)) → lines ≡ line ∷ more → IsCutAnswer fault r line new before after → IsCutShort fault r lines new before after
+first_cut fault r new line more lines before after are cut =
+    subst (λ (ls : List (List ℕ)). IsCutShort fault r ls new before after) (sym are)
+    (cut_here fault r new (line ∷ more) cut.0 before after (any_more fault r new line cut.0 more cut.1) cut.2)
 
 -- a last line that was cut
-pub last_cut : (r : ReplayState) (line : List ℕ) (a b : Option (List ℕ)) → All IsInLine line → (length line == 0) ≡ false → AppendsBeginning a b (line_text r (command_of line)) → AppendsBeginning a b (session r (lines_of line)).text
-last_cut r [] a b within filled h = cc
-last_cut r (byte ∷ line) a b within filled h =
-    let first = first_text r (byte ∷ line) [] in
-    longer a b (line_text r (command_of (byte ∷ line))) first.0 (session r (lines_of (byte ∷ line))).text h
-    (ap (λ (ls : List (List ℕ)). (session r ls).text) (last_line byte line within) ∙ first.1)
+pub last_cut : (fault : DebugFault) (r new : ReplayState) (line : List ℕ) (a b : Option (List ℕ)) → All IsInLine line → (length line == 0) ≡ false → IsCutAnswer fault r line new a b → IsCutShort fault r (lines_of line) new a b
+last_cut fault r new [] a b within filled cut = cc
+last_cut fault r new (byte ∷ line) a b within filled cut = first_cut fault r new (byte ∷ line) [] (lines_of (byte ∷ line)) a b (last_line byte line within) cut
 
-module _ (old now : ReplayState) (input line : List ℕ) (before mid : Option (List ℕ)) (heard : HasHeard true old input now line before mid) where
-  text_after : (rest : List ℕ) → (session old (lines_of (input ++ rest))).text ≡ heard.0 ++ (session now (lines_of (line ++ rest))).text
-  text_after rest = ap (λ (end : Ending). end.text) (heard.3 rest)
+module _ (old now : ReplayState) (input line : List ℕ) (before mid : Option (List ℕ)) (answered : HasAnswered old input now line before mid) where
+  -- behind lines that were answered
+  cut_behind : (fault : DebugFault) (new : ReplayState) (after : Option (List ℕ)) (lines all : List (List ℕ)) → all ≡ answered.heard ++ lines → IsCutShort fault now lines new mid after → IsCutShort fault old all new before after
+  cut_behind fault new after lines all are (heard, rest, part, split, on, cut, writes) = (
+    answered.heard ++ heard,
+    rest,
+    part,
+    are ∙ ap (λ (ls : List (List ℕ)). answered.heard ++ ls) split ∙ sym (append_assoc answered.heard heard rest),
+    All-append IsHeardOn answered.heard heard answered.on on,
+    subst (λ (e : Ending). IsCutAt fault e.replay rest new part) (sym (with_more old now input line before mid answered heard)) cut,
+    more_text old now input line before mid answered heard part after writes,
+  )
+
+  cut_now : (fault : DebugFault) (rest : List ℕ) → IsCutAt fault now (lines_of (line ++ rest)) now [] → IsCutShort fault old (lines_of (input ++ rest)) now before mid
+  cut_now fault rest cut =
+      cut_behind fault now mid (lines_of (line ++ rest)) (lines_of (input ++ rest)) (answered.lines rest)
+      (cut_here fault now now (lines_of (line ++ rest)) [] mid mid cut (Appends-nil mid))
 
   -- between two parts of the input
-  pub cut_between : IsCutIn old input before mid
-  cut_between = (heard.0, heard.1, λ rest. (_, text_after rest))
+  pub cut_between : IsCutIn Unreadable old input now before mid
+  cut_between rest = cut_now Unreadable rest (refl, refl)
 
   -- in a part of the input
-  pub cut_inside : (part : List ℕ) (after : Option (List ℕ)) → IsCutIn now (line ++ part) mid after → IsCutIn old (input ++ part) before after
-  cut_inside part after cut = (
-    heard.0 ++ cut.0,
-    Appends-trans before mid after heard.0 cut.0 heard.1 cut.1,
-    λ rest. (
-      (cut.2 rest).0,
-      ap (λ (t : List ℕ). (session old (lines_of t)).text) (append_assoc input part rest)
-          ∙ text_after (part ++ rest)
-          ∙ ap (λ (t : List ℕ). heard.0 ++ (session now (lines_of t)).text) (sym (append_assoc line part rest))
-          ∙ ap (λ (t : List ℕ). heard.0 ++ t) (cut.2 rest).1
-          ∙ sym (append_assoc heard.0 cut.0 (cut.2 rest).0),
-    ),
-  )
+  pub cut_inside : (fault : DebugFault) (part : List ℕ) (new : ReplayState) (after : Option (List ℕ)) → IsCutIn fault now (line ++ part) new mid after → IsCutIn fault old (input ++ part) new before after
+  cut_inside fault part new after cut rest =
+      cut_behind fault new after (lines_of ((line ++ part) ++ rest)) (lines_of ((input ++ part) ++ rest))
+      (ap lines_of (append_assoc input part rest) ∙ answered.lines (part ++ rest) ∙ ap (λ (t : List ℕ). answered.heard ++ lines_of t) (sym (append_assoc line part rest)))
+      (cut rest)
 
   -- in the answer to a line, whatever follows it
-  pub cut_line : (more : List ℕ) (after : Option (List ℕ)) → AppendsBeginning mid after (line_text now (command_of line)) → IsCutIn old (input ++ 10 ∷ more) before after
-  cut_line more after writes = (
-    heard.0 ++ writes.0,
-    Appends-trans before mid after heard.0 writes.0 heard.1 writes.3,
-    λ rest.
-        let lines = lines_of (more ++ rest) in
-        let first = first_text now line lines in (
-          writes.1 ++ first.0,
-          ap (λ (t : List ℕ). (session old (lines_of t)).text) (append_assoc input (10 ∷ more) rest)
-              ∙ text_after (10 ∷ (more ++ rest))
-              ∙ ap (λ (ls : List (List ℕ)). heard.0 ++ (session now ls).text) (line_and_more line (more ++ rest) heard.2)
-              ∙ ap (λ (t : List ℕ). heard.0 ++ t) (first.1 ∙ ap (λ (t : List ℕ). t ++ first.0) writes.2 ∙ append_assoc writes.0 writes.1 first.0)
-              ∙ sym (append_assoc heard.0 writes.0 (writes.1 ++ first.0)),
-        ),
-  )
+  pub cut_line : (fault : DebugFault) (more : List ℕ) (new : ReplayState) (after : Option (List ℕ)) → IsCutAnswer fault now line new mid after → IsCutIn fault old (input ++ 10 ∷ more) new before after
+  cut_line fault more new after cut rest =
+      cut_behind fault new after (lines_of (line ++ 10 ∷ (more ++ rest))) (lines_of ((input ++ 10 ∷ more) ++ rest))
+      (ap lines_of (append_assoc input (10 ∷ more) rest) ∙ answered.lines (10 ∷ (more ++ rest)))
+      (first_cut fault now new line (lines_of (more ++ rest)) (lines_of (line ++ 10 ∷ (more ++ rest))) mid after (line_and_more line (more ++ rest) answered.within) cut)
 
-  -- whatever follows
-  pub cut_before : (more : List ℕ) → IsCutIn old (input ++ more) before mid
-  cut_before more = (
-    heard.0,
-    heard.1,
-    λ rest. (_, ap (λ (t : List ℕ). (session old (lines_of t)).text) (append_assoc input more rest) ∙ text_after (more ++ rest)),
-  )
+  -- where the next byte of a line finds no memory, whatever follows
+  pub cut_before : (more : List ℕ) → IsCutIn Memory old (input ++ more) now before mid
+  cut_before more rest =
+      subst (λ (t : List ℕ). IsCutShort Memory old (lines_of t) now before mid) (sym (append_assoc input more rest))
+      (cut_now Memory (more ++ rest) (no_memory now (lines_of (line ++ (more ++ rest)))))
 
   -- at the end of the input
-  pub cut_at_end : (after : Option (List ℕ)) → AppendsBeginning mid after (session now (lines_of line)).text → AppendsBeginning before after (session old (lines_of input)).text
-  cut_at_end after h =
-      let is : (session old (lines_of input)).text ≡ heard.0 ++ (session now (lines_of line)).text =
-      ap (λ (t : List ℕ). (session old (lines_of t)).text) (sym (append-nil input)) ∙ text_after []
-      ∙ ap (λ (t : List ℕ). heard.0 ++ (session now (lines_of t)).text) (append-nil line) in (
-        heard.0 ++ h.0,
-        h.1,
-        is ∙ ap (λ (t : List ℕ). heard.0 ++ t) h.2 ∙ sym (append_assoc heard.0 h.0 h.1),
-        Appends-trans before mid after heard.0 h.0 heard.1 h.3,
-      )
+  pub cut_at_end : (fault : DebugFault) (new : ReplayState) (after : Option (List ℕ)) → IsCutShort fault now (lines_of line) new mid after → IsCutShort fault old (lines_of input) new before after
+  cut_at_end fault new after cut =
+      cut_behind fault new after (lines_of line) (lines_of input)
+      (ap lines_of (sym (append-nil input)) ∙ answered.lines [] ∙ ap (λ (t : List ℕ). answered.heard ++ lines_of t) (append-nil line))
+      cut
 
 -- a part of the input, cut before or in the answer to a line
-module _ (old now : ReplayState) (start part line : List ℕ) (i : ℕ) (before mid : Option (List ℕ)) (heard : HasHeard true old (start ++ take i part) now line before mid) where
-  pub hear_cut : IsCutIn old (start ++ part) before mid
+module _ (old now : ReplayState) (start part line : List ℕ) (i : ℕ) (before mid : Option (List ℕ)) (answered : HasAnswered old (start ++ take i part) now line before mid) where
+  pub hear_cut : IsCutIn Memory old (start ++ part) now before mid
   hear_cut =
       let all : start ++ part ≡ (start ++ take i part) ++ drop i part =
       ap (λ (t : List ℕ). start ++ t) (sym (take-append-drop i part)) ∙ sym (append_assoc start (take i part) (drop i part)) in
-      rw all (cut_before old now (start ++ take i part) line before mid heard (drop i part))
+      subst (λ (t : List ℕ). IsCutIn Memory old t now before mid) (sym all)
+      (cut_before old now (start ++ take i part) line before mid answered (drop i part))
 
-  pub hear_line_cut : (after : Option (List ℕ)) → i < length part → get_or part i 0 ≡ 10 → AppendsBeginning mid after (line_text now (command_of line)) → IsCutIn old (start ++ part) before after
-  hear_line_cut after less end writes =
+  pub hear_line_cut : (fault : DebugFault) (new : ReplayState) (after : Option (List ℕ)) → i < length part → get_or part i 0 ≡ 10 → IsCutAnswer fault now line new mid after → IsCutIn fault old (start ++ part) new before after
+  hear_line_cut fault new after less end cut =
       let all : start ++ part ≡ (start ++ take i part) ++ 10 ∷ drop (i + 1) part =
       all_of start part i less ∙ ap (λ (b : ℕ). (start ++ take i part) ++ b ∷ drop (i + 1) part) end in
-      rw all (cut_line old now (start ++ take i part) line before mid heard (drop (i + 1) part) after writes)
+      subst (λ (t : List ℕ). IsCutIn fault old t new before after) (sym all)
+      (cut_line old now (start ++ take i part) line before mid answered fault (drop (i + 1) part) new after cut)
 
 -- over all that a reader had
-pub cut_over : (r0 r1 : Option (List ℕ)) (old : ReplayState) (input : List ℕ) (before after : Option (List ℕ)) → Consumes r0 r1 input → IsCutIn old input before after → IfSome r0 (λ all. AppendsBeginning before after (session old (lines_of all)).text)
-cut_over None r1 old input before after read cut = tt
-cut_over (Some all) None old input before after read cut = absurd read
-cut_over (Some all) (Some rest) old input before after read cut =
-    (cut.0, (cut.2 rest).0, ap (λ (t : List ℕ). (session old (lines_of t)).text) read ∙ (cut.2 rest).1, cut.1)
+pub cut_over : (fault : DebugFault) (r0 r1 : Option (List ℕ)) (old new : ReplayState) (input : List ℕ) (before after : Option (List ℕ)) → Consumes r0 r1 input → IsCutIn fault old input new before after → IfSome r0 (λ all. IsCutShort fault old (lines_of all) new before after)
+cut_over fault None r1 old new input before after read cut = tt
+cut_over fault (Some all) None old new input before after read cut = absurd read
+cut_over fault (Some all) (Some rest) old new input before after read cut =
+    subst (λ (t : List ℕ). IsCutShort fault old (lines_of t) new before after) (sym read) (cut rest)
 
 -- between two reads
-pub cut_between_reads : (r0 r1 : Option (List ℕ)) (old now : ReplayState) (input line : List ℕ) (before mid : Option (List ℕ)) → Consumes r0 r1 input → HasHeard true old input now line before mid → IfSome r0 (λ all. AppendsBeginning before mid (session old (lines_of all)).text)
-cut_between_reads r0 r1 old now input line before mid read heard = cut_over r0 r1 old input before mid read (cut_between old now input line before mid heard)
+pub cut_between_reads : (r0 r1 : Option (List ℕ)) (old now : ReplayState) (input line : List ℕ) (before mid : Option (List ℕ)) → Consumes r0 r1 input → HasAnswered old input now line before mid → IfSome r0 (λ all. IsCutShort Unreadable old (lines_of all) now before mid)
+cut_between_reads r0 r1 old now input line before mid read answered =
+    cut_over Unreadable r0 r1 old now input before mid read (cut_between old now input line before mid answered)
 
 -- at the end of the input
-pub cut_at : (r0 r1 : Option (List ℕ)) (old now : ReplayState) (input line : List ℕ) (before mid after : Option (List ℕ)) → Consumes r0 r1 input → IsAtEnd r1 → HasHeard true old input now line before mid → AppendsBeginning mid after (session now (lines_of line)).text → IfSome r0 (λ all. AppendsBeginning before after (session old (lines_of all)).text)
-cut_at r0 r1 old now input line before mid after read end heard h =
-    Consumes-whole r0 r1 input (λ all. AppendsBeginning before after (session old (lines_of all)).text) read end
-    (cut_at_end old now input line before mid heard after h)
+pub cut_at : (fault : DebugFault) (r0 r1 : Option (List ℕ)) (old now new : ReplayState) (input line : List ℕ) (before mid after : Option (List ℕ)) → Consumes r0 r1 input → IsAtEnd r1 → HasAnswered old input now line before mid → IsCutShort fault now (lines_of line) new mid after → IfSome r0 (λ all. IsCutShort fault old (lines_of all) new before after)
+cut_at fault r0 r1 old now new input line before mid after read end answered cut =
+    Consumes-whole r0 r1 input (λ all. IsCutShort fault old (lines_of all) new before after) read end
+    (cut_at_end old now input line before mid answered fault new after cut)
 
 -- a read of no byte
 pub read_none : (r0 r1 r2 : Option (List ℕ)) (heard buf : List ℕ) (n : ℕ) → n ≡ 0 → Consumes r0 r1 heard → Consumes r1 r2 (take n buf) → Consumes r0 r2 heard

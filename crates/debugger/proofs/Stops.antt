@@ -3,7 +3,7 @@ use Rattle.std.proofs.Common.{◌≡◌, ℕ, zero, suc, ◌+◌, ◌<◌, ◌�
 use Rattle.rv_ledger.specs.Key.{Storage}
 use Rattle.rv_ledger.specs.Call.{Invocation}
 use Rattle.debugger.specs.Moment.{Standing, Going, Over, is_over, moment_of}
-use Rattle.debugger.specs.Replay.{IsPast, ReplayState, is_at_end, stops}
+use Rattle.debugger.specs.Replay.{IsPast, ReplayState, is_at_end, standing, stops}
 use Rattle.debugger.specs.Session.{first_stop, stop_of}
 use Rattle.debugger.proofs.Moments.{within_gas}
 
@@ -64,3 +64,15 @@ stop_is pc old new going past later there =
     first_stop_is (old.call.gas + 1) old.call old.store pc (old.moment + 1) new.moment (omega arith) (omega (arith, within))
     (λ k more below. past.between k (omega arith) below) here in
     rw going (ap Some (same_state old new (first_stop (old.call.gas + 1) old.call old.store pc (old.moment + 1)) past.call past.store first))
+
+-- a run to a pc that has not moved yet
+pub still_past : (pc : ℕ) (r : ReplayState) → IsPast pc r r × (r.moment < r.moment → stops pc (standing r) ≡ false)
+still_past pc r = (
+  record {
+    call = refl;
+    store = refl;
+    later = omega arith;
+    between = λ n after before. absurd (omega arith);
+  },
+  λ less. absurd (omega arith),
+)

@@ -1,17 +1,22 @@
 -- Private help of proofs: no public clause cites it. How a session goes on with parts of its input.
-use Rattle.std.specs.Prelude.{◌≡◌, ℕ, ◌==◌, Bool, true, false, All, List, ◌++◌, Option}
+use Rattle.std.specs.Prelude.{◌≡◌, ℕ, ◌==◌, Bool, true, false, All, List, [], ◌∷◌, ◌++◌, Option}
 use Rattle.std.specs.Io.KnownBytes.{Appends}
+use Rattle.debugger.specs.declared.fault.DebugFault.{DebugFault}
 use Rattle.debugger.specs.Replay.{ReplayState}
-use Rattle.debugger.specs.Session.{behind, lines_of, session}
+use Rattle.debugger.specs.Session.{IsCutAt, IsCutShort, IsHeardOn, lines_of, session}
 
 -- a byte that does not end a line
 abbrev pub IsInLine : ℕ → Type 0
 IsInLine byte = (byte == 10) ≡ false
 
--- whatever input comes next, the whole session prints what was written, and then what the session prints from here on
-abbrev pub GoesOnWith : ReplayState → List ℕ → ReplayState → List ℕ → List ℕ → Type 0
-GoesOnWith old input new line text =
-    (rest : List ℕ) → session old (lines_of (input ++ rest)) ≡ behind text (session new (lines_of (line ++ rest)))
+-- a session has answered the whole lines of an input, none of which ends it, and `line` begins the next one
+pub record HasAnswered (old : ReplayState) (input : List ℕ) (new : ReplayState) (line : List ℕ) (before after : Option (List ℕ)) : Type 0 where
+  pub heard : List (List ℕ)
+  pub on : All IsHeardOn heard
+  pub within : All IsInLine line
+  pub lines : (rest : List ℕ) → lines_of (input ++ rest) ≡ heard ++ lines_of (line ++ rest)
+  pub replay : new ≡ (session old heard).replay
+  pub text : Appends before after (session old heard).text
 
 -- whatever input comes next, the session has ended, and it printed what was written
 abbrev pub EndsWith : ReplayState → List ℕ → ReplayState → List ℕ → Type 0
@@ -20,8 +25,7 @@ EndsWith old input new text =
 
 -- a session has taken an input: it goes on with the beginning of its next line, or it has ended
 abbrev pub HasHeard : Bool → ReplayState → List ℕ → ReplayState → List ℕ → Option (List ℕ) → Option (List ℕ) → Type 0
-HasHeard true old input new line before after =
-    (text : List ℕ) × Appends before after text × All IsInLine line × GoesOnWith old input new line text
+HasHeard true old input new line before after = HasAnswered old input new line before after
 HasHeard false old input new line before after =
     (text : List ℕ) × Appends before after text × EndsWith old input new text
 
@@ -29,7 +33,10 @@ HasHeard false old input new line before after =
 abbrev pub Hears : Bool → ReplayState → List ℕ → List ℕ → ReplayState → List ℕ → Option (List ℕ) → Option (List ℕ) → Type 0
 Hears goes_on old line part new next before after = HasHeard goes_on old (line ++ part) new next before after
 
--- whatever input comes next, a beginning of what the session prints was written
-abbrev pub IsCutIn : ReplayState → List ℕ → Option (List ℕ) → Option (List ℕ) → Type 0
-IsCutIn old input before after =
-    (done : List ℕ) × Appends before after done × ((rest : List ℕ) → (more : List ℕ) × ((session old (lines_of (input ++ rest))).text ≡ done ++ more))
+-- a session was cut short in an input, whatever comes next
+abbrev pub IsCutIn : DebugFault → ReplayState → List ℕ → ReplayState → Option (List ℕ) → Option (List ℕ) → Type 0
+IsCutIn fault old input new before after = (rest : List ℕ) → IsCutShort fault old (lines_of (input ++ rest)) new before after
+
+-- it was cut before or in the answer to a line
+abbrev pub IsCutAnswer : DebugFault → ReplayState → List ℕ → ReplayState → Option (List ℕ) → Option (List ℕ) → Type 0
+IsCutAnswer fault old line new before after = (part : List ℕ) × IsCutAt fault old (line ∷ []) new part × Appends before after part

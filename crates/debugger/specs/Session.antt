@@ -1,5 +1,5 @@
 -- What `debug` prints for its lines, and where it leaves the replay.
-use Rattle.std.specs.Prelude.{◌≡◌, ℕ, zero, suc, ◌+◌, ◌==◌, Bool, true, false, List, [], ◌∷◌, ◌++◌, codes, length, Option, Some, None, if◌then◌else◌}
+use Rattle.std.specs.Prelude.{◌≡◌, ℕ, zero, suc, ◌+◌, ◌<◌, ◌==◌, ◌⊎◌, Bool, true, false, All, List, [], ◌∷◌, ◌++◌, codes, length, Option, Some, None, if◌then◌else◌}
 use Rattle.std.specs.Io.KnownBytes.{Appends}
 use Rattle.rv_ledger.specs.Key.{Storage}
 use Rattle.rv_ledger.specs.Call.{Invocation}
@@ -7,12 +7,14 @@ use Rattle.block_file.specs.Line.{cut}
 use Rattle.receipts.specs.Text.{bytes_text, regs_line}
 use Rattle.debugger.specs.declared.command.Command.{Command}
 use Rattle.debugger.specs.declared.command.Command.TheVariants.{Step, Back, RunTo, Where, Registers, Bytes, Quit}
+use Rattle.debugger.specs.declared.fault.DebugFault.{DebugFault}
+use Rattle.debugger.specs.declared.fault.DebugFault.TheVariants.{Memory, Output, Unreadable}
 use Rattle.debugger.specs.declared.fault.ReplayFault.{ReplayFault}
 use Rattle.debugger.specs.declared.fault.ReplayFault.TheVariants.{AtEnd, AtStart, BadRange}
 use Rattle.debugger.specs.Command.{command_of}
 use Rattle.debugger.specs.Faults.{fault_text}
 use Rattle.debugger.specs.Moment.{moment_of}
-use Rattle.debugger.specs.Replay.{ReplayState, bytes_seen, is_at_end, machine_at, next_of, previous_of, stops, where_text}
+use Rattle.debugger.specs.Replay.{IsPast, ReplayState, bytes_seen, is_at_end, machine_at, next_of, previous_of, standing, stops, where_text}
 
 -- the line of a refusal
 abbrev pub refusal_line : ReplayFault → List ℕ
@@ -106,3 +108,33 @@ EndsAs ending new before after = Appends before after ending.text × (new ≡ en
 -- the known bytes grow by a beginning of a text
 abbrev pub AppendsBeginning : Option (List ℕ) → Option (List ℕ) → List ℕ → Type 0
 AppendsBeginning before after text = (done : List ℕ) × (rest : List ℕ) × (text ≡ done ++ rest) × Appends before after done
+
+-- a line that does not end the session
+abbrev pub IsHeardOn : List ℕ → Type 0
+IsHeardOn line = is_quit (command_of line) ≡ false
+
+-- on the way of a line's move: before it or behind it; on a run to a pc also at any moment before the one at which it
+-- stops
+abbrev pub IsOnWay : ReplayState → Option Command → ReplayState → Type 0
+IsOnWay r (Some (RunTo pc)) new =
+    (new ≡ after_command r (RunTo pc)) ⊎ (IsPast pc r new × (r.moment < new.moment → stops pc (standing new) ≡ false))
+IsOnWay r command new = (new ≡ r) ⊎ (new ≡ after_line r command)
+
+-- where a fault leaves a session that stands at a replay before the lines that are left, and what of the next answer
+-- was written. Unreadable comes between two lines; Output in the answer of a line, whose move stands; Memory before
+-- any of an answer is written, and then the move of that line was made, or not, or in part.
+abbrev pub IsCutAt : DebugFault → ReplayState → List (List ℕ) → ReplayState → List ℕ → Type 0
+IsCutAt Unreadable r rest new part = (new ≡ r) × (part ≡ [])
+IsCutAt (Output fault) r [] new part = ⊥
+IsCutAt (Output fault) r (line ∷ more) new part =
+    (new ≡ after_line r (command_of line)) × ((left : List ℕ) × (line_text r (command_of line) ≡ part ++ left))
+IsCutAt Memory r [] new part = (new ≡ r) × (part ≡ [])
+IsCutAt Memory r (line ∷ more) new part = IsOnWay r (command_of line) new × (part ≡ [])
+
+-- a fault cut a session over these lines short: it answered the first of them, and was cut at the others
+abbrev pub IsCutShort : DebugFault → ReplayState → List (List ℕ) → ReplayState → Option (List ℕ) → Option (List ℕ) → Type 0
+IsCutShort fault old lines new before after =
+    (heard : List (List ℕ)) × (rest : List (List ℕ)) × (part : List ℕ)
+    × (lines ≡ heard ++ rest) × All IsHeardOn heard
+    × IsCutAt fault (session old heard).replay rest new part
+    × Appends before after ((session old heard).text ++ part)

@@ -1,10 +1,10 @@
 //! What a command prints, and where it leaves the replay.
 
-ghost use Rattle.std.specs.Prelude.{◌≡◌, ◌++◌, ◌∷◌, [], IfOk, OnOk};
+ghost use Rattle.std.specs.Prelude.{◌≡◌, ◌++◌, ◌∷◌, [], IfOk, OnErr, OnOk};
 ghost use Rattle.std.specs.String.{string_bytes};
 ghost use Rattle.debugger.specs.declared.fault.ReplayFault.TheVariants.{AtEnd, AtStart};
 ghost use Rattle.debugger.specs.Replay.{bytes_seen, next_of, previous_of};
-ghost use Rattle.debugger.specs.Session.{after_command, after_line, answer_text, line_text, moved, moved_text, refusal_line, seen_text, stop_of, where_line};
+ghost use Rattle.debugger.specs.Session.{IsOnWay, after_command, after_line, answer_text, line_text, moved, moved_text, refusal_line, seen_text, stop_of, where_line};
 
 use crate::command::Command;
 use crate::fault::ReplayFault;
@@ -21,6 +21,7 @@ pub(crate) fn line_text(
 ) -> Result<String, AllocError>
     ensures text { IfOk result (λ t. string_bytes t ≡ line_text replay.old command) }
     ensures replay { OnOk result (replay.new ≡ after_line replay.old command) }
+    ensures err { OnErr result (IsOnWay replay.old command replay.new) }
 {
     match command {
         Some(command) => answer_text(alloc, replay, command),
@@ -32,6 +33,7 @@ pub(crate) fn line_text(
 fn answer_text(alloc: Global, replay: &mut Replay, command: Command) -> Result<String, AllocError>
     ensures text { IfOk result (λ t. string_bytes t ≡ answer_text replay.old command) }
     ensures replay { OnOk result (replay.new ≡ after_command replay.old command) }
+    ensures err { OnErr result (IsOnWay replay.old (Some command) replay.new) }
 {
     match command {
         Command::Step => step_text(alloc, replay),
@@ -48,6 +50,7 @@ fn answer_text(alloc: Global, replay: &mut Replay, command: Command) -> Result<S
 fn step_text(alloc: Global, replay: &mut Replay) -> Result<String, AllocError>
     ensures text { IfOk result (λ t. string_bytes t ≡ moved_text AtEnd (next_of replay.old)) }
     ensures replay { OnOk result (replay.new ≡ moved replay.old (next_of replay.old)) }
+    ensures err { OnErr result (IsOnWay replay.old (Some Command.Step) replay.new) }
 {
     match replay.step() {
         Ok(()) => where_line(alloc, replay),
@@ -60,6 +63,7 @@ fn step_text(alloc: Global, replay: &mut Replay) -> Result<String, AllocError>
 fn back_text(alloc: Global, replay: &mut Replay) -> Result<String, AllocError>
     ensures text { IfOk result (λ t. string_bytes t ≡ moved_text AtStart (previous_of replay.old)) }
     ensures replay { OnOk result (replay.new ≡ moved replay.old (previous_of replay.old)) }
+    ensures err { OnErr result (IsOnWay replay.old (Some Command.Back) replay.new) }
 {
     match replay.back() {
         Ok(()) => where_line(alloc, replay),
@@ -72,6 +76,7 @@ fn back_text(alloc: Global, replay: &mut Replay) -> Result<String, AllocError>
 fn run_to_text(alloc: Global, replay: &mut Replay, pc: u32) -> Result<String, AllocError>
     ensures text { IfOk result (λ t. string_bytes t ≡ moved_text AtEnd (stop_of pc replay.old)) }
     ensures replay { OnOk result (replay.new ≡ moved replay.old (stop_of pc replay.old)) }
+    ensures err { OnErr result (IsOnWay replay.old (Some (Command.RunTo pc)) replay.new) }
 {
     match replay.run_to(pc) {
         Ok(()) => where_line(alloc, replay),

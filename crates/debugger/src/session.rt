@@ -1,10 +1,10 @@
 //! A session of `debug`, over any reader of lines and any writer.
 
-ghost use Rattle.std.specs.Prelude.{◌≡◌, ◌++◌, All, not, IfOk, IfSome, OnErr, OnOk};
+ghost use Rattle.std.specs.Prelude.{◌≡◌, ◌++◌, All, not, IfErr, IfOk, IfSome, OnErr, OnOk};
 ghost use Rattle.std.specs.Io.KnownBytes.{Appends};
 ghost use Rattle.debugger.specs.Command.{command_of};
-ghost use Rattle.debugger.specs.Session.{AppendsBeginning, EndsAs, after_line, is_quit, line_text, lines_of, session};
-ghost use Rattle.debugger.specs.Hearing.{Hears, IsCutIn, IsInLine};
+ghost use Rattle.debugger.specs.Session.{AppendsBeginning, EndsAs, IsCutShort, after_line, is_quit, line_text, lines_of, session};
+ghost use Rattle.debugger.specs.Hearing.{Hears, IsCutAnswer, IsCutIn, IsInLine};
 
 use crate::answer::line_text;
 use crate::command::{Command, command_of};
@@ -21,9 +21,12 @@ const LINE_END: u8 = b'\n';
 const READ_SIZE: usize = 256;
 
 /// Reads lines up to a line `q` or the end of the input. Does the command of each line as soon as the line
-/// is read, and writes what it prints. The last line needs no LF. The first refusal ends the session:
-/// Unreadable where a read failed, Output where a write failed, Memory where memory ran out. Then a
-/// beginning of what the session prints was written, and the replay's moves are not undone.
+/// is read, and writes what it prints. The last line needs no LF. The first refusal ends the session,
+/// and the lines before it are answered: their moves were made, and their answers written in whole.
+/// Unreadable where a read failed: nothing else was done. Output where a write failed: the move of the
+/// line whose answer was being written was made, and a beginning of that answer was written. Memory where
+/// memory ran out: nothing of the next line's answer was written, and its move was made or not; a run to
+/// a pc may also have gone a part of its way.
 pub fn debug_to<R: Read, W: Write>(
     alloc: Global,
     replay: &mut Replay,
@@ -32,8 +35,8 @@ pub fn debug_to<R: Read, W: Write>(
 ) -> Result<(), DebugFault>
     ensures ok { OnOk result (IfSome (R.remaining lines.old) (λ input.
         EndsAs (session replay.old (lines_of input)) replay.new (W.contents out.old) (W.contents out.new))) }
-    ensures err { OnErr result (IfSome (R.remaining lines.old) (λ input.
-        AppendsBeginning (W.contents out.old) (W.contents out.new) (session replay.old (lines_of input)).text)) }
+    ensures err { IfErr result (λ fault. IfSome (R.remaining lines.old) (λ input.
+        IsCutShort fault replay.old (lines_of input) replay.new (W.contents out.old) (W.contents out.new))) }
 {
     let mut line = Vec::new(alloc);
     let mut part = [0u8; READ_SIZE];
@@ -65,7 +68,8 @@ fn hear_end<W: Write>(
 ) -> Result<(), DebugFault>
     requires { All IsInLine line.now }
     ensures ok { OnOk result (EndsAs (session replay.old (lines_of line.now)) replay.new (W.contents out.old) (W.contents out.new)) }
-    ensures err { OnErr result (AppendsBeginning (W.contents out.old) (W.contents out.new) (session replay.old (lines_of line.now)).text) }
+    ensures err { IfErr result (λ fault.
+        IsCutShort fault replay.old (lines_of line.now) replay.new (W.contents out.old) (W.contents out.new)) }
 {
     if line.is_empty() {
         return Ok(());
@@ -88,7 +92,8 @@ fn hear<W: Write>(
     requires { All IsInLine line.old.items }
     ensures ok { IfOk result (λ goes_on.
         Hears goes_on replay.old line.old.items part.now replay.new line.new.items (W.contents out.old) (W.contents out.new)) }
-    ensures err { OnErr result (IsCutIn replay.old (line.old.items ++ part.now) (W.contents out.old) (W.contents out.new)) }
+    ensures err { IfErr result (λ fault.
+        IsCutIn fault replay.old (line.old.items ++ part.now) replay.new (W.contents out.old) (W.contents out.new)) }
 {
     for byte in part {
         if *byte != LINE_END {
@@ -116,7 +121,8 @@ fn answer_line<W: Write>(
     ensures goes_on { IfOk result (λ goes_on. goes_on ≡ not (is_quit (command_of line.now))) }
     ensures replay { OnOk result (replay.new ≡ after_line replay.old (command_of line.now)) }
     ensures text { OnOk result (Appends (W.contents out.old) (W.contents out.new) (line_text replay.old (command_of line.now))) }
-    ensures err { OnErr result (AppendsBeginning (W.contents out.old) (W.contents out.new) (line_text replay.old (command_of line.now))) }
+    ensures err { IfErr result (λ fault.
+        IsCutAnswer fault replay.old line.now replay.new (W.contents out.old) (W.contents out.new)) }
 {
     let Ok(command) = command_of(alloc, line) else {
         return Err(DebugFault::Memory);

@@ -9,6 +9,7 @@ use std::alloc::{AllocError, Global};
 use std::io::Read;
 use std::process::Abort;
 use std::test::Fail;
+use stm_core::IncarnationLimit;
 
 /// The calls of three echoes.
 const THREE_ECHOES: &str = "call 0 1000 -\ncall 0 1000 01\ncall 0 1000 0102\n";
@@ -167,6 +168,15 @@ fn bad_worker(rt: HostRuntime) -> Result<(), Fail> {
             "rvstm: drive BadWorker 2\n",
         )?;
     }
+    Ok(())
+}
+
+/// The refusal of a park has the name and number of the drive's.
+#[test]
+fn incarnation_limit_number(rt: HostRuntime) -> Result<(), AllocError> {
+    let limit = IncarnationLimit;
+    let printed = format!(in rt.alloc(); "{limit}")?;
+    assert_eq!(&rt; printed.as_str(), "IncarnationLimit 4");
     Ok(())
 }
 

@@ -1,5 +1,5 @@
 //! Tests of library calls in which one request for memory fails. `scripts/growths` runs each test again and again:
-//! its first request fails, then its second, and so on. Without that script none fails.
+//! its first request fails, then its second, and so on. Without that script none fails, but in `exhausted`.
 //!
 //! A call that is refused is made once more, and must then give the right result. A call whose refusals have
 //! names must be refused as Memory, and `run_block` as Memory or as Spawn. What a refused call leaves is looked at
@@ -10,6 +10,11 @@
 //! - after `write_outcome`, the text that was written,
 //! - after `run_to` and `back`, the moment of the replay,
 //! - after `run_block`, the executor, which must run another block.
+//!
+//! The tests of `exhausted` need no script: they take all addresses and the rest of the heap from the process
+//! themselves. With that script they are not run. A thread must be refused as Spawn, the growths of a worker, of the
+//! other one and of both as Memory, and the growth of a chain before its first block. Then the memory is given back,
+//! and the executor must run another block.
 #![tactic(auto)]
 
 #[cfg(test)]
@@ -17,13 +22,19 @@ mod cores;
 #[cfg(test)]
 mod drives;
 #[cfg(test)]
+mod exhausted;
+#[cfg(test)]
 mod images;
+#[cfg(test)]
+mod limits;
 #[cfg(test)]
 mod replays;
 #[cfg(test)]
 mod rows;
 #[cfg(test)]
 mod runs;
+#[cfg(test)]
+mod taking;
 #[cfg(test)]
 mod texts;
 #[cfg(test)]

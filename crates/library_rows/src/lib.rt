@@ -16,6 +16,8 @@ mod ecalls_calls;
 #[cfg(test)]
 mod elf32_calls;
 #[cfg(test)]
+mod fault_numbers;
+#[cfg(test)]
 mod gas_calls;
 #[cfg(test)]
 mod mvmap_calls;

@@ -55,12 +55,12 @@ pub fn assemble(alloc: Global, source: &str) -> Result<Program, AsmError>
 {
     match program_or_fault(alloc, source) {
         Ok(program) => Ok(program),
-        Err(fault) => Err(told(fault)),
+        Err(fault) => Err(as_answered(fault)),
     }
 }
 
-/// A fault as it is told: `Memory` has line 1.
-fn told(fault: AsmError) -> AsmError
+/// A fault as it is answered: `Memory` has line 1.
+fn as_answered(fault: AsmError) -> AsmError
     ensures memory { fault.cause ≡ AsmCause.Memory → result ≡ record { line = 1; cause = AsmCause.Memory } }
     ensures other { fault.cause ≢ AsmCause.Memory → result ≡ fault }
 {

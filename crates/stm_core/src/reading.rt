@@ -20,8 +20,8 @@ use read_set::Origin;
 use rv_ledger::inline_bytes::VALUE_LIMIT;
 use rv_ledger::{Key, Store, Value};
 use rv_step::StorageAnswer;
-use std::alloc::AllocError;
 use scheduler::{Scheduler, TaskKind};
+use std::alloc::AllocError;
 
 /// The step that a worker owes.
 pub(crate) fn next_step_of(scheduler: &Scheduler, worker: usize) -> NextStep

@@ -1,5 +1,5 @@
-use Rattle.std.proofs.Common.{◌≡◌, Some, rules}
-use Rattle.debugger.specs.Session.{stop_of}
+use Rattle.std.proofs.Common.{◌≡◌, Some, Result, Ok, Err, OnErr, sym, ap, inl, rules}
+use Rattle.debugger.specs.Session.{moved, stop_of}
 use Rattle.debugger.proofs.Stops.{stop_is}
 use Rattle.debugger.proofs.answer.run_to_text.Goals as goal
 
@@ -14,3 +14,13 @@ returns-in-Ok-clause-replay c =
     let found : stop_of c.args.pc c.args.replay.now ≡ Some c.run_to.new.self =
     stop_is c.args.pc c.args.replay.now c.run_to.new.self c.in-Ok.ensures.0 c.in-Ok.ensures.1 c.in-Ok.ensures.2 c.in-Ok.ensures.3 in
     rw found (search rules)
+
+on_err : {X E : Type 0} (r : Result X E) (P : Type 0) → P → OnErr r P
+on_err (Ok x) P p = tt
+on_err (Err e) P p = p
+
+pub returns-in-Ok-clause-err : goal.returns-in-Ok-clause-err
+returns-in-Ok-clause-err c =
+    let found : stop_of c.args.pc c.args.replay.now ≡ Some c.run_to.new.self =
+    stop_is c.args.pc c.args.replay.now c.run_to.new.self c.in-Ok.ensures.0 c.in-Ok.ensures.1 c.in-Ok.ensures.2 c.in-Ok.ensures.3 in
+    on_err c.where_line.result _ (inl (sym (ap (moved c.args.replay.now) found)))

@@ -1,7 +1,10 @@
 use Rattle.std.proofs.Common.{sym, ◌∙◌}
 use Rattle.debugger.proofs.Cuts.{hear_cut, hear_line_cut}
-use Rattle.debugger.proofs.Hearings.{hear_byte, hear_line, hear_quit}
+use Rattle.debugger.proofs.Hearings.{hear_byte, hear_line, hear_quit, start_heard}
 use Rattle.debugger.proofs.session.hear.Goals as goal
+
+pub loop-byte-init : goal.loop-byte-init
+loop-byte-init g c = start_heard c.args.replay.now c.args.line.now.items (g.W.Write.contents c.args.out.now) c.requires
 
 pub loop-byte-preserved-in-Ok : goal.loop-byte-preserved-in-Ok
 loop-byte-preserved-in-Ok g c =
@@ -31,5 +34,6 @@ returns-in-Err-clause-err g c =
 pub returns-in-Err-answer_line-clause-err : goal.returns-in-Err-answer_line-clause-err
 returns-in-Err-answer_line-clause-err g c =
     hear_line_cut c.args.replay.now c.loop-byte.replay c.args.line.now.items c.args.part.now c.loop-byte.line.items c.loop-byte.byte-index
-    (g.W.Write.contents c.args.out.now) (g.W.Write.contents c.loop-byte.out) c.loop-byte.invariant (g.W.Write.contents c.answer_line.new.out) c.loop-byte-test.true c.if-byte-ne-LINE_END.false
+    (g.W.Write.contents c.args.out.now) (g.W.Write.contents c.loop-byte.out) c.loop-byte.invariant c.in-Err-answer_line.fault c.answer_line.new.replay (g.W.Write.contents c.answer_line.new.out)
+    c.loop-byte-test.true c.if-byte-ne-LINE_END.false
     (rw c.as_slice.ensures.value at c.in-Err-answer_line.ensures.err)

@@ -12,4 +12,4 @@ returns-in-Ok-clause-ok g c =
 
 pub returns-in-Err-clause-err : goal.returns-in-Err-clause-err
 returns-in-Err-clause-err g c =
-    last_cut c.args.replay.now c.args.line.now (g.W.Write.contents c.args.out.now) (g.W.Write.contents c.answer_line.new.out) c.requires (sym c.if-is_empty.ensures) c.in-Err.ensures.err
+    last_cut c.in-Err.fault c.args.replay.now c.answer_line.new.replay c.args.line.now (g.W.Write.contents c.args.out.now) (g.W.Write.contents c.answer_line.new.out) c.requires (sym c.if-is_empty.ensures) c.in-Err.ensures.err
