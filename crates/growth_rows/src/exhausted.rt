@@ -243,6 +243,7 @@ fn assert_refusals<R: Wait + Abort + Clone + Drop>(
 }
 
 /// The growths of a worker that works alone are refused one after another, for more and more memory is left to it.
+/// Small growths right after the end of a run are not: they get memory that the run gave back.
 #[test]
 fn growths_of_work_refused(rt: HostRuntime) -> Result<(), Fail> {
     for first in 0..2 {
