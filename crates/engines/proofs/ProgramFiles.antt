@@ -1,5 +1,5 @@
 -- Loading the programs of a block one after another.
-use Rattle.std.proofs.Common.{◌≡◌, ◌<◌, ◌++◌, List, [], ℕ, suc, ◌∷◌, map, drop, length, get_or, ap, sym, subst, ◌∙◌, inl, inr}
+use Rattle.std.proofs.Common.{◌≡◌, ◌<◌, ◌++◌, List, ℕ, suc, ◌∷◌, map, drop, length, get_or, sym, subst, inl, inr}
 use Rattle.std.proofs.Math.Seq.{drop-cons}
 use Rattle.std.specs.Prelude.{Option, Some, None, Result, Ok, Err, IfSome}
 use Rattle.std.specs.Option.{option_map}

@@ -6,13 +6,12 @@ use Rattle.block_file.specs.declared.fault.BlockFault.{BlockFault}
 use Rattle.debugger.specs.Replay.{ReplayState}
 use Rattle.debugger.specs.Session.{lines_of, session}
 use Rattle.debugger.specs.declared.fault.ReplayFault.TheVariants as debug
-use Rattle.receipts.specs.declared.write.WriteFault.TheVariants as output
 use Rattle.rv_ledger.specs.declared.job.Job.{Job}
 use Rattle.rv_step.specs.Fold.{store_before}
 use Rattle.engines.specs.Engine.{loaded_job, IsFaultOf}
 use Rattle.engines.specs.declared.fault.Refusal.{Refusal}
-use Rattle.engines.specs.declared.fault.Refusal.TheVariants.{File, Block, Elf, Seq, Debug, Output}
-use Rattle.engines.specs.declared.fault.FileFault.TheVariants.{TooLong, Unreadable}
+use Rattle.engines.specs.declared.fault.Refusal.TheVariants.{File, Debug, Output}
+use Rattle.engines.specs.declared.fault.FileFault.TheVariants.{Unreadable}
 
 -- the first moment of the call at an index, over the storage that the calls before it left; None without such a call
 abbrev pub first_moment : Job → ℕ → Option ReplayState

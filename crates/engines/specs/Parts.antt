@@ -1,8 +1,5 @@
 -- Private help of proofs: no public clause cites it.
-use Rattle.std.specs.Prelude.{◌≡◌, ◌⊎◌, ⊤, ℕ, List, map, Option, Some, None, IfSome, Result, Ok, Err, IsOk, IsOkAnd, slice_get}
-use Rattle.std.specs.Option.{option_map}
-use Rattle.std.specs.Result.{result_map_both}
-use Rattle.elf32.specs.Layout.{Layout}
+use Rattle.std.specs.Prelude.{◌≡◌, ◌⊎◌, ⊤, ℕ, List, Option, None, IfSome, Result, Err, IsOk, IsOkAnd, slice_get}
 use Rattle.elf32.specs.declared.error.ElfError.TheVariants as elf
 use Rattle.block_file.specs.Block.{BlockValue}
 use Rattle.block_file.specs.declared.fault.BlockFault.{BlockFault}

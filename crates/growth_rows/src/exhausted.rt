@@ -6,7 +6,7 @@ ghost use Rattle.workers.specs.DoneCell.{IsPassOf};
 use crate::images::{COUNT, ECHO, KEY, call_of, copy_of, job_of};
 use crate::limits::{no_blocks, reserve_of, take_rest, take_space};
 use crate::rows::{ECHO_TEXT, ECHOED, are_counts, assert_text};
-use crate::taking::{Taking, TakingRest};
+use crate::taking::Taking;
 use rv_ledger::{Call, Job, Outcome, Store};
 use std::alloc::{AllocError, Global};
 use std::process::Abort;
@@ -25,9 +25,6 @@ const STEP: usize = 32;
 
 /// How often more memory is left to a worker, at most.
 const STEPS: usize = 1 << 14;
-
-/// The memory that is left to workers at a gate.
-const SPARES: &[usize] = &[0, 256, 4096];
 
 /// Runs one call of ECHO by two workers on an executor, and asserts that the outcome is right.
 fn assert_usable<R: Threads + Wait + Sync + Abort>(
@@ -145,51 +142,43 @@ fn shares_of(rt: &impl Abort, alloc: Global, job: &Job) -> Result<(Shared, Vec<S
     }
 }
 
-/// When memory is taken away from a worker that works alone, and how much is left to it.
-#[derive(Clone, Copy)]
-struct Moment {
-    /// Whether that is before the worker begins. Else it is at the end of its first run.
-    is_first: bool,
-    /// The bytes that are left.
-    spare: usize,
-}
-
-/// The share of a worker from whom memory is taken away.
-fn work_on_spare<R: Wait + Clone + Drop>(
+/// The share of a worker who works while so many bytes are left to it.
+fn work_on_spare<R: Wait>(
     rt: &R,
     alloc: Global,
     shared: &Shared,
     share: Share,
-    moment: Moment,
-) -> Result<Result<Share, RunFault>, Fail>
+    spare: usize,
+    rest: &mut Vec<Vec<u8>>,
+) -> Result<Result<Share, RunFault>, AllocError>
     requires { IsPassOf shared.now.cell share.pass }
 {
-    let gate = TakingRest::new(rt.clone()?, alloc, moment.spare)?;
-    if moment.is_first {
-        gate.take();
-    }
-    let answer = work(rt, alloc, shared, share, &gate);
-    drop(gate);
+    let reserve = reserve_of(alloc, spare)?;
+    take_rest(alloc, rest);
+    drop(reserve);
+    let answer = work(rt, alloc, shared, share, &Open);
+    rest.clear();
     match answer {
         Ok(back) => Ok(Ok(back)),
         Err(written) => Ok(Err(written.fault())),
     }
 }
 
-/// The answer to a job of two workers. Memory is taken away from the first one to work. The other one works after
-/// it, and is refused as it was.
-fn answer_on_spare<R: Wait + Abort + Clone + Drop>(
+/// The answer to a job whose first worker has so many bytes, and whose second one works after it. The second one is
+/// refused as the first one was.
+fn answer_on_spare<R: Wait + Abort>(
     rt: &R,
     alloc: Global,
     job: &Job,
     first: usize,
-    moment: Moment,
+    spare: usize,
+    rest: &mut Vec<Vec<u8>>,
 ) -> Result<Result<Outcome, RunFault>, Fail> {
     let (shared, mut shares) = shares_of(rt, alloc, job)?;
     assert!(rt; first < shares.len());
     let share = shares.remove(first);
     let mut back = Vec::with_capacity(alloc, 2)?;
-    let alone = work_on_spare(rt, alloc, &shared, share, moment)?;
+    let alone = work_on_spare(rt, alloc, &shared, share, spare, rest)?;
     let fault = alone.as_ref().err().copied();
     for share in shares {
         match work(rt, alloc, &shared, share, &Open) {
@@ -207,20 +196,18 @@ fn answer_on_spare<R: Wait + Abort + Clone + Drop>(
 
 /// Leaves more and more memory to a worker until the block comes to its outcome. Returns how often it was refused as
 /// Memory before, and the last answer.
-fn refusals_of<R: Wait + Abort + Clone + Drop>(
+fn refusals_of<R: Wait + Abort>(
     rt: &R,
     alloc: Global,
     job: &Job,
     first: usize,
-    is_first: bool,
 ) -> Result<(usize, Result<Outcome, RunFault>), Fail> {
-    let mut space = no_blocks(alloc)?;
+    let (mut space, mut rest) = (no_blocks(alloc)?, no_blocks(alloc)?);
     let reserve = reserve_of(alloc, RESERVE)?;
     take_space(alloc, &mut space);
     drop(reserve);
     for step in 0..STEPS {
-        let spare = step * STEP;
-        let answer = answer_on_spare(rt, alloc, job, first, Moment { is_first, spare })?;
+        let answer = answer_on_spare(rt, alloc, job, first, step * STEP, &mut rest)?;
         if !matches!(answer, Err(RunFault::Memory)) {
             return Ok((step, answer));
         }
@@ -228,27 +215,16 @@ fn refusals_of<R: Wait + Abort + Clone + Drop>(
     Ok((STEPS, Err(RunFault::Memory)))
 }
 
-/// Asserts that a worker is refused with little memory, and comes to the right outcome with more.
-fn assert_refusals<R: Wait + Abort + Clone + Drop>(
-    rt: &R,
-    alloc: Global,
-    first: usize,
-    is_first: bool,
-) -> Result<(), Fail> {
-    let job = job_of(alloc, &[(COUNT, KEY); 2])?;
-    let (refusals, answer) = refusals_of(rt, alloc, &job, first, is_first)?;
-    assert!(rt; refusals > 0);
-    assert!(rt; are_counts(&answer?, 2));
-    Ok(())
-}
-
-/// The growths of a worker that works alone are refused one after another, for more and more memory is left to it.
-/// Small growths right after the end of a run are not: they get memory that the run gave back.
+/// The growths of a worker that works alone are refused one after another, for more and more memory is left to it. The
+/// other worker is refused as it was. Small growths right after the end of a run are not refused: they get memory that
+/// the run gave back.
 #[test]
 fn growths_of_work_refused(rt: HostRuntime) -> Result<(), Fail> {
+    let job = job_of(rt.alloc(), &[(COUNT, KEY); 2])?;
     for first in 0..2 {
-        assert_refusals(&rt, rt.alloc(), first, true)?;
-        assert_refusals(&rt, rt.alloc(), first, false)?;
+        let (refusals, answer) = refusals_of(&rt, rt.alloc(), &job, first)?;
+        assert!(rt; refusals > 0);
+        assert!(rt; are_counts(&answer?, 2));
     }
     Ok(())
 }
@@ -260,11 +236,10 @@ fn assert_refused<R: Threads + Wait + Sync + Abort + Clock + Clone + Drop>(
     alloc: Global,
     job: &Job,
     refused: [bool; 2],
-    spare: usize,
 ) -> Result<(), Fail> {
     let mut executor = Executor::new(alloc);
     let own = copy_of(job)?;
-    let gate = Taking::new(rt.clone()?, alloc, refused, spare)?;
+    let gate = Taking::new(rt.clone()?, alloc, refused)?;
     let answer = executor.run_block_with(rt, alloc, own, 2, &gate);
     let is_taken = gate.is_taken();
     drop(gate);
@@ -280,28 +255,19 @@ fn assert_refused<R: Threads + Wait + Sync + Abort + Clock + Clone + Drop>(
 #[test]
 fn memory_of_worker_0_refused(rt: HostRuntime) -> Result<(), Fail> {
     let job = job_of(rt.alloc(), &[(COUNT, KEY); 4])?;
-    for spare in SPARES {
-        assert_refused(&rt, rt.alloc(), &job, [true, false], *spare)?;
-    }
-    Ok(())
+    assert_refused(&rt, rt.alloc(), &job, [true, false])
 }
 
 /// Memory is refused to the second worker alone.
 #[test]
 fn memory_of_worker_1_refused(rt: HostRuntime) -> Result<(), Fail> {
     let job = job_of(rt.alloc(), &[(COUNT, KEY); 4])?;
-    for spare in SPARES {
-        assert_refused(&rt, rt.alloc(), &job, [false, true], *spare)?;
-    }
-    Ok(())
+    assert_refused(&rt, rt.alloc(), &job, [false, true])
 }
 
 /// Memory is refused to both workers.
 #[test]
 fn memory_of_both_workers_refused(rt: HostRuntime) -> Result<(), Fail> {
     let job = job_of(rt.alloc(), &[(COUNT, KEY); 4])?;
-    for spare in SPARES {
-        assert_refused(&rt, rt.alloc(), &job, [true, true], *spare)?;
-    }
-    Ok(())
+    assert_refused(&rt, rt.alloc(), &job, [true, true])
 }

@@ -1,5 +1,5 @@
 //! Tests of library calls in which one request for memory fails. `scripts/growths` runs each test again and again:
-//! its first request fails, then its second, and so on. Without that script none fails, but in `exhausted`.
+//! its first request fails, then its second, and so on. Without that script none fails.
 //!
 //! A call that is refused is made once more, and must then give the right result. A call whose refusals have
 //! names must be refused as Memory, and `run_block` as Memory or as Spawn. What a refused call leaves is looked at
@@ -11,10 +11,10 @@
 //! - after `run_to` and `back`, the moment of the replay,
 //! - after `run_block`, the executor, which must run another block.
 //!
-//! The tests of `exhausted` need no script: they take all addresses and the rest of the heap from the process
-//! themselves. With that script they are not run. A thread must be refused as Spawn, the growths of a worker, of the
-//! other one and of both as Memory, and the growth of a chain before its first block. Then the memory is given back,
-//! and the executor must run another block.
+//! The tests of `exhausted` need no script, and are not run by it: they take all addresses and the rest of the heap from
+//! their process. A thread must be refused as Spawn, the growths of a worker, of the other one and of both as Memory,
+//! and the growth of a chain before its first block. Where an executor was refused, it must run another block once the
+//! memory is given back.
 #![tactic(auto)]
 
 #[cfg(test)]

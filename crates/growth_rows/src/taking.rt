@@ -1,6 +1,6 @@
-//! Gates at which memory is taken away from workers.
+//! A gate at which memory is taken away from workers.
 
-use crate::limits::{no_blocks, reserve_of, take_rest, take_space};
+use crate::limits::{no_blocks, take_rest, take_space};
 use std::alloc::{AllocError, Global};
 use std::rt::Clock;
 use std::sync::atomic::{AtomicBool, Ordering};
@@ -15,46 +15,6 @@ const LOOKS: usize = 10_000_000;
 /// How many milliseconds a worker that has memory leaves for the end of one that has none.
 const HOLD: u64 = 5;
 
-/// The most blocks that are taken of a heap that can't grow.
-const REST: usize = 4096;
-
-/// A gate where the rest of the heap is taken away from the one worker that works, when it comes there first.
-#[derive(Drop)]
-pub struct TakingRest<R: Wait + Drop> {
-    rt: R,
-    alloc: Global,
-    held: Mutex<Vec<Vec<u8>>>,
-    spare: usize,
-}
-
-impl<R: Wait + Drop> TakingRest<R> {
-    /// A gate where so many bytes are left to the worker.
-    pub fn new(rt: R, alloc: Global, spare: usize) -> Result<TakingRest<R>, AllocError> {
-        Ok(TakingRest {
-            rt,
-            alloc,
-            held: Mutex::new(Vec::with_capacity(alloc, REST)?),
-            spare,
-        })
-    }
-
-    /// Takes the rest away, but for the spare bytes, unless that was done before.
-    pub fn take(&self) {
-        let mut held = self.held.lock(&self.rt);
-        if held.is_empty() {
-            let spare = reserve_of(self.alloc, self.spare);
-            take_rest(self.alloc, &mut held);
-            drop(spare);
-        }
-    }
-}
-
-impl<R: Wait + Drop> Gate for TakingRest<R> {
-    fn held(&self, _worker: usize) {
-        self.take();
-    }
-}
-
 /// A gate where each of two workers waits for the other when it comes there first. Then memory is taken away from
 /// some of them; the other one goes on later.
 #[derive(Drop)]
@@ -63,25 +23,18 @@ pub struct Taking<R: Wait + Clock + Drop> {
     alloc: Global,
     held: Mutex<Vec<Vec<u8>>>,
     refused: [bool; 2],
-    spare: usize,
     here: [AtomicBool; 2],
     taken: [AtomicBool; 2],
 }
 
 impl<R: Wait + Clock + Drop> Taking<R> {
-    /// A gate where so many bytes are left to each worker that `refused` shows.
-    pub fn new(
-        rt: R,
-        alloc: Global,
-        refused: [bool; 2],
-        spare: usize,
-    ) -> Result<Taking<R>, AllocError> {
+    /// A gate where memory is taken away from each worker that `refused` shows.
+    pub fn new(rt: R, alloc: Global, refused: [bool; 2]) -> Result<Taking<R>, AllocError> {
         Ok(Taking {
             rt,
             alloc,
             held: Mutex::new(no_blocks(alloc)?),
             refused,
-            spare,
             here: [AtomicBool::new(false), AtomicBool::new(false)],
             taken: [AtomicBool::new(false), AtomicBool::new(false)],
         })
@@ -92,13 +45,11 @@ impl<R: Wait + Clock + Drop> Taking<R> {
         is_or_set(self.refused[0], &self.taken[0]) && is_or_set(self.refused[1], &self.taken[1])
     }
 
-    /// Takes away what there is for the thread that calls, but for the spare bytes.
+    /// Takes away what there is for the thread that calls.
     fn take(&self) {
         let mut held = self.held.lock(&self.rt);
-        let spare = reserve_of(self.alloc, self.spare);
         take_space(self.alloc, &mut held);
         take_rest(self.alloc, &mut held);
-        drop(spare);
     }
 }
 

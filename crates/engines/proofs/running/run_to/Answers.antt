@@ -1,4 +1,4 @@
-use Rattle.std.proofs.Common.{◌≡◌, ℕ, List, inl, inr}
+use Rattle.std.proofs.Common.{ℕ, List, inl, inr}
 use Rattle.std.specs.Prelude.{Option, Some, None, Result, Ok, Err, IfSome, IsOk, IsOkAnd}
 use Rattle.block_file.specs.Block.{block_of}
 use Rattle.rv_ledger.specs.declared.job.Job.{Job}
