@@ -3,7 +3,7 @@ _rvstm() {
     local word=${COMP_WORDS[COMP_CWORD]} before=${COMP_WORDS[COMP_CWORD - 1]} command=${COMP_WORDS[1]}
     local options=""
     if [ "$COMP_CWORD" = 1 ]; then
-        COMPREPLY=($(compgen -W "run seq drive asm dis debug help --help --version" -- "$word"))
+        COMPREPLY=($(compgen -W "run seq drive asm dis debug migrate help --help --version" -- "$word"))
         return
     fi
     case $before in
@@ -13,9 +13,9 @@ _rvstm() {
     case $command in
     run) options="--workers" ;;
     drive) options="--workers --schedule" ;;
-    asm) options="--out" ;;
+    asm | migrate) options="--out" ;;
     debug) options="--call" ;;
-    help) COMPREPLY=($(compgen -W "run seq drive asm dis debug" -- "$word")) && return ;;
+    help) COMPREPLY=($(compgen -W "run seq drive asm dis debug migrate" -- "$word")) && return ;;
     esac
     if [[ $word == -* ]]; then
         COMPREPLY=($(compgen -W "$options --help" -- "$word"))

@@ -10,11 +10,12 @@ typedef __UINT64_TYPE__ u64;
 typedef __SIZE_TYPE__ usize;
 
 enum {
-    KEY_LENGTH = 32,    /* of every key */
-    VALUE_LIMIT = 64,   /* the most bytes of a value */
-    OUTPUT_LIMIT = 256, /* the most bytes of an output */
-    INPUT_LIMIT = 4096, /* the most bytes of an input */
-    KEYS_LIMIT = 256    /* the most keys that one call writes or removes */
+    KEY_LENGTH = 32,        /* of every key */
+    VALUE_LIMIT = 64,       /* the most bytes of a value under rules one */
+    LONG_VALUE_LIMIT = 256, /* the most bytes of a value under rules two */
+    OUTPUT_LIMIT = 256,     /* the most bytes of an output */
+    INPUT_LIMIT = 4096,     /* the most bytes of an input */
+    KEYS_LIMIT = 256        /* the most keys that one call writes or removes */
 };
 
 /* Of sdk/memory.c. The headers of C that need no library, stdint.h, stddef.h, stdbool.h and limits.h, can be
@@ -51,12 +52,14 @@ static inline _Noreturn void end_call(u32 number, const void *bytes, u32 length)
 
 /* Copies the key's value into the buffer and answers its length; ABSENT where there is none, LONGER
    where it is longer than the capacity, and then nothing is copied. The capacity is at most
-   VALUE_LIMIT. */
+   VALUE_LIMIT under rules one, where a read costs 200. Under rules two it is at most
+   LONG_VALUE_LIMIT, and a read costs one more for each byte that it copies. */
 static inline u32 storage_read(const void *key, void *buffer, u32 capacity) {
     return storage_call(0, key, buffer, capacity);
 }
 
-/* Gives the key a value of at most VALUE_LIMIT bytes. An empty value is not absence. */
+/* Gives the key a value of at most VALUE_LIMIT bytes under rules one, and of at most
+   LONG_VALUE_LIMIT under rules two. An empty value is not absence. */
 static inline void storage_write(const void *key, const void *value, u32 length) {
     storage_call(1, key, value, length);
 }

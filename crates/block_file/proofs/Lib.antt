@@ -1,4 +1,5 @@
 pub mod FieldLemmas
 pub mod Lines
 pub mod Blocks
+pub mod Migrations
 pub mod OneReading

@@ -1,5 +1,5 @@
 -- How a text is read from line n on.
-use Rattle.std.proofs.Common.{◌≡◌, ◌<◌, ◌≤◌, ◌+◌, ◌==◌, ℕ, true, false, List, [], ◌∷◌, length, drop, Result, Ok, Err, IfErr, Bor, map, get_or, ◌-◌, ◌≢◌, ◌⊎◌, inl, inr, suc, add-one, length-drop, subst, ap, ◌∙◌, sym, arith, if◌then◌else◌}
+use Rattle.std.proofs.Common.{◌≡◌, ◌<◌, ◌≤◌, ◌+◌, ◌==◌, ℕ, Bool, true, false, List, [], ◌∷◌, length, drop, Result, Ok, Err, IfErr, Bor, map, get_or, ◌-◌, ◌≢◌, ◌⊎◌, inl, inr, suc, add-one, length-drop, subst, ap, ◌∙◌, sym, arith, if◌then◌else◌}
 use Rattle.std.proofs.lemmas.Result.{IfErr-weaker}
 use Rattle.std.proofs.lemmas.List.{drop-map, length-map}
 use Rattle.std.proofs.Math.Seq.{drop-cons}
@@ -30,6 +30,21 @@ later {S} read unended n s (line ∷ next ∷ more) =
       | Ok t ↦ IfErr-weaker _ (λ first. n + 1 ≤ first.line) _ (λ first h. omega arith) (later read unended (n + 1) t (next ∷ more))
       | Err cause ↦ omega arith
     ]
+
+-- what is read from line n on is read so from any other line on
+pub read_from : {S : Type 0} (read : S → List ℕ → Result S Cause) (unended : Cause) (n m : ℕ) (s t : S) (parts : List (List ℕ)) → read_parts read unended n s parts ≡ Ok t → read_parts read unended m s parts ≡ Ok t
+read_from read unended n m s t [] h = h
+read_from {S} read unended n m s t (rest ∷ []) h = by (length rest == 0) (record { line = n; cause = unended }) (record { line = m; cause = unended }) h
+  where
+    by : (b : Bool) (one two : BlockFault) → (if b then Ok s else Err one) ≡ Ok t → (if b then Ok s else Err two) ≡ Ok t
+    by true one two h = h
+    by false one two h = cc
+read_from {S} read unended n m s t (line ∷ next ∷ more) h = by (read s line) (λ u e. read_from read unended (n + 1) (m + 1) u t (next ∷ more) e) h
+  where
+    by : (r : Result S Cause) → ((u : S) → read_parts read unended (n + 1) u (next ∷ more) ≡ Ok t → read_parts read unended (m + 1) u (next ∷ more) ≡ Ok t)
+        → on_line n r (λ u. read_parts read unended (n + 1) u (next ∷ more)) ≡ Ok t → on_line m r (λ u. read_parts read unended (m + 1) u (next ∷ more)) ≡ Ok t
+    by (Ok u) again h = again u h
+    by (Err cause) again h = cc
 
 -- the part at an index, and the parts behind it
 drop-texts : (parts : List (Bor (List ℕ))) (i : ℕ) (d : Bor (List ℕ)) → i < length parts → drop i (texts parts) ≡ (get_or parts i d).now ∷ drop (i + 1) (texts parts)

@@ -1,5 +1,5 @@
--- Block files of format 1.
-use Rattle.std.specs.Prelude.{ℕ, ◌==◌, nat_le, nat_lt, Bool, true, not, ◌&&◌, ◌||◌, List, [], ◌∷◌, ◌++◌, length, map, codes, Option, Some, None, is_none, Result, Ok, Err, if◌then◌else◌}
+-- Block files of formats 1 and 2.
+use Rattle.std.specs.Prelude.{ℕ, ◌+◌, ◌==◌, nat_le, nat_lt, Bool, true, not, ◌&&◌, ◌||◌, List, [], ◌∷◌, ◌++◌, length, map, codes, Option, Some, None, is_none, Result, Ok, Err, if◌then◌else◌}
 use Rattle.std.specs.List.{list_all}
 use Rattle.std.specs.Option.{ok_or}
 use Rattle.std.specs.Result.{result_map_both}
@@ -8,12 +8,15 @@ use Rattle.std.specs.Str.{bytes_eq}
 use Rattle.std.specs.String.{string_bytes}
 use Rattle.std.specs.FinMap as finite
 use Rattle.rv_ledger.specs.Key.{Storage, key_cmp}
+use Rattle.rv_ledger.specs.Rules.{longest_value}
+use Rattle.rv_ledger.specs.declared.rules.Rules.{Rules}
+use Rattle.rv_ledger.specs.declared.rules.Rules.TheVariants.{One, Two}
 use Rattle.block_file.specs.declared.block_text.BlockText.{BlockText}
 use Rattle.block_file.specs.declared.block_text.CallLine.{CallLine}
 use Rattle.block_file.specs.declared.fault.Cause.{Cause}
 use Rattle.block_file.specs.declared.fault.Cause.TheVariants.{BadHeader, BadLine, BadNumber, KeyOrder, UnknownProgram, Limit}
 use Rattle.block_file.specs.declared.fault.BlockFault.{BlockFault}
-use Rattle.block_file.specs.Line.{◌>>=◌, cut, decimal_of, path_of, bytes_of, key_of, read_parts}
+use Rattle.block_file.specs.Line.{◌>>=◌, cut, decimal_of, path_of, bytes_of, key_of, on_line, read_parts}
 
 -- a call: the number of its program, its gas limit and its input
 pub record CallValue : Type 0 where
@@ -21,8 +24,10 @@ pub record CallValue : Type 0 where
   pub gas : ℕ
   pub input : List ℕ
 
--- what a block file says: the paths of its programs, the storage that it starts from, and its calls
+-- what a block file says: the rules of its calls, the paths of its programs, the storage that it starts from, and its
+-- calls
 pub record BlockValue : Type 0 where
+  pub rules : Rules
   pub programs : List (List ℕ)
   pub store : Storage
   pub calls : List CallValue
@@ -32,7 +37,7 @@ abbrev pub call_value : CallLine → CallValue
 call_value call = record { program = call.program; gas = call.gas; input = call.input.items }
 
 abbrev pub block_value : BlockText → BlockValue
-block_value text = record { programs = map string_bytes text.programs.items; store = text.store; calls = map call_value text.calls.items }
+block_value text = record { rules = text.rules; programs = map string_bytes text.programs.items; store = text.store; calls = map call_value text.calls.items }
 
 -- what the lines so far say, and the KEY of the last `store` line
 pub record Parsed : Type 0 where
@@ -40,8 +45,8 @@ pub record Parsed : Type 0 where
   pub last : Option (List ℕ)
 
 -- before the first line
-abbrev pub start : Parsed
-start = record { block = record { programs = []; store = finite.empty; calls = [] }; last = None }
+abbrev pub start : Rules → Parsed
+start rules = record { block = record { rules = rules; programs = []; store = finite.empty; calls = [] }; last = None }
 
 -- the PATH of a line `program N PATH` behind n others
 abbrev pub program_of : ℕ → List ℕ → List ℕ → Result (List ℕ) Cause
@@ -57,12 +62,12 @@ is_above None key = true
 is_above (Some last) key = is_lt (key_cmp last key)
 
 -- the key and the value of a line `store KEY VALUE` behind the key `last`
-abbrev pub stored_of : Option (List ℕ) → List ℕ → List ℕ → Result (List ℕ × List ℕ) Cause
-stored_of last key value = do
+abbrev pub stored_of : Rules → Option (List ℕ) → List ℕ → List ℕ → Result (List ℕ × List ℕ) Cause
+stored_of rules last key value = do
   k ← key_of key
   v ← bytes_of value
   if not (is_above last k) then Err KeyOrder else
-      if nat_lt 64 (length v) then Err Limit else Ok (k, v)
+      if nat_lt (longest_value rules) (length v) then Err Limit else Ok (k, v)
 
 -- the call of a line `call PROGRAM GAS INPUT` behind `programs` programs and `calls` calls
 abbrev pub call_of : ℕ → ℕ → List ℕ → List ℕ → List ℕ → Result CallValue Cause
@@ -82,7 +87,7 @@ with_program s number path = do
 
 abbrev pub with_stored : Parsed → List ℕ → List ℕ → Result Parsed Cause
 with_stored s key value = do
-  entry ← stored_of s.last key value
+  entry ← stored_of s.block.rules s.last key value
   Ok (record { block = record s.block { store = finite.insert s.block.store entry.0 entry.1 }; last = Some entry.0 })
 
 abbrev pub with_call : Parsed → List ℕ → List ℕ → List ℕ → Result Parsed Cause
@@ -106,17 +111,37 @@ with_fields s fields = if list_all (λ field. not (length field == 0)) fields th
 abbrev pub with_line : Parsed → List ℕ → Result Parsed Cause
 with_line s line = with_fields s (cut 32 line)
 
--- what the lines behind the header add
-abbrev pub body_of : List (List ℕ) → Result Parsed BlockFault
-body_of parts = read_parts with_line BadLine 2 start parts
+-- what the lines from line n on add
+abbrev pub body_of : ℕ → Rules → List (List ℕ) → Result Parsed BlockFault
+body_of n rules parts = read_parts with_line BadLine n (start rules) parts
+
+-- what the parts behind line n say, where the lines up to line n name the rules
+abbrev pub behind : ℕ → Rules → List (List ℕ) → Result BlockValue BlockFault
+behind n rules parts =
+    if length parts == 0 then Err (record { line = n; cause = BadLine }) else
+    result_map_both (λ s. s.block) (λ fault. fault) (body_of (n + 1) rules parts)
+
+-- what the parts behind the line `rvblock 1` say
+abbrev pub first_format : List (List ℕ) → Result BlockValue BlockFault
+first_format parts = behind 1 One parts
+
+-- the rules that a `gas` line names
+abbrev pub rules_of : List ℕ → Option Rules
+rules_of line =
+    if bytes_eq line (codes "gas 1") then Some One else
+    if bytes_eq line (codes "gas 2") then Some Two else None
+
+-- what the parts behind the line `rvblock 2` say: the first one names the rules
+abbrev pub second_format : List (List ℕ) → Result BlockValue BlockFault
+second_format [] = Err (record { line = 1; cause = BadLine })
+second_format (line ∷ rest) = on_line 2 (ok_or (rules_of line) BadLine) (λ rules. behind 2 rules rest)
 
 -- what the parts between the LFs say
 abbrev pub block_of_parts : List (List ℕ) → Result BlockValue BlockFault
 block_of_parts [] = Err (record { line = 1; cause = BadHeader })
 block_of_parts (header ∷ rest) =
-    if not (bytes_eq header (codes "rvblock 1")) then Err (record { line = 1; cause = BadHeader }) else
-    if length rest == 0 then Err (record { line = 1; cause = BadLine }) else
-    result_map_both (λ s. s.block) (λ fault. fault) (body_of rest)
+    if bytes_eq header (codes "rvblock 1") then first_format rest else
+    if bytes_eq header (codes "rvblock 2") then second_format rest else Err (record { line = 1; cause = BadHeader })
 
 -- what a block file says, or its first fault
 abbrev pub block_of : List ℕ → Result BlockValue BlockFault

@@ -3,7 +3,7 @@
 ghost use Rattle.std.specs.Prelude.{◌<◌, ◌≤◌, vec_len, All};
 ghost use Rattle.rv_ledger.specs.Call.{IsInLimits};
 
-use rv_ledger::Store;
+use rv_ledger::{Rules, Store};
 
 /// The greatest number of programs in a block file.
 pub const PROGRAM_LIMIT: usize = 64;
@@ -23,6 +23,8 @@ pub struct CallLine {
 /// What a block file says: at most 64 programs and 1,024 calls, each of one of the programs.
 #[derive(Drop)]
 pub struct BlockText {
+    /// The rules of its calls, which bound the values of its storage too.
+    pub rules: Rules,
     /// The paths of the programs, in the order of their numbers.
     pub programs: Vec<String>,
     /// The storage before the first call.

@@ -13,7 +13,8 @@ pub enum Cause {
     /// Line 1 is not the header.
     BadHeader = 1,
     /// An unknown kind, a kind out of order, a wrong number of fields, an empty field, a path with
-    /// bytes other than 0x21 to 0x7e, or no line feed at the end of a block file.
+    /// bytes other than 0x21 to 0x7e, no `gas` line behind the header of format 2, or no line feed at
+    /// the end of a block file.
     BadLine = 2,
     /// Not a decimal, a program's number that is not the next, a schedule's entry above 65,535, or no
     /// line feed at the end of a schedule file.
@@ -24,8 +25,8 @@ pub enum Cause {
     KeyOrder = 5,
     /// A program's number that is not below the number of programs.
     UnknownProgram = 6,
-    /// A 65th program, a 1,025th call, a gas limit that is not 1 to 10,000,000, a value above 64
-    /// bytes, or an input above 4,096.
+    /// A 65th program, a 1,025th call, a gas limit that is not 1 to 10,000,000, a value above the
+    /// rules' limit (64 or 256 bytes), or an input above 4,096.
     Limit = 7,
     /// Memory ran out.
     Memory = 8,

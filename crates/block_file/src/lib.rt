@@ -6,11 +6,13 @@ mod block_text;
 mod fault;
 pub mod fields;
 mod laws;
+mod migration;
 mod reader;
 mod schedule;
 
 pub use block::parse;
 pub use block_text::{BlockText, CallLine};
 pub use fault::{BlockFault, Cause};
-pub use laws::one_reading;
+pub use laws::{migrated_says_the_same, one_reading};
+pub use migration::migrate;
 pub use schedule::parse_schedule;

@@ -12,7 +12,7 @@ use crate::fault::Cause;
 use crate::fields;
 use rv_ledger::call::{GAS_LIMIT, INPUT_LIMIT};
 use rv_ledger::job::CALL_LIMIT;
-use rv_ledger::{Key, Store, Value};
+use rv_ledger::{Key, Rules, Store, Value};
 use std::alloc::Global;
 
 /// What the lines so far say.
@@ -26,11 +26,12 @@ pub struct Reader {
 
 impl Reader {
     /// A reader that has read no line yet.
-    pub fn new(alloc: Global) -> Reader
-        ensures { parsed result ≡ start }
+    pub fn new(alloc: Global, rules: Rules) -> Reader
+        ensures { parsed result ≡ start rules }
     {
         Reader {
             text: BlockText {
+                rules,
                 programs: Vec::new(alloc),
                 store: Store::new(alloc),
                 calls: Vec::new(alloc),
@@ -111,7 +112,7 @@ impl Reader {
     fn store(&mut self, alloc: Global, key: &[u8], value: &[u8]) -> Result<(), Cause>
         ensures { Gives (λ _. parsed self.new) result (with_stored (parsed self.old) key.now value.now) }
     {
-        let (key, value) = stored_of(alloc, self.last, key, value)?;
+        let (key, value) = stored_of(alloc, self.text.rules, self.last, key, value)?;
         self.text.store.insert(key, value)?;
         self.last = Some(key);
         Ok(())
@@ -165,16 +166,20 @@ fn program_of(alloc: Global, count: usize, number: &[u8], path: &[u8]) -> Result
 /// The key and the value of a `store` line. The `store` line before it has the key `last`, if any.
 fn stored_of(
     alloc: Global,
+    rules: Rules,
     last: Option<Key>,
     key: &[u8],
     value: &[u8],
 ) -> Result<(Key, Value), Cause>
-    ensures { Gives (λ entry. entry) result (stored_of last key.now value.now) }
+    ensures { Gives (λ entry. entry) result (stored_of rules last key.now value.now) }
 {
     let key = fields::key(key)?;
     let bytes = fields::hex_bytes(alloc, value)?;
     if !is_above(last, &key) {
         return Err(Cause::KeyOrder);
+    }
+    if bytes.len() > rules.longest_value() {
+        return Err(Cause::Limit);
     }
     match Value::of(bytes.as_slice()) {
         Some(value) => Ok((key, value)),

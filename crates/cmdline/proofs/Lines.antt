@@ -1,13 +1,14 @@
 -- What clap finds on the lines of `rvstm`.
 use Rattle.std.proofs.Common.{◌≡◌, ◌&&◌, Bool, true, false, not, ℕ, [], ◌∷◌, Some, option_map, refl, sym, ap, codes, get_or}
 use Rattle.std.proofs.lemmas.Bool.{and_from}
-use Rattle.clap.specs.Simple.{Shape, built}
-use Rattle.clap.specs.Walk.{Walk}
+use Rattle.clap.specs.Simple.{Shape, built, built_leaf, inherited}
+use Rattle.clap.specs.Takes.{level_passes}
+use Rattle.clap.specs.Walk.{Walk, nothing_held, walk}
 use Rattle.clap.specs.Words.{Text, first_of, first_value, is_simple, is_simple_and_free, rows_of, takes}
 use Rattle.clap.specs.declared.parser.matches.Found.{Found}
 use Rattle.clap.proofs.OnLiterals.{clap_on_literals}
 use Rattle.clap.proofs.WalkLemmas.{first_value-rows}
-use Rattle.cmdline.specs.Line.{AsmOf, DebugOf, DisOf, RunOf, SeqOf, asked, asm_of, is_call_number, is_operand, is_worker_number, last_call, max_workers, number_in, rvstm_app, top_app}
+use Rattle.cmdline.specs.Line.{AsmOf, Asked, DebugOf, DisOf, MigrateOf, RunOf, SeqOf, asked, is_call_number, is_operand, is_worker_number, last_call, max_workers, number_in, rvstm_app, top_app, written_app, written_of}
 use Rattle.cmdline.proofs.FileWords.{file_level, file_walked, number_asked, number_level, option_level, option_walked, rows_at_end}
 
 -- `get_str` reads the rows
@@ -40,9 +41,6 @@ run_shape = shape_at 0
 abbrev seq_shape : Shape
 seq_shape = shape_at 1
 
-abbrev asm_shape : Shape
-asm_shape = shape_at 3
-
 abbrev dis_shape : Shape
 dis_shape = shape_at 4
 
@@ -74,18 +72,34 @@ unfolding clap_on_literals
 seq_is_asked program file o =
     ap (λ (w : Walk). option_map SeqOf (first_of (codes "file") (rows_at_end seq_shape w))) (file_walked seq_shape file o)
 
+-- a subcommand `NAME FILE --out FILE` as it is read
+abbrev written_shape : Text → Shape
+written_shape name = built_leaf (inherited top_app.top (written_app name).top)
+
+-- its level of `FILE --out OUT` passes, and asks for just what it says
+module _ (name file out : Text) (o : is_operand file ≡ true) (p : is_operand out ≡ true) where
+  written_level : level_passes (written_shape name) [] nothing_held (file ∷ codes "--out" ∷ out ∷ []) false ≡ true
+  unfolding clap_on_literals
+  written_level = option_level (written_shape name) (codes "out") (codes "--out") file out refl o p refl refl refl
+
+  written_asked : (ask : Text → Text → Asked)
+      → written_of ask (rows_at_end (written_shape name) (walk (written_shape name).rules [] nothing_held (file ∷ codes "--out" ∷ out ∷ []))) ≡ Some (ask file out)
+  unfolding clap_on_literals
+  written_asked ask =
+      ap (λ (w : Walk). written_of ask (rows_at_end (written_shape name) w)) (option_walked (written_shape name) (codes "out") (codes "--out") file out refl o p [])
+
 -- the same of `asm FILE --out OUT`
 pub asm_is_taken : (program file out : Text) → is_operand file ≡ true → is_operand out ≡ true
     → takes rvstm_app (program ∷ codes "asm" ∷ file ∷ codes "--out" ∷ out ∷ []) ≡ true
 unfolding clap_on_literals
 asm_is_taken program file out o p =
-    and_from _ _ (option_level asm_shape (codes "out") (codes "--out") file out refl o p refl refl refl) refl
+    and_from _ _ (written_level (codes "asm") file out o p) refl
 
 pub asm_is_asked : (program file out : Text) → is_operand file ≡ true → is_operand out ≡ true
     → asked (program ∷ codes "asm" ∷ file ∷ codes "--out" ∷ out ∷ []) ≡ Some (AsmOf file out)
 unfolding clap_on_literals
 asm_is_asked program file out o p =
-    ap (λ (w : Walk). asm_of (rows_at_end asm_shape w)) (option_walked asm_shape (codes "out") (codes "--out") file out refl o p [])
+    written_asked (codes "asm") file out o p AsmOf
 
 -- the same of `dis FILE`
 pub dis_is_taken : (program file : Text) → is_operand file ≡ true
@@ -111,3 +125,14 @@ pub debug_is_asked : (program file word : Text) → is_operand file ≡ true →
 unfolding clap_on_literals
 debug_is_asked program file word o n =
     number_asked debug_shape (codes "call") (codes "--call") 0 last_call file word refl o n DebugOf refl refl
+
+-- the same of `migrate FILE --out OUT`
+pub migrate_is_taken : (program file out : Text) → is_operand file ≡ true → is_operand out ≡ true
+    → takes rvstm_app (program ∷ codes "migrate" ∷ file ∷ codes "--out" ∷ out ∷ []) ≡ true
+unfolding clap_on_literals
+migrate_is_taken program file out o p = and_from _ _ (written_level (codes "migrate") file out o p) refl
+
+pub migrate_is_asked : (program file out : Text) → is_operand file ≡ true → is_operand out ≡ true
+    → asked (program ∷ codes "migrate" ∷ file ∷ codes "--out" ∷ out ∷ []) ≡ Some (MigrateOf file out)
+unfolding clap_on_literals
+migrate_is_asked program file out o p = written_asked (codes "migrate") file out o p MigrateOf

@@ -11,7 +11,7 @@ use Rattle.clap.specs.declared.builder.value_parser.ValueParser.TheVariants as p
 use Rattle.clap.specs.declared.error.Error.{Error}
 use Rattle.clap.specs.declared.error.ErrorKind.TheVariants as kind
 use Rattle.cmdline.specs.declared.Request.{Request}
-use Rattle.cmdline.specs.declared.Request.TheVariants.{Run, Seq, Drive, Asm, Dis, Debug}
+use Rattle.cmdline.specs.declared.Request.TheVariants.{Run, Seq, Drive, Asm, Dis, Debug, Migrate}
 
 -- the argument FILE: one required word
 abbrev pub file_rule : Rule
@@ -79,9 +79,13 @@ out_rule = record (new_rule (codes "out")) {
   required = true;
 }
 
+-- `NAME FILE --out FILE`
+abbrev pub written_app : Text → App
+written_app name = with_rule (with_rule (new_app name) file_rule) out_rule
+
 -- `asm FILE --out FILE`
 abbrev pub asm_app : App
-asm_app = with_rule (with_rule (new_app (codes "asm")) file_rule) out_rule
+asm_app = written_app (codes "asm")
 
 -- `dis FILE`
 abbrev pub dis_app : App
@@ -90,6 +94,10 @@ dis_app = with_rule (new_app (codes "dis")) file_rule
 -- `debug FILE --call N`
 abbrev pub debug_app : App
 debug_app = with_rule (with_rule (new_app (codes "debug")) file_rule) call_rule
+
+-- `migrate FILE --out FILE`
+abbrev pub migrate_app : App
+migrate_app = written_app (codes "migrate")
 
 -- `rvstm`, which has a version and requires a subcommand
 abbrev pub top_app : App
@@ -100,8 +108,8 @@ top_app = record (new_app (codes "rvstm")) {
 -- the whole command line
 abbrev pub rvstm_app : App
 rvstm_app =
-    with_subcommand (with_subcommand (with_subcommand (with_subcommand (with_subcommand (with_subcommand top_app run_app.top)
-    seq_app.top) drive_app.top) asm_app.top) dis_app.top) debug_app.top
+    with_subcommand (with_subcommand (with_subcommand (with_subcommand (with_subcommand (with_subcommand (with_subcommand top_app run_app.top)
+    seq_app.top) drive_app.top) asm_app.top) dis_app.top) debug_app.top) migrate_app.top
 
 -- a request with its words as texts
 pub data Asked : Type 0 where
@@ -111,6 +119,7 @@ pub data Asked : Type 0 where
   AsmOf : Text → Text → Asked
   DisOf : Text → Asked
   DebugOf : Text → ℕ → Asked
+  MigrateOf : Text → Text → Asked
 
 abbrev pub asked_by : Request → Asked
 asked_by (Run file workers) = RunOf file.now workers
@@ -119,6 +128,7 @@ asked_by (Drive file workers schedule) = DriveOf file.now workers schedule.now
 asked_by (Asm file out) = AsmOf file.now out.now
 asked_by (Dis file) = DisOf file.now
 asked_by (Debug file call) = DebugOf file.now call
+asked_by (Migrate file out) = MigrateOf file.now out.now
 
 -- the number that a word gives
 abbrev pub number_in : Text → ℕ
@@ -141,9 +151,9 @@ abbrev pub drive_of : List Row → Option Asked
 drive_of rows = option_and_then (λ file. option_and_then (λ workers. option_map (λ schedule. DriveOf file workers schedule)
     (first_of (codes "schedule") rows)) (number_at (codes "workers") rows)) (first_of (codes "file") rows)
 
--- what `asm` asks for, from what clap found
-abbrev pub asm_of : List Row → Option Asked
-asm_of rows = option_and_then (λ file. option_map (λ out. AsmOf file out) (first_of (codes "out") rows)) (first_of (codes "file") rows)
+-- what FILE and the FILE of `--out` ask for, from what clap found
+abbrev pub written_of : (Text → Text → Asked) → List Row → Option Asked
+written_of ask rows = option_and_then (λ file. option_map (ask file) (first_of (codes "out") rows)) (first_of (codes "file") rows)
 
 -- what a subcommand asks for, from its name and what clap found for its arguments
 abbrev pub asked_in : Text × List Row → Option Asked
@@ -154,11 +164,13 @@ asked_in found = if bytes_eq found.0 (codes "run")
     else if bytes_eq found.0 (codes "drive")
     then drive_of found.1
     else if bytes_eq found.0 (codes "asm")
-    then asm_of found.1
+    then written_of AsmOf found.1
     else if bytes_eq found.0 (codes "dis")
     then option_map DisOf (first_of (codes "file") found.1)
     else if bytes_eq found.0 (codes "debug")
     then numbered_of DebugOf (codes "call") found.1
+    else if bytes_eq found.0 (codes "migrate")
+    then written_of MigrateOf found.1
     else None
 
 -- what a whole line, with the program's name first, asks for, where clap accepts it

@@ -2,7 +2,7 @@
 
 ghost use Rattle.std.specs.Prelude.{◌≡◌, IfOk, Some, false, true};
 ghost use Rattle.clap.specs.Words.{App, app_of, new_app, rule_of, with_rule, with_subcommand};
-ghost use Rattle.cmdline.specs.Line.{asm_app, call_rule, debug_app, dis_app, drive_app, file_rule, out_rule, run_app, rvstm_app, schedule_rule, seq_app, top_app, workers_rule};
+ghost use Rattle.cmdline.specs.Line.{asm_app, call_rule, debug_app, dis_app, drive_app, file_rule, migrate_app, out_rule, run_app, rvstm_app, schedule_rule, seq_app, top_app, workers_rule};
 
 use clap::{Arg, ArgAction, Command, value_parser};
 use std::alloc::{AllocError, Global};
@@ -19,7 +19,8 @@ pub(crate) fn rvstm<'a>(alloc: Global) -> Result<Command<'a>, AllocError>
 {
     let command = add(runner(alloc), asm(alloc));
     let command = add(command, dis(alloc));
-    add(command, debug(alloc))
+    let command = add(command, debug(alloc));
+    add(command, migrate(alloc))
 }
 
 /// The command with the subcommands that run a block file; refused where memory ran out.
@@ -89,7 +90,8 @@ fn asm<'a>(alloc: Global) -> Result<Command<'a>, AllocError>
     ensures { IfOk result (λ c. app_of c ≡ asm_app) }
 {
     let about = "Assembles a source and writes its ELF file";
-    option_command(alloc, "asm", about, "The source", out(alloc))
+    let option = out(alloc, "The ELF file that is written");
+    option_command(alloc, "asm", about, "The source", option)
 }
 
 /// `dis FILE`
@@ -112,6 +114,15 @@ fn debug<'a>(alloc: Global) -> Result<Command<'a>, AllocError>
         "The block file of the call",
         call(alloc),
     )
+}
+
+/// `migrate FILE --out FILE`
+fn migrate<'a>(alloc: Global) -> Result<Command<'a>, AllocError>
+    ensures { IfOk result (λ c. app_of c ≡ migrate_app) }
+{
+    let about = "Rewrites a block file of format 1 as one of format 2, under the same rules";
+    let option = out(alloc, "The block file that is written");
+    option_command(alloc, "migrate", about, "The block file", option)
 }
 
 /// The subcommand `NAME FILE` with one option.
@@ -176,11 +187,11 @@ fn schedule<'a>(alloc: Global) -> Arg<'a>
 }
 
 /// The option `--out FILE`.
-fn out<'a>(alloc: Global) -> Arg<'a>
+fn out<'a>(alloc: Global, help: &'a str) -> Arg<'a>
     ensures rule { rule_of result ≡ out_rule }
     ensures local { result.global ≡ false }
 {
-    option(alloc, "out", "FILE", "The ELF file that is written")
+    option(alloc, "out", "FILE", help)
 }
 
 /// The option `--NAME VALUE`, which is required.

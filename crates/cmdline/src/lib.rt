@@ -8,7 +8,7 @@ ghost use Rattle.std.specs.Prelude.{◌≡◌, ◌∷◌, [], List, ℕ, IfErr, 
 ghost use Rattle.std.specs.String.{string_bytes};
 ghost use Rattle.clap.specs.Words.{FailsBy, HasMatchesOf, fault_of, kind_of, takes};
 ghost use Rattle.clap.specs.declared.error.ErrorKind.TheVariants as kind;
-ghost use Rattle.cmdline.specs.Line.{AnswersUnlessMemory, AsmOf, DebugOf, DisOf, DriveOf, RunOf, SeqOf, asked, asked_by, is_call_number, is_operand, is_worker_number, number_in, rvstm_app};
+ghost use Rattle.cmdline.specs.Line.{AnswersUnlessMemory, AsmOf, DebugOf, DisOf, DriveOf, MigrateOf, RunOf, SeqOf, asked, asked_by, is_call_number, is_operand, is_worker_number, number_in, rvstm_app};
 
 use crate::commands::rvstm;
 use crate::requests::request_in;
@@ -59,6 +59,13 @@ pub enum Request<'a> {
         /// The number of the call, 0 to 1023; the first call of the block has 0.
         call: usize,
     },
+    /// Rewrite a block file of format 1 as one of format 2.
+    Migrate {
+        /// The path of the block file.
+        file: &'a str,
+        /// The path of the new block file.
+        out: &'a str,
+    },
 }
 
 /// Reads a command line, whose first word is the program's name. Refused where the subcommand is missing
@@ -94,11 +101,15 @@ pub fn request_of<'a>(alloc: Global, words: &'a [String]) -> Result<Option<Reque
     ensures dis { (program file : List ℕ)
         → map string_bytes words.now ≡ program ∷ codes "dis" ∷ file ∷ [] → is_operand file ≡ true
         → AnswersUnlessMemory result (DisOf file) }
-    // and `debug FILE --call N`, where N is a whole number of 0 to 1023
+    // so is `debug FILE --call N`, where N is a whole number of 0 to 1023
     ensures debug { (program file word : List ℕ)
         → map string_bytes words.now ≡ program ∷ codes "debug" ∷ file ∷ codes "--call" ∷ word ∷ []
         → is_operand file ≡ true → is_call_number word ≡ true
         → AnswersUnlessMemory result (DebugOf file (number_in word)) }
+    // and `migrate FILE --out OUT`
+    ensures migrate { (program file out : List ℕ)
+        → map string_bytes words.now ≡ program ∷ codes "migrate" ∷ file ∷ codes "--out" ∷ out ∷ [] → is_operand file ≡ true → is_operand out ≡ true
+        → AnswersUnlessMemory result (MigrateOf file out) }
 {
     let matches = matches_of(alloc, words)?;
     Ok(request_in(&matches))

@@ -1,8 +1,8 @@
 //! The request of a line that clap accepted, from what clap found.
 
 ghost use Rattle.std.specs.Prelude.{◌≡◌, option_and_then, option_map, codes};
-ghost use Rattle.clap.specs.Words.{first_of, found_of, rows_of, subcommand_rows_of};
-ghost use Rattle.cmdline.specs.Line.{DebugOf, DisOf, RunOf, SeqOf, asked_by, asked_in, asm_of, drive_of, number_at, numbered_of};
+ghost use Rattle.clap.specs.Words.{Text, first_of, found_of, rows_of, subcommand_rows_of};
+ghost use Rattle.cmdline.specs.Line.{AsmOf, Asked, DebugOf, DisOf, MigrateOf, RunOf, SeqOf, asked_by, asked_in, drive_of, number_at, numbered_of, written_of};
 
 use crate::Request;
 use clap::ArgMatches;
@@ -19,6 +19,7 @@ pub(crate) fn request_in<'a>(matches: &ArgMatches<'a>) -> Option<Request<'a>>
         ("asm", found) => asm_in(found),
         ("dis", found) => dis_in(found),
         ("debug", found) => debug_in(found),
+        ("migrate", found) => migrate_in(found),
         _ => None,
     }
 }
@@ -60,12 +61,10 @@ fn drive_in<'a>(found: &ArgMatches<'a>) -> Option<Request<'a>>
 }
 
 /// The request of what clap found for `asm`.
-#[tactic(auto, using(crate::proofs::Lines::first_in_rows))]
 fn asm_in<'a>(found: &ArgMatches<'a>) -> Option<Request<'a>>
-    ensures { option_map asked_by result ≡ asm_of (rows_of (found_of found.now)) }
+    ensures { option_map asked_by result ≡ written_of AsmOf (rows_of (found_of found.now)) }
 {
-    let file = found.get_str("file")?;
-    let out = found.get_str("out")?;
+    let (file, out) = files_in(found)?;
     Some(Request::Asm { file, out })
 }
 
@@ -88,6 +87,25 @@ fn debug_in<'a>(found: &ArgMatches<'a>) -> Option<Request<'a>>
     let file = found.get_str("file")?;
     let call = number_found(found, "call")?;
     Some(Request::Debug { file, call })
+}
+
+/// The request of what clap found for `migrate`.
+fn migrate_in<'a>(found: &ArgMatches<'a>) -> Option<Request<'a>>
+    ensures { option_map asked_by result ≡ written_of MigrateOf (rows_of (found_of found.now)) }
+{
+    let (file, out) = files_in(found)?;
+    Some(Request::Migrate { file, out })
+}
+
+/// The FILE and the FILE of `--out` that clap found.
+#[tactic(auto, using(crate::proofs::Lines::first_in_rows))]
+fn files_in<'a>(found: &ArgMatches<'a>) -> Option<(&'a str, &'a str)>
+    ensures { (ask : Text → Text → Asked)
+        → option_map (λ files. ask files.0.now files.1.now) result ≡ written_of ask (rows_of (found_of found.now)) }
+{
+    let file = found.get_str("file")?;
+    let out = found.get_str("out")?;
+    Some((file, out))
 }
 
 /// The number that clap found for an option.

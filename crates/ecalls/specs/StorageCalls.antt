@@ -1,6 +1,9 @@
 -- The storage calls: an ECALL, by the number in a7. READ, WRITE and REMOVE have their key at a0, RETURN and REVERT their
 -- output (this project's own profile).
 use Rattle.std.specs.Prelude.{ℕ, ◌+◌, ◌*◌, ◌==◌, nat_lt, Bool, ◌&&◌, if◌then◌else◌, List, slice_index, Option, Some, None, Result, Ok, Err}
+use Rattle.rv_ledger.specs.Rules.{longest_value}
+use Rattle.rv_ledger.specs.declared.rules.Rules.{Rules}
+use Rattle.rv_ledger.specs.declared.rules.Rules.TheVariants as rules
 use Rattle.rv_ledger.specs.declared.end.Trap.{Trap}
 use Rattle.rv_ledger.specs.declared.end.Trap.TheVariants.{MemoryFault, UnknownCall, BadLength}
 use Rattle.rv_mem.specs.declared.access.Access.TheVariants as access
@@ -42,14 +45,14 @@ length_of call.Return registers = a1 registers
 length_of call.Revert registers = a1 registers
 
 -- the greatest length that a call may have
-abbrev pub longest : StorageCall → ℕ
-longest call.Read = 64
-longest call.Write = 64
-longest call.Remove = 0
-longest call.Return = 256
-longest call.Revert = 256
+abbrev pub longest : StorageCall → Rules → ℕ
+longest call.Read rules = longest_value rules
+longest call.Write rules = longest_value rules
+longest call.Remove rules = 0
+longest call.Return rules = 256
+longest call.Revert rules = 256
 
--- the gas of a call
+-- the gas of a call before it acts
 abbrev pub charge_of : StorageCall → List ℕ → ℕ
 charge_of call.Read registers = 200
 charge_of call.Write registers = 400 + 4 * a2 registers
@@ -57,14 +60,19 @@ charge_of call.Remove registers = 300
 charge_of call.Return registers = 10 + a1 registers
 charge_of call.Revert registers = 10 + a1 registers
 
+-- the further gas of a READ that copies a value of `len` bytes
+abbrev pub late_charge : Rules → ℕ → ℕ
+late_charge rules.One len = 0
+late_charge rules.Two len = len
+
 -- the call, if there is one and its length is within the limit
-abbrev pub within_length : List ℕ → Option StorageCall → Result StorageCall Trap
-within_length registers None = Err UnknownCall
-within_length registers (Some call) = if nat_lt (longest call) (length_of call registers) then Err BadLength else Ok call
+abbrev pub within_length : List ℕ → Rules → Option StorageCall → Result StorageCall Trap
+within_length registers rules None = Err UnknownCall
+within_length registers rules (Some call) = if nat_lt (longest call rules) (length_of call registers) then Err BadLength else Ok call
 
 -- the call that the registers ask for, by its number and then its length, or the trap, which costs nothing
-unfoldable pub asked : List ℕ → Result StorageCall Trap
-asked registers = within_length registers (call_of (a7 registers))
+unfoldable pub asked : List ℕ → Rules → Result StorageCall Trap
+asked registers rules = within_length registers rules (call_of (a7 registers))
 
 -- its charge, or the trap
 abbrev pub charge_asked : List ℕ → Result StorageCall Trap → Result ℕ Trap
@@ -72,8 +80,8 @@ charge_asked registers (Err trap) = Err trap
 charge_asked registers (Ok call) = Ok (charge_of call registers)
 
 -- the charge of an ECALL, or the trap that costs nothing
-abbrev pub ecall_charge : List ℕ → Result ℕ Trap
-ecall_charge registers = charge_asked registers (asked registers)
+abbrev pub ecall_charge : List ℕ → Rules → Result ℕ Trap
+ecall_charge registers rules = charge_asked registers (asked registers rules)
 
 -- whether n bytes may be read
 abbrev pub is_readable : Space → ℕ → ℕ → Bool
@@ -109,5 +117,5 @@ request_asked registers memory (Err trap) = Err trap
 request_asked registers memory (Ok call) = request_by call registers memory
 
 -- what an ECALL asks for, or its first trap: by number, length and rights
-unfoldable pub request_of : List ℕ → Space → Result Request Trap
-request_of registers memory = request_asked registers memory (asked registers)
+unfoldable pub request_of : List ℕ → Space → Rules → Result Request Trap
+request_of registers memory rules = request_asked registers memory (asked registers rules)

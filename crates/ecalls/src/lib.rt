@@ -8,5 +8,5 @@ pub mod storage_call;
 
 pub use request_kind::Request;
 pub use requests::{request, request_by};
-pub use rv_ledger::{Trap, Writes};
-pub use storage_call::{READ_CHARGE, StorageCall, asked, ecall_charge};
+pub use rv_ledger::{Rules, Trap, Writes};
+pub use storage_call::{READ_CHARGE, StorageCall, asked, ecall_charge, late_charge};

@@ -3,29 +3,29 @@
 ghost use Rattle.std.specs.Prelude.{◌≡◌, ◌≤◌, Err, Ok, if◌then◌else◌};
 ghost use Rattle.rv_ledger.specs.declared.end.Trap.TheVariants.{MemoryFault};
 ghost use Rattle.rv_mem.specs.Space.{bytes_at};
-ghost use Rattle.ecalls.specs.StorageCalls.{a0, a1, a2, is_readable, length_of, longest, request_by, request_of};
+ghost use Rattle.ecalls.specs.StorageCalls.{a0, a1, a2, is_readable, length_of, request_by, request_of};
 ghost use Rattle.ecalls.specs.declared.storage_call.StorageCall.TheVariants as call;
 
 use crate::copies::{bytes_at, key_at};
 use crate::request_kind::Request;
 use crate::storage_call::{StorageCall, asked};
 use rv_isa::{Reg, Regs};
-use rv_ledger::{Output, Trap, Write};
+use rv_ledger::{Output, Rules, Trap, Write};
 use rv_mem::Memory;
 
 /// What the ECALL asks for, or the first trap that it meets: UnknownCall, BadLength, or MemoryFault
 /// where a byte of its key, buffer, value or output lacks the right that it needs.
 #[tactic(auto, unfolding(crate::specs::StorageCalls::request_of))]
-pub fn request(registers: &Regs, memory: &Memory) -> Result<Request, Trap>
-    ensures { result ≡ request_of registers.now memory.now }
+pub fn request(registers: &Regs, memory: &Memory, rules: Rules) -> Result<Request, Trap>
+    ensures { result ≡ request_of registers.now memory.now rules }
 {
-    request_by(asked(registers)?, registers, memory)
+    request_by(asked(registers, rules)?, registers, memory)
 }
 
 /// What a storage call asks for, or MemoryFault where a byte of its key, buffer, value or output lacks
-/// the right that it needs. The length of the call must be within its limit.
+/// the right that it needs. The length of the call must be at most 256 bytes, which no limit is above.
 pub fn request_by(call: StorageCall, registers: &Regs, memory: &Memory) -> Result<Request, Trap>
-    requires { length_of call registers.now ≤ longest call }
+    requires { length_of call registers.now ≤ 256 }
     ensures { result ≡ request_by call registers.now memory.now }
 {
     match call {
@@ -52,7 +52,7 @@ fn read(registers: &Regs, memory: &Memory) -> Result<Request, Trap>
 
 /// What a WRITE asks for; MemoryFault unless its key and its value may be read.
 fn write(registers: &Regs, memory: &Memory) -> Result<Request, Trap>
-    requires { a2 registers.now ≤ 64 }
+    requires { a2 registers.now ≤ 256 }
     ensures { result ≡ request_by call.Write registers.now memory.now }
 {
     let Some(key) = key_at(memory, registers.get(Reg::a0())) else {

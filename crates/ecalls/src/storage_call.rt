@@ -1,12 +1,12 @@
 //! The five storage calls, their lengths and their charges.
 
-ghost use Rattle.std.specs.Prelude.{◌≡◌, ◌≤◌, IfOk, IfSome};
-ghost use Rattle.ecalls.specs.StorageCalls.{asked, call_of, charge_of, ecall_charge, length_of, longest};
+ghost use Rattle.std.specs.Prelude.{◌≡◌, ◌≤◌, IfOk};
+ghost use Rattle.ecalls.specs.StorageCalls.{asked, call_of, charge_of, ecall_charge, late_charge, length_of, longest};
 
 use rv_isa::{Reg, Regs};
-use rv_ledger::{OUTPUT_LIMIT, Trap, VALUE_LIMIT};
+use rv_ledger::{OUTPUT_LIMIT, Rules, Trap};
 
-/// The gas of a READ.
+/// The gas of a READ before it asks.
 pub const READ_CHARGE: u32 = 200;
 
 /// A storage call, by its number in a7.
@@ -51,20 +51,21 @@ impl StorageCall {
     }
 
     /// The greatest length that the call may have, in bytes.
-    fn longest(self) -> u32
-        ensures value { result ≡ longest self }
+    fn longest(self, rules: Rules) -> u32
+        ensures value { result ≡ longest self rules }
         ensures small { result ≤ 256 }
     {
         match self {
-            StorageCall::Read | StorageCall::Write => VALUE_LIMIT as u32,
+            StorageCall::Read | StorageCall::Write => rules.longest_value() as u32,
             StorageCall::Remove => 0,
             StorageCall::Return | StorageCall::Revert => OUTPUT_LIMIT as u32,
         }
     }
 
-    /// The gas of the call, 10 to 656. Its length must be within its limit.
+    /// The gas of the call before it acts, 10 to 1,424. Its length must be at most 256 bytes, which no
+    /// limit is above.
     pub fn charge(self, registers: &Regs) -> u32
-        requires { length_of self registers.now ≤ longest self }
+        requires { length_of self registers.now ≤ 256 }
         ensures { result ≡ charge_of self registers.now }
     {
         match self {
@@ -77,27 +78,38 @@ impl StorageCall {
 }
 
 /// The storage call whose number is in a7. Traps UnknownCall where no call has that number, and else
-/// BadLength where its length is above the limit: a2 above 64 for READ and WRITE, or a1 above 256 for
-/// RETURN and REVERT.
+/// BadLength where its length is above the limit: a2 above the rules' longest value for READ and WRITE, or
+/// a1 above 256 for RETURN and REVERT.
 #[tactic(auto, unfolding(crate::specs::StorageCalls::asked))]
-pub fn asked(registers: &Regs) -> Result<StorageCall, Trap>
-    ensures call { result ≡ asked registers.now }
-    ensures short { IfOk result (λ call. length_of call registers.now ≤ longest call) }
+pub fn asked(registers: &Regs, rules: Rules) -> Result<StorageCall, Trap>
+    ensures call { result ≡ asked registers.now rules }
+    ensures short { IfOk result (λ call. length_of call registers.now ≤ 256) }
 {
     let Some(call) = StorageCall::of(registers.get(Reg::a7())) else {
         return Err(Trap::UnknownCall);
     };
-    if call.length(registers) > call.longest() {
+    if call.length(registers) > call.longest(rules) {
         return Err(Trap::BadLength);
     }
     Ok(call)
 }
 
-/// The charge of an ECALL in gas, 10 to 656. Traps UnknownCall, and else BadLength; these two traps cost
-/// nothing.
-pub fn ecall_charge(registers: &Regs) -> Result<u32, Trap>
-    ensures { result ≡ ecall_charge registers.now }
+/// The charge of an ECALL in gas before it acts, 10 to 1,424. Traps UnknownCall, and else BadLength; these
+/// two traps cost nothing.
+pub fn ecall_charge(registers: &Regs, rules: Rules) -> Result<u32, Trap>
+    ensures { result ≡ ecall_charge registers.now rules }
 {
-    let call = asked(registers)?;
+    let call = asked(registers, rules)?;
     Ok(call.charge(registers))
+}
+
+/// The further gas of a READ that copies a value of `len` bytes: none under rules one, and one for each
+/// byte under rules two.
+pub fn late_charge(rules: Rules, len: u32) -> u32
+    ensures { result ≡ late_charge rules len }
+{
+    match rules {
+        Rules::One => 0,
+        Rules::Two => len,
+    }
 }

@@ -44,14 +44,24 @@ pub struct BlockInMemory {
 }
 
 impl BlockInMemory {
-    /// A block of some programs and further lines.
+    /// A block of format 1 of some programs and further lines.
     pub fn new(
         alloc: Global,
         programs: &[&[u32]],
         lines: &str,
     ) -> Result<BlockInMemory, AllocError> {
+        BlockInMemory::behind(alloc, "rvblock 1\n", programs, lines)
+    }
+
+    /// A block that begins with `head`, of some programs and further lines.
+    pub fn behind(
+        alloc: Global,
+        head: &str,
+        programs: &[&[u32]],
+        lines: &str,
+    ) -> Result<BlockInMemory, AllocError> {
         Ok(BlockInMemory {
-            text: block_of(alloc, programs.len(), lines)?,
+            text: block_behind(alloc, head, programs.len(), lines)?,
             files: files_of(alloc, programs)?,
         })
     }
@@ -113,9 +123,19 @@ fn push_program(alloc: Global, block: &mut String, number: usize) -> Result<(), 
     block.push_str(line.as_str())
 }
 
-/// The block file of some programs and further lines.
+/// The block file of format 1 of some programs and further lines.
 pub fn block_of(alloc: Global, programs: usize, lines: &str) -> Result<String, AllocError> {
-    let mut block = String::from_str(alloc, "rvblock 1\n")?;
+    block_behind(alloc, "rvblock 1\n", programs, lines)
+}
+
+/// The block file that begins with `head`, of some programs and further lines.
+fn block_behind(
+    alloc: Global,
+    head: &str,
+    programs: usize,
+    lines: &str,
+) -> Result<String, AllocError> {
+    let mut block = String::from_str(alloc, head)?;
     for number in 0..programs {
         push_program(alloc, &mut block, number)?;
     }

@@ -27,6 +27,8 @@ mod fake_disk;
 #[cfg(test)]
 mod idling;
 #[cfg(test)]
+mod migrated;
+#[cfg(test)]
 mod outside;
 #[cfg(test)]
 mod programs;
@@ -34,6 +36,8 @@ mod programs;
 mod reports;
 #[cfg(test)]
 mod rows;
+#[cfg(test)]
+mod rules_two;
 #[cfg(test)]
 mod schedules;
 #[cfg(test)]

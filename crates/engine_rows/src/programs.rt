@@ -33,7 +33,7 @@ pub const RESULT: &str = "call 0 returned gas 13 pc 00010004 out 0102\n\
 const FILES: &[(&str, &str)] = &[
     ("echo.s", ECHO_SOURCE),
     ("echo.block", BLOCK),
-    ("wrong.block", "rvblock 2\n"),
+    ("wrong.block", "rvblock 9\n"),
     ("one.schedule", "0\n0\n0\n0\n0\n"),
     ("short.schedule", "0\n"),
     (

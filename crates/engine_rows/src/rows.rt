@@ -24,7 +24,8 @@ const ZERO: &[u32] = &[
     0x0000_0073,
 ];
 
-const LEN: &[u32] = &[
+/// Reads the value at a key, with room for 64 bytes.
+pub const LEN: &[u32] = &[
     0xfc01_0593,
     0x0400_0613,
     0x0000_0073,
@@ -43,7 +44,7 @@ const LEN_63: &[u32] = &[
 ];
 
 /// Writes the byte behind the key of its input at that key.
-const PUT: &[u32] = &[
+pub const PUT: &[u32] = &[
     0x0205_0593,
     0x0010_0613,
     0x0010_0893,

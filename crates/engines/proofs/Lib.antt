@@ -1,3 +1,4 @@
 pub mod JobFaults
 pub mod ProgramFiles
 pub mod LaterFaults
+pub mod DriveFaults

@@ -37,7 +37,7 @@ text_along calls store workers entries = result_map_both (λ s. result_text (rec
 -- the same for a schedule file; its first fault comes before those of the list
 abbrev pub text_by : BlockValue → List Layout → ℕ → Result (List ℕ) BlockFault → Result (List ℕ) Refusal
 text_by block images workers (Err fault) = Err (Schedule fault)
-text_by block images workers (Ok entries) = text_along (map (call_over images) block.calls) block.store workers entries
+text_by block images workers (Ok entries) = text_along (map (call_over block.rules images) block.calls) block.store workers entries
 
 -- the same over the files of programs; their first fault comes before those of the schedule. None where they have no
 -- fault and the schedule's bytes are unknown

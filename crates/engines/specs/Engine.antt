@@ -6,6 +6,7 @@ use Rattle.elf32.specs.Layout.{Layout}
 use Rattle.elf32.specs.Image.{image_of}
 use Rattle.elf32.specs.declared.error.ElfError.TheVariants as elf
 use Rattle.rv_ledger.specs.Call.{Invocation}
+use Rattle.rv_ledger.specs.declared.rules.Rules.{Rules}
 use Rattle.rv_ledger.specs.declared.job.Job.{Job}
 use Rattle.rv_step.specs.Fold.{receipts_of, store_after}
 use Rattle.receipts.specs.Text.{result_text}
@@ -34,9 +35,10 @@ abbrev pub programs_of : (List ℕ → Option (List ℕ)) → List (List ℕ) �
 programs_of content [] = Some (Ok [])
 programs_of content (path ∷ paths) = with_program (option_map program_of (content path)) (programs_of content paths)
 
--- the call of a line, over the program that has its number
-abbrev pub call_over : List Layout → CallValue → Invocation
-call_over images line = record {
+-- the call of a line under the rules of its block, over the program that has its number
+abbrev pub call_over : Rules → List Layout → CallValue → Invocation
+call_over rules images line = record {
+  rules = rules;
   image = slice_index_or images line.program (record { entry = 0; segments = [] });
   gas = line.gas;
   input = line.input;
@@ -44,7 +46,7 @@ call_over images line = record {
 
 -- the job of a block over the programs of its files
 abbrev pub job_over : BlockValue → List Layout → Job
-job_over block images = record { block = map (call_over images) block.calls; store = block.store }
+job_over block images = record { block = map (call_over block.rules images) block.calls; store = block.store }
 
 -- the job of a block file, or the first fault in it or in the files of its programs; None where the bytes that decide
 -- this are unknown
@@ -54,7 +56,7 @@ loaded_job content (Ok block) = option_map (result_map_both (job_over block) (λ
 
 -- the text of the result of a block: its calls are run in order, each over the storage that the ones before it left
 abbrev pub result_of : BlockValue → List Layout → List ℕ
-result_of block images = result_text (receipts_of (map (call_over images) block.calls) block.store) (store_after (map (call_over images) block.calls) block.store)
+result_of block images = result_text (receipts_of (map (call_over block.rules images) block.calls) block.store) (store_after (map (call_over block.rules images) block.calls) block.store)
 
 -- what is to be written for a block file, or the first fault in it or in the files of its programs; None where the
 -- bytes that decide this are unknown
@@ -65,6 +67,12 @@ answer_of content (Ok block) = option_map (result_map_both (result_of block) (λ
 -- a fault of a text is its first one, or Memory on a line with no fault before it
 abbrev pub IsTextFault : {X : Type 0} → Result X BlockFault → BlockFault → Type 0
 IsTextFault text fault = (text ≡ Err fault) ⊎ ((fault.cause ≡ cause.Memory) × IfErr text (λ first. fault.line ≤ first.line))
+
+-- a refusal met in a block file: the wanted one, Memory with no fault before it, or Unreadable
+abbrev pub IsBlockFault : {X : Type 0} → Result X BlockFault → Refusal → Type 0
+IsBlockFault text (Block fault) = IsTextFault text fault
+IsBlockFault text (File Unreadable) = ⊤
+IsBlockFault text _ = ⊥
 
 -- a refusal: a fault of the block file or of its programs is the first one. Memory for a program comes only where the
 -- block file has no fault, and Memory of the run only where its programs have none either. Where the output was

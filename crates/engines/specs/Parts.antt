@@ -15,12 +15,6 @@ use Rattle.engines.specs.declared.fault.Refusal.{Refusal}
 use Rattle.engines.specs.declared.fault.Refusal.TheVariants.{File, Block, Elf, Seq, Schedule, Run, Drive, Debug, Output}
 use Rattle.engines.specs.declared.fault.FileFault.TheVariants.{Unreadable, TooLong}
 
--- a refusal met in the block file: the wanted one, Memory with no fault before it, or Unreadable
-abbrev pub IsBlockFault : Result BlockValue BlockFault → Refusal → Type 0
-IsBlockFault block (Block fault) = IsTextFault block fault
-IsBlockFault block (File Unreadable) = ⊤
-IsBlockFault block _ = ⊥
-
 -- a refusal met in the files of programs: the wanted one, Memory, or Unreadable
 abbrev pub IsProgramFault : {X : Type 0} → Option (Result X Refusal) → Refusal → Type 0
 IsProgramFault wanted (Elf fault) = (fault ≡ elf.Memory) ⊎ IfSome wanted (λ w. w ≡ Err (Elf fault))

@@ -10,6 +10,12 @@ use std::alloc::Global;
 use std::io::Read;
 use std::str;
 
+/// Want of memory for the bytes of a source or of its file.
+pub(crate) const SOURCE_MEMORY: AsmError = AsmError {
+    line: 1,
+    cause: AsmCause::Memory,
+};
+
 /// Reads a source to its end and returns the ELF file of the program that it stands for. Refused
 /// with the source's first fault, as BadEntry where it has no text words, as Unreadable where a
 /// read failed or the source is not UTF-8, and as Memory where memory ran out.
@@ -17,11 +23,7 @@ pub fn file_of_source<R: Read>(alloc: Global, source: &mut R) -> Result<Vec<u8>,
     ensures ok { IfOk result (λ file. IfSome (R.remaining source.old) (λ bytes. IsUtf8 bytes × (file_of_source bytes ≡ Ok file.items))) }
     ensures err { IfErr result (λ e. IfSome (R.remaining source.old) (λ bytes. IsSourceFault bytes e)) }
 {
-    let memory = AsmError {
-        line: 1,
-        cause: AsmCause::Memory,
-    };
-    let bytes = match read_text(alloc, source, Refusal::Asm(memory)) {
+    let bytes = match read_text(alloc, source, Refusal::Asm(SOURCE_MEMORY)) {
         Ok(bytes) => bytes,
         Err(refusal) => return Err(refusal),
     };

@@ -5,18 +5,24 @@ ghost use Rattle.std.specs.Arc.{arc_value};
 ghost use Rattle.std.specs.Option.{option_map};
 ghost use Rattle.std.specs.String.{string_bytes};
 ghost use Rattle.block_file.specs.Block.{block_of, block_value, call_value};
-ghost use Rattle.engines.specs.Engine.{call_over, loaded_job, program_of, programs_of};
-ghost use Rattle.engines.specs.Parts.{IsBlockFault, IsLoadFault, IsProgramFault};
+ghost use Rattle.engines.specs.Engine.{IsBlockFault, call_over, loaded_job, program_of, programs_of};
+ghost use Rattle.engines.specs.Parts.{IsLoadFault, IsProgramFault};
 
 use crate::fault::{FileFault, Refusal};
 use crate::programs::Programs;
 use crate::reading::{read_elf, read_text};
 use block_file::{BlockFault, BlockText, CallLine, Cause, parse};
 use elf32::{ElfError, Image, load};
-use rv_ledger::{Call, Job, Store};
+use rv_ledger::{Call, Job, Rules, Store};
 use std::alloc::{AllocError, Global};
 use std::io::Read;
 use std::sync::Arc;
+
+/// Want of memory for the bytes of a block file.
+pub(crate) const BLOCK_MEMORY: BlockFault = BlockFault {
+    line: 1,
+    cause: Cause::Memory,
+};
 
 /// Reads a block file to its end and parses it. Opens, reads and loads its programs in the order of
 /// their numbers. Then makes the job. The first refusal ends it. It is `memory` where memory for
@@ -43,11 +49,7 @@ fn read_block<R: Read>(alloc: Global, block: &mut R) -> Result<BlockText, Refusa
     ensures ok { IfOk result (λ text. IfSome (R.remaining block.old) (λ input. block_of input ≡ Ok (block_value text))) }
     ensures err { IfErr result (λ e. IfSome (R.remaining block.old) (λ input. IsBlockFault (block_of input) e)) }
 {
-    let memory = BlockFault {
-        line: 1,
-        cause: Cause::Memory,
-    };
-    let bytes = match read_text(alloc, block, Refusal::Block(memory)) {
+    let bytes = match read_text(alloc, block, Refusal::Block(BLOCK_MEMORY)) {
         Ok(bytes) => bytes,
         Err(refusal) => return Err(refusal),
     };
@@ -68,6 +70,7 @@ fn load_text<P: Programs>(
     ensures err { IfErr result (λ e. IsLoadFault (P.content programs.old) (Ok (block_value text)) memory e) }
 {
     let BlockText {
+        rules,
         programs: paths,
         store,
         calls,
@@ -76,7 +79,7 @@ fn load_text<P: Programs>(
         Ok(images) => images,
         Err(refusal) => return Err(refusal),
     };
-    match job_of(alloc, images.as_slice(), calls, store) {
+    match job_of(alloc, rules, images.as_slice(), calls, store) {
         Ok(job) => Ok(job),
         Err(_) => Err(memory),
     }
@@ -154,17 +157,18 @@ fn load_program(alloc: Global, bytes: &[u8]) -> Result<Arc<Image>, Refusal>
 /// The job of the calls over the loaded programs; refused where memory ran out.
 fn job_of(
     alloc: Global,
+    rules: Rules,
     images: &[Arc<Image>],
     lines: Vec<CallLine>,
     store: Store,
 ) -> Result<Job, AllocError>
     requires few { vec_len lines ≤ 1024 }
     requires known { All (λ line. line.program < length images.now) lines.items }
-    ensures { IfOk result (λ j. j ≡ record { block = map (call_over (map arc_value images.now)) (map call_value lines.items); store = store }) }
+    ensures { IfOk result (λ j. j ≡ record { block = map (call_over rules (map arc_value images.now)) (map call_value lines.items); store = store }) }
 {
     let mut calls = Vec::with_capacity(alloc, lines.len())?;
     for line in lines {
-        calls.push(call_of(images, line)?)?;
+        calls.push(call_of(rules, images, line)?)?;
     }
     let Ok(job) = Job::new(calls, store) else {
         unreachable!()
@@ -173,9 +177,9 @@ fn job_of(
 }
 
 /// The call of a line over the loaded programs; refused where memory ran out.
-fn call_of(images: &[Arc<Image>], line: CallLine) -> Result<Call, AllocError>
+fn call_of(rules: Rules, images: &[Arc<Image>], line: CallLine) -> Result<Call, AllocError>
     requires { line.program < length images.now }
-    ensures { IfOk result (λ c. c ≡ call_over (map arc_value images.now) (call_value line)) }
+    ensures { IfOk result (λ c. c ≡ call_over rules (map arc_value images.now) (call_value line)) }
 {
     let CallLine {
         program,
@@ -183,7 +187,7 @@ fn call_of(images: &[Arc<Image>], line: CallLine) -> Result<Call, AllocError>
         input,
     } = line;
     let image = Arc::try_clone(&images[program])?;
-    let Ok(call) = Call::new(image, gas, input) else {
+    let Ok(call) = Call::under(rules, image, gas, input) else {
         unreachable!()
     };
     Ok(call)

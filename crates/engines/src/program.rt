@@ -1,11 +1,13 @@
 //! The program, over any command line, files, input and writers.
 
-use crate::assembling::file_of_source;
+use crate::assembling::{SOURCE_MEMORY, file_of_source};
 use crate::debugging::debug_block_to;
 use crate::disk::{Disk, LateFile, ProgramFiles};
 use crate::engine::{drive_to, seq_to};
 use crate::fault::{FileFault, Refusal};
 use crate::listing::dis_to;
+use crate::loading::BLOCK_MEMORY;
+use crate::migrating::migrated_file;
 use crate::replacing::replace;
 use crate::reporting::report;
 use crate::running::run_to;
@@ -116,6 +118,7 @@ fn answer<T: Threads + Wait + Sync, D: Disk, I: Read, W: Write>(
         } => drive(alloc, disk, file, workers, schedule, out),
         Request::Asm { file, out } => asm(alloc, disk, file, out),
         Request::Dis { file } => dis(alloc, disk, file, out),
+        Request::Migrate { file, out } => migrate(alloc, disk, file, out),
         Request::Debug { file, call } => debug(alloc, disk, file, call, input, out),
     }
 }
@@ -171,7 +174,17 @@ fn drive<D: Disk, W: Write>(
 fn asm<D: Disk>(alloc: Global, disk: &D, file: &str, out: &str) -> Result<(), Refusal> {
     let mut source = opened(disk, file)?;
     let bytes = file_of_source(alloc, &mut source)?;
-    replace(alloc, disk, out, bytes.as_slice())
+    let memory = Refusal::Asm(SOURCE_MEMORY);
+    replace(alloc, disk, out, bytes.as_slice(), memory)
+}
+
+/// Rewrites a block file of format 1 as format 2 and puts it at a path. Where this is refused, an ordinary
+/// file at the path stays as it was.
+fn migrate<D: Disk>(alloc: Global, disk: &D, file: &str, out: &str) -> Result<(), Refusal> {
+    let mut block = opened(disk, file)?;
+    let bytes = migrated_file(alloc, &mut block)?;
+    let memory = Refusal::Block(BLOCK_MEMORY);
+    replace(alloc, disk, out, bytes.as_slice(), memory)
 }
 
 /// Prints the instructions of an ELF file.

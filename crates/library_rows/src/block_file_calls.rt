@@ -34,12 +34,12 @@ fn file(alloc: Global, lines: &str) -> Result<String, AllocError> {
 }
 
 /// The fault of a file, if it has one.
-fn refusal(alloc: Global, text: &str) -> Option<BlockFault> {
+pub fn refusal(alloc: Global, text: &str) -> Option<BlockFault> {
     parse(alloc, text.as_bytes()).err()
 }
 
 /// Asserts that a file is refused for this cause at this line.
-fn assert_refused(rt: &impl Abort, alloc: Global, text: &str, line: usize, cause: Cause) {
+pub fn assert_refused(rt: &impl Abort, alloc: Global, text: &str, line: usize, cause: Cause) {
     assert_eq!(rt;
         refusal(alloc, text),
         Some(BlockFault { line, cause }),
@@ -54,7 +54,7 @@ const BAD_FIRST_LINES: &[(&str, Cause)] = &[
     ("rvblock ", Cause::BadHeader),
     ("rvblock 1", Cause::BadLine),
     ("rvblock 1\r\n", Cause::BadHeader),
-    ("rvblock 2\n", Cause::BadHeader),
+    ("rvblock 3\n", Cause::BadHeader),
     ("\n", Cause::BadHeader),
 ];
 

@@ -62,8 +62,20 @@ const ASM: Request<'static> = Request::Asm {
     out: "a.elf",
 };
 
+/// The request of `migrate`.
+const MIGRATE: Request<'static> = Request::Migrate {
+    file: "a.block",
+    out: "b.block",
+};
+
 /// The request of `dis`.
 const DIS: Request<'static> = Request::Dis { file: "a.elf" };
+
+#[test]
+fn reads_migrate(rt: HostRuntime) -> Result<(), AllocError> {
+    let line = "rvstm migrate a.block --out b.block";
+    assert_asks(&rt, rt.alloc(), line, &MIGRATE)
+}
 
 #[test]
 fn reads_asm_and_dis(rt: HostRuntime) -> Result<(), AllocError> {

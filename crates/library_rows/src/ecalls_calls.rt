@@ -19,7 +19,7 @@ fn registers(a7: u32, a0: u32, a1: u32, a2: u32) -> Regs {
     registers
 }
 
-// Rows of a7, a1 and a2, and the charge of the ECALL.
+// Rows of a7, a1 and a2, and the charge of the ECALL before it acts, under rules one.
 const CHARGES: &[((u32, u32, u32), Result<u32, Trap>)] = &[
     ((0, 9, 0), Ok(200)),
     ((0, 9, 64), Ok(200)),
@@ -38,12 +38,38 @@ const CHARGES: &[((u32, u32, u32), Result<u32, Trap>)] = &[
     ((0xffff_ffff, 257, 65), Err(Trap::UnknownCall)),
 ];
 
-#[test]
-fn charges(rt: HostRuntime) {
-    for ((a7, a1, a2), expected) in CHARGES {
-        let charge = ecall_charge(&registers(*a7, 0, *a1, *a2));
+// The same under rules two.
+const LONG_CHARGES: &[((u32, u32, u32), Result<u32, Trap>)] = &[
+    ((0, 9, 65), Ok(200)),
+    ((0, 9, 256), Ok(200)),
+    ((0, 9, 257), Err(Trap::BadLength)),
+    ((1, 9, 65), Ok(660)),
+    ((1, 9, 256), Ok(1424)),
+    ((1, 9, 257), Err(Trap::BadLength)),
+    ((3, 256, 0), Ok(266)),
+    ((3, 257, 0), Err(Trap::BadLength)),
+    ((5, 0, 0), Err(Trap::UnknownCall)),
+];
+
+fn charges_under(rt: &impl Abort, rules: Rules, rows: &[((u32, u32, u32), Result<u32, Trap>)]) {
+    for ((a7, a1, a2), expected) in rows {
+        let charge = ecall_charge(&registers(*a7, 0, *a1, *a2), rules);
         assert!(rt; charge == *expected, "a7 {a7}, a1 {a1}, a2 {a2}");
     }
+}
+
+#[test]
+fn charges(rt: HostRuntime) {
+    charges_under(&rt, Rules::One, CHARGES);
+    charges_under(&rt, Rules::Two, LONG_CHARGES);
+}
+
+// A READ pays for the bytes that it copies under rules two only.
+#[test]
+fn late_charges(rt: HostRuntime) {
+    assert!(rt; late_charge(Rules::One, 64) == 0);
+    assert!(rt; late_charge(Rules::Two, 64) == 64);
+    assert!(rt; late_charge(Rules::Two, 0) == 0);
 }
 
 // A memory whose input, at 0x00100000, is 32 bytes 7 (a key) and then the bytes 1 and 2.
@@ -56,7 +82,7 @@ fn memory(alloc: Global) -> Result<Memory, Fail> {
 
 // The trap of an ECALL, if it has one.
 fn trap(memory: &Memory, a7: u32, a0: u32, a1: u32, a2: u32) -> Option<Trap> {
-    match request(&registers(a7, a0, a1, a2), memory) {
+    match request(&registers(a7, a0, a1, a2), memory, Rules::One) {
         Ok(_) => None,
         Err(trap) => Some(trap),
     }
@@ -127,7 +153,7 @@ fn requested(memory: &Memory, call: u32) -> Result<Request, Trap> {
     } else {
         (0x0010_001f, 3, 0)
     };
-    request(&registers(call, a0, a1, a2), memory)
+    request(&registers(call, a0, a1, a2), memory, Rules::One)
 }
 
 #[test]

@@ -40,6 +40,8 @@ mod rv_program_calls;
 #[cfg(test)]
 mod rv_text_calls;
 #[cfg(test)]
+mod second_format;
+#[cfg(test)]
 mod source_lines;
 #[cfg(test)]
 mod validate_calls;

@@ -37,7 +37,7 @@ fn set(
     ensures { OnOk result (HasNoEstimate map.old.versions → HasNoEstimate map.new.versions) }
 {
     let value = byte.map(|byte| value(byte));
-    map.reserve_for(&[key], writer, 1, 64)?;
+    map.reserve_for(&[key], writer, 1, 256)?;
     map.publish(&key, writer, incarnation, value.as_ref());
     Ok(())
 }
@@ -151,8 +151,8 @@ fn assert_full(rt: &impl Abort, map: &mut MvMap, keys: &[Key], records: usize) {
 
 // Reserves the same room twice, and publishes a version.
 fn reserve_twice(map: &mut MvMap, keys: &[Key]) -> Result<(), ReserveFault> {
-    map.reserve_for(keys, 0, 2, 128)?;
-    map.reserve_for(keys, 0, 2, 128)?;
+    map.reserve_for(keys, 0, 2, 512)?;
+    map.reserve_for(keys, 0, 2, 512)?;
     set(map, key(1), 0, 0, Some(1))
 }
 

@@ -55,12 +55,10 @@ const CALLS: &[(u32, usize, Option<CallFault>)] = &[
     (1, 4097, Some(CallFault::InputTooLong)),
 ];
 
-// Values have at most 64 bytes, and outputs at most 256.
+// Values and outputs have at most 256 bytes.
 fn sizes_fit(rt: &impl Abort) {
     let bytes = [7; 257];
-    assert!(rt; fits(&bytes[..64]) == (true, true));
-    assert!(rt; fits(&bytes[..65]) == (false, true));
-    assert!(rt; fits(&bytes[..256]) == (false, true));
+    assert!(rt; fits(&bytes[..256]) == (true, true));
     assert!(rt; fits(&bytes) == (false, false));
 }
 
@@ -79,6 +77,18 @@ fn limits(rt: HostRuntime) -> Result<(), Fail> {
 fn call(alloc: Global) -> Result<Call, Fail> {
     let input = Vec::from_slice(alloc, &[5])?;
     Ok(Call::new(image(alloc)?, 1000, input)?)
+}
+
+// Calls that differ in their rules alone are not equal.
+#[test]
+fn rules_of_calls(rt: HostRuntime) -> Result<(), Fail> {
+    let alloc = rt.alloc();
+    let first = call(alloc)?;
+    let input = Vec::from_slice(alloc, &[5])?;
+    let second = Call::under(Rules::Two, image(alloc)?, 1000, input)?;
+    assert!(rt; first.rules() == Rules::One && second.rules() == Rules::Two);
+    assert!(rt; same_call(&first, &first.copy()?) && !same_call(&first, &second));
+    Ok(())
 }
 
 // The call, `count` times.

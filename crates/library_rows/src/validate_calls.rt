@@ -18,7 +18,7 @@ fn empty(alloc: Global) -> MvMap {
 
 // Publishes the empty value at a key.
 fn publish(map: &mut MvMap, key: Key, writer: u16, incarnation: u16) -> Result<(), ReserveFault> {
-    map.reserve_for(&[key], writer, 1, 64)?;
+    map.reserve_for(&[key], writer, 1, 256)?;
     let value = Value::empty();
     map.publish(&key, writer, incarnation, Some(&value));
     Ok(())

@@ -79,7 +79,7 @@ impl MvMap {
     /// which is a version or an estimate; or Base where none has. Takes no memory.
     pub fn read(&self, key: &Key, i: u16) -> Answer<'_>
         ensures seen { visible_of result ≡ reading self.now.versions key.now i }
-        ensures short { IsShort 64 result }
+        ensures short { IsShort 256 result }
     {
         seek(&self.slots, &self.arena, key, i)
     }
@@ -105,7 +105,7 @@ impl MvMap {
         ensures elsewhere { (place : Place) → All (λ key. (key, i) ≢ place) keys.now → set.contains self.new.places place ≡ set.contains self.old.places place }
         ensures unchanged { result ≡ Err ArenaFull → self.new ≡ self.old }
         ensures refused { OnErr result (self.new ≡ record self.old { places = self.new.places }) }
-        ensures succeeds { All (λ key. IsTrue (set.contains self.old.places (key, i))) keys.now → records ≤ self.old.arena.room → result ≡ Ok tt }
+        ensures succeeds { All (λ key. IsTrue (set.contains self.old.places (key, i))) keys.now → records ≤ self.old.arena.room → bytes ≤ self.old.arena.bytes → result ≡ Ok tt }
     {
         if self.arena.is_full_for(records) {
             return Err(ReserveFault::ArenaFull);

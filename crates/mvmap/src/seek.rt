@@ -16,7 +16,7 @@ use version_arena::{Arena, Record};
 pub(crate) fn seek<'a>(slots: &'a Slots, arena: &'a Arena, key: &Key, i: u16) -> Answer<'a>
     requires { ArePlaced arena.now.records slots.now.entries }
     ensures seen { visible_of result ≡ reading (versions_of arena.now.records slots.now.entries) key.now i }
-    ensures short { IsShort 64 result }
+    ensures short { IsShort 256 result }
 {
     let mut below = slots.range((*key, 0)..(*key, i));
     while let Some((place, slot)) = below.next_back() {
@@ -31,9 +31,9 @@ pub(crate) fn seek<'a>(slots: &'a Slots, arena: &'a Arena, key: &Key, i: u16) ->
 
 /// The answer that a record of a call gives: its version, with its content.
 fn found<'a>(writer: u16, version_record: Record<'a>) -> Answer<'a>
-    requires { IfSome version_record.content (λ bytes. length bytes.now ≤ 64) }
+    requires { IfSome version_record.content (λ bytes. length bytes.now ≤ 256) }
     ensures seen { visible_of result ≡ Found writer version_record.entry.incarnation (option_copied version_record.entry.content) }
-    ensures short { IsShort 64 result }
+    ensures short { IsShort 256 result }
 {
     let version = Version {
         writer,

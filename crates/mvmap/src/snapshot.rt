@@ -44,7 +44,7 @@ fn apply_slot(slot: &Slot, arena: &Arena, key: &Key, store: &mut Store) -> Resul
 /// Sets the value of a key, or removes the key where there is no value. Refused where memory ran out,
 /// and then the storage is to be dropped.
 fn write(key: &Key, content: Option<&[u8]>, store: &mut Store) -> Result<(), AllocError>
-    requires { IfSome content (λ bytes. length bytes.now ≤ 64) }
+    requires { IfSome content (λ bytes. length bytes.now ≤ 256) }
     ensures { OnOk result ((k : List ℕ) → map.get store.new k ≡ cond (eq_by_cmp key_cmp k key.now) (option_copied content.entry) (map.get store.old k)) }
 {
     let Some(bytes) = content else {

@@ -6,6 +6,7 @@ use Rattle.std.specs.Cmp.Lexicographic.{nat_list_cmp_total}
 use Rattle.std.specs.FinMap.{entries, entries-insert, insert, empty}
 use Rattle.std.specs.FinMap.Entries.{put, by_order}
 use Rattle.rv_ledger.specs.Key.{Storage, key_cmp}
+use Rattle.rv_ledger.specs.declared.rules.Rules.{Rules}
 use Rattle.block_file.specs.declared.fault.Cause.{Cause}
 use Rattle.block_file.specs.declared.fault.Cause.TheVariants.{BadLine}
 use Rattle.block_file.specs.Line.{on_line, read_parts}
@@ -41,9 +42,9 @@ same_later : (s t : Parsed) → s ≡ t → Later s t
 same_later s t h = subst (λ x. Later s x) h (record { programs = omega arith; filled = λ f. f; fresh = λ f. f })
 
 line_later : (s t : Parsed) (line : List ℕ) → with_line s line ≡ Ok t → Later s t
-line_later s t line h = by (line_adds s.block.programs s.block.store s.block.calls s.last t line h)
+line_later s t line h = by (line_adds s.block.rules s.block.programs s.block.store s.block.calls s.last t line h)
   where
-    by : Adds s.block.programs s.block.store s.block.calls s.last t (λ u. with_line u line) → Later s t
+    by : Adds s.block.rules s.block.programs s.block.store s.block.calls s.last t (λ u. with_line u line) → Later s t
     by (inl (p, is)) = subst (λ x. Later s x) (sym is) (record { programs = omega (arith, length-append s.block.programs (p ∷ [])); filled = λ f. f; fresh = λ f. f })
     by (inr (inl (k, v, is))) = subst (λ x. Later s x) (sym is) (record { programs = omega arith; filled = λ f. inserted s.block.store k v; fresh = λ f. inr (inserted s.block.store k v) })
     by (inr (inr (c, is, again))) = subst (λ x. Later s x) (sym is) (record { programs = omega arith; filled = λ f. f; fresh = λ f. f })
@@ -63,13 +64,13 @@ parts_later n s t (line ∷ next ∷ more) h = by (with_line s line) refl (λ u 
 
 -- ---- calls
 
-module _ (programs : List (List ℕ)) (m : Storage) (last : Option (List ℕ)) (g : Parsed) (none : entries g.block.store ≡ []) (few : length g.block.programs ≤ length programs) where
+module _ (rules : Rules) (programs : List (List ℕ)) (m : Storage) (last : Option (List ℕ)) (g : Parsed) (none : entries g.block.store ≡ []) (few : length g.block.programs ≤ length programs) where
   abbrev Again : ℕ → List CallValue → List (List ℕ) → Type 0
-  Again j calls parts = read_parts with_line BadLine j (state programs m calls last) parts ≡ Ok (state programs m g.block.calls last)
+  Again j calls parts = read_parts with_line BadLine j (state rules programs m calls last) parts ≡ Ok (state rules programs m g.block.calls last)
 
   one_call : (k j : ℕ) (calls : List CallValue) (line : List ℕ) (parts : List (List ℕ)) (t : Parsed) → 0 < length parts
-      → Adds programs empty calls None t (λ s. with_line s line) → read_parts with_line BadLine (k + 1) t parts ≡ Ok g
-      → ((c : CallValue) → read_parts with_line BadLine (k + 1) (state programs empty (calls ++ c ∷ []) None) parts ≡ Ok g → Again (j + 1) (calls ++ c ∷ []) parts) → Again j calls (line ∷ parts)
+      → Adds rules programs empty calls None t (λ s. with_line s line) → read_parts with_line BadLine (k + 1) t parts ≡ Ok g
+      → ((c : CallValue) → read_parts with_line BadLine (k + 1) (state rules programs empty (calls ++ c ∷ []) None) parts ≡ Ok g → Again (j + 1) (calls ++ c ∷ []) parts) → Again j calls (line ∷ parts)
   one_call k j calls line parts t some (inl (p, is)) h on =
       let later = parts_later (k + 1) t g parts h in
       let more : length t.block.programs ≡ length (programs ++ p ∷ []) = ap (λ x. length x.block.programs) is in
@@ -78,21 +79,21 @@ module _ (programs : List (List ℕ)) (m : Storage) (last : Option (List ℕ)) (
       let later = parts_later (k + 1) t g parts h in
       absurd (later.filled (subst (λ x. Filled x.block.store) (sym is) (inserted empty key value)) none)
   one_call k j calls line parts t some (inr (inr (c, is, again))) h on =
-      goes_on with_line BadLine j (state programs m calls last) (state programs m (calls ++ c ∷ []) last) line parts some (again m last)
+      goes_on with_line BadLine j (state rules programs m calls last) (state rules programs m (calls ++ c ∷ []) last) line parts some (again m last)
       ∙ on c (subst (λ x. read_parts with_line BadLine (k + 1) x parts ≡ Ok g) is h)
 
-  pub calls_again : (k j : ℕ) (calls : List CallValue) (parts : List (List ℕ)) → read_parts with_line BadLine k (state programs empty calls None) parts ≡ Ok g → Again j calls parts
+  pub calls_again : (k j : ℕ) (calls : List CallValue) (parts : List (List ℕ)) → read_parts with_line BadLine k (state rules programs empty calls None) parts ≡ Ok g → Again j calls parts
   calls_again k j calls [] h =
-      let same : state programs empty calls None ≡ g = cc in
-      ap (λ x. Ok (state programs m x.block.calls last)) same
+      let same : state rules programs empty calls None ≡ g = cc in
+      ap (λ x. Ok (state rules programs m x.block.calls last)) same
   calls_again k j calls (rest ∷ []) h =
-      let ends = at_end with_line BadLine (length rest == 0) _ (state programs empty calls None) g h in
-      ap (λ b. if b then Ok (state programs m calls last) else Err (record { line = j; cause = BadLine })) ends.0
-      ∙ ap (λ x. Ok (state programs m x.block.calls last)) ends.1
+      let ends = at_end with_line BadLine (length rest == 0) _ (state rules programs empty calls None) g h in
+      ap (λ b. if b then Ok (state rules programs m calls last) else Err (record { line = j; cause = BadLine })) ends.0
+      ∙ ap (λ x. Ok (state rules programs m x.block.calls last)) ends.1
   calls_again k j calls (line ∷ next ∷ more) h =
-      by (with_line (state programs empty calls None) line) refl h (λ c e. calls_again (k + 1) (j + 1) (calls ++ c ∷ []) (next ∷ more) e)
+      by (with_line (state rules programs empty calls None) line) refl h (λ c e. calls_again (k + 1) (j + 1) (calls ++ c ∷ []) (next ∷ more) e)
     where
-      by : (r : Result Parsed Cause) → with_line (state programs empty calls None) line ≡ r → on_line k r (λ u. read_parts with_line BadLine (k + 1) u (next ∷ more)) ≡ Ok g
-          → ((c : CallValue) → read_parts with_line BadLine (k + 1) (state programs empty (calls ++ c ∷ []) None) (next ∷ more) ≡ Ok g → Again (j + 1) (calls ++ c ∷ []) (next ∷ more)) → Again j calls (line ∷ next ∷ more)
-      by (Ok t) e h on = one_call k j calls line (next ∷ more) t (omega arith) (line_adds programs empty calls None t line e) h on
+      by : (r : Result Parsed Cause) → with_line (state rules programs empty calls None) line ≡ r → on_line k r (λ u. read_parts with_line BadLine (k + 1) u (next ∷ more)) ≡ Ok g
+          → ((c : CallValue) → read_parts with_line BadLine (k + 1) (state rules programs empty (calls ++ c ∷ []) None) (next ∷ more) ≡ Ok g → Again (j + 1) (calls ++ c ∷ []) (next ∷ more)) → Again j calls (line ∷ next ∷ more)
+      by (Ok t) e h on = one_call k j calls line (next ∷ more) t (omega arith) (line_adds rules programs empty calls None t line e) h on
       by (Err cause) e h on = cc

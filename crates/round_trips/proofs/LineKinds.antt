@@ -5,30 +5,31 @@ use Rattle.std.specs.List.{list_all}
 use Rattle.std.specs.Str.{bytes_eq}
 use Rattle.std.specs.FinMap.{insert}
 use Rattle.rv_ledger.specs.Key.{Storage}
+use Rattle.rv_ledger.specs.declared.rules.Rules.{Rules}
 use Rattle.block_file.specs.declared.fault.Cause.{Cause}
 use Rattle.block_file.specs.declared.fault.Cause.TheVariants.{BadLine}
 use Rattle.block_file.specs.Line.{◌>>=◌, cut}
 use Rattle.block_file.specs.Block.{Parsed, CallValue, call_of, with_program, with_stored, with_call, with_kind, with_fields, with_line}
 
-abbrev pub state : List (List ℕ) → Storage → List CallValue → Option (List ℕ) → Parsed
-state programs store calls last = record { block = record { programs = programs; store = store; calls = calls }; last = last }
+abbrev pub state : Rules → List (List ℕ) → Storage → List CallValue → Option (List ℕ) → Parsed
+state rules programs store calls last = record { block = record { rules = rules; programs = programs; store = store; calls = calls }; last = last }
 
-module _ (programs : List (List ℕ)) (store : Storage) (calls : List CallValue) (last : Option (List ℕ)) (t : Parsed) where
+module _ (rules : Rules) (programs : List (List ℕ)) (store : Storage) (calls : List CallValue) (last : Option (List ℕ)) (t : Parsed) where
   -- a program more, an entry more, or a call more, which does not hang on the storage
   abbrev pub Adds : (Parsed → Result Parsed Cause) → Type 0
   Adds read =
-      ((p : List ℕ) × (t ≡ state (programs ++ p ∷ []) store calls last))
-      ⊎ (((key : List ℕ) × (value : List ℕ) × (t ≡ state programs (insert store key value) calls (Some key)))
-      ⊎ ((c : CallValue) × (t ≡ state programs store (calls ++ c ∷ []) last) × ((m : Storage) (l : Option (List ℕ)) → read (state programs m calls l) ≡ Ok (state programs m (calls ++ c ∷ []) l))))
+      ((p : List ℕ) × (t ≡ state rules (programs ++ p ∷ []) store calls last))
+      ⊎ (((key : List ℕ) × (value : List ℕ) × (t ≡ state rules programs (insert store key value) calls (Some key)))
+      ⊎ ((c : CallValue) × (t ≡ state rules programs store (calls ++ c ∷ []) last) × ((m : Storage) (l : Option (List ℕ)) → read (state rules programs m calls l) ≡ Ok (state rules programs m (calls ++ c ∷ []) l))))
 
   abbrev here : Parsed
-  here = state programs store calls last
+  here = state rules programs store calls last
 
-  program_done : (r : Result (List ℕ) Cause) → (r >>= λ p. Ok (state (programs ++ p ∷ []) store calls last)) ≡ Ok t → (p : List ℕ) × (t ≡ state (programs ++ p ∷ []) store calls last)
+  program_done : (r : Result (List ℕ) Cause) → (r >>= λ p. Ok (state rules (programs ++ p ∷ []) store calls last)) ≡ Ok t → (p : List ℕ) × (t ≡ state rules (programs ++ p ∷ []) store calls last)
   program_done (Ok p) h = (p, cc)
   program_done (Err cause) h = cc
 
-  stored_done : (r : Result (List ℕ × List ℕ) Cause) → (r >>= λ entry. Ok (state programs (insert store entry.0 entry.1) calls (Some entry.0))) ≡ Ok t → (key : List ℕ) × (value : List ℕ) × (t ≡ state programs (insert store key value) calls (Some key))
+  stored_done : (r : Result (List ℕ × List ℕ) Cause) → (r >>= λ entry. Ok (state rules programs (insert store entry.0 entry.1) calls (Some entry.0))) ≡ Ok t → (key : List ℕ) × (value : List ℕ) × (t ≡ state rules programs (insert store key value) calls (Some key))
   stored_done (Ok e) h = (e.0, e.1, cc)
   stored_done (Err cause) h = cc
 
@@ -38,13 +39,13 @@ module _ (programs : List (List ℕ)) (store : Storage) (calls : List CallValue)
   one_of_two false false x y h = cc
 
   call_done : (a : Bool) (r : Result CallValue Cause) (kind first second third : List ℕ) → bytes_eq kind (codes "call") ≡ a → call_of (length programs) (length calls) first second third ≡ r
-      → (if a then (r >>= λ c. Ok (state programs store (calls ++ c ∷ []) last)) else Err BadLine) ≡ Ok t → Adds (λ s. with_kind s (kind ∷ first ∷ second ∷ third ∷ []))
+      → (if a then (r >>= λ c. Ok (state rules programs store (calls ++ c ∷ []) last)) else Err BadLine) ≡ Ok t → Adds (λ s. with_kind s (kind ∷ first ∷ second ∷ third ∷ []))
   call_done true (Ok c) kind first second third e f h = inr (inr (
     c,
     cc,
     λ m l.
-        ap (λ b. if b then with_call (state programs m calls l) first second third else Err BadLine) e
-        ∙ ap (λ r. r >>= λ call. Ok (state programs m (calls ++ call ∷ []) l)) f,
+        ap (λ b. if b then with_call (state rules programs m calls l) first second third else Err BadLine) e
+        ∙ ap (λ r. r >>= λ call. Ok (state rules programs m (calls ++ call ∷ []) l)) f,
   ))
   call_done true (Err cause) kind first second third e f h = cc
   call_done false r kind first second third e f h = cc
@@ -67,7 +68,7 @@ module _ (programs : List (List ℕ)) (store : Storage) (calls : List CallValue)
       by : Adds (λ s. with_kind s fields) → Adds (λ s. with_fields s fields)
       by (inl program) = inl program
       by (inr (inl entry)) = inr (inl entry)
-      by (inr (inr (c, is, again))) = inr (inr (c, is, λ m l. ap (λ b. if b then with_kind (state programs m calls l) fields else Err BadLine) e ∙ again m l))
+      by (inr (inr (c, is, again))) = inr (inr (c, is, λ m l. ap (λ b. if b then with_kind (state rules programs m calls l) fields else Err BadLine) e ∙ again m l))
   fields_add false fields e h = cc
 
   pub line_adds : (line : List ℕ) → with_line here line ≡ Ok t → Adds (λ s. with_line s line)

@@ -9,6 +9,7 @@ use Rattle.std.proofs.lemmas.List.Splits.{slice_split_at, slice_split_none}
 use Rattle.std.proofs.lemmas.List.Sums.{AllPass-from_list_all}
 use Rattle.hex.specs.Hex.{encode_lower, encode_with, lower_digits}
 use Rattle.hex.proofs.HexLemmas.{decode_of-encode_lower, length-encode_with}
+use Rattle.rv_ledger.specs.declared.rules.Rules.{Rules}
 use Rattle.receipts.specs.Ranges.{AreBytes}
 use Rattle.receipts.specs.Text.{bytes_text, store_line}
 use Rattle.receipts.proofs.Cuts.{plain, both}
@@ -39,17 +40,17 @@ content e = codes "store" ++ 32 ∷ (encode_lower e.0 ++ 32 ∷ bytes_text e.1)
 ended : (e : Entry) (rest : List ℕ) → store_line e ++ rest ≡ content e ++ 10 ∷ rest
 ended e rest = simp append_assoc
 
-no_end : (e : Entry) → IsEntry e → Lacks 10 (content e)
+no_end : {rules : Rules} (e : Entry) → IsEntry rules e → Lacks 10 (content e)
 no_end e h =
     All-append (λ b. (b == 10) ≡ false) (codes "store") (32 ∷ (encode_lower e.0 ++ 32 ∷ bytes_text e.1)) (lacks 10 (omega arith) (codes "store") refl)
     (All-cons (λ b. (b == 10) ≡ false) 32 (encode_lower e.0 ++ 32 ∷ bytes_text e.1) refl
     (All-append (λ b. (b == 10) ≡ false) (encode_lower e.0) (32 ∷ bytes_text e.1) (lacks 10 (omega arith) (encode_lower e.0) (hex_plain e.0 h.key))
     (All-cons (λ b. (b == 10) ≡ false) 32 (bytes_text e.1) refl (lacks 10 (omega arith) (bytes_text e.1) (bytes_plain e.1 h.value)))))
 
-pub line_cut : (e : Entry) (rest : List ℕ) → IsEntry e → cut 10 (store_line e ++ rest) ≡ content e ∷ cut 10 rest
+pub line_cut : {rules : Rules} (e : Entry) (rest : List ℕ) → IsEntry rules e → cut 10 (store_line e ++ rest) ≡ content e ∷ cut 10 rest
 line_cut e rest h = ap (cut 10) (ended e rest) ∙ slice_split_at (λ b. b == 10) (content e) 10 rest (no_end e h) refl
 
-pub fields_cut : (e : Entry) → IsEntry e → cut 32 (content e) ≡ codes "store" ∷ encode_lower e.0 ∷ bytes_text e.1 ∷ []
+pub fields_cut : {rules : Rules} (e : Entry) → IsEntry rules e → cut 32 (content e) ≡ codes "store" ∷ encode_lower e.0 ∷ bytes_text e.1 ∷ []
 fields_cut e h =
     slice_split_at (λ b. b == 32) (codes "store") 32 (encode_lower e.0 ++ 32 ∷ bytes_text e.1) (lacks 32 (omega arith) (codes "store") refl) refl
     ∙ ap (λ (t : List (List ℕ)). codes "store" ∷ t)
@@ -71,10 +72,10 @@ digits (x ∷ xs) h =
 hex_read : (xs : List ℕ) → AreBytes xs → hex_of (encode_lower xs) ≡ Ok xs
 hex_read xs h = rw (digits xs h, decode_of-encode_lower xs (are_bytes xs h)) refl
 
-sized : (e : Entry) → IsEntry e → length (encode_lower e.0) ≡ 64
+sized : {rules : Rules} (e : Entry) → IsEntry rules e → length (encode_lower e.0) ≡ 64
 sized e h = length-encode_with lower_digits e.0 ∙ ap (λ n. 2 * n) h.key_length
 
-pub key_read : (e : Entry) → IsEntry e → key_of (encode_lower e.0) ≡ Ok e.0
+pub key_read : {rules : Rules} (e : Entry) → IsEntry rules e → key_of (encode_lower e.0) ≡ Ok e.0
 key_read e h = ap (λ n. if n == 64 then hex_of (encode_lower e.0) else Err BadHex) (sized e h) ∙ hex_read e.0 h.key
 
 no_dash : (a b : ℕ) (rest : List ℕ) → bytes_eq (a ∷ b ∷ rest) (codes "-") ≡ false
@@ -89,7 +90,7 @@ value_read [] h = refl
 value_read (x ∷ xs) h = rw (some_digits x xs) (hex_read (x ∷ xs) h)
 
 -- no field is empty
-pub key_some : (e : Entry) → IsEntry e → (length (encode_lower e.0) == 0) ≡ false
+pub key_some : {rules : Rules} (e : Entry) → IsEntry rules e → (length (encode_lower e.0) == 0) ≡ false
 key_some e h = ap (λ n. n == 0) (sized e h)
 
 pub value_some : (xs : List ℕ) → (length (bytes_text xs) == 0) ≡ false

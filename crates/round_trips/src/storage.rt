@@ -3,30 +3,35 @@
 ghost use Rattle.std.specs.Prelude.{All};
 ghost use Rattle.std.specs.FinMap.{entries};
 ghost use Rattle.rv_ledger.specs.Key.{Storage};
+ghost use Rattle.rv_ledger.specs.declared.rules.Rules.{Rules};
+ghost use Rattle.rv_ledger.specs.declared.rules.Rules.TheVariants.{Two};
 ghost use Rattle.receipts.specs.Ranges.{AreBytes};
-ghost use Rattle.round_trips.specs.Chained.{IsEntry, IsReadBack, IsReadInBlocks};
+ghost use Rattle.round_trips.specs.Chained.{AreShort, IsEntry, IsReadBack, IsReadInBlocks};
 
 use rv_ledger::{Key, Store, Value};
 
 /// A law, and no code: the `store` lines of a result, put into a block file, are read as the result's
-/// storage: alone behind the first line, and between the programs and the calls of any block file
-/// without storage. This holds where the storage's keys have 32 bytes and its values at most 64.
+/// storage: alone behind each beginning of a block file, and between the programs and the calls of
+/// any block file without storage. This holds where the storage's keys have 32 bytes and its values
+/// at most what the block file's rules allow, 64 or 256.
 pub fn storage_is_read_back()
-    ensures alone { (store : Storage) → All IsEntry (entries store) → IsReadBack store }
-    ensures between { (store : Storage) → All IsEntry (entries store) → IsReadInBlocks store }
+    ensures alone { (rules : Rules) (store : Storage) → All (IsEntry rules) (entries store) → IsReadBack rules store }
+    ensures between { (rules : Rules) (store : Storage) → All (IsEntry rules) (entries store) → IsReadInBlocks rules store }
 {}
 
-/// The same law for a storage that a program holds. It walks over the storage and changes nothing.
+/// The same law for a storage that a program holds: rules two allow each such storage, and rules one
+/// those whose values have at most 64 bytes. It walks over the storage and changes nothing.
 pub fn storage_is_read_back_of(store: &Store)
-    ensures alone { IsReadBack store.now }
-    ensures between { IsReadInBlocks store.now }
+    ensures short { AreShort Two store.now }
+    ensures alone { (rules : Rules) → AreShort rules store.now → IsReadBack rules store.now }
+    ensures between { (rules : Rules) → AreShort rules store.now → IsReadInBlocks rules store.now }
 {
     are_entries(store);
 }
 
-/// Each key has 32 bytes, and each value at most 64.
+/// Each key has 32 bytes, and each value at most 256.
 fn are_entries(store: &Store)
-    ensures { All IsEntry (entries store.now) }
+    ensures { All (IsEntry Two) (entries store.now) }
 {
     for (key, value) in store.iter() {
         is_entry(key, value);
@@ -38,9 +43,9 @@ fn are_bytes(_bytes: &[u8])
     ensures { AreBytes _bytes.now }
 {}
 
-/// A key has 32 bytes, and a value at most 64.
+/// A key has 32 bytes, and a value at most 256.
 fn is_entry(key: &Key, value: &Value)
-    ensures { IsEntry (key.now, value.now) }
+    ensures { IsEntry Two (key.now, value.now) }
 {
     are_bytes(key.bytes().as_slice());
     are_bytes(value.bytes());

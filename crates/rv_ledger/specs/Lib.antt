@@ -1,3 +1,4 @@
 pub mod Key
+pub mod Rules
 pub mod Call
 pub mod Job

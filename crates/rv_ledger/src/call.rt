@@ -1,5 +1,6 @@
 //! A call of a contract.
 
+use crate::rules::Rules;
 use elf32::Image;
 use std::alloc::{AllocError, Global};
 use std::marker::Model;
@@ -23,9 +24,11 @@ pub enum CallFault {
     InputTooLong = 2,
 }
 
-/// A call: a program, a gas limit of 1 to 10,000,000 and an input of at most 4,096 bytes.
+/// A call: the rules that it runs under, a program, a gas limit of 1 to 10,000,000 and an input of at most
+/// 4,096 bytes.
 #[derive(Drop)]
 pub struct Call {
+    rules: Rules,
     image: Arc<Image>,
     gas: u32,
     input: Vec<u8>,
@@ -37,7 +40,7 @@ impl Model for Call {
 
     ghost Value = { Invocation };
 
-    ghost view = { λ c. record { image = arc_value c.image; gas = c.gas; input = c.input.items } };
+    ghost view = { λ c. record { rules = c.rules; image = arc_value c.image; gas = c.gas; input = c.input.items } };
 
     ghost invariant = { λ c. IsInLimits c.gas c.input.items };
 }
@@ -46,11 +49,25 @@ impl Call {
     ghost use Rattle.std.specs.Prelude.{◌≡◌, IfOk};
     ghost use Rattle.std.specs.Arc.{arc_value};
     ghost use Rattle.rv_ledger.specs.Call.{call_of, IsInLimits};
+    ghost use Rattle.rv_ledger.specs.declared.rules.Rules.TheVariants.{One};
 
-    /// The call of a program with a gas limit and an input. Refused as BadGas where the gas limit is
-    /// not 1 to 10,000,000, and else as InputTooLong where the input is longer than 4,096 bytes.
+    /// The call of a program under rules one, with a gas limit and an input. Refused like `under`.
     pub fn new(image: Arc<Image>, gas: u32, input: Vec<u8>) -> Result<Call, CallFault>
-        ensures { result ≡ call_of (arc_value image) gas input.items }
+        ensures { result ≡ call_of One (arc_value image) gas input.items }
+    {
+        Call::under(Rules::One, image, gas, input)
+    }
+
+    /// The call of a program under some rules, with a gas limit and an input. Refused as BadGas where the
+    /// gas limit is not 1 to 10,000,000, and else as InputTooLong where the input is longer than 4,096
+    /// bytes.
+    pub fn under(
+        rules: Rules,
+        image: Arc<Image>,
+        gas: u32,
+        input: Vec<u8>,
+    ) -> Result<Call, CallFault>
+        ensures { result ≡ call_of rules (arc_value image) gas input.items }
     {
         if gas == 0 || gas > GAS_LIMIT {
             return Err(CallFault::BadGas);
@@ -58,7 +75,19 @@ impl Call {
         if input.len() > INPUT_LIMIT {
             return Err(CallFault::InputTooLong);
         }
-        Ok(Call { image, gas, input })
+        Ok(Call {
+            rules,
+            image,
+            gas,
+            input,
+        })
+    }
+
+    /// The rules that it runs under.
+    pub fn rules(&self) -> Rules
+        ensures { result ≡ self.now.rules }
+    {
+        self.rules
     }
 
     /// The program.
@@ -89,6 +118,7 @@ impl Call {
         ensures { IfOk result (λ c. c ≡ self.now) }
     {
         Ok(Call {
+            rules: self.rules,
             image: Arc::try_clone(&self.image)?,
             gas: self.gas,
             input: self.input.clone()?,

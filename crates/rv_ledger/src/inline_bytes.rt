@@ -12,7 +12,7 @@ use std::fmt;
 use std::marker::Model;
 
 /// The greatest length of a stored value, in bytes.
-pub const VALUE_LIMIT: usize = 64;
+pub const VALUE_LIMIT: usize = 256;
 
 /// The greatest length of a call's output, in bytes.
 pub const OUTPUT_LIMIT: usize = 256;
@@ -24,7 +24,7 @@ pub struct InlineBytes<const LIMIT: usize> {
     room: [u8; LIMIT],
 }
 
-/// A value of the storage, of at most 64 bytes.
+/// A value of the storage, of at most 256 bytes.
 pub type Value = InlineBytes<VALUE_LIMIT>;
 
 /// What a call returns or reverts with, of at most 256 bytes.

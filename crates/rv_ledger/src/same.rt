@@ -30,11 +30,12 @@ fn same_calls(left: &[Call], right: &[Call]) -> bool
     true
 }
 
-/// Whether two calls have equal programs, gas limits and inputs; the programs are compared last.
+/// Whether two calls have equal rules, programs, gas limits and inputs; the programs are compared last.
 pub fn same_call(left: &Call, right: &Call) -> bool
     ensures { (result ≡ true) ↔ (left.now ≡ right.now) }
 {
-    left.gas() == right.gas()
+    left.rules() == right.rules()
+        && left.gas() == right.gas()
         && left.input() == right.input()
         && same_image(left.image(), right.image())
 }

@@ -115,8 +115,8 @@ came_falls s t content (Asked other) did = absurd (not_asked s content other did
 came_falls s t content (Ended end out) did = omega arith
 
 -- the storage call at which a machine stands is its step
-pub call_is_step : (s m t : Machine) (came : Stage) → MeetsInstruction (Ok outcome.StorageCall) (instruction_at s) (step s) s m → MeetsResult (Ok came) (ecall_result m (ecall_charge m.regs)) m t → MeetsResult (Ok came) (step s) s t
-call_is_step s m t came found did = rw found.1 (subst (λ (x : Machine). MeetsResult (Ok came) (ecall_result x (ecall_charge x.regs)) x t) found.2 did)
+pub call_is_step : (s m t : Machine) (came : Stage) → MeetsInstruction (Ok outcome.StorageCall) (instruction_at s) (step s) s m → MeetsResult (Ok came) (ecall_result m (ecall_charge m.regs m.rules)) m t → MeetsResult (Ok came) (step s) s t
+call_is_step s m t came found did = rw found.1 (subst (λ (x : Machine). MeetsResult (Ok came) (ecall_result x (ecall_charge x.regs x.rules)) x t) found.2 did)
 
 -- whatever a step comes to
 pub step_keeps : (call : Invocation) (s t : Machine) (answers : List StorageAnswer) (stage : Stage) (came : Stage) → IsSoFar (record { call = call; machine = s; answers = answers; stage = stage }) → is_running stage ≡ true → MeetsResult (Ok came) (step s) s t → IsSoFar (record { call = call; machine = t; answers = answers; stage = came })

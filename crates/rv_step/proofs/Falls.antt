@@ -12,7 +12,7 @@ use Rattle.rv_isa.specs.declared.register.Reg.{Reg}
 use Rattle.gas.specs.Costs.{cost_of, cost_of_operation}
 use Rattle.rv_isa.specs.Registers.{written}
 use Rattle.rv_alu.specs.Effects.{effect_of}
-use Rattle.rv_mem.specs.Space.{Space, loaded, copied}
+use Rattle.rv_mem.specs.Space.{Space, loaded}
 use Rattle.rv_mem.specs.declared.access.Access.TheVariants as access
 use Rattle.rv_mem.specs.declared.fault.Fault.{Fault}
 use Rattle.rv_ledger.specs.Key.{has_room}
@@ -21,13 +21,13 @@ use Rattle.rv_ledger.specs.declared.end.End.TheVariants.{OutOfGas}
 use Rattle.rv_ledger.specs.declared.end.Trap.{Trap}
 use Rattle.rv_ledger.specs.declared.end.Trap.TheVariants as trap
 use Rattle.rv_ledger.specs.declared.writes.Write.{Write}
-use Rattle.ecalls.specs.StorageCalls.{a1, a2, asked, charge_of, charge_asked, request_of}
+use Rattle.ecalls.specs.StorageCalls.{a2, asked, charge_of, charge_asked, late_charge, request_of}
 use Rattle.ecalls.specs.declared.storage_call.StorageCall.{StorageCall}
 use Rattle.ecalls.specs.declared.storage_call.StorageCall.TheVariants as call
 use Rattle.ecalls.specs.declared.request_kind.Request.{Request}
 use Rattle.ecalls.specs.declared.request_kind.Request.TheVariants as request
 use Rattle.rv_step.specs.declared.machine.Machine.{Machine}
-use Rattle.rv_step.specs.Step.{StepResult, Next, Asks, Ends, TakesGas, instruction_result, answered, ecall_result, charged, compute_result, delivery_result, fetch_result, next_instruction, is_ecall, memory_result, decode_result, read_result, storage_call_result, step, load_result, trapped, write_result}
+use Rattle.rv_step.specs.Step.{StepResult, Next, Asks, Ends, TakesGas, instruction_result, answered, ecall_result, charged, compute_result, delivery_result, fetch_result, next_instruction, is_ecall, memory_result, decode_result, read_result, storage_call_result, step, load_result, trapped, value_result, write_result}
 
 -- a step leaves less gas where the call goes on, and no more where it ends
 unfoldable pub IsFalling : ℕ → StepResult → Type 0
@@ -76,13 +76,24 @@ either_within : (gas : ℕ) (b : Bool) (o p : StepResult) → IsWithin gas o →
 either_within gas true o p h k = h
 either_within gas false o p h k = k
 
+more_within : (gas rest : ℕ) (o : StepResult) → rest ≤ gas → IsWithin rest o → IsWithin gas o
+unfolding IsWithin
+more_within gas rest (Next t) h k = omega arith
+more_within gas rest (Asks key) h k = tt
+more_within gas rest (Ends end out t) h k = omega arith
+
+charged_within : (cost : ℕ) (s : Machine) (act : Machine → StepResult) → ((t : Machine) → IsWithin t.gas (act t)) → IsWithin s.gas (charged cost s act)
+charged_within cost s act k =
+    either_within s.gas (nat_le cost s.gas) (act (record s { gas = s.gas - cost })) (Ends OutOfGas [] (record s { gas = 0 }))
+    (more_within s.gas (s.gas - cost) (act (record s { gas = s.gas - cost })) (omega arith) (k (record s { gas = s.gas - cost }))) (unfold IsWithin in omega arith)
+
 delivered_within : (s : Machine) (content : Option (List ℕ)) → IsWithin s.gas (delivery_result s content)
 unfolding delivery_result
 delivered_within s None = unfold IsWithin in omega arith
 delivered_within s (Some value) =
     either_within s.gas (nat_lt (a2 s.regs) (length value))
-    (next_instruction (record s { regs = written s.regs 10 0xffff_fffe })) (memory_result s (written s.regs 10 (length value)) (copied s.memory (a1 s.regs) value))
-    (unfold IsWithin in omega arith) (leaves_within s _ _)
+    (next_instruction (record s { regs = written s.regs 10 0xffff_fffe })) (charged (late_charge s.rules (length value)) s (λ t. value_result t value))
+    (unfold IsWithin in omega arith) (charged_within _ s (λ t. value_result t value) (λ t. leaves_within t _ _))
 
 read_own_within : (s : Machine) (key : List ℕ) (content : Option (Option (List ℕ))) → IsWithin s.gas (read_result s key content)
 read_own_within s key (Some content) = delivered_within s content
@@ -163,10 +174,10 @@ call_costs call.Revert registers = omega arith
 
 called_falls : (s : Machine) (r : Result StorageCall Trap) → IsFalling s.gas (ecall_result s (charge_asked s.regs r))
 called_falls s (Err cause) = unfold IsFalling in omega arith
-called_falls s (Ok c) = charged_falls _ s (λ t. storage_call_result t (request_of t.regs t.memory)) (call_costs c s.regs) (λ t. served_within t (request_of t.regs t.memory))
+called_falls s (Ok c) = charged_falls _ s (λ t. storage_call_result t (request_of t.regs t.memory t.rules)) (call_costs c s.regs) (λ t. served_within t (request_of t.regs t.memory t.rules))
 
 obeyed_cases : (s : Machine) (i : Instr) (b : Bool) → is_ecall i ≡ b → IsFalling s.gas (decode_result s (Some i))
-obeyed_cases s i true e = rw e (called_falls s (asked s.regs))
+obeyed_cases s i true e = rw e (called_falls s (asked s.regs s.rules))
 obeyed_cases s i false e = rw e (charged_falls _ s (λ t. instruction_result i t) (instr_costs i e) (λ t. acted_within i t))
 
 obeyed_falls : (s : Machine) (o : Option Instr) → IsFalling s.gas (decode_result s o)
@@ -211,19 +222,22 @@ unfolding IsTold
 leaves_told s registers (Ok memory) = tt
 leaves_told s registers (Err fault) = tt
 
+charged_told : (cost : ℕ) (s : Machine) (act : Machine → StepResult) → ((t : Machine) → IsTold (act t)) → IsTold (charged cost s act)
+charged_told cost s act k =
+    either_told (nat_le cost s.gas) (act (record s { gas = s.gas - cost })) (Ends OutOfGas [] (record s { gas = 0 }))
+    (k (record s { gas = s.gas - cost })) (unfold IsTold in tt)
+
 delivered_told : (s : Machine) (content : Option (List ℕ)) → IsTold (delivery_result s content)
 unfolding delivery_result
 delivered_told s None = unfold IsTold in tt
 delivered_told s (Some value) =
     either_told (nat_lt (a2 s.regs) (length value))
-    (next_instruction (record s { regs = written s.regs 10 0xffff_fffe })) (memory_result s (written s.regs 10 (length value)) (copied s.memory (a1 s.regs) value))
-    (unfold IsTold in tt) (leaves_told s _ _)
+    (next_instruction (record s { regs = written s.regs 10 0xffff_fffe })) (charged (late_charge s.rules (length value)) s (λ t. value_result t value))
+    (unfold IsTold in tt) (charged_told _ s (λ t. value_result t value) (λ t. leaves_told t _ _))
 
 answered_told : (s : Machine) (content : Option (List ℕ)) → IsTold (answered s content)
 unfolding answered
-answered_told s content =
-    either_told (nat_le 200 s.gas) (delivery_result (record s { gas = s.gas - 200 }) content) (Ends OutOfGas [] (record s { gas = 0 }))
-    (delivered_told (record s { gas = s.gas - 200 }) content) (unfold IsTold in tt)
+answered_told s content = charged_told 200 s (λ t. delivery_result t content) (λ t. delivered_told t content)
 
 pub not_asked : (s : Machine) (content : Option (List ℕ)) (key : List ℕ) → answered s content ≡ Asks key → ⊥
 unfolding IsTold

@@ -85,9 +85,9 @@ pub ecall_reached : (s m : Machine) → MeetsInstructions (Ok outcome.StorageCal
 ecall_reached s m did = (did.count, subst (λ (x : Machine). Reaches did.count s x) (sym did.did.2) did.reached)
 
 -- and the storage call is its step
-pub ecall_found : (s m t : Machine) (came : Stage) → MeetsInstructions (Ok outcome.StorageCall) s m → MeetsResult (Ok came) (ecall_result m (ecall_charge m.regs)) m t → MeetsResult (Ok came) (step m) m t
+pub ecall_found : (s m t : Machine) (came : Stage) → MeetsInstructions (Ok outcome.StorageCall) s m → MeetsResult (Ok came) (ecall_result m (ecall_charge m.regs m.rules)) m t → MeetsResult (Ok came) (step m) m t
 ecall_found s m t came did came_to =
-    let found : step m ≡ ecall_result m (ecall_charge m.regs) = subst (λ (x : Machine). step x ≡ ecall_result x (ecall_charge x.regs)) (sym did.did.2) did.did.1 in
+    let found : step m ≡ ecall_result m (ecall_charge m.regs m.rules) = subst (λ (x : Machine). step x ≡ ecall_result x (ecall_charge x.regs x.rules)) (sym did.did.2) did.did.1 in
     rw found came_to
 
 -- what a step came to is the stage after it

@@ -24,6 +24,7 @@ start call = record {
   memory = start_space call.image call.input;
   own = map.empty;
   gas = call.gas;
+  rules = call.rules;
 }
 
 -- only a call that returned keeps its writes

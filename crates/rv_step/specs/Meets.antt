@@ -28,7 +28,7 @@ MeetsResult (Err refused) want old new = IsTrue (goes_on want) × (new ≡ old)
 -- there is one
 abbrev pub MeetsInstruction : Result InstructionOutcome AllocError → Option Instr → StepResult → Machine → Machine → Type 0
 MeetsInstruction (Ok outcome.Next) instr want old new = want ≡ Next new
-MeetsInstruction (Ok outcome.StorageCall) instr want old new = (instr ≡ Some Ecall) × (want ≡ ecall_result old (ecall_charge old.regs)) × (new ≡ old)
+MeetsInstruction (Ok outcome.StorageCall) instr want old new = (instr ≡ Some Ecall) × (want ≡ ecall_result old (ecall_charge old.regs old.rules)) × (new ≡ old)
 MeetsInstruction (Ok (outcome.End end)) instr want old new = want ≡ Ends end [] new
 MeetsInstruction (Err refused) instr want old new = IsTrue (may_grow instr) × IsTrue (goes_on want) × (new ≡ old)
 

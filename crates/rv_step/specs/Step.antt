@@ -22,7 +22,7 @@ use Rattle.rv_ledger.specs.declared.end.End.TheVariants.{Returned, Reverted, Out
 use Rattle.rv_ledger.specs.declared.end.Trap.{Trap}
 use Rattle.rv_ledger.specs.declared.end.Trap.TheVariants as trap
 use Rattle.rv_ledger.specs.declared.writes.Write.{Write}
-use Rattle.ecalls.specs.StorageCalls.{a1, a2, charge_of, ecall_charge, request_of}
+use Rattle.ecalls.specs.StorageCalls.{a1, a2, charge_of, ecall_charge, late_charge, request_of}
 use Rattle.ecalls.specs.declared.storage_call.StorageCall.TheVariants as call
 use Rattle.ecalls.specs.declared.request_kind.Request.{Request}
 use Rattle.ecalls.specs.declared.request_kind.Request.TheVariants as request
@@ -80,13 +80,17 @@ instruction_result (Store kind source base offset) s = memory_result s s.regs (s
 instruction_result Ebreak s = trapped trap.Breakpoint s
 instruction_result instr s = compute_result s (effect_of instr s.regs s.pc)
 
+-- a value is copied into the buffer of a READ
+abbrev pub value_result : Machine → List ℕ → StepResult
+value_result s value = memory_result s (written s.regs 10 (length value)) (copied s.memory (a1 s.regs) value)
+
 -- a0 says how a READ went: 2^32 - 1 for absence, 2^32 - 2 for a value longer than the buffer, else the length, and only
--- then the value is copied
+-- then the late charge is taken and the value is copied
 unfoldable pub delivery_result : Machine → Option (List ℕ) → StepResult
 delivery_result s None = next_instruction (record s { regs = written s.regs 10 0xffff_ffff })
 delivery_result s (Some value) =
     if nat_lt (a2 s.regs) (length value) then next_instruction (record s { regs = written s.regs 10 0xffff_fffe })
-    else memory_result s (written s.regs 10 (length value)) (copied s.memory (a1 s.regs) value)
+    else charged (late_charge s.rules (length value)) s (λ t. value_result t value)
 
 -- a READ of a key that the call has written or removed is answered from its own writes
 abbrev pub read_result : Machine → List ℕ → Option (Option (List ℕ)) → StepResult
@@ -107,7 +111,7 @@ storage_call_result s (Ok (request.Revert out)) = Ends Reverted out s
 
 abbrev pub ecall_result : Machine → Result ℕ Trap → StepResult
 ecall_result s (Err cause) = trapped cause s
-ecall_result s (Ok cost) = charged cost s (λ t. storage_call_result t (request_of t.regs t.memory))
+ecall_result s (Ok cost) = charged cost s (λ t. storage_call_result t (request_of t.regs t.memory t.rules))
 
 abbrev pub is_ecall : Instr → Bool
 is_ecall Ecall = true
@@ -115,7 +119,7 @@ is_ecall _ = false
 
 abbrev pub decode_result : Machine → Option Instr → StepResult
 decode_result s None = trapped trap.Illegal s
-decode_result s (Some instr) = if is_ecall instr then ecall_result s (ecall_charge s.regs) else charged (cost_of instr) s (λ t. instruction_result instr t)
+decode_result s (Some instr) = if is_ecall instr then ecall_result s (ecall_charge s.regs s.rules) else charged (cost_of instr) s (λ t. instruction_result instr t)
 
 abbrev pub fetch_result : Machine → Result ℕ Fault → StepResult
 fetch_result s (Ok word) = decode_result s (decoded word)

@@ -1,6 +1,7 @@
 //! The machine of one call, and one step of it.
 
-ghost use Rattle.std.specs.Prelude.{◌≡◌, ◌<◌, ◌≤◌, ◌*◌, ◌%◌, ◌^◌, if◌then◌else◌, [], false, IfOk, IsTrue, None, Ok};
+ghost use Rattle.std.specs.Prelude.{◌≡◌, ◌<◌, ◌≤◌, ◌*◌, ◌%◌, ◌^◌, if◌then◌else◌, [], false, IfOk, IsTrue, None, Ok, length};
+ghost use Rattle.rv_isa.specs.Registers.{written};
 ghost use Rattle.std.specs.Option.{option_copied};
 ghost use Rattle.std.specs.FinMap as map;
 ghost use Rattle.rv_alu.specs.Accesses.{store_width, width_of};
@@ -10,13 +11,13 @@ ghost use Rattle.rv_isa.specs.Decoded.{decoded};
 ghost use Rattle.rv_isa.specs.declared.instruction.Instr.TheVariants.{Load, Store};
 ghost use Rattle.rv_mem.specs.Space.{Leaves, loaded, stored};
 ghost use Rattle.rv_mem.specs.declared.access.Access.TheVariants as access;
-ghost use Rattle.ecalls.specs.StorageCalls.{ecall_charge, length_of, longest, request_by};
+ghost use Rattle.ecalls.specs.StorageCalls.{ecall_charge, late_charge, length_of, request_by};
 
 use crate::accesses::{number_at, store_number};
 use crate::faults::{refusal, trap_of};
 use crate::outcome::{InstructionOutcome, is_ecall};
 use crate::stage::{Stage, is_asked, trapped};
-use ecalls::{READ_CHARGE, Request, StorageCall, Trap, asked, request_by};
+use ecalls::{READ_CHARGE, Request, StorageCall, Trap, asked, late_charge, request_by};
 use elf32::extent::{END_ADDRESS, INPUT_ADDRESS};
 use gas::{Meter, cost};
 use rv_alu::{address, execute, extended};
@@ -25,7 +26,7 @@ use rv_isa::{
     decode_compute, decode_fence, decode_immediate, decode_jal, decode_jalr, decode_load,
     decode_lui, decode_store, decode_system, funct3, opcode,
 };
-use rv_ledger::{Call, End, Key, Output, Value, Write, Writes};
+use rv_ledger::{Call, End, Key, Output, Rules, Value, Write, Writes};
 use rv_mem::Memory;
 use std::alloc::{AllocError, Global};
 
@@ -88,12 +89,15 @@ pub struct Machine {
     pub own: Writes,
     /// The gas that it has left.
     pub gas: Meter,
+    /// The rules of the call.
+    pub rules: Rules,
 }
 
 impl Machine {
-    ghost use Rattle.rv_step.specs.Step.{Next, instruction_result, address_of, answered, ecall_result, compute_result, delivery_result, next_instruction, is_ecall, memory_result, decode_result, read_result, storage_call_result, step, load_result, write_result};
+    ghost use Rattle.rv_step.specs.Step.{Next, instruction_result, address_of, answered, charged, ecall_result, compute_result, delivery_result, next_instruction, is_ecall, memory_result, decode_result, read_result, storage_call_result, step, load_result, value_result, write_result};
     ghost use Rattle.rv_step.specs.Chain.{start};
     ghost use Rattle.rv_step.specs.Growth.{instruction_at};
+    ghost use Rattle.rv_step.specs.declared.stage.Stage.TheVariants.{Running};
     ghost use Rattle.rv_step.specs.Meets.{MeetsEffect, MeetsInstruction, MeetsInstructions, MeetsResult, is_asked, is_next};
 
     /// The machine of a call before its first instruction; refused where memory ran out.
@@ -112,6 +116,7 @@ impl Machine {
             memory: Memory::of(alloc, call.image(), input)?,
             own: Writes::new(alloc),
             gas: Meter::new(call.gas()),
+            rules: call.rules(),
         })
     }
 
@@ -162,8 +167,8 @@ impl Machine {
     }
 
     /// Gives the answer to the READ at which the machine stands: the value, or None for absence. Charges
-    /// the READ; the call ends out of gas where less is left. Refused where memory ran out, and then
-    /// nothing changes.
+    /// the READ, and then the bytes that it copies; the call ends out of gas where less is left. Refused
+    /// where memory ran out, and then nothing changes.
     #[tactic(auto, unfolding(crate::specs::Step::answered))]
     pub(crate) fn answer(&mut self, content: Option<&Value>) -> Result<Stage, AllocError>
         ensures { MeetsResult result (answered self.old (option_copied content.entry)) self.old self.new }
@@ -334,9 +339,9 @@ impl Machine {
     #[inline(never)]
     #[tactic(auto, unfolding(ecalls::specs::StorageCalls::request_of))]
     pub(crate) fn execute_ecall(&mut self) -> Result<Stage, AllocError>
-        ensures { MeetsResult result (ecall_result self.old (ecall_charge self.old.regs)) self.old self.new }
+        ensures { MeetsResult result (ecall_result self.old (ecall_charge self.old.regs self.old.rules)) self.old self.new }
     {
-        let call = match asked(&self.regs) {
+        let call = match asked(&self.regs, self.rules) {
             Ok(call) => call,
             Err(cause) => return Ok(trapped(cause)),
         };
@@ -356,7 +361,7 @@ impl Machine {
     /// Does a storage call that has been charged; it may trap MemoryFault or TooManyWrites.
     #[tactic(auto, unfolding(crate::specs::Step::storage_call_result))]
     fn serve_request(&mut self, call: StorageCall) -> Result<Stage, AllocError>
-        requires { length_of call self.old.regs ≤ longest call }
+        requires { length_of call self.old.regs ≤ 256 }
         ensures { MeetsResult result (storage_call_result self.old (request_by call self.old.regs self.old.memory)) self.old self.new }
     {
         let request = match request_by(call, &self.regs, &self.memory) {
@@ -395,24 +400,57 @@ impl Machine {
         Ok(Stage::Running)
     }
 
-    /// Delivers the answer to a READ: sets a0, and copies the value into the buffer where it fits.
+    /// Delivers the answer to a READ: sets a0, and charges and copies a value that fits into the buffer.
     #[tactic(auto, unfolding(crate::specs::Step::delivery_result))]
     fn deliver(&mut self, content: Option<&Value>) -> Result<Stage, AllocError>
         ensures { MeetsResult result (delivery_result self.old (option_copied content.entry)) self.old self.new }
     {
-        let number = match content {
-            None => ABSENT,
-            Some(value) if value.bytes().len() > self.regs.get(Reg::a2()) as usize => TOO_LONG,
-            Some(value) => {
-                match self.memory.copy_in(self.regs.get(Reg::a1()), value.bytes()) {
-                    Ok(()) => value.bytes().len() as u32,
-                    Err(fault) => return Ok(Stage::Ended(refusal(fault)?, Output::empty())),
-                }
-            }
+        let Some(value) = content else {
+            return Ok(self.end_read(ABSENT));
         };
+        if value.bytes().len() > self.regs.get(Reg::a2()) as usize {
+            return Ok(self.end_read(TOO_LONG));
+        }
+        self.deliver_charged(value)
+    }
+
+    /// Charges the bytes of a value and copies it. The call ends out of gas, and nothing is copied, where
+    /// less gas is left. Refused where memory ran out, and then nothing changes.
+    fn deliver_charged(&mut self, value: &Value) -> Result<Stage, AllocError>
+        ensures { MeetsResult result (charged (late_charge self.old.rules (length value.now)) self.old (λ t. value_result t value.now)) self.old self.new }
+    {
+        let gas = self.gas;
+        let cost = late_charge(self.rules, value.bytes().len() as u32);
+        if !self.gas.charge(cost) {
+            return Ok(Stage::Ended(self.run_out(), Output::empty()));
+        }
+        match self.copy_value(value) {
+            Ok(stage) => Ok(stage),
+            Err(refused) => {
+                self.gas = gas;
+                Err(refused)
+            }
+        }
+    }
+
+    /// Copies a value into the buffer of a READ. Refused where memory ran out, and then nothing changes.
+    fn copy_value(&mut self, value: &Value) -> Result<Stage, AllocError>
+        ensures { MeetsResult result (value_result self.old value.now) self.old self.new }
+    {
+        match self.memory.copy_in(self.regs.get(Reg::a1()), value.bytes()) {
+            Ok(()) => Ok(self.end_read(value.bytes().len() as u32)),
+            Err(fault) => Ok(Stage::Ended(refusal(fault)?, Output::empty())),
+        }
+    }
+
+    /// Sets a0 at the end of a READ, and goes on to the next instruction.
+    fn end_read(&mut self, number: u32) -> Stage
+        ensures stage { result ≡ Running }
+        ensures machine { next_instruction (record self.old { regs = written self.old.regs 10 number }) ≡ Next self.new }
+    {
         self.regs.set(Reg::a0(), number);
         self.advance_pc();
-        Ok(Stage::Running)
+        Stage::Running
     }
 
     /// Executes an instruction that has been charged and is not an ECALL. None where the machine goes on,

@@ -222,8 +222,8 @@ impl Run {
 /// entry, and an output takes much room in the frame.
 #[inline(never)]
 fn execute_ecall(machine: &mut Machine, stage: &mut Stage) -> Result<(), AllocError>
-    ensures ok { OnOk result (MeetsResult (Ok stage.new) (ecall_result machine.old (ecall_charge machine.old.regs)) machine.old machine.new) }
-    ensures grows { OnErr result (IsTrue (goes_on (ecall_result machine.old (ecall_charge machine.old.regs)))) }
+    ensures ok { OnOk result (MeetsResult (Ok stage.new) (ecall_result machine.old (ecall_charge machine.old.regs machine.old.rules)) machine.old machine.new) }
+    ensures grows { OnErr result (IsTrue (goes_on (ecall_result machine.old (ecall_charge machine.old.regs machine.old.rules)))) }
     ensures machine { OnErr result (machine.new ≡ machine.old) }
     ensures stage { OnErr result (stage.new ≡ stage.old) }
 {
@@ -250,6 +250,7 @@ fn receipt(limit: u32, end: End, out: Output, machine: Machine) -> Receipt
         memory: _,
         mut own,
         gas,
+        rules: _,
     } = machine;
     if end != End::Returned {
         own.clear();

@@ -61,7 +61,7 @@ module _ (job : Job) (table : Table) (promised : ℕ) (schedule : Schedule) (h :
 
       -- the move leads on
       pub move_reached : after_table.places ≡ table.places → length after_table.arena.records + more ≡ length table.arena.records + promised → more + length (writes_at (get_or schedule.calls i fresh).last (key ∷ [])) ≡ promised
-          → more ≤ after_table.arena.room → more * 64 ≤ after_table.arena.bytes → IsReached job after_table more after
+          → more ≤ after_table.arena.room → more * 256 ≤ after_table.arena.bytes → IsReached job after_table more after
       move_reached places placed taken room bytes =
           let versions : after_table.versions ≡ changed table.versions (key, i) (version_of (get_or schedule.calls i fresh) key) = ap (λ (t : State). t.versions) same in
           goes_on job table promised schedule h b is w Move_key due after_table more after move_is_made

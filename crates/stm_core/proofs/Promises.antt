@@ -204,7 +204,7 @@ module _ (block : Block) (n w : ℕ) (s : State) (h : Invariant block n s) (with
           count = let c = count_changed t turned.task turned.tasks turned.lasts in let k = kept.count in omega (arith, c, k, before, own);
           limit = subst (λ (a : ArenaState). length a.records + promised ≤ record_limit) (sym arena) kept.limit;
           room = subst (λ (a : ArenaState). promised ≤ a.room) (sym arena) kept.room;
-          bytes = subst (λ (a : ArenaState). promised * 64 ≤ a.bytes) (sym arena) kept.bytes;
+          bytes = subst (λ (a : ArenaState). promised * 256 ≤ a.bytes) (sym arena) kept.bytes;
         }
 
     -- a run that is handed in is promised room for its writes
@@ -235,7 +235,7 @@ module _ (block : Block) (n w : ℕ) (s : State) (h : Invariant block n s) (with
 
     -- a key that is moved takes its record of the room that was promised
     pub moved_kept : (i rest : ℕ) (key : List ℕ) (keys : List (List ℕ)) (new : Bool) (after : Table) → task_at s w ≡ Moving i (key ∷ keys) new → after.places ≡ table.places
-        → length after.arena.records + rest ≡ length table.arena.records + promised → rest + length (writes_at (call_at s i).last (key ∷ [])) ≡ promised → rest ≤ after.arena.room → rest * 64 ≤ after.arena.bytes
+        → length after.arena.records + rest ≡ length table.arena.records + promised → rest + length (writes_at (call_at s i).last (key ∷ [])) ≡ promised → rest ≤ after.arena.room → rest * 256 ≤ after.arena.bytes
         → KeepsPromises after rest (counted one_step w (moved w i key keys new s))
     moved_kept i rest key keys new after at places placed taken room bytes =
         let t = counted one_step w (moved w i key keys new s) in

@@ -68,14 +68,14 @@ pub record KeepsPromises (table : Table) (promised : ℕ) (s : State) : Type 0 w
   pub count : sum_by (λ task. length (unpublished s.calls task)) s.tasks ≡ promised
   pub limit : length table.arena.records + promised ≤ record_limit
   pub room : promised ≤ table.arena.room
-  pub bytes : promised * 64 ≤ table.arena.bytes
+  pub bytes : promised * 256 ≤ table.arena.bytes
 
 -- room is promised for the writes of a call's run, in addition to what was promised before
 pub record IsPromised (i : ℕ) (writes : WriteMap) (table : Table) (before after : ℕ) : Type 0 where
   pub count : after ≡ before + len writes
   pub places : AreOpen table.places i (entries writes)
   pub room : after ≤ table.arena.room
-  pub bytes : after * 64 ≤ table.arena.bytes
+  pub bytes : after * 256 ≤ table.arena.bytes
 
 -- the state that a table, a number of promised records and a schedule stand for
 abbrev pub state_in : Table → ℕ → Schedule → State

@@ -22,11 +22,11 @@ use Rattle.rv_ledger.specs.declared.end.End.TheVariants.{Returned, OutOfGas}
 use Rattle.rv_ledger.specs.declared.end.Trap.{Trap}
 use Rattle.rv_ledger.specs.declared.receipt.Receipt.{Receipt}
 use Rattle.rv_ledger.specs.declared.writes.Write.{Write}
-use Rattle.ecalls.specs.StorageCalls.{a1, a2, ecall_charge, request_of}
+use Rattle.ecalls.specs.StorageCalls.{a1, a2, ecall_charge, late_charge, request_of}
 use Rattle.ecalls.specs.declared.request_kind.Request.{Request}
 use Rattle.ecalls.specs.declared.request_kind.Request.TheVariants as request
 use Rattle.rv_step.specs.declared.machine.Machine.{Machine}
-use Rattle.rv_step.specs.Step.{StepResult, Next, Asks, Ends, instruction_result, answered, ecall_result, charged, compute_result, delivery_result, fetch_result, is_ecall, memory_result, decode_result, read_result, storage_call_result, step, load_result, write_result}
+use Rattle.rv_step.specs.Step.{StepResult, Next, Asks, Ends, instruction_result, answered, ecall_result, charged, compute_result, delivery_result, fetch_result, is_ecall, memory_result, decode_result, read_result, storage_call_result, step, load_result, value_result, write_result}
 use Rattle.rv_step.specs.Chain.{start, kept_writes, answered_by, settled, ran, ends}
 
 -- a machine's own writes are at most 256 keys
@@ -78,12 +78,15 @@ acted_few (Compute operation rd left right) s h = computes_few s (effect_of (Com
 acted_few (Fence rd source m) s h = computes_few s (effect_of (Fence rd source m) s.regs s.pc) h
 acted_few Ecall s h = computes_few s (effect_of Ecall s.regs s.pc) h
 
+charged_few : (cost : ℕ) (s : Machine) (act : Machine → StepResult) → HasFew s → ((t : Machine) → HasFew t → LeavesFew (act t)) → LeavesFew (charged cost s act)
+charged_few cost s act h k = cond_both (nat_le cost s.gas) _ _ (λ o. LeavesFew o) (λ _. k (record s { gas = s.gas - cost }) h) (λ _. unfold LeavesFew in h)
+
 delivered_few : (s : Machine) (content : Option (List ℕ)) → HasFew s → LeavesFew (delivery_result s content)
 unfolding delivery_result
 delivered_few s None h = unfold LeavesFew in h
 delivered_few s (Some value) h = cond_both (nat_lt (a2 s.regs) (length value)) _ _ (λ o. LeavesFew o)
     (λ _. unfold LeavesFew in h)
-    (λ _. leaves_few s (written s.regs 10 (length value)) (copied s.memory (a1 s.regs) value) h)
+    (λ _. charged_few (late_charge s.rules (length value)) s (λ t. value_result t value) h (λ t k. leaves_few t (written t.regs 10 (length value)) (copied t.memory (a1 t.regs) value) k))
 
 read_own_few : (s : Machine) (key : List ℕ) (content : Option (Option (List ℕ))) → HasFew s → LeavesFew (read_result s key content)
 read_own_few s key (Some content) h = delivered_few s content h
@@ -103,16 +106,13 @@ served_few s (Ok (request.Write write)) h = wrote_few s write h
 served_few s (Ok (request.Return out)) h = unfold LeavesFew in h
 served_few s (Ok (request.Revert out)) h = unfold LeavesFew in h
 
-charged_few : (cost : ℕ) (s : Machine) (act : Machine → StepResult) → HasFew s → ((t : Machine) → HasFew t → LeavesFew (act t)) → LeavesFew (charged cost s act)
-charged_few cost s act h k = cond_both (nat_le cost s.gas) _ _ (λ o. LeavesFew o) (λ _. k (record s { gas = s.gas - cost }) h) (λ _. unfold LeavesFew in h)
-
 called_few : (s : Machine) (r : Result ℕ Trap) → HasFew s → LeavesFew (ecall_result s r)
 called_few s (Err cause) h = unfold LeavesFew in h
-called_few s (Ok cost) h = charged_few cost s (λ t. storage_call_result t (request_of t.regs t.memory)) h (λ t k. served_few t (request_of t.regs t.memory) k)
+called_few s (Ok cost) h = charged_few cost s (λ t. storage_call_result t (request_of t.regs t.memory t.rules)) h (λ t k. served_few t (request_of t.regs t.memory t.rules) k)
 
 obeyed_few : (s : Machine) (o : Option Instr) → HasFew s → LeavesFew (decode_result s o)
 obeyed_few s None h = unfold LeavesFew in h
-obeyed_few s (Some i) h = cond_both (is_ecall i) _ _ (λ o. LeavesFew o) (λ _. called_few s (ecall_charge s.regs) h) (λ _. charged_few (cost_of i) s (λ t. instruction_result i t) h (λ t k. acted_few i t k))
+obeyed_few s (Some i) h = cond_both (is_ecall i) _ _ (λ o. LeavesFew o) (λ _. called_few s (ecall_charge s.regs s.rules) h) (λ _. charged_few (cost_of i) s (λ t. instruction_result i t) h (λ t k. acted_few i t k))
 
 fetched_few : (s : Machine) (r : Result ℕ Fault) → HasFew s → LeavesFew (fetch_result s r)
 fetched_few s (Ok word) h = obeyed_few s (decoded word) h

@@ -1,8 +1,8 @@
 -- What the chunks of a pool hold, and have room for, as one of them changes or one is added.
-use Rattle.std.proofs.Common.{◌≡◌, ℕ, zero, suc, ◌+◌, ◌-◌, ◌*◌, ◌/◌, ◌<◌, ◌≤◌, Bool, true, false, if◌then◌else◌, nat_le, max, List, [], ◌∷◌, ◌++◌, length, take, drop, map, get_or, set, refl, sym, ap, subst, ◌∙◌, arith}
-use Rattle.std.proofs.lemmas.Bool.{leb-true}
+use Rattle.std.proofs.Common.{◌≡◌, ℕ, zero, suc, ◌+◌, ◌-◌, ◌<◌, ◌≤◌, Bool, true, false, if◌then◌else◌, nat_lt, List, [], ◌∷◌, ◌++◌, length, take, drop, map, get_or, set, refl, sym, ap, subst, ◌∙◌, arith}
+use Rattle.std.proofs.lemmas.Bool.{ltb-false, ltb-true}
 use Rattle.std.proofs.lemmas.List.{append-nil, length-append, length-set}
-use Rattle.version_arena.specs.Chunks.{ChunkState, Grows, KeepsBytes, with_capacity, bytes_at, capacity_of, empty_chunk, spare, PoolState}
+use Rattle.version_arena.specs.Chunks.{ChunkState, KeepsBytes, bytes_at, capacity_of, empty_chunk, free, spare}
 
 abbrev emptied : ChunkState → ChunkState
 emptied c = empty_chunk c.size
@@ -31,7 +31,7 @@ set-front (suc i) (c ∷ cs) d y within e =
 pub capacity-front : (i : ℕ) (cs : List ChunkState) → capacity_of (front i cs) ≡ capacity_of cs
 capacity-front zero cs = refl
 capacity-front (suc i) [] = refl
-capacity-front (suc i) (c ∷ cs) = ap (λ k. c.size / 64 + k) (capacity-front i cs)
+capacity-front (suc i) (c ∷ cs) = ap (λ k. (c.size - 255) + k) (capacity-front i cs)
 
 -- one more chunk is rewound
 pub rewind_more : (i : ℕ) (cs ds : List ChunkState) (x y : ChunkState) → i < length ds → ds ≡ front i cs → x ≡ get_or ds i x → y ≡ emptied x → set ds i y ≡ front (i + 1) cs
@@ -45,31 +45,45 @@ capacity-append (c ∷ cs) ds = omega (arith, capacity-append cs ds)
 
 pub capacity-set : (cs : List ChunkState) (i : ℕ) (x y : ChunkState) → i < length cs → x ≡ get_or cs i x → y.size ≡ x.size → capacity_of (set cs i y) ≡ capacity_of cs
 capacity-set [] i x y within at e = refl
-capacity-set (c ∷ cs) zero x y within at e = ap (λ k. k / 64 + capacity_of cs) (e ∙ ap (λ (z : ChunkState). z.size) at)
-capacity-set (c ∷ cs) (suc i) x y within at e = let inside : i < length cs = omega (arith, within) in ap (λ k. c.size / 64 + k) (capacity-set cs i x y inside at e)
+capacity-set (c ∷ cs) zero x y within at e = ap (λ k. (k - 255) + capacity_of cs) (e ∙ ap (λ (z : ChunkState). z.size) at)
+capacity-set (c ∷ cs) (suc i) x y within at e = let inside : i < length cs = omega (arith, within) in ap (λ k. (c.size - 255) + k) (capacity-set cs i x y inside at e)
 
 pub capacity-rewound : (cs : List ChunkState) → capacity_of (map emptied cs) ≡ capacity_of cs
 capacity-rewound [] = refl
-capacity-rewound (c ∷ cs) = ap (λ k. c.size / 64 + k) (capacity-rewound cs)
+capacity-rewound (c ∷ cs) = ap (λ k. (c.size - 255) + k) (capacity-rewound cs)
 
 -- rewound chunks have room for all that they can hold
 pub spare-rewound : (cs : List ChunkState) → spare (map emptied cs) ≡ capacity_of cs
 spare-rewound [] = refl
 spare-rewound (c ∷ cs) =
     let none : List ℕ = [] in let all : c.size - length none ≡ c.size = omega arith in
-    ap (λ k. k / 64 + spare (map emptied cs)) all ∙ ap (λ k. c.size / 64 + k) (spare-rewound cs)
+    ap (λ k. (k - 255) + spare (map emptied cs)) all ∙ ap (λ k. (c.size - 255) + k) (spare-rewound cs)
 
 spare-append : (cs ds : List ChunkState) → spare (cs ++ ds) ≡ spare cs + spare ds
 spare-append [] ds = omega arith
 spare-append (c ∷ cs) ds = omega (arith, spare-append cs ds)
 
--- one more chunk adds as much room as it has
-pub spare-more : (cs : List ChunkState) (i n : ℕ) → i ≤ length cs → spare (drop i (cs ++ empty_chunk n ∷ [])) ≡ spare (drop i cs) + n / 64
+-- one more chunk adds as much room as it promises
+pub spare-more : (cs : List ChunkState) (i n : ℕ) → i ≤ length cs → spare (drop i (cs ++ empty_chunk n ∷ [])) ≡ spare (drop i cs) + (n - 255)
 spare-more cs zero n within =
     let none : List ℕ = [] in let all : n - length none ≡ n = omega arith in
-    spare-append cs (empty_chunk n ∷ []) ∙ ap (λ k. spare cs + (k / 64 + 0)) all ∙ ap (λ k. spare cs + k) {y = n / 64} (omega arith)
+    spare-append cs (empty_chunk n ∷ []) ∙ ap (λ k. spare cs + ((k - 255) + 0)) all ∙ ap (λ k. spare cs + k) {y = n - 255} (omega arith)
 spare-more [] (suc i) n within = absurd (omega (arith, within))
 spare-more (c ∷ cs) (suc i) n within = let inside : i ≤ length cs = omega (arith, within) in spare-more cs i n inside
+
+-- chunks have no more room than when they are empty
+pub spare-within : (cs : List ChunkState) (i : ℕ) → spare (drop i cs) ≤ capacity_of cs
+spare-within [] zero = omega arith
+spare-within [] (suc i) = omega arith
+spare-within (c ∷ cs) zero = omega (arith, spare-within cs zero)
+spare-within (c ∷ cs) (suc i) = omega (arith, spare-within cs i)
+
+-- n bytes in a chunk take no more than n bytes of room
+pub spare-set : (cs : List ChunkState) (i n : ℕ) (x y : ChunkState) → i < length cs → x ≡ get_or cs i x → y.size ≡ x.size → length y.bytes ≡ length x.bytes + n → spare (drop i cs) ≤ spare (drop i (set cs i y)) + n
+spare-set [] i n x y within at size long = absurd (omega (arith, within))
+spare-set (c ∷ cs) zero n x y within at size long =
+    omega (arith, size, long, ap (λ (z : ChunkState). z.size) at, ap (λ (z : ChunkState). length z.bytes) at)
+spare-set (c ∷ cs) (suc i) n x y within at size long = let inside : i < length cs = omega (arith, within) in spare-set cs i n x y inside at size long
 
 begins-set : (cs : List ChunkState) (i : ℕ) (x y : ChunkState) (more : List ℕ) → i < length cs → x ≡ get_or cs i x → y.bytes ≡ x.bytes ++ more → (j : ℕ) → (rest : List ℕ) × (bytes_at (set cs i y) j ≡ bytes_at cs j ++ rest)
 begins-set [] i x y more within at e j = absurd (omega (arith, within))
@@ -94,27 +108,3 @@ keeps-append cs n = (omega (arith, length-append cs (empty_chunk n ∷ [])), beg
 
 pub keeps-same : (cs : List ChunkState) → KeepsBytes cs cs
 keeps-same cs = (omega arith, λ j. ([], sym (append-nil (bytes_at cs j))))
-
-pub grows_same : (p q : PoolState) → q ≡ p → Grows p q
-grows_same p q e = subst (Grows p) (sym e) (keeps-same p.chunks, omega arith, refl)
-
-pub grows_more : (p q : PoolState) (n : ℕ) → p.current ≤ length p.chunks → q.chunks ≡ p.chunks ++ empty_chunk n ∷ [] → q.current ≡ p.current → Grows p q
-grows_more p q n within chunks current =
-    let one = empty_chunk n ∷ [] in
-    let more = capacity-append p.chunks one in (
-      subst (KeepsBytes p.chunks) (sym chunks) (keeps-append p.chunks n),
-      omega (arith, ap capacity_of chunks, more),
-      omega (arith, ap capacity_of chunks, more, ap (λ k. spare (drop k q.chunks)) current, ap (λ cs. spare (drop p.current cs)) chunks, spare-more p.chunks p.current n within),
-    )
-
-extended : (b : Bool) (n : ℕ) (p q : PoolState) → nat_le n (capacity_of p.chunks) ≡ b
-    → q ≡ (if b then p else record { chunks = p.chunks ++ empty_chunk (max ((n - capacity_of p.chunks) * 64) 65536) ∷ []; current = p.current }) → n ≤ capacity_of q.chunks
-extended true n p q enough e = omega (arith, leb-true n (capacity_of p.chunks) enough, ap (λ (r : PoolState). capacity_of r.chunks) e)
-extended false n p q enough e =
-    let size = max ((n - capacity_of p.chunks) * 64) 65536 in
-    let large : n - capacity_of p.chunks ≤ size / 64 = omega arith in
-    omega (arith, large, ap (λ (r : PoolState). capacity_of r.chunks) e, capacity-append p.chunks (empty_chunk size ∷ []))
-
--- the room that was asked for is there
-pub has_capacity : (n : ℕ) (p q : PoolState) → q ≡ with_capacity n p → n ≤ capacity_of q.chunks
-has_capacity n p q e = extended (nat_le n (capacity_of p.chunks)) n p q refl e

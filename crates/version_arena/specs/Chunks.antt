@@ -1,5 +1,5 @@
--- The chunks of a pool: which of their bytes are in use, and how many values they have room for.
-use Rattle.std.specs.Prelude.{◌≡◌, ℕ, ◌+◌, ◌-◌, ◌*◌, ◌/◌, ◌<◌, ◌≤◌, max, nat_le, if◌then◌else◌, List, [], ◌∷◌, ◌++◌, length, take, drop, get_or, map}
+-- The chunks of a pool: which of their bytes are in use, and for how many bytes of values they have room.
+use Rattle.std.specs.Prelude.{◌≡◌, ℕ, ◌+◌, ◌-◌, ◌<◌, ◌≤◌, max, nat_lt, if◌then◌else◌, List, [], ◌∷◌, ◌++◌, length, take, drop, get_or, map}
 use Rattle.version_arena.specs.declared.pool.Span.{Span}
 
 -- a chunk: its bytes in use, and its size in bytes
@@ -15,23 +15,21 @@ empty_chunk n = record { bytes = []; size = n }
 abbrev pub free : ChunkState → ℕ
 free c = c.size - length c.bytes
 
--- the number of values of 64 bytes that chunks have room for: when they are empty, and as they are
+-- the number of bytes that chunks promise to values of at most 256: when they are empty, and as they are. The last 255
+-- bytes of a chunk are left out, since they might be too few for one value
 abbrev pub capacity_of : List ChunkState → ℕ
 capacity_of [] = 0
-capacity_of (c ∷ cs) = c.size / 64 + capacity_of cs
+capacity_of (c ∷ cs) = (c.size - 255) + capacity_of cs
 
 abbrev pub spare : List ChunkState → ℕ
 spare [] = 0
-spare (c ∷ cs) = free c / 64 + spare cs
+spare (c ∷ cs) = (free c - 255) + spare cs
 
--- the chunks, and which of them is being filled
+-- the chunks, which of them is being filled, and for how many bytes of values there is room
 pub record PoolState : Type 0 where
   pub chunks : List ChunkState
   pub current : ℕ
-
--- the number of values of 64 bytes that there is still room for, from the current chunk on
-abbrev pub room : PoolState → ℕ
-room p = spare (drop p.current p.chunks)
+  pub room : ℕ
 
 -- the bytes in use of the i-th chunk
 abbrev pub bytes_at : List ChunkState → ℕ → List ℕ
@@ -48,17 +46,16 @@ LiesWithin cs s = (s.chunk < length cs) × (s.start + s.len ≤ length (bytes_at
 abbrev pub KeepsBytes : List ChunkState → List ChunkState → Type 0
 KeepsBytes cs ds = (length cs ≤ length ds) × ((i : ℕ) → (more : List ℕ) × (bytes_at ds i ≡ bytes_at cs i ++ more))
 
--- a pool keeps its bytes, and its room grows by as much as its capacity
-abbrev pub Grows : PoolState → PoolState → Type 0
-Grows p q = KeepsBytes p.chunks q.chunks × (capacity_of p.chunks ≤ capacity_of q.chunks) × (capacity_of q.chunks + room p ≡ capacity_of p.chunks + room q)
+-- the size of the chunk that a pool with this room needs to have room for more than n bytes, at least 65,536
+abbrev pub size_for : ℕ → ℕ → ℕ
+size_for n room = max (n - room + 256) 65536
 
--- a pool with room for n values in all: the same pool, or one with a further chunk, of the bytes that are missing but at
--- least 65,536
-abbrev pub with_capacity : ℕ → PoolState → PoolState
-with_capacity n p =
-    if nat_le n (capacity_of p.chunks) then p
-    else record { chunks = p.chunks ++ empty_chunk (max ((n - capacity_of p.chunks) * 64) 65536) ∷ []; current = p.current }
+-- a pool with room for more than n bytes: the same pool, or one with a further chunk
+abbrev pub with_room : ℕ → PoolState → PoolState
+with_room n p =
+    if nat_lt n p.room then p
+    else record { chunks = p.chunks ++ empty_chunk (size_for n p.room) ∷ []; current = p.current; room = p.room + (size_for n p.room - 255) }
 
 -- a pool with the same chunks, all of them empty; the first is filled next
 abbrev pub rewound : PoolState → PoolState
-rewound p = record { chunks = map (λ c. empty_chunk c.size) p.chunks; current = 0 }
+rewound p = record { chunks = map (λ c. empty_chunk c.size) p.chunks; current = 0; room = capacity_of p.chunks }

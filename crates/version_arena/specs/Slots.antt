@@ -10,9 +10,9 @@ use Rattle.version_arena.specs.declared.slot.Slot.{Slot}
 abbrev pub record_of : List ChunkState → Slot → Record
 record_of cs s = record { writer = s.writer; incarnation = s.incarnation; content = option_map (part cs) s.content }
 
--- a span within the chunks, of at most 64 bytes
+-- a span within the chunks, of at most 256 bytes
 abbrev pub IsShortSpan : List ChunkState → Span → Type 0
-IsShortSpan cs span = LiesWithin cs span × (span.len ≤ 64)
+IsShortSpan cs span = LiesWithin cs span × (span.len ≤ 256)
 
 -- the record of a place has such a span, if it has any
 abbrev pub IsStored : List ChunkState → Slot → Type 0

@@ -18,7 +18,7 @@ use std::marker::Model;
 pub const RECORD_LIMIT: usize = 1_048_576;
 
 /// The records of one block, in the order in which they were placed, at most 1,048,576; and room
-/// for more. Each place of a record comes with room for a value of 64 bytes.
+/// for more: for so many records, and for so many bytes of their values.
 #[derive(Drop)]
 pub struct Arena {
     slots: Vec<Slot>,
@@ -28,16 +28,15 @@ pub struct Arena {
 }
 
 impl Model for Arena {
-    ghost use Rattle.std.specs.Prelude.{◌≤◌, ◌-◌, ◌+◌, All, length, map, take};
+    ghost use Rattle.std.specs.Prelude.{◌<◌, ◌≤◌, ◌-◌, ◌+◌, All, length, map, take};
     ghost use Rattle.version_arena.specs.ArenaState.{ArenaState};
-    ghost use Rattle.version_arena.specs.Chunks.{capacity_of, room};
     ghost use Rattle.version_arena.specs.Slots.{IsStored, record_of};
 
     ghost Value = { ArenaState };
 
     ghost view = { λ a. record { records = map (record_of a.pool.chunks) (take a.len a.slots.items); room = length a.slots.items - a.len; bytes = a.bytes } };
 
-    ghost invariant = { λ a. (a.len ≤ length a.slots.items) × (length a.slots.items ≤ 1048576) × (length a.slots.items ≤ capacity_of a.pool.chunks) × (capacity_of a.pool.chunks ≤ a.len + room a.pool) × All (IsStored a.pool.chunks) (take a.len a.slots.items) };
+    ghost invariant = { λ a. (a.len ≤ length a.slots.items) × (length a.slots.items ≤ 1048576) × (1 ≤ length a.slots.items + a.bytes → a.bytes < a.pool.room) × All (IsStored a.pool.chunks) (take a.len a.slots.items) };
 }
 
 impl Arena {
@@ -55,8 +54,7 @@ impl Arena {
 
     /// Makes room for `records` more records, whose values together have at most `bytes` bytes.
     /// Refused as ArenaFull exactly where there would be more than 1,048,576 records, and as Memory
-    /// where memory ran out; a refusal changes nothing. The bytes take no memory of their own, since
-    /// each record comes with room for 64 of them.
+    /// where memory ran out; a refusal changes nothing. Room that is there already takes no memory.
     pub fn reserve(&mut self, records: usize, bytes: usize) -> Result<(), ReserveFault>
         ensures full { (result ≡ Err ArenaFull) ↔ (1048576 < length self.old.records + records) }
         ensures ok { OnOk result ((records ≤ self.new.room) × (bytes ≤ self.new.bytes)) }
@@ -64,15 +62,18 @@ impl Arena {
         ensures room { self.old.room ≤ self.new.room }
         ensures bytes { self.old.bytes ≤ self.new.bytes }
         ensures unchanged { OnErr result (self.new ≡ self.old) }
-        ensures succeeds { records ≤ self.old.room → result ≡ Ok tt }
+        ensures succeeds { records ≤ self.old.room → bytes ≤ self.old.bytes → result ≡ Ok tt }
     {
         if self.is_full_for(records) {
             return Err(ReserveFault::ArenaFull);
         }
-        let count = self.len + records;
-        self.pool.reserve(count)?;
-        grow(&mut self.slots, count)?;
-        self.bytes = self.bytes.max(bytes);
+        if records <= self.slots.len() - self.len && bytes <= self.bytes {
+            return Ok(());
+        }
+        let bytes = self.bytes.max(bytes);
+        self.pool.reserve(bytes)?;
+        grow(&mut self.slots, self.len + records)?;
+        self.bytes = bytes;
         Ok(())
     }
 
@@ -101,7 +102,7 @@ impl Arena {
     /// The record that has a name, or None where none has it.
     pub fn get(&self, id: VersionId) -> Option<Record<'_>>
         ensures record { option_map lent result ≡ slice_get self.now.records id }
-        ensures short { IfSome result (λ r. IfSome r.content (λ bytes. length bytes.now ≤ 64)) }
+        ensures short { IfSome result (λ r. IfSome r.content (λ bytes. length bytes.now ≤ 256)) }
     {
         if id.place >= self.len {
             return None;

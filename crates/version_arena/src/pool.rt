@@ -1,15 +1,20 @@
 //! A pool of chunks, which are filled one after another with the bytes of values.
 
 ghost use Rattle.std.specs.Prelude.{◌≡◌, ◌+◌, ◌<◌, ◌≤◌, OnErr, OnOk, Ok, [], drop, get_or, length, map};
-ghost use Rattle.version_arena.specs.Chunks.{Grows, KeepsBytes, LiesWithin, capacity_of, empty_chunk, free, part, rewound, room, spare, with_capacity};
+ghost use Rattle.version_arena.specs.Chunks.{KeepsBytes, LiesWithin, capacity_of, empty_chunk, free, part, rewound, spare, with_room};
 
 use crate::chunk::Chunk;
-use rv_ledger::inline_bytes::VALUE_LIMIT;
 use std::alloc::{AllocError, Global};
 use std::marker::Model;
 
 /// The least number of bytes of a chunk.
 pub(crate) const CHUNK_BYTES: usize = 65_536;
+
+/// The bytes at the end of a chunk that may be too few for a value.
+const TAIL_BYTES: usize = 255;
+
+/// The greatest number of bytes that room is made for at once. The machine's addresses have 48 bits.
+const REQUEST_LIMIT: usize = 281_474_976_710_656;
 
 /// Where bytes lie: the index of their chunk, the place of the first byte in it, and how many there are.
 #[derive(Clone, Copy)]
@@ -20,74 +25,86 @@ pub(crate) struct Span {
 }
 
 /// Chunks that are filled in order: those before the current one are not written again until `rewind`.
-/// `capacity` is the number of values of 64 bytes that they have room for when they are empty.
+/// There is room for `room` bytes of values, and for `capacity` when the chunks are empty.
 #[derive(Drop)]
 pub(crate) struct Pool {
     chunks: Vec<Chunk>,
     current: usize,
+    room: usize,
     capacity: usize,
     alloc: Global,
 }
 
 impl Model for Pool {
-    ghost use Rattle.std.specs.Prelude.{◌≡◌, ◌≤◌, length};
-    ghost use Rattle.version_arena.specs.Chunks.{PoolState, capacity_of};
+    ghost use Rattle.std.specs.Prelude.{◌≡◌, ◌≤◌, drop, length};
+    ghost use Rattle.version_arena.specs.Chunks.{PoolState, capacity_of, spare};
 
     ghost Value = { PoolState };
 
-    ghost view = { λ p. record { chunks = p.chunks.items; current = p.current } };
+    ghost view = { λ p. record { chunks = p.chunks.items; current = p.current; room = p.room } };
 
-    ghost invariant = { λ p. (p.capacity ≡ capacity_of p.chunks.items) × (p.current ≤ length p.chunks.items) };
+    ghost invariant = { λ p. (p.capacity ≡ capacity_of p.chunks.items) × (p.current ≤ length p.chunks.items) × (p.room ≤ spare (drop p.current p.chunks.items)) };
 }
 
 impl Pool {
     /// No chunks. Takes no memory.
     pub(crate) fn new(alloc: Global) -> Pool
-        ensures { result ≡ record { chunks = []; current = 0 } }
+        ensures { result ≡ record { chunks = []; current = 0; room = 0 } }
     {
         Pool {
             chunks: Vec::new(alloc),
             current: 0,
+            room: 0,
             capacity: 0,
             alloc,
         }
     }
 
-    /// Makes room for this many values of 64 bytes in all, at most 1,048,576, by adding at most one
-    /// chunk. Refused where memory ran out, and then nothing changes.
-    pub(crate) fn reserve(&mut self, values: usize) -> Result<(), AllocError>
-        requires { values ≤ 1048576 }
-        ensures ok { OnOk result (self.new ≡ with_capacity values self.old) }
-        ensures grows { Grows self.old self.new }
+    /// Makes room for more than this many bytes of values, by adding at most one chunk. Refused where
+    /// memory ran out or could not be there, and then nothing changes.
+    pub(crate) fn reserve(&mut self, bytes: usize) -> Result<(), AllocError>
+        ensures ok { OnOk result (self.new ≡ with_room bytes self.old) }
+        ensures enough { OnOk result (bytes < self.new.room) }
+        ensures room { self.old.room ≤ self.new.room }
+        ensures keeps { KeepsBytes self.old.chunks self.new.chunks }
         ensures unchanged { OnErr result (self.new ≡ self.old) }
-        ensures succeeds { values ≤ capacity_of self.old.chunks → result ≡ Ok tt }
+        ensures succeeds { bytes < self.old.room → result ≡ Ok tt }
     {
-        if values <= self.capacity {
+        if bytes < self.room {
             return Ok(());
         }
-        let size = ((values - self.capacity) * VALUE_LIMIT).max(CHUNK_BYTES);
+        let missing = bytes - self.room;
+        if missing > REQUEST_LIMIT {
+            return Err(AllocError);
+        }
+        let size = (missing + TAIL_BYTES + 1).max(CHUNK_BYTES);
+        let promise = size - TAIL_BYTES;
+        let Some(capacity) = self.capacity.checked_add(promise) else {
+            return Err(AllocError);
+        };
         self.chunks.reserve(1)?;
         let chunk = Chunk::new(self.alloc, size)?;
         self.chunks.push_reserved(chunk);
-        self.capacity += size / VALUE_LIMIT;
+        self.room += promise;
+        self.capacity = capacity;
         Ok(())
     }
 
-    /// Writes at most 64 bytes, in room that was reserved, and returns where they lie. Takes no memory.
+    /// Writes at most 256 bytes, fewer than there is room for, and returns where they lie. Takes no memory.
     pub(crate) fn write(&mut self, bytes: &[u8]) -> Span
-        requires short { length bytes.now ≤ 64 }
-        requires room { 1 ≤ room self.old }
+        requires short { length bytes.now ≤ 256 }
+        requires room { length bytes.now < self.old.room }
         ensures within { LiesWithin self.new.chunks result }
         ensures bytes { part self.new.chunks result ≡ bytes.now }
         ensures len { result.len ≡ length bytes.now }
         ensures keeps { KeepsBytes self.old.chunks self.new.chunks }
-        ensures capacity { capacity_of self.new.chunks ≡ capacity_of self.old.chunks }
-        ensures room { room self.old ≤ room self.new + 1 }
+        ensures room { self.new.room + length bytes.now ≡ self.old.room }
     {
         let chunk = find(&self.chunks, self.current, bytes.len());
         let start = self.chunks[chunk].used();
         self.chunks[chunk].append(bytes);
         self.current = chunk;
+        self.room -= bytes.len();
         Span {
             chunk,
             start,
@@ -105,16 +122,18 @@ impl Pool {
 
     /// Takes all bytes out of use, and keeps the chunks. Takes no memory.
     pub(crate) fn rewind(&mut self)
-        ensures { self.new ≡ rewound self.old }
+        ensures rewound { self.new ≡ rewound self.old }
+        ensures room { self.old.room ≤ self.new.room }
     {
         rewind_all(&mut self.chunks);
         self.current = 0;
+        self.room = self.capacity;
     }
 }
 
 /// The first chunk, from the one of index `from` on, that has room for `len` bytes.
 fn find(chunks: &Vec<Chunk>, from: usize, len: usize) -> usize
-    requires { (len ≤ 64) × (1 ≤ spare (drop from chunks.now.items)) }
+    requires { (len ≤ 256) × (1 ≤ spare (drop from chunks.now.items)) }
     ensures within { result < length chunks.now.items }
     ensures free { len ≤ free (get_or chunks.now.items result (empty_chunk 0)) }
     ensures room { spare (drop result chunks.now.items) ≡ spare (drop from chunks.now.items) }

@@ -10,7 +10,7 @@ use Rattle.block_file.proofs.block.body_of.Goals.{then-index-parts+else-not-is_e
 
 pub loop-index-preserved : goal.loop-index-preserved
 loop-index-preserved c =
-    let left = λ (reader : Reader). read_parts with_line BadLine (c.loop-index.index + 1 + 2) (parsed reader) (drop (c.loop-index.index + 1) (texts c.args.parts.now)) in
+    let left = λ (reader : Reader). read_parts with_line BadLine (c.loop-index.index + 1 + c.args.first) (parsed reader) (drop (c.loop-index.index + 1) (texts c.args.parts.now)) in
     elim c.if-index-parts.branch [
       | then-index-parts+else-not-is_empty w ↦ ap left w.reader-is
           ∙ ended with_line BadLine _ _ _ _ _ _ _ w.if-index-parts.true w.if-not-is_empty.ensures c.loop-index.invariant

@@ -8,4 +8,4 @@ use Rattle.block_file.proofs.block.body_of.Given as goal
 
 -- what is left to read, behind what was seen so far, gives what all gives
 abbrev pub invariant-loop-index : goal.invariant-loop-index
-invariant-loop-index l = read_parts with_line BadLine (l.index + 2) (parsed l.reader) (drop l.index (texts l.parts)) ≡ body_of (texts l.parts)
+invariant-loop-index l = read_parts with_line BadLine (l.index + l.first) (parsed l.reader) (drop l.index (texts l.parts)) ≡ body_of l.first l.fn.rules (texts l.parts)

@@ -1,4 +1,5 @@
 use Rattle.block_file.specs.Block.{block_of, block_value}
+use Rattle.block_file.specs.Migrate.{migrated}
 use Rattle.block_file.specs.Schedule.{schedule_of}
 use Rattle.block_file.proofs.OneReading.{one_reading}
 use Rattle.block_file.proofs.laws.one_reading.Goals as goal
@@ -7,4 +8,5 @@ pub returns : goal.returns
 returns c = record {
   block = λ bytes first second. one_reading block_value first second (block_of bytes);
   schedule = λ bytes first second. one_reading (λ entries. entries.items) first second (schedule_of bytes);
+  migration = λ bytes first second. one_reading (λ text. text.items) first second (migrated bytes);
 }

@@ -10,5 +10,5 @@ invariant-loop-line l = record {
   yielded : l.yielded ++ into_iter_items l.line-iterator ≡ l.fn.lines.items;
   left : into_iter_len l.line-iterator ≡ length (into_iter_items l.line-iterator);
   made : vec_len l.calls ≡ length l.yielded;
-  calls : l.calls.items ≡ map (call_over (map arc_value l.images)) (map call_value l.yielded);
+  calls : l.calls.items ≡ map (call_over l.fn.rules (map arc_value l.images)) (map call_value l.yielded);
 }

@@ -7,7 +7,7 @@ use Rattle.block_file.proofs.Blocks.{from_first}
 use Rattle.engines.specs.declared.fault.FileFault.TheVariants.{Unreadable}
 use Rattle.engines.specs.declared.fault.Refusal.{Refusal}
 use Rattle.engines.specs.declared.fault.Refusal.TheVariants.{Block, File}
-use Rattle.engines.specs.Parts.{IsBlockFault}
+use Rattle.engines.specs.Engine.{IsBlockFault}
 use Rattle.engines.proofs.loading.read_block.Goals as goal
 
 -- no fault of a block file is before line 1

@@ -1,9 +1,12 @@
 use Rattle.round_trips.proofs.Between.{read_in_blocks}
-use Rattle.round_trips.proofs.Chains.{read_back}
+use Rattle.round_trips.proofs.Chains.{allowed, read_back}
 use Rattle.round_trips.proofs.storage.storage_is_read_back_of.Goals as goal
 
 pub returns : goal.returns
-returns c = record {
-  alone = read_back c.args.store.now c.are_entries.ensures;
-  between = read_in_blocks c.args.store.now c.are_entries.ensures;
-}
+returns c =
+    let store = c.args.store.now in
+    record {
+      short = λ k d b. (c.are_entries.ensures k d b).value_length;
+      alone = λ rules short. read_back rules store (allowed rules store c.are_entries.ensures short);
+      between = λ rules short. read_in_blocks rules store (allowed rules store c.are_entries.ensures short);
+    }

@@ -17,14 +17,18 @@ invariant_of-self c =
     let long = length-set slots len slot in
     let stored : All (IsStored ds) (take (len + 1) (set slots len slot)) =
     All-same (IsStored ds) (take (len + 1) (set slots len slot)) (take len slots ++ slot ∷ []) (take_more_set slots len slot (there c))
-    (All-push (IsStored ds) (take len slots) slot (all_stored cs ds c.of.ensures.keeps (take len slots) before.4) c.of.ensures.stored) in
-    (omega (arith, long, there c), omega (arith, long, before.1), omega (arith, long, before.2, c.of.ensures.capacity), omega (arith, before.3, c.of.ensures.capacity, c.of.ensures.room), stored)
+    (All-push (IsStored ds) (take len slots) slot (all_stored cs ds c.of.ensures.keeps (take len slots) before.3) c.of.ensures.stored) in (
+      omega (arith, long, there c),
+      omega (arith, long, before.1),
+      λ h. omega (arith, before.2 (omega (arith, there c)), c.of.ensures.room, c.len_of.ensures, c.requires.bytes, ap (λ (a : ArenaState). a.bytes) c.self.view_is),
+      stored,
+    )
 
 pub returns-clause-placed : goal.returns-clause-placed
 returns-clause-placed c =
     let slots = c.self.inside.slots.items in let len = c.self.inside.len in let slot = c.of.result in
     let cs = c.self.inside.pool.chunks in let ds = c.of.new.pool.chunks in
     let records = ap (map (record_of ds)) (take_more_set slots len slot (there c)) ∙ map_push (record_of ds) (take len slots) slot
-    ∙ ap (λ rs. rs ++ record_of ds slot ∷ []) (records_same cs ds c.of.ensures.keeps (take len slots) c.self.invariant.4 ∙ ap (λ (a : ArenaState). a.records) c.self.view_is)
+    ∙ ap (λ rs. rs ++ record_of ds slot ∷ []) (records_same cs ds c.of.ensures.keeps (take len slots) c.self.invariant.3 ∙ ap (λ (a : ArenaState). a.records) c.self.view_is)
     ∙ ap (λ r. c.args.self.now.records ++ r ∷ []) c.of.ensures.record in
     state_is _ _ records (omega (arith, length-set slots len slot, ap (λ (a : ArenaState). a.room) c.self.view_is)) (omega (arith, c.len_of.ensures, ap (λ (a : ArenaState). a.bytes) c.self.view_is))

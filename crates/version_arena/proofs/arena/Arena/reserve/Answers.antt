@@ -4,27 +4,24 @@ use Rattle.std.proofs.lemmas.List.{length-map, length-take, take-take}
 use Rattle.std.proofs.lemmas.List.Elements.{All-same}
 use Rattle.version_arena.specs.ArenaState.{ArenaState}
 use Rattle.version_arena.specs.Slots.{IsStored, record_of}
-use Rattle.version_arena.specs.Chunks.{capacity_of}
-use Rattle.version_arena.proofs.Chunks.{has_capacity}
 use Rattle.version_arena.proofs.Slots.{all_stored, records_same, on_err, state_is}
 use Rattle.version_arena.proofs.arena.Arena.reserve.Goals as goal
 
 pub invariant_of-self-in_err-grow : goal.invariant_of-self-in_err-grow
 invariant_of-self-in_err-grow c =
     let before = c.self.invariant in let slots = c.self.inside.slots.items in let len = c.self.inside.len in let after = c.grow.new.slots.items in
-    let cs = c.self.inside.pool.chunks in let ds = c.reserve.new.self.chunks in let grows = c.reserve.ensures.grows in
+    let cs = c.self.inside.pool.chunks in let ds = c.reserve.new.self.chunks in let keeps = c.reserve.ensures.keeps in
     let same = c.in_err-grow.ensures.unchanged in let long = ap length same in (
       omega (arith, before.0, long),
       omega (arith, before.1, long),
-      omega (arith, before.2, long, grows.1),
-      omega (arith, before.3, grows.2),
-      All-same (IsStored ds) (take len after) (take len slots) (ap (take len) same) (all_stored cs ds grows.0 (take len slots) before.4),
+      λ h. omega (arith, before.2 (omega (arith, h, long)), c.reserve.ensures.room),
+      All-same (IsStored ds) (take len after) (take len slots) (ap (take len) same) (all_stored cs ds keeps (take len slots) before.3),
     )
 
 pub returns-in_err-grow-clause-records : goal.returns-in_err-grow-clause-records
 returns-in_err-grow-clause-records c =
     let slots = c.self.inside.slots.items in let len = c.self.inside.len in let cs = c.self.inside.pool.chunks in let ds = c.reserve.new.self.chunks in
-    ap (λ ss. map (record_of ds) (take len ss)) c.in_err-grow.ensures.unchanged ∙ records_same cs ds c.reserve.ensures.grows.0 (take len slots) c.self.invariant.4 ∙ ap (λ (a : ArenaState). a.records) c.self.view_is
+    ap (λ ss. map (record_of ds) (take len ss)) c.in_err-grow.ensures.unchanged ∙ records_same cs ds c.reserve.ensures.keeps (take len slots) c.self.invariant.3 ∙ ap (λ (a : ArenaState). a.records) c.self.view_is
 
 pub returns-in_err-grow-clause-unchanged : goal.returns-in_err-grow-clause-unchanged
 returns-in_err-grow-clause-unchanged c =
@@ -40,9 +37,8 @@ front c =
 pub invariant_of-self-2 : goal.invariant_of-self-2
 invariant_of-self-2 c =
     let before = c.self.invariant in let slots = c.self.inside.slots.items in let len = c.self.inside.len in let after = c.grow.new.slots.items in
-    let cs = c.self.inside.pool.chunks in let ds = c.reserve.new.self.chunks in let grows = c.reserve.ensures.grows in
+    let cs = c.self.inside.pool.chunks in let ds = c.reserve.new.self.chunks in let keeps = c.reserve.ensures.keeps in
     let long = c.in_ok-grow.ensures.ok in let count = len + c.args.records in
-    let enough : count ≤ capacity_of ds = has_capacity count c.self.inside.pool c.reserve.new.self c.in_ok-reserve.ensures.ok in
     let limit : count ≤ 1048576 =
     let records = c.args.self.now.records in
     omega (
@@ -55,12 +51,11 @@ invariant_of-self-2 c =
     ) in (
       omega (arith, before.0, long),
       omega (arith, before.1, long, limit),
-      omega (arith, before.2, long, grows.1, enough),
-      omega (arith, before.3, grows.2),
-      All-same (IsStored ds) (take len after) (take len slots) (front c) (all_stored cs ds grows.0 (take len slots) before.4),
+      λ h. omega (arith, c.in_ok-reserve.ensures.enough),
+      All-same (IsStored ds) (take len after) (take len slots) (front c) (all_stored cs ds keeps (take len slots) before.3),
     )
 
 pub returns-clause-records : goal.returns-clause-records
 returns-clause-records c =
     let slots = c.self.inside.slots.items in let len = c.self.inside.len in let cs = c.self.inside.pool.chunks in let ds = c.reserve.new.self.chunks in
-    ap (map (record_of ds)) (front c) ∙ records_same cs ds c.reserve.ensures.grows.0 (take len slots) c.self.invariant.4 ∙ ap (λ (a : ArenaState). a.records) c.self.view_is
+    ap (map (record_of ds)) (front c) ∙ records_same cs ds c.reserve.ensures.keeps (take len slots) c.self.invariant.3 ∙ ap (λ (a : ArenaState). a.records) c.self.view_is
