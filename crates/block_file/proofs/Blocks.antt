@@ -1,13 +1,15 @@
 -- No fault of a block file is before line 1.
-use Rattle.std.proofs.Common.{◌≤◌, ◌==◌, ◌+◌, Bool, true, false, ℕ, List, [], ◌∷◌, length, Option, Some, None, Result, Ok, Err, IfErr, lit≤, arith, if◌then◌else◌}
+use Rattle.std.proofs.Common.{◌≡◌, ap, ◌≤◌, ◌==◌, ◌+◌, Bool, true, false, ℕ, List, [], ◌∷◌, length, Option, Some, None, Result, Ok, Err, IfErr, lit≤, arith, if◌then◌else◌}
 use Rattle.std.specs.Prelude.{codes}
 use Rattle.std.specs.Option.{ok_or}
 use Rattle.std.specs.Result.{result_map_both}
 use Rattle.std.specs.Str.{bytes_eq}
+use Rattle.std.proofs.lemmas.Bool.{ne_eqb}
+use Rattle.std.proofs.lemmas.List.Splits.{length-slice_split}
 use Rattle.rv_ledger.specs.declared.rules.Rules.{Rules}
 use Rattle.block_file.specs.declared.fault.Cause.TheVariants.{BadHeader, BadLine}
 use Rattle.block_file.specs.declared.fault.BlockFault.{BlockFault}
-use Rattle.block_file.specs.Line.{on_line}
+use Rattle.block_file.specs.Line.{cut, on_line}
 use Rattle.block_file.specs.Block.{Parsed, BlockValue, start, with_line, body_of, behind, rules_of, first_format, second_format, block_of_parts}
 use Rattle.block_file.proofs.Lines.{later}
 
@@ -42,3 +44,9 @@ from_first [] = lit≤ tt
 from_first (header ∷ rest) =
     from_format (bytes_eq header (codes "rvblock 1")) (bytes_eq header (codes "rvblock 2")) (first_format rest) (second_format rest)
     (from_behind 1 _ rest (lit≤ tt)) (from_second rest)
+
+-- a text has a line
+pub behind_some : (n : ℕ) (rules : Rules) (text : List ℕ) → behind n rules (cut 10 text) ≡ result_map_both (λ s. s.block) (λ fault. fault) (body_of (n + 1) rules (cut 10 text))
+behind_some n rules text =
+    let some : (length (cut 10 text) == 0) ≡ false = ne_eqb _ _ (λ (none : length (cut 10 text) ≡ 0). omega (arith, length-slice_split (λ b. b == 10) text)) in
+    ap (λ none. if none then Err (record { line = n; cause = BadLine }) else result_map_both (λ s. s.block) (λ fault. fault) (body_of (n + 1) rules (cut 10 text))) some

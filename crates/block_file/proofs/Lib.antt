@@ -1,4 +1,7 @@
+pub mod Cuts
 pub mod FieldLemmas
+pub mod HexText
+pub mod Places
 pub mod Lines
 pub mod Blocks
 pub mod Migrations

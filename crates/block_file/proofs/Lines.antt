@@ -46,6 +46,23 @@ read_from {S} read unended n m s t (line ∷ next ∷ more) h = by (read s line)
     by (Ok u) again h = again u h
     by (Err cause) again h = cc
 
+-- a line is taken, where wanted is what all parts give
+pub read_on : {S : Type 0} (read : S → List ℕ → Result S Cause) (unended : Cause) (n : ℕ) (s t : S) (parts : List (List ℕ)) (line : List ℕ) (rest : List (List ℕ)) (wanted : Result S BlockFault)
+    → parts ≡ line ∷ rest → 0 < length rest → read s line ≡ Ok t
+    → read_parts read unended n s parts ≡ wanted → read_parts read unended (n + 1) t rest ≡ wanted
+read_on read unended n s t parts line rest wanted cut more e h =
+    sym (goes_on read unended n s t line rest more e) ∙ ap (read_parts read unended n s) (sym cut) ∙ h
+
+-- a line is refused
+pub refused_on : {S : Type 0} (read : S → List ℕ → Result S Cause) (unended : Cause) (n : ℕ) (s : S) (cause : Cause) (parts : List (List ℕ)) (line : List ℕ) (rest : List (List ℕ)) (wanted : Result S BlockFault)
+    → parts ≡ line ∷ rest → 0 < length rest → (cause ≡ Memory) ⊎ (read s line ≡ Err cause)
+    → read_parts read unended n s parts ≡ wanted
+    → (wanted ≡ Err (record { line = n; cause = cause })) ⊎ ((cause ≡ Memory) × IfErr wanted (λ first. n ≤ first.line))
+refused_on read unended n s cause parts line rest wanted cut more (inl memory) h =
+    inr (memory, subst (λ r. IfErr r (λ first. n ≤ first.line)) h (later read unended n s parts))
+refused_on read unended n s cause parts line rest wanted cut more (inr e) h =
+    inl (sym h ∙ ap (read_parts read unended n s) cut ∙ stops read unended n s cause line rest more e)
+
 -- the part at an index, and the parts behind it
 drop-texts : (parts : List (Bor (List ℕ))) (i : ℕ) (d : Bor (List ℕ)) → i < length parts → drop i (texts parts) ≡ (get_or parts i d).now ∷ drop (i + 1) (texts parts)
 drop-texts parts i d h =
@@ -63,8 +80,7 @@ pub taken : {S : Type 0} (read : S → List ℕ → Result S Cause) (unended : C
 taken read unended n m s t parts i d wanted next lt more e h =
     let behind : 0 < length (drop (i + 1) (texts parts)) = omega (arith, length-rest parts (i + 1)) in
     ap (λ k. read_parts read unended k t (drop (i + 1) (texts parts))) next
-    ∙ sym (goes_on read unended n s t (get_or parts i d).now (drop (i + 1) (texts parts)) behind e)
-    ∙ ap (read_parts read unended n s) (sym (drop-texts parts i d lt)) ∙ h
+    ∙ read_on read unended n s t (drop i (texts parts)) (get_or parts i d).now (drop (i + 1) (texts parts)) wanted (drop-texts parts i d lt) behind e h
 
 pub ended : {S : Type 0} (read : S → List ℕ → Result S Cause) (unended : Cause) (n m : ℕ) (s : S) (parts : List (Bor (List ℕ))) (i : ℕ) (d : Bor (List ℕ)) (wanted : Result S BlockFault)
     → i + 1 ≡ length parts → true ≡ (length (get_or parts i d).now == 0)
@@ -81,8 +97,6 @@ pub refused : {S : Type 0} (read : S → List ℕ → Result S Cause) (unended :
     → i < length parts → i + 1 ≢ length parts → (cause ≡ Memory) ⊎ (read s (get_or parts i d).now ≡ Err cause)
     → read_parts read unended n s (drop i (texts parts)) ≡ wanted
     → (wanted ≡ Err (record { line = n; cause = cause })) ⊎ ((cause ≡ Memory) × IfErr wanted (λ first. n ≤ first.line))
-refused read unended n s cause parts i d wanted lt more (inl memory) h =
-    inr (memory, subst (λ r. IfErr r (λ first. n ≤ first.line)) h (later read unended n s (drop i (texts parts))))
-refused read unended n s cause parts i d wanted lt more (inr e) h =
+refused read unended n s cause parts i d wanted lt more e h =
     let behind : 0 < length (drop (i + 1) (texts parts)) = omega (arith, length-rest parts (i + 1)) in
-    inl (sym h ∙ ap (read_parts read unended n s) (drop-texts parts i d lt) ∙ stops read unended n s cause (get_or parts i d).now (drop (i + 1) (texts parts)) behind e)
+    refused_on read unended n s cause (drop i (texts parts)) (get_or parts i d).now (drop (i + 1) (texts parts)) wanted (drop-texts parts i d lt) behind e h

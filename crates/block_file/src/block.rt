@@ -1,8 +1,11 @@
 //! Block files.
 
-ghost use Rattle.std.specs.Prelude.{◌≡◌, ◌≤◌, map};
+ghost use Rattle.std.specs.Prelude.{◌≡◌, ◌≤◌, ◌∷◌, []};
+ghost use Rattle.std.specs.Option.{option_map_or};
+ghost use Rattle.std.specs.Result.{result_map_both};
 ghost use Rattle.block_file.specs.Answer.{Reads};
-ghost use Rattle.block_file.specs.Block.{block_value, behind, block_of, block_of_parts, body_of, rules_of, second_format};
+ghost use Rattle.block_file.specs.Block.{block_value, behind, block_of, body_of, rules_of, second_format};
+ghost use Rattle.block_file.specs.Line.{cut};
 ghost use Rattle.block_file.specs.Reader.{parsed};
 
 use crate::block_text::BlockText;
@@ -17,40 +20,37 @@ use std::alloc::Global;
 pub fn parse(alloc: Global, bytes: &[u8]) -> Result<BlockText, BlockFault>
     ensures { Reads block_value result (block_of bytes.now) }
 {
-    match fields::parts(alloc, bytes, b'\n') {
-        Ok(parts) => block_of(alloc, parts.as_slice()),
-        Err(_) => Err(fault(1, Cause::Memory)),
+    let (header, body) = first_line(bytes);
+    if header == b"rvblock 1".as_slice() {
+        return behind(alloc, 1, Rules::One, body);
+    }
+    if header == b"rvblock 2".as_slice() {
+        return second_format(alloc, body);
+    }
+    Err(fault(1, Cause::BadHeader))
+}
+
+/// The first line without its line feed, and what is behind it. None where it has no line feed.
+fn first_line(text: &[u8]) -> (&[u8], Option<&[u8]>)
+    ensures { cut 10 text.now ≡ result.0.now ∷ option_map_or (λ rest. cut 10 rest.now) result.1 [] }
+{
+    match fields::cut_once(text, b'\n') {
+        Some((line, rest)) => (line, Some(rest)),
+        None => (text, None),
     }
 }
 
-/// What the parts between the line feeds say.
-fn block_of(alloc: Global, parts: &[&[u8]]) -> Result<BlockText, BlockFault>
-    ensures { Reads block_value result (block_of_parts (map (λ part. part.now) parts.now)) }
+/// What a text says behind the line `rvblock 2`.
+fn second_format(alloc: Global, text: Option<&[u8]>) -> Result<BlockText, BlockFault>
+    ensures { Reads block_value result (second_format (option_map_or (λ rest. cut 10 rest.now) text.entry [])) }
 {
-    match parts {
-        [header, rest @ ..] => {
-            if *header == b"rvblock 1".as_slice() {
-                return behind(alloc, 1, Rules::One, rest);
-            }
-            if *header == b"rvblock 2".as_slice() {
-                return second_format(alloc, rest);
-            }
-            Err(fault(1, Cause::BadHeader))
-        }
-        [] => Err(fault(1, Cause::BadHeader)),
-    }
-}
-
-/// What the parts behind the line `rvblock 2` say.
-fn second_format(alloc: Global, parts: &[&[u8]]) -> Result<BlockText, BlockFault>
-    ensures { Reads block_value result (second_format (map (λ part. part.now) parts.now)) }
-{
-    match parts {
-        [line, rest @ ..] => match rules_of(line) {
-            Some(rules) => behind(alloc, 2, rules, rest),
-            None => Err(fault(2, Cause::BadLine)),
-        },
-        [] => Err(fault(1, Cause::BadLine)),
+    let Some(text) = text else {
+        return Err(fault(1, Cause::BadLine));
+    };
+    let (line, body) = first_line(text);
+    match rules_of(line) {
+        Some(rules) => behind(alloc, 2, rules, body),
+        None => Err(fault(2, Cause::BadLine)),
     }
 }
 
@@ -67,37 +67,47 @@ fn rules_of(line: &[u8]) -> Option<Rules>
     None
 }
 
-/// What the parts behind a line say; that line, 1 or 2, is the last one before the body.
+/// What a text says behind a line, 1 or 2, which is the last one before the body.
 fn behind(
     alloc: Global,
     line: usize,
     rules: Rules,
-    parts: &[&[u8]],
+    text: Option<&[u8]>,
 ) -> Result<BlockText, BlockFault>
     requires { line ≤ 2 }
-    ensures { Reads block_value result (behind line rules (map (λ part. part.now) parts.now)) }
+    ensures { Reads block_value result (behind line rules (option_map_or (λ rest. cut 10 rest.now) text.entry [])) }
 {
-    if parts.is_empty() {
-        return Err(fault(line, Cause::BadLine));
+    match text {
+        Some(text) => body(alloc, line + 1, rules, text),
+        None => Err(fault(line, Cause::BadLine)),
     }
-    Ok(body_of(alloc, line + 1, rules, parts)?.text)
 }
 
-/// What the lines from line `first` on say.
-fn body_of(alloc: Global, first: usize, rules: Rules, parts: &[&[u8]]) -> Result<Reader, BlockFault>
+/// What a body says, the first line of which is line `first`.
+fn body(alloc: Global, first: usize, rules: Rules, text: &[u8]) -> Result<BlockText, BlockFault>
     requires { first ≤ 3 }
-    ensures { Reads parsed result (body_of first rules (map (λ part. part.now) parts.now)) }
+    ensures { Reads block_value result (result_map_both (λ s. s.block) (λ fault. fault) (body_of first rules (cut 10 text.now))) }
+{
+    Ok(body_of(alloc, first, rules, text)?.text)
+}
+
+/// What the lines of a text say, the first of which is line `first`.
+fn body_of(alloc: Global, first: usize, rules: Rules, text: &[u8]) -> Result<Reader, BlockFault>
+    requires { first ≤ 3 }
+    ensures { Reads parsed result (body_of first rules (cut 10 text.now)) }
 {
     let mut reader = Reader::new(alloc, rules);
-    for (index, part) in parts.iter().enumerate() {
-        let line = index + first;
-        if index + 1 == parts.len() {
-            if !part.is_empty() {
-                return Err(fault(line, Cause::BadLine));
-            }
-        } else if let Err(cause) = reader.read(alloc, part) {
+    let mut line = first;
+    let mut rest = text;
+    'lines: while let Some((part, behind)) = fields::cut_once(rest, b'\n') {
+        if let Err(cause) = reader.read(alloc, part) {
             return Err(fault(line, cause));
         }
+        line += 1;
+        rest = behind;
+    }
+    if !rest.is_empty() {
+        return Err(fault(line, Cause::BadLine));
     }
     Ok(reader)
 }

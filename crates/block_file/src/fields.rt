@@ -1,15 +1,17 @@
 //! The fields of a line.
 
-ghost use Rattle.std.specs.Prelude.{◌≡◌, ◌<◌, ◌≤◌, length, map, IfOk, IsTrue};
+ghost use Rattle.std.specs.Prelude.{◌≡◌, ◌<◌, ◌≤◌, ◌%◌, [], ◌∷◌, length, map, nat_lt, Some, None, IfOk, IfSome, MatchOption, if◌then◌else◌};
+ghost use Rattle.std.specs.Result.{result_map_both};
 ghost use Rattle.std.specs.String.{string_bytes};
 ghost use Rattle.std.specs.List.{list_all};
-ghost use Rattle.block_file.specs.Line.{cut, sum_of_digits, decimal_of, bytes_of, key_of, path_of, is_path_byte, is_lower_digit};
+ghost use Rattle.block_file.specs.Line.{cut, sum_of_digits, decimal_of, bytes_of, hex_of, key_of, path_of, is_path_byte, is_lower_digit};
 ghost use Rattle.std.specs.Char.{is_ascii_digit};
 ghost use Rattle.block_file.specs.Answer.{Gives};
 
 use crate::fault::Cause;
-use hex::FromHexError;
-use rv_ledger::Key;
+use crate::hex_text;
+use crate::scan::place_of;
+use rv_ledger::{Key, VALUE_LIMIT, Value};
 use std::alloc::{AllocError, Global};
 use std::str;
 
@@ -23,24 +25,16 @@ pub fn parts(alloc: Global, text: &[u8], byte: u8) -> Result<Vec<&[u8]>, AllocEr
     text.split(|b| *b == byte).collect(alloc)
 }
 
-/// Whether each byte is a decimal digit.
-fn are_digits(text: &[u8]) -> bool
-    ensures { result ≡ list_all is_ascii_digit text.now }
+/// What a text has before the first occurrence of a byte, and what it has behind it. None where the
+/// byte does not occur.
+pub fn cut_once(text: &[u8], byte: u8) -> Option<(&[u8], &[u8])>
+    ensures parts { MatchOption result (cut byte text.now ≡ text.now ∷ []) (λ parts. cut byte text.now ≡ parts.0.now ∷ cut byte parts.1.now) }
+    ensures shorter { IfSome result (λ parts. length parts.1.now < length text.now) }
 {
-    text.iter().all(|byte| byte.is_ascii_digit())
-}
-
-/// The number that 1 to 10 digits write.
-fn number(digits: &[u8]) -> Option<u64>
-    requires digits { IsTrue (list_all is_ascii_digit digits.now) }
-    requires some { 0 < length digits.now }
-    requires short { length digits.now ≤ 10 }
-    ensures { result ≡ Some (sum_of_digits digits.now) }
-{
-    let Ok(text) = str::from_utf8(digits) else {
-        return None;
-    };
-    text.parse().ok()
+    match place_of(text, byte) {
+        Some(place) => Some((&text[..place], &text[place + 1..])),
+        None => None,
+    }
 }
 
 /// The number of a decimal: 1 to 10 digits without a leading zero. None for any other text.
@@ -50,10 +44,22 @@ pub fn decimal(text: &[u8]) -> Option<u64>
     if text.is_empty() || text.len() > DIGITS || (text.len() > 1 && text[0] == b'0') {
         return None;
     }
-    if !are_digits(text) {
-        return None;
-    }
     number(text)
+}
+
+/// The number that at most 10 digits write, None where a byte is no digit.
+fn number(text: &[u8]) -> Option<u64>
+    requires { length text.now ≤ 10 }
+    ensures { result ≡ (if list_all is_ascii_digit text.now then Some (sum_of_digits text.now) else None) }
+{
+    let mut number = 0;
+    for byte in text {
+        if !byte.is_ascii_digit() {
+            return None;
+        }
+        number = number * 10 + u64::from(*byte - b'0');
+    }
+    Some(number)
 }
 
 /// Whether each byte may stand in a path.
@@ -91,14 +97,49 @@ pub fn hex_bytes(alloc: Global, text: &[u8]) -> Result<Vec<u8>, Cause>
     if text == b"-".as_slice() {
         return Ok(Vec::new(alloc));
     }
+    if text.len() % 2 != 0 {
+        return Err(Cause::BadHex);
+    }
+    let mut bytes = vec![in alloc; 0; text.len() / 2]?;
+    if !hex_text::decode(text, bytes.as_mut_slice()) {
+        return Err(Cause::BadHex);
+    }
+    Ok(bytes)
+}
+
+/// The value that a text gives in lower-case hex; `-` gives the empty one, and None stands for more
+/// than 256 bytes. Else BadHex.
+pub fn value(text: &[u8]) -> Result<Option<Value>, Cause>
+    ensures { result ≡ result_map_both (λ bytes. if nat_lt 256 (length bytes) then None else Some bytes) (λ cause. cause) (bytes_of text.now) }
+{
+    if text == b"-".as_slice() {
+        return Ok(Some(Value::empty()));
+    }
+    if text.len() % 2 != 0 {
+        return Err(Cause::BadHex);
+    }
+    if text.len() <= 2 * VALUE_LIMIT {
+        return short_value(text);
+    }
     if !is_lower_hex(text) {
         return Err(Cause::BadHex);
     }
-    match hex::decode(alloc, text) {
-        Ok(bytes) => Ok(bytes),
-        Err(FromHexError::OutOfMemory) => Err(Cause::Memory),
-        Err(_) => Err(Cause::BadHex),
+    Ok(None)
+}
+
+/// The value of at most 256 bytes that pairs of lower-case hex digits give, else BadHex.
+fn short_value(text: &[u8]) -> Result<Option<Value>, Cause>
+    requires even { length text.now % 2 ≡ 0 }
+    requires short { length text.now ≤ 512 }
+    ensures value { result ≡ result_map_both Some (λ cause. cause) (hex_of text.now) }
+    ensures fits { IfOk result (λ value. IfSome value (λ bytes. length bytes ≤ 256)) }
+{
+    let count = text.len() / 2;
+    let mut room = [0; VALUE_LIMIT];
+    if !hex_text::decode(text, &mut room[..count]) {
+        return Err(Cause::BadHex);
     }
+    Ok(Value::of(&room[..count]))
 }
 
 /// The key that 64 lower-case hex digits give, else BadHex.
@@ -106,7 +147,7 @@ pub fn key(text: &[u8]) -> Result<Key, Cause>
     ensures { result ≡ key_of text.now }
 {
     let mut bytes = [0; 32];
-    if !is_lower_hex(text) || hex::decode_to_slice(text, &mut bytes).is_err() {
+    if text.len() != 64 || !hex_text::decode(text, &mut bytes) {
         return Err(Cause::BadHex);
     }
     Ok(Key::new(bytes))

@@ -5,9 +5,11 @@ mod block;
 mod block_text;
 mod fault;
 pub mod fields;
+mod hex_text;
 mod laws;
 mod migration;
 mod reader;
+mod scan;
 mod schedule;
 
 pub use block::parse;

@@ -1,10 +1,9 @@
 //! The lines of a block file behind its header.
 
-ghost use Rattle.std.specs.Prelude.{◌≡◌, ◌<◌, ◌==◌, not, [], ◌∷◌, length, map, IfOk};
-ghost use Rattle.std.specs.List.{list_all};
+ghost use Rattle.std.specs.Prelude.{◌≡◌, ◌<◌, [], ◌∷◌, IfOk};
 ghost use Rattle.std.specs.String.{string_bytes};
 ghost use Rattle.block_file.specs.Answer.{Gives};
-ghost use Rattle.block_file.specs.Block.{call_value, program_of, stored_of, call_of, is_above, with_program, with_stored, with_call, with_kind, with_fields, with_line, start};
+ghost use Rattle.block_file.specs.Block.{call_value, program_of, stored_of, call_of, is_above, with_program, with_stored, with_call, with_fields, with_line, start};
 ghost use Rattle.block_file.specs.Reader.{parsed};
 
 use crate::block_text::{BlockText, CallLine, PROGRAM_LIMIT};
@@ -44,21 +43,18 @@ impl Reader {
     pub fn read(&mut self, alloc: Global, line: &[u8]) -> Result<(), Cause>
         ensures { Gives (λ _. parsed self.new) result (with_line (parsed self.old) line.now) }
     {
-        let fields = fields::parts(alloc, line, b' ')?;
-        self.take(alloc, fields.as_slice())
-    }
-
-    /// Takes the fields of the next line.
-    fn take(&mut self, alloc: Global, fields: &[&[u8]]) -> Result<(), Cause>
-        ensures { Gives (λ _. parsed self.new) result (with_fields (parsed self.old) (map (λ field. field.now) fields.now)) }
-    {
-        if !are_filled(fields) {
+        let Some((kind, rest)) = fields::cut_once(line, b' ') else {
             return Err(Cause::BadLine);
-        }
-        match *fields {
-            [kind, first, second] => self.take_three(alloc, kind, first, second),
-            [kind, first, second, third] => self.take_four(alloc, kind, first, second, third),
-            _ => Err(Cause::BadLine),
+        };
+        let Some((first, rest)) = fields::cut_once(rest, b' ') else {
+            return Err(Cause::BadLine);
+        };
+        let Some((second, third)) = fields::cut_once(rest, b' ') else {
+            return self.take_three(alloc, kind, first, rest);
+        };
+        match fields::cut_once(third, b' ') {
+            Some(_) => Err(Cause::BadLine),
+            None => self.take_four(alloc, kind, first, second, third),
         }
     }
 
@@ -70,8 +66,11 @@ impl Reader {
         first: &[u8],
         second: &[u8],
     ) -> Result<(), Cause>
-        ensures { Gives (λ _. parsed self.new) result (with_kind (parsed self.old) (kind.now ∷ first.now ∷ second.now ∷ [])) }
+        ensures { Gives (λ _. parsed self.new) result (with_fields (parsed self.old) (kind.now ∷ first.now ∷ second.now ∷ [])) }
     {
+        if kind.is_empty() || first.is_empty() || second.is_empty() {
+            return Err(Cause::BadLine);
+        }
         let has_call = !self.text.calls.is_empty();
         if kind == b"program".as_slice() && self.last.is_none() && !has_call {
             return self.program(alloc, first, second);
@@ -91,8 +90,11 @@ impl Reader {
         second: &[u8],
         third: &[u8],
     ) -> Result<(), Cause>
-        ensures { Gives (λ _. parsed self.new) result (with_kind (parsed self.old) (kind.now ∷ first.now ∷ second.now ∷ third.now ∷ [])) }
+        ensures { Gives (λ _. parsed self.new) result (with_fields (parsed self.old) (kind.now ∷ first.now ∷ second.now ∷ third.now ∷ [])) }
     {
+        if first.is_empty() || second.is_empty() || third.is_empty() {
+            return Err(Cause::BadLine);
+        }
         if kind != b"call".as_slice() {
             return Err(Cause::BadLine);
         }
@@ -112,7 +114,7 @@ impl Reader {
     fn store(&mut self, alloc: Global, key: &[u8], value: &[u8]) -> Result<(), Cause>
         ensures { Gives (λ _. parsed self.new) result (with_stored (parsed self.old) key.now value.now) }
     {
-        let (key, value) = stored_of(alloc, self.text.rules, self.last, key, value)?;
+        let (key, value) = stored_of(self.text.rules, self.last, key, value)?;
         self.text.store.insert(key, value)?;
         self.last = Some(key);
         Ok(())
@@ -128,13 +130,6 @@ impl Reader {
         self.text.calls.push(call)?;
         Ok(())
     }
-}
-
-/// Whether no field is empty.
-fn are_filled(fields: &[&[u8]]) -> bool
-    ensures { result ≡ list_all (λ field. not (length field == 0)) (map (λ field. field.now) fields.now) }
-{
-    fields.iter().all(|field| !field.is_empty())
 }
 
 /// Whether a key is above the last one.
@@ -165,7 +160,6 @@ fn program_of(alloc: Global, count: usize, number: &[u8], path: &[u8]) -> Result
 
 /// The key and the value of a `store` line. The `store` line before it has the key `last`, if any.
 fn stored_of(
-    alloc: Global,
     rules: Rules,
     last: Option<Key>,
     key: &[u8],
@@ -174,16 +168,13 @@ fn stored_of(
     ensures { Gives (λ entry. entry) result (stored_of rules last key.now value.now) }
 {
     let key = fields::key(key)?;
-    let bytes = fields::hex_bytes(alloc, value)?;
+    let value = fields::value(value)?;
     if !is_above(last, &key) {
         return Err(Cause::KeyOrder);
     }
-    if bytes.len() > rules.longest_value() {
-        return Err(Cause::Limit);
-    }
-    match Value::of(bytes.as_slice()) {
-        Some(value) => Ok((key, value)),
-        None => Err(Cause::Limit),
+    match value {
+        Some(value) if value.bytes().len() <= rules.longest_value() => Ok((key, value)),
+        _ => Err(Cause::Limit),
     }
 }
 

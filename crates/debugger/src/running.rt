@@ -6,7 +6,7 @@ ghost use Rattle.debugger.specs.Moment.{Going, advance, moment_of};
 ghost use Rattle.debugger.specs.Standing.{GoesOn, IsAnswered, IsRunAt};
 
 use read_set::Origin;
-use rv_ledger::{Call, Store};
+use rv_ledger::{Call, Store, StoredValue};
 use rv_step::{Run, Stage};
 use std::alloc::{AllocError, Global};
 
@@ -32,7 +32,8 @@ fn answer_from(run: &mut Run, store: &Store) -> Result<(), AllocError>
 {
     if let Stage::Asked(key) = run.stage() {
         let key = *key;
-        run.answer(store.get(&key), Origin::Base)?;
+        let content = StoredValue::value_of(store.get(&key));
+        run.answer(content.as_ref(), Origin::Base)?;
     }
     Ok(())
 }

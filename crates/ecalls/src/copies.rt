@@ -8,6 +8,7 @@ use rv_ledger::{InlineBytes, Key};
 use rv_mem::Memory;
 
 /// The key at an address, or None where a byte of it may not be read.
+#[inline(always)]
 pub fn key_at(memory: &Memory, address: u32) -> Option<Key>
     ensures { result ≡ (if is_readable memory.now address 32 then Some (bytes_at memory.now address 32) else None) }
 {
@@ -17,6 +18,7 @@ pub fn key_at(memory: &Memory, address: u32) -> Option<Key>
 }
 
 /// The `len` bytes at an address, or None where one of them may not be read.
+#[inline(always)]
 pub fn bytes_at<const LIMIT: usize>(
     memory: &Memory,
     address: u32,
@@ -26,7 +28,6 @@ pub fn bytes_at<const LIMIT: usize>(
     ensures { result ≡ (if is_readable memory.now address len then Some (bytes_at memory.now address len) else None) }
 {
     let mut room = [0; LIMIT];
-    let bytes = &mut room[..len as usize];
-    memory.copy_out(address, bytes).ok()?;
-    InlineBytes::of(bytes)
+    memory.copy_out(address, &mut room[..len as usize]).ok()?;
+    Some(InlineBytes::of_room(&room, len as usize))
 }

@@ -6,7 +6,8 @@ pub mod request_kind;
 pub mod requests;
 pub mod storage_call;
 
+pub use copies::{bytes_at, key_at};
 pub use request_kind::Request;
-pub use requests::{request, request_by};
+pub use requests::request;
 pub use rv_ledger::{Rules, Trap, Writes};
 pub use storage_call::{READ_CHARGE, StorageCall, asked, ecall_charge, late_charge};

@@ -24,7 +24,7 @@ pub fn request(registers: &Regs, memory: &Memory, rules: Rules) -> Result<Reques
 
 /// What a storage call asks for, or MemoryFault where a byte of its key, buffer, value or output lacks
 /// the right that it needs. The length of the call must be at most 256 bytes, which no limit is above.
-pub fn request_by(call: StorageCall, registers: &Regs, memory: &Memory) -> Result<Request, Trap>
+fn request_by(call: StorageCall, registers: &Regs, memory: &Memory) -> Result<Request, Trap>
     requires { length_of call registers.now ≤ 256 }
     ensures { result ≡ request_by call registers.now memory.now }
 {

@@ -3,4 +3,5 @@ pub mod Sound
 pub mod Ascending
 pub mod Loads
 pub mod Standing
-pub mod Zeros
+pub mod Paged
+pub mod Filled

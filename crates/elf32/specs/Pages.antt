@@ -1,12 +1,10 @@
 -- Memory as a program stands in it before its first instruction: the bytes, in pages of 4,096, and the
 -- rights of the pages.
-use Rattle.std.specs.Prelude.{◌≡◌, ℕ, ◌+◌, ◌-◌, ◌*◌, nat_lt, max, min, Bool, true, false, List, ◌++◌, length, take, drop, map, flat_map, fold, find, replicate, Option, Some, None, All}
+use Rattle.std.specs.Prelude.{◌≡◌, ◌≤◌, ◌<◌, ℕ, ◌+◌, ◌-◌, ◌*◌, nat_lt, max, min, Bool, true, false, List, [], ◌++◌, length, take, drop, slice_index_or, map, flat_map, fold, find, replicate, All}
 use Rattle.std.specs.List.{range_with_len}
 use Rattle.std.specs.Option.{option_map_or}
-use Rattle.std.specs.Arc.{arc_value}
-use Rattle.std.specs.declared.sync.Arc.{Arc}
-use Rattle.std.specs.declared.alloc.Global.{Global}
 use Rattle.elf32.specs.Extent.{first_address, memory_size, page_count, page_size}
+use Rattle.elf32.specs.declared.pages.BasePages.{BasePages}
 use Rattle.elf32.specs.declared.segment.Rights.{Rights}
 use Rattle.elf32.specs.declared.segment.Segment.{Segment}
 
@@ -46,17 +44,24 @@ rights_of_page segments k = option_map_or (λ s. s.rights) (find (has_page k) se
 unfoldable pub page_rights : ℕ → List Segment → List Rights
 page_rights n segments = map (rights_of_page segments) (range_with_len 0 n)
 
--- the bytes of a page of a program; None is a page of zeros
-abbrev pub page_bytes : Option (Arc (List ℕ) Global) → List ℕ
-page_bytes (Some page) = arc_value page
-page_bytes None = zeros page_size
+-- the bytes of the page k of memory
+abbrev pub bytes_of_page : ℕ → List ℕ → List ℕ
+bytes_of_page k memory = take page_size (drop (k * page_size) memory)
 
 -- each of the pages has 4,096 bytes
 abbrev pub ArePages : {X : Type 0} → (X → List ℕ) → List X → Type 0
 ArePages bytes pages = All (λ p. length (bytes p) ≡ page_size) pages
 
--- the pages of a program before its first instruction
-pub record HoldSegments (pages : List (Option (Arc (List ℕ) Global))) (segments : List Segment) : Type 0 where
-  pub count : length pages ≡ page_count
-  pub sizes : ArePages page_bytes pages
-  pub bytes : flat_map page_bytes pages ≡ segment_bytes segments
+-- the page at a place among some pages
+abbrev pub page_at : List (List ℕ) → ℕ → List ℕ
+page_at pages place = slice_index_or pages place []
+
+-- the pages of a program before its first instruction, the place of each page of memory among them, and the rights
+pub record HoldSegments (base : BasePages) (segments : List Segment) : Type 0 where
+  pub sizes : ArePages (λ p. p) base.pages.items
+  pub count : length base.pages.items ≤ page_count + 1
+  pub index_len : length base.index ≡ page_count
+  pub places : All (λ k. k < length base.pages.items) base.index
+  pub bytes : flat_map (page_at base.pages.items) base.index ≡ segment_bytes segments
+  pub rights : base.rights ≡ page_rights page_count segments
+  pub rights_len : length base.rights ≡ page_count

@@ -1,9 +1,7 @@
 //! A loaded program.
 
-use crate::extent::{MEMORY_SIZE, PAGE_COUNT};
-use crate::pages::{Page, pages_of, put_segments, zero_bytes};
-use crate::rights::page_rights;
-use crate::segment::{Rights, Segment};
+use crate::pages::{BasePages, base_pages};
+use crate::segment::Segment;
 use std::alloc::{AllocError, Global};
 use std::marker::Model;
 use std::sync::Arc;
@@ -14,49 +12,38 @@ use std::sync::Arc;
 pub struct Image {
     entry: u32,
     segments: Vec<Segment>,
-    pages: Vec<Option<Arc<Page>>>,
-    rights: Arc<[Rights; PAGE_COUNT]>,
+    base: Arc<BasePages>,
 }
 
 impl Model for Image {
-    ghost use Rattle.std.specs.Prelude.{◌≡◌, length, All};
+    ghost use Rattle.std.specs.Prelude.{All};
     ghost use Rattle.std.specs.Arc.{arc_value};
-    ghost use Rattle.elf32.specs.Extent.{page_count};
     ghost use Rattle.elf32.specs.Layout.{Layout, IsPlaced};
-    ghost use Rattle.elf32.specs.Pages.{HoldSegments, page_rights};
+    ghost use Rattle.elf32.specs.Pages.{HoldSegments};
 
     ghost Value = { Layout };
 
     ghost view = { λ i. record { entry = i.entry; segments = i.segments.items } };
 
-    ghost invariant = { λ i. All IsPlaced i.segments.items
-        × HoldSegments i.pages.items i.segments.items
-        × (arc_value i.rights ≡ page_rights page_count i.segments.items)
-        × (length (arc_value i.rights) ≡ page_count) };
+    ghost invariant = { λ i. All IsPlaced i.segments.items × HoldSegments (arc_value i.base) i.segments.items };
 }
 
 impl Image {
-    ghost use Rattle.std.specs.Prelude.{◌≡◌, length, All, IfOk};
+    ghost use Rattle.std.specs.Prelude.{◌≡◌, All, IfOk};
     ghost use Rattle.std.specs.Arc.{arc_value};
-    ghost use Rattle.elf32.specs.Extent.{page_count};
     ghost use Rattle.elf32.specs.Layout.{IsPlaced};
-    ghost use Rattle.elf32.specs.Pages.{HoldSegments, page_rights};
+    ghost use Rattle.elf32.specs.Pages.{HoldSegments};
 
     /// The program with this entry and these segments; refused where memory ran out.
-    #[tactic(auto, unfolding(crate::specs::Pages::segment_bytes))]
     pub(crate) fn new(alloc: Global, entry: u32, segments: Vec<Segment>) -> Result<Self, AllocError>
         requires { All IsPlaced segments.items }
         ensures { IfOk result (λ i. i ≡ record { entry = entry; segments = segments.items }) }
     {
-        let mut bytes = zero_bytes(alloc, MEMORY_SIZE)?;
-        put_segments(&mut bytes, &segments);
-        let pages = pages_of(alloc, &bytes)?;
-        let rights = Arc::new(alloc, page_rights(&segments))?;
+        let base = Arc::new(alloc, base_pages(alloc, &segments)?)?;
         Ok(Image {
             entry,
             segments,
-            pages,
-            rights,
+            base,
         })
     }
 
@@ -75,19 +62,10 @@ impl Image {
         self.segments.as_slice()
     }
 
-    /// The 256 pages of memory with the segments' file bytes in them, in order. Page k begins at the address
-    /// 0x00010000 + 4096 k. None is a page of zeros.
-    pub fn pages(&self) -> &[Option<Arc<Page>>]
-        ensures { HoldSegments result.now self.now.segments }
+    /// The pages of memory with the segments' file bytes in them, and the rights of the pages.
+    pub fn base(&self) -> &Arc<BasePages>
+        ensures { HoldSegments (arc_value result.now) self.now.segments }
     {
-        self.pages.as_slice()
-    }
-
-    /// The rights of the 256 pages, in order.
-    pub fn rights(&self) -> &Arc<[Rights; PAGE_COUNT]>
-        ensures value { arc_value result.now ≡ page_rights page_count self.now.segments }
-        ensures len { length (arc_value result.now) ≡ page_count }
-    {
-        &self.rights
+        &self.base
     }
 }

@@ -19,7 +19,7 @@ pub mod writing;
 
 pub use error::ElfError;
 pub use image::Image;
-pub use pages::Page;
+pub use pages::{BasePages, Page};
 pub use reading::load;
 pub use segment::{Content, Rights, Segment};
 pub use words::PlacedWord;

@@ -1,77 +1,109 @@
 //! The pages of a program.
 
-ghost use Rattle.std.specs.Prelude.{◌≡◌, ◌==◌, length, All, IfOk, flat_map, fold};
-ghost use Rattle.std.specs.List.{list_all};
-ghost use Rattle.elf32.specs.Extent.{memory_size, page_count, page_size};
+ghost use Rattle.std.specs.Prelude.{◌≡◌, ◌<◌, ◌≤◌, ◌*◌, ◌+◌, ◌-◌, ℕ, List, false, length, max, min, All, IfOk};
+ghost use Rattle.elf32.specs.Extent.{first_address, memory_size, page_count, page_size};
 ghost use Rattle.elf32.specs.Layout.{IsPlaced};
-ghost use Rattle.elf32.specs.Pages.{zeros, with_segment, page_bytes, ArePages};
+ghost use Rattle.elf32.specs.Pages.{HoldSegments, bytes_of_page, segment_bytes, with_segment, zeros};
 
 use crate::bytes::put;
 use crate::extent::{FIRST_ADDRESS, PAGE_COUNT, PAGE_SIZE};
-use crate::segment::Segment;
+use crate::rights::page_rights;
+use crate::segment::{Rights, Segment};
 use std::alloc::{AllocError, Global};
-use std::sync::Arc;
 
 /// The bytes of one page.
 pub type Page = [u8; PAGE_SIZE];
 
-/// The given number of zeros; refused where memory ran out.
-#[tactic(auto, unfolding(crate::specs::Pages::zeros))]
-pub(crate) fn zero_bytes(alloc: Global, count: usize) -> Result<Vec<u8>, AllocError>
-    ensures value { IfOk result (λ v. v.items ≡ zeros count) }
-    ensures len { IfOk result (λ v. length v.items ≡ count) }
-{
-    vec![in alloc; 0; count]
+/// The pages of a program, which its runs share.
+#[derive(Drop)]
+pub struct BasePages {
+    /// A page of zeros, and then the pages with a byte of a file, those at lower addresses first.
+    pub pages: Vec<Page>,
+    /// The place in `pages` of each of the 256 pages of memory, in order. Page k begins at the address
+    /// 0x00010000 + 4096 k.
+    pub index: [u16; PAGE_COUNT],
+    /// The rights of the 256 pages of memory, in order.
+    pub rights: [Rights; PAGE_COUNT],
 }
 
-/// Writes the file bytes of each segment at its address.
-pub(crate) fn put_segments(bytes: &mut [u8], segments: &[Segment])
-    requires room { length bytes.old ≡ memory_size }
+/// The part of the page that has file bytes of the segment: its first place in memory, and the first place
+/// after it. It is empty where the second is not above the first.
+fn part_in_page(segment: &Segment, page: usize) -> (usize, usize)
+    requires page { page < page_count }
+    requires placed { IsPlaced segment.now }
+    ensures first { result.0 ≡ max (segment.now.address - first_address) (page * page_size) }
+    ensures end { result.1 ≡ min (segment.now.address - first_address + length segment.now.content) (page * page_size + page_size) }
+{
+    let first = (segment.address - FIRST_ADDRESS) as usize;
+    let start = page * PAGE_SIZE;
+    (
+        first.max(start),
+        (first + segment.content.bytes().len()).min(start + PAGE_SIZE),
+    )
+}
+
+/// Writes the file bytes of the segment that lie in the page with this number.
+fn put_part(bytes: &mut [u8], page: usize, segment: &Segment)
+    requires size { length bytes.old ≡ page_size }
+    requires page { page < page_count }
+    requires placed { IsPlaced segment.now }
+    ensures value { (memory : List ℕ) → length memory ≡ memory_size → bytes.old ≡ bytes_of_page page memory → bytes.new ≡ bytes_of_page page (with_segment memory segment.now) }
+    ensures size { length bytes.new ≡ page_size }
+{
+    let (from, to) = part_in_page(segment, page);
+    if from < to {
+        let first = (segment.address - FIRST_ADDRESS) as usize;
+        let part = &segment.content.bytes()[from - first..to - first];
+        put(bytes, from - page * PAGE_SIZE, part);
+    }
+}
+
+/// Whether a segment has file bytes in the page.
+fn has_bytes(segments: &[Segment], page: usize) -> bool
+    requires page { page < page_count }
     requires placed { All IsPlaced segments.now }
-    ensures value { bytes.new ≡ fold with_segment bytes.old segments.now }
-    ensures len { length bytes.new ≡ memory_size }
+    ensures { result ≡ false → bytes_of_page page (segment_bytes segments.now) ≡ zeros page_size }
 {
     for segment in segments {
-        put(
-            bytes,
-            (segment.address - FIRST_ADDRESS) as usize,
-            segment.content.bytes(),
-        );
+        let (from, to) = part_in_page(segment, page);
+        if from < to {
+            return true;
+        }
     }
+    false
 }
 
-/// Whether each of the bytes is zero.
-fn are_zeros(bytes: &[u8]) -> bool
-    ensures { result ≡ list_all (λ byte. byte == 0) bytes.now }
+/// The page with the file bytes of the segments in it.
+fn page_with(segments: &[Segment], page: usize) -> Page
+    requires page { page < page_count }
+    requires placed { All IsPlaced segments.now }
+    ensures value { result ≡ bytes_of_page page (segment_bytes segments.now) }
+    ensures size { length result ≡ page_size }
 {
-    bytes.iter().all(|byte| *byte == 0)
-}
-
-/// The page of the bytes, or None where all of them are zero; refused where memory ran out.
-fn page_of(alloc: Global, bytes: &[u8]) -> Result<Option<Arc<Page>>, AllocError>
-    requires { length bytes.now ≡ page_size }
-    ensures { IfOk result (λ page. page_bytes page ≡ bytes.now) }
-{
-    if are_zeros(bytes) {
-        return Ok(None);
+    let mut bytes = [0; PAGE_SIZE];
+    for segment in segments {
+        put_part(&mut bytes, page, segment);
     }
-    let Some(page) = bytes.first_chunk::<PAGE_SIZE>() else {
-        return Ok(None);
-    };
-    Ok(Some(Arc::new(alloc, *page)?))
+    bytes
 }
 
-/// The pages of the bytes of memory, in order. None is a page of zeros. Refused where memory ran out.
-pub(crate) fn pages_of(alloc: Global, bytes: &[u8]) -> Result<Vec<Option<Arc<Page>>>, AllocError>
-    requires { length bytes.now ≡ memory_size }
-    ensures bytes { IfOk result (λ v. flat_map page_bytes v.items ≡ bytes.now) }
-    ensures count { IfOk result (λ v. length v.items ≡ page_count) }
-    ensures sizes { IfOk result (λ v. ArePages page_bytes v.items) }
+/// The pages of the segments; refused where memory ran out.
+pub(crate) fn base_pages(alloc: Global, segments: &[Segment]) -> Result<BasePages, AllocError>
+    requires { All IsPlaced segments.now }
+    ensures { IfOk result (λ base. HoldSegments base segments.now) }
 {
-    let mut pages = Vec::with_capacity(alloc, PAGE_COUNT)?;
+    let mut pages = Vec::with_capacity(alloc, 4)?;
+    pages.push([0; PAGE_SIZE])?;
+    let mut index = [0; PAGE_COUNT];
     for page in 0..PAGE_COUNT {
-        let start = page * PAGE_SIZE;
-        pages.push(page_of(alloc, &bytes[start..start + PAGE_SIZE])?)?;
+        if has_bytes(segments, page) {
+            index[page] = pages.len() as u16;
+            pages.push(page_with(segments, page))?;
+        }
     }
-    Ok(pages)
+    Ok(BasePages {
+        pages,
+        index,
+        rights: page_rights(segments),
+    })
 }

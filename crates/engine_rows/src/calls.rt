@@ -96,7 +96,8 @@ pub fn in_order(alloc: Global, job: &Job) -> Result<Outcome, AllocError> {
 
 /// The text of an outcome.
 pub fn text_of(alloc: Global, outcome: &Outcome) -> Result<String, AllocError> {
-    result_text(alloc, outcome.receipts.as_slice(), &outcome.store)
+    let text = result_text(alloc, outcome.receipts.as_slice(), &outcome.store)?;
+    String::from_utf8_lossy(alloc, text.as_slice())
 }
 
 /// The text of the outcome of running the calls of a job in order.

@@ -13,6 +13,9 @@ use std::io::Read;
 /// The greatest length of a program file, in bytes.
 const PROGRAM_FILE_LIMIT: usize = 131_072;
 
+/// The greatest number of bytes that one read asks for.
+const PART_BYTES: usize = 32_768;
+
 /// Why a file is not read.
 #[derive(Clone, Copy, Debug, PartialEq, Eq)]
 enum ReadFault {
@@ -32,7 +35,7 @@ fn read_whole<R: Read>(alloc: Global, reader: &mut R, limit: usize) -> Result<Ve
     ensures long { IfErr result (λ e. e ≡ ReadFault.TooLong → IfSome (R.remaining reader.old) (λ bytes. limit < length bytes)) }
 {
     let mut all = Vec::new(alloc);
-    let mut part = [0u8; 1024];
+    let mut part = [0u8; PART_BYTES];
     for _ in 0..u64::MAX {
         let Ok(count) = reader.read(&mut part) else {
             return Err(ReadFault::Unreadable);

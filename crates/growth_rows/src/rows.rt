@@ -2,7 +2,7 @@
 
 use crate::images::{COND, GET, PUT, SEEN};
 use receipts::result_text;
-use rv_ledger::{End, Key, Outcome, Receipt, Value};
+use rv_ledger::{End, Key, Outcome, Receipt, StoredValue};
 use std::alloc::{AllocError, Global};
 use std::process::Abort;
 
@@ -120,7 +120,7 @@ pub fn assert_text(
         Ok(found) => found,
         Err(_) => result_text(alloc, receipts, &outcome.store)?,
     };
-    assert_eq!(rt; found.as_str(), text);
+    assert_eq!(rt; found.as_slice(), text.as_bytes());
     Ok(())
 }
 
@@ -155,6 +155,6 @@ fn is_count(receipt: &Receipt, key: &Key, count: u32) -> bool {
 }
 
 /// Whether a value is a number in four bytes, the lowest first.
-fn is_number(value: &Value, number: u32) -> bool {
+fn is_number(value: &StoredValue, number: u32) -> bool {
     value.bytes() == number.to_le_bytes().as_slice()
 }

@@ -171,14 +171,14 @@ fn assert_written(rt: &impl Abort, alloc: Global, outcome: &Outcome) -> Result<(
 }
 
 /// The text of a result without calls.
-fn empty_text(alloc: Global) -> Result<String, AllocError> {
+fn empty_text(alloc: Global) -> Result<Vec<u8>, AllocError> {
     result_text(alloc, &[], &Store::new(alloc))
 }
 
 /// Asserts that this text is right.
 fn assert_empty(rt: &impl Abort, alloc: Global) -> Result<(), AllocError> {
     let text = empty_text(alloc)?;
-    assert_text(rt, text.as_str(), "end\n");
+    assert_bytes(rt, text.as_slice(), b"end\n");
     Ok(())
 }
 

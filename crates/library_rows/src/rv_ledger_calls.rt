@@ -142,7 +142,7 @@ fn store(alloc: Global) -> Result<Store, AllocError> {
 fn entries(alloc: Global, store: &Store) -> Result<Vec<(Key, Value)>, AllocError> {
     let mut entries = Vec::new(alloc);
     for (key, value) in store.iter() {
-        entries.push((*key, value.copy()))?;
+        entries.push((*key, value.value()))?;
     }
     Ok(entries)
 }

@@ -2,3 +2,5 @@ pub mod Taken
 pub mod Cuts
 pub mod Fields
 pub mod OneText
+pub mod Hexed
+pub mod Lanes

@@ -4,7 +4,7 @@ ghost use Rattle.std.specs.Prelude.{All, IfSome};
 ghost use Rattle.std.specs.FinMap.{entries};
 ghost use Rattle.receipts.specs.Ranges.{AreBytes, AreInRange, AreWords, IsEntryInRange, IsInRange, IsWriteInRange};
 
-use rv_ledger::{Key, Receipt, Store, Value, Writes};
+use rv_ledger::{Key, Receipt, Store, StoredValue, Writes};
 
 /// The numbers of a byte slice are bytes.
 fn are_bytes(_bytes: &[u8])
@@ -17,7 +17,7 @@ fn are_words(_words: &[u32])
 {}
 
 /// A write's key and value are bytes.
-fn is_write_in_range(key: &Key, content: &Option<Value>)
+fn is_write_in_range(key: &Key, content: &Option<StoredValue>)
     ensures { IsWriteInRange (key.now, content.now) }
 {
     are_bytes(key.bytes().as_slice());
@@ -47,7 +47,7 @@ fn is_in_range(receipt: &Receipt)
 }
 
 /// A key and a value of the storage are bytes.
-fn is_entry_in_range(key: &Key, value: &Value)
+fn is_entry_in_range(key: &Key, value: &StoredValue)
     ensures { IsEntryInRange (key.now, value.now) }
 {
     are_bytes(key.bytes().as_slice());

@@ -55,7 +55,7 @@ pub fn write_outcome<W: Write>(
     let Ok(text) = result_text(alloc, outcome.receipts.as_slice(), &outcome.store) else {
         return Err(WriteFault::Memory);
     };
-    write_whole(text.as_bytes(), out)
+    write_whole(text.as_slice(), out)
 }
 
 /// Writes all the bytes. Refused as Io where a write failed, and as WroteNothing where a write took

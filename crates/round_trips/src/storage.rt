@@ -8,7 +8,7 @@ ghost use Rattle.rv_ledger.specs.declared.rules.Rules.TheVariants.{Two};
 ghost use Rattle.receipts.specs.Ranges.{AreBytes};
 ghost use Rattle.round_trips.specs.Chained.{AreShort, IsEntry, IsReadBack, IsReadInBlocks};
 
-use rv_ledger::{Key, Store, Value};
+use rv_ledger::{Key, Store, StoredValue};
 
 /// A law, and no code: the `store` lines of a result, put into a block file, are read as the result's
 /// storage: alone behind each beginning of a block file, and between the programs and the calls of
@@ -44,7 +44,7 @@ fn are_bytes(_bytes: &[u8])
 {}
 
 /// A key has 32 bytes, and a value at most 256.
-fn is_entry(key: &Key, value: &Value)
+fn is_entry(key: &Key, value: &StoredValue)
     ensures { IsEntry Two (key.now, value.now) }
 {
     are_bytes(key.bytes().as_slice());

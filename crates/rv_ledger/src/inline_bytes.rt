@@ -1,7 +1,7 @@
 //! Byte strings of a bounded length. Each keeps its bytes in an array of its own, so that copying
 //! one takes no memory.
 
-ghost use Rattle.std.specs.Prelude.{◌≡◌, ◌≤◌, ◌↔◌, ◌++◌, ◌==◌, [], drop, IsSome, IfSome, IsTrue, length};
+ghost use Rattle.std.specs.Prelude.{◌≡◌, ◌≤◌, ◌↔◌, ◌++◌, ◌==◌, [], drop, IsSome, IfSome, IsTrue, length, take};
 ghost use Rattle.std.specs.Option.{option_copied};
 ghost use Rattle.std.proofs.Common.{rules};
 ghost use Rattle.std.specs.Cmp.Rules.{comparing};
@@ -55,6 +55,15 @@ impl<const LIMIT: usize> InlineBytes<LIMIT> {
             len: bytes.len(),
             room,
         })
+    }
+
+    /// The first `len` bytes of an array.
+    #[inline(always)]
+    pub fn of_room(room: &[u8; LIMIT], len: usize) -> InlineBytes<LIMIT>
+        requires { len ≤ LIMIT }
+        ensures { result ≡ take len room.now }
+    {
+        InlineBytes { len, room: *room }
     }
 
     /// No bytes.

@@ -6,6 +6,7 @@ ghost use Rattle.std.specs.Cmp.{partial_order_from_own_ties};
 ghost use Rattle.std.specs.Cmp.Rules.{comparing};
 ghost use Rattle.std.specs.Cmp.Lexicographic.{slice_cmp};
 ghost use Rattle.std.specs.Ordering.{nat_cmp, as_partial_cmp};
+ghost use Rattle.std.specs.Str.{bytes_eq};
 ghost use Rattle.byteorder.specs.Endian.{big_number};
 
 use byteorder::{BigEndian, ByteOrder};
@@ -22,7 +23,7 @@ const WORD_SIZE: usize = 8;
 const WORD_COUNT: usize = 4;
 
 /// A key of the storage: 32 bytes. Keys are ordered byte by byte, from the first byte on.
-#[derive(Clone, Copy, Debug, PartialEq, Eq)]
+#[derive(Clone, Copy, Debug, Eq)]
 pub struct Key {
     bytes: [u8; 32],
 }
@@ -51,6 +52,16 @@ impl Key {
         ensures count { length self.now ≡ 32 }
     {
         &self.bytes
+    }
+}
+
+impl PartialEq for Key {
+    ghost eq = { bytes_eq };
+
+    ghost laws = { Prim.search (comparing, rules) };
+
+    fn eq(&self, other: &Key) -> bool {
+        self.cmp(other).is_eq()
     }
 }
 

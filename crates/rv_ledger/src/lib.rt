@@ -12,6 +12,7 @@ pub mod receipt;
 pub mod rules;
 pub mod same;
 pub mod store;
+pub mod stored_value;
 pub mod writes;
 
 pub use call::{Call, CallFault};
@@ -24,4 +25,5 @@ pub use receipt::Receipt;
 pub use rules::{Rules, SHORT_VALUE_LIMIT};
 pub use same::{same_call, same_content, same_job, same_store};
 pub use store::Store;
+pub use stored_value::StoredValue;
 pub use writes::{Write, Writes};

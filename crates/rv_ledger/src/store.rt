@@ -2,6 +2,7 @@
 
 use crate::inline_bytes::Value;
 use crate::key::Key;
+use crate::stored_value::StoredValue;
 use std::alloc::{AllocError, Global};
 use std::collections::BTreeMap;
 use std::collections::btree_map::Iter;
@@ -10,7 +11,8 @@ use std::marker::Model;
 /// A storage: a finite map from keys to values, of any number of keys.
 #[derive(Drop)]
 pub struct Store {
-    entries: BTreeMap<Key, Value>,
+    alloc: Global,
+    entries: BTreeMap<Key, StoredValue>,
 }
 
 impl Model for Store {
@@ -35,12 +37,13 @@ impl Store {
         ensures { result ≡ map.empty }
     {
         Store {
+            alloc,
             entries: BTreeMap::new(alloc),
         }
     }
 
     /// The value at a key, or None where it is absent.
-    pub fn get(&self, key: &Key) -> Option<&Value>
+    pub fn get(&self, key: &Key) -> Option<&StoredValue>
         ensures { option_copied result ≡ map.get self.now key.now }
     {
         self.entries.get(key)
@@ -48,6 +51,23 @@ impl Store {
 
     /// Sets the value at a key; refused where memory ran out, and then nothing changes.
     pub fn insert(&mut self, key: Key, value: Value) -> Result<(), AllocError>
+        ensures ok { OnOk result (self.new ≡ map.insert self.old key value) }
+        ensures err { OnErr result (self.new ≡ self.old) }
+    {
+        self.put(key, StoredValue::of(self.alloc, &value)?)
+    }
+
+    /// Sets the value at a key to a copy of one that a map keeps; refused where memory ran out, and then
+    /// nothing changes.
+    pub fn insert_copy(&mut self, key: Key, value: &StoredValue) -> Result<(), AllocError>
+        ensures ok { OnOk result (self.new ≡ map.insert self.old key value.now) }
+        ensures err { OnErr result (self.new ≡ self.old) }
+    {
+        self.put(key, value.clone()?)
+    }
+
+    /// Sets the value at a key; refused where memory ran out, and then nothing changes.
+    fn put(&mut self, key: Key, value: StoredValue) -> Result<(), AllocError>
         ensures ok { OnOk result (self.new ≡ map.insert self.old key value) }
         ensures err { OnErr result (self.new ≡ self.old) }
     {
@@ -63,7 +83,7 @@ impl Store {
     }
 
     /// The keys, ascending, each with its value.
-    pub fn iter(&self) -> Iter<'_, Key, Value>
+    pub fn iter(&self) -> Iter<'_, Key, StoredValue>
         ensures { result ≡ map.entries self.now }
     {
         self.entries.iter()
@@ -74,6 +94,9 @@ impl Store {
         ensures { IfOk result (λ s. s ≡ self.now) }
     {
         let entries = self.entries.clone()?;
-        Ok(Store { entries })
+        Ok(Store {
+            alloc: self.alloc,
+            entries,
+        })
     }
 }

@@ -2,6 +2,7 @@
 
 use crate::inline_bytes::Value;
 use crate::key::Key;
+use crate::stored_value::StoredValue;
 use std::alloc::{AllocError, Global};
 use std::collections::BTreeMap;
 use std::collections::btree_map::Iter;
@@ -22,7 +23,8 @@ pub struct Write {
 /// The writes of one call, the last to each key, for at most 256 keys.
 #[derive(Drop)]
 pub struct Writes {
-    entries: BTreeMap<Key, Option<Value>>,
+    alloc: Global,
+    entries: BTreeMap<Key, Option<StoredValue>>,
 }
 
 impl Model for Writes {
@@ -52,12 +54,13 @@ impl Writes {
         ensures { result ≡ map.empty }
     {
         Writes {
+            alloc,
             entries: BTreeMap::new(alloc),
         }
     }
 
     /// What was last written to a key, or None where it was not written.
-    pub fn get(&self, key: &Key) -> Option<&Option<Value>>
+    pub fn get(&self, key: &Key) -> Option<&Option<StoredValue>>
         ensures { option_copied result ≡ map.get self.now key.now }
     {
         self.entries.get(key)
@@ -78,7 +81,17 @@ impl Writes {
         ensures ok { OnOk result (self.new ≡ map.insert self.old write.key write.value) }
         ensures err { OnErr result (self.new ≡ self.old) }
     {
-        self.entries.insert(write.key, write.value)?;
+        self.set(write.key, write.value.as_ref())
+    }
+
+    /// Records a write like `insert`: the new value of a key, or None where it is removed.
+    pub fn set(&mut self, key: Key, value: Option<&Value>) -> Result<(), AllocError>
+        requires { IsTrue (has_room self.old key) }
+        ensures ok { OnOk result (self.new ≡ map.insert self.old key (option_copied value.entry)) }
+        ensures err { OnErr result (self.new ≡ self.old) }
+    {
+        let value = StoredValue::of_content(self.alloc, value)?;
+        self.entries.insert(key, value)?;
         Ok(())
     }
 
@@ -90,7 +103,7 @@ impl Writes {
     }
 
     /// The written keys, ascending, each with what was last written to it.
-    pub fn iter(&self) -> Iter<'_, Key, Option<Value>>
+    pub fn iter(&self) -> Iter<'_, Key, Option<StoredValue>>
         ensures { result ≡ map.entries self.now }
     {
         self.entries.iter()
@@ -101,6 +114,9 @@ impl Writes {
         ensures { IfOk result (λ w. w ≡ self.now) }
     {
         let entries = self.entries.clone()?;
-        Ok(Writes { entries })
+        Ok(Writes {
+            alloc: self.alloc,
+            entries,
+        })
     }
 }

@@ -37,14 +37,6 @@ over_pieces xs a b at k e h =
     let end : at + length (a ++ b) ≡ k + length b = omega (arith, length-append a b) in
     rw (append_assoc (take k xs) b (drop (k + length b) xs), ← e, front, back, end) (simp append_assoc)
 
--- what lies before what is laid over
-over_before : (xs new : List ℕ) (at n : ℕ) → n ≤ at → at ≤ length xs → take n (over xs at new) ≡ take n xs
-unfolding over
-over_before xs new at n low inside =
-    let size : length (take at xs) ≡ at = length-take-le at xs inside in
-    let fits : n ≤ length (take at xs) = omega arith in
-    rw (append_assoc (take at xs) new (drop (at + length new) xs), take-append-le n (take at xs) (new ++ drop (at + length new) xs) fits) (take-take n at xs low)
-
 -- ---- pages
 
 module _ {X : Type 0} (bytes : X → List ℕ) where
@@ -69,9 +61,6 @@ module _ {X : Type 0} (bytes : X → List ℕ) where
   -- the bytes by one page
   by_page : (pages : List X) (k : ℕ) (d : X) → k < length pages → flat_map bytes pages ≡ flat_map bytes (take k pages) ++ (bytes (get_or pages k d) ++ flat_map bytes (drop (suc k) pages))
   by_page pages k d below = ap (flat_map bytes) (sym (set-get_or pages k d)) ∙ with_page pages k (get_or pages k d) below
-
-  pub same_one : (pages : List X) (k : ℕ) (p d : X) → k < length pages → bytes p ≡ bytes (get_or pages k d) → flat_map bytes (set pages k p) ≡ flat_map bytes pages
-  same_one pages k p d below same = rw (with_page pages k p below, by_page pages k d below, same) refl
 
   pub write_one : (pages : List X) (new : List ℕ) (at k : ℕ) (p d : X) → ArePages bytes pages → k ≡ at / 4096 → k < length pages → at % 4096 + length new ≤ 4096 → bytes p ≡ over (bytes (get_or pages k d)) (at % 4096) new → flat_map bytes (set pages k p) ≡ over (flat_map bytes pages) at new
   write_one pages new at k p d h e below room is =
@@ -101,35 +90,6 @@ module _ {X : Type 0} (bytes : X → List ℕ) where
       ∙ ap (λ (n : ℕ). take (4096 - at % 4096) (drop n (front ++ (page ++ back)))) place
       ∙ ap (take (4096 - at % 4096)) (drop-append-add front (page ++ back) (at % 4096) ∙ drop-append-le (at % 4096) page back fits)
       ∙ take_at (drop (at % 4096) page) back (4096 - at % 4096) len)
-
-  -- a page by the bytes of all
-  page_by_all : (pages : List X) (k : ℕ) (d : X) → ArePages bytes pages → k < length pages → bytes (get_or pages k d) ≡ take 4096 (drop (4096 * k) (flat_map bytes pages))
-  page_by_all pages k d h below =
-      let zero_rest : 4096 * k % 4096 ≡ 0 = omega arith in
-      let rest = rest_one pages (4096 * k) k d h (omega arith) below in
-      rw zero_rest at rest
-
-  -- a page before what is laid over
-  pub kept_page : (old now : List X) (new : List ℕ) (at k : ℕ) (d : X) → ArePages bytes old → ArePages bytes now → length now ≡ length old → flat_map bytes now ≡ over (flat_map bytes old) at new → 4096 * k + 4096 ≤ at → at ≤ 4096 * length old → bytes (get_or now k d) ≡ bytes (get_or old k d)
-  kept_page old now new at k d h i len is low high =
-      let size = length_pages old h in
-      let both = over_before (flat_map bytes old) new at (4096 * k + 4096) low (omega arith) in
-      page_by_all now k d i (omega arith)
-      ∙ sym (drop-take (4096 * k) 4096 (flat_map bytes now))
-      ∙ ap (λ (l : List ℕ). drop (4096 * k) (take (4096 * k + 4096) l)) is
-      ∙ ap (drop (4096 * k)) both
-      ∙ drop-take (4096 * k) 4096 (flat_map bytes old)
-      ∙ sym (page_by_all old k d h (omega arith))
-
-  -- a piece that ends with its page, after all that follow
-  pub write_more : (old now : List X) (a b : List ℕ) (at j k : ℕ) (p d : X) → ArePages bytes old → ArePages bytes now → length now ≡ length old → j ≡ at + length a → k ≡ at / 4096 → at % 4096 + length a ≡ 4096 → j + length b ≤ 4096 * length old → flat_map bytes now ≡ over (flat_map bytes old) j b → bytes p ≡ over (bytes (get_or old k d)) (at % 4096) a → flat_map bytes (set now k p) ≡ over (flat_map bytes old) at (a ++ b)
-  write_more old now a b at j k p d h i len step e full room is here =
-      let size = length_pages old h in
-      let kept = kept_page old now b j k d h i len is (omega arith) (omega arith) in
-      let same : bytes p ≡ over (bytes (get_or now k d)) (at % 4096) a = here ∙ ap (λ (l : List ℕ). over l (at % 4096) a) (sym kept) in
-      write_one now a at k p d i e (omega arith) (omega arith) same
-      ∙ ap (λ (l : List ℕ). over l at a) is
-      ∙ over_pieces (flat_map bytes old) a b at j step (omega arith)
 
 -- the rest of a page, and what follows it
 pub take_pieces : (xs : List ℕ) (at m n : ℕ) → m ≤ n → take m (drop at xs) ++ take (n - m) (drop (at + m) xs) ≡ take n (drop at xs)

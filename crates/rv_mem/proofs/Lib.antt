@@ -1,3 +1,6 @@
 mod Each
 mod Flat
 mod Copied
+mod Placed
+mod Pools
+mod Calls

@@ -1,2 +1,3 @@
 pub mod Space
 pub mod Start
+pub mod Paged

@@ -1,9 +1,9 @@
 //! The memory of one call.
 
-ghost use Rattle.std.specs.Prelude.{◌≡◌, ◌<◌, ◌≤◌, ◌+◌, ◌-◌, ◌^◌, ◌↔◌, true, length, flat_map, IfOk, OnOk, IsOk, IfErr};
-ghost use Rattle.std.specs.Arc.{arc_value};
-ghost use Rattle.elf32.specs.Extent.{end_address, first_address, input_address, page_count};
-ghost use Rattle.elf32.specs.Pages.{over, page_bytes, ArePages};
+ghost use Rattle.std.specs.Prelude.{◌≡◌, ◌<◌, ◌≤◌, ◌+◌, ◌-◌, ◌^◌, ◌↔◌, true, length, IfOk, OnOk, IsOk, IfErr};
+ghost use Rattle.elf32.specs.Extent.{end_address, first_address, input_address};
+ghost use Rattle.elf32.specs.Pages.{over};
+ghost use Rattle.rv_mem.specs.Paged.{IsPaged, base_of, memory_bytes};
 ghost use Rattle.rv_mem.specs.Space.{bytes_at, each, loaded, stored, copied, Leaves};
 ghost use Rattle.rv_mem.specs.Start.{start_space};
 ghost use Rattle.rv_mem.specs.declared.access.Access.TheVariants.{Read, Write, Execute};
@@ -11,54 +11,50 @@ ghost use Rattle.rv_mem.specs.declared.fault.Fault.TheVariants.{MemoryFault};
 
 use crate::access::Access;
 use crate::fault::Fault;
-use crate::pages::{byte_at, halfword_at, read, shared_pages, word_at, write, write_in_page};
+use crate::pages::{
+    Pages, byte_at, halfword_at, program_pages, program_word_at, read, word_at, write,
+    write_in_page,
+};
 use crate::rights::{place, range_has};
 use byteorder::{ByteOrder, LittleEndian};
-use elf32::extent::{FIRST_ADDRESS, INPUT_ADDRESS, PAGE_COUNT};
-use elf32::{Image, Page, Rights};
+use elf32::Image;
+use elf32::extent::{FIRST_ADDRESS, INPUT_ADDRESS};
 use std::alloc::{AllocError, Global};
 use std::marker::Model;
-use std::sync::Arc;
 
 /// The place of the input, in bytes from the first address of memory.
 const INPUT: usize = (INPUT_ADDRESS - FIRST_ADDRESS) as usize;
 
 /// Writes the input at its address; refused where memory ran out.
-fn put_input(pages: &mut [Option<Arc<Page>>], alloc: Global, input: &[u8]) -> Result<(), AllocError>
+fn put_input(pages: &mut Pages, input: &[u8]) -> Result<(), AllocError>
     requires input { length input.now ≤ 4096 }
-    requires sizes { ArePages page_bytes pages.old }
-    requires count { length pages.old ≡ page_count }
-    ensures ok { OnOk result (flat_map page_bytes pages.new ≡ over (flat_map page_bytes pages.old) (input_address - first_address) input.now) }
-    ensures sizes { ArePages page_bytes pages.new }
-    ensures count { length pages.new ≡ page_count }
+    requires paged { IsPaged pages.old }
+    ensures ok { OnOk result (memory_bytes pages.new ≡ over (memory_bytes pages.old) (input_address - first_address) input.now) }
+    ensures base { base_of pages.new ≡ base_of pages.old }
+    ensures paged { IsPaged pages.new }
 {
     if input.is_empty() {
         return Ok(());
     }
-    write(pages, alloc, INPUT, input)
+    write_in_page(pages, INPUT, input)
 }
 
 /// The bytes at the addresses 0x00010000 up to 0x00110000, and the rights of their pages of 4,096
 /// bytes each.
 #[derive(Drop)]
 pub struct Memory {
-    alloc: Global,
-    pages: Vec<Option<Arc<Page>>>,
-    rights: Arc<[Rights; PAGE_COUNT]>,
+    pages: Pages,
 }
 
 impl Model for Memory {
-    ghost use Rattle.std.specs.Prelude.{◌≡◌, length, flat_map};
-    ghost use Rattle.std.specs.Arc.{arc_value};
-    ghost use Rattle.elf32.specs.Extent.{page_count};
-    ghost use Rattle.elf32.specs.Pages.{page_bytes, ArePages};
+    ghost use Rattle.rv_mem.specs.Paged.{IsPaged, base_of, memory_bytes};
     ghost use Rattle.rv_mem.specs.Space.{Space};
 
     ghost Value = { Space };
 
-    ghost view = { λ m. record { bytes = flat_map page_bytes m.pages.items; rights = arc_value m.rights } };
+    ghost view = { λ m. record { bytes = memory_bytes m.pages; rights = (base_of m.pages).rights } };
 
-    ghost invariant = { λ m. (length m.pages.items ≡ page_count) × ArePages page_bytes m.pages.items × (length (arc_value m.rights) ≡ page_count) };
+    ghost invariant = { λ m. IsPaged m.pages };
 }
 
 impl Memory {
@@ -69,14 +65,9 @@ impl Memory {
         requires { length input.now ≤ 4096 }
         ensures { IfOk result (λ m. m ≡ start_space image.now input.now) }
     {
-        let mut pages = shared_pages(alloc, image.pages())?;
-        put_input(&mut pages, alloc, input)?;
-        let rights = Arc::try_clone(image.rights())?;
-        Ok(Memory {
-            alloc,
-            pages,
-            rights,
-        })
+        let mut pages = program_pages(alloc, image)?;
+        put_input(&mut pages, input)?;
+        Ok(Memory { pages })
     }
 
     /// The instruction word at the address, or Misaligned where the address is not a multiple of 4, or
@@ -85,8 +76,8 @@ impl Memory {
     pub fn fetch(&self, address: u32) -> Result<u32, Fault>
         ensures { result ≡ loaded 4 Execute self.now address }
     {
-        let at = place(&*self.rights, Access::Execute, address, 4)?;
-        Ok(word_at(&self.pages, at))
+        let at = place(&self.pages.base.rights, Access::Execute, address, 4)?;
+        Ok(program_word_at(&self.pages, at))
     }
 
     /// The byte at the address, or MemoryFault where it may not be loaded.
@@ -94,7 +85,7 @@ impl Memory {
     pub fn load8(&self, address: u32) -> Result<u8, Fault>
         ensures { result ≡ loaded 1 Read self.now address }
     {
-        let at = place(&*self.rights, Access::Read, address, 1)?;
+        let at = place(&self.pages.base.rights, Access::Read, address, 1)?;
         Ok(byte_at(&self.pages, at))
     }
 
@@ -104,7 +95,7 @@ impl Memory {
     pub fn load16(&self, address: u32) -> Result<u16, Fault>
         ensures { result ≡ loaded 2 Read self.now address }
     {
-        let at = place(&*self.rights, Access::Read, address, 2)?;
+        let at = place(&self.pages.base.rights, Access::Read, address, 2)?;
         Ok(halfword_at(&self.pages, at))
     }
 
@@ -114,7 +105,7 @@ impl Memory {
     pub fn load32(&self, address: u32) -> Result<u32, Fault>
         ensures { result ≡ loaded 4 Read self.now address }
     {
-        let at = place(&*self.rights, Access::Read, address, 4)?;
+        let at = place(&self.pages.base.rights, Access::Read, address, 4)?;
         Ok(word_at(&self.pages, at))
     }
 
@@ -123,8 +114,8 @@ impl Memory {
     pub fn store8(&mut self, address: u32, value: u8) -> Result<(), Fault>
         ensures { Leaves result (stored 1 self.old address value) self.old self.new }
     {
-        let at = place(&*self.rights, Access::Write, address, 1)?;
-        write_in_page(&mut self.pages, self.alloc, at, &[value]).map_err(|_| Fault::Memory)
+        let at = place(&self.pages.base.rights, Access::Write, address, 1)?;
+        write_in_page(&mut self.pages, at, &[value]).map_err(|_| Fault::Memory)
     }
 
     /// Writes a halfword at the address, or refuses with Misaligned, MemoryFault or Memory and
@@ -133,10 +124,10 @@ impl Memory {
     pub fn store16(&mut self, address: u32, value: u16) -> Result<(), Fault>
         ensures { Leaves result (stored 2 self.old address value) self.old self.new }
     {
-        let at = place(&*self.rights, Access::Write, address, 2)?;
+        let at = place(&self.pages.base.rights, Access::Write, address, 2)?;
         let mut halfword = [0; 2];
         LittleEndian::write_u16(&mut halfword, value);
-        write_in_page(&mut self.pages, self.alloc, at, &halfword).map_err(|_| Fault::Memory)
+        write_in_page(&mut self.pages, at, &halfword).map_err(|_| Fault::Memory)
     }
 
     /// Writes a word at the address, or refuses with Misaligned, MemoryFault or Memory and changes
@@ -145,24 +136,24 @@ impl Memory {
     pub fn store32(&mut self, address: u32, value: u32) -> Result<(), Fault>
         ensures { Leaves result (stored 4 self.old address value) self.old self.new }
     {
-        let at = place(&*self.rights, Access::Write, address, 4)?;
+        let at = place(&self.pages.base.rights, Access::Write, address, 4)?;
         let mut word = [0; 4];
         LittleEndian::write_u32(&mut word, value);
-        write_in_page(&mut self.pages, self.alloc, at, &word).map_err(|_| Fault::Memory)
+        write_in_page(&mut self.pages, at, &word).map_err(|_| Fault::Memory)
     }
 
     /// Whether each of the `len` bytes from the address on may be loaded. Addresses do not wrap.
     pub fn range_readable(&self, address: u32, len: u32) -> bool
         ensures { result ≡ each Read self.now.rights address len }
     {
-        range_has(&*self.rights, Access::Read, address, len)
+        range_has(&self.pages.base.rights, Access::Read, address, len)
     }
 
     /// Whether each of the `len` bytes from the address on may be stored to. Addresses do not wrap.
     pub fn range_writable(&self, address: u32, len: u32) -> bool
         ensures { result ≡ each Write self.now.rights address len }
     {
-        range_has(&*self.rights, Access::Write, address, len)
+        range_has(&self.pages.base.rights, Access::Write, address, len)
     }
 
     /// Fills `out` with the bytes from the address on, at any alignment. Where one of them may not be loaded
@@ -173,7 +164,12 @@ impl Memory {
         ensures ok { IsOk result ↔ (each Read self.now.rights address (length out.old) ≡ true) }
         ensures err { IfErr result (λ e. (e ≡ MemoryFault) × (out.new ≡ out.old)) }
     {
-        if !range_has(&*self.rights, Access::Read, address, out.len() as u32) {
+        if !range_has(
+            &self.pages.base.rights,
+            Access::Read,
+            address,
+            out.len() as u32,
+        ) {
             return Err(Fault::MemoryFault);
         }
         if !out.is_empty() {
@@ -201,13 +197,18 @@ impl Memory {
         requires { length bytes.now < 2 ^ 32 }
         ensures { Leaves result (copied self.old address bytes.now) self.old self.new }
     {
-        if !range_has(&*self.rights, Access::Write, address, bytes.len() as u32) {
+        if !range_has(
+            &self.pages.base.rights,
+            Access::Write,
+            address,
+            bytes.len() as u32,
+        ) {
             return Err(Fault::MemoryFault);
         }
         if bytes.is_empty() {
             return Ok(());
         }
         let at = (address - FIRST_ADDRESS) as usize;
-        write(&mut self.pages, self.alloc, at, bytes).map_err(|_| Fault::Memory)
+        write(&mut self.pages, at, bytes).map_err(|_| Fault::Memory)
     }
 }

@@ -1,226 +1,285 @@
-//! Reads and writes of bytes that stand in pages. A page may be shared until it is written.
+//! Reads and writes of bytes that stand in pages. A page is shared with the program until it is written.
 
-ghost use Rattle.std.specs.Prelude.{◌≡◌, ◌+◌, ◌*◌, ◌%◌, ◌-◌, ◌≤◌, ◌<◌, length, take, drop, OnOk, OnErr, IfOk, flat_map};
-ghost use Rattle.std.specs.Arc.{arc_value};
+ghost use Rattle.std.specs.Prelude.{◌≡◌, ◌+◌, ◌/◌, ◌%◌, ◌-◌, ◌≤◌, ◌<◌, ◌++◌, ℕ, length, take, drop, slice_index, OnOk, OnErr, IfOk};
 ghost use Rattle.byteorder.specs.Endian.{little_number};
 ghost use Rattle.elf32.specs.Extent.{memory_size, page_count, page_size};
-ghost use Rattle.elf32.specs.Pages.{over, page_bytes, ArePages};
+ghost use Rattle.elf32.specs.Pages.{over, page_at, page_rights, segment_bytes};
+ghost use Rattle.rv_mem.specs.Paged.{IsPaged, AreOwn, base_of, first_own, memory_bytes};
 
 use byteorder::{ByteOrder, LittleEndian};
-use elf32::Page;
 use elf32::bytes::put;
-use elf32::extent::{PAGE_COUNT, PAGE_SIZE};
+use elf32::extent::PAGE_SIZE;
+use elf32::{BasePages, Image, Page};
 use std::alloc::{AllocError, Global};
+use std::slice::from_ref;
 use std::sync::Arc;
 
-/// The bytes of a page that is None: zeros.
-static ZERO_PAGE: Page = [0; PAGE_SIZE];
+/// The place of the first page of a call's own.
+const FIRST_OWN: usize = 512;
 
-/// The bytes of a page. None is a page of zeros.
+/// The pages of one call.
+#[derive(Drop)]
+pub struct Pages {
+    /// The pages of the program.
+    pub base: Arc<BasePages>,
+    /// For each of the 256 pages of memory its place: in `base`, or `FIRST_OWN` and its place in `own`.
+    pub index: Vec<u16>,
+    /// The pages that the call has written. Each is one page of memory.
+    pub own: Vec<Page>,
+}
+
+/// The pages of a program before its first instruction; refused where memory ran out.
+pub fn program_pages(alloc: Global, image: &Image) -> Result<Pages, AllocError>
+    ensures bytes { IfOk result (λ p. memory_bytes p ≡ segment_bytes image.now.segments) }
+    ensures rights { IfOk result (λ p. (base_of p).rights ≡ page_rights page_count image.now.segments) }
+    ensures paged { IfOk result IsPaged }
+{
+    let base = Arc::try_clone(image.base())?;
+    let index = Vec::from_slice(alloc, &base.index)?;
+    Ok(Pages {
+        base,
+        index,
+        own: Vec::new(alloc),
+    })
+}
+
+/// The page at a place: the program's where the place is below `FIRST_OWN`, else the call's own.
 #[inline(always)]
-fn bytes_of(page: &Option<Arc<Page>>) -> &Page
-    ensures { result.now ≡ page_bytes page.now }
+fn page_at<'a>(base: &'a [Page], own: &'a [Page], place: usize) -> &'a Page
+    requires shared { place < first_own → place < length base.now }
+    requires own { place < first_own + length own.now }
+    requires few { length own.now ≤ first_own }
+    ensures shared { place < first_own → result.now ≡ page_at base.now place }
+    ensures own { first_own ≤ place → result.now ≡ page_at own.now (place - first_own) }
 {
-    match page {
-        Some(page) => page,
-        None => &ZERO_PAGE,
-    }
+    let pages = if place < FIRST_OWN { base } else { own };
+    &pages[place % FIRST_OWN]
 }
 
-/// The page of a program, shared with it; refused where memory ran out.
-fn shared_page(page: &Option<Arc<Page>>) -> Result<Option<Arc<Page>>, AllocError>
-    ensures { IfOk result (λ shared. page_bytes shared ≡ page_bytes page.now) }
-{
-    match page {
-        Some(page) => Ok(Some(Arc::try_clone(page)?)),
-        None => Ok(None),
-    }
-}
-
-/// The pages of a program, shared with it, in order; refused where memory ran out.
-pub fn shared_pages(
-    alloc: Global,
-    pages: &[Option<Arc<Page>>],
-) -> Result<Vec<Option<Arc<Page>>>, AllocError>
-    requires { ArePages page_bytes pages.now }
-    ensures bytes { IfOk result (λ v. flat_map page_bytes v.items ≡ flat_map page_bytes pages.now) }
-    ensures count { IfOk result (λ v. length v.items ≡ length pages.now) }
-    ensures sizes { IfOk result (λ v. ArePages page_bytes v.items) }
-{
-    let mut shared = Vec::with_capacity(alloc, PAGE_COUNT)?;
-    for page in pages {
-        shared.push(shared_page(page)?)?;
-    }
-    Ok(shared)
-}
-
-/// A copy of the page with the bytes written at a place in it; refused where memory ran out. It is not
-/// inlined: the frames of its callers would hold a page, which would be cleared at each call.
+/// Makes a page the call's own; refused where memory ran out, and then nothing changes. It answers the
+/// place of the page among the call's own.
 #[cold]
 #[inline(never)]
-fn written_page(alloc: Global, page: &Page, at: usize, new: &[u8]) -> Result<Arc<Page>, AllocError>
-    requires size { length page.now ≡ page_size }
-    requires room { at + length new.now ≤ page_size }
-    ensures value { IfOk result (λ p. arc_value p ≡ over page.now at new.now) }
-    ensures size { IfOk result (λ p. length (arc_value p) ≡ page_size) }
+fn copy_page(pages: &mut Pages, page: usize) -> Result<usize, AllocError>
+    requires paged { IsPaged pages.old }
+    requires page { page < page_count }
+    requires shared { slice_index pages.old.index.items page < first_own }
+    ensures paged { IsPaged pages.new }
+    ensures base { base_of pages.new ≡ base_of pages.old }
+    ensures bytes { memory_bytes pages.new ≡ memory_bytes pages.old }
+    ensures place { IfOk result (λ k. slice_index pages.new.index.items page ≡ first_own + k) }
+    ensures kept { (k : ℕ) → first_own ≤ slice_index pages.old.index.items k → first_own ≤ slice_index pages.new.index.items k }
 {
-    let mut copy = *page;
-    put(&mut copy, at, new);
-    Ok(Arc::new(alloc, copy)?)
+    let shared = &pages.base.pages;
+    let place = pages.own.len();
+    pages
+        .own
+        .extend_from_slice(from_ref(&shared[pages.index[page] as usize]))?;
+    pages.index[page] = (FIRST_OWN + place) as u16;
+    Ok(place)
 }
 
-/// Replaces a page that is shared, or None, by a copy with the bytes written at a place in it; refused
-/// where memory ran out, and then nothing changes.
+/// Writes the bytes, which lie in one page, at a place in memory. The page is the call's own, at this place
+/// among its own.
+#[inline(always)]
+fn put_own(pages: &mut Pages, place: usize, at: usize, new: &[u8])
+    requires paged { IsPaged pages.old }
+    requires first { at < memory_size }
+    requires room { at % page_size + length new.now ≤ page_size }
+    requires place { slice_index pages.old.index.items (at / page_size) ≡ first_own + place }
+    ensures paged { IsPaged pages.new }
+    ensures base { base_of pages.new ≡ base_of pages.old }
+    ensures index { pages.new.index.items ≡ pages.old.index.items }
+    ensures bytes { memory_bytes pages.new ≡ over (memory_bytes pages.old) at new.now }
+{
+    put(&mut pages.own[place], at % PAGE_SIZE, new);
+}
+
+/// Makes the page at a place in memory the call's own, and writes the bytes, which lie in the page, at the
+/// place; refused where memory ran out, and then nothing changes.
 #[cold]
 #[inline(never)]
-fn copy_and_write(
-    page: &mut Option<Arc<Page>>,
-    alloc: Global,
-    at: usize,
-    new: &[u8],
-) -> Result<(), AllocError>
-    requires size { length (page_bytes page.old) ≡ page_size }
-    requires room { at + length new.now ≤ page_size }
-    ensures ok { OnOk result (page_bytes page.new ≡ over (page_bytes page.old) at new.now) }
-    ensures err { OnErr result (page_bytes page.new ≡ page_bytes page.old) }
-    ensures size { length (page_bytes page.new) ≡ page_size }
+fn copy_and_write(pages: &mut Pages, at: usize, new: &[u8]) -> Result<(), AllocError>
+    requires paged { IsPaged pages.old }
+    requires first { at < memory_size }
+    requires room { at % page_size + length new.now ≤ page_size }
+    requires shared { slice_index pages.old.index.items (at / page_size) < first_own }
+    ensures paged { IsPaged pages.new }
+    ensures base { base_of pages.new ≡ base_of pages.old }
+    ensures ok { OnOk result (memory_bytes pages.new ≡ over (memory_bytes pages.old) at new.now) }
+    ensures err { OnErr result (memory_bytes pages.new ≡ memory_bytes pages.old) }
 {
-    *page = Some(written_page(alloc, bytes_of(page), at, new)?);
+    let place = copy_page(pages, at / PAGE_SIZE)?;
+    put_own(pages, place, at, new);
     Ok(())
-}
-
-/// Writes the bytes at a place in the page. A page that is shared, or None, is copied first. Refused
-/// where memory ran out, and then nothing changes.
-#[inline(always)]
-fn write_page(
-    page: &mut Option<Arc<Page>>,
-    alloc: Global,
-    at: usize,
-    new: &[u8],
-) -> Result<(), AllocError>
-    requires size { length (page_bytes page.old) ≡ page_size }
-    requires room { at + length new.now ≤ page_size }
-    ensures ok { OnOk result (page_bytes page.new ≡ over (page_bytes page.old) at new.now) }
-    ensures err { OnErr result (page_bytes page.new ≡ page_bytes page.old) }
-    ensures size { length (page_bytes page.new) ≡ page_size }
-{
-    if let Some(shared) = page {
-        if let Some(bytes) = Arc::get_mut(shared) {
-            put(&mut bytes[..], at, new);
-            return Ok(());
-        }
-    }
-    copy_and_write(page, alloc, at, new)
 }
 
 /// Writes the bytes, which lie in one page, at a place in memory; refused where memory ran out, and then
 /// nothing changes.
 #[inline(always)]
-pub fn write_in_page(
-    pages: &mut [Option<Arc<Page>>],
-    alloc: Global,
-    at: usize,
-    new: &[u8],
-) -> Result<(), AllocError>
-    requires sizes { ArePages page_bytes pages.old }
-    requires count { length pages.old ≡ page_count }
+pub fn write_in_page(pages: &mut Pages, at: usize, new: &[u8]) -> Result<(), AllocError>
+    requires paged { IsPaged pages.old }
     requires first { at < memory_size }
     requires room { at % page_size + length new.now ≤ page_size }
-    ensures ok { OnOk result (flat_map page_bytes pages.new ≡ over (flat_map page_bytes pages.old) at new.now) }
-    ensures err { OnErr result (flat_map page_bytes pages.new ≡ flat_map page_bytes pages.old) }
-    ensures len { length pages.new ≡ length pages.old }
-    ensures sizes { ArePages page_bytes pages.new }
+    ensures paged { IsPaged pages.new }
+    ensures base { base_of pages.new ≡ base_of pages.old }
+    ensures ok { OnOk result (memory_bytes pages.new ≡ over (memory_bytes pages.old) at new.now) }
+    ensures err { OnErr result (memory_bytes pages.new ≡ memory_bytes pages.old) }
 {
-    write_page(&mut pages[at / PAGE_SIZE], alloc, at % PAGE_SIZE, new)
+    let place = pages.index[at / PAGE_SIZE] as usize;
+    if place < FIRST_OWN {
+        return copy_and_write(pages, at, new);
+    }
+    put_own(pages, place - FIRST_OWN, at, new);
+    Ok(())
+}
+
+/// Makes the pages from the first to the last the call's own; refused where memory ran out. No byte of
+/// memory changes.
+fn own_pages(pages: &mut Pages, first: usize, last: usize) -> Result<(), AllocError>
+    requires paged { IsPaged pages.old }
+    requires last { last < page_count }
+    ensures paged { IsPaged pages.new }
+    ensures base { base_of pages.new ≡ base_of pages.old }
+    ensures bytes { memory_bytes pages.new ≡ memory_bytes pages.old }
+    ensures own { OnOk result (AreOwn pages.new first (last + 1)) }
+{
+    for page in first..last + 1 {
+        if (pages.index[page] as usize) < FIRST_OWN {
+            copy_page(pages, page)?;
+        }
+    }
+    Ok(())
+}
+
+/// Writes the bytes from a place in memory on. Their pages are the call's own.
+fn put_in_pages(pages: &mut Pages, at: usize, new: &[u8])
+    requires paged { IsPaged pages.old }
+    requires some { 0 < length new.now }
+    requires room { at + length new.now ≤ memory_size }
+    requires own { AreOwn pages.old (at / page_size) ((at + length new.now - 1) / page_size + 1) }
+    ensures paged { IsPaged pages.new }
+    ensures base { base_of pages.new ≡ base_of pages.old }
+    ensures index { pages.new.index.items ≡ pages.old.index.items }
+    ensures bytes { memory_bytes pages.new ≡ over (memory_bytes pages.old) at new.now }
+{
+    let place = pages.index[at / PAGE_SIZE] as usize - FIRST_OWN;
+    let room = PAGE_SIZE - at % PAGE_SIZE;
+    if new.len() <= room {
+        put_own(pages, place, at, new);
+        return;
+    }
+    let (here, later) = new.split_at(room);
+    put_in_pages(pages, at + room, later);
+    put_own(pages, place, at, here);
 }
 
 /// Writes the bytes from a place in memory on; refused where memory ran out, and then nothing changes. To
-/// keep this, a page is replaced only after the later pages are written.
-pub fn write(
-    pages: &mut [Option<Arc<Page>>],
-    alloc: Global,
-    at: usize,
-    new: &[u8],
-) -> Result<(), AllocError>
-    requires sizes { ArePages page_bytes pages.old }
-    requires count { length pages.old ≡ page_count }
-    requires first { at < memory_size }
+/// keep this, all of the pages are the call's own before a byte is written.
+pub fn write(pages: &mut Pages, at: usize, new: &[u8]) -> Result<(), AllocError>
+    requires paged { IsPaged pages.old }
+    requires some { 0 < length new.now }
     requires room { at + length new.now ≤ memory_size }
-    ensures ok { OnOk result (flat_map page_bytes pages.new ≡ over (flat_map page_bytes pages.old) at new.now) }
-    ensures err { OnErr result (flat_map page_bytes pages.new ≡ flat_map page_bytes pages.old) }
-    ensures len { length pages.new ≡ length pages.old }
-    ensures sizes { ArePages page_bytes pages.new }
+    ensures paged { IsPaged pages.new }
+    ensures base { base_of pages.new ≡ base_of pages.old }
+    ensures ok { OnOk result (memory_bytes pages.new ≡ over (memory_bytes pages.old) at new.now) }
+    ensures err { OnErr result (memory_bytes pages.new ≡ memory_bytes pages.old) }
 {
-    let room = PAGE_SIZE - at % PAGE_SIZE;
-    if new.len() <= room {
-        return write_in_page(pages, alloc, at, new);
-    }
-    let (here, later) = new.split_at(room);
-    let page = written_page(
-        alloc,
-        bytes_of(&pages[at / PAGE_SIZE]),
-        at % PAGE_SIZE,
-        here,
-    )?;
-    write(pages, alloc, at + room, later)?;
-    pages[at / PAGE_SIZE] = Some(page);
+    own_pages(pages, at / PAGE_SIZE, (at + (new.len() - 1)) / PAGE_SIZE)?;
+    put_in_pages(pages, at, new);
     Ok(())
 }
 
 /// The bytes from a place in memory to the end of its page.
 #[inline(always)]
-fn rest_of_page(pages: &[Option<Arc<Page>>], at: usize) -> &[u8]
-    requires sizes { ArePages page_bytes pages.now }
-    requires count { length pages.now ≡ page_count }
+fn rest_of_page(pages: &Pages, at: usize) -> &[u8]
+    requires paged { IsPaged pages.now }
     requires first { at < memory_size }
-    ensures value { result.now ≡ take (page_size - at % page_size) (drop at (flat_map page_bytes pages.now)) }
+    ensures value { result.now ≡ take (page_size - at % page_size) (drop at (memory_bytes pages.now)) }
     ensures len { length result.now ≡ page_size - at % page_size }
 {
-    &bytes_of(&pages[at / PAGE_SIZE])[at % PAGE_SIZE..]
+    let place = pages.index[at / PAGE_SIZE] as usize;
+    &page_at(&pages.base.pages, &pages.own, place)[at % PAGE_SIZE..]
 }
 
 /// The byte at a place in memory.
 #[inline(always)]
-pub fn byte_at(pages: &[Option<Arc<Page>>], at: usize) -> u8
-    requires sizes { ArePages page_bytes pages.now }
-    requires count { length pages.now ≡ page_count }
+pub fn byte_at(pages: &Pages, at: usize) -> u8
+    requires paged { IsPaged pages.now }
     requires first { at < memory_size }
-    ensures { result ≡ little_number 1 (drop at (flat_map page_bytes pages.now)) }
+    ensures { result ≡ little_number 1 (drop at (memory_bytes pages.now)) }
 {
     rest_of_page(pages, at)[0]
 }
 
 /// The halfword at a place in memory, in one page.
 #[inline(always)]
-pub fn halfword_at(pages: &[Option<Arc<Page>>], at: usize) -> u16
-    requires sizes { ArePages page_bytes pages.now }
-    requires count { length pages.now ≡ page_count }
+pub fn halfword_at(pages: &Pages, at: usize) -> u16
+    requires paged { IsPaged pages.now }
     requires first { at < memory_size }
     requires room { at % page_size + 2 ≤ page_size }
-    ensures { result ≡ little_number 2 (drop at (flat_map page_bytes pages.now)) }
+    ensures { result ≡ little_number 2 (drop at (memory_bytes pages.now)) }
 {
     LittleEndian::read_u16(rest_of_page(pages, at))
 }
 
 /// The word at a place in memory, in one page.
 #[inline(always)]
-pub fn word_at(pages: &[Option<Arc<Page>>], at: usize) -> u32
-    requires sizes { ArePages page_bytes pages.now }
-    requires count { length pages.now ≡ page_count }
+pub fn word_at(pages: &Pages, at: usize) -> u32
+    requires paged { IsPaged pages.now }
     requires first { at < memory_size }
     requires room { at % page_size + 4 ≤ page_size }
-    ensures { result ≡ little_number 4 (drop at (flat_map page_bytes pages.now)) }
+    ensures { result ≡ little_number 4 (drop at (memory_bytes pages.now)) }
 {
     LittleEndian::read_u32(rest_of_page(pages, at))
 }
 
+/// The bytes from a place in memory to the end of its page, which is the program's.
+#[inline(always)]
+fn rest_of_shared(pages: &Pages, at: usize) -> &[u8]
+    requires paged { IsPaged pages.now }
+    requires first { at < memory_size }
+    requires shared { slice_index pages.now.index.items (at / page_size) < first_own }
+    ensures value { result.now ≡ take (page_size - at % page_size) (drop at (memory_bytes pages.now)) }
+    ensures len { length result.now ≡ page_size - at % page_size }
+{
+    let place = pages.index[at / PAGE_SIZE] as usize;
+    &pages.base.pages[place][at % PAGE_SIZE..]
+}
+
+/// The word at a place in memory, in one page.
+#[cold]
+#[inline(never)]
+fn written_word_at(pages: &Pages, at: usize) -> u32
+    requires paged { IsPaged pages.now }
+    requires first { at < memory_size }
+    requires room { at % page_size + 4 ≤ page_size }
+    ensures { result ≡ little_number 4 (drop at (memory_bytes pages.now)) }
+{
+    word_at(pages, at)
+}
+
+/// The word at a place in memory, in one page. It is found sooner where the page is the program's, as a page
+/// of instructions is.
+#[inline(always)]
+pub fn program_word_at(pages: &Pages, at: usize) -> u32
+    requires paged { IsPaged pages.now }
+    requires first { at < memory_size }
+    requires room { at % page_size + 4 ≤ page_size }
+    ensures { result ≡ little_number 4 (drop at (memory_bytes pages.now)) }
+{
+    if pages.index[at / PAGE_SIZE] as usize >= FIRST_OWN {
+        return written_word_at(pages, at);
+    }
+    LittleEndian::read_u32(rest_of_shared(pages, at))
+}
+
 /// Fills `out` with the bytes from a place in memory on.
-pub fn read(pages: &[Option<Arc<Page>>], at: usize, out: &mut [u8])
-    requires sizes { ArePages page_bytes pages.now }
-    requires count { length pages.now ≡ page_count }
+pub fn read(pages: &Pages, at: usize, out: &mut [u8])
+    requires paged { IsPaged pages.now }
     requires first { at < memory_size }
     requires room { at + length out.old ≤ memory_size }
-    ensures { out.new ≡ take (length out.old) (drop at (flat_map page_bytes pages.now)) }
+    ensures { out.new ≡ take (length out.old) (drop at (memory_bytes pages.now)) }
 {
     let page = rest_of_page(pages, at);
     if out.len() <= page.len() {

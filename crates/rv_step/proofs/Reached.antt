@@ -59,7 +59,7 @@ not_next outcome.StorageCall h = refl
 not_next (outcome.End end) h = refl
 
 -- the stage of a run that can make a step
-running_is : (stage : Stage) → is_running stage ≡ true → stage ≡ Running
+pub running_is : (stage : Stage) → is_running stage ≡ true → stage ≡ Running
 running_is Running h = refl
 running_is (Asked key) h = cc
 running_is (Ended end out) h = cc

@@ -24,6 +24,11 @@ MeetsResult (Ok (Asked key)) want old new = (want ≡ Asks key) × (new ≡ old)
 MeetsResult (Ok (Ended end out)) want old new = want ≡ Ends end out new
 MeetsResult (Err refused) want old new = IsTrue (goes_on want) × (new ≡ old)
 
+-- the same for a method of a machine that is running, which writes how far the run is into a stage
+abbrev pub MeetsStage : Result (Unit {0}) AllocError → Stage → StepResult → Machine → Machine → Type 0
+MeetsStage (Ok done) stage want old new = MeetsResult (Ok stage) want old new
+MeetsStage (Err refused) stage want old new = (stage ≡ Running) × IsTrue (goes_on want) × (new ≡ old)
+
 -- the same for a method that only finds an ECALL, and then has not changed the machine; `instr` is the instruction, if
 -- there is one
 abbrev pub MeetsInstruction : Result InstructionOutcome AllocError → Option Instr → StepResult → Machine → Machine → Type 0

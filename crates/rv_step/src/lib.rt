@@ -12,6 +12,7 @@ mod outcome;
 pub mod run;
 pub mod stage;
 mod storage;
+mod storage_calls;
 
 pub use answer::StorageAnswer;
 pub use ended_run::EndedRun;

@@ -1,9 +1,6 @@
 //! The machine of one call, and one step of it.
 
 ghost use Rattle.std.specs.Prelude.{◌≡◌, ◌<◌, ◌≤◌, ◌*◌, ◌%◌, ◌^◌, if◌then◌else◌, [], false, IfOk, IsTrue, None, Ok, length};
-ghost use Rattle.rv_isa.specs.Registers.{written};
-ghost use Rattle.std.specs.Option.{option_copied};
-ghost use Rattle.std.specs.FinMap as map;
 ghost use Rattle.rv_alu.specs.Accesses.{store_width, width_of};
 ghost use Rattle.rv_alu.specs.Effects.{effect_of, register_value, is_plain};
 ghost use Rattle.rv_ledger.specs.declared.end.End.TheVariants.{OutOfGas, Trapped};
@@ -11,13 +8,11 @@ ghost use Rattle.rv_isa.specs.Decoded.{decoded};
 ghost use Rattle.rv_isa.specs.declared.instruction.Instr.TheVariants.{Load, Store};
 ghost use Rattle.rv_mem.specs.Space.{Leaves, loaded, stored};
 ghost use Rattle.rv_mem.specs.declared.access.Access.TheVariants as access;
-ghost use Rattle.ecalls.specs.StorageCalls.{ecall_charge, late_charge, length_of, request_by};
 
 use crate::accesses::{number_at, store_number};
 use crate::faults::{refusal, trap_of};
 use crate::outcome::{InstructionOutcome, is_ecall};
-use crate::stage::{Stage, is_asked, trapped};
-use ecalls::{READ_CHARGE, Request, StorageCall, Trap, asked, late_charge, request_by};
+use ecalls::Trap;
 use elf32::extent::{END_ADDRESS, INPUT_ADDRESS};
 use gas::{Meter, cost};
 use rv_alu::{address, execute, extended};
@@ -26,15 +21,9 @@ use rv_isa::{
     decode_compute, decode_fence, decode_immediate, decode_jal, decode_jalr, decode_load,
     decode_lui, decode_store, decode_system, funct3, opcode,
 };
-use rv_ledger::{Call, End, Key, Output, Rules, Value, Write, Writes};
+use rv_ledger::{Call, End, Rules, Writes};
 use rv_mem::Memory;
 use std::alloc::{AllocError, Global};
-
-/// The number in a0 after a READ of an absent key.
-const ABSENT: u32 = 0xffff_ffff;
-
-/// The number in a0 after a READ of a value that is longer than the buffer.
-const TOO_LONG: u32 = 0xffff_fffe;
 
 /// Returns the value of an expression. The expression is written into a branch for each of the eight
 /// funct3 of a word, so the compiler knows funct3 there and does not look up again which operation it
@@ -94,11 +83,10 @@ pub struct Machine {
 }
 
 impl Machine {
-    ghost use Rattle.rv_step.specs.Step.{Next, instruction_result, address_of, answered, charged, ecall_result, compute_result, delivery_result, next_instruction, is_ecall, memory_result, decode_result, read_result, storage_call_result, step, load_result, value_result, write_result};
+    ghost use Rattle.rv_step.specs.Step.{Next, instruction_result, address_of, compute_result, next_instruction, is_ecall, memory_result, decode_result, step, load_result};
     ghost use Rattle.rv_step.specs.Chain.{start};
     ghost use Rattle.rv_step.specs.Growth.{instruction_at};
-    ghost use Rattle.rv_step.specs.declared.stage.Stage.TheVariants.{Running};
-    ghost use Rattle.rv_step.specs.Meets.{MeetsEffect, MeetsInstruction, MeetsInstructions, MeetsResult, is_asked, is_next};
+    ghost use Rattle.rv_step.specs.Meets.{MeetsEffect, MeetsInstruction, MeetsInstructions, is_next};
 
     /// The machine of a call before its first instruction; refused where memory ran out.
     #[tactic(auto, unfolding(crate::specs::Chain::start))]
@@ -166,39 +154,8 @@ impl Machine {
         }
     }
 
-    /// Gives the answer to the READ at which the machine stands: the value, or None for absence. Charges
-    /// the READ, and then the bytes that it copies; the call ends out of gas where less is left. Refused
-    /// where memory ran out, and then nothing changes.
-    #[tactic(auto, unfolding(crate::specs::Step::answered))]
-    pub(crate) fn answer(&mut self, content: Option<&Value>) -> Result<Stage, AllocError>
-        ensures { MeetsResult result (answered self.old (option_copied content.entry)) self.old self.new }
-    {
-        let gas = self.gas;
-        if !self.gas.charge(READ_CHARGE) {
-            return Ok(Stage::Ended(self.run_out(), Output::empty()));
-        }
-        match self.deliver(content) {
-            Ok(stage) => Ok(self.refund_if_asked(gas, stage)),
-            Err(refused) => {
-                self.gas = gas;
-                Err(refused)
-            }
-        }
-    }
-
-    /// Gives the gas back where the storage was asked: such a READ is charged when its answer comes.
-    fn refund_if_asked(&mut self, gas: Meter, stage: Stage) -> Stage
-        ensures stage { result ≡ stage }
-        ensures gas { self.new ≡ (if is_asked stage then record self.old { gas = gas } else self.old) }
-    {
-        if is_asked(&stage) {
-            self.gas = gas;
-        }
-        stage
-    }
-
     /// Ends the call out of gas: all that is left is spent.
-    fn run_out(&mut self) -> End
+    pub(crate) fn run_out(&mut self) -> End
         ensures end { result ≡ OutOfGas }
         ensures spent { self.new ≡ record self.old { gas = 0 } }
     {
@@ -334,125 +291,6 @@ impl Machine {
         }
     }
 
-    /// Charges the storage call at which the machine stands and does it. A READ that asks the storage is
-    /// charged only when its answer comes. Refused where memory ran out, and then nothing changes.
-    #[inline(never)]
-    #[tactic(auto, unfolding(ecalls::specs::StorageCalls::request_of))]
-    pub(crate) fn execute_ecall(&mut self) -> Result<Stage, AllocError>
-        ensures { MeetsResult result (ecall_result self.old (ecall_charge self.old.regs self.old.rules)) self.old self.new }
-    {
-        let call = match asked(&self.regs, self.rules) {
-            Ok(call) => call,
-            Err(cause) => return Ok(trapped(cause)),
-        };
-        let gas = self.gas;
-        if !self.gas.charge(call.charge(&self.regs)) {
-            return Ok(Stage::Ended(self.run_out(), Output::empty()));
-        }
-        match self.serve_request(call) {
-            Ok(stage) => Ok(self.refund_if_asked(gas, stage)),
-            Err(refused) => {
-                self.gas = gas;
-                Err(refused)
-            }
-        }
-    }
-
-    /// Does a storage call that has been charged; it may trap MemoryFault or TooManyWrites.
-    #[tactic(auto, unfolding(crate::specs::Step::storage_call_result))]
-    fn serve_request(&mut self, call: StorageCall) -> Result<Stage, AllocError>
-        requires { length_of call self.old.regs ≤ 256 }
-        ensures { MeetsResult result (storage_call_result self.old (request_by call self.old.regs self.old.memory)) self.old self.new }
-    {
-        let request = match request_by(call, &self.regs, &self.memory) {
-            Ok(request) => request,
-            Err(cause) => return Ok(trapped(cause)),
-        };
-        match request {
-            Request::Read(key) => self.read(key),
-            Request::Write(write) => self.write(write),
-            Request::Return(out) => Ok(Stage::Ended(End::Returned, out)),
-            Request::Revert(out) => Ok(Stage::Ended(End::Reverted, out)),
-        }
-    }
-
-    /// Reads a key: from the call's own writes, or else by asking the storage.
-    fn read(&mut self, key: Key) -> Result<Stage, AllocError>
-        ensures { MeetsResult result (read_result self.old key (map.get self.old.own key)) self.old self.new }
-    {
-        let content = match self.own.get(&key) {
-            Some(content) => content.clone()?,
-            None => return Ok(Stage::Asked(key)),
-        };
-        self.deliver(content.as_ref())
-    }
-
-    /// Writes or removes a key; traps TooManyWrites where the call has written 256 other keys.
-    #[tactic(auto, unfolding(crate::specs::Step::write_result))]
-    fn write(&mut self, write: Write) -> Result<Stage, AllocError>
-        ensures { MeetsResult result (write_result self.old write) self.old self.new }
-    {
-        if !self.own.has_room(&write.key) {
-            return Ok(trapped(Trap::TooManyWrites));
-        }
-        self.own.insert(write)?;
-        self.advance_pc();
-        Ok(Stage::Running)
-    }
-
-    /// Delivers the answer to a READ: sets a0, and charges and copies a value that fits into the buffer.
-    #[tactic(auto, unfolding(crate::specs::Step::delivery_result))]
-    fn deliver(&mut self, content: Option<&Value>) -> Result<Stage, AllocError>
-        ensures { MeetsResult result (delivery_result self.old (option_copied content.entry)) self.old self.new }
-    {
-        let Some(value) = content else {
-            return Ok(self.end_read(ABSENT));
-        };
-        if value.bytes().len() > self.regs.get(Reg::a2()) as usize {
-            return Ok(self.end_read(TOO_LONG));
-        }
-        self.deliver_charged(value)
-    }
-
-    /// Charges the bytes of a value and copies it. The call ends out of gas, and nothing is copied, where
-    /// less gas is left. Refused where memory ran out, and then nothing changes.
-    fn deliver_charged(&mut self, value: &Value) -> Result<Stage, AllocError>
-        ensures { MeetsResult result (charged (late_charge self.old.rules (length value.now)) self.old (λ t. value_result t value.now)) self.old self.new }
-    {
-        let gas = self.gas;
-        let cost = late_charge(self.rules, value.bytes().len() as u32);
-        if !self.gas.charge(cost) {
-            return Ok(Stage::Ended(self.run_out(), Output::empty()));
-        }
-        match self.copy_value(value) {
-            Ok(stage) => Ok(stage),
-            Err(refused) => {
-                self.gas = gas;
-                Err(refused)
-            }
-        }
-    }
-
-    /// Copies a value into the buffer of a READ. Refused where memory ran out, and then nothing changes.
-    fn copy_value(&mut self, value: &Value) -> Result<Stage, AllocError>
-        ensures { MeetsResult result (value_result self.old value.now) self.old self.new }
-    {
-        match self.memory.copy_in(self.regs.get(Reg::a1()), value.bytes()) {
-            Ok(()) => Ok(self.end_read(value.bytes().len() as u32)),
-            Err(fault) => Ok(Stage::Ended(refusal(fault)?, Output::empty())),
-        }
-    }
-
-    /// Sets a0 at the end of a READ, and goes on to the next instruction.
-    fn end_read(&mut self, number: u32) -> Stage
-        ensures stage { result ≡ Running }
-        ensures machine { next_instruction (record self.old { regs = written self.old.regs 10 number }) ≡ Next self.new }
-    {
-        self.regs.set(Reg::a0(), number);
-        self.advance_pc();
-        Stage::Running
-    }
-
     /// Executes an instruction that has been charged and is not an ECALL. None where the machine goes on,
     /// or how the call ends.
     #[tactic(auto, unfolding(crate::specs::Step::instruction_result))]
@@ -535,7 +373,7 @@ impl Machine {
 
     /// Goes on to the next instruction.
     #[inline(always)]
-    fn advance_pc(&mut self)
+    pub(crate) fn advance_pc(&mut self)
         ensures { next_instruction self.old ≡ Next self.new }
     {
         self.pc = self.pc.wrapping_add(4);

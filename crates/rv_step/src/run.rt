@@ -1,18 +1,13 @@
 //! A run of one call, which stops where it needs an answer from the storage.
 
-ghost use Rattle.std.specs.Prelude.{◌≡◌, ◌≤◌, [], IsTrue, Ok, OnErr, OnOk};
+ghost use Rattle.std.specs.Prelude.{◌≡◌, ◌≤◌};
 ghost use Rattle.rv_step.specs.Chain.{receipt_of};
-ghost use Rattle.rv_step.specs.Growth.{goes_on};
-ghost use Rattle.rv_step.specs.Meets.{MeetsResult};
-ghost use Rattle.rv_step.specs.Step.{ecall_result};
-ghost use Rattle.ecalls.specs.StorageCalls.{ecall_charge};
-ghost use Rattle.rv_step.specs.declared.stage.Stage.TheVariants.{Ended};
 
 use crate::answer::StorageAnswer;
 use crate::ended_run::EndedRun;
 use crate::machine::Machine;
 use crate::outcome::InstructionOutcome;
-use crate::stage::Stage;
+use crate::stage::{Stage, end_with};
 use read_set::Origin;
 use rv_ledger::{Call, End, Key, Output, Receipt, Value};
 use std::alloc::{AllocError, Global};
@@ -104,7 +99,7 @@ impl Run {
     {
         match self.machine.execute_instruction()? {
             InstructionOutcome::Next => {}
-            InstructionOutcome::StorageCall => execute_ecall(&mut self.machine, &mut self.stage)?,
+            InstructionOutcome::StorageCall => self.machine.execute_ecall(&mut self.stage)?,
             InstructionOutcome::End(end) => end_with(&mut self.stage, end),
         }
         Ok(())
@@ -144,7 +139,7 @@ impl Run {
     {
         match self.machine.execute_until_stop()? {
             InstructionOutcome::Next => unreachable!(),
-            InstructionOutcome::StorageCall => execute_ecall(&mut self.machine, &mut self.stage)?,
+            InstructionOutcome::StorageCall => self.machine.execute_ecall(&mut self.stage)?,
             InstructionOutcome::End(end) => end_with(&mut self.stage, end),
         }
         Ok(())
@@ -180,14 +175,15 @@ impl Run {
             value: Value::copied(content),
             origin,
         })?;
-        self.stage = match self.machine.answer(content) {
-            Ok(stage) => stage,
+        self.stage = Stage::Running;
+        match self.machine.answer(content, &mut self.stage) {
+            Ok(()) => Ok(()),
             Err(refused) => {
                 let _ = self.answers.pop();
-                return Err(refused);
+                self.stage = Stage::Asked(key);
+                Err(refused)
             }
-        };
-        Ok(())
+        }
     }
 
     /// Turns a run whose call has ended into its receipt and answers. Takes no memory.
@@ -215,28 +211,6 @@ impl Run {
             _ => unreachable!(),
         }
     }
-}
-
-/// Does the storage call at which a machine stands. Refused where memory ran out, and then nothing
-/// changes. It is kept out of the loop over instructions, since a function's frame is cleared at each
-/// entry, and an output takes much room in the frame.
-#[inline(never)]
-fn execute_ecall(machine: &mut Machine, stage: &mut Stage) -> Result<(), AllocError>
-    ensures ok { OnOk result (MeetsResult (Ok stage.new) (ecall_result machine.old (ecall_charge machine.old.regs machine.old.rules)) machine.old machine.new) }
-    ensures grows { OnErr result (IsTrue (goes_on (ecall_result machine.old (ecall_charge machine.old.regs machine.old.rules)))) }
-    ensures machine { OnErr result (machine.new ≡ machine.old) }
-    ensures stage { OnErr result (stage.new ≡ stage.old) }
-{
-    *stage = machine.execute_ecall()?;
-    Ok(())
-}
-
-/// Sets the stage of a call that ends without an output. It is kept out of the loop for the same reason.
-#[inline(never)]
-fn end_with(stage: &mut Stage, end: End)
-    ensures { stage.new ≡ Ended end [] }
-{
-    *stage = Stage::Ended(end, Output::empty());
 }
 
 /// The receipt of a call with this gas limit that ended so; only a call that returned keeps its writes.

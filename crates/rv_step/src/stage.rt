@@ -1,11 +1,10 @@
 //! How far a run is.
 
 ghost use Rattle.std.specs.Prelude.{◌≡◌, []};
-ghost use Rattle.rv_ledger.specs.declared.end.End.TheVariants.{Trapped};
 ghost use Rattle.rv_step.specs.Meets.{is_asked};
 ghost use Rattle.rv_step.specs.declared.stage.Stage.TheVariants.{Ended};
 
-use rv_ledger::{End, Key, Output, Trap};
+use rv_ledger::{End, Key, Output};
 
 /// How far a run is.
 #[derive(Drop)]
@@ -25,9 +24,11 @@ pub(crate) fn is_asked(stage: &Stage) -> bool
     matches!(stage, Stage::Asked(_))
 }
 
-/// The stage of a call that met a trap.
-pub(crate) fn trapped(cause: Trap) -> Stage
-    ensures { result ≡ Ended (Trapped cause) [] }
+/// Sets the stage of a call that ends without an output. It is kept out of the loop over instructions,
+/// since a function's frame is cleared at each entry, and an output takes much room in the frame.
+#[inline(never)]
+pub(crate) fn end_with(stage: &mut Stage, end: End)
+    ensures { stage.new ≡ Ended end [] }
 {
-    Stage::Ended(End::Trapped(cause), Output::empty())
+    *stage = Stage::Ended(end, Output::empty());
 }

@@ -15,7 +15,7 @@ pub fn apply_writes(store: &mut Store, writes: &Writes) -> Result<(), AllocError
 {
     for (key, value) in writes.iter() {
         match value {
-            Some(value) => store.insert(*key, value.copy())?,
+            Some(value) => store.insert_copy(*key, value)?,
             None => store.remove(key),
         }
     }

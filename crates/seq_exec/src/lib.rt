@@ -6,7 +6,7 @@ ghost use Rattle.rv_step.specs.Chain.{ends};
 ghost use Rattle.rv_step.specs.Fold.{receipts_of, store_after};
 
 use read_set::Origin;
-use rv_ledger::{Call, Job, Outcome, Receipt, Store};
+use rv_ledger::{Call, Job, Outcome, Receipt, Store, StoredValue};
 use rv_step::{EndedRun, Pause, Run, apply_writes, one_receipt};
 use std::alloc::{AllocError, Global};
 
@@ -51,7 +51,8 @@ fn run_one(alloc: Global, call: &Call, store: &Store) -> Result<Receipt, AllocEr
     one_receipt();
     let mut run = Run::start(alloc, call)?;
     while let Pause::Ask(key) = run.go()? {
-        run.answer(store.get(&key), Origin::Base)?;
+        let content = StoredValue::value_of(store.get(&key));
+        run.answer(content.as_ref(), Origin::Base)?;
     }
     let EndedRun {
         call: _,

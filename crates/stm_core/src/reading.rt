@@ -18,7 +18,7 @@ use crate::next_step::{NextStep, ReadResult};
 use mvmap::MvMap;
 use read_set::Origin;
 use rv_ledger::inline_bytes::VALUE_LIMIT;
-use rv_ledger::{Key, Store, Value};
+use rv_ledger::{Key, Store, StoredValue, Value};
 use rv_step::StorageAnswer;
 use scheduler::{Scheduler, TaskKind};
 use std::alloc::AllocError;
@@ -139,7 +139,7 @@ pub(crate) fn read_at(
             scheduler,
             worker,
             key,
-            Value::copied(store.get(key)),
+            StoredValue::value_of(store.get(key)),
             Origin::Base,
         ),
         mvmap::Answer::Found(version, content) => give(

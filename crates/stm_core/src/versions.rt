@@ -12,7 +12,7 @@ ghost use Rattle.stm_core.specs.Inner.{AreOpen, writes_at};
 
 use mvmap::MvMap;
 use rv_ledger::inline_bytes::VALUE_LIMIT;
-use rv_ledger::{Key, Value, Writes};
+use rv_ledger::{Key, StoredValue, Value, Writes};
 use std::alloc::{AllocError, Global};
 use stm_state::{CallState, Recorded};
 
@@ -76,8 +76,9 @@ pub(crate) fn move_key(
     ensures bytes { promised.new * VALUE_LIMIT ≤ map.new.arena.bytes }
 {
     match write_at(&state.last, key) {
-        Some(value) => {
-            see_short(value);
+        Some(content) => {
+            let value = StoredValue::value_of(content.as_ref());
+            see_short(&value);
             map.publish(key, call, state.incarnation, value.as_ref());
             *promised -= 1;
         }
@@ -86,7 +87,7 @@ pub(crate) fn move_key(
 }
 
 /// What a run wrote at a key; None where it did not write it, and where there is no run.
-fn write_at<'a>(last: &'a Option<Recorded>, key: &Key) -> Option<&'a Option<Value>>
+fn write_at<'a>(last: &'a Option<Recorded>, key: &Key) -> Option<&'a Option<StoredValue>>
     ensures { option_copied result ≡ write_of last.now key.now }
 {
     match last {

@@ -9,10 +9,14 @@ use crate::done_cell::DoneCell;
 use crate::fault::OutsideFault;
 use rv_ledger::Block;
 use std::alloc::{AllocError, Global};
+use std::hint::spin_loop;
 use std::marker::Brand;
-use std::sync::{Mutex, Wait};
+use std::sync::{Mutex, MutexGuard, Wait};
 use stm_core::Core;
 use version_arena::Arena;
+
+/// How often a thread tries the lock before it waits for it.
+const TRIES: u32 = 2000;
 
 /// What the threads of a block share: the lock with the book, the calls, which they run outside the lock, and
 /// the cell, which they look at outside the lock. Where `known` is true the calls are those that `B` names.
@@ -88,10 +92,22 @@ impl<B: BlockName> Shared<B> {
         lock.into_inner().without_name()
     }
 
+    /// Takes the lock. It is tried for a while before the thread waits for it, since a thread that waits
+    /// sleeps, and waking it takes longer than a step under the lock.
+    pub(crate) fn hold<R: Wait>(&self, rt: &R) -> MutexGuard<'_, Book<B>> {
+        for _ in 0..TRIES {
+            if let Some(guard) = self.lock.try_lock() {
+                return guard;
+            }
+            spin_loop();
+        }
+        self.lock.lock(rt)
+    }
+
     /// Writes a fault that was met outside the lock, unless one was written before. Returns the first one
     /// that was written.
     pub(crate) fn refuse<R: Wait>(&self, rt: &R, fault: OutsideFault) -> WrittenFault {
-        self.lock.lock(rt).write_outside(fault)
+        self.hold(rt).write_outside(fault)
     }
 }
 

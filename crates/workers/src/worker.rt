@@ -83,7 +83,7 @@ fn make_step<B: BlockName, R: Wait, G: Gate>(
             Ok(Some(next))
         }
         _ => {
-            let next = make_task_step(&mut shared.lock.lock(rt), share, step)?;
+            let next = make_task_step(&mut shared.hold(rt), share, step)?;
             Ok(Some(next))
         }
     }
@@ -129,7 +129,7 @@ fn ask<B: BlockName, R: Wait>(
     ensures dones { IfOk result (λ next. MatchOption next (share.new.dones ≡ share.old.dones + 1) (λ _. share.new.dones ≡ share.old.dones)) }
     ensures shown { IfOk result (λ next. next ≡ None → cell_view share.new.pass ≡ 1) }
 {
-    let asked = shared.lock.lock(rt).ask(share)?;
+    let asked = shared.hold(rt).ask(share)?;
     match asked {
         None => shared.cell.set_done(rt, &mut share.pass),
         Some(NextStep::Ask) => shared.cell.look(rt, &mut share.pass, &ProcessorHint),
@@ -181,8 +181,7 @@ fn record<B: BlockName, R: Wait, G: Gate>(
     gate.held(share.worker());
     let ended = run.finish();
     shared
-        .lock
-        .lock(rt)
+        .hold(rt)
         .record_known(alloc, share, call, incarnation, ended, shared.known)
 }
 
@@ -231,7 +230,7 @@ fn read<B: BlockName, R: Wait>(
     ensures pass { share.new.pass ≡ share.old.pass }
     ensures dones { OnOk result (share.new.dones ≡ share.old.dones) }
 {
-    let answer = shared.lock.lock(rt).read(share, call, incarnation, key)?;
+    let answer = shared.hold(rt).read(share, call, incarnation, key)?;
     let ReadResult::Given(value, origin) = answer else {
         return Ok(false);
     };

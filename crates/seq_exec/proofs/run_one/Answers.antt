@@ -1,4 +1,6 @@
-use Rattle.std.proofs.Common.{◌≡◌, ◌∙◌, sym, subst, refl, List}
+use Rattle.std.proofs.Common.{◌≡◌, ◌∙◌, sym, subst, refl, List, rules}
+use Rattle.std.specs.FinMap as map
+use Rattle.std.specs.Option.{option_copied}
 use Rattle.rv_step.specs.declared.answer.StorageAnswer.{StorageAnswer}
 use Rattle.rv_step.specs.declared.stage.Stage.TheVariants.{Asked}
 use Rattle.rv_ledger.specs.Call.{Invocation}
@@ -11,9 +13,10 @@ pub loop-run-preserved : goal.loop-run-preserved
 loop-run-preserved c =
     let asked : c.go.new.self.stage ≡ Asked c.in-Ask.key = rw c.in-Ask.is at c.in_ok-key.ensures.pause in
     let from : AreFrom c.args.store.now (replies_of c.go.new.self.answers) = rw c.go.ensures.answers c.loop-run.invariant.answers in
+    let told : option_copied c.as_ref.result ≡ map.get c.args.store.now c.in-Ask.key = search rules in
     record {
       call = same_call c.args.store.now c.go.new.self c.answer.new.self c.in-Ask.key _ _ asked c.in_ok-answer.ensures.ok ∙ c.go.ensures.call ∙ c.loop-run.invariant.call;
-      answers = still_from c.args.store.now c.go.new.self c.answer.new.self c.in-Ask.key _ _ asked c.in_ok-answer.ensures.ok c.get.ensures from;
+      answers = still_from c.args.store.now c.go.new.self c.answer.new.self c.in-Ask.key _ _ asked c.in_ok-answer.ensures.ok told from;
     }
 
 pub returns : goal.returns

@@ -1,14 +1,17 @@
-use Rattle.std.proofs.Common.{arith, ap, ◌∙◌}
-use Rattle.std.specs.Char.{is_ascii_digit}
-use Rattle.std.specs.Result.{result_ok}
-use Rattle.std.proofs.lemmas.Bool.Decides.{nat_tests}
-use Rattle.block_file.proofs.FieldLemmas.{text_of_passing, digits_parsed}
+use Rattle.std.proofs.Common.{sym, ◌∙◌, arith}
+use Rattle.block_file.proofs.FieldLemmas.{one_more, sum_more, sum_small}
 use Rattle.block_file.proofs.fields.number.Goals as goal
 
-pub returns-in_default : goal.returns-in_default
-returns-in_default c = absurd (c.in_default.ensures.cases.0 (text_of_passing is_ascii_digit (λ b h. grind (arith, nat_tests)) c.args.digits.now c.requires.digits))
+pub overflow_mul-number : goal.overflow_mul-number
+overflow_mul-number c =
+    omega (arith, sum_small c.args.text.now c.loop-byte.byte-index c.requires c.loop-byte.invariant.digits)
 
-pub returns : goal.returns
-returns c =
-    let e = digits_parsed c.args.digits.now c.in-Ok.text.now c.parse.result c.in-Ok.ensures.cases.0 c.parse.ensures.value.0 c.requires.digits c.requires.some c.requires.short in
-    c.ok.ensures.value ∙ ap result_ok e
+pub overflow_add-number : goal.overflow_add-number
+overflow_add-number c =
+    omega (arith, sum_small c.args.text.now c.loop-byte.byte-index c.requires c.loop-byte.invariant.digits, c.type_inv.text c.loop-byte.byte-index)
+
+pub loop-byte-preserved : goal.loop-byte-preserved
+loop-byte-preserved c = record {
+  digits = one_more c.args.text.now c.loop-byte.byte-index (omega arith) c.loop-byte.invariant.digits (sym c.is_ascii_digit.ensures.value ∙ c.if-not-is_ascii_digit.false);
+  sum = omega (arith, sum_more c.args.text.now c.loop-byte.byte-index (omega arith));
+}

@@ -1,15 +1,33 @@
-use Rattle.std.proofs.Common.{arith, ◌≡◌, ◌-◌, ◌/◌, ◌%◌, length, drop, ◌∙◌, refl, ap, length-drop}
-use Rattle.std.proofs.lemmas.List.{take_all}
-use Rattle.elf32.specs.Pages.{page_bytes}
+use Rattle.std.proofs.Common.{arith, ◌≡◌, ◌-◌, ◌/◌, ◌%◌, length, drop, get_or, ◌∙◌, refl, ap, length-take, length-drop}
+use Rattle.std.proofs.lemmas.List.{get_or_read, take_all}
+use Rattle.elf32.specs.Pages.{page_at}
+use Rattle.rv_mem.specs.Paged.{all_pages}
 use Rattle.rv_mem.proofs.Flat.{rest_one}
+use Rattle.rv_mem.proofs.Calls.{all_sized, page_is}
 use Rattle.rv_mem.proofs.pages.rest_of_page.Goals as goal
 
 pub returns-clause-value : goal.returns-clause-value
 returns-clause-value c =
-    let page = c.index-pages-at.result in
+    let p = c.args.pages.now in
     let place = c.args.at % 4096 in
-    let is = c.index-pages-at.is in
-    let size : length (page_bytes page) ≡ 4096 =
-    ap (λ p. length (page_bytes p)) is ∙ c.requires.sizes (c.args.at / 4096) page (omega arith) in
-    let rest = ap (λ p. drop place (page_bytes p)) is ∙ rest_one page_bytes c.args.pages.now c.args.at (c.args.at / 4096) page c.requires.sizes refl (omega arith) in
-    rw c.bytes_of.ensures (take_all (4096 - place) (drop place (page_bytes page)) (omega (arith, length-drop place (page_bytes page))) ∙ rest)
+    let number = c.args.at / 4096 in
+    let len = c.requires.paged.placed.len in
+    let there = get_or_read p.index.items number c.index.result.now (omega arith) c.index.ensures 0 in
+    let read = rw (c.deref-2.ensures.value, c.deref-3.ensures.value, c.deref.ensures, there) at c.page_at.ensures in
+    let page = page_is p c.requires.paged (get_or p.index.items number 0) c.page_at.result.now (c.requires.paged.placed.inside number 0 (omega arith)) read.shared read.own in
+    let size : length c.page_at.result.now ≡ 4096 = ap length page ∙ all_sized p c.requires.paged number 0 (omega arith) in
+    take_all (4096 - place) (drop place c.page_at.result.now) (omega (arith, length-drop place c.page_at.result.now))
+    ∙ ap (drop place) page
+    ∙ rest_one (page_at (all_pages p)) p.index.items c.args.at number 0 (all_sized p c.requires.paged) refl (omega arith)
+
+pub returns-clause-len : goal.returns-clause-len
+returns-clause-len c =
+    let p = c.args.pages.now in
+    let place = c.args.at % 4096 in
+    let number = c.args.at / 4096 in
+    let len = c.requires.paged.placed.len in
+    let there = get_or_read p.index.items number c.index.result.now (omega arith) c.index.ensures 0 in
+    let read = rw (c.deref-2.ensures.value, c.deref-3.ensures.value, c.deref.ensures, there) at c.page_at.ensures in
+    let page = page_is p c.requires.paged (get_or p.index.items number 0) c.page_at.result.now (c.requires.paged.placed.inside number 0 (omega arith)) read.shared read.own in
+    let size : length c.page_at.result.now ≡ 4096 = ap length page ∙ all_sized p c.requires.paged number 0 (omega arith) in
+    omega (arith, length-take (4096 - place) (drop place c.page_at.result.now), length-drop place c.page_at.result.now)

@@ -11,15 +11,15 @@ use Rattle.stm_core.proofs.reading.read_at.Goals as goal
 pub returns-in-Base-clause-state : goal.returns-in-Base-clause-state
 returns-in-Base-clause-state c = λ answers runs v p.
     c.give.ensures.state v p
-    ∙ ap (λ (t : Task). counted one_step c.args.worker (with_task c.args.worker (with_answer (record { key = c.args.key.now; value = c.copied.result; origin = origin.Base }) t) (state_of v p c.args.scheduler.now))) runs
-    ∙ ap (λ x. counted one_step c.args.worker (with_task c.args.worker (Running c.args.call (answers ++ record { key = c.args.key.now; value = x; origin = origin.Base } ∷ []) None) (state_of v p c.args.scheduler.now))) (c.copied.ensures ∙ c.get.ensures)
+    ∙ ap (λ (t : Task). counted one_step c.args.worker (with_task c.args.worker (with_answer (record { key = c.args.key.now; value = c.value_of.result; origin = origin.Base }) t) (state_of v p c.args.scheduler.now))) runs
+    ∙ ap (λ x. counted one_step c.args.worker (with_task c.args.worker (Running c.args.call (answers ++ record { key = c.args.key.now; value = x; origin = origin.Base } ∷ []) None) (state_of v p c.args.scheduler.now))) (c.value_of.ensures ∙ c.get.ensures)
     ∙ ap (λ seen. counted one_step c.args.worker (with_task c.args.worker (answered_with c.args.store.now c.args.key.now c.args.call answers seen) (state_of v p c.args.scheduler.now))) c.in-Base.ensures.seen
 
 pub returns-in-Found-clause-state : goal.returns-in-Found-clause-state
 returns-in-Found-clause-state c = λ answers runs v p.
     c.give-in-Found.ensures.state v p
-    ∙ ap (λ (t : Task). counted one_step c.args.worker (with_task c.args.worker (with_answer (record { key = c.args.key.now; value = c.value_of.result; origin = origin.Version c.in-Found.version.writer c.in-Found.version.incarnation }) t) (state_of v p c.args.scheduler.now))) runs
-    ∙ ap (λ x. counted one_step c.args.worker (with_task c.args.worker (Running c.args.call (answers ++ record { key = c.args.key.now; value = x; origin = origin.Version c.in-Found.version.writer c.in-Found.version.incarnation } ∷ []) None) (state_of v p c.args.scheduler.now))) c.value_of.ensures
+    ∙ ap (λ (t : Task). counted one_step c.args.worker (with_task c.args.worker (with_answer (record { key = c.args.key.now; value = c.value_of-in-Found.result; origin = origin.Version c.in-Found.version.writer c.in-Found.version.incarnation }) t) (state_of v p c.args.scheduler.now))) runs
+    ∙ ap (λ x. counted one_step c.args.worker (with_task c.args.worker (Running c.args.call (answers ++ record { key = c.args.key.now; value = x; origin = origin.Version c.in-Found.version.writer c.in-Found.version.incarnation } ∷ []) None) (state_of v p c.args.scheduler.now))) c.value_of-in-Found.ensures
     ∙ ap (λ seen. counted one_step c.args.worker (with_task c.args.worker (answered_with c.args.store.now c.args.key.now c.args.call answers seen) (state_of v p c.args.scheduler.now))) c.in-Found.ensures.seen
 
 pub returns-in-Estimate-clause-state : goal.returns-in-Estimate-clause-state

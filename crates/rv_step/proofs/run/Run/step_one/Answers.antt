@@ -22,14 +22,14 @@ returns-in-Next-clause-fewer c =
 pub invariant_of-self-in-Continue-branch-3 : goal.invariant_of-self-in-Continue-branch-3
 invariant_of-self-in-Continue-branch-3 c =
     let running : is_running c.self.inside.stage ≡ true = ap (λ (r : RunView). is_running r.stage) c.self.view_is ∙ c.requires in
-    let did = c.in_ok-execute_ecall-in-StorageCall.ensures.ok in
-    step_keeps c.self.inside.call c.self.inside.machine c.execute_ecall.new.machine c.self.inside.answers.items c.self.inside.stage c.execute_ecall.new.stage c.self.invariant running
-    (call_is_step c.self.inside.machine c.execute_instruction.new.self c.execute_ecall.new.machine c.execute_ecall.new.stage (rw c.in-StorageCall.is at c.in_ok-execute_instruction.ensures) did)
+    let did = c.in_ok-execute_ecall-in-StorageCall.ensures in
+    step_keeps c.self.inside.call c.self.inside.machine c.execute_ecall.new.self c.self.inside.answers.items c.self.inside.stage c.execute_ecall.new.stage c.self.invariant running
+    (call_is_step c.self.inside.machine c.execute_instruction.new.self c.execute_ecall.new.self c.execute_ecall.new.stage (rw c.in-StorageCall.is at c.in_ok-execute_instruction.ensures) did)
 
 pub returns-in_ok-execute_ecall-in-StorageCall-clause-fewer : goal.returns-in_ok-execute_ecall-in-StorageCall-clause-fewer
 returns-in_ok-execute_ecall-in-StorageCall-clause-fewer c =
     let running : is_running c.self.inside.stage ≡ true = ap (λ (r : RunView). is_running r.stage) c.self.view_is ∙ c.requires in
-    let did = c.in_ok-execute_ecall-in-StorageCall.ensures.ok in
+    let did = c.in_ok-execute_ecall-in-StorageCall.ensures in
     rw (← c.self.view_is)
-    (step_leaves_fewer c.self.inside.machine c.execute_ecall.new.machine c.self.inside.stage c.execute_ecall.new.stage running
-    (call_is_step c.self.inside.machine c.execute_instruction.new.self c.execute_ecall.new.machine c.execute_ecall.new.stage (rw c.in-StorageCall.is at c.in_ok-execute_instruction.ensures) did))
+    (step_leaves_fewer c.self.inside.machine c.execute_ecall.new.self c.self.inside.stage c.execute_ecall.new.stage running
+    (call_is_step c.self.inside.machine c.execute_instruction.new.self c.execute_ecall.new.self c.execute_ecall.new.stage (rw c.in-StorageCall.is at c.in_ok-execute_instruction.ensures) did))

@@ -1,0 +1,158 @@
+//! Numbers and bytes in digits, at the end of a text.
+
+ghost use Rattle.std.specs.Prelude.{◌≡◌, ◌/◌, ◌%◌, ◌∷◌, ◌++◌, [], OnOk, drop, length, map, replicate, slice_index, take};
+ghost use Rattle.std.specs.Fmt.{decimal};
+ghost use Rattle.hex.specs.Hex.{encode_lower, lower_digits};
+ghost use Rattle.receipts.specs.Text.{bytes_text, word_text};
+
+use std::alloc::AllocError;
+use std::simd::prelude::*;
+
+/// The hex digits, by their values.
+const DIGITS: &[u8; 16] = b"0123456789abcdef";
+
+/// The hex digit of a byte's high four bits.
+fn high_digit(byte: u8) -> u8
+    ensures { result ≡ slice_index lower_digits (byte / 16) }
+{
+    DIGITS[(byte / 16) as usize]
+}
+
+/// The hex digit of a byte's low four bits.
+fn low_digit(byte: u8) -> u8
+    ensures { result ≡ slice_index lower_digits (byte % 16) }
+{
+    DIGITS[(byte % 16) as usize]
+}
+
+/// A byte in two hex digits.
+fn two_digits(byte: u8) -> [u8; 2]
+    ensures { result ≡ encode_lower (byte ∷ []) }
+{
+    [high_digit(byte), low_digit(byte)]
+}
+
+/// The hex digits of the high four bits of sixteen bytes.
+fn high_digits(bytes: u8x16) -> u8x16
+    ensures { result ≡ map (λ b. slice_index lower_digits (b / 16)) bytes }
+{
+    u8x16::from_array(*DIGITS).swizzle_dyn(bytes >> u8x16::splat(4))
+}
+
+/// The hex digits of the low four bits of sixteen bytes.
+fn low_digits(bytes: u8x16) -> u8x16
+    ensures { result ≡ map (λ b. slice_index lower_digits (b % 16)) bytes }
+{
+    u8x16::from_array(*DIGITS).swizzle_dyn(bytes & u8x16::splat(15))
+}
+
+/// Sixteen bytes in 32 hex digits.
+fn digits_of(bytes: u8x16) -> (u8x16, u8x16)
+    ensures front { result.0 ≡ take 16 (encode_lower bytes) }
+    ensures back { result.1 ≡ drop 16 (encode_lower bytes) }
+{
+    high_digits(bytes).interleave(low_digits(bytes))
+}
+
+/// Appends sixteen bytes in 32 hex digits; refused where memory ran out.
+fn push_sixteen(text: &mut Vec<u8>, bytes: &[u8]) -> Result<(), AllocError>
+    requires { length bytes.now ≡ 16 }
+    ensures { OnOk result (text.new.items ≡ text.old.items ++ encode_lower bytes.now) }
+{
+    let (front, back) = digits_of(u8x16::from_slice(bytes));
+    text.extend_from_slice(front.to_array().as_slice())?;
+    text.extend_from_slice(back.to_array().as_slice())
+}
+
+/// Four bytes in eight hex digits; what follows them has no meaning.
+fn four_digits(a: u8, b: u8, c: u8, d: u8) -> u8x16
+    ensures { result ≡ take 16 (encode_lower (a ∷ b ∷ c ∷ d ∷ replicate 12 0)) }
+{
+    let bytes = [a, b, c, d, 0, 0, 0, 0, 0, 0, 0, 0, 0, 0, 0, 0];
+    digits_of(u8x16::from_array(bytes)).0
+}
+
+/// A space and a word in eight hex digits, the highest first; what follows them has no meaning.
+fn word_field(word: u32) -> [u8; 16]
+    ensures { take 9 result ≡ 32 ∷ word_text word }
+{
+    let [a, b, c, d] = word.to_be_bytes();
+    let spaced = four_digits(a, b, c, d).shuffle(
+        u8x16::splat(b' '),
+        [16, 0, 1, 2, 3, 4, 5, 6, 7, 8, 9, 10, 11, 12, 13, 14],
+    );
+    spaced.to_array()
+}
+
+/// Appends a space and a word in eight hex digits; refused where memory ran out.
+pub(crate) fn push_word_field(text: &mut Vec<u8>, word: u32) -> Result<(), AllocError>
+    ensures { OnOk result (text.new.items ≡ text.old.items ++ (32 ∷ word_text word)) }
+{
+    text.extend_from_slice(&word_field(word)[..9])
+}
+
+/// Appends bytes in hex, two digits each; refused where memory ran out.
+pub(crate) fn push_hex(text: &mut Vec<u8>, bytes: &[u8]) -> Result<(), AllocError>
+    ensures { OnOk result (text.new.items ≡ text.old.items ++ encode_lower bytes.now) }
+{
+    let mut rest = bytes;
+    while rest.len() >= 16 {
+        let (front, more) = rest.split_at(16);
+        push_sixteen(text, front)?;
+        rest = more;
+    }
+    push_fours(text, rest)
+}
+
+/// Appends bytes in hex, as `push_hex` does, but four at a time.
+fn push_fours(text: &mut Vec<u8>, bytes: &[u8]) -> Result<(), AllocError>
+    ensures { OnOk result (text.new.items ≡ text.old.items ++ encode_lower bytes.now) }
+{
+    let mut rest = bytes;
+    while let [a, b, c, d, more @ ..] = rest {
+        push_four(text, *a, *b, *c, *d)?;
+        rest = more;
+    }
+    push_pairs(text, rest)
+}
+
+/// Appends four bytes in hex.
+fn push_four(text: &mut Vec<u8>, a: u8, b: u8, c: u8, d: u8) -> Result<(), AllocError>
+    ensures { OnOk result (text.new.items
+        ≡ text.old.items ++ encode_lower (a ∷ b ∷ c ∷ d ∷ [])) }
+{
+    text.extend_from_slice(&four_digits(a, b, c, d).to_array()[..8])
+}
+
+/// Appends bytes in hex, as `push_hex` does, but one at a time.
+fn push_pairs(text: &mut Vec<u8>, bytes: &[u8]) -> Result<(), AllocError>
+    ensures { OnOk result (text.new.items ≡ text.old.items ++ encode_lower bytes.now) }
+{
+    let mut rest = bytes;
+    while let [byte, more @ ..] = rest {
+        text.extend_from_slice(two_digits(*byte).as_slice())?;
+        rest = more;
+    }
+    Ok(())
+}
+
+/// Appends bytes in hex, or a dash where there are none; refused where memory ran out.
+pub(crate) fn push_bytes(text: &mut Vec<u8>, bytes: &[u8]) -> Result<(), AllocError>
+    ensures { OnOk result (text.new.items ≡ text.old.items ++ bytes_text bytes.now) }
+{
+    if bytes.is_empty() {
+        return text.extend_from_slice(b"-");
+    }
+    push_hex(text, bytes)
+}
+
+/// Appends a number in decimal; refused where memory ran out.
+pub(crate) fn push_decimal(text: &mut Vec<u8>, number: usize) -> Result<(), AllocError>
+    ensures { OnOk result (text.new.items ≡ text.old.items ++ decimal number) }
+{
+    if number < 10 {
+        return text.extend_from_slice(&[b'0' + number as u8]);
+    }
+    push_decimal(text, number / 10)?;
+    text.extend_from_slice(&[b'0' + (number % 10) as u8])
+}

@@ -1,0 +1,27 @@
+use Rattle.std.proofs.Common.{◌≡◌, ◌+◌, refl, ap, length, set, arith}
+use Rattle.std.proofs.lemmas.List.{get_or_read}
+use Rattle.std.specs.Vec.{with_item}
+use Rattle.rv_mem.specs.declared.pages.Pages.{Pages}
+use Rattle.rv_mem.proofs.Calls.{paged_more, bytes_more}
+use Rattle.rv_mem.proofs.pages.copy_page.Goals as goal
+
+pub returns-clause-paged : goal.returns-clause-paged
+returns-clause-paged c =
+    let p = c.args.pages.now in
+    let items = rw c.from_ref.ensures.value at c.in_ok-extend_from_slice.ensures.items in
+    let len = c.requires.paged.placed.len in
+    let there = get_or_read p.index.items c.args.page c.index.result.now (omega arith) c.index.ensures 0 in
+    let read = rw (c.deref.ensures, there) at c.index-2.ensures in
+    let end : 512 + c.len-place.result ≡ 512 + length p.own.items = omega arith in
+    paged_more p _ c.args.page c.index-2.result.now c.requires.paged c.requires.page c.requires.shared refl items (ap (set p.index.items c.args.page) end) read
+
+pub returns-clause-bytes : goal.returns-clause-bytes
+returns-clause-bytes c =
+    let p = c.args.pages.now in
+    let items = rw c.from_ref.ensures.value at c.in_ok-extend_from_slice.ensures.items in
+    let len = c.requires.paged.placed.len in
+    let there = get_or_read p.index.items c.args.page c.index.result.now (omega arith) c.index.ensures 0 in
+    let read = rw (c.deref.ensures, there) at c.index-2.ensures in
+    let end : 512 + c.len-place.result ≡ 512 + length p.own.items = omega arith in
+    let q : Pages = record { base = p.base; index = with_item p.index c.args.page (512 + c.len-place.result); own = c.extend_from_slice.new.self } in
+    bytes_more p q c.args.page c.index-2.result.now c.requires.paged c.requires.page c.requires.shared refl items (ap (set p.index.items c.args.page) end) read

@@ -1,0 +1,53 @@
+-- The pages of a call, and the bytes that stand in them. Private help of proofs; no public clause cites it.
+use Rattle.std.specs.Prelude.{◌≡◌, ℕ, ◌+◌, ◌-◌, ◌≤◌, ◌<◌, nat_lt, if◌then◌else◌, List, ◌++◌, length, flat_map, replicate, slice_index, All}
+use Rattle.std.specs.List.{sum_by}
+use Rattle.std.specs.Arc.{arc_value}
+use Rattle.elf32.specs.Extent.{page_count, page_size}
+use Rattle.elf32.specs.Pages.{ArePages, page_at, zeros}
+use Rattle.elf32.specs.declared.pages.BasePages.{BasePages}
+use Rattle.rv_mem.specs.declared.pages.Pages.{Pages}
+
+-- the place of the call's first page of its own
+abbrev pub first_own : ℕ
+first_own = 512
+
+-- the pages of the program
+abbrev pub base_of : Pages → BasePages
+base_of p = arc_value p.base
+
+-- the first 512 places: the pages of the program, and pages of zeros that no index gives
+abbrev pub base_pages : Pages → List (List ℕ)
+base_pages p =
+    (base_of p).pages.items ++ replicate (first_own - length (base_of p).pages.items) (zeros page_size)
+
+-- they, and after them the call's own
+abbrev pub all_pages : Pages → List (List ℕ)
+all_pages p = base_pages p ++ p.own.items
+
+-- the bytes of memory
+abbrev pub memory_bytes : Pages → List ℕ
+memory_bytes p = flat_map (page_at (all_pages p)) p.index.items
+
+-- one for a place among the first n pages, else nothing
+abbrev pub is_shared : ℕ → ℕ → ℕ
+is_shared n k = if nat_lt k n then 1 else 0
+
+-- what holds of the places `index` of which those below `count` are shared, at most `base`, and the `own` from there
+-- on are the call's own: none of its own stands twice, and each of them stands
+pub record ArePlaced (base count own : ℕ) (index : List ℕ) : Type 0 where
+  pub few : base ≤ page_count + 1
+  pub len : length index ≡ page_count
+  pub places : All (λ k. k < count + own) index
+  pub inside : All (λ k. k < count → k < base) index
+  pub each : own + sum_by (is_shared count) index ≡ page_count
+  pub alone : (i j : ℕ) → i < page_count → j < page_count → count ≤ slice_index index i → slice_index index i ≡ slice_index index j → i ≡ j
+
+-- the pages of a call
+pub record IsPaged (p : Pages) : Type 0 where
+  pub sizes : ArePages (λ q. q) (all_pages p)
+  pub placed : ArePlaced (length (base_of p).pages.items) first_own (length p.own.items) p.index.items
+  pub rights : length (base_of p).rights ≡ page_count
+
+-- the pages from one on and below another are the call's own
+abbrev pub AreOwn : Pages → ℕ → ℕ → Type 0
+AreOwn p first end = (k : ℕ) → first ≤ k → k < end → first_own ≤ slice_index p.index.items k

@@ -1,0 +1,295 @@
+//! The storage calls of a machine. Each writes how far the run is into a stage that stands elsewhere, since
+//! a stage may hold an output and is dear to move.
+
+ghost use Rattle.std.specs.Prelude.{◌≡◌, ◌≤◌, if◌then◌else◌, [], length};
+ghost use Rattle.std.specs.Option.{option_copied};
+ghost use Rattle.std.specs.FinMap as map;
+ghost use Rattle.ecalls.specs.StorageCalls.{ecall_charge, late_charge, length_of, request_by};
+ghost use Rattle.ecalls.specs.declared.storage_call.StorageCall.TheVariants as call;
+ghost use Rattle.rv_isa.specs.Registers.{written};
+ghost use Rattle.rv_ledger.specs.declared.end.End.TheVariants.{OutOfGas, Returned, Reverted};
+ghost use Rattle.rv_step.specs.Meets.{MeetsStage, is_asked};
+ghost use Rattle.rv_step.specs.Step.{Next, answered, charged, delivery_result, ecall_result, next_instruction, read_result, storage_call_result, value_result, write_result};
+ghost use Rattle.rv_step.specs.declared.stage.Stage.TheVariants.{Ended, Running};
+
+use crate::faults::refusal;
+use crate::machine::Machine;
+use crate::stage::{Stage, end_with, is_asked};
+use ecalls::{READ_CHARGE, StorageCall, Trap, asked, bytes_at, key_at, late_charge};
+use gas::Meter;
+use rv_isa::Reg;
+use rv_ledger::{End, Key, StoredValue, Value};
+use std::alloc::AllocError;
+
+/// The number in a0 after a READ of an absent key.
+const ABSENT: u32 = 0xffff_ffff;
+
+/// The number in a0 after a READ of a value that is longer than the buffer.
+const TOO_LONG: u32 = 0xffff_fffe;
+
+impl Machine {
+    /// Charges the storage call at which the machine stands and does it. A READ that asks the storage is
+    /// charged only when its answer comes. Refused where memory ran out, and then nothing changes.
+    #[inline(never)]
+    #[tactic(auto, unfolding(ecalls::specs::StorageCalls::request_of))]
+    pub(crate) fn execute_ecall(&mut self, stage: &mut Stage) -> Result<(), AllocError>
+        requires { stage.old ≡ Running }
+        ensures { MeetsStage result stage.new (ecall_result self.old (ecall_charge self.old.regs self.old.rules)) self.old self.new }
+    {
+        let call = match asked(&self.regs, self.rules) {
+            Ok(call) => call,
+            Err(cause) => {
+                end_with(stage, End::Trapped(cause));
+                return Ok(());
+            }
+        };
+        let gas = self.gas;
+        if !self.gas.charge(call.charge(&self.regs)) {
+            end_with(stage, self.run_out());
+            return Ok(());
+        }
+        match self.serve(call, stage) {
+            Ok(()) => {
+                self.refund_if_asked(gas, stage);
+                Ok(())
+            }
+            Err(refused) => {
+                self.gas = gas;
+                Err(refused)
+            }
+        }
+    }
+
+    /// Gives the answer to the READ at which the machine stands: the value, or None for absence. Charges
+    /// the READ, and then the bytes that it copies; the call ends out of gas where less is left. Refused
+    /// where memory ran out, and then nothing changes.
+    #[tactic(auto, unfolding(crate::specs::Step::answered))]
+    pub(crate) fn answer(
+        &mut self,
+        content: Option<&Value>,
+        stage: &mut Stage,
+    ) -> Result<(), AllocError>
+        requires { stage.old ≡ Running }
+        ensures { MeetsStage result stage.new (answered self.old (option_copied content.entry)) self.old self.new }
+    {
+        let gas = self.gas;
+        if !self.gas.charge(READ_CHARGE) {
+            end_with(stage, self.run_out());
+            return Ok(());
+        }
+        match self.deliver(content, stage) {
+            Ok(()) => {
+                self.refund_if_asked(gas, stage);
+                Ok(())
+            }
+            Err(refused) => {
+                self.gas = gas;
+                Err(refused)
+            }
+        }
+    }
+
+    /// Gives the gas back where the storage was asked: such a READ is charged when its answer comes.
+    fn refund_if_asked(&mut self, gas: Meter, stage: &Stage)
+        ensures { self.new ≡ (if is_asked stage.now then record self.old { gas = gas } else self.old) }
+    {
+        if is_asked(stage) {
+            self.gas = gas;
+        }
+    }
+
+    /// Does a storage call that has been charged; it may trap MemoryFault or TooManyWrites.
+    fn serve(&mut self, call: StorageCall, stage: &mut Stage) -> Result<(), AllocError>
+        requires length { length_of call self.old.regs ≤ 256 }
+        requires running { stage.old ≡ Running }
+        ensures { MeetsStage result stage.new (storage_call_result self.old (request_by call self.old.regs self.old.memory)) self.old self.new }
+    {
+        match call {
+            StorageCall::Read => self.read(stage),
+            StorageCall::Write => self.write(stage),
+            StorageCall::Remove => self.remove(stage),
+            StorageCall::Return => self.return_output(stage),
+            StorageCall::Revert => self.revert_output(stage),
+        }
+    }
+
+    /// Reads a key into a buffer; traps MemoryFault unless the key may be read and the buffer be written.
+    #[tactic(auto, unfolding(crate::specs::Step::storage_call_result))]
+    fn read(&mut self, stage: &mut Stage) -> Result<(), AllocError>
+        requires { stage.old ≡ Running }
+        ensures { MeetsStage result stage.new (storage_call_result self.old (request_by call.Read self.old.regs self.old.memory)) self.old self.new }
+    {
+        let Some(key) = key_at(&self.memory, self.regs.get(Reg::a0())) else {
+            end_with(stage, End::Trapped(Trap::MemoryFault));
+            return Ok(());
+        };
+        if !self
+            .memory
+            .range_writable(self.regs.get(Reg::a1()), self.regs.get(Reg::a2()))
+        {
+            end_with(stage, End::Trapped(Trap::MemoryFault));
+            return Ok(());
+        }
+        self.read_key(&key, stage)
+    }
+
+    /// Reads a key: from the call's own writes, or else by asking the storage.
+    fn read_key(&mut self, key: &Key, stage: &mut Stage) -> Result<(), AllocError>
+        requires { stage.old ≡ Running }
+        ensures { MeetsStage result stage.new (read_result self.old key.now (map.get self.old.own key.now)) self.old self.new }
+    {
+        let content = match self.own.get(key) {
+            Some(content) => StoredValue::value_of(content.as_ref()),
+            None => {
+                *stage = Stage::Asked(*key);
+                return Ok(());
+            }
+        };
+        self.deliver(content.as_ref(), stage)
+    }
+
+    /// Writes a value to a key; traps MemoryFault unless both may be read.
+    #[tactic(auto, unfolding(crate::specs::Step::storage_call_result))]
+    fn write(&mut self, stage: &mut Stage) -> Result<(), AllocError>
+        requires length { length_of call.Write self.old.regs ≤ 256 }
+        requires running { stage.old ≡ Running }
+        ensures { MeetsStage result stage.new (storage_call_result self.old (request_by call.Write self.old.regs self.old.memory)) self.old self.new }
+    {
+        let Some(key) = key_at(&self.memory, self.regs.get(Reg::a0())) else {
+            end_with(stage, End::Trapped(Trap::MemoryFault));
+            return Ok(());
+        };
+        let value: Option<Value> = bytes_at(
+            &self.memory,
+            self.regs.get(Reg::a1()),
+            self.regs.get(Reg::a2()),
+        );
+        if value.is_none() {
+            end_with(stage, End::Trapped(Trap::MemoryFault));
+            return Ok(());
+        }
+        self.put(key, value.as_ref(), stage)
+    }
+
+    /// Removes a key; traps MemoryFault unless it may be read.
+    #[tactic(auto, unfolding(crate::specs::Step::storage_call_result))]
+    fn remove(&mut self, stage: &mut Stage) -> Result<(), AllocError>
+        requires { stage.old ≡ Running }
+        ensures { MeetsStage result stage.new (storage_call_result self.old (request_by call.Remove self.old.regs self.old.memory)) self.old self.new }
+    {
+        let Some(key) = key_at(&self.memory, self.regs.get(Reg::a0())) else {
+            end_with(stage, End::Trapped(Trap::MemoryFault));
+            return Ok(());
+        };
+        self.put(key, None, stage)
+    }
+
+    /// Writes or removes a key; traps TooManyWrites where the call has written 256 other keys.
+    #[tactic(auto, unfolding(crate::specs::Step::write_result))]
+    fn put(&mut self, key: Key, value: Option<&Value>, stage: &mut Stage) -> Result<(), AllocError>
+        requires { stage.old ≡ Running }
+        ensures { MeetsStage result stage.new (write_result self.old (record { key = key; value = option_copied value.entry })) self.old self.new }
+    {
+        if !self.own.has_room(&key) {
+            end_with(stage, End::Trapped(Trap::TooManyWrites));
+            return Ok(());
+        }
+        self.own.set(key, value)?;
+        self.advance_pc();
+        Ok(())
+    }
+
+    /// Ends the call with an output, and its writes are kept; traps MemoryFault unless each byte of the
+    /// output may be read.
+    #[tactic(auto, unfolding(crate::specs::Step::storage_call_result))]
+    fn return_output(&mut self, stage: &mut Stage) -> Result<(), AllocError>
+        requires { length_of call.Return self.old.regs ≤ 256 }
+        ensures { MeetsStage result stage.new (storage_call_result self.old (request_by call.Return self.old.regs self.old.memory)) self.old self.new }
+    {
+        match bytes_at(
+            &self.memory,
+            self.regs.get(Reg::a0()),
+            self.regs.get(Reg::a1()),
+        ) {
+            Some(out) => *stage = Stage::Ended(End::Returned, out),
+            None => end_with(stage, End::Trapped(Trap::MemoryFault)),
+        }
+        Ok(())
+    }
+
+    /// Ends the call with an output, and its writes are dropped; traps MemoryFault unless each byte of the
+    /// output may be read.
+    #[tactic(auto, unfolding(crate::specs::Step::storage_call_result))]
+    fn revert_output(&mut self, stage: &mut Stage) -> Result<(), AllocError>
+        requires { length_of call.Revert self.old.regs ≤ 256 }
+        ensures { MeetsStage result stage.new (storage_call_result self.old (request_by call.Revert self.old.regs self.old.memory)) self.old self.new }
+    {
+        match bytes_at(
+            &self.memory,
+            self.regs.get(Reg::a0()),
+            self.regs.get(Reg::a1()),
+        ) {
+            Some(out) => *stage = Stage::Ended(End::Reverted, out),
+            None => end_with(stage, End::Trapped(Trap::MemoryFault)),
+        }
+        Ok(())
+    }
+
+    /// Delivers the answer to a READ: sets a0, and charges and copies a value that fits into the buffer.
+    #[tactic(auto, unfolding(crate::specs::Step::delivery_result))]
+    fn deliver(&mut self, content: Option<&Value>, stage: &mut Stage) -> Result<(), AllocError>
+        requires { stage.old ≡ Running }
+        ensures { MeetsStage result stage.new (delivery_result self.old (option_copied content.entry)) self.old self.new }
+    {
+        let Some(value) = content else {
+            self.end_read(ABSENT);
+            return Ok(());
+        };
+        if value.bytes().len() > self.regs.get(Reg::a2()) as usize {
+            self.end_read(TOO_LONG);
+            return Ok(());
+        }
+        self.deliver_charged(value, stage)
+    }
+
+    /// Charges the bytes of a value and copies it. The call ends out of gas, and nothing is copied, where
+    /// less gas is left. Refused where memory ran out, and then nothing changes.
+    fn deliver_charged(&mut self, value: &Value, stage: &mut Stage) -> Result<(), AllocError>
+        requires { stage.old ≡ Running }
+        ensures { MeetsStage result stage.new (charged (late_charge self.old.rules (length value.now)) self.old (λ t. value_result t value.now)) self.old self.new }
+    {
+        let gas = self.gas;
+        let cost = late_charge(self.rules, value.bytes().len() as u32);
+        if !self.gas.charge(cost) {
+            end_with(stage, self.run_out());
+            return Ok(());
+        }
+        match self.copy_value(value, stage) {
+            Ok(()) => Ok(()),
+            Err(refused) => {
+                self.gas = gas;
+                Err(refused)
+            }
+        }
+    }
+
+    /// Copies a value into the buffer of a READ. Refused where memory ran out, and then nothing changes.
+    fn copy_value(&mut self, value: &Value, stage: &mut Stage) -> Result<(), AllocError>
+        requires { stage.old ≡ Running }
+        ensures { MeetsStage result stage.new (value_result self.old value.now) self.old self.new }
+    {
+        match self.memory.copy_in(self.regs.get(Reg::a1()), value.bytes()) {
+            Ok(()) => self.end_read(value.bytes().len() as u32),
+            Err(fault) => end_with(stage, refusal(fault)?),
+        }
+        Ok(())
+    }
+
+    /// Sets a0 at the end of a READ, and goes on to the next instruction.
+    fn end_read(&mut self, number: u32)
+        ensures { next_instruction (record self.old { regs = written self.old.regs 10 number }) ≡ Next self.new }
+    {
+        self.regs.set(Reg::a0(), number);
+        self.advance_pc();
+    }
+}
