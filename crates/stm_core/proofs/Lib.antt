@@ -6,5 +6,6 @@ pub mod Ended
 pub mod Turns
 pub mod Promises
 pub mod Fits
+pub mod Answered
 pub mod Drives
 pub mod Swapped

@@ -1,0 +1,89 @@
+-- A run that is given the answer to its read fits its task after the read.
+use Rattle.std.proofs.Common.{◌≡◌, ◌<◌, ℕ, Bool, true, List, [], ◌∷◌, ◌++◌, length, Option, None, Some, Ok, IfSome, refl, sym, ap, subst, ◌∙◌, slice_get}
+use Rattle.std.proofs.lemmas.List.{get_or-set_same}
+use Rattle.read_set.specs.declared.Origin.{Origin}
+use Rattle.read_set.specs.declared.Origin.TheVariants as origin
+use Rattle.mvmap.specs.Reading.{Visible, Base, Found, Blocked, reading}
+use Rattle.rv_ledger.specs.Call.{Invocation}
+use Rattle.rv_step.specs.declared.answer.StorageAnswer.{StorageAnswer}
+use Rattle.rv_step.specs.declared.stage.Stage.{Stage}
+use Rattle.rv_step.specs.declared.stage.Stage.TheVariants.{Asked}
+use Rattle.rv_step.specs.Step.{StepResult, Next, Asks, Ends, answered}
+use Rattle.rv_step.specs.Run.{RunView, after_answer, after_result, asked_key}
+use Rattle.stm_state.specs.declared.state.Task.{Task}
+use Rattle.stm_state.specs.declared.state.Task.TheVariants.{Idle, Running, Moving, Validating, Marking}
+use Rattle.stm_state.specs.State.{State, task_at}
+use Rattle.stm_state.specs.Steps.{Block, Read_key, answered_with, counted, one_step, read_at, step_with, worker_step}
+use Rattle.stm_state.proofs.Tests.{equal_itself}
+use Rattle.stm_state.proofs.Whole.{same_state}
+use Rattle.stm_core.specs.CoreState.{read_result_of, runs}
+use Rattle.stm_core.specs.Driving.{IsRunOf}
+use Rattle.stm_core.specs.declared.next_step.ReadResult.{ReadResult}
+use Rattle.stm_core.specs.declared.next_step.ReadResult.TheVariants as read_result
+
+-- a step keeps the call and the answers
+kept_call : (o : StepResult) (r : RunView) → (after_result o r).call ≡ r.call
+kept_call (Next t) r = refl
+kept_call (Asks key) r = refl
+kept_call (Ends end out t) r = refl
+
+kept_answers : (o : StepResult) (r : RunView) → (after_result o r).answers ≡ r.answers
+kept_answers (Next t) r = refl
+kept_answers (Asks key) r = refl
+kept_answers (Ends end out t) r = refl
+
+abbrev value_in : ReadResult → Option (List ℕ)
+value_in (read_result.Given value from) = value
+value_in read_result.Blocked = None
+
+abbrev origin_in : ReadResult → Origin
+origin_in (read_result.Given value from) = from
+origin_in read_result.Blocked = origin.Base
+
+no_answer : (value : Option (List ℕ)) (from : Origin) → read_result.Given value from ≡ read_result.Blocked → ⊥
+no_answer value from e = cc
+
+module _ (block : Block) (calls : List Invocation) (w : ℕ) (key : List ℕ) (value : Option (List ℕ)) (from : Origin) (old new : RunView) (asked : old.stage ≡ Asked key) (is : IfSome (asked_key old.stage) (λ k. new ≡ after_answer k value from old)) where
+  abbrev given : StorageAnswer
+  given = record { key = key; value = value; origin = from }
+
+  abbrev before : RunView
+  before = record old { answers = old.answers ++ given ∷ [] }
+
+  after : new ≡ after_answer key value from old
+  after = subst (λ (s : Stage). IfSome (asked_key s) (λ k. new ≡ after_answer k value from old)) asked is
+
+  same_call : new.call ≡ old.call
+  same_call = ap (λ (r : RunView). r.call) after ∙ kept_call (answered old.machine value) before
+
+  one_more : new.answers ≡ old.answers ++ given ∷ []
+  one_more = ap (λ (r : RunView). r.answers) after ∙ kept_answers (answered old.machine value) before
+
+  more : (answers : List StorageAnswer) → old.answers ≡ answers → (result : ReadResult) → read_result.Given value from ≡ result → new.answers ≡ answers ++ record { key = key; value = value_in result; origin = origin_in result } ∷ []
+  more answers same result e =
+      one_more
+      ∙ ap (λ (xs : List StorageAnswer). xs ++ given ∷ []) same
+      ∙ ap (λ (r : ReadResult). answers ++ record { key = key; value = value_in r; origin = origin_in r } ∷ []) e
+
+  seen_fits : (i : ℕ) (answers : List StorageAnswer) → slice_get calls i ≡ Some old.call → old.answers ≡ answers → (seen : Visible) → read_result.Given value from ≡ read_result_of block.base key seen → IsRunOf calls new (answered_with block.base key i answers seen)
+  seen_fits i answers call same Base e = (call ∙ ap Some (sym same_call), more answers same (read_result_of block.base key Base) e)
+  seen_fits i answers call same (Found u n content) e = (call ∙ ap Some (sym same_call), more answers same (read_result_of block.base key (Found u n content)) e)
+  seen_fits i answers call same (Blocked b) e = absurd (no_answer value from e)
+
+  module _ (s t : State) (worker : w < length s.tasks) where
+    task_after : (i : ℕ) (answers : List StorageAnswer) → task_at (counted one_step w (read_at block.base key w i answers s)) w ≡ answered_with block.base key i answers (reading s.versions key i)
+    task_after i answers = get_or-set_same s.tasks w (answered_with block.base key i answers (reading s.versions key i)) Idle worker
+
+    fits_with : (task : Task) → step_with block w task (Read_key key) s ≡ Some (Ok t) → IsRunOf calls old task → ((i : ℕ) → runs task i ≡ true → read_result.Given value from ≡ read_result_of block.base key (reading s.versions key i)) → IsRunOf calls new (task_at t w)
+    fits_with Idle k fits told = absurd fits
+    fits_with (Running i answers None) k fits told =
+        subst (λ (x : State). IsRunOf calls new (task_at x w)) (same_state _ t k)
+        (subst (IsRunOf calls new) (sym (task_after i answers)) (seen_fits i answers fits.0 fits.1 (reading s.versions key i) (told i (equal_itself i))))
+    fits_with (Running i answers (Some b)) k fits told = absurd fits
+    fits_with (Moving i keys new_key) k fits told = absurd fits
+    fits_with (Validating i n left failed) k fits told = absurd fits
+    fits_with (Marking i keys) k fits told = absurd fits
+
+    -- the run fits its task after the read
+    pub read_fits : worker_step block w (Read_key key) s ≡ Some (Ok t) → IsRunOf calls old (task_at s w) → ((i : ℕ) → runs (task_at s w) i ≡ true → read_result.Given value from ≡ read_result_of block.base key (reading s.versions key i)) → IsRunOf calls new (task_at t w)
+    read_fits k fits told = fits_with (task_at s w) k fits told
