@@ -3,6 +3,9 @@
 #ifndef CONTRACT_H
 #define CONTRACT_H
 
+/* Of C's headers this one and those that need no library, stdint.h, stddef.h, stdbool.h and limits.h, may be included. */
+#include <string.h>
+
 /* The same types as uint8_t, uint32_t, uint64_t and size_t. */
 typedef __UINT8_TYPE__ u8;
 typedef __UINT32_TYPE__ u32;
@@ -17,13 +20,6 @@ enum {
     INPUT_LIMIT = 4096,     /* the most bytes of an input */
     KEYS_LIMIT = 256        /* the most keys that one call writes or removes */
 };
-
-/* Of sdk/memory.c. The headers of C that need no library, stdint.h, stddef.h, stdbool.h and limits.h, can be
-   included too. */
-void *memcpy(void *to, const void *from, usize length);
-void *memmove(void *to, const void *from, usize length);
-void *memset(void *to, int byte, usize length);
-int memcmp(const void *left, const void *right, usize length);
 
 /* What a call runs; each contract defines it. Where it comes back, the call returns with an empty
    output. The input stands at a multiple of 4. */
