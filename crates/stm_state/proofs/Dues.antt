@@ -27,12 +27,12 @@ use Rattle.stm_state.proofs.Phases.{call_there}
 use Rattle.stm_state.proofs.Goings.{GoesOn, goes_first, goes_next, goes_last}
 
 -- the states of lists are reached
-reached_where_led : (calls : List Invocation) (store : Storage) (workers : ℕ) (s : State) → DrivenTo calls store workers s → Reached (block_of calls store) workers s
+pub reached_where_led : (calls : List Invocation) (store : Storage) (workers : ℕ) (s : State) → DrivenTo calls store workers s → Reached (block_of calls store) workers s
 reached_where_led calls store workers s at_start = started
 reached_where_led calls store workers t (made_step {s} w before w_in k) = stepped w (due_step calls (task_at s w)) (reached_where_led calls store workers s before) w_in k
 
 -- the call that a task runs goes on after the task's answers
-abbrev Goes : List Invocation → Task → Type 0
+abbrev pub Goes : List Invocation → Task → Type 0
 Goes calls Idle = Unit {0}
 Goes calls (Running i answers waits) = (call : Invocation) → slice_get calls i ≡ Some call → GoesOn call (replies_of answers)
 Goes calls (Moving i keys new) = Unit {0}
@@ -40,7 +40,7 @@ Goes calls (Validating i n left failed) = Unit {0}
 Goes calls (Marking i keys) = Unit {0}
 
 -- so with each task
-abbrev AllGo : List Invocation → State → Type 0
+abbrev pub AllGo : List Invocation → State → Type 0
 AllGo calls s = All (Goes calls) s.tasks
 
 -- ---- what is owed is due
@@ -149,7 +149,7 @@ asks_for None key h = cc
 
 module _ (calls : List Invocation) (store : Storage) (w : ℕ) (s : State) (h : AllGo calls s) (own : Goes calls (task_at s w)) where
   -- the due step leaves each task's call going on
-  made_goes : (step : Step) (t : State) → IsMade (block_of calls store) w s step t → step ≡ due_step calls (task_at s w) → AllGo calls t
+  pub made_goes : (step : Step) (t : State) → IsMade (block_of calls store) w s step t → step ≡ due_step calls (task_at s w) → AllGo calls t
   made_goes step t (by_ask at) due = asked_goes calls store w s h
   made_goes step t (by_read i answers key at) due = takes calls store w s h _
       (seen_goes calls store w s h i answers key (asks_for _ key (due ∙ ap (due_step calls) at)) (subst (Goes calls) at own) (reading s.versions key i))
@@ -174,7 +174,7 @@ module _ (calls : List Invocation) (store : Storage) (workers : ℕ) where
   within s w led w_in = let e = (holds s led).sized.tasks in omega (arith, e, w_in)
 
   -- each task's run goes on
-  all_go : (s : State) → DrivenTo calls store workers s → AllGo calls s
+  pub all_go : (s : State) → DrivenTo calls store workers s → AllGo calls s
   all_go s at_start = All-replicate (Goes calls) workers Idle tt
   all_go t (made_step {s} w before w_in k) = made_goes calls store w s (all_go s before) (All-get_or (Goes calls) s.tasks w Idle (within s w before w_in) (all_go s before)) (due_step calls (task_at s w)) t
       (made (block_of calls store) w s t (due_step calls (task_at s w)) k) refl

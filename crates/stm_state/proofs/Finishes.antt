@@ -18,7 +18,7 @@ use Rattle.stm_state.proofs.Wakes.{woken_view, woken_facts, parked_aborting, not
 use Rattle.stm_state.proofs.Targets.{amid_end}
 
 -- a mapped list at an index, also past the end
-mapped_at : {X : Type 0} (g : X → X) (xs : List X) (j : ℕ) (d : X) → g d ≡ d → get_or (map g xs) j d ≡ g (get_or xs j d)
+pub mapped_at : {X : Type 0} (g : X → X) (xs : List X) (j : ℕ) (d : X) → g d ≡ d → get_or (map g xs) j d ≡ g (get_or xs j d)
 mapped_at g [] j d e = sym e
 mapped_at g (x ∷ xs) zero d e = refl
 mapped_at g (x ∷ xs) (suc j) d e = mapped_at g xs j d e

@@ -44,7 +44,7 @@ same_key : (key other : List ℕ) → Some other ≡ Some key → bytes_eq key o
 same_key key other e = (bytes_eq-Decides key other).1 cc
 
 -- a reply to another key is followed by no asking
-right_reply : (b : Bool) (o : Option (List ℕ)) (key : List ℕ) → (if b then o else None) ≡ Some key → (b ≡ true) × (o ≡ Some key)
+pub right_reply : (b : Bool) (o : Option (List ℕ)) (key : List ℕ) → (if b then o else None) ≡ Some key → (b ≡ true) × (o ≡ Some key)
 right_reply true o key e = (refl, e)
 right_reply false o key e = cc
 
@@ -70,7 +70,7 @@ chain_goes limit (suc n) s replies key content h e =
     (λ t less. let done = reached limit n t map.empty (omega (arith, h, less)) in (done.0, ran limit n t map.empty, done.2))
     e
 
-start_gas : (call : Invocation) → (start call).gas ≡ call.gas
+pub start_gas : (call : Invocation) → (start call).gas ≡ call.gas
 unfolding start
 start_gas call = refl
 

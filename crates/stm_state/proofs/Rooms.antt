@@ -30,7 +30,7 @@ use Rattle.rv_step.specs.Step.{StepResult, Next, Asks, Ends, instruction_result,
 use Rattle.rv_step.specs.Chain.{start, kept_writes, answered_by, settled, ran, ends}
 
 -- a machine's own writes are at most 256 keys
-abbrev HasFew : Machine → Type 0
+abbrev pub HasFew : Machine → Type 0
 HasFew s = len s.own ≤ 256
 
 -- so are those of the machine that a step leaves
@@ -118,11 +118,11 @@ fetched_few : (s : Machine) (r : Result ℕ Fault) → HasFew s → LeavesFew (f
 fetched_few s (Ok word) h = obeyed_few s (decoded word) h
 fetched_few s (Err fault) h = unfold LeavesFew in h
 
-step_few : (s : Machine) → HasFew s → LeavesFew (step s)
+pub step_few : (s : Machine) → HasFew s → LeavesFew (step s)
 unfolding step
 step_few s h = fetched_few s (loaded 4 access.Execute s.memory s.pc) h
 
-answered_few : (s : Machine) (content : Option (List ℕ)) → HasFew s → LeavesFew (answered s content)
+pub answered_few : (s : Machine) (content : Option (List ℕ)) → HasFew s → LeavesFew (answered s content)
 unfolding answered
 answered_few s content h = charged_few 200 s (λ t. delivery_result t content) h (λ t k. delivered_few t content k)
 
@@ -132,7 +132,7 @@ answered_by_few store s (Asks key) h k = answered_few s (get store key) h
 answered_by_few store s (Ends end out t) h k = k
 
 -- a receipt has at most its machine's writes
-kept_few : (end : End) (own : WriteMap) → len own ≤ 256 → len (kept_writes end own) ≤ 256
+pub kept_few : (end : End) (own : WriteMap) → len own ≤ 256 → len (kept_writes end own) ≤ 256
 kept_few Returned own h = h
 kept_few end own h = subst (λ n. n ≤ 256) (sym (len-empty key_cmp (Option (List ℕ)))) (lit≤ tt)
 

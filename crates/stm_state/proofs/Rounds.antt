@@ -133,7 +133,7 @@ abbrev pub all_stand : ℕ → State → Bool
 all_stand i s = list_all (stands s.versions i) (reads_of (call_at s i).last)
 
 -- then so does the read at each place
-each_stands : (versions : Versions) (i : ℕ) (reads : List Read) (place : ℕ) → list_all (stands versions i) reads ≡ true → read_stands versions i (slice_get reads place) ≡ true
+pub each_stands : (versions : Versions) (i : ℕ) (reads : List Read) (place : ℕ) → list_all (stands versions i) reads ≡ true → read_stands versions i (slice_get reads place) ≡ true
 each_stands versions i [] place h = refl
 each_stands versions i (read ∷ reads) zero h = (and_parts (stands versions i read) (list_all (stands versions i) reads) h).0
 each_stands versions i (read ∷ reads) (suc place) h = each_stands versions i reads place (and_parts (stands versions i read) (list_all (stands versions i) reads) h).1

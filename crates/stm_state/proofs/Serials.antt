@@ -116,7 +116,7 @@ module _ (block : Block) (s : State) (f : ViewInvariant block (view_of s)) (over
   executed_below (suc m) i l within = status_below i within (λ j low. executed_below m j (omega (arith, low, l)) (omega (arith, low, within))) (call_at s i).status refl
 
   -- all calls are EXECUTED
-  all_executed : (i : ℕ) → i < block.count → (call_at s i).status ≡ Executed
+  pub all_executed : (i : ℕ) → i < block.count → (call_at s i).status ≡ Executed
   all_executed i within = executed_below (suc i) i (omega arith) within
 
   -- all reads stand

@@ -15,7 +15,7 @@ use Rattle.stm_state.proofs.Tests.{is_aborting_says, equal_itself, equal_says}
 use Rattle.stm_state.proofs.Asks.{same_entries}
 
 -- a call is as before, or was parked on call i and is readied
-readied_cases : (i : ℕ) (call : CallState) → (resume_if_parked i call ≡ call) ⊎ ((is_parked_on i call ≡ true) × (resume_if_parked i call ≡ next_incarnation call))
+pub readied_cases : (i : ℕ) (call : CallState) → (resume_if_parked i call ≡ call) ⊎ ((is_parked_on i call ≡ true) × (resume_if_parked i call ≡ next_incarnation call))
 readied_cases i call = go (is_parked_on i call) refl
   where
     go : (b : Bool) → is_parked_on i call ≡ b → (cond (is_parked_on i call) (next_incarnation call) call ≡ call) ⊎ ((is_parked_on i call ≡ true) × (cond (is_parked_on i call) (next_incarnation call) call ≡ next_incarnation call))

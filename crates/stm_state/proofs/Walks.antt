@@ -45,7 +45,7 @@ module _ (block : Block) where
       walk_on x (xs ++ ys) s first.state first.step ∙ walk_joined xs ys first.state t first.rest
 
 -- where a list leads from a reached state is reached
-reached_on : (block : Block) (workers : ℕ) (entries : List (ℕ × Step)) (s t : State) → Reached block workers s → AllByRecursion (λ entry. entry.0 < workers) entries → walk block entries s ≡ Some t → Reached block workers t
+pub reached_on : (block : Block) (workers : ℕ) (entries : List (ℕ × Step)) (s t : State) → Reached block workers s → AllByRecursion (λ entry. entry.0 < workers) entries → walk block entries s ≡ Some t → Reached block workers t
 reached_on block workers [] s t h within k = subst (Reached block workers) (walk_none block s t k) h
 reached_on block workers (entry ∷ entries) s t h within k =
     let first = walk_first block entry entries s t k in
