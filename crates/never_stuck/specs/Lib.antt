@@ -1,0 +1,4 @@
+pub mod Ending
+pub mod Far
+pub mod Stuck
+pub mod Astray
