@@ -15,10 +15,10 @@ typedef __SIZE_TYPE__ usize;
 enum {
     KEY_LENGTH = 32,        /* of every key */
     VALUE_LIMIT = 64,       /* the most bytes of a value under rules one */
-    LONG_VALUE_LIMIT = 256, /* the most bytes of a value under rules two */
+    LONG_VALUE_LIMIT = 256, /* the most bytes of a value under rules two and three */
     OUTPUT_LIMIT = 256,     /* the most bytes of an output */
     INPUT_LIMIT = 4096,     /* the most bytes of an input */
-    KEYS_LIMIT = 256        /* the most keys that one call writes or removes */
+    KEYS_LIMIT = 256        /* the most keys that one call writes, removes or adds to */
 };
 
 /* What a call runs; each contract defines it. Where it comes back, the call returns with an empty
@@ -48,14 +48,14 @@ static inline _Noreturn void end_call(u32 number, const void *bytes, u32 length)
 
 /* Copies the key's value into the buffer and answers its length; ABSENT where there is none, LONGER
    where it is longer than the capacity, and then nothing is copied. The capacity is at most
-   VALUE_LIMIT under rules one, where a read costs 200. Under rules two it is at most
+   VALUE_LIMIT under rules one, where a read costs 200. Under rules two and three it is at most
    LONG_VALUE_LIMIT, and a read costs one more for each byte that it copies. */
 static inline u32 storage_read(const void *key, void *buffer, u32 capacity) {
     return storage_call(0, key, buffer, capacity);
 }
 
 /* Gives the key a value of at most VALUE_LIMIT bytes under rules one, and of at most
-   LONG_VALUE_LIMIT under rules two. An empty value is not absence. */
+   LONG_VALUE_LIMIT under rules two and three. An empty value is not absence. */
 static inline void storage_write(const void *key, const void *value, u32 length) {
     storage_call(1, key, value, length);
 }
@@ -63,6 +63,17 @@ static inline void storage_write(const void *key, const void *value, u32 length)
 /* Removes the key, which may be absent. */
 static inline void storage_remove(const void *key) {
     storage_call(2, key, 0, 0);
+}
+
+/* Adds an amount to the number at the key, without reading it: calls that only add to a key do not
+   conflict. The number is a value of 8 bytes, the lowest first; an absent key, and a value of another
+   length, count as 0. The sum wraps at 2^64. Under rules three alone; else the call ends `unknown-call`. */
+static inline void storage_add(const void *key, u64 amount) {
+    register u32 a0 __asm__("a0") = (u32)key;
+    register u32 a1 __asm__("a1") = (u32)amount;
+    register u32 a2 __asm__("a2") = (u32)(amount >> 32);
+    register u32 a7 __asm__("a7") = 5;
+    __asm__ volatile("ecall" : : "r"(a0), "r"(a1), "r"(a2), "r"(a7) : "memory");
 }
 
 /* Ends the call: its writes are kept, its output is these bytes, at most OUTPUT_LIMIT. */

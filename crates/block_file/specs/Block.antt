@@ -10,7 +10,7 @@ use Rattle.std.specs.FinMap as finite
 use Rattle.rv_ledger.specs.Key.{Storage, key_cmp}
 use Rattle.rv_ledger.specs.Rules.{longest_value}
 use Rattle.rv_ledger.specs.declared.rules.Rules.{Rules}
-use Rattle.rv_ledger.specs.declared.rules.Rules.TheVariants.{One, Two}
+use Rattle.rv_ledger.specs.declared.rules.Rules.TheVariants.{One, Two, Three}
 use Rattle.block_file.specs.declared.block_text.BlockText.{BlockText}
 use Rattle.block_file.specs.declared.block_text.CallLine.{CallLine}
 use Rattle.block_file.specs.declared.fault.Cause.{Cause}
@@ -129,7 +129,8 @@ first_format parts = behind 1 One parts
 abbrev pub rules_of : List ℕ → Option Rules
 rules_of line =
     if bytes_eq line (codes "gas 1") then Some One else
-    if bytes_eq line (codes "gas 2") then Some Two else None
+    if bytes_eq line (codes "gas 2") then Some Two else
+    if bytes_eq line (codes "gas 3") then Some Three else None
 
 -- what the parts behind the line `rvblock 2` say: the first one names the rules
 abbrev pub second_format : List (List ℕ) → Result BlockValue BlockFault

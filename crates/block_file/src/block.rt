@@ -64,6 +64,9 @@ fn rules_of(line: &[u8]) -> Option<Rules>
     if line == b"gas 2".as_slice() {
         return Some(Rules::Two);
     }
+    if line == b"gas 3".as_slice() {
+        return Some(Rules::Three);
+    }
     None
 }
 

@@ -5,7 +5,7 @@ use Rattle.rv_ledger.specs.Key.{Storage}
 use Rattle.rv_ledger.specs.Call.{Invocation}
 use Rattle.rv_ledger.specs.declared.receipt.Receipt.{Receipt}
 use Rattle.rv_step.specs.declared.machine.Machine.{Machine}
-use Rattle.rv_step.specs.Step.{StepResult, Next, Asks, Ends, TakesGas, step}
+use Rattle.rv_step.specs.Step.{StepResult, Next, Asks, Ends, TakesGas, delivered, step}
 use Rattle.rv_step.specs.Chain.{answered_by, ends, ran, settled, start}
 use Rattle.rv_step.proofs.Falls.{answer_takes_gas, step_takes_gas}
 use Rattle.debugger.specs.Moment.{Standing, Going, Over, advance, is_over, machine_of, moment_of, standing_after}
@@ -19,7 +19,7 @@ IsOnChain call store n (Over s) = (s.pc ≡ (ends call store).pc) × (s.regs ≡
 -- a step that a storage answers takes gas
 answered_takes_gas : (store : Storage) (s : Machine) (o : StepResult) → TakesGas s o → TakesGas s (answered_by store s o)
 answered_takes_gas store s (Next t) h = h
-answered_takes_gas store s (Asks key) h = answer_takes_gas s (map.get store key)
+answered_takes_gas store s (Asks key) h = answer_takes_gas s (delivered s key (map.get store key))
 answered_takes_gas store s (Ends end out t) h = h
 
 outcome_on_chain : (call : Invocation) (store : Storage) (n left : ℕ) (s : Machine) (o : StepResult) → left + suc n ≡ suc call.gas → s.gas + n ≤ call.gas → TakesGas s o → settled (λ t. ran call.gas left t store) call.gas s o ≡ ends call store → IsOnChain call store (suc n) (standing_after s o)

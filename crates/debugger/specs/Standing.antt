@@ -7,7 +7,7 @@ use Rattle.rv_step.specs.declared.machine.Machine.{Machine}
 use Rattle.rv_step.specs.declared.stage.Stage.{Stage}
 use Rattle.rv_step.specs.declared.stage.Stage.TheVariants.{Running, Asked, Ended}
 use Rattle.rv_step.specs.Run.{RunView}
-use Rattle.rv_step.specs.Step.{Asks, answered, step}
+use Rattle.rv_step.specs.Step.{Asks, answered, delivered, step}
 use Rattle.debugger.specs.Moment.{Standing, Going, Over, is_over, moment_of, standing_after}
 
 -- a machine and a stage fit a standing; a run that asked for a key has not gone on yet
@@ -32,7 +32,7 @@ pub record IsReplay (call : Invocation) (store : Storage) (run : RunView) (momen
 
 -- a run that asked for a key was answered from a storage; a run that did not ask stays as it was
 abbrev pub IsAnsweredAt : Storage → Stage → RunView → RunView → Type 0
-IsAnsweredAt store (Asked key) old new = IsRunAt (standing_after old.machine (answered old.machine (map.get store key))) new
+IsAnsweredAt store (Asked key) old new = IsRunAt (standing_after old.machine (answered old.machine (delivered old.machine key (map.get store key)))) new
 IsAnsweredAt store stage old new = new ≡ old
 
 abbrev pub IsAnswered : Storage → RunView → RunView → Type 0

@@ -85,7 +85,7 @@ impl Replay {
         if self.is_at_end() {
             return Err(ReplayFault::AtEnd);
         }
-        match step_run(&mut self.run, &self.store) {
+        match step_run(self.alloc, &mut self.run, &self.store) {
             Ok(()) => {
                 self.moment += 1;
                 Ok(())

@@ -12,7 +12,7 @@ use std::alloc::{AllocError, Global};
 
 /// Makes one step of a run that goes on, over a storage. Refused where memory ran out, and then the
 /// run stands where it stood.
-pub(crate) fn step_run(run: &mut Run, store: &Store) -> Result<(), AllocError>
+pub(crate) fn step_run(alloc: Global, run: &mut Run, store: &Store) -> Result<(), AllocError>
     requires { IsRunAt (Going run.old.machine) run.old }
     ensures ok { OnOk result (IsRunAt (advance store.now (Going run.old.machine)) run.new) }
     ensures err { OnErr result (IsRunAt (Going run.old.machine) run.new) }
@@ -20,12 +20,12 @@ pub(crate) fn step_run(run: &mut Run, store: &Store) -> Result<(), AllocError>
     if run.is_running() {
         run.step_one()?;
     }
-    answer_from(run, store)
+    answer_from(alloc, run, store)
 }
 
 /// Answers a run that asks for a key, from a storage. A run that does not ask stays as it is. Refused
 /// where memory ran out, and then nothing changes.
-fn answer_from(run: &mut Run, store: &Store) -> Result<(), AllocError>
+fn answer_from(alloc: Global, run: &mut Run, store: &Store) -> Result<(), AllocError>
     ensures ok { OnOk result (IsAnswered store.now run.old run.new) }
     ensures err { OnErr result (run.new ≡ run.old) }
     ensures asked { OnErr result (IsSome (asked_key run.old.stage)) }
@@ -33,7 +33,7 @@ fn answer_from(run: &mut Run, store: &Store) -> Result<(), AllocError>
     if let Stage::Asked(key) = run.stage() {
         let key = *key;
         let content = StoredValue::value_of(store.get(&key));
-        run.answer(content.as_ref(), Origin::Base)?;
+        run.answer(content.as_ref(), Origin::base(alloc))?;
     }
     Ok(())
 }
@@ -52,7 +52,7 @@ pub(crate) fn run_after(
 {
     let mut run = Run::start(alloc, call)?;
     for _ in 0..steps {
-        step_run(&mut run, store)?;
+        step_run(alloc, &mut run, store)?;
     }
     Ok(run)
 }

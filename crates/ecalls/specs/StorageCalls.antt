@@ -1,9 +1,10 @@
--- The storage calls: an ECALL, by the number in a7. READ, WRITE and REMOVE have their key at a0, RETURN and REVERT their
+-- The storage calls: an ECALL, by the number in a7. READ, WRITE, REMOVE and ADD have their key at a0, RETURN and REVERT their
 -- output (this project's own profile).
-use Rattle.std.specs.Prelude.{ℕ, ◌+◌, ◌*◌, ◌==◌, nat_lt, Bool, ◌&&◌, if◌then◌else◌, List, slice_index, Option, Some, None, Result, Ok, Err}
+use Rattle.std.specs.Prelude.{ℕ, ◌+◌, ◌*◌, ◌^◌, ◌==◌, nat_lt, Bool, ◌&&◌, if◌then◌else◌, List, slice_index, Option, Some, None, Result, Ok, Err}
 use Rattle.rv_ledger.specs.Rules.{longest_value}
 use Rattle.rv_ledger.specs.declared.rules.Rules.{Rules}
 use Rattle.rv_ledger.specs.declared.rules.Rules.TheVariants as rules
+use Rattle.rv_ledger.specs.declared.change.Change.TheVariants as change
 use Rattle.rv_ledger.specs.declared.end.Trap.{Trap}
 use Rattle.rv_ledger.specs.declared.end.Trap.TheVariants.{MemoryFault, UnknownCall, BadLength}
 use Rattle.rv_mem.specs.declared.access.Access.TheVariants as access
@@ -26,14 +27,21 @@ a2 registers = slice_index registers 12
 abbrev pub a7 : List ℕ → ℕ
 a7 registers = slice_index registers 17
 
--- the call that has a number
-abbrev pub call_of : ℕ → Option StorageCall
-call_of number =
+-- ADD, where the rules know it
+abbrev pub add_under : Rules → Option StorageCall
+add_under rules.One = None
+add_under rules.Two = None
+add_under rules.Three = Some call.Add
+
+-- the call that has a number under some rules
+abbrev pub call_of : Rules → ℕ → Option StorageCall
+call_of rules number =
     if number == 0 then Some call.Read
     else if number == 1 then Some call.Write
     else if number == 2 then Some call.Remove
     else if number == 3 then Some call.Return
     else if number == 4 then Some call.Revert
+    else if number == 5 then add_under rules
     else None
 
 -- the length that the registers give for a call: that of its buffer, its value or its output
@@ -43,6 +51,7 @@ length_of call.Write registers = a2 registers
 length_of call.Remove registers = 0
 length_of call.Return registers = a1 registers
 length_of call.Revert registers = a1 registers
+length_of call.Add registers = 0
 
 -- the greatest length that a call may have
 abbrev pub longest : StorageCall → Rules → ℕ
@@ -51,6 +60,7 @@ longest call.Write rules = longest_value rules
 longest call.Remove rules = 0
 longest call.Return rules = 256
 longest call.Revert rules = 256
+longest call.Add rules = 0
 
 -- the gas of a call before it acts
 abbrev pub charge_of : StorageCall → List ℕ → ℕ
@@ -59,11 +69,17 @@ charge_of call.Write registers = 400 + 4 * a2 registers
 charge_of call.Remove registers = 300
 charge_of call.Return registers = 10 + a1 registers
 charge_of call.Revert registers = 10 + a1 registers
+charge_of call.Add registers = 300
+
+-- the amount that an ADD adds: its low half is in a1, its high half in a2
+abbrev pub added_amount : List ℕ → ℕ
+added_amount registers = a1 registers + a2 registers * 2 ^ 32
 
 -- the further gas of a READ that copies a value of `len` bytes
 abbrev pub late_charge : Rules → ℕ → ℕ
 late_charge rules.One len = 0
 late_charge rules.Two len = len
+late_charge rules.Three len = len
 
 -- the call, if there is one and its length is within the limit
 abbrev pub within_length : List ℕ → Rules → Option StorageCall → Result StorageCall Trap
@@ -72,7 +88,7 @@ within_length registers rules (Some call) = if nat_lt (longest call rules) (leng
 
 -- the call that the registers ask for, by its number and then its length, or the trap, which costs nothing
 unfoldable pub asked : List ℕ → Rules → Result StorageCall Trap
-asked registers rules = within_length registers rules (call_of (a7 registers))
+asked registers rules = within_length registers rules (call_of rules (a7 registers))
 
 -- its charge, or the trap
 abbrev pub charge_asked : List ℕ → Result StorageCall Trap → Result ℕ Trap
@@ -98,14 +114,16 @@ has_rights call.Write r memory = is_readable memory (a0 r) 32 && is_readable mem
 has_rights call.Remove r memory = is_readable memory (a0 r) 32
 has_rights call.Return r memory = is_readable memory (a0 r) (a1 r)
 has_rights call.Revert r memory = is_readable memory (a0 r) (a1 r)
+has_rights call.Add r memory = is_readable memory (a0 r) 32
 
 -- what a call asks for, with the bytes that it names
 abbrev pub request_with : StorageCall → List ℕ → Space → Request
 request_with call.Read r memory = request.Read (bytes_at memory (a0 r) 32)
-request_with call.Write r memory = request.Write (record { key = bytes_at memory (a0 r) 32; value = Some (bytes_at memory (a1 r) (a2 r)) })
-request_with call.Remove r memory = request.Write (record { key = bytes_at memory (a0 r) 32; value = None })
+request_with call.Write r memory = request.Write (record { key = bytes_at memory (a0 r) 32; change = change.Value (bytes_at memory (a1 r) (a2 r)) })
+request_with call.Remove r memory = request.Write (record { key = bytes_at memory (a0 r) 32; change = change.Gone })
 request_with call.Return r memory = request.Return (bytes_at memory (a0 r) (a1 r))
 request_with call.Revert r memory = request.Revert (bytes_at memory (a0 r) (a1 r))
+request_with call.Add r memory = request.Add (bytes_at memory (a0 r) 32) (added_amount r)
 
 -- what a call asks for, or MemoryFault where it lacks a right
 abbrev pub request_by : StorageCall → List ℕ → Space → Result Request Trap

@@ -10,4 +10,4 @@ pub use copies::{bytes_at, key_at};
 pub use request_kind::Request;
 pub use requests::request;
 pub use rv_ledger::{Rules, Trap, Writes};
-pub use storage_call::{READ_CHARGE, StorageCall, asked, ecall_charge, late_charge};
+pub use storage_call::{READ_CHARGE, StorageCall, added_amount, asked, ecall_charge, late_charge};

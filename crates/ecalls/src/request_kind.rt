@@ -9,6 +9,8 @@ pub enum Request {
     Read(Key),
     /// A write or a removal.
     Write(Write),
+    /// To add this amount to a key, without reading it.
+    Add(Key, u64),
     /// To return this output.
     Return(Output),
     /// To revert with this output.

@@ -8,9 +8,9 @@ ghost use Rattle.ecalls.specs.declared.storage_call.StorageCall.TheVariants as c
 
 use crate::copies::{bytes_at, key_at};
 use crate::request_kind::Request;
-use crate::storage_call::{StorageCall, asked};
+use crate::storage_call::{StorageCall, added_amount, asked};
 use rv_isa::{Reg, Regs};
-use rv_ledger::{Output, Rules, Trap, Write};
+use rv_ledger::{Change, Output, Rules, Trap, Write};
 use rv_mem::Memory;
 
 /// What the ECALL asks for, or the first trap that it meets: UnknownCall, BadLength, or MemoryFault
@@ -34,6 +34,7 @@ fn request_by(call: StorageCall, registers: &Regs, memory: &Memory) -> Result<Re
         StorageCall::Remove => remove(registers, memory),
         StorageCall::Return => Ok(Request::Return(output(registers, memory)?)),
         StorageCall::Revert => Ok(Request::Revert(output(registers, memory)?)),
+        StorageCall::Add => add(registers, memory),
     }
 }
 
@@ -63,7 +64,7 @@ fn write(registers: &Regs, memory: &Memory) -> Result<Request, Trap>
     };
     Ok(Request::Write(Write {
         key,
-        value: Some(value),
+        change: Change::Value(value),
     }))
 }
 
@@ -74,7 +75,20 @@ fn remove(registers: &Regs, memory: &Memory) -> Result<Request, Trap>
     let Some(key) = key_at(memory, registers.get(Reg::a0())) else {
         return Err(Trap::MemoryFault);
     };
-    Ok(Request::Write(Write { key, value: None }))
+    Ok(Request::Write(Write {
+        key,
+        change: Change::Gone,
+    }))
+}
+
+/// What an ADD asks for; MemoryFault unless its key may be read.
+fn add(registers: &Regs, memory: &Memory) -> Result<Request, Trap>
+    ensures { result ≡ request_by call.Add registers.now memory.now }
+{
+    let Some(key) = key_at(memory, registers.get(Reg::a0())) else {
+        return Err(Trap::MemoryFault);
+    };
+    Ok(Request::Add(key, added_amount(registers)))
 }
 
 /// The output of a RETURN or a REVERT; MemoryFault unless each of its bytes may be read.

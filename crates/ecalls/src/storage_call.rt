@@ -1,7 +1,7 @@
-//! The five storage calls, their lengths and their charges.
+//! The storage calls, their lengths and their charges.
 
 ghost use Rattle.std.specs.Prelude.{◌≡◌, ◌≤◌, IfOk};
-ghost use Rattle.ecalls.specs.StorageCalls.{asked, call_of, charge_of, ecall_charge, late_charge, length_of, longest};
+ghost use Rattle.ecalls.specs.StorageCalls.{add_under, added_amount, asked, call_of, charge_of, ecall_charge, late_charge, length_of, longest};
 
 use rv_isa::{Reg, Regs};
 use rv_ledger::{OUTPUT_LIMIT, Rules, Trap};
@@ -22,12 +22,14 @@ pub enum StorageCall {
     Return = 3,
     /// Ends the call with an output; its writes are dropped.
     Revert = 4,
+    /// Adds an amount to the number at a key without reading it; known under rules three alone.
+    Add = 5,
 }
 
 impl StorageCall {
-    /// The storage call that has a number, or None where none has it.
-    fn of(number: u32) -> Option<StorageCall>
-        ensures { result ≡ call_of number }
+    /// The storage call that has a number under some rules, or None where none has it.
+    fn of(rules: Rules, number: u32) -> Option<StorageCall>
+        ensures { result ≡ call_of rules number }
     {
         match number {
             0 => Some(StorageCall::Read),
@@ -35,17 +37,28 @@ impl StorageCall {
             2 => Some(StorageCall::Remove),
             3 => Some(StorageCall::Return),
             4 => Some(StorageCall::Revert),
+            5 => StorageCall::add_under(rules),
             _ => None,
         }
     }
 
-    /// The length that the registers give for the call, in bytes; 0 for a removal.
+    /// ADD, or None where the rules do not know it.
+    fn add_under(rules: Rules) -> Option<StorageCall>
+        ensures { result ≡ add_under rules }
+    {
+        match rules {
+            Rules::One | Rules::Two => None,
+            Rules::Three => Some(StorageCall::Add),
+        }
+    }
+
+    /// The length that the registers give for the call, in bytes; 0 for a removal and for an ADD.
     fn length(self, registers: &Regs) -> u32
         ensures { result ≡ length_of self registers.now }
     {
         match self {
             StorageCall::Read | StorageCall::Write => registers.get(Reg::a2()),
-            StorageCall::Remove => 0,
+            StorageCall::Remove | StorageCall::Add => 0,
             StorageCall::Return | StorageCall::Revert => registers.get(Reg::a1()),
         }
     }
@@ -57,7 +70,7 @@ impl StorageCall {
     {
         match self {
             StorageCall::Read | StorageCall::Write => rules.longest_value() as u32,
-            StorageCall::Remove => 0,
+            StorageCall::Remove | StorageCall::Add => 0,
             StorageCall::Return | StorageCall::Revert => OUTPUT_LIMIT as u32,
         }
     }
@@ -71,21 +84,21 @@ impl StorageCall {
         match self {
             StorageCall::Read => READ_CHARGE,
             StorageCall::Write => 400 + 4 * registers.get(Reg::a2()),
-            StorageCall::Remove => 300,
+            StorageCall::Remove | StorageCall::Add => 300,
             StorageCall::Return | StorageCall::Revert => 10 + registers.get(Reg::a1()),
         }
     }
 }
 
-/// The storage call whose number is in a7. Traps UnknownCall where no call has that number, and else
-/// BadLength where its length is above the limit: a2 above the rules' longest value for READ and WRITE, or
-/// a1 above 256 for RETURN and REVERT.
+/// The storage call whose number is in a7. Traps UnknownCall where no call has that number under the rules,
+/// and else BadLength where its length is above the limit: a2 above the rules' longest value for READ and
+/// WRITE, or a1 above 256 for RETURN and REVERT.
 #[tactic(auto, unfolding(crate::specs::StorageCalls::asked))]
 pub fn asked(registers: &Regs, rules: Rules) -> Result<StorageCall, Trap>
     ensures call { result ≡ asked registers.now rules }
     ensures short { IfOk result (λ call. length_of call registers.now ≤ 256) }
 {
-    let Some(call) = StorageCall::of(registers.get(Reg::a7())) else {
+    let Some(call) = StorageCall::of(rules, registers.get(Reg::a7())) else {
         return Err(Trap::UnknownCall);
     };
     if call.length(registers) > call.longest(rules) {
@@ -104,12 +117,19 @@ pub fn ecall_charge(registers: &Regs, rules: Rules) -> Result<u32, Trap>
 }
 
 /// The further gas of a READ that copies a value of `len` bytes: none under rules one, and one for each
-/// byte under rules two.
+/// byte under rules two and three.
 pub fn late_charge(rules: Rules, len: u32) -> u32
     ensures { result ≡ late_charge rules len }
 {
     match rules {
         Rules::One => 0,
-        Rules::Two => len,
+        Rules::Two | Rules::Three => len,
     }
+}
+
+/// The amount that an ADD adds: its low half is in a1 and its high half in a2.
+pub fn added_amount(registers: &Regs) -> u64
+    ensures { result ≡ added_amount registers.now }
+{
+    u64::from(registers.get(Reg::a1())) + (u64::from(registers.get(Reg::a2())) << 32)
 }

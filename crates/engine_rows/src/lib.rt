@@ -37,6 +37,8 @@ mod reports;
 #[cfg(test)]
 mod rows;
 #[cfg(test)]
+mod rules_three;
+#[cfg(test)]
 mod rules_two;
 #[cfg(test)]
 mod schedules;

@@ -55,7 +55,7 @@ pub const PUT: &[u32] = &[
 ];
 
 /// Returns the first byte of the value at a key.
-const GET: &[u32] = &[
+pub const GET: &[u32] = &[
     0xfc01_0593,
     0x0400_0613,
     0x0000_0073,

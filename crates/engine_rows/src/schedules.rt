@@ -200,7 +200,7 @@ fn mixed(alloc: Global, workers: u32, count: usize) -> Result<String, AllocError
 }
 
 /// What the engine prints of a block along a mixed list of so many entries.
-fn driven_mixed(
+pub fn driven_mixed(
     alloc: Global,
     block: &BlockInMemory,
     workers: u32,
@@ -211,7 +211,7 @@ fn driven_mixed(
 }
 
 /// Asserts that a text is what the engine prints of a block in order.
-fn assert_printed(
+pub fn assert_printed(
     rt: &impl Abort,
     alloc: Global,
     block: &BlockInMemory,

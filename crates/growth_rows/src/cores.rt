@@ -1,12 +1,12 @@
 //! The steps of a core's workers, made one by one along a list of worker numbers.
 
-ghost use Rattle.std.specs.Prelude.{◌≡◌, ◌<◌, ◌≤◌, None, OnOk, length, get_or};
+ghost use Rattle.std.specs.Prelude.{◌≡◌, ◌<◌, None, OnOk, length, get_or};
 ghost use Rattle.rv_step.specs.Run.{IsEnded};
 ghost use Rattle.rv_step.specs.declared.stage.Stage.TheVariants.{Asked};
 ghost use Rattle.stm_state.specs.State.{no_counts, task_at};
 ghost use Rattle.stm_state.specs.Steps.{Read_key, Record};
 ghost use Rattle.stm_state.specs.declared.state.Task.TheVariants.{Running};
-ghost use Rattle.stm_core.specs.CoreState.{IsDue, answers_of};
+ghost use Rattle.stm_core.specs.CoreState.{HasReadRoom, IsDue, answers_of};
 
 use crate::images::{copy_of, job_of};
 use crate::rows::{LATE_WRITER, Row, WITHDRAWN_WRITE, assert_text};
@@ -117,7 +117,7 @@ fn run_on(
 /// makes it.
 fn make_room(rt: &impl Abort, core: &mut Core, worker: usize) -> Result<(), AllocError>
     requires { worker < length core.old.state.tasks }
-    ensures room { OnOk result (1 ≤ get_or core.new.rooms worker 0) }
+    ensures room { OnOk result (HasReadRoom worker core.new) }
     ensures job { core.new.job ≡ core.old.job }
     ensures state { core.new.state ≡ core.old.state }
 {

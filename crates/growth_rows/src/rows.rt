@@ -2,7 +2,7 @@
 
 use crate::images::{COND, GET, PUT, SEEN};
 use receipts::result_text;
-use rv_ledger::{End, Key, Outcome, Receipt, StoredValue};
+use rv_ledger::{Change, End, Key, Outcome, Receipt, StoredValue};
 use std::alloc::{AllocError, Global};
 use std::process::Abort;
 
@@ -143,7 +143,7 @@ pub fn are_counts(outcome: &Outcome, calls: u32) -> bool {
 
 /// Whether this is the receipt of a call of COUNT that counts a key up to this number.
 fn is_count(receipt: &Receipt, key: &Key, count: u32) -> bool {
-    let Some(Some(value)) = receipt.writes.get(key) else {
+    let Some(Change::Value(value)) = receipt.writes.get(key) else {
         return false;
     };
     receipt.end == End::Returned

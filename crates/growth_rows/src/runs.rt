@@ -38,9 +38,10 @@ pub fn go(run: &mut Run) -> Result<Pause, AllocError>
 pub fn answer(run: &mut Run, content: Option<&Value>, origin: Origin) -> Result<(), AllocError>
     requires { IsSome (asked_key run.old.stage) }
 {
+    let again = origin.copy()?;
     match run.answer(content, origin) {
         Ok(()) => Ok(()),
-        Err(_) => run.answer(content, origin),
+        Err(_) => run.answer(content, again),
     }
 }
 
@@ -114,12 +115,12 @@ fn touch_growth_refused(rt: HostRuntime) -> Result<(), Fail> {
 }
 
 /// Gives a run of LEN a value that is longer than its room. Gives false where the run asks for no key.
-fn answer_long(run: &mut Run) -> Result<bool, AllocError> {
+fn answer_long(alloc: Global, run: &mut Run) -> Result<bool, AllocError> {
     let Pause::Ask(_) = go(run)? else {
         return Ok(false);
     };
     let value = Value::of(&[0x11; 64]);
-    answer(run, value.as_ref(), Origin::Base)?;
+    answer(run, value.as_ref(), Origin::base(alloc))?;
     Ok(true)
 }
 
@@ -127,7 +128,7 @@ fn answer_long(run: &mut Run) -> Result<bool, AllocError> {
 #[test]
 fn length_growths_refused(rt: HostRuntime) -> Result<(), Fail> {
     let mut run = run_of(rt.alloc(), LEN, KEY)?;
-    assert!(rt; answer_long(&mut run)?);
+    assert!(rt; answer_long(rt.alloc(), &mut run)?);
     let Some(receipt) = receipt_of(run)? else {
         panic!(rt; "it asks for a second key");
     };

@@ -3,7 +3,7 @@
 use crate::program_file::ECHO;
 use ecalls::*;
 use rv_isa::{Reg, Regs};
-use rv_ledger::{Output, Value};
+use rv_ledger::{Change, Output, Value};
 use rv_mem::Memory;
 use std::alloc::Global;
 use std::process::Abort;
@@ -51,6 +51,15 @@ const LONG_CHARGES: &[((u32, u32, u32), Result<u32, Trap>)] = &[
     ((5, 0, 0), Err(Trap::UnknownCall)),
 ];
 
+// The same under rules three.
+const CHARGES_WITH_ADD: &[((u32, u32, u32), Result<u32, Trap>)] = &[
+    ((0, 9, 256), Ok(200)),
+    ((1, 9, 256), Ok(1424)),
+    ((1, 9, 257), Err(Trap::BadLength)),
+    ((5, 0xffff_ffff, 0xffff_ffff), Ok(300)),
+    ((6, 0, 0), Err(Trap::UnknownCall)),
+];
+
 fn charges_under(rt: &impl Abort, rules: Rules, rows: &[((u32, u32, u32), Result<u32, Trap>)]) {
     for ((a7, a1, a2), expected) in rows {
         let charge = ecall_charge(&registers(*a7, 0, *a1, *a2), rules);
@@ -62,14 +71,16 @@ fn charges_under(rt: &impl Abort, rules: Rules, rows: &[((u32, u32, u32), Result
 fn charges(rt: HostRuntime) {
     charges_under(&rt, Rules::One, CHARGES);
     charges_under(&rt, Rules::Two, LONG_CHARGES);
+    charges_under(&rt, Rules::Three, CHARGES_WITH_ADD);
 }
 
-// A READ pays for the bytes that it copies under rules two only.
+// A READ pays for the bytes that it copies under rules two and three.
 #[test]
 fn late_charges(rt: HostRuntime) {
     assert!(rt; late_charge(Rules::One, 64) == 0);
     assert!(rt; late_charge(Rules::Two, 64) == 64);
     assert!(rt; late_charge(Rules::Two, 0) == 0);
+    assert!(rt; late_charge(Rules::Three, 64) == 64);
 }
 
 // A memory whose input, at 0x00100000, is 32 bytes 7 (a key) and then the bytes 1 and 2.
@@ -128,18 +139,26 @@ fn traps(rt: HostRuntime) -> Result<(), Fail> {
     Ok(())
 }
 
+// Whether it is the change that the storage call of this number asks for: the bytes 7, 1 and 2 or a removal.
+fn is_asked_change(change: &Change<Value>, call: u32) -> bool {
+    match change {
+        Change::Value(value) => call == 1 && value.bytes() == [7, 1, 2].as_slice(),
+        Change::Gone => call == 2,
+        Change::Sum(_) => false,
+    }
+}
+
 // Whether it is what the storage call of this number asks for: the key of `memory`, and its bytes 7, 1 and 2 as
 // value or output.
 fn is_asked(request: &Request, call: u32) -> bool {
-    let value = Value::of(&[7, 1, 2]);
     let output = Output::of(&[7, 1, 2]);
     match request {
         Request::Read(key) => call == 0 && *key.bytes() == [7; 32],
-        Request::Write(write) if call == 1 => {
-            *write.key.bytes() == [7; 32] && write.value == value
-        }
         Request::Write(write) => {
-            call == 2 && *write.key.bytes() == [7; 32] && write.value.is_none()
+            *write.key.bytes() == [7; 32] && is_asked_change(&write.change, call)
+        }
+        Request::Add(key, amount) => {
+            call == 5 && *key.bytes() == [7; 32] && *amount == 0x0000_0002_0000_0003
         }
         Request::Return(out) => call == 3 && Some(out) == output.as_ref(),
         Request::Revert(out) => call == 4 && Some(out) == output.as_ref(),
@@ -148,18 +167,18 @@ fn is_asked(request: &Request, call: u32) -> bool {
 
 // What the storage call of a number asks for.
 fn requested(memory: &Memory, call: u32) -> Result<Request, Trap> {
-    let (a0, a1, a2) = if call < 3 {
-        (0x0010_0000, 0x0010_001f, 3)
-    } else {
-        (0x0010_001f, 3, 0)
+    let (a0, a1, a2) = match call {
+        0..=2 => (0x0010_0000, 0x0010_001f, 3),
+        5 => (0x0010_0000, 3, 2),
+        _ => (0x0010_001f, 3, 0),
     };
-    request(&registers(call, a0, a1, a2), memory, Rules::One)
+    request(&registers(call, a0, a1, a2), memory, Rules::Three)
 }
 
 #[test]
-fn requests_of_the_five_calls(rt: HostRuntime) -> Result<(), Fail> {
+fn requests_of_the_six_calls(rt: HostRuntime) -> Result<(), Fail> {
     let memory = memory(rt.alloc())?;
-    for call in 0..5 {
+    for call in 0..6 {
         let request = requested(&memory, call)?;
         assert!(rt; is_asked(&request, call), "call {call}");
     }

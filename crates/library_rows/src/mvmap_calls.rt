@@ -1,10 +1,12 @@
 ghost use Rattle.mvmap.specs.Versions.{HasNoEstimate};
 ghost use Rattle.std.specs.Prelude.{OnOk};
 
-use mvmap::{Answer, MvMap, Version};
-use rv_ledger::{Key, Store, Value};
+use mvmap::{Answer, MvMap};
+use read_set::Version;
+use rv_ledger::{Change, Key, Store, Value};
 use std::alloc::{AllocError, Global};
 use std::process::Abort;
+use std::test::Fail;
 use version_arena::{Arena, ReserveFault};
 
 // The key of zeros with this last byte.
@@ -26,6 +28,21 @@ fn empty(alloc: Global) -> MvMap
     MvMap::over(alloc, Arena::new(alloc))
 }
 
+// Publishes what a call's run did to a key.
+fn publish(
+    map: &mut MvMap,
+    key: Key,
+    writer: u16,
+    incarnation: u16,
+    change: Change<&Value>,
+) -> Result<(), ReserveFault>
+    ensures { OnOk result (HasNoEstimate map.old.versions → HasNoEstimate map.new.versions) }
+{
+    map.reserve_for(&[key], writer, 1, 256)?;
+    map.publish(&key, writer, incarnation, change);
+    Ok(())
+}
+
 // Publishes what a call's run wrote to a key; None is a removal.
 fn set(
     map: &mut MvMap,
@@ -36,10 +53,10 @@ fn set(
 ) -> Result<(), ReserveFault>
     ensures { OnOk result (HasNoEstimate map.old.versions → HasNoEstimate map.new.versions) }
 {
-    let value = byte.map(|byte| value(byte));
-    map.reserve_for(&[key], writer, 1, 256)?;
-    map.publish(&key, writer, incarnation, value.as_ref());
-    Ok(())
+    match byte {
+        Some(byte) => publish(map, key, writer, incarnation, Change::Value(&value(byte))),
+        None => publish(map, key, writer, incarnation, Change::Gone),
+    }
 }
 
 // Makes the entry of a call at a key an estimate.
@@ -49,20 +66,49 @@ fn estimate(map: &mut MvMap, key: Key, writer: u16) -> Result<(), ReserveFault> 
     Ok(())
 }
 
-// The answer that a version with these bytes gives; None is a removal.
-fn found(writer: u16, incarnation: u16, bytes: Option<&[u8]>) -> Answer<'_> {
-    Answer::Found(
-        Version {
-            writer,
-            incarnation,
-        },
-        bytes,
-    )
+// A version of a call's run.
+fn version(writer: u16, incarnation: u16) -> Version {
+    Version {
+        writer,
+        incarnation,
+    }
 }
 
-// Asserts that a call sees this of a key.
-fn assert_seen(rt: &impl Abort, map: &MvMap, key: &Key, reader: u16, answer: Answer<'_>) {
-    assert_eq!(rt; map.read(key, reader), answer, "read by {reader}");
+// Whether an answer is a version with these bytes; None is a removal.
+fn is_found(answer: &Answer, found: Version, bytes: Option<&[u8]>) -> bool {
+    match answer {
+        Answer::Found(version, value) => {
+            *version == found && value.as_ref().map(|value| value.bytes()) == bytes
+        }
+        _ => false,
+    }
+}
+
+// What a call sees of a key where no version is a sum.
+fn seen(alloc: Global, map: &MvMap, key: &Key, reader: u16) -> Result<Answer, AllocError> {
+    let mut passed = Vec::with_capacity(alloc, 16)?;
+    Ok(map.read(key, reader.min(16), &mut passed))
+}
+
+// Asserts that a call sees a version with these bytes; None is a removal.
+fn assert_found(
+    rt: &impl Abort,
+    alloc: Global,
+    map: &MvMap,
+    reader: u16,
+    found: Version,
+    bytes: Option<&[u8]>,
+) -> Result<(), AllocError> {
+    let answer = seen(alloc, map, &key(1), reader)?;
+    assert!(rt; is_found(&answer, found, bytes), "read by {reader}");
+    Ok(())
+}
+
+// Asserts that a call sees the storage before the block.
+fn assert_base(rt: &impl Abort, alloc: Global, map: &MvMap, reader: u16) -> Result<(), AllocError> {
+    let answer = seen(alloc, map, &key(1), reader)?;
+    assert!(rt; matches!(answer, Answer::Base(None)), "read by {reader}");
+    Ok(())
 }
 
 // Asserts that this many versions were placed in a map.
@@ -78,21 +124,47 @@ fn set_at_two_keys(map: &mut MvMap, k: Key) -> Result<(), ReserveFault> {
 }
 
 // Asserts what calls see of two keys that have versions.
-fn assert_readings(rt: &impl Abort, map: &mut MvMap) -> Result<(), ReserveFault> {
-    let k = key(1);
-    assert_seen(rt, map, &k, 9, Answer::Base);
-    set_at_two_keys(map, k)?;
+fn assert_readings(rt: &impl Abort, alloc: Global, map: &mut MvMap) -> Result<(), Fail> {
+    assert_base(rt, alloc, map, 9)?;
+    set_at_two_keys(map, key(1))?;
     assert_placed(rt, map, 3);
-    assert_seen(rt, map, &k, 0, Answer::Base);
-    assert_seen(rt, map, &k, 3, found(0, 0, Some(&[1])));
-    assert_seen(rt, map, &k, 9, found(3, 2, None));
+    assert_base(rt, alloc, map, 0)?;
+    assert_found(rt, alloc, map, 3, version(0, 0), Some(&[1]))?;
+    assert_found(rt, alloc, map, 9, version(3, 2), None)?;
     Ok(())
 }
 
 #[test]
-fn readings(rt: HostRuntime) -> Result<(), ReserveFault> {
+fn readings(rt: HostRuntime) -> Result<(), Fail> {
     let mut map = empty(rt.alloc());
-    assert_readings(&rt, &mut map)
+    assert_readings(&rt, rt.alloc(), &mut map)
+}
+
+// Publishes two sums at a key, of calls 1 and 4, over a value of three bytes.
+fn set_sums(map: &mut MvMap) -> Result<(), ReserveFault> {
+    let short = Value::of(&[1, 2, 3]).unwrap_or(Value::empty());
+    publish(map, key(1), 0, 0, Change::Value(&short))?;
+    publish(map, key(1), 1, 2, Change::Sum(7))?;
+    publish(map, key(1), 4, 0, Change::Sum(u64::MAX))
+}
+
+// Asserts that call 9 passes both sums and finds the value, which counts as 0; and that call 4 passes one.
+fn assert_sums(rt: &impl Abort, alloc: Global, map: &mut MvMap) -> Result<(), Fail> {
+    let mut passed = Vec::with_capacity(alloc, 9)?;
+    set_sums(map)?;
+    let answer = map.read(&key(1), 9, &mut passed);
+    assert!(rt; is_found(&answer, version(0, 0), Some(&[6, 0, 0, 0, 0, 0, 0, 0])));
+    assert!(rt; passed.as_slice() == [version(4, 0), version(1, 2)].as_slice());
+    let answer = map.read(&key(1), 4, &mut passed);
+    assert!(rt; is_found(&answer, version(0, 0), Some(&[7, 0, 0, 0, 0, 0, 0, 0])));
+    assert!(rt; passed.as_slice() == [version(1, 2)].as_slice());
+    Ok(())
+}
+
+#[test]
+fn sums_are_passed(rt: HostRuntime) -> Result<(), Fail> {
+    let mut map = empty(rt.alloc());
+    assert_sums(&rt, rt.alloc(), &mut map)
 }
 
 // Publishes versions of calls 0 and 3 at a key, and makes the second an estimate.
@@ -103,23 +175,25 @@ fn set_estimate(map: &mut MvMap, k: Key) -> Result<(), ReserveFault> {
 }
 
 // Asserts that call 9 sees the estimate, and the version of call 0 once that is withdrawn.
-fn assert_withdraws(rt: &impl Abort, map: &mut MvMap, k: Key) -> Result<(), ReserveFault> {
-    set_estimate(map, k)?;
-    assert_seen(rt, map, &k, 9, Answer::Estimate(3));
-    map.withdraw(&k, 3);
-    map.withdraw(&k, 1);
-    assert_seen(rt, map, &k, 9, found(0, 0, Some(&[1])));
+fn assert_withdraws(rt: &impl Abort, alloc: Global, map: &mut MvMap) -> Result<(), Fail> {
+    set_estimate(map, key(1))?;
+    let answer = seen(alloc, map, &key(1), 9)?;
+    assert!(rt; matches!(answer, Answer::Estimate(3)));
+    map.withdraw(&key(1), 3);
+    map.withdraw(&key(1), 1);
+    assert_found(rt, alloc, map, 9, version(0, 0), Some(&[1]))?;
     Ok(())
 }
 
 // Asserts that call 9 sees the next version of call 3, and nothing in a map that is cleared.
-fn assert_clears(rt: &impl Abort, map: &mut MvMap, k: Key) -> Result<(), ReserveFault> {
-    set(map, k, 3, 3, Some(4))?;
-    assert_seen(rt, map, &k, 9, found(3, 3, Some(&[4])));
+fn assert_clears(rt: &impl Abort, alloc: Global, map: &mut MvMap) -> Result<(), Fail> {
+    set(map, key(1), 3, 3, Some(4))?;
+    assert_found(rt, alloc, map, 9, version(3, 3), Some(&[4]))?;
     map.clear();
-    assert_seen(rt, map, &k, 9, Answer::Base);
+    assert_base(rt, alloc, map, 9)?;
     assert_placed(rt, map, 0);
-    set(map, k, 0, 0, Some(5))
+    set(map, key(1), 0, 0, Some(5))?;
+    Ok(())
 }
 
 // The number of records in the arena that a map gives back.
@@ -128,15 +202,15 @@ fn records_left(map: MvMap) -> usize {
 }
 
 // Asserts what call 9 sees of a key whose versions change.
-fn assert_changes(rt: &impl Abort, map: &mut MvMap) -> Result<(), ReserveFault> {
-    assert_withdraws(rt, map, key(1))?;
-    assert_clears(rt, map, key(1))
+fn assert_changes(rt: &impl Abort, alloc: Global, map: &mut MvMap) -> Result<(), Fail> {
+    assert_withdraws(rt, alloc, map)?;
+    assert_clears(rt, alloc, map)
 }
 
 #[test]
-fn changes(rt: HostRuntime) -> Result<(), ReserveFault> {
+fn changes(rt: HostRuntime) -> Result<(), Fail> {
     let mut map = empty(rt.alloc());
-    assert_changes(&rt, &mut map)?;
+    assert_changes(&rt, rt.alloc(), &mut map)?;
     assert_eq!(rt; records_left(map), 0);
     Ok(())
 }
@@ -157,19 +231,19 @@ fn reserve_twice(map: &mut MvMap, keys: &[Key]) -> Result<(), ReserveFault> {
 }
 
 // Asserts that a map refuses more records than an arena can have.
-fn assert_room(rt: &impl Abort, map: &mut MvMap, keys: &[Key]) -> Result<(), ReserveFault> {
+fn assert_room(rt: &impl Abort, alloc: Global, map: &mut MvMap, keys: &[Key]) -> Result<(), Fail> {
     assert_full(rt, map, keys, 1_048_577);
     reserve_twice(map, keys)?;
     assert_full(rt, map, keys, 1_048_576);
-    assert_seen(rt, map, &key(1), 1, found(0, 0, Some(&[1])));
+    assert_found(rt, alloc, map, 1, version(0, 0), Some(&[1]))?;
     assert_placed(rt, map, 1);
     Ok(())
 }
 
 #[test]
-fn room(rt: HostRuntime) -> Result<(), ReserveFault> {
+fn room(rt: HostRuntime) -> Result<(), Fail> {
     let mut map = empty(rt.alloc());
-    assert_room(&rt, &mut map, &[key(1), key(2), key(1)])
+    assert_room(&rt, rt.alloc(), &mut map, &[key(1), key(2), key(1)])
 }
 
 // The first byte of the value that a storage has at the key with this last byte.

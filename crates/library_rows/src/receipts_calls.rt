@@ -4,8 +4,8 @@ use crate::asserts::{assert_bytes, assert_text};
 use receipts::{WriteFault, end_name, one_text_of, result_text, write_outcome, write_whole};
 use rv_isa::{Reg, Regs};
 use rv_ledger::{
-    End, InlineBytes, Job, Key, Outcome, Output, Receipt, Store, Trap, Value, Write as WriteTo,
-    Writes,
+    Change, End, InlineBytes, Job, Key, Outcome, Output, Receipt, Store, Trap, Value,
+    Write as WriteTo, Writes,
 };
 use std::alloc::{AllocError, Global};
 use std::io;
@@ -13,7 +13,7 @@ use std::io::{ErrorKind, Write};
 use std::process::Abort;
 use std::test::Fail;
 
-/// The text of a result of two calls: one that writes nothing, and one that writes three keys.
+/// The text of a result of two calls: one that writes nothing, and one that changes four keys.
 const TEXT: &str = "\
     call 0 returned gas 13 pc 00010004 out 0102\n\
     regs \
@@ -31,6 +31,8 @@ const TEXT: &str = "\
     0000000000000000000000000000000000000000000000000000000000000000 gone\n\
     write 1 \
     0a0a0a0a0a0a0a0a0a0a0a0a0a0a0a0a0a0a0a0a0a0a0a0a0a0a0a0a0a0a0a0a -\n\
+    write 1 \
+    0b0b0b0b0b0b0b0b0b0b0b0b0b0b0b0b0b0b0b0b0b0b0b0b0b0b0b0b0b0b0b0b add 18446744073709551615\n\
     write 1 \
     ffffffffffffffffffffffffffffffffffffffffffffffffffffffffffffffff 00ab09\n\
     store \
@@ -91,9 +93,14 @@ fn echo(alloc: Global) -> Result<Receipt, Fail> {
 /// The receipt of a call that removed a key, wrote no bytes to a second and three to a third.
 fn writer(alloc: Global) -> Result<Receipt, Fail> {
     let mut writes = Writes::new(alloc);
-    write(&mut writes, [0xff; 32], Some(value(&[0, 0xab, 9])?))?;
-    write(&mut writes, [10; 32], Some(InlineBytes::empty()))?;
-    write(&mut writes, [0; 32], None)?;
+    write(
+        &mut writes,
+        [0xff; 32],
+        Change::Value(value(&[0, 0xab, 9])?),
+    )?;
+    write(&mut writes, [10; 32], Change::Value(InlineBytes::empty()))?;
+    write(&mut writes, [11; 32], Change::Sum(u64::MAX))?;
+    write(&mut writes, [0; 32], Change::Gone)?;
     Ok(Receipt {
         end: End::Returned,
         gas: u32::MAX,
@@ -108,10 +115,10 @@ fn value(bytes: &[u8]) -> Result<Value, Fail> {
     Ok(Value::of(bytes).ok_or("long")?)
 }
 
-fn write(writes: &mut Writes, key: [u8; 32], value: Option<Value>) -> Result<(), Fail> {
+fn write(writes: &mut Writes, key: [u8; 32], change: Change<Value>) -> Result<(), Fail> {
     let key = Key::new(key);
     if writes.has_room(&key) {
-        writes.insert(WriteTo { key, value })?;
+        writes.insert(WriteTo { key, change })?;
     }
     Ok(())
 }

@@ -179,7 +179,10 @@ fn writes(rt: &impl Abort, alloc: Global) -> Result<Writes, AllocError> {
     for first in 0..=255 {
         let key = key(first, 0);
         assert!(rt; writes.has_room(&key), "key {first}");
-        writes.insert(Write { key, value: None })?;
+        writes.insert(Write {
+            key,
+            change: Change::Gone,
+        })?;
     }
     Ok(writes)
 }

@@ -18,7 +18,7 @@ const SECOND_LINES: &[(&str, usize, Cause)] = &[
     ("rvblock 2\ngas 1", 2, Cause::BadLine),
     ("rvblock 2\ngas\n", 2, Cause::BadLine),
     ("rvblock 2\ngas 0\n", 2, Cause::BadLine),
-    ("rvblock 2\ngas 3\n", 2, Cause::BadLine),
+    ("rvblock 2\ngas 4\n", 2, Cause::BadLine),
     ("rvblock 2\ngas 01\n", 2, Cause::BadLine),
     ("rvblock 2\ngas 12\n", 2, Cause::BadLine),
     ("rvblock 2\ngas  1\n", 2, Cause::BadLine),
@@ -64,6 +64,8 @@ const LENGTHS: &[(&str, usize, Option<usize>)] = &[
     ("rvblock 2\ngas 2\n", 65, None),
     ("rvblock 2\ngas 2\n", 256, None),
     ("rvblock 2\ngas 2\n", 257, Some(3)),
+    ("rvblock 2\ngas 3\n", 256, None),
+    ("rvblock 2\ngas 3\n", 257, Some(3)),
 ];
 
 /// Asserts that a file has no fault, or Limit at this line.
@@ -95,6 +97,7 @@ fn rules_of_files(rt: HostRuntime) -> Result<(), Fail> {
     assert!(rt; rules_of(alloc, "rvblock 1\n")? == Rules::One);
     assert!(rt; rules_of(alloc, "rvblock 2\ngas 1\n")? == Rules::One);
     assert!(rt; rules_of(alloc, "rvblock 2\ngas 2\n")? == Rules::Two);
+    assert!(rt; rules_of(alloc, "rvblock 2\ngas 3\n")? == Rules::Three);
     Ok(())
 }
 

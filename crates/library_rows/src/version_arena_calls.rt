@@ -1,6 +1,6 @@
 ghost use Rattle.std.specs.Prelude.{◌≤◌, length};
 
-use rv_ledger::Value;
+use rv_ledger::{Change, Value};
 use std::process::Abort;
 use version_arena::{Arena, Record, ReserveFault, VersionId};
 
@@ -17,10 +17,21 @@ fn value(byte: u8) -> Value
 // A record's writer, incarnation and byte; the byte is 0 where the key was removed.
 fn byte(record: Option<Record<'_>>) -> Option<(u16, u16, u8)> {
     match record {
-        Some(record) => match record.content {
-            Some([byte]) => Some((record.writer, record.incarnation, *byte)),
-            Some(_) => None,
-            None => Some((record.writer, record.incarnation, 0)),
+        Some(record) => match record.change {
+            Change::Value([byte]) => Some((record.writer, record.incarnation, *byte)),
+            Change::Gone => Some((record.writer, record.incarnation, 0)),
+            Change::Value(_) | Change::Sum(_) => None,
+        },
+        None => None,
+    }
+}
+
+// A record's sum, where it is one.
+fn sum(record: Option<Record<'_>>) -> Option<u64> {
+    match record {
+        Some(record) => match record.change {
+            Change::Sum(amount) => Some(amount),
+            _ => None,
         },
         None => None,
     }
@@ -44,7 +55,7 @@ fn assert_full(rt: &impl Abort, arena: &mut Arena, records: usize, bytes: usize)
 fn place_one(arena: &mut Arena) -> Result<VersionId, ReserveFault> {
     arena.reserve(1, 1)?;
     let one = value(1);
-    Ok(arena.place(0, 0, Some(&one)))
+    Ok(arena.place(0, 0, Change::Value(&one)))
 }
 
 // Asserts that an arena refuses what is too much, before and after a record is placed.
@@ -75,8 +86,8 @@ fn arena_full(rt: HostRuntime) -> Result<(), ReserveFault> {
 fn place_two(arena: &mut Arena) -> Result<VersionId, ReserveFault> {
     arena.reserve(2, 1)?;
     let two = value(2);
-    let _ = arena.place(1, 0, Some(&two));
-    Ok(arena.place(1, 0, None))
+    let _ = arena.place(1, 0, Change::Value(&two));
+    Ok(arena.place(1, 0, Change::Gone))
 }
 
 // Asserts that a name gives no record that was removed, though it may give one that was placed later.
@@ -102,9 +113,9 @@ fn place_reset_get(rt: HostRuntime) -> Result<(), ReserveFault> {
 fn place_again(arena: &mut Arena) -> Result<VersionId, ReserveFault> {
     arena.reserve(1, 1)?;
     let one = value(1);
-    let id = arena.place(0, 0, Some(&one));
+    let id = arena.place(0, 0, Change::Value(&one));
     arena.reset();
-    let _ = arena.place(2, 3, None);
+    let _ = arena.place(2, 3, Change::Gone);
     Ok(id)
 }
 
@@ -119,4 +130,23 @@ fn assert_keeps_room(rt: &impl Abort, arena: &mut Arena) -> Result<(), ReserveFa
 fn reset_keeps_room(rt: HostRuntime) -> Result<(), ReserveFault> {
     let mut arena = Arena::new(rt.alloc());
     assert_keeps_room(&rt, &mut arena)
+}
+
+// Places a sum, which takes no bytes.
+fn place_sum(arena: &mut Arena) -> Result<VersionId, ReserveFault> {
+    arena.reserve(1, 0)?;
+    Ok(arena.place(1, 0, Change::Sum(u64::MAX)))
+}
+
+// Asserts that an arena lends a sum as it was placed.
+fn assert_sum(rt: &impl Abort, arena: &mut Arena) -> Result<(), ReserveFault> {
+    let id = place_sum(arena)?;
+    assert!(rt; sum(arena.get(id)) == Some(u64::MAX));
+    Ok(())
+}
+
+#[test]
+fn a_sum_is_lent(rt: HostRuntime) -> Result<(), ReserveFault> {
+    let mut arena = Arena::new(rt.alloc());
+    assert_sum(&rt, &mut arena)
 }

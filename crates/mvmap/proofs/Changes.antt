@@ -1,11 +1,12 @@
 -- The laws of what a call sees.
-use Rattle.std.proofs.Common.{◌≡◌, ◌<◌, ◌⊎◌, ℕ, false, List, Option, Some, ap, ◌∙◌, inl, inr}
+use Rattle.std.proofs.Common.{◌≡◌, ◌⊎◌, ℕ, false, List, Option, Some, ap, subst, ◌∙◌, inl, inr}
+use Rattle.std.specs.List.{AllByRecursion}
 use Rattle.std.specs.FinMap.{get}
-use Rattle.version_arena.specs.ArenaState.{Content}
-use Rattle.mvmap.specs.Versions.{Entry, Stands, Estimate, Versions, changed, entry_at}
-use Rattle.mvmap.specs.Reading.{Found, visible_below, reading, is_origin}
-use Rattle.mvmap.specs.Laws.{DependsOnLowerWriters, ChangesNoStandingRead, NamesWhatStands, BlocksOnLowerWriters}
-use Rattle.mvmap.proofs.Readings.{seen_same, seen_kept, found_at, blocked_at, is_blocked, origin_shown, version_shown}
+use Rattle.read_set.specs.Origin.{Origin, named}
+use Rattle.mvmap.specs.Versions.{Entry, Estimate, Versions, changed, entry_at}
+use Rattle.mvmap.specs.Reading.{visible_below, reading, is_origin, origin_in}
+use Rattle.mvmap.specs.Laws.{DependsOnLowerWriters, ChangesNoStandingRead, NamesWhatStands, StandsBelow, BlocksOnLowerWriters}
+use Rattle.mvmap.proofs.Readings.{seen_same, seen_kept, blocked_at, is_blocked, named_stand, origin_seen, origin_shown, walk_shown}
 use Rattle.mvmap.proofs.Places.{get_other}
 
 pub depends_on_lower : DependsOnLowerWriters
@@ -27,10 +28,11 @@ changes_none v key w entry i read est h =
     (ap (is_origin read.origin) same ∙ h, same)
 
 pub names_standing : NamesWhatStands
-names_standing v i key w n h =
-    let shown : (c : Content) × (reading v key i ≡ Found w n c) = version_shown w n (reading v key i) h in
-    let at : (w < i) × (entry_at v key w ≡ Some (Stands n shown.0)) = found_at (entry_at v key) i w n shown.0 shown.1 in
-    (at.0, (shown.0, at.1, shown.1))
+names_standing v i read h =
+    let seen = reading v read.key i in
+    let shown = walk_shown read.origin.passed read.origin.bottom seen h in
+    let same : origin_in seen ≡ read.origin = origin_seen read.origin seen h in
+    (shown.0, same, subst (λ (o : Origin). AllByRecursion (StandsBelow v read.key i) (named o)) same (named_stand (entry_at v read.key) i))
 
 pub blocks_on_lower : BlocksOnLowerWriters
 blocks_on_lower v key i w h = blocked_at (entry_at v key) i w h

@@ -162,7 +162,7 @@ kept_entry : (rs : List Record) (r : Record) (o : Option Slot) → ((i : ℕ) �
 kept_entry rs r None h = refl
 kept_entry rs r (Some slot.Vacant) h = refl
 kept_entry rs r (Some slot.Estimate) h = refl
-kept_entry rs r (Some (slot.Placed id)) h = ap (option_map (λ (x : Record). Stands x.incarnation x.content)) (slice_get_before rs r id (h id refl))
+kept_entry rs r (Some (slot.Placed id)) h = ap (option_map (λ (x : Record). Stands x.incarnation x.change)) (slice_get_before rs r id (h id refl))
 
 -- a further record changes no entry
 pub kept_entries : (rs : List Record) (r : Record) (es : Slots) → ArePlaced rs es → (q : Place) → option_and_then (entry_of (rs ++ r ∷ [])) (slot_at es q) ≡ option_and_then (entry_of rs) (slot_at es q)
@@ -178,8 +178,8 @@ there_not_none None x h e = cc
 there_not_none (Some y) x h e = cc
 
 -- the record that was added last, by its slot
-pub entry_of_last : (rs : List Record) (r : Record) (id : ℕ) → id ≡ length rs → entry_of (rs ++ r ∷ []) (slot.Placed id) ≡ Some (Stands r.incarnation r.content)
-entry_of_last rs r id e = ap (option_map (λ (x : Record). Stands x.incarnation x.content)) (ap (slice_get (rs ++ r ∷ [])) e ∙ slice_get_last rs r)
+pub entry_of_last : (rs : List Record) (r : Record) (id : ℕ) → id ≡ length rs → entry_of (rs ++ r ∷ []) (slot.Placed id) ≡ Some (Stands r.incarnation r.change)
+entry_of_last rs r id e = ap (option_map (λ (x : Record). Stands x.incarnation x.change)) (ap (slice_get (rs ++ r ∷ [])) e ∙ slice_get_last rs r)
 
 some_within : (rs : List Record) (i : ℕ) → i < length rs → IsSome (slice_get rs i)
 some_within [] i l = absurd (omega arith)

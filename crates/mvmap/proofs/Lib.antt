@@ -6,3 +6,4 @@ pub mod Seeks
 pub mod Storages
 pub mod Snapshots
 pub mod Walks
+pub mod Sums

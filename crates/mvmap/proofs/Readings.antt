@@ -1,12 +1,14 @@
 -- What a call sees of the entries of one key, and of a changed map.
-use Rattle.std.proofs.Common.{◌≡◌, ◌<◌, ◌≤◌, ◌⊎◌, ◌&&◌, ◌==◌, ℕ, suc, zero, Bool, true, false, Option, None, Some, arith, refl, sym, ap, ◌∙◌, inl, inr}
+use Rattle.std.proofs.Common.{◌≡◌, ◌<◌, ◌≤◌, ◌⊎◌, ◌&&◌, ℕ, suc, zero, Bool, true, false, List, [], ◌∷◌, Option, None, Some, is_some, arith, refl, sym, ap, ◌∙◌, inl, inr}
+use Rattle.std.specs.List.{AllByRecursion}
 use Rattle.std.proofs.lemmas.Bool.{cases_eq}
 use Rattle.std.proofs.lemmas.Bool.Decides.{nat_tests}
-use Rattle.version_arena.specs.ArenaState.{Content}
-use Rattle.read_set.specs.declared.Origin.{Origin}
-use Rattle.read_set.specs.declared.Origin.TheVariants as origin
+use Rattle.rv_ledger.specs.Change.{Content, ContentChange, apply_change}
+use Rattle.rv_ledger.specs.declared.change.Change.TheVariants as change
+use Rattle.read_set.specs.Origin.{Origin, named}
+use Rattle.read_set.specs.declared.origin.Version.{Version}
 use Rattle.mvmap.specs.Versions.{Entry, Stands, Estimate}
-use Rattle.mvmap.specs.Reading.{Visible, Base, Found, Blocked, visible_over, visible_below, is_origin}
+use Rattle.mvmap.specs.Reading.{Visible, Base, Found, Blocked, Passed, blocker, bottom_in, is_origin, is_version, is_walk, origin_in, passed_in, visible_over, visible_below}
 
 -- entries that agree below a call are seen alike
 pub seen_same : (e f : ℕ → Option Entry) (i : ℕ) → ((w : ℕ) → w < i → e w ≡ f w) → visible_below e i ≡ visible_below f i
@@ -34,48 +36,64 @@ pub seen_at : (e : ℕ → Option Entry) (i w : ℕ) → w < i → ((x : ℕ) �
 unfolding visible_below
 seen_at e i w l h = seen_down e i (suc w) (omega arith) (λ x a b. h x (omega arith) b)
 
-found_in : (e : ℕ → Option Entry) (i w n : ℕ) (c : Content) (below : Visible) → (below ≡ Found w n c → (w < i) × (e w ≡ Some (Stands n c))) → (o : Option Entry) → e i ≡ o → visible_over i o below ≡ Found w n c → (w < suc i) × (e w ≡ Some (Stands n c))
-found_in e i w n c below rest None q h = let r : (w < i) × (e w ≡ Some (Stands n c)) = rest h in (omega (arith, r.0), r.1)
-found_in e i w n c below rest (Some (Stands m d)) q h = let same : i ≡ w = cc in (omega (arith, same), cc)
-found_in e i w n c below rest (Some Estimate) q h = cc
+-- each entry that is seen is that of a lower writer
+abbrev pub IsThere : (ℕ → Option Entry) → ℕ → Visible → Type 0
+IsThere e i Base = Unit {0}
+IsThere e i (Found w n content) = (w < i) × ((c : ContentChange) × (e w ≡ Some (Stands n c)) × ((below : Content) → apply_change c below ≡ content))
+IsThere e i (Blocked w) = (w < i) × (e w ≡ Some Estimate)
+IsThere e i (Passed w n amount below) = (w < i) × (e w ≡ Some (Stands n (change.Sum amount))) × IsThere e i below
 
--- a version that is seen is that of a lower writer's entry
-pub found_at : (e : ℕ → Option Entry) (i w n : ℕ) (c : Content) → visible_below e i ≡ Found w n c → (w < i) × (e w ≡ Some (Stands n c))
+there_up : (e : ℕ → Option Entry) (i : ℕ) (seen : Visible) → IsThere e i seen → IsThere e (suc i) seen
+there_up e i Base h = tt
+there_up e i (Found w n content) h = (omega (arith, h.0), h.1)
+there_up e i (Blocked w) h = (omega (arith, h.0), h.1)
+there_up e i (Passed w n amount below) h = (omega (arith, h.0), h.1, there_up e i below h.2)
+
+there_over : (e : ℕ → Option Entry) (i : ℕ) (o : Option Entry) (below : Visible) → e i ≡ o → IsThere e i below → IsThere e (suc i) (visible_over i o below)
+there_over e i None below at h = there_up e i below h
+there_over e i (Some (Stands n (change.Value value))) below at h = (omega arith, (change.Value value, at, λ _. refl))
+there_over e i (Some (Stands n change.Gone)) below at h = (omega arith, (change.Gone, at, λ _. refl))
+there_over e i (Some (Stands n (change.Sum amount))) below at h = (omega arith, at, there_up e i below h)
+there_over e i (Some Estimate) below at h = (omega arith, at)
+
+pub seen_there : (e : ℕ → Option Entry) (i : ℕ) → IsThere e i (visible_below e i)
 unfolding visible_below
-found_at e zero w n c h = cc
-found_at e (suc i) w n c h = found_in e i w n c (visible_below e i) (found_at e i w n c) (e i) refl h
+seen_there e zero = tt
+seen_there e (suc i) = there_over e i (e i) (visible_below e i) refl (seen_there e i)
 
-blocked_in : (e : ℕ → Option Entry) (i w : ℕ) (below : Visible) → (below ≡ Blocked w → (w < i) × (e w ≡ Some Estimate)) → (o : Option Entry) → e i ≡ o → visible_over i o below ≡ Blocked w → (w < suc i) × (e w ≡ Some Estimate)
-blocked_in e i w below rest None q h = let r : (w < i) × (e w ≡ Some Estimate) = rest h in (omega (arith, r.0), r.1)
-blocked_in e i w below rest (Some (Stands m d)) q h = cc
-blocked_in e i w below rest (Some Estimate) q h = let same : i ≡ w = cc in (omega (arith, same), cc)
+blocker_there : (e : ℕ → Option Entry) (i w : ℕ) (seen : Visible) → IsThere e i seen → blocker seen ≡ Some w → (w < i) × (e w ≡ Some Estimate)
+blocker_there e i w Base h b = cc
+blocker_there e i w (Found v n content) h b = cc
+blocker_there e i w (Blocked v) h b = let same : v ≡ w = cc in (omega (arith, h.0, same), ap e (sym same) ∙ h.1)
+blocker_there e i w (Passed v n amount below) h b = blocker_there e i w below h.2 b
 
 -- what blocks a call is a lower writer's estimate
-pub blocked_at : (e : ℕ → Option Entry) (i w : ℕ) → visible_below e i ≡ Blocked w → (w < i) × (e w ≡ Some Estimate)
-unfolding visible_below
-blocked_at e zero w h = cc
-blocked_at e (suc i) w h = blocked_in e i w (visible_below e i) (blocked_at e i w) (e i) refl h
+pub blocked_at : (e : ℕ → Option Entry) (i w : ℕ) → blocker (visible_below e i) ≡ Some w → (w < i) × (e w ≡ Some Estimate)
+blocked_at e i w b = blocker_there e i w (visible_below e i) (seen_there e i) b
 
-base_in : (e : ℕ → Option Entry) (i w : ℕ) (below : Visible) → w < suc i → (w < i → below ≡ Base → e w ≡ None) → (o : Option Entry) → e i ≡ o → visible_over i o below ≡ Base → e w ≡ None
-base_in e i w below l rest None q h = elim (cases_eq w i) [ inl p ↦ ap e p ∙ q | inr ne ↦ rest (omega arith) h ]
-base_in e i w below l rest (Some (Stands m d)) q h = cc
-base_in e i w below l rest (Some Estimate) q h = cc
+-- a version stands among the entries of a key, of a writer below call i
+abbrev pub StandsAmong : (ℕ → Option Entry) → ℕ → Version → Type 0
+StandsAmong e i version = (version.writer < i) × ((c : ContentChange) × (e version.writer ≡ Some (Stands version.incarnation c)))
 
--- where the storage before the block is seen, no lower writer has an entry
-pub base_at : (e : ℕ → Option Entry) (i w : ℕ) → w < i → visible_below e i ≡ Base → e w ≡ None
-unfolding visible_below
-base_at e zero w l h = absurd (omega arith)
-base_at e (suc i) w l h = base_in e i w (visible_below e i) l (λ a b. base_at e i w a b) (e i) refl h
+named_there : (e : ℕ → Option Entry) (i : ℕ) (seen : Visible) → IsThere e i seen → AllByRecursion (StandsAmong e i) (named (origin_in seen))
+named_there e i Base h = tt
+named_there e i (Found w n content) h = ((h.0, (h.1.0, h.1.1)), tt)
+named_there e i (Blocked w) h = tt
+named_there e i (Passed w n amount below) h = ((h.0, (change.Sum amount, h.1)), named_there e i below h.2)
 
--- whether what is seen is blocked
+-- each version that is seen stands below the call
+pub named_stand : (e : ℕ → Option Entry) (i : ℕ) → AllByRecursion (StandsAmong e i) (named (origin_in (visible_below e i)))
+named_stand e i = named_there e i (visible_below e i) (seen_there e i)
+
+-- whether an estimate is met
 abbrev pub is_blocked : Visible → Bool
-is_blocked Base = false
-is_blocked (Found w n c) = false
-is_blocked (Blocked w) = true
+is_blocked seen = is_some (blocker seen)
 
 kept_in : (i : ℕ) (o : Option Entry) (s t : Visible) → (is_blocked s ≡ false → t ≡ s) → is_blocked (visible_over i o s) ≡ false → visible_over i o t ≡ visible_over i o s
 kept_in i None s t rest h = rest h
-kept_in i (Some (Stands m d)) s t rest h = refl
+kept_in i (Some (Stands m (change.Value value))) s t rest h = refl
+kept_in i (Some (Stands m change.Gone)) s t rest h = refl
+kept_in i (Some (Stands m (change.Sum amount))) s t rest h = ap (Passed i m amount) (rest h)
 kept_in i (Some Estimate) s t rest h = refl
 
 not_blocked : (i : ℕ) (o : Option Entry) (s : Visible) → o ≡ Some Estimate → is_blocked (visible_over i o s) ≡ false → ⊥
@@ -92,26 +110,32 @@ seen_kept e f (suc i) same h = elim (same i) [
   | inr p ↦ absurd (not_blocked i (e i) (visible_below e i) p h)
 ]
 
--- what is seen of some origin isn't blocked
+same_version : (version : Version) (w n : ℕ) → is_version version w n ≡ true → version ≡ record { writer = w; incarnation = n }
+same_version version w n h =
+    let writer : version.writer ≡ w = grind (arith, nat_tests) in let incarnation : version.incarnation ≡ n = grind (arith, nat_tests) in
+    λ i. record { writer = writer i; incarnation = incarnation i }
+
+both_hold : (a b : Bool) → (a && b) ≡ true → (a ≡ true) × (b ≡ true)
+both_hold true b h = (refl, h)
+both_hold false b h = cc
+
+-- what is seen of some origin isn't blocked, and has that origin
+pub walk_shown : (passed : List Version) (bottom : Option Version) (s : Visible) → is_walk passed bottom s ≡ true → (blocker s ≡ None) × (passed_in s ≡ passed) × (bottom_in s ≡ bottom)
+walk_shown [] None Base h = (refl, refl, refl)
+walk_shown (version ∷ passed) bottom Base h = cc
+walk_shown [] (Some version) Base h = cc
+walk_shown [] (Some version) (Found w n content) h = (refl, refl, ap Some (sym (same_version version w n h)))
+walk_shown [] None (Found w n content) h = cc
+walk_shown (version ∷ passed) bottom (Found w n content) h = cc
+walk_shown passed bottom (Blocked w) h = cc
+walk_shown (version ∷ passed) bottom (Passed w n amount below) h =
+    let both = both_hold (is_version version w n) (is_walk passed bottom below) h in
+    let rest = walk_shown passed bottom below both.1 in
+    (rest.0, (λ i. sym (same_version version w n both.0) i ∷ rest.1 i), rest.2)
+walk_shown [] bottom (Passed w n amount below) h = cc
+
 pub origin_shown : (o : Origin) (s : Visible) → is_origin o s ≡ true → is_blocked s ≡ false
-origin_shown origin.Base Base h = refl
-origin_shown origin.Base (Found w n c) h = refl
-origin_shown origin.Base (Blocked w) h = cc
-origin_shown (origin.Version v m) Base h = refl
-origin_shown (origin.Version v m) (Found w n c) h = refl
-origin_shown (origin.Version v m) (Blocked w) h = cc
+origin_shown o s h = ap is_some (walk_shown o.passed o.bottom s h).0
 
-both_same : (v w n m : ℕ) → (v == w && m == n) ≡ true → (v ≡ w) × (m ≡ n)
-both_same v w n m h = (grind (arith, nat_tests), grind (arith, nat_tests))
-
--- what is seen of a version is that version
-pub version_shown : (v m : ℕ) (s : Visible) → is_origin (origin.Version v m) s ≡ true → (c : Content) × (s ≡ Found v m c)
-version_shown v m Base h = cc
-version_shown v m (Found w n c) h = let p : (v ≡ w) × (m ≡ n) = both_same v w n m h in (c, cc)
-version_shown v m (Blocked w) h = cc
-
--- what is seen of the storage before the block is that
-pub base_shown : (s : Visible) → is_origin origin.Base s ≡ true → s ≡ Base
-base_shown Base h = refl
-base_shown (Found w n c) h = cc
-base_shown (Blocked w) h = cc
+pub origin_seen : (o : Origin) (s : Visible) → is_origin o s ≡ true → origin_in s ≡ o
+origin_seen o s h = let shown = walk_shown o.passed o.bottom s h in λ i. record { passed = shown.1 i; bottom = shown.2 i }

@@ -13,9 +13,11 @@ use Rattle.std.proofs.lemmas.Bool.{cases_eq}
 use Rattle.std.proofs.lemmas.Map.Lookups.{exact_bytes}
 use Rattle.std.proofs.lemmas.Map.Views.{tells_apart}
 use Rattle.rv_ledger.specs.Key.{key_cmp}
-use Rattle.version_arena.specs.ArenaState.{Content, Record}
+use Rattle.rv_ledger.specs.Change.{Content, ContentChange, add, apply_change}
+use Rattle.rv_ledger.specs.declared.change.Change.TheVariants as change
+use Rattle.version_arena.specs.ArenaState.{Record}
 use Rattle.mvmap.specs.Versions.{Entry, Stands, Estimate, Place, Versions, HasNoEstimate, entry_at, place_cmp}
-use Rattle.mvmap.specs.Reading.{Visible, visible_over, visible_below, reading, value_seen}
+use Rattle.mvmap.specs.Reading.{Visible, Base, visible_over, visible_below, reading, value_seen}
 use Rattle.mvmap.specs.Slots.{Slots, slot_at, entry_of, value_over, value_over_slots, versions_of}
 use Rattle.mvmap.proofs.Readings.{seen_same, seen_none}
 use Rattle.mvmap.proofs.Places.{by_writer, same_place, place_itself, place_total, get_versions}
@@ -25,17 +27,27 @@ use Rattle.mvmap.proofs.Seeks.{is_less}
 
 lowest_in : (j : ℕ) (o : Option Entry) (c base : Content) (s t : Visible) → o ≢ Some Estimate → value_seen c s ≡ value_seen base t → value_seen c (visible_over j o s) ≡ value_seen base (visible_over j o t)
 lowest_in j None c base s t ne h = h
-lowest_in j (Some (Stands n d)) c base s t ne h = refl
+lowest_in j (Some (Stands n (change.Value value))) c base s t ne h = refl
+lowest_in j (Some (Stands n change.Gone)) c base s t ne h = refl
+lowest_in j (Some (Stands n (change.Sum amount))) c base s t ne h = ap (λ x. Some (add x amount)) h
 lowest_in j (Some Estimate) c base s t ne h = absurd (ne refl)
 
--- where f has one version more than e, below all of e's, f over a base holds what e over that version's content does
-pub lowest : (e f : ℕ → Option Entry) (v n : ℕ) (c base : Content) (i : ℕ) → v < i → f v ≡ Some (Stands n c) → ((w : ℕ) → w ≤ v → e w ≡ None) → ((w : ℕ) → w ≢ v → f w ≡ e w)
-    → ((w : ℕ) → e w ≢ Some Estimate) → value_seen c (visible_below e i) ≡ value_seen base (visible_below f i)
+-- a version over the storage before the block
+pub one_version : (j n : ℕ) (c : ContentChange) (base : Content) (below : Visible) → value_seen base (visible_over j (Some (Stands n c)) below) ≡ apply_change c (value_seen base below)
+one_version j n (change.Value value) base below = refl
+one_version j n change.Gone base below = refl
+one_version j n (change.Sum amount) base below = refl
+
+-- where f has one version more than e, below all of e's, f over a base holds what e over that version's change of it does
+pub lowest : (e f : ℕ → Option Entry) (v n : ℕ) (c : ContentChange) (base : Content) (i : ℕ) → v < i → f v ≡ Some (Stands n c) → ((w : ℕ) → w ≤ v → e w ≡ None) → ((w : ℕ) → w ≢ v → f w ≡ e w)
+    → ((w : ℕ) → e w ≢ Some Estimate) → value_seen (apply_change c base) (visible_below e i) ≡ value_seen base (visible_below f i)
 unfolding visible_below
 lowest e f v n c base zero l at none same ne = absurd (omega arith)
 lowest e f v n c base (suc j) l at none same ne = elim (cases_eq j v) [
-  | inl p ↦ ap (value_seen c) (seen_none e (suc j) (λ x a. none x (omega arith))) ∙ sym (ap (value_seen base) (ap (λ o. visible_over j o (visible_below f j)) (ap f p ∙ at)))
-  | inr q ↦ lowest_in j (e j) c base (visible_below e j) (visible_below f j) (ne j) (lowest e f v n c base j (omega arith) at none same ne)
+  | inl p ↦ let nothing : visible_below f j ≡ Base = seen_none f j (λ x a. same x (λ q. absurd (omega (arith, q, p, a))) ∙ none x (omega arith)) in
+      ap (value_seen (apply_change c base)) (seen_none e (suc j) (λ x a. none x (omega arith)))
+      ∙ sym (ap (value_seen base) (ap (λ o. visible_over j o (visible_below f j)) (ap f p ∙ at)) ∙ one_version j n c base (visible_below f j) ∙ ap (λ s. apply_change c (value_seen base s)) nothing)
+  | inr q ↦ lowest_in j (e j) (apply_change c base) base (visible_below e j) (visible_below f j) (ne j) (lowest e f v n c base j (omega arith) at none same ne)
       ∙ sym (ap (λ o. value_seen base (visible_over j o (visible_below f j))) (same j q))
 ]
 
@@ -112,9 +124,9 @@ pub not_above : (key : List ℕ) (v w : ℕ) → w ≤ v → place_cmp (key, v) 
 not_above key v w l h = let less : v < w = is_less v w (sym (by_writer key v w) ∙ h) in omega arith
 
 -- a version of the first slot at the key, applied to a base
-first_version : (rs : List Record) (key : List ℕ) (v n : ℕ) (c base : Content) (s : Slot) (es : Slots) (i : ℕ) → AllByRecursion (λ y. place_cmp (key, v) y ≡ Less) (keys_of es)
+first_version : (rs : List Record) (key : List ℕ) (v n : ℕ) (c : ContentChange) (base : Content) (s : Slot) (es : Slots) (i : ℕ) → AllByRecursion (λ y. place_cmp (key, v) y ≡ Less) (keys_of es)
     → ((w : ℕ) → i ≤ w → entries_of rs (((key, v), s) ∷ es) key w ≡ None) → ((w : ℕ) → entries_of rs es key w ≢ Some Estimate) → entry_of rs s ≡ Some (Stands n c)
-    → value_seen c (visible_below (entries_of rs es key) i) ≡ value_seen base (visible_below (entries_of rs (((key, v), s) ∷ es) key) i)
+    → value_seen (apply_change c base) (visible_below (entries_of rs es key) i) ≡ value_seen base (visible_below (entries_of rs (((key, v), s) ∷ es) key) i)
 first_version rs key v n c base s es i all top ne is =
     let at : entries_of rs (((key, v), s) ∷ es) key v ≡ Some (Stands n c) = first_or_later rs (key, v) s es key v true (place_itself (key, v)) ∙ is in
     let not_past : i ≤ v → ⊥ = λ past. some_not_none (Stands n c) (sym at ∙ top v past) in

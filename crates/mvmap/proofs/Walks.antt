@@ -142,7 +142,7 @@ walk_on es key i left t p s h e vacant = ((p, s) ∷ h.0, h.1 ∙ ap (λ (l : Sl
 -- at a slot the call sees what that slot stands for, and else what is below
 pub walk_stops : (rs : List Record) (m : BTreeMap Place Slot) (key : List ℕ) (i : ℕ) (r left t : Slots) (p : Place) (s : Slot) → IsStrictlySortedBy place_cmp (keys_of m.entries)
     → IsRangeOf place_cmp (Included (key, 0)) (Excluded (key, i)) m r → r ≡ below_of key i m.entries → IsWalked m.entries key i left → left ≡ t ++ (p, s) ∷ []
-    → (slot_at m.entries (key, p.1) ≡ Some s) × (reading (versions_of rs m.entries) key i ≡ visible_over p.1 (entry_of rs s) (reading (versions_of rs m.entries) key p.1))
+    → (slot_at m.entries (key, p.1) ≡ Some s) × (reading (versions_of rs m.entries) key i ≡ visible_over p.1 (entry_of rs s) (reading (versions_of rs m.entries) key p.1)) × (p.1 < i)
 walk_stops rs m key i r left t p s sorted range is h e =
     let es = m.entries in
     let whole : below_of key i es ≡ t ++ (p, s) ∷ h.0 = h.1 ∙ ap (λ (l : Slots). l ++ h.0) e ∙ append_assoc t ((p, s) ∷ []) h.0 in
@@ -153,6 +153,7 @@ walk_stops rs m key i r left t p s sorted range is h e =
       there,
       seen_at (entry_at (versions_of rs es) key) i p.1 at.1 (λ w a b. get_versions rs es (key, w) ∙ none_between rs key i p.1 w s h.0 a b h.2 es sorted t own)
           ∙ ap (λ o. visible_over p.1 o (reading (versions_of rs es) key p.1)) (get_versions rs es (key, p.1) ∙ ap (option_and_then (entry_of rs)) there),
+      at.1,
     )
 
 -- at its end the call sees the storage before the block

@@ -1,18 +1,40 @@
 -- What the answer to a read says.
-use Rattle.std.specs.Prelude.{ℕ, ◌≤◌, IfSome, length}
-use Rattle.std.specs.Option.{option_copied}
-use Rattle.mvmap.specs.Reading.{Visible, Base, Found, Blocked}
+use Rattle.std.specs.Prelude.{◌≡◌, ◌<◌, ◌≤◌, ℕ, List, Option, None, Some, length}
+use Rattle.rv_ledger.specs.Change.{Content, IfValue, add, change_copied}
+use Rattle.read_set.specs.declared.origin.Version.{Version}
+use Rattle.mvmap.specs.Versions.{Stands}
+use Rattle.mvmap.specs.Reading.{Visible, Base, Blocked, blocker, origin_in, value_seen, visible_over}
 use Rattle.mvmap.specs.declared.answer.Answer.{Answer}
 use Rattle.mvmap.specs.declared.answer.Answer.TheVariants as answer
+use Rattle.mvmap.specs.declared.seek.Nearest.{Nearest}
+use Rattle.mvmap.specs.declared.seek.Nearest.TheVariants as nearest
 
--- what is seen, by an answer
-abbrev pub visible_of : Answer → Visible
-visible_of answer.Base = Base
-visible_of (answer.Found version content) = Found version.writer version.incarnation (option_copied content)
-visible_of (answer.Estimate writer) = Blocked writer
+-- a content, with an amount added if there is one
+abbrev pub with_amount : Content → Option ℕ → Content
+with_amount content None = content
+with_amount content (Some amount) = Some (add content amount)
 
--- a version that is found has at most `limit` bytes
-abbrev pub IsShort : ℕ → Answer → Type 0
-IsShort limit answer.Base = Unit {0}
-IsShort limit (answer.Found version content) = IfSome content (λ bytes. length bytes.now ≤ limit)
-IsShort limit (answer.Estimate writer) = Unit {0}
+-- what an answer and the versions that were passed say of what is seen: its origin, and the value of the key over whatever
+-- the storage before the block has; or the call that blocks it
+abbrev pub Tells : Answer → List Version → Visible → Type 0
+Tells (answer.Base sum) passed seen =
+    (blocker seen ≡ None) × (origin_in seen ≡ record { passed = passed; bottom = None })
+    × ((base : Content) → value_seen base seen ≡ with_amount base sum)
+Tells (answer.Found version content) passed seen =
+    (blocker seen ≡ None) × (origin_in seen ≡ record { passed = passed; bottom = Some version })
+    × ((base : Content) → value_seen base seen ≡ content)
+Tells (answer.Estimate writer) passed seen = blocker seen ≡ Some writer
+
+-- the value of a version has at most 256 bytes
+abbrev pub IsShort : Nearest → Type 0
+IsShort nearest.Nothing = Unit {0}
+IsShort (nearest.Standing version c) = IfValue c (λ bytes. length bytes.now ≤ 256)
+IsShort (nearest.Waiting writer) = Unit {0}
+
+-- what the nearest entry below call i says of what the calls see; only private functions use this
+abbrev pub IsNearest : Nearest → (ℕ → Visible) → ℕ → Type 0
+IsNearest nearest.Nothing seen i = seen i ≡ Base
+IsNearest (nearest.Standing version c) seen i =
+    (version.writer < i)
+    × (seen i ≡ visible_over version.writer (Some (Stands version.incarnation (change_copied c))) (seen version.writer))
+IsNearest (nearest.Waiting writer) seen i = seen i ≡ Blocked writer

@@ -1,10 +1,13 @@
 -- Laws of what a call sees.
-use Rattle.std.specs.Prelude.{◌≡◌, ◌<◌, ℕ, List, Option, Some, true}
-use Rattle.version_arena.specs.ArenaState.{Content}
-use Rattle.read_set.specs.declared.Origin.TheVariants as origin
+use Rattle.std.specs.Prelude.{◌≡◌, ◌<◌, ℕ, List, Option, None, Some, true}
+use Rattle.std.specs.List.{AllByRecursion}
+use Rattle.rv_ledger.specs.Change.{Content, ContentChange, wrapping_sum}
+use Rattle.read_set.specs.Origin.{named}
+use Rattle.read_set.specs.declared.origin.Version.{Version}
 use Rattle.read_set.specs.declared.Read.{Read}
 use Rattle.mvmap.specs.Versions.{Entry, Stands, Estimate, Versions, changed, entry_at}
-use Rattle.mvmap.specs.Reading.{Found, Blocked, reading, stands}
+use Rattle.mvmap.specs.Reading.{Visible, Base, Found, Blocked, Passed, blocker, origin_in, reading, stands, value_seen}
+use Rattle.mvmap.specs.Answers.{with_amount}
 
 -- what a call sees of a key depends only on the entries of lower writers at that key
 abbrev pub DependsOnLowerWriters : Type 0
@@ -15,12 +18,38 @@ abbrev pub ChangesNoStandingRead : Type 0
 ChangesNoStandingRead = (v : Versions) (key : List ℕ) (w : ℕ) (entry : Option Entry) (i : ℕ) (read : Read) → entry_at v key w ≡ Some Estimate → stands v i read ≡ true
     → (stands (changed v (key, w) entry) i read ≡ true) × (reading (changed v (key, w) entry) read.key i ≡ reading v read.key i)
 
--- if a read of a version stands, that version is in the map at that incarnation, its writer is below the reader, and its
--- content is what is seen
+-- a version of a key is in the map at its incarnation, and its writer is below call i
+abbrev pub StandsBelow : Versions → List ℕ → ℕ → Version → Type 0
+StandsBelow v key i version = (version.writer < i) × ((c : ContentChange) × (entry_at v key version.writer ≡ Some (Stands version.incarnation c)))
+
+-- if a read stands, its origin is what is seen, and each version that it names stands below the reader
 abbrev pub NamesWhatStands : Type 0
-NamesWhatStands = (v : Versions) (i : ℕ) (key : List ℕ) (w n : ℕ) → stands v i (record { key = key; origin = origin.Version w n }) ≡ true
-    → (w < i) × ((content : Content) × (entry_at v key w ≡ Some (Stands n content)) × (reading v key i ≡ Found w n content))
+NamesWhatStands = (v : Versions) (i : ℕ) (read : Read) → stands v i read ≡ true
+    → (blocker (reading v read.key i) ≡ None) × (origin_in (reading v read.key i) ≡ read.origin) × AllByRecursion (StandsBelow v read.key i) (named read.origin)
 
 -- a call is blocked only on a lower call whose entry is an estimate
 abbrev pub BlocksOnLowerWriters : Type 0
-BlocksOnLowerWriters = (v : Versions) (key : List ℕ) (i w : ℕ) → reading v key i ≡ Blocked w → (w < i) × (entry_at v key w ≡ Some Estimate)
+BlocksOnLowerWriters = (v : Versions) (key : List ℕ) (i w : ℕ) → blocker (reading v key i) ≡ Some w → (w < i) × (entry_at v key w ≡ Some Estimate)
+
+-- what is found below the versions that were passed, over a storage before the block
+abbrev pub content_below : Content → Visible → Content
+content_below base Base = base
+content_below base (Found writer incarnation content) = content
+content_below base (Blocked writer) = base
+content_below base (Passed writer incarnation amount below) = content_below base below
+
+-- an amount, and a sum of amounts if there is one
+abbrev pub amount_with : ℕ → Option ℕ → ℕ
+amount_with amount None = amount
+amount_with amount (Some sum) = wrapping_sum amount sum
+
+-- the sum of the amounts that were passed, which wraps at 2^64; None where nothing was
+abbrev pub amount_passed : Visible → Option ℕ
+amount_passed Base = None
+amount_passed (Found writer incarnation content) = None
+amount_passed (Blocked writer) = None
+amount_passed (Passed writer incarnation amount below) = Some (amount_with amount (amount_passed below))
+
+-- one addition of that sum gives what adding the amounts in turn gives
+abbrev pub SumsAddUp : Type 0
+SumsAddUp = (base : Content) (seen : Visible) → value_seen base seen ≡ with_amount (content_below base seen) (amount_passed seen)

@@ -1,13 +1,16 @@
 -- The versions that a map of slots stands for; only `MvMap`'s view and private functions use this.
-use Rattle.std.specs.Prelude.{◌≡◌, ◌<◌, ◌⊎◌, ℕ, List, [], ◌∷◌, length, Option, None, Some, slice_get, if◌then◌else◌}
+use Rattle.std.specs.Prelude.{◌≡◌, ◌<◌, ◌⊎◌, ℕ, Bool, false, List, [], ◌∷◌, length, Option, None, Some, slice_get, if◌then◌else◌}
 use Rattle.std.specs.Option.{option_map}
 use Rattle.std.specs.Map.{lookup, keys_of}
 use Rattle.std.specs.BTreeMap.{is_at}
 use Rattle.std.specs.FinMap.{empty}
 use Rattle.std.specs.Ordering.{eq_by_cmp}
+use Rattle.rv_ledger.specs.Change.{Content, apply_change}
 use Rattle.rv_ledger.specs.Key.{key_cmp}
 use Rattle.std.specs.FinSet.{FinSet, from_list}
 use Rattle.version_arena.specs.ArenaState.{Record}
+use Rattle.read_set.specs.declared.origin.Version.{Version}
+use Rattle.mvmap.specs.Reading.{Visible, is_walk}
 use Rattle.mvmap.specs.Versions.{Entry, Stands, Estimate, Place, Versions, changed, place_cmp}
 use Rattle.mvmap.specs.declared.slot.Slot.{Slot}
 use Rattle.mvmap.specs.declared.slot.Slot.TheVariants as slot
@@ -24,7 +27,7 @@ slot_at slots place = lookup (is_at (place_cmp place)) slots
 abbrev pub entry_of : List Record → Slot → Option Entry
 entry_of records slot.Vacant = None
 entry_of records slot.Estimate = Some Estimate
-entry_of records (slot.Placed id) = option_map (λ r. Stands r.incarnation r.content) (slice_get records id)
+entry_of records (slot.Placed id) = option_map (λ r. Stands r.incarnation r.change) (slice_get records id)
 
 -- the versions that slots stand for
 abbrev pub versions_of : List Record → Slots → Versions
@@ -44,12 +47,18 @@ abbrev pub IsOpened : Slots → Slots → Type 0
 IsOpened old new = (place : Place) → (slot_at new place ≡ slot_at old place) ⊎ ((slot_at old place ≡ None) × (slot_at new place ≡ Some slot.Vacant))
 
 -- the value of a key after an entry is applied to the value that it had
-abbrev pub value_over : Option (List ℕ) → Option Entry → Option (List ℕ)
+abbrev pub value_over : Content → Option Entry → Content
 value_over base None = base
-value_over base (Some (Stands incarnation content)) = content
+value_over base (Some (Stands incarnation change)) = apply_change change base
 value_over base (Some Estimate) = base
 
 -- the value of a key after the slots at it are applied in turn to the value that it had
-abbrev pub value_over_slots : List Record → Slots → List ℕ → Option (List ℕ) → Option (List ℕ)
+abbrev pub value_over_slots : List Record → Slots → List ℕ → Content → Content
 value_over_slots records [] key base = base
 value_over_slots records (s ∷ slots) key base = value_over_slots records slots key (if eq_by_cmp key_cmp key s.0.0 then value_over base (entry_of records s.1) else base)
+
+-- whether the rest of an origin is what is seen below a version that was passed; None where that version is not the next one
+-- of the origin
+abbrev pub walk_after : Option (List Version) → Option Version → Visible → Bool
+walk_after None bottom below = false
+walk_after (Some rest) bottom below = is_walk rest bottom below

@@ -1,11 +1,11 @@
 -- The versions of a block's keys (Block-STM, the multi-version memory).
 use Rattle.std.specs.Prelude.{◌≡◌, ◌≢◌, ℕ, List, Option, None, Some, refl}
 use Rattle.std.specs.Coded.{Coded, code_by, coded×, coded_list, coded_option, coded_ℕ}
+use Rattle.rv_ledger.specs.Change.{ContentChange, coded_change}
 use Rattle.std.specs.FinMap.{FinMap, get, insert, remove}
 use Rattle.std.specs.Ordering.{nat_cmp, ordering_then}
 use Rattle.std.specs.declared.cmp.Ordering.{Ordering}
 use Rattle.rv_ledger.specs.Key.{key_cmp}
-use Rattle.version_arena.specs.ArenaState.{Content}
 
 -- a key, and the index of a call that writes it
 abbrev pub Place : Type 0
@@ -15,10 +15,10 @@ Place = List ℕ × ℕ
 abbrev pub place_cmp : Place → Place → Ordering
 place_cmp p q = ordering_then (key_cmp p.0 q.0) (nat_cmp p.1 q.1)
 
--- what is at a place: what the writer's run of an incarnation wrote; or an estimate, where the writer is
+-- what is at a place: what the writer's run of an incarnation did to the key; or an estimate, where the writer is
 -- expected to write again
 pub data Entry : Type 0 where
-  Stands : ℕ → Content → Entry
+  Stands : ℕ → ContentChange → Entry
   Estimate : Entry
 
 -- the entries of a block, by key and writer
@@ -42,21 +42,21 @@ HasNoEstimate versions = (place : Place) → get versions place ≢ Some Estimat
 abbrev pub coded_place : Coded Place
 coded_place = coded× (coded_list coded_ℕ) coded_ℕ
 
--- an entry as data: an incarnation with a content, or nothing
-abbrev pub stored : Entry → Option (ℕ × Content)
-stored (Stands incarnation content) = Some (incarnation, content)
+-- an entry as data: an incarnation with a change, or nothing
+abbrev pub stored : Entry → Option (ℕ × ContentChange)
+stored (Stands incarnation change) = Some (incarnation, change)
 stored Estimate = None
 
 -- the entry of such data
-abbrev pub restored : Option (ℕ × Content) → Entry
+abbrev pub restored : Option (ℕ × ContentChange) → Entry
 restored (Some told) = Stands told.0 told.1
 restored None = Estimate
 
 -- such data gives the entry back
 pub restored_is : (e : Entry) → restored (stored e) ≡ e
-restored_is (Stands incarnation content) = refl
+restored_is (Stands incarnation change) = refl
 restored_is Estimate = refl
 
 -- the code of an entry
 abbrev pub coded_entry : Coded Entry
-coded_entry = code_by (Option (ℕ × Content)) (coded_option (coded× coded_ℕ (coded_option (coded_list coded_ℕ)))) stored restored restored_is
+coded_entry = code_by (Option (ℕ × ContentChange)) (coded_option (coded× coded_ℕ coded_change)) stored restored restored_is

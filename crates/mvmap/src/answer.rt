@@ -1,21 +1,17 @@
 //! What a call sees of a key.
 
-/// Which run of which call wrote a version.
-#[derive(Clone, Copy, Debug, PartialEq, Eq)]
-pub struct Version {
-    /// The index of the call.
-    pub writer: u16,
-    /// Which run of that call, from 0.
-    pub incarnation: u16,
-}
+use read_set::Version;
+use rv_ledger::Value;
 
-/// What a call sees of a key.
-#[derive(Clone, Copy, Debug, PartialEq, Eq)]
-pub enum Answer<'a> {
-    /// The storage before the block.
-    Base,
-    /// A version, with its bytes, or None where it removed the key.
-    Found(Version, Option<&'a [u8]>),
+/// What a call sees of a key, below the versions that a read passes.
+#[derive(Debug, Drop)]
+pub enum Answer {
+    /// The storage before the block; and the sum of the amounts of the versions that were passed, if any was,
+    /// modulo 2^64.
+    Base(Option<u64>),
+    /// A version, and the value that the key has after the passed amounts are added, or None where it has
+    /// none.
+    Found(Version, Option<Value>),
     /// An estimate: the call of this index is expected to write the key again.
     Estimate(u16),
 }

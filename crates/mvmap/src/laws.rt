@@ -1,6 +1,6 @@
 //! Laws of what a call sees.
 
-ghost use Rattle.mvmap.specs.Laws.{BlocksOnLowerWriters, ChangesNoStandingRead, DependsOnLowerWriters, NamesWhatStands};
+ghost use Rattle.mvmap.specs.Laws.{BlocksOnLowerWriters, ChangesNoStandingRead, DependsOnLowerWriters, NamesWhatStands, SumsAddUp};
 
 /// What a call sees of a key depends only on the entries of lower writers at that key.
 pub fn depends_on_lower_writers()
@@ -13,8 +13,8 @@ pub fn changes_no_standing_read()
     ensures { ChangesNoStandingRead }
 {}
 
-/// If a read of a version stands, that version is in the map at that incarnation, its writer is below
-/// the reader, and its content is the answer.
+/// If a read stands, what is seen has that very origin, and each version that the origin names is in the map
+/// at its incarnation, of a writer below the reader.
 pub fn names_what_stands()
     ensures { NamesWhatStands }
 {}
@@ -22,4 +22,9 @@ pub fn names_what_stands()
 /// A call is blocked only on a lower call whose entry is an estimate.
 pub fn blocks_on_lower_writers()
     ensures { BlocksOnLowerWriters }
+{}
+
+/// One addition of the sum of the passed amounts gives what adding them in turn gives.
+pub fn sums_add_up()
+    ensures { SumsAddUp }
 {}

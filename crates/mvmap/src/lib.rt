@@ -8,9 +8,13 @@ pub mod map;
 mod seek;
 mod slot;
 mod snapshot;
+pub mod walk;
 
-pub use answer::{Answer, Version};
+pub use answer::Answer;
 pub use laws::{
     blocks_on_lower_writers, changes_no_standing_read, depends_on_lower_writers, names_what_stands,
+    sums_add_up,
 };
 pub use map::MvMap;
+pub use read_set::{Origin, Version};
+pub use walk::with_amount;

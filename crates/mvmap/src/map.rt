@@ -1,10 +1,11 @@
 //! The map of a block's versions.
 
 use crate::answer::Answer;
-use crate::seek::seek;
 use crate::slot::{Slot, open_all, put};
 use crate::snapshot::apply_slots;
-use rv_ledger::{Key, Store, Value};
+use crate::walk::{has_walk, walk};
+use read_set::{Origin, Version};
+use rv_ledger::{Change, Key, Store, Value};
 use std::alloc::{AllocError, Global};
 use std::collections::BTreeMap;
 use std::marker::Model;
@@ -36,16 +37,16 @@ impl Model for MvMap {
 }
 
 impl MvMap {
-    ghost use Rattle.std.specs.Prelude.{◌≡◌, ◌≢◌, ◌≤◌, ◌+◌, ◌<◌, ◌↔◌, ℕ, [], Err, IsTrue, List, None, Ok, OnErr, OnOk, length};
-    ghost use Rattle.std.specs.Option.{option_copied};
+    ghost use Rattle.std.specs.Prelude.{◌≡◌, ◌≢◌, ◌≤◌, ◌+◌, ◌<◌, ◌↔◌, ℕ, [], Err, IsTrue, List, None, Ok, OnErr, OnOk, length, vec_capacity};
+    ghost use Rattle.rv_ledger.specs.Change.{change_copied};
     ghost use Rattle.std.specs.List.{All};
     ghost use Rattle.std.specs.FinMap as map;
     ghost use Rattle.std.specs.FinSet as set;
     ghost use Rattle.version_arena.specs.ArenaState.{bytes_of, emptied, placed};
     ghost use Rattle.version_arena.specs.declared.fault.ReserveFault.TheVariants.{ArenaFull};
     ghost use Rattle.mvmap.specs.Versions.{Estimate, HasNoEstimate, Place, Stands, entry_at};
-    ghost use Rattle.mvmap.specs.Reading.{value_seen, reading};
-    ghost use Rattle.mvmap.specs.Answers.{IsShort, visible_of};
+    ghost use Rattle.mvmap.specs.Reading.{is_origin, reading, value_seen};
+    ghost use Rattle.mvmap.specs.Answers.{Tells};
 
     /// A map without versions over an arena. The arena's records are removed, and their room stays.
     /// Takes no memory.
@@ -75,13 +76,25 @@ impl MvMap {
         left
     }
 
-    /// What the call of index `i` sees of a key: the entry of the highest call below `i` that has one,
-    /// which is a version or an estimate; or Base where none has. Takes no memory.
-    pub fn read(&self, key: &Key, i: u16) -> Answer<'_>
-        ensures seen { visible_of result ≡ reading self.now.versions key.now i }
-        ensures short { IsShort 256 result }
+    /// What the call of index `i` sees of a key. From the highest call below `i` downwards it passes the
+    /// versions that add an amount, and writes them into `passed`, in room that must be there. It ends at a
+    /// value or a removal, at an estimate, or at Base where no lower call has an entry. Takes no memory.
+    pub fn read(&self, key: &Key, i: u16, passed: &mut Vec<Version>) -> Answer
+        requires { i ≤ vec_capacity passed.old }
+        ensures tells { Tells result passed.new.items (reading self.now.versions key.now i) }
+        ensures count { length passed.new.items ≤ i }
+        ensures room { vec_capacity passed.new ≡ vec_capacity passed.old }
     {
-        seek(&self.slots, &self.arena, key, i)
+        walk(&self.slots, &self.arena, key, i, passed)
+    }
+
+    /// Whether what the call of index `i` sees of a key has this origin: it passes these very versions, and
+    /// finds that very version below them, or the storage before the block. Where it meets an estimate it has
+    /// none. Takes no memory.
+    pub fn still_has(&self, key: &Key, i: u16, origin: &Origin) -> bool
+        ensures { result ≡ is_origin origin.now (reading self.now.versions key.now i) }
+    {
+        has_walk(&self.slots, &self.arena, key, i, origin)
     }
 
     /// Makes room for an entry of call `i` at each of these keys, beside the room that was made before,
@@ -114,17 +127,17 @@ impl MvMap {
         self.arena.reserve(records, bytes)
     }
 
-    /// Makes the entry of a call at a key the version that its run wrote, None where it removed the key.
-    /// Room for the entry and its record must have been made. Takes no memory.
-    pub fn publish(&mut self, key: &Key, writer: u16, incarnation: u16, value: Option<&Value>)
+    /// Makes the entry of a call at a key the version that its run wrote: what it did to the key. Room for
+    /// the entry and its record must have been made. Takes no memory.
+    pub fn publish(&mut self, key: &Key, writer: u16, incarnation: u16, change: Change<&Value>)
         requires place { IsTrue (set.contains self.old.places (key.now, writer)) }
         requires room { 1 ≤ self.old.arena.room }
-        requires bytes { bytes_of (option_copied value) ≤ self.old.arena.bytes }
-        ensures versions { self.new.versions ≡ map.insert self.old.versions (key.now, writer) (Stands incarnation (option_copied value.entry)) }
+        requires bytes { bytes_of (change_copied change) ≤ self.old.arena.bytes }
+        ensures versions { self.new.versions ≡ map.insert self.old.versions (key.now, writer) (Stands incarnation (change_copied change.entry)) }
         ensures places { self.new.places ≡ self.old.places }
-        ensures arena { self.new.arena ≡ placed writer incarnation (option_copied value.entry) self.old.arena }
+        ensures arena { self.new.arena ≡ placed writer incarnation (change_copied change.entry) self.old.arena }
     {
-        let id = self.arena.place(writer, incarnation, value);
+        let id = self.arena.place(writer, incarnation, change);
         put(&mut self.slots, key, writer, Slot::Placed(id));
     }
 

@@ -1,8 +1,8 @@
 //! The storage after a block.
 
-ghost use Rattle.std.specs.Prelude.{◌≡◌, ◌≤◌, ℕ, IfSome, List, OnOk, cond, length};
+ghost use Rattle.std.specs.Prelude.{◌≡◌, ◌≤◌, ℕ, List, OnOk, cond, length};
 ghost use Rattle.std.specs.FinMap as map;
-ghost use Rattle.std.specs.Option.{option_copied};
+ghost use Rattle.rv_ledger.specs.Change.{IfValue, apply_change, change_copied};
 ghost use Rattle.std.specs.List.Sorted.{IsStrictlySortedBy};
 ghost use Rattle.std.specs.Map.{keys_of};
 ghost use Rattle.std.specs.Ordering.{eq_by_cmp};
@@ -11,7 +11,7 @@ ghost use Rattle.mvmap.specs.Versions.{place_cmp};
 ghost use Rattle.mvmap.specs.Slots.{entry_of, value_over, value_over_slots};
 
 use crate::slot::{Slot, Slots};
-use rv_ledger::{Key, Store, Value};
+use rv_ledger::{Change, Key, Store, Value};
 use std::alloc::AllocError;
 use version_arena::Arena;
 
@@ -38,21 +38,22 @@ fn apply_slot(slot: &Slot, arena: &Arena, key: &Key, store: &mut Store) -> Resul
     let Some(record) = arena.get(*id) else {
         return Ok(());
     };
-    write(key, record.content, store)
+    write(key, &record.change, store)
 }
 
-/// Sets the value of a key, or removes the key where there is no value. Refused where memory ran out,
-/// and then the storage is to be dropped.
-fn write(key: &Key, content: Option<&[u8]>, store: &mut Store) -> Result<(), AllocError>
-    requires { IfSome content (λ bytes. length bytes.now ≤ 256) }
-    ensures { OnOk result ((k : List ℕ) → map.get store.new k ≡ cond (eq_by_cmp key_cmp k key.now) (option_copied content.entry) (map.get store.old k)) }
+/// Makes a change to a key of a storage. Refused where memory ran out, and then the storage is to be dropped.
+fn write(key: &Key, change: &Change<&[u8]>, store: &mut Store) -> Result<(), AllocError>
+    requires { IfValue change.now (λ bytes. length bytes.now ≤ 256) }
+    ensures { OnOk result ((k : List ℕ) → map.get store.new k ≡ cond (eq_by_cmp key_cmp k key.now) (apply_change (change_copied change.now) (map.get store.old k)) (map.get store.old k)) }
 {
-    let Some(bytes) = content else {
-        store.remove(key);
-        return Ok(());
-    };
-    if let Some(value) = Value::of(bytes) {
-        store.insert(*key, value)?;
+    match change {
+        Change::Value(bytes) => {
+            if let Some(value) = Value::of(bytes) {
+                store.insert(*key, value)?;
+            }
+        }
+        Change::Gone => store.remove(key),
+        Change::Sum(amount) => store.add(key, *amount)?,
     }
     Ok(())
 }

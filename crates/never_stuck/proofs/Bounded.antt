@@ -7,7 +7,7 @@ use Rattle.rv_mem.specs.declared.fault.Fault.{Fault}
 use Rattle.rv_ledger.specs.Call.{Invocation}
 use Rattle.ecalls.specs.StorageCalls.{a2, late_charge}
 use Rattle.rv_step.specs.declared.machine.Machine.{Machine}
-use Rattle.rv_step.specs.Step.{StepResult, Next, Asks, Ends, step, answered, charged, delivery_result, memory_result, value_result}
+use Rattle.rv_step.specs.Step.{StepResult, Next, Asks, Ends, step, answered, charged, delivered, delivery_result, memory_result, value_result}
 use Rattle.rv_step.specs.Chain.{Reply, start}
 use Rattle.rv_step.specs.Asked.{asked_after, asked_by, asked_in, asked_on}
 use Rattle.rv_step.proofs.Falls.{step_falls, less_gas}
@@ -61,8 +61,8 @@ outcome_early : (g : Machine → List Reply → Option (List ℕ)) (key : List �
 outcome_early g key s (Next t) replies is early e = let few = early t replies e in let less = less_gas s.gas (step s) t (step_falls s) is in omega (arith, few, less)
 outcome_early g key s (Asks other) [] is early e = omega arith
 outcome_early g key s (Asks other) (reply ∷ replies) is early e =
-    let right = right_reply (bytes_eq reply.0 other) (asked_after g (answered s reply.1) replies) key e in
-    let few = answer_early g key s.gas (answered s reply.1) replies early (reply_takes s reply.1) right.1 in omega (arith, few)
+    let right = right_reply (bytes_eq reply.0 other) (asked_after g (answered s (delivered s other reply.1)) replies) key e in
+    let few = answer_early g key s.gas (answered s (delivered s other reply.1)) replies early (reply_takes s (delivered s other reply.1)) right.1 in omega (arith, few)
 outcome_early g key s (Ends end out t) replies is early e = cc
 
 chain_early : (n : ℕ) (s : Machine) (key : List ℕ) (replies : List Reply) → asked_in n s replies ≡ Some key → 200 * length replies ≤ s.gas

@@ -6,6 +6,7 @@ use Rattle.std.proofs.lemmas.Bool.{cond_both}
 use Rattle.std.proofs.lemmas.List.{length-map}
 use Rattle.std.proofs.lemmas.List.Elements.{All-get_or, All-set, All-replicate}
 use Rattle.std.proofs.lemmas.List.Sums.{length-filter, count_by-le-length}
+use Rattle.rv_ledger.specs.Change.{ContentChange}
 use Rattle.rv_ledger.specs.Key.{Storage, WriteMap}
 use Rattle.rv_step.specs.Replies.{replies_of}
 use Rattle.rv_step.specs.declared.answer.StorageAnswer.{StorageAnswer}
@@ -96,7 +97,7 @@ executed_few w s h i new = to_validate_few w _ h i (call_at s i).incarnation _ n
 -- the keys that a run is to move are at most those that it wrote and those that the run before it wrote
 few_to_move : (last : Option Recorded) (writes : WriteMap) → len writes ≤ 256 → length (keys_of (written_by last)) ≤ 256 → length (keys_to_move last writes) ≤ 512
 few_to_move last writes few before =
-    let p : List ℕ × Option (List ℕ) → Bool = λ write. not (contains_key writes write.0) in
+    let p : List ℕ × ContentChange → Bool = λ write. not (contains_key writes write.0) in
     omega (
       arith,
       few,

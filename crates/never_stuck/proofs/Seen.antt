@@ -1,38 +1,40 @@
 -- What a read of a run comes to, and which reads stand after a step. Only this file takes apart what a call sees.
-use Rattle.std.proofs.Common.{◌≡◌, ◌≢◌, ◌<◌, ℕ, true, List, [], ◌∷◌, ◌++◌, map, Some, refl, sym, ap, ◌∙◌, arith}
+use Rattle.std.proofs.Common.{◌≡◌, ◌≢◌, ◌<◌, ℕ, true, List, [], ◌∷◌, ◌++◌, map, Option, None, Some, is_some, refl, sym, ap, ◌∙◌, arith}
 use Rattle.std.specs.List.{list_all}
 use Rattle.rv_ledger.specs.Key.{Storage}
 use Rattle.read_set.specs.declared.Read.{Read}
 use Rattle.rv_step.specs.declared.answer.StorageAnswer.{StorageAnswer}
 use Rattle.mvmap.specs.Versions.{Versions, entry_at}
-use Rattle.mvmap.specs.Reading.{Visible, Base, Found, Blocked, is_origin, reading, stands}
+use Rattle.mvmap.specs.Reading.{Visible, blocker, is_origin, reading, stands}
 use Rattle.mvmap.proofs.Readings.{blocked_at, seen_same}
 use Rattle.stm_state.specs.declared.state.Status.TheVariants.{Executed}
 use Rattle.stm_state.specs.declared.state.Task.TheVariants.{Running}
 use Rattle.stm_state.specs.State.{State, call_at}
-use Rattle.stm_state.specs.Steps.{Block, answered_with, read_of, write_of}
+use Rattle.stm_state.specs.Steps.{Block, answered_by, answered_with, read_of, write_of}
 use Rattle.stm_state.specs.Invariant.{view_of, ViewInvariant}
 use Rattle.stm_state.proofs.Lists.{all_same}
 use Rattle.stm_state.proofs.Asks.{executed_entries}
 use Rattle.stm_state.proofs.Serials.{no_estimate}
-use Rattle.stm_state.proofs.Rounds.{Answered, answered_by, answer_stands}
+use Rattle.stm_state.proofs.Rounds.{Answered, answered_here, answer_stands}
 
 -- a read of call i answers its run, or blocks it
 pub data ReadOutcome (base : Storage) (key : List ℕ) (i : ℕ) (answers : List StorageAnswer) (seen : Visible) : Type 0 where
   answers_run : Answered base key i answers seen → ReadOutcome base key i answers seen
-  blocks_run : (b : ℕ) → seen ≡ Blocked b → answered_with base key i answers seen ≡ Running i answers (Some b) → ReadOutcome base key i answers seen
+  blocks_run : (b : ℕ) → blocker seen ≡ Some b → answered_with base key i answers seen ≡ Running i answers (Some b) → ReadOutcome base key i answers seen
 
 pub read_outcome : (base : Storage) (key : List ℕ) (i : ℕ) (answers : List StorageAnswer) (seen : Visible) → ReadOutcome base key i answers seen
-read_outcome base key i answers Base = answers_run (answered_by base key i answers Base refl)
-read_outcome base key i answers (Found w n content) = answers_run (answered_by base key i answers (Found w n content) refl)
-read_outcome base key i answers (Blocked b) = blocks_run b refl refl
+read_outcome base key i answers seen = go (blocker seen) refl
+  where
+    go : (o : Option ℕ) → blocker seen ≡ o → ReadOutcome base key i answers seen
+    go None e = answers_run (answered_here base key i answers seen (ap is_some e))
+    go (Some b) e = blocks_run b e (ap (answered_by base key i answers seen) e)
 
 -- a run is blocked on a lower call
-pub blocker_lower : (versions : Versions) (key : List ℕ) (i b : ℕ) → reading versions key i ≡ Blocked b → b < i
+pub blocker_lower : (versions : Versions) (key : List ℕ) (i b : ℕ) → blocker (reading versions key i) ≡ Some b → b < i
 blocker_lower versions key i b seen = (blocked_at (entry_at versions key) i b seen).0
 
 -- and that call is not EXECUTED
-pub blocker_is : (block : Block) (s : State) → ViewInvariant block (view_of s) → (key : List ℕ) (i b : ℕ) → reading s.versions key i ≡ Blocked b → (b < i) × ((call_at s b).status ≢ Executed)
+pub blocker_is : (block : Block) (s : State) → ViewInvariant block (view_of s) → (key : List ℕ) (i b : ℕ) → blocker (reading s.versions key i) ≡ Some b → (b < i) × ((call_at s b).status ≢ Executed)
 blocker_is block s f key i b seen =
     let from = blocked_at (entry_at s.versions key) i b seen in
     (from.0, λ done. no_estimate (write_of (call_at s b).last key) (call_at s b).incarnation (sym (executed_entries block (view_of s) f b done key) ∙ from.1))

@@ -3,10 +3,11 @@ use Rattle.std.proofs.Common.{◌≡◌, ◌≤◌, ◌+◌, ◌*◌, ℕ, zero,
 use Rattle.std.specs.FinMap.{entries, len, len-empty, len-entries}
 use Rattle.std.proofs.lemmas.List.{length-map}
 use Rattle.rv_ledger.specs.Call.{Invocation}
+use Rattle.rv_ledger.specs.Change.{ContentChange}
 use Rattle.rv_ledger.specs.Key.{key_cmp}
 use Rattle.rv_ledger.specs.declared.receipt.Receipt.{Receipt}
 use Rattle.rv_step.specs.declared.machine.Machine.{Machine}
-use Rattle.rv_step.specs.Step.{StepResult, Next, Asks, Ends, step, answered}
+use Rattle.rv_step.specs.Step.{StepResult, Next, Asks, Ends, step, answered, delivered}
 use Rattle.rv_step.specs.Chain.{Reply, after_step, closed, followed, receipt_of, replayed, start}
 use Rattle.rv_step.specs.Replies.{reply_of, replies_of}
 use Rattle.rv_step.proofs.Falls.{step_falls, less_gas}
@@ -48,8 +49,8 @@ outcome_small f limit s (Next t) replies r is small few leaves e =
     let rest = small t replies r leaves e in let most = rest.1 in let less = less_gas s.gas (step s) t (step_falls s) is in (rest.0, omega (arith, most, less))
 outcome_small f limit s (Asks key) [] r is small few leaves e = cc
 outcome_small f limit s (Asks key) (reply ∷ replies) r is small few leaves e =
-    let found = right_key (bytes_eq reply.0 key) (after_step f limit (answered s reply.1) replies) r e in
-    let rest = answer_small f limit s.gas (answered s reply.1) replies r small (answered_few s reply.1 few) (reply_takes s reply.1) found.1 in
+    let found = right_key (bytes_eq reply.0 key) (after_step f limit (answered s (delivered s key reply.1)) replies) r e in
+    let rest = answer_small f limit s.gas (answered s (delivered s key reply.1)) replies r small (answered_few s (delivered s key reply.1) few) (reply_takes s (delivered s key reply.1)) found.1 in
     let most = rest.1 in (rest.0, omega (arith, most))
 outcome_small f limit s (Ends end out t) replies r is small few leaves e =
     let rest = closed_small replies (receipt_of limit end out t) r (kept_few end t.own leaves) e in let none = rest.1 in (rest.0, omega (arith, none))
@@ -63,7 +64,7 @@ chain_small limit (suc n) s replies r few e =
 -- a call has no writes at its start
 start_few : (call : Invocation) → HasFew (start call)
 unfolding start
-start_few call = subst (λ n. n ≤ 256) (sym (len-empty key_cmp (Option (List ℕ)))) (lit≤ tt)
+start_few call = subst (λ n. n ≤ 256) (sym (len-empty key_cmp ContentChange)) (lit≤ tt)
 
 -- ---- in a job
 

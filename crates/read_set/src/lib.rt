@@ -1,29 +1,18 @@
 //! The reads that a run of a call made of the storage, in order, with where each answer came from.
 #![tactic(auto)]
 
+pub mod origin;
+
 ghost use Rattle.std.specs.Prelude.{◌≡◌, ◌++◌, ◌∷◌, [], List, OnOk, OnErr};
 ghost use Rattle.read_set.specs.declared.Read.{Read};
 
+pub use origin::{Origin, Version};
 use rv_ledger::Key;
 use std::alloc::{AllocError, Global};
 use std::marker::Model;
 
-/// Where the answer to a read came from.
-#[derive(Clone, Copy, Debug, PartialEq, Eq)]
-pub enum Origin {
-    /// The storage before the block.
-    Base,
-    /// A version of the key: what an earlier call of the block wrote.
-    Version {
-        /// The index of that call, below 1,024.
-        writer: u16,
-        /// Which run of that call wrote it, 0 to 65,534.
-        incarnation: u16,
-    },
-}
-
 /// One read of the storage.
-#[derive(Clone, Copy, Debug, PartialEq, Eq)]
+#[derive(Debug, Drop)]
 pub struct Read {
     /// The key.
     pub key: Key,

@@ -1,6 +1,6 @@
 -- Each field of a result's text tells what it was made of, and has no space.
-use Rattle.std.proofs.Common.{◌≡◌, ℕ, zero, suc, ◌/◌, ◌%◌, ◌^◌, ◌<◌, ◌≤◌, true, false, List, [], ◌∷◌, map, slice_index, Option, Some, None, nat_lt, if◌then◌else◌, refl, sym, ap, ◌∙◌, arith, lit<}
-use Rattle.std.specs.Prelude.{◌==◌, codes, IfSome}
+use Rattle.std.proofs.Common.{◌≡◌, ℕ, zero, suc, ◌/◌, ◌%◌, ◌^◌, ◌<◌, ◌≤◌, true, false, List, [], ◌∷◌, map, slice_index, Some, nat_lt, if◌then◌else◌, refl, sym, ap, ◌∙◌, arith, lit<}
+use Rattle.std.specs.Prelude.{◌==◌, codes}
 use Rattle.std.specs.Str.{bytes_eq}
 use Rattle.std.specs.Fmt.{decimal, digits, digits_onto, digit_glyph}
 use Rattle.std.specs.Int.{to_be_bytes, w32}
@@ -9,11 +9,13 @@ use Rattle.std.proofs.lemmas.Bool.Decides.{nat_tests}
 use Rattle.std.proofs.lemmas.List.Elements.{All-cons, All-head, All-tail}
 use Rattle.hex.specs.Hex.{encode_lower, encode_with, lower_digits, hex_digit_value, decode_of, IsBytes}
 use Rattle.hex.proofs.HexLemmas.{decode_of-encode_lower, IsDigits-lower_digits}
+use Rattle.rv_ledger.specs.Change.{ContentChange}
+use Rattle.rv_ledger.specs.declared.change.Change.TheVariants as change
 use Rattle.rv_ledger.specs.declared.end.End.{End}
 use Rattle.rv_ledger.specs.declared.end.End.TheVariants.{Returned, Reverted, OutOfGas, Trapped}
 use Rattle.rv_ledger.specs.declared.end.Trap.TheVariants.{Illegal, Misaligned, MemoryFault, FetchFault, Breakpoint, UnknownCall, BadLength, TooManyWrites}
-use Rattle.receipts.specs.Text.{end_name, bytes_text, word_text, content_text}
-use Rattle.receipts.specs.Ranges.{AreBytes, AreWords}
+use Rattle.receipts.specs.Text.{end_name, bytes_text, word_text, change_fields}
+use Rattle.receipts.specs.Ranges.{AreBytes, AreWords, IsChangeInRange}
 use Rattle.receipts.proofs.Cuts.{plain, all_plain}
 
 -- ---- decimals
@@ -36,6 +38,10 @@ digits_plain (suc k) n acc h =
 pub decimal_plain : (n : ℕ) → plain (decimal n) ≡ true
 unfolding digits
 decimal_plain n = digits_plain 64 n [] refl
+
+-- a decimal tells the gas
+pub gas_tells : (m n : ℕ) → m < 2 ^ 32 → n < 2 ^ 32 → decimal m ≡ decimal n → m ≡ n
+gas_tells m n h k e = decimal_injective m n (omega arith) (omega arith) e
 
 -- ---- hex
 
@@ -126,7 +132,7 @@ words_tell (x ∷ xs) (y ∷ ys) h k e =
     let rest = words_tell xs ys (All-tail (λ n. n < 2 ^ 32) x xs h) (All-tail (λ n. n < 2 ^ 32) y ys k) others in
     cc (same, rest)
 
--- ---- bytes, and what was written
+-- ---- bytes, and what was done to a key
 
 -- bytes have no space
 pub bytes_plain : (xs : List ℕ) → AreBytes xs → plain (bytes_text xs) ≡ true
@@ -141,10 +147,11 @@ bytes_tell [] (y ∷ ys) h k e = cc
 bytes_tell (x ∷ xs) [] h k e = cc
 bytes_tell (x ∷ xs) (y ∷ ys) h k e = hex_tells (x ∷ xs) (y ∷ ys) h k e
 
--- what was written has no space
-pub content_plain : (content : Option (List ℕ)) → IfSome content AreBytes → plain (content_text content) ≡ true
-content_plain (Some value) h = bytes_plain value h
-content_plain None h = refl
+-- what was done to a key has no space in a field
+pub change_plain : (c : ContentChange) → IsChangeInRange c → all_plain (change_fields c) ≡ true
+change_plain (change.Value value) h = rw (bytes_plain value h) refl
+change_plain change.Gone h = refl
+change_plain (change.Sum amount) h = rw (decimal_plain amount) refl
 
 -- `gone` is neither hex nor a dash
 gone_apart : (xs : List ℕ) → AreBytes xs → bytes_text xs ≡ codes "gone" → ⊥
@@ -156,12 +163,17 @@ gone_apart (x ∷ xs) h e =
     let first : slice_index lower_digits (x / 16) ≡ 103 = cc in
     omega arith
 
--- the field tells what was written
-pub content_tells : (a b : Option (List ℕ)) → IfSome a AreBytes → IfSome b AreBytes → content_text a ≡ content_text b → a ≡ b
-content_tells None None h k e = refl
-content_tells None (Some y) h k e = absurd (gone_apart y k (sym e))
-content_tells (Some x) None h k e = absurd (gone_apart x h e)
-content_tells (Some x) (Some y) h k e = ap Some (bytes_tell x y h k e)
+-- the fields tell what was done: `gone` is no value, and an amount has a field more than either
+pub change_tells : (a b : ContentChange) → IsChangeInRange a → IsChangeInRange b → change_fields a ≡ change_fields b → a ≡ b
+change_tells (change.Value x) (change.Value y) h k e = ap (λ (value : List ℕ). change.Value value) (bytes_tell x y h k (cc))
+change_tells (change.Value x) change.Gone h k e = absurd (gone_apart x h (cc))
+change_tells (change.Value x) (change.Sum n) h k e = cc
+change_tells change.Gone (change.Value y) h k e = absurd (gone_apart y k (cc))
+change_tells change.Gone change.Gone h k e = refl
+change_tells change.Gone (change.Sum n) h k e = cc
+change_tells (change.Sum m) (change.Value y) h k e = cc
+change_tells (change.Sum m) change.Gone h k e = cc
+change_tells (change.Sum m) (change.Sum n) h k e = ap (λ (amount : ℕ). change.Sum amount) (decimal_injective m n h k (cc))
 
 -- ---- names
 
@@ -211,7 +223,3 @@ name_plain (Trapped Breakpoint) = refl
 name_plain (Trapped UnknownCall) = refl
 name_plain (Trapped BadLength) = refl
 name_plain (Trapped TooManyWrites) = refl
-
--- a decimal tells the gas
-pub decimal_tells : (m n : ℕ) → m < 2 ^ 32 → n < 2 ^ 32 → decimal m ≡ decimal n → m ≡ n
-decimal_tells m n h k e = decimal_injective m n (omega arith) (omega arith) e

@@ -1,5 +1,5 @@
 -- Two results with one text are equal.
-use Rattle.std.proofs.Common.{◌≡◌, ◌≢◌, ℕ, ◌+◌, true, false, List, [], ◌∷◌, ◌++◌, map, get_or, Option, All, refl, sym, ap, ◌∙◌, append_assoc}
+use Rattle.std.proofs.Common.{◌≡◌, ◌≢◌, ℕ, ◌+◌, true, false, List, [], ◌∷◌, ◌++◌, map, drop, get_or, All, refl, sym, ap, ◌∙◌, append_assoc}
 use Rattle.std.specs.Prelude.{codes, flat_map}
 use Rattle.std.specs.Str.{bytes_eq}
 use Rattle.std.specs.Fmt.{decimal}
@@ -8,9 +8,10 @@ use Rattle.std.specs.List.{enumerate_from}
 use Rattle.std.proofs.lemmas.Grind.{flat_map-append}
 use Rattle.std.proofs.lemmas.List.Elements.{All-head, All-tail}
 use Rattle.hex.specs.Hex.{encode_lower}
+use Rattle.rv_ledger.specs.Change.{ContentChange}
 use Rattle.rv_ledger.specs.Key.{Storage}
 use Rattle.rv_ledger.specs.declared.receipt.Receipt.{Receipt}
-use Rattle.receipts.specs.Text.{bytes_text, word_text, content_text, end_name, line_of, write_line, store_line, call_lines, result_text}
+use Rattle.receipts.specs.Text.{bytes_text, word_text, change_fields, end_name, line_of, write_line, store_line, call_lines, result_text}
 use Rattle.receipts.specs.Ranges.{IsInRange, IsWriteInRange, IsEntryInRange, AreInRange}
 use Rattle.receipts.proofs.Cuts.{Line, plain_line, plain_lines, text_of, lines_cut, both}
 use Rattle.receipts.proofs.Fields as field
@@ -18,8 +19,8 @@ use Rattle.receipts.proofs.Fields as field
 -- ---- the lines of a result
 
 -- the line of a write
-abbrev write_fields : ℕ → List ℕ × Option (List ℕ) → Line
-write_fields n write = (codes "write", decimal n ∷ encode_lower write.0 ∷ content_text write.1 ∷ [])
+abbrev write_fields : ℕ → List ℕ × ContentChange → Line
+write_fields n write = (codes "write", decimal n ∷ encode_lower write.0 ∷ change_fields write.1)
 
 -- the line of a key of the storage
 abbrev store_fields : List ℕ × List ℕ → Line
@@ -56,7 +57,7 @@ abbrev line_text : Line → List ℕ
 line_text line = line_of line.0 line.1
 
 -- the text of writes is that of their lines
-writes_text : (n : ℕ) (es : List (List ℕ × Option (List ℕ))) → flat_map (write_line n) es ≡ text_of (map (write_fields n) es)
+writes_text : (n : ℕ) (es : List (List ℕ × ContentChange)) → flat_map (write_line n) es ≡ text_of (map (write_fields n) es)
 writes_text n [] = refl
 writes_text n (e ∷ es) = ap (λ (t : List ℕ). write_line n e ++ t) (writes_text n es)
 
@@ -103,11 +104,11 @@ plain_append (l ∷ ls) ms p q =
     rw parts.0 (plain_append ls ms parts.1 q)
 
 -- the fields of writes
-writes_plain : (n : ℕ) (es : List (List ℕ × Option (List ℕ))) → All IsWriteInRange es → plain_lines (map (write_fields n) es) ≡ true
+writes_plain : (n : ℕ) (es : List (List ℕ × ContentChange)) → All IsWriteInRange es → plain_lines (map (write_fields n) es) ≡ true
 writes_plain n [] h = refl
 writes_plain n (e ∷ es) h =
     let first = All-head IsWriteInRange e es h in
-    rw (field.decimal_plain n, field.hex_plain e.0 first.key, field.content_plain e.1 first.content) (writes_plain n es (All-tail IsWriteInRange e es h))
+    rw (field.decimal_plain n, field.hex_plain e.0 first.key, field.change_plain e.1 first.change) (writes_plain n es (All-tail IsWriteInRange e es h))
 
 -- the fields of a storage
 stored_plain : (es : List (List ℕ × List ℕ)) → All IsEntryInRange es → plain_lines (map store_fields es) ≡ true
@@ -149,16 +150,16 @@ cons_parts : {X : Type 0} (x y : X) (xs ys : List X) → x ∷ xs ≡ y ∷ ys �
 cons_parts x y xs ys e = (cc, cc)
 
 -- a line tells its write
-write_tells : (n : ℕ) (e f : List ℕ × Option (List ℕ)) → IsWriteInRange e → IsWriteInRange f → write_fields n e ≡ write_fields n f → e ≡ f
+write_tells : (n : ℕ) (e f : List ℕ × ContentChange) → IsWriteInRange e → IsWriteInRange f → write_fields n e ≡ write_fields n f → e ≡ f
 write_tells n (k, v) (l, w) h i same =
     let keys : encode_lower k ≡ encode_lower l = ap (field_at 1) same in
-    let contents : content_text v ≡ content_text w = ap (field_at 2) same in
+    let changes : change_fields v ≡ change_fields w = ap (λ (line : Line). drop 2 line.1) same in
     let one = field.hex_tells k l h.key i.key keys in
-    let two = field.content_tells v w h.content i.content contents in
+    let two = field.change_tells v w h.change i.change changes in
     cc (one, two)
 
 -- lines tell the writes, up to a line of another word
-writes_tell : (n : ℕ) (es fs : List (List ℕ × Option (List ℕ))) (t u : List Line) → All IsWriteInRange es → All IsWriteInRange fs → first_word t ≢ codes "write" → first_word u ≢ codes "write" → map (write_fields n) es ++ t ≡ map (write_fields n) fs ++ u → (es ≡ fs) × (t ≡ u)
+writes_tell : (n : ℕ) (es fs : List (List ℕ × ContentChange)) (t u : List Line) → All IsWriteInRange es → All IsWriteInRange fs → first_word t ≢ codes "write" → first_word u ≢ codes "write" → map (write_fields n) es ++ t ≡ map (write_fields n) fs ++ u → (es ≡ fs) × (t ≡ u)
 writes_tell n [] [] t u h i p q same = (refl, same)
 writes_tell n [] (f ∷ fs) t u h i p q same = absurd (p (ap first_word same))
 writes_tell n (e ∷ es) [] t u h i p q same = absurd (q (ap first_word (sym same)))
@@ -206,7 +207,7 @@ call_tells n r s h i call regs writes =
     let places : word_text r.pc ≡ word_text s.pc = ap (field_at 5) call in
     let outs : bytes_text r.out ≡ bytes_text s.out = ap (field_at 7) call in
     let end_is = field.name_tells r.end s.end names in
-    let gas_is = field.decimal_tells r.gas s.gas h.gas i.gas gases in
+    let gas_is = field.gas_tells r.gas s.gas h.gas i.gas gases in
     let pc_is = field.word_tells r.pc s.pc h.pc i.pc places in
     let out_is = field.bytes_tell r.out s.out h.out i.out outs in
     let regs_is = field.words_tell r.regs s.regs h.regs i.regs regs in

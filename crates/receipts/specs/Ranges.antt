@@ -1,7 +1,9 @@
--- The ranges of the numbers in a result: 32 bits, or a byte.
-use Rattle.std.specs.Prelude.{ℕ, ◌<◌, ◌^◌, List, All, IfSome, Option}
+-- The ranges of the numbers in a result: 64 bits, 32 bits, or a byte.
+use Rattle.std.specs.Prelude.{ℕ, ◌<◌, ◌^◌, List, All}
 use Rattle.std.specs.FinMap.{entries}
+use Rattle.rv_ledger.specs.Change.{ContentChange}
 use Rattle.rv_ledger.specs.Key.{Storage}
+use Rattle.rv_ledger.specs.declared.change.Change.TheVariants as change
 use Rattle.rv_ledger.specs.declared.receipt.Receipt.{Receipt}
 
 -- every number is a byte
@@ -12,10 +14,16 @@ AreBytes numbers = All (λ n. n < 256) numbers
 abbrev pub AreWords : List ℕ → Type 0
 AreWords numbers = All (λ n. n < 2 ^ 32) numbers
 
--- a key of bytes, and a value of bytes or a removal
-pub record IsWriteInRange (write : List ℕ × Option (List ℕ)) : Type 0 where
+-- a value of bytes, a removal, or an amount of 64 bits
+abbrev pub IsChangeInRange : ContentChange → Type 0
+IsChangeInRange (change.Value value) = AreBytes value
+IsChangeInRange change.Gone = Unit {0}
+IsChangeInRange (change.Sum amount) = amount < 2 ^ 64
+
+-- a key of bytes, and such a change
+pub record IsWriteInRange (write : List ℕ × ContentChange) : Type 0 where
   pub key : AreBytes write.0
-  pub content : IfSome write.1 AreBytes
+  pub change : IsChangeInRange write.1
 
 -- a key and a value of bytes
 pub record IsEntryInRange (entry : List ℕ × List ℕ) : Type 0 where

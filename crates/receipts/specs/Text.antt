@@ -1,11 +1,13 @@
 -- The text of a result: what each call did, and the storage after the last one.
-use Rattle.std.specs.Prelude.{ℕ, List, [], ◌∷◌, ◌++◌, Option, Some, None, codes, map}
+use Rattle.std.specs.Prelude.{ℕ, List, [], ◌∷◌, ◌++◌, codes, map}
 use Rattle.std.specs.Fmt.{decimal}
 use Rattle.std.specs.FinMap.{entries}
 use Rattle.std.specs.Int.{to_be_bytes, w32}
 use Rattle.std.specs.List.{enumerate_from, flat_map}
 use Rattle.hex.specs.Hex.{encode_lower}
+use Rattle.rv_ledger.specs.Change.{ContentChange}
 use Rattle.rv_ledger.specs.Key.{Storage}
+use Rattle.rv_ledger.specs.declared.change.Change.TheVariants as change
 use Rattle.rv_ledger.specs.declared.end.End.{End}
 use Rattle.rv_ledger.specs.declared.end.End.TheVariants.{Returned, Reverted, OutOfGas, Trapped}
 use Rattle.rv_ledger.specs.declared.end.Trap.{Trap}
@@ -39,10 +41,11 @@ bytes_text (b ∷ bytes) = encode_lower (b ∷ bytes)
 abbrev pub word_text : ℕ → List ℕ
 word_text word = encode_lower (to_be_bytes w32 word)
 
--- what was written to a key: its value, or `gone` where it was removed
-abbrev pub content_text : Option (List ℕ) → List ℕ
-content_text (Some value) = bytes_text value
-content_text None = codes "gone"
+-- what was done to a key: its value, `gone` where it was removed, or `add` and the amount
+abbrev pub change_fields : ContentChange → List (List ℕ)
+change_fields (change.Value value) = bytes_text value ∷ []
+change_fields change.Gone = codes "gone" ∷ []
+change_fields (change.Sum amount) = codes "add" ∷ decimal amount ∷ []
 
 -- fields, each after a space, and the line's end
 abbrev pub more_fields : List (List ℕ) → List ℕ
@@ -66,8 +69,8 @@ abbrev pub regs_line : List ℕ → List ℕ
 regs_line regs = line_of (codes "regs") (map word_text regs)
 
 -- one write of the call of an index
-abbrev pub write_line : ℕ → List ℕ × Option (List ℕ) → List ℕ
-write_line index (key, content) = line_of (codes "write") (decimal index ∷ encode_lower key ∷ content_text content ∷ [])
+abbrev pub write_line : ℕ → List ℕ × ContentChange → List ℕ
+write_line index (key, change) = line_of (codes "write") (decimal index ∷ encode_lower key ∷ change_fields change)
 
 -- one key of the storage with its value
 abbrev pub store_line : List ℕ × List ℕ → List ℕ

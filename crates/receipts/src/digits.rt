@@ -55,6 +55,7 @@ fn digits_of(bytes: u8x16) -> (u8x16, u8x16)
 }
 
 /// Appends sixteen bytes in 32 hex digits; refused where memory ran out.
+#[inline(always)]
 fn push_sixteen(text: &mut Vec<u8>, bytes: &[u8]) -> Result<(), AllocError>
     requires { length bytes.now ≡ 16 }
     ensures { OnOk result (text.new.items ≡ text.old.items ++ encode_lower bytes.now) }
@@ -91,8 +92,17 @@ pub(crate) fn push_word_field(text: &mut Vec<u8>, word: u32) -> Result<(), Alloc
     text.extend_from_slice(&word_field(word)[..9])
 }
 
+/// Appends the 32 bytes of a key in 64 hex digits; refused where memory ran out.
+pub(crate) fn push_key(text: &mut Vec<u8>, bytes: &[u8; 32]) -> Result<(), AllocError>
+    ensures { OnOk result (text.new.items ≡ text.old.items ++ encode_lower bytes.now) }
+{
+    let (front, back) = bytes.as_slice().split_at(16);
+    push_sixteen(text, front)?;
+    push_sixteen(text, back)
+}
+
 /// Appends bytes in hex, two digits each; refused where memory ran out.
-pub(crate) fn push_hex(text: &mut Vec<u8>, bytes: &[u8]) -> Result<(), AllocError>
+fn push_hex(text: &mut Vec<u8>, bytes: &[u8]) -> Result<(), AllocError>
     ensures { OnOk result (text.new.items ≡ text.old.items ++ encode_lower bytes.now) }
 {
     let mut rest = bytes;

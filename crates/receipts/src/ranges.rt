@@ -1,10 +1,10 @@
 //! The ranges of the numbers in a result, which its types keep.
 
-ghost use Rattle.std.specs.Prelude.{All, IfSome};
+ghost use Rattle.std.specs.Prelude.{All};
 ghost use Rattle.std.specs.FinMap.{entries};
-ghost use Rattle.receipts.specs.Ranges.{AreBytes, AreInRange, AreWords, IsEntryInRange, IsInRange, IsWriteInRange};
+ghost use Rattle.receipts.specs.Ranges.{AreBytes, AreInRange, AreWords, IsChangeInRange, IsEntryInRange, IsInRange, IsWriteInRange};
 
-use rv_ledger::{Key, Receipt, Store, StoredValue, Writes};
+use rv_ledger::{Change, Key, Receipt, Store, StoredValue, Writes};
 
 /// The numbers of a byte slice are bytes.
 fn are_bytes(_bytes: &[u8])
@@ -16,22 +16,33 @@ fn are_words(_words: &[u32])
     ensures { AreWords _words.now }
 {}
 
-/// A write's key and value are bytes.
-fn is_write_in_range(key: &Key, content: &Option<StoredValue>)
-    ensures { IsWriteInRange (key.now, content.now) }
+/// A change's value is bytes, and its amount has 64 bits.
+fn is_change_in_range(change: &Change<StoredValue>)
+    ensures { IsChangeInRange change.now }
 {
-    are_bytes(key.bytes().as_slice());
-    if let Some(value) = content {
-        are_bytes(value.bytes());
+    match change {
+        Change::Value(value) => are_bytes(value.bytes()),
+        Change::Gone => {}
+        Change::Sum(amount) => {
+            let _amount = *amount;
+        }
     }
 }
 
-/// The keys and values of all writes of a call are bytes.
+/// A write's key is bytes, and its change is in range.
+fn is_write_in_range(key: &Key, change: &Change<StoredValue>)
+    ensures { IsWriteInRange (key.now, change.now) }
+{
+    are_bytes(key.bytes().as_slice());
+    is_change_in_range(change);
+}
+
+/// The keys and changes of all writes of a call are in range.
 fn are_writes_in_range(writes: &Writes)
     ensures { All IsWriteInRange (entries writes.now) }
 {
-    for (key, content) in writes.iter() {
-        is_write_in_range(key, content);
+    for (key, change) in writes.iter() {
+        is_write_in_range(key, change);
     }
 }
 

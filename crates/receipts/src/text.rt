@@ -7,10 +7,10 @@ ghost use Rattle.std.specs.List.{enumerate_from, flat_map};
 ghost use Rattle.hex.specs.Hex.{encode_lower};
 ghost use Rattle.receipts.specs.Text.{end_name, more_fields, word_text, call_line, regs_line, write_line, store_line, call_lines, result_text};
 
-use crate::digits::{push_bytes, push_decimal, push_hex, push_word_field};
+use crate::digits::{push_bytes, push_decimal, push_key, push_word_field};
 use crate::lines::end_name;
 use rv_isa::Regs;
-use rv_ledger::{End, Key, Receipt, Store, StoredValue, Writes};
+use rv_ledger::{Change, End, Key, Receipt, Store, StoredValue, Writes};
 use std::alloc::{AllocError, Global};
 
 /// The text of a result: what each call did, in block order, and the storage after the last one.
@@ -108,8 +108,8 @@ fn push_writes(text: &mut Vec<u8>, index: usize, writes: &Writes) -> Result<(), 
     ensures { OnOk result (text.new.items
         ≡ text.old.items ++ flat_map (write_line index) (entries writes.now)) }
 {
-    for (key, content) in writes.iter() {
-        push_write(text, index, key, content)?;
+    for (key, change) in writes.iter() {
+        push_write(text, index, key, change)?;
     }
     Ok(())
 }
@@ -119,15 +119,16 @@ fn push_write(
     text: &mut Vec<u8>,
     index: usize,
     key: &Key,
-    content: &Option<StoredValue>,
+    change: &Change<StoredValue>,
 ) -> Result<(), AllocError>
     ensures { OnOk result (text.new.items
-        ≡ text.old.items ++ write_line index (key.now, content.now)) }
+        ≡ text.old.items ++ write_line index (key.now, change.now)) }
 {
     push_write_key(text, index, key)?;
-    match content {
-        Some(value) => push_bytes(text, value.bytes())?,
-        None => text.extend_from_slice(b"gone")?,
+    match change {
+        Change::Value(value) => push_bytes(text, value.bytes())?,
+        Change::Gone => text.extend_from_slice(b"gone")?,
+        Change::Sum(amount) => push_sum(text, *amount)?,
     }
     text.extend_from_slice(b"\n")
 }
@@ -140,8 +141,16 @@ fn push_write_key(text: &mut Vec<u8>, index: usize, key: &Key) -> Result<(), All
     text.extend_from_slice(b"write ")?;
     push_decimal(text, index)?;
     text.extend_from_slice(b" ")?;
-    push_hex(text, key.bytes().as_slice())?;
+    push_key(text, key.bytes())?;
     text.extend_from_slice(b" ")
+}
+
+/// Appends the word `add` and an amount.
+fn push_sum(text: &mut Vec<u8>, amount: u64) -> Result<(), AllocError>
+    ensures { OnOk result (text.new.items ≡ text.old.items ++ (codes "add " ++ decimal amount)) }
+{
+    text.extend_from_slice(b"add ")?;
+    push_decimal(text, amount as usize)
 }
 
 /// Appends the lines of the storage.
@@ -161,7 +170,7 @@ fn push_entry(text: &mut Vec<u8>, key: &Key, value: &[u8]) -> Result<(), AllocEr
         ≡ text.old.items ++ store_line (key.now, value.now)) }
 {
     text.extend_from_slice(b"store ")?;
-    push_hex(text, key.bytes().as_slice())?;
+    push_key(text, key.bytes())?;
     text.extend_from_slice(b" ")?;
     push_bytes(text, value)?;
     text.extend_from_slice(b"\n")

@@ -9,7 +9,7 @@ use Rattle.hex.specs.Hex.{encode_lower}
 use Rattle.rv_ledger.specs.Key.{Storage, key_cmp}
 use Rattle.rv_ledger.specs.Rules.{longest_value}
 use Rattle.rv_ledger.specs.declared.rules.Rules.{Rules}
-use Rattle.rv_ledger.specs.declared.rules.Rules.TheVariants.{One, Two}
+use Rattle.rv_ledger.specs.declared.rules.Rules.TheVariants.{One, Two, Three}
 use Rattle.receipts.specs.Text.{bytes_text, store_line}
 use Rattle.block_file.specs.declared.fault.Cause.TheVariants.{BadLine}
 use Rattle.block_file.specs.Line.{◌>>=◌, cut, read_parts}
@@ -93,6 +93,7 @@ read_back One store h =
     All-cons (Behind One store) (codes "rvblock 1\n") (codes "rvblock 2\ngas 1\n" ∷ []) (read_behind 1 One store h)
     (All-cons (Behind One store) (codes "rvblock 2\ngas 1\n") [] (read_behind 2 One store h) (λ k d b. absurd (omega arith)))
 read_back Two store h = All-cons (Behind Two store) (codes "rvblock 2\ngas 2\n") [] (read_behind 2 Two store h) (λ k d b. absurd (omega arith))
+read_back Three store h = All-cons (Behind Three store) (codes "rvblock 2\ngas 3\n") [] (read_behind 2 Three store h) (λ k d b. absurd (omega arith))
 
 -- the entries that a program holds, under rules that allow them
 pub allowed : (rules : Rules) (store : Storage) → All (IsEntry Two) (entries store) → AreShort rules store → All (IsEntry rules) (entries store)

@@ -4,7 +4,7 @@ use Rattle.std.specs.FinMap.{empty, entries}
 use Rattle.rv_ledger.specs.Key.{Storage}
 use Rattle.rv_ledger.specs.Rules.{longest_value}
 use Rattle.rv_ledger.specs.declared.rules.Rules.{Rules}
-use Rattle.rv_ledger.specs.declared.rules.Rules.TheVariants.{One, Two}
+use Rattle.rv_ledger.specs.declared.rules.Rules.TheVariants.{One, Two, Three}
 use Rattle.receipts.specs.Ranges.{AreBytes}
 use Rattle.receipts.specs.Text.{store_line}
 use Rattle.block_file.specs.Block.{BlockValue, CallValue, block_of}
@@ -32,6 +32,7 @@ block_with rules store = record { rules = rules; programs = []; store = store; c
 abbrev pub beginnings : Rules → List (List ℕ)
 beginnings One = codes "rvblock 1\n" ∷ codes "rvblock 2\ngas 1\n" ∷ []
 beginnings Two = codes "rvblock 2\ngas 2\n" ∷ []
+beginnings Three = codes "rvblock 2\ngas 3\n" ∷ []
 
 -- behind each such beginning of a block file, the `store` lines are read as that storage
 abbrev pub IsReadBack : Rules → Storage → Type 0

@@ -19,8 +19,8 @@ pub fn storage_is_read_back()
     ensures between { (rules : Rules) (store : Storage) → All (IsEntry rules) (entries store) → IsReadInBlocks rules store }
 {}
 
-/// The same law for a storage that a program holds: rules two allow each such storage, and rules one
-/// those whose values have at most 64 bytes. It walks over the storage and changes nothing.
+/// The same law for a storage that a program holds: rules two and three allow each such storage, and
+/// rules one those whose values have at most 64 bytes. It walks over the storage and changes nothing.
 pub fn storage_is_read_back_of(store: &Store)
     ensures short { AreShort Two store.now }
     ensures alone { (rules : Rules) → AreShort rules store.now → IsReadBack rules store.now }

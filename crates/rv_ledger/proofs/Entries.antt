@@ -11,6 +11,7 @@ use Rattle.std.specs.FinMap.Entries.{below_all}
 use Rattle.std.specs.Map.{lookup, keys_of}
 use Rattle.std.proofs.lemmas.Bool.Decides.{nat_tests}
 use Rattle.std.specs.BTreeMap.{is_at}
+use Rattle.rv_ledger.specs.Change.{ContentChange}
 use Rattle.rv_ledger.specs.Key.{key_cmp, has_room, WriteMap}
 
 -- keys that compare alike are one
@@ -63,7 +64,7 @@ len_in_order : {X : Type 0} (es : List (List ℕ × X)) → IsStrictlySortedBy k
 len_in_order es h = len-entries (from_entries es) ∙ ap length (entries_in_order es h)
 
 -- room for one more write, read off the entries
-pub has_room_entries : (es : List (List ℕ × Option (List ℕ))) (q : List ℕ) → IsStrictlySortedBy key_cmp (keys_of es) → has_room (from_entries es) q ≡ (is_some (lookup (is_at (key_cmp q)) es) || nat_lt (length es) 256)
+pub has_room_entries : (es : List (List ℕ × ContentChange)) (q : List ℕ) → IsStrictlySortedBy key_cmp (keys_of es) → has_room (from_entries es) q ≡ (is_some (lookup (is_at (key_cmp q)) es) || nat_lt (length es) 256)
 has_room_entries es q h = ap (λ o. is_some o || nat_lt (len (from_entries {R = key_cmp} es)) 256) (get_value es q) ∙ ap (λ n. is_some (lookup (is_at (key_cmp q)) es) || nat_lt n 256) (len_in_order es h)
 
 grows_within : (b : Bool) (n : ℕ) → (b || nat_lt n 256) ≡ true → n ≤ 256 → n + (if b then 0 else 1) ≤ 256
@@ -71,11 +72,11 @@ grows_within true n h k = omega arith
 grows_within false n h k = grind (arith, nat_tests)
 
 -- a write that has room keeps the limit
-pub insert_fits : (es : List (List ℕ × Option (List ℕ))) (q : List ℕ) (m : WriteMap) (o : Option (Option (List ℕ))) (n : ℕ) → IsStrictlySortedBy key_cmp (keys_of es) → from_entries es ≡ m → has_room m q ≡ true → length es ≤ 256 → o ≡ lookup (is_at (key_cmp q)) es → n ≡ length es + (if (is_some o) then 0 else 1) → n ≤ 256
+pub insert_fits : (es : List (List ℕ × ContentChange)) (q : List ℕ) (m : WriteMap) (o : Option ContentChange) (n : ℕ) → IsStrictlySortedBy key_cmp (keys_of es) → from_entries es ≡ m → has_room m q ≡ true → length es ≤ 256 → o ≡ lookup (is_at (key_cmp q)) es → n ≡ length es + (if (is_some o) then 0 else 1) → n ≤ 256
 insert_fits es q m o n h is room short found grown =
     let old_room : (is_some (lookup (is_at (key_cmp q)) es) || nat_lt (length es) 256) ≡ true = sym (ap (λ (w : WriteMap). has_room w q) (sym is) ∙ has_room_entries es q h) ∙ room in
     let fits : length es + (if (is_some (lookup (is_at (key_cmp q)) es)) then 0 else 1) ≤ 256 = grows_within _ _ old_room short in
-    subst (λ (k : ℕ). k ≤ 256) (sym (grown ∙ ap (λ (x : Option (Option (List ℕ))). length es + (if (is_some x) then 0 else 1)) found)) fits
+    subst (λ (k : ℕ). k ≤ 256) (sym (grown ∙ ap (λ (x : Option ContentChange). length es + (if (is_some x) then 0 else 1)) found)) fits
 
 -- the answer of `||` where its first part holds, and where it doesn't
 pub or_first : (a b r : Bool) → r ≡ a → r ≡ true → r ≡ (a || b)

@@ -1,3 +1,4 @@
+pub mod Change
 pub mod Key
 pub mod Rules
 pub mod Call

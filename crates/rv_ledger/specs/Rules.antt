@@ -7,3 +7,4 @@ use Rattle.rv_ledger.specs.declared.rules.Rules.TheVariants as rules
 abbrev pub longest_value : Rules → ℕ
 longest_value rules.One = 64
 longest_value rules.Two = 256
+longest_value rules.Three = 256

@@ -3,6 +3,7 @@
 #![tactic(auto)]
 
 pub mod call;
+pub mod change;
 pub mod end;
 pub mod inline_bytes;
 pub mod job;
@@ -16,6 +17,7 @@ pub mod stored_value;
 pub mod writes;
 
 pub use call::{Call, CallFault};
+pub use change::{Change, add, wrapping_sum};
 pub use end::{End, Trap};
 pub use inline_bytes::{InlineBytes, OUTPUT_LIMIT, Output, VALUE_LIMIT, Value};
 pub use job::{Block, Job, JobFault};

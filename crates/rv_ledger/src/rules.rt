@@ -8,13 +8,15 @@ use crate::inline_bytes::VALUE_LIMIT;
 /// The greatest length of a value under rules one, in bytes.
 pub const SHORT_VALUE_LIMIT: usize = 64;
 
-/// The rules of a call: how long its values may be, and what its reads cost.
+/// The rules of a call: how long its values may be, what its reads cost, and whether it may add.
 #[derive(Clone, Copy, Debug, PartialEq, Eq)]
 pub enum Rules {
     /// Values of at most 64 bytes; a read costs the same whatever it answers.
     One = 1,
     /// Values of at most 256 bytes; a read costs one more for each byte that it copies.
     Two = 2,
+    /// Like rules two; and a call may add to a key without reading it.
+    Three = 3,
 }
 
 impl Rules {
@@ -25,7 +27,7 @@ impl Rules {
     {
         match self {
             Rules::One => SHORT_VALUE_LIMIT,
-            Rules::Two => VALUE_LIMIT,
+            Rules::Two | Rules::Three => VALUE_LIMIT,
         }
     }
 }

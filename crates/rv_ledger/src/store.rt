@@ -1,5 +1,6 @@
 //! The storage of a block.
 
+use crate::change::add;
 use crate::inline_bytes::Value;
 use crate::key::Key;
 use crate::stored_value::StoredValue;
@@ -31,6 +32,7 @@ impl Store {
     ghost use Rattle.std.specs.Prelude.{◌≡◌, OnOk, OnErr, IfOk};
     ghost use Rattle.std.specs.Option.{option_copied};
     ghost use Rattle.std.specs.FinMap as map;
+    ghost use Rattle.rv_ledger.specs.Change.{add};
 
     /// An empty storage.
     pub fn new(alloc: Global) -> Store
@@ -64,6 +66,16 @@ impl Store {
         ensures err { OnErr result (self.new ≡ self.old) }
     {
         self.put(key, value.clone()?)
+    }
+
+    /// Adds an amount to the number at a key, modulo 2^64; the key then has a value of eight bytes. Refused
+    /// where memory ran out, and then nothing changes.
+    pub fn add(&mut self, key: &Key, amount: u64) -> Result<(), AllocError>
+        ensures ok { OnOk result (self.new ≡ map.insert self.old key.now (add (map.get self.old key.now) amount)) }
+        ensures err { OnErr result (self.new ≡ self.old) }
+    {
+        let value = add(StoredValue::bytes_of(self.get(key)), amount);
+        self.insert(*key, value)
     }
 
     /// Sets the value at a key; refused where memory ran out, and then nothing changes.

@@ -1,6 +1,6 @@
 //! Values as the maps keep them.
 
-ghost use Rattle.std.specs.Prelude.{◌≡◌, ◌≤◌, IfOk, length};
+ghost use Rattle.std.specs.Prelude.{◌≡◌, ◌≤◌, IfOk, IfSome, length};
 ghost use Rattle.std.specs.Option.{option_copied};
 
 use crate::inline_bytes::Value;
@@ -37,25 +37,23 @@ impl StoredValue {
         Ok(StoredValue { kept })
     }
 
-    /// Keeps a value, or None for absence; refused where memory ran out.
-    pub fn of_content(
-        alloc: Global,
-        content: Option<&Value>,
-    ) -> Result<Option<StoredValue>, AllocError>
-        ensures { IfOk result (λ kept. kept ≡ option_copied content.entry) }
-    {
-        match content {
-            Some(value) => Ok(Some(StoredValue::of(alloc, value)?)),
-            None => Ok(None),
-        }
-    }
-
     /// The bytes, at most 256.
     pub fn bytes(&self) -> &[u8]
         ensures value { result.now ≡ self.now }
         ensures short { length result.now ≤ 256 }
     {
         self.kept.as_slice()
+    }
+
+    /// The bytes, at most 256, or None for None.
+    pub fn bytes_of(stored: Option<&StoredValue>) -> Option<&[u8]>
+        ensures value { option_copied result ≡ option_copied stored.entry }
+        ensures short { IfSome result (λ bytes. length bytes.now ≤ 256) }
+    {
+        match stored {
+            Some(stored) => Some(stored.bytes()),
+            None => None,
+        }
     }
 
     /// The same value with an array of its own. Takes no memory.

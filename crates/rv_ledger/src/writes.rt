@@ -1,5 +1,9 @@
 //! What a call has written: the last write to each key, for at most 256 keys.
 
+ghost use Rattle.std.specs.Prelude.{◌≡◌, IfOk};
+ghost use Rattle.rv_ledger.specs.Change.{change_copied};
+
+use crate::change::Change;
 use crate::inline_bytes::Value;
 use crate::key::Key;
 use crate::stored_value::StoredValue;
@@ -11,32 +15,33 @@ use std::marker::Model;
 /// The greatest number of keys that one call may write.
 pub const WRITE_LIMIT: usize = 256;
 
-/// A write to one key: its new value, or None where the key is removed.
+/// A write to one key: its new value, its removal, or an amount that is added.
 #[derive(Debug, Drop)]
 pub struct Write {
     /// The key.
     pub key: Key,
-    /// Its new value, or None where it is removed.
-    pub value: Option<Value>,
+    /// What is done to it.
+    pub change: Change<Value>,
 }
 
 /// The writes of one call, the last to each key, for at most 256 keys.
 #[derive(Drop)]
 pub struct Writes {
     alloc: Global,
-    entries: BTreeMap<Key, Option<StoredValue>>,
+    entries: BTreeMap<Key, Change<StoredValue>>,
 }
 
 impl Model for Writes {
     ghost use Rattle.std.specs.Prelude.{◌≤◌};
     ghost use Rattle.std.specs.FinMap as map;
     ghost use Rattle.std.specs.BTreeMap.{btree_map_len};
-    ghost use Rattle.std.specs.Coded.{coded_list, coded_option, coded_ℕ};
+    ghost use Rattle.std.specs.Coded.{coded_list, coded_ℕ};
+    ghost use Rattle.rv_ledger.specs.Change.{coded_change};
     ghost use Rattle.rv_ledger.specs.Key.{WriteMap};
 
     ghost Value = { WriteMap };
 
-    ghost coded = { map.code (coded_list coded_ℕ) (coded_option (coded_list coded_ℕ)) };
+    ghost coded = { map.code (coded_list coded_ℕ) coded_change };
 
     ghost view = { λ w. map.from_entries w.entries.entries };
 
@@ -47,6 +52,7 @@ impl Writes {
     ghost use Rattle.std.specs.Prelude.{◌≡◌, ◌≤◌, IsTrue, OnOk, OnErr, IfOk};
     ghost use Rattle.std.specs.Option.{option_copied};
     ghost use Rattle.std.specs.FinMap as map;
+    ghost use Rattle.rv_ledger.specs.Change.{change_copied};
     ghost use Rattle.rv_ledger.specs.Key.{has_room};
 
     /// No writes.
@@ -59,8 +65,8 @@ impl Writes {
         }
     }
 
-    /// What was last written to a key, or None where it was not written.
-    pub fn get(&self, key: &Key) -> Option<&Option<StoredValue>>
+    /// What was last done to a key, or None where it was not written.
+    pub fn get(&self, key: &Key) -> Option<&Change<StoredValue>>
         ensures { option_copied result ≡ map.get self.now key.now }
     {
         self.entries.get(key)
@@ -78,20 +84,20 @@ impl Writes {
     /// Refused where memory ran out, and then nothing changes.
     pub fn insert(&mut self, write: Write) -> Result<(), AllocError>
         requires { IsTrue (has_room self.old write.key) }
-        ensures ok { OnOk result (self.new ≡ map.insert self.old write.key write.value) }
+        ensures ok { OnOk result (self.new ≡ map.insert self.old write.key write.change) }
         ensures err { OnErr result (self.new ≡ self.old) }
     {
-        self.set(write.key, write.value.as_ref())
+        self.set(write.key, write.change.as_ref())
     }
 
-    /// Records a write like `insert`: the new value of a key, or None where it is removed.
-    pub fn set(&mut self, key: Key, value: Option<&Value>) -> Result<(), AllocError>
+    /// Records a write like `insert`, whose value is lent.
+    pub fn set(&mut self, key: Key, change: Change<&Value>) -> Result<(), AllocError>
         requires { IsTrue (has_room self.old key) }
-        ensures ok { OnOk result (self.new ≡ map.insert self.old key (option_copied value.entry)) }
+        ensures ok { OnOk result (self.new ≡ map.insert self.old key (change_copied change.entry)) }
         ensures err { OnErr result (self.new ≡ self.old) }
     {
-        let value = StoredValue::of_content(self.alloc, value)?;
-        self.entries.insert(key, value)?;
+        let change = stored(self.alloc, change)?;
+        self.entries.insert(key, change)?;
         Ok(())
     }
 
@@ -102,8 +108,8 @@ impl Writes {
         self.entries.clear();
     }
 
-    /// The written keys, ascending, each with what was last written to it.
-    pub fn iter(&self) -> Iter<'_, Key, Option<StoredValue>>
+    /// The written keys, ascending, each with what was last done to it.
+    pub fn iter(&self) -> Iter<'_, Key, Change<StoredValue>>
         ensures { result ≡ map.entries self.now }
     {
         self.entries.iter()
@@ -118,5 +124,16 @@ impl Writes {
             alloc: self.alloc,
             entries,
         })
+    }
+}
+
+/// Keeps the value of a change; refused where memory ran out.
+fn stored(alloc: Global, change: Change<&Value>) -> Result<Change<StoredValue>, AllocError>
+    ensures { IfOk result (λ kept. kept ≡ change_copied change.entry) }
+{
+    match change {
+        Change::Value(value) => Ok(Change::Value(StoredValue::of(alloc, value)?)),
+        Change::Gone => Ok(Change::Gone),
+        Change::Sum(amount) => Ok(Change::Sum(amount)),
     }
 }

@@ -9,7 +9,7 @@ use Rattle.rv_ledger.specs.declared.receipt.Receipt.{Receipt}
 use Rattle.rv_step.specs.declared.machine.Machine.{Machine}
 use Rattle.rv_step.specs.declared.answer.StorageAnswer.{StorageAnswer}
 use Rattle.rv_step.specs.declared.stage.Stage.TheVariants.{Asked, Ended}
-use Rattle.rv_step.specs.Step.{StepResult, Next, Asks, Ends, step, answered}
+use Rattle.rv_step.specs.Step.{StepResult, Next, Asks, Ends, step, answered, delivered}
 use Rattle.rv_step.specs.Chain.{Reply, after_ask, after_step, closed, followed, receipt_of, replayed}
 use Rattle.rv_step.specs.Asked.{asked_after, asked_by, asked_in, asked_on}
 use Rattle.rv_step.specs.Run.{IsSoFar}
@@ -36,16 +36,16 @@ step_asks f g limit (Ends end out t) replies rest r same e = closed_asks replies
 next_asks : (f : Machine → List Reply → Option Receipt) (limit : ℕ) (s : Machine) (key : List ℕ) (rest : List Reply) (r : Receipt) → after_ask f limit s key rest ≡ Some r → Some key ≡ next_key rest
 next_asks f limit s key [] r e = absurd (none_some r e)
 next_asks f limit s key (reply ∷ rest) r e =
-    let found = right_key (bytes_eq reply.0 key) (after_step f limit (answered s reply.1) rest) r e in
+    let found = right_key (bytes_eq reply.0 key) (after_step f limit (answered s (delivered s key reply.1)) rest) r e in
     ap Some (sym ((bytes_eq-Decides reply.0 key).0 found.0))
 
 outcome_asks : (f : Machine → List Reply → Option Receipt) (g : Machine → List Reply → Option (List ℕ)) (limit : ℕ) (s : Machine) (o : StepResult) (replies rest : List Reply) (r : Receipt) → ((t : Machine) (l : List Reply) → f t (l ++ rest) ≡ Some r → g t l ≡ next_key rest) → followed f limit s o (replies ++ rest) ≡ Some r → asked_on g s o replies ≡ next_key rest
 outcome_asks f g limit s (Next t) replies rest r same e = same t replies e
 outcome_asks f g limit s (Asks key) [] rest r same e = next_asks f limit s key rest r e
 outcome_asks f g limit s (Asks key) (reply ∷ replies) rest r same e =
-    let found = right_key (bytes_eq reply.0 key) (after_step f limit (answered s reply.1) (replies ++ rest)) r e in
-    ap (λ (b : Bool). if b then asked_after g (answered s reply.1) replies else None) found.0
-    ∙ step_asks f g limit (answered s reply.1) replies rest r same found.1
+    let found = right_key (bytes_eq reply.0 key) (after_step f limit (answered s (delivered s key reply.1)) (replies ++ rest)) r e in
+    ap (λ (b : Bool). if b then asked_after g (answered s (delivered s key reply.1)) replies else None) found.0
+    ∙ step_asks f g limit (answered s (delivered s key reply.1)) replies rest r same found.1
 outcome_asks f g limit s (Ends end out t) replies rest r same e = closed_asks replies rest (receipt_of limit end out t) r e
 
 -- where some replies and others after them bear a receipt out, the chain asks for the key of the first of the others

@@ -1,7 +1,7 @@
 -- A run stays a beginning of its call's chain.
 use Rattle.std.proofs.Common.{◌≡◌, ℕ, ◌+◌, ◌*◌, ◌<◌, ◌≤◌, true, List, [], ◌∷◌, ◌++◌, Option, Some, Ok, refl, sym, ap, subst, ◌∙◌, arith, append_assoc, append-nil}
 use Rattle.std.proofs.lemmas.List.{map-append}
-use Rattle.read_set.specs.declared.Origin.{Origin}
+use Rattle.read_set.specs.Origin.{Origin}
 use Rattle.rv_ledger.specs.Call.{Invocation}
 use Rattle.rv_ledger.specs.declared.end.End.{End}
 use Rattle.rv_step.specs.declared.machine.Machine.{Machine}
@@ -9,7 +9,7 @@ use Rattle.rv_step.specs.declared.answer.StorageAnswer.{StorageAnswer}
 use Rattle.rv_step.specs.declared.stage.Stage.{Stage}
 use Rattle.rv_step.specs.declared.stage.Stage.TheVariants.{Running, Asked, Ended}
 use Rattle.ecalls.specs.StorageCalls.{ecall_charge}
-use Rattle.rv_step.specs.Step.{Next, Asks, Ends, step, answered, ecall_result}
+use Rattle.rv_step.specs.Step.{Next, Asks, Ends, step, answered, delivered, ecall_result}
 use Rattle.rv_step.specs.declared.outcome.InstructionOutcome.TheVariants as outcome
 use Rattle.rv_step.specs.Growth.{instruction_at}
 use Rattle.rv_step.specs.Meets.{MeetsInstruction, MeetsResult}
@@ -74,9 +74,9 @@ one_more answers a rest = ap (λ (x : List Reply). x ++ rest) (map-append reply_
 
 module _ (call : Invocation) (s : Machine) (answers : List StorageAnswer) (key : List ℕ) (content : Option (List ℕ)) (origin : Origin) (so_far : IsSoFar (record { call = call; machine = s; answers = answers; stage = Asked key })) where
   -- an answer with which the call goes on
-  pub answers_on : (t : Machine) → answered s content ≡ Next t → IsSoFar (record { call = call; machine = t; answers = answers ++ record { key = key; value = content; origin = origin } ∷ []; stage = Running })
+  pub answers_on : (t : Machine) → answered s (delivered s key content) ≡ Next t → IsSoFar (record { call = call; machine = t; answers = answers ++ record { key = key; value = content; origin = origin } ∷ []; stage = Running })
   answers_on t e =
-      let less : t.gas < s.gas = less_gas s.gas (answered s content) t (answered_falls s content) e in
+      let less : t.gas < s.gas = less_gas s.gas (answered s (delivered s key content)) t (answered_falls s (delivered s key content)) e in
       let gas : s.gas ≤ call.gas = so_far.stands.0 in
       record {
         stands = omega arith;
@@ -84,9 +84,9 @@ module _ (call : Invocation) (s : Machine) (answers : List StorageAnswer) (key :
       }
 
   -- an answer that ends the call
-  pub answers_to_end : (end : End) (out : List ℕ) (t : Machine) → answered s content ≡ Ends end out t → IsSoFar (record { call = call; machine = t; answers = answers ++ record { key = key; value = content; origin = origin } ∷ []; stage = Ended end out })
+  pub answers_to_end : (end : End) (out : List ℕ) (t : Machine) → answered s (delivered s key content) ≡ Ends end out t → IsSoFar (record { call = call; machine = t; answers = answers ++ record { key = key; value = content; origin = origin } ∷ []; stage = Ended end out })
   answers_to_end end out t e =
-      let less : t.gas ≤ s.gas = end_gas s.gas (answered s content) end out t (answered_falls s content) e in
+      let less : t.gas ≤ s.gas = end_gas s.gas (answered s (delivered s key content)) end out t (answered_falls s (delivered s key content)) e in
       let gas : s.gas ≤ call.gas = so_far.stands.0 in
       record {
         stands = omega arith;
@@ -98,9 +98,9 @@ pub is_borne : (call : Invocation) (s : Machine) (answers : List StorageAnswer) 
 is_borne call s answers end out so_far = ap (borne_out call) (sym (append-nil (replies_of answers))) ∙ so_far.chain []
 
 -- whatever an answer comes to
-pub answer_keeps : (call : Invocation) (s t : Machine) (answers : List StorageAnswer) (key : List ℕ) (content : Option (List ℕ)) (origin : Origin) (came : Stage) → IsSoFar (record { call = call; machine = s; answers = answers; stage = Asked key }) → MeetsResult (Ok came) (answered s content) s t → IsSoFar (record { call = call; machine = t; answers = answers ++ record { key = key; value = content; origin = origin } ∷ []; stage = came })
+pub answer_keeps : (call : Invocation) (s t : Machine) (answers : List StorageAnswer) (key : List ℕ) (content : Option (List ℕ)) (origin : Origin) (came : Stage) → IsSoFar (record { call = call; machine = s; answers = answers; stage = Asked key }) → MeetsResult (Ok came) (answered s (delivered s key content)) s t → IsSoFar (record { call = call; machine = t; answers = answers ++ record { key = key; value = content; origin = origin } ∷ []; stage = came })
 answer_keeps call s t answers key content origin Running so_far did = answers_on call s answers key content origin so_far t did
-answer_keeps call s t answers key content origin (Asked other) so_far did = absurd (not_asked s content other did.0)
+answer_keeps call s t answers key content origin (Asked other) so_far did = absurd (not_asked s (delivered s key content) other did.0)
 answer_keeps call s t answers key content origin (Ended end out) so_far did = answers_to_end call s answers key content origin so_far end out t did
 
 -- a step that goes on leaves fewer steps to come
@@ -135,5 +135,5 @@ step_leaves_fewer s t (Asked key) came running did = cc
 step_leaves_fewer s t (Ended end out) came running did = cc
 
 -- so does an answer
-pub answer_leaves_fewer : (s t : Machine) (stage : Stage) (key : List ℕ) (content : Option (List ℕ)) (came : Stage) → stage ≡ Asked key → MeetsResult (Ok came) (answered s content) s t → left_for t.gas came < left_for s.gas stage
-answer_leaves_fewer s t stage key content came asked did = rw (ap (left_for s.gas) asked) (came_falls s t content came did)
+pub answer_leaves_fewer : (s t : Machine) (stage : Stage) (key : List ℕ) (content : Option (List ℕ)) (came : Stage) → stage ≡ Asked key → MeetsResult (Ok came) (answered s (delivered s key content)) s t → left_for t.gas came < left_for s.gas stage
+answer_leaves_fewer s t stage key content came asked did = rw (ap (left_for s.gas) asked) (came_falls s t (delivered s key content) came did)

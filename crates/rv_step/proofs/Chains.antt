@@ -5,7 +5,7 @@ use Rattle.std.proofs.lemmas.Slice.Eq.{bytes_eq-Decides}
 use Rattle.rv_ledger.specs.declared.end.End.{End}
 use Rattle.rv_ledger.specs.declared.receipt.Receipt.{Receipt}
 use Rattle.rv_step.specs.declared.machine.Machine.{Machine}
-use Rattle.rv_step.specs.Step.{StepResult, Next, Asks, Ends, step, answered}
+use Rattle.rv_step.specs.Step.{StepResult, Next, Asks, Ends, step, answered, delivered}
 use Rattle.rv_step.specs.Chain.{Reply, after_ask, after_step, closed, followed, receipt_of, replayed}
 use Rattle.rv_step.proofs.Falls.{IsFalling, step_falls, answered_falls, less_gas}
 
@@ -22,7 +22,7 @@ after_ask_same : (f g : Machine → List Reply → Option Receipt) (limit : ℕ)
 after_ask_same f g limit s key [] same = refl
 after_ask_same f g limit s key (reply ∷ replies) same =
     ap (λ (o : Option Receipt). if (bytes_eq reply.0 key) then o else None)
-    (after_step_same f g limit s.gas (answered s reply.1) replies (answered_falls s reply.1) same)
+    (after_step_same f g limit s.gas (answered s (delivered s key reply.1)) replies (answered_falls s (delivered s key reply.1)) same)
 
 followed_same : (f g : Machine → List Reply → Option Receipt) (limit : ℕ) (s : Machine) (o : StepResult) (replies : List Reply) → IsFalling s.gas o → ((t : Machine) (r : List Reply) → t.gas < s.gas → f t r ≡ g t r) → followed f limit s o replies ≡ followed g limit s o replies
 followed_same f g limit s (Next t) replies h same = after_step_same f g limit s.gas (Next t) replies h same
@@ -60,20 +60,20 @@ same_key : (key : List ℕ) → bytes_eq key key ≡ true
 same_key key = (bytes_eq-Decides key key).1 refl
 
 -- after an asking the next answer is taken
-ask_comes : (limit : ℕ) (s : Machine) (key : List ℕ) (content : Option (List ℕ)) (replies : List Reply) → step s ≡ Asks key → comes limit s ((key, content) ∷ replies) ≡ after_step (λ t r. replayed limit s.gas t r) limit (answered s content) replies
+ask_comes : (limit : ℕ) (s : Machine) (key : List ℕ) (content : Option (List ℕ)) (replies : List Reply) → step s ≡ Asks key → comes limit s ((key, content) ∷ replies) ≡ after_step (λ t r. replayed limit s.gas t r) limit (answered s (delivered s key content)) replies
 ask_comes limit s key content replies e =
     first_step limit s (Asks key) ((key, content) ∷ replies) e
-    ∙ ap (λ (b : Bool). if b then after_step (λ t r. replayed limit s.gas t r) limit (answered s content) replies else None) (same_key key)
+    ∙ ap (λ (b : Bool). if b then after_step (λ t r. replayed limit s.gas t r) limit (answered s (delivered s key content)) replies else None) (same_key key)
 
 -- and the chain is that of the machine after it
-pub answer_next_comes : (limit : ℕ) (s t : Machine) (key : List ℕ) (content : Option (List ℕ)) (replies : List Reply) → step s ≡ Asks key → answered s content ≡ Next t → comes limit s ((key, content) ∷ replies) ≡ comes limit t replies
+pub answer_next_comes : (limit : ℕ) (s t : Machine) (key : List ℕ) (content : Option (List ℕ)) (replies : List Reply) → step s ≡ Asks key → answered s (delivered s key content) ≡ Next t → comes limit s ((key, content) ∷ replies) ≡ comes limit t replies
 answer_next_comes limit s t key content replies e a =
     ask_comes limit s key content replies e
     ∙ ap (λ (p : StepResult). after_step (λ t r. replayed limit s.gas t r) limit p replies) a
-    ∙ enough limit s.gas (suc t.gas) t replies (less_gas s.gas (answered s content) t (answered_falls s content) a) (omega arith)
+    ∙ enough limit s.gas (suc t.gas) t replies (less_gas s.gas (answered s (delivered s key content)) t (answered_falls s (delivered s key content)) a) (omega arith)
 
 -- or the receipt where the answer ends the call
-pub answer_end_comes : (limit : ℕ) (s t : Machine) (key : List ℕ) (content : Option (List ℕ)) (end : End) (out : List ℕ) (replies : List Reply) → step s ≡ Asks key → answered s content ≡ Ends end out t → comes limit s ((key, content) ∷ replies) ≡ closed replies (receipt_of limit end out t)
+pub answer_end_comes : (limit : ℕ) (s t : Machine) (key : List ℕ) (content : Option (List ℕ)) (end : End) (out : List ℕ) (replies : List Reply) → step s ≡ Asks key → answered s (delivered s key content) ≡ Ends end out t → comes limit s ((key, content) ∷ replies) ≡ closed replies (receipt_of limit end out t)
 answer_end_comes limit s t key content end out replies e a =
     ask_comes limit s key content replies e
     ∙ ap (λ (p : StepResult). after_step (λ t r. replayed limit s.gas t r) limit p replies) a

@@ -15,6 +15,8 @@ use Rattle.rv_alu.specs.Effects.{effect_of}
 use Rattle.rv_mem.specs.Space.{Space, loaded}
 use Rattle.rv_mem.specs.declared.access.Access.TheVariants as access
 use Rattle.rv_mem.specs.declared.fault.Fault.{Fault}
+use Rattle.rv_ledger.specs.Change.{ContentChange}
+use Rattle.rv_ledger.specs.declared.change.Change.TheVariants as change
 use Rattle.rv_ledger.specs.Key.{has_room}
 use Rattle.rv_ledger.specs.declared.end.End.{End}
 use Rattle.rv_ledger.specs.declared.end.End.TheVariants.{OutOfGas}
@@ -95,15 +97,17 @@ delivered_within s (Some value) =
     (next_instruction (record s { regs = written s.regs 10 0xffff_fffe })) (charged (late_charge s.rules (length value)) s (λ t. value_result t value))
     (unfold IsWithin in omega arith) (charged_within _ s (λ t. value_result t value) (λ t. leaves_within t _ _))
 
-read_own_within : (s : Machine) (key : List ℕ) (content : Option (Option (List ℕ))) → IsWithin s.gas (read_result s key content)
-read_own_within s key (Some content) = delivered_within s content
+read_own_within : (s : Machine) (key : List ℕ) (own : Option ContentChange) → IsWithin s.gas (read_result s key own)
+read_own_within s key (Some (change.Value value)) = delivered_within s (Some value)
+read_own_within s key (Some change.Gone) = delivered_within s None
+read_own_within s key (Some (change.Sum amount)) = unfold IsWithin in tt
 read_own_within s key None = unfold IsWithin in tt
 
 wrote_within : (s : Machine) (write : Write) → IsWithin s.gas (write_result s write)
 unfolding write_result
 wrote_within s write =
     either_within s.gas (has_room s.own write.key)
-    (next_instruction (record s { own = map.insert s.own write.key write.value })) (trapped trap.TooManyWrites s)
+    (next_instruction (record s { own = map.insert s.own write.key write.change })) (trapped trap.TooManyWrites s)
     (unfold IsWithin in omega arith) (unfold IsWithin in omega arith)
 
 served_within : (s : Machine) (r : Result Request Trap) → IsWithin s.gas (storage_call_result s r)
@@ -111,6 +115,7 @@ unfolding storage_call_result
 served_within s (Err cause) = unfold IsWithin in omega arith
 served_within s (Ok (request.Read key)) = read_own_within s key _
 served_within s (Ok (request.Write write)) = wrote_within s write
+served_within s (Ok (request.Add key amount)) = wrote_within s _
 served_within s (Ok (request.Return out)) = unfold IsWithin in omega arith
 served_within s (Ok (request.Revert out)) = unfold IsWithin in omega arith
 
@@ -171,6 +176,7 @@ call_costs call.Write registers = omega arith
 call_costs call.Remove registers = lit≤ tt
 call_costs call.Return registers = omega arith
 call_costs call.Revert registers = omega arith
+call_costs call.Add registers = lit≤ tt
 
 called_falls : (s : Machine) (r : Result StorageCall Trap) → IsFalling s.gas (ecall_result s (charge_asked s.regs r))
 called_falls s (Err cause) = unfold IsFalling in omega arith

@@ -7,7 +7,7 @@ use Rattle.rv_ledger.specs.Call.{Invocation}
 use Rattle.rv_ledger.specs.Key.{Storage}
 use Rattle.rv_ledger.specs.declared.receipt.Receipt.{Receipt}
 use Rattle.rv_step.specs.declared.machine.Machine.{Machine}
-use Rattle.rv_step.specs.Step.{StepResult, Next, Asks, Ends, step, answered}
+use Rattle.rv_step.specs.Step.{StepResult, Next, Asks, Ends, step, answered, delivered}
 use Rattle.rv_step.specs.Chain.{AreFrom, HasOneReceipt, Reply, after_ask, after_step, answered_by, closed, ends, followed, ran, receipt_of, replayed, settled, start}
 use Rattle.rv_step.proofs.Falls.{IsFalling, step_falls, answered_falls, less_gas, not_asked}
 
@@ -30,14 +30,14 @@ pub right_key : (b : Bool) (o : Option Receipt) (r : Receipt) → (if b then o e
 right_key true o r e = (refl, e)
 right_key false o r e = absurd (none_some r e)
 
-ask_agrees : (f : Machine → List Reply → Option Receipt) (g : Machine → Receipt) (limit : ℕ) (s : Machine) (store : Storage) (key : List ℕ) (replies : List Reply) (r : Receipt) → ((t : Machine) (rest : List Reply) → AreFrom store rest → f t rest ≡ Some r → r ≡ g t) → AreFrom store replies → after_ask f limit s key replies ≡ Some r → r ≡ settled g limit s (answered s (map.get store key))
+ask_agrees : (f : Machine → List Reply → Option Receipt) (g : Machine → Receipt) (limit : ℕ) (s : Machine) (store : Storage) (key : List ℕ) (replies : List Reply) (r : Receipt) → ((t : Machine) (rest : List Reply) → AreFrom store rest → f t rest ≡ Some r → r ≡ g t) → AreFrom store replies → after_ask f limit s key replies ≡ Some r → r ≡ settled g limit s (answered s (delivered s key (map.get store key)))
 ask_agrees f g limit s store key [] r same from e = absurd (none_some r e)
 ask_agrees f g limit s store key (reply ∷ replies) r same from e =
-    let found = right_key (bytes_eq reply.0 key) (after_step f limit (answered s reply.1) replies) r e in
+    let found = right_key (bytes_eq reply.0 key) (after_step f limit (answered s (delivered s key reply.1)) replies) r e in
     let is_key : reply.0 ≡ key = (bytes_eq-Decides reply.0 key).0 found.0 in
     let content : reply.1 ≡ map.get store key = from.0 ∙ ap (map.get store) is_key in
-    step_agrees f g limit s (answered s (map.get store key)) replies r (λ t h. same t replies from.1 h)
-    (ap (λ (c : Option (List ℕ)). after_step f limit (answered s c) replies) (sym content) ∙ found.1)
+    step_agrees f g limit s (answered s (delivered s key (map.get store key))) replies r (λ t h. same t replies from.1 h)
+    (ap (λ (c : Option (List ℕ)). after_step f limit (answered s (delivered s key c)) replies) (sym content) ∙ found.1)
 
 outcome_agrees : (f : Machine → List Reply → Option Receipt) (g : Machine → Receipt) (limit : ℕ) (s : Machine) (store : Storage) (o : StepResult) (replies : List Reply) (r : Receipt) → ((t : Machine) (rest : List Reply) → AreFrom store rest → f t rest ≡ Some r → r ≡ g t) → AreFrom store replies → followed f limit s o replies ≡ Some r → r ≡ settled g limit s (answered_by store s o)
 outcome_agrees f g limit s store (Next t) replies r same from e = same t replies from e
@@ -66,10 +66,10 @@ same_key key = (bytes_eq-Decides key key).1 refl
 outcome_reached : (f : Machine → List Reply → Option Receipt) (g : Machine → Receipt) (limit : ℕ) (s : Machine) (store : Storage) (o : StepResult) → IsFalling s.gas o → ((t : Machine) → t.gas < s.gas → IsReached f store t (g t)) → (replies : List Reply) × AreFrom store replies × (followed f limit s o replies ≡ Some (settled g limit s (answered_by store s o)))
 outcome_reached f g limit s store (Next t) h reach = reach t (less_gas s.gas (Next t) t h refl)
 outcome_reached f g limit s store (Asks key) h reach =
-    let rest = step_reached f g limit s.gas s store (answered s (map.get store key)) (answered_falls s (map.get store key)) (not_asked s (map.get store key)) reach in (
+    let rest = step_reached f g limit s.gas s store (answered s (delivered s key (map.get store key))) (answered_falls s (delivered s key (map.get store key))) (not_asked s (delivered s key (map.get store key))) reach in (
       (key, map.get store key) ∷ rest.0,
       (refl, rest.1),
-      ap (λ (b : Bool). if b then after_step f limit (answered s (map.get store key)) rest.0 else None) (same_key key) ∙ rest.2,
+      ap (λ (b : Bool). if b then after_step f limit (answered s (delivered s key (map.get store key))) rest.0 else None) (same_key key) ∙ rest.2,
     )
 outcome_reached f g limit s store (Ends end out t) h reach = ([], tt, refl)
 

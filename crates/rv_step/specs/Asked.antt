@@ -4,7 +4,7 @@ use Rattle.rv_ledger.specs.Call.{Invocation}
 use Rattle.rv_step.specs.declared.machine.Machine.{Machine}
 use Rattle.rv_step.specs.declared.run.Pause.{Pause}
 use Rattle.rv_step.specs.declared.run.Pause.TheVariants as pause
-use Rattle.rv_step.specs.Step.{StepResult, Next, Asks, Ends, step, answered}
+use Rattle.rv_step.specs.Step.{StepResult, Next, Asks, Ends, step, answered, delivered}
 use Rattle.rv_step.specs.Chain.{Reply, start}
 
 -- what follows a step that did not ask, `rest` being the chain from the next machine on
@@ -17,7 +17,7 @@ asked_after rest (Ends end out t) replies = None
 abbrev pub asked_on : (Machine → List Reply → Option (List ℕ)) → Machine → StepResult → List Reply → Option (List ℕ)
 asked_on rest s (Next t) replies = rest t replies
 asked_on rest s (Asks key) [] = Some key
-asked_on rest s (Asks key) (reply ∷ replies) = if bytes_eq reply.0 key then asked_after rest (answered s reply.1) replies else None
+asked_on rest s (Asks key) (reply ∷ replies) = if bytes_eq reply.0 key then asked_after rest (answered s (delivered s key reply.1)) replies else None
 asked_on rest s (Ends end out t) replies = None
 
 -- the key that a chain of at most `steps` steps asks for once it has used these replies in order; None where it ends, or

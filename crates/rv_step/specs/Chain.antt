@@ -10,7 +10,7 @@ use Rattle.rv_ledger.specs.declared.end.End.{End}
 use Rattle.rv_ledger.specs.declared.end.End.TheVariants.{Returned, OutOfGas}
 use Rattle.rv_ledger.specs.declared.receipt.Receipt.{Receipt}
 use Rattle.rv_step.specs.declared.machine.Machine.{Machine}
-use Rattle.rv_step.specs.Step.{StepResult, Next, Asks, Ends, step, answered}
+use Rattle.rv_step.specs.Step.{StepResult, Next, Asks, Ends, step, answered, delivered}
 
 -- at the start sp is the end of memory, a0 the input's address and a1 its length
 abbrev pub start_registers : ℕ → List ℕ
@@ -55,7 +55,7 @@ after_step rest limit (Ends end out t) replies = closed replies (receipt_of limi
 abbrev pub after_ask : (Machine → List Reply → Option Receipt) → ℕ → Machine → List ℕ → List Reply → Option Receipt
 after_ask rest limit s key [] = None
 after_ask rest limit s key (reply ∷ replies) =
-    if bytes_eq reply.0 key then after_step rest limit (answered s reply.1) replies else None
+    if bytes_eq reply.0 key then after_step rest limit (answered s (delivered s key reply.1)) replies else None
 
 abbrev pub followed : (Machine → List Reply → Option Receipt) → ℕ → Machine → StepResult → List Reply → Option Receipt
 followed rest limit s (Asks key) replies = after_ask rest limit s key replies
@@ -73,7 +73,7 @@ borne_out call replies = replayed call.gas (suc call.gas) (start call) replies
 
 -- a step, answered by a storage if it asks
 abbrev pub answered_by : Storage → Machine → StepResult → StepResult
-answered_by store s (Asks key) = answered s (map.get store key)
+answered_by store s (Asks key) = answered s (delivered s key (map.get store key))
 answered_by store s outcome = outcome
 
 -- what follows that step; the storage has answered it, so the case of `Asks` does not occur

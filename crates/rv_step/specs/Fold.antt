@@ -1,18 +1,21 @@
 -- The calls of a block in order, over one storage.
-use Rattle.std.specs.Prelude.{◌≡◌, ◌<◌, ℕ, List, [], ◌∷◌, fold, length, take, Option, Some, None}
+use Rattle.std.specs.Prelude.{◌≡◌, ◌<◌, ℕ, List, [], ◌∷◌, fold, length, take}
 use Rattle.std.specs.FinMap as map
+use Rattle.rv_ledger.specs.Change.{ContentChange, add}
 use Rattle.rv_ledger.specs.Key.{Storage, WriteMap}
+use Rattle.rv_ledger.specs.declared.change.Change.TheVariants as change
 use Rattle.rv_ledger.specs.Call.{Invocation}
 use Rattle.rv_ledger.specs.declared.receipt.Receipt.{Receipt}
 use Rattle.rv_step.specs.Chain.{ends}
 
--- a storage after one write: a removal removes the key
-abbrev pub apply_write : Storage → List ℕ → Option (List ℕ) → Storage
-apply_write store key (Some value) = map.insert store key value
-apply_write store key None = map.remove store key
+-- a storage after a change of one key: a removal removes the key, and a sum is added to the key's number
+abbrev pub apply_write : Storage → List ℕ → ContentChange → Storage
+apply_write store key (change.Value value) = map.insert store key value
+apply_write store key change.Gone = map.remove store key
+apply_write store key (change.Sum amount) = map.insert store key (add (map.get store key) amount)
 
 -- a storage after some writes, one after another
-abbrev pub apply_each : Storage → List (List ℕ × Option (List ℕ)) → Storage
+abbrev pub apply_each : Storage → List (List ℕ × ContentChange) → Storage
 apply_each store writes = fold (λ before write. apply_write before write.0 write.1) store writes
 
 -- a storage after the writes of a receipt, in the order of their keys

@@ -1,6 +1,6 @@
 -- A run of a call that is under way.
 use Rattle.std.specs.Prelude.{◌≡◌, ◌≤◌, ◌+◌, ◌*◌, ℕ, zero, suc, Bool, true, false, if◌then◌else◌, List, [], ◌∷◌, ◌++◌, Option, Some, None}
-use Rattle.read_set.specs.declared.Origin.{Origin}
+use Rattle.read_set.specs.Origin.{Origin}
 use Rattle.rv_ledger.specs.Call.{Invocation}
 use Rattle.rv_ledger.specs.declared.receipt.Receipt.{Receipt}
 use Rattle.rv_step.specs.declared.machine.Machine.{Machine}
@@ -10,7 +10,7 @@ use Rattle.rv_step.specs.declared.stage.Stage.TheVariants.{Running, Asked, Ended
 use Rattle.rv_step.specs.declared.run.Pause.{Pause}
 use Rattle.rv_step.specs.declared.run.Pause.TheVariants as pause
 use Rattle.rv_step.specs.Replies.{replies_of}
-use Rattle.rv_step.specs.Step.{StepResult, Next, Asks, Ends, step, answered}
+use Rattle.rv_step.specs.Step.{StepResult, Next, Asks, Ends, step, answered, delivered}
 use Rattle.rv_step.specs.Chain.{Reply, borne_out, replayed, closed, receipt_of, start}
 
 -- what callers see of a run: its call, where it stands, and the answers that it was given
@@ -59,7 +59,7 @@ asked_key _ = None
 -- a run that asked for a key, after its answer
 abbrev pub after_answer : List ℕ → Option (List ℕ) → Origin → RunView → RunView
 after_answer key content origin r =
-    after_result (answered r.machine content) (record r { answers = r.answers ++ record { key = key; value = content; origin = origin } ∷ [] })
+    after_result (answered r.machine (delivered r.machine key content)) (record r { answers = r.answers ++ record { key = key; value = content; origin = origin } ∷ [] })
 
 -- the receipt that these further answers lead to
 abbrev pub left_over : ℕ → Machine → Stage → List Reply → Option Receipt

@@ -16,7 +16,9 @@ use Rattle.rv_mem.specs.Space.{Space, loaded, stored, copied}
 use Rattle.rv_mem.specs.declared.access.Access.TheVariants as access
 use Rattle.rv_mem.specs.declared.fault.Fault.{Fault}
 use Rattle.rv_mem.specs.declared.fault.Fault.TheVariants as fault
+use Rattle.rv_ledger.specs.Change.{Content, ContentChange, add, wrapping_sum}
 use Rattle.rv_ledger.specs.Key.{has_room}
+use Rattle.rv_ledger.specs.declared.change.Change.TheVariants as change
 use Rattle.rv_ledger.specs.declared.end.End.{End}
 use Rattle.rv_ledger.specs.declared.end.End.TheVariants.{Returned, Reverted, OutOfGas, Trapped}
 use Rattle.rv_ledger.specs.declared.end.Trap.{Trap}
@@ -92,20 +94,40 @@ delivery_result s (Some value) =
     if nat_lt (a2 s.regs) (length value) then next_instruction (record s { regs = written s.regs 10 0xffff_fffe })
     else charged (late_charge s.rules (length value)) s (λ t. value_result t value)
 
--- a READ of a key that the call has written or removed is answered from its own writes
-abbrev pub read_result : Machine → List ℕ → Option (Option (List ℕ)) → StepResult
-read_result s key (Some content) = delivery_result s content
+-- a READ of a key that the call has written or removed is answered from its own writes; of a key that it has only added to
+-- the storage is asked
+abbrev pub read_result : Machine → List ℕ → Option ContentChange → StepResult
+read_result s key (Some (change.Value value)) = delivery_result s (Some value)
+read_result s key (Some change.Gone) = delivery_result s None
+read_result s key (Some (change.Sum amount)) = Asks key
 read_result s key None = Asks key
 
--- a write or a removal; TooManyWrites where the call has written 256 other keys
+-- what a READ that asked is delivered: the storage's answer, with the call's own sum added where it has added to the key
+abbrev pub with_own_sum : Option ContentChange → Content → Content
+with_own_sum (Some (change.Sum amount)) content = Some (add content amount)
+with_own_sum own content = content
+
+abbrev pub delivered : Machine → List ℕ → Content → Content
+delivered s key content = with_own_sum (map.get s.own key) content
+
+-- a call's own change of a key after it adds an amount: on an own value or removal there is a value of eight bytes; without
+-- one the key has a sum
+abbrev pub change_after_add : Option ContentChange → ℕ → ContentChange
+change_after_add None amount = change.Sum amount
+change_after_add (Some (change.Sum own)) amount = change.Sum (wrapping_sum own amount)
+change_after_add (Some (change.Value value)) amount = change.Value (add (Some value) amount)
+change_after_add (Some change.Gone) amount = change.Value (add None amount)
+
+-- a change of a key; TooManyWrites where the call has written 256 other keys
 unfoldable pub write_result : Machine → Write → StepResult
-write_result s write = if has_room s.own write.key then next_instruction (record s { own = map.insert s.own write.key write.value }) else trapped trap.TooManyWrites s
+write_result s write = if has_room s.own write.key then next_instruction (record s { own = map.insert s.own write.key write.change }) else trapped trap.TooManyWrites s
 
 -- what a storage call that was charged does
 unfoldable pub storage_call_result : Machine → Result Request Trap → StepResult
 storage_call_result s (Err cause) = trapped cause s
 storage_call_result s (Ok (request.Read key)) = read_result s key (map.get s.own key)
 storage_call_result s (Ok (request.Write write)) = write_result s write
+storage_call_result s (Ok (request.Add key amount)) = write_result s (record { key = key; change = change_after_add (map.get s.own key) amount })
 storage_call_result s (Ok (request.Return out)) = Ends Returned out s
 storage_call_result s (Ok (request.Revert out)) = Ends Reverted out s
 
@@ -129,7 +151,7 @@ fetch_result s (Err fault) = trapped (trap_of fault) s
 unfoldable pub step : Machine → StepResult
 step s = fetch_result s (loaded 4 access.Execute s.memory s.pc)
 
--- the step that asked the storage, with its answer: a value, or None for absence
+-- the step that asked the storage, with what it is delivered: a value, or None for absence
 unfoldable pub answered : Machine → Option (List ℕ) → StepResult
 answered s content = charged (charge_of call.Read s.regs) s (λ t. delivery_result t content)
 

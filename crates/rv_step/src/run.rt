@@ -176,7 +176,7 @@ impl Run {
             origin,
         })?;
         self.stage = Stage::Running;
-        match self.machine.answer(content, &mut self.stage) {
+        match self.machine.answer(&key, content, &mut self.stage) {
             Ok(()) => Ok(()),
             Err(refused) => {
                 let _ = self.answers.pop();

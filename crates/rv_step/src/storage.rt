@@ -3,20 +3,22 @@
 ghost use Rattle.std.specs.Prelude.{◌≡◌, OnErr, OnOk};
 ghost use Rattle.rv_step.specs.Fold.{ArePartlyApplied, apply_writes};
 
-use rv_ledger::{Store, Writes};
+use rv_ledger::{Change, Store, Writes};
 use std::alloc::AllocError;
 
-/// Applies the writes of a call to a storage in the order of their keys; a key that the call removed is removed.
-/// Refused where memory ran out for one of them, and then those before it are applied.
+/// Applies the writes of a call to a storage in the order of their keys: a key that the call removed is
+/// removed, and a sum is added to the key's number. Refused where memory ran out for one of them, and then
+/// those before it are applied.
 #[tactic(auto, unfolding(crate::specs::Fold::apply_writes))]
 pub fn apply_writes(store: &mut Store, writes: &Writes) -> Result<(), AllocError>
     ensures ok { OnOk result (store.new ≡ apply_writes store.old writes.now) }
     ensures err { OnErr result (ArePartlyApplied store.old writes.now store.new) }
 {
-    for (key, value) in writes.iter() {
-        match value {
-            Some(value) => store.insert_copy(*key, value)?,
-            None => store.remove(key),
+    for (key, change) in writes.iter() {
+        match change {
+            Change::Value(value) => store.insert_copy(*key, value)?,
+            Change::Gone => store.remove(key),
+            Change::Sum(amount) => store.add(key, *amount)?,
         }
     }
     Ok(())

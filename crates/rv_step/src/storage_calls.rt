@@ -9,16 +9,17 @@ ghost use Rattle.ecalls.specs.declared.storage_call.StorageCall.TheVariants as c
 ghost use Rattle.rv_isa.specs.Registers.{written};
 ghost use Rattle.rv_ledger.specs.declared.end.End.TheVariants.{OutOfGas, Returned, Reverted};
 ghost use Rattle.rv_step.specs.Meets.{MeetsStage, is_asked};
-ghost use Rattle.rv_step.specs.Step.{Next, answered, charged, delivery_result, ecall_result, next_instruction, read_result, storage_call_result, value_result, write_result};
+ghost use Rattle.rv_ledger.specs.Change.{change_copied};
+ghost use Rattle.rv_step.specs.Step.{Next, answered, change_after_add, charged, delivered, delivery_result, ecall_result, next_instruction, read_result, storage_call_result, value_result, write_result};
 ghost use Rattle.rv_step.specs.declared.stage.Stage.TheVariants.{Ended, Running};
 
 use crate::faults::refusal;
 use crate::machine::Machine;
 use crate::stage::{Stage, end_with, is_asked};
-use ecalls::{READ_CHARGE, StorageCall, Trap, asked, bytes_at, key_at, late_charge};
+use ecalls::{READ_CHARGE, StorageCall, Trap, added_amount, asked, bytes_at, key_at, late_charge};
 use gas::Meter;
 use rv_isa::Reg;
-use rv_ledger::{End, Key, StoredValue, Value};
+use rv_ledger::{Change, End, Key, StoredValue, Value, add, wrapping_sum};
 use std::alloc::AllocError;
 
 /// The number in a0 after a READ of an absent key.
@@ -60,15 +61,29 @@ impl Machine {
         }
     }
 
-    /// Gives the answer to the READ at which the machine stands: the value, or None for absence. Charges
-    /// the READ, and then the bytes that it copies; the call ends out of gas where less is left. Refused
-    /// where memory ran out, and then nothing changes.
-    #[tactic(auto, unfolding(crate::specs::Step::answered))]
+    /// Gives the storage's answer to the READ of a key at which the machine stands: the value, or None for
+    /// absence. Where the call has added to the key, its sum is added to the answer. Charges the READ, and
+    /// then the bytes that it copies; the call ends out of gas where less is left. Refused where memory ran
+    /// out, and then nothing changes.
     pub(crate) fn answer(
         &mut self,
+        key: &Key,
         content: Option<&Value>,
         stage: &mut Stage,
     ) -> Result<(), AllocError>
+        requires { stage.old ≡ Running }
+        ensures { MeetsStage result stage.new (answered self.old (delivered self.old key.now (option_copied content.entry))) self.old self.new }
+    {
+        let Some(Change::Sum(amount)) = self.own.get(key) else {
+            return self.answer_with(content, stage);
+        };
+        let sum = add(bytes_of(content), *amount);
+        self.answer_with(Some(&sum), stage)
+    }
+
+    /// Gives what the READ at which the machine stands is delivered. Charges and refuses as `answer` does.
+    #[tactic(auto, unfolding(crate::specs::Step::answered))]
+    fn answer_with(&mut self, content: Option<&Value>, stage: &mut Stage) -> Result<(), AllocError>
         requires { stage.old ≡ Running }
         ensures { MeetsStage result stage.new (answered self.old (option_copied content.entry)) self.old self.new }
     {
@@ -110,6 +125,7 @@ impl Machine {
             StorageCall::Remove => self.remove(stage),
             StorageCall::Return => self.return_output(stage),
             StorageCall::Revert => self.revert_output(stage),
+            StorageCall::Add => self.add(stage),
         }
     }
 
@@ -133,14 +149,16 @@ impl Machine {
         self.read_key(&key, stage)
     }
 
-    /// Reads a key: from the call's own writes, or else by asking the storage.
+    /// Reads a key: from the call's own writes, or else by asking the storage. A key that the call has only
+    /// added to is asked for.
     fn read_key(&mut self, key: &Key, stage: &mut Stage) -> Result<(), AllocError>
         requires { stage.old ≡ Running }
         ensures { MeetsStage result stage.new (read_result self.old key.now (map.get self.old.own key.now)) self.old self.new }
     {
         let content = match self.own.get(key) {
-            Some(content) => StoredValue::value_of(content.as_ref()),
-            None => {
+            Some(Change::Value(value)) => Some(value.value()),
+            Some(Change::Gone) => None,
+            Some(Change::Sum(_)) | None => {
                 *stage = Stage::Asked(*key);
                 return Ok(());
             }
@@ -164,11 +182,11 @@ impl Machine {
             self.regs.get(Reg::a1()),
             self.regs.get(Reg::a2()),
         );
-        if value.is_none() {
+        let Some(value) = &value else {
             end_with(stage, End::Trapped(Trap::MemoryFault));
             return Ok(());
-        }
-        self.put(key, value.as_ref(), stage)
+        };
+        self.put(key, Change::Value(value), stage)
     }
 
     /// Removes a key; traps MemoryFault unless it may be read.
@@ -181,20 +199,34 @@ impl Machine {
             end_with(stage, End::Trapped(Trap::MemoryFault));
             return Ok(());
         };
-        self.put(key, None, stage)
+        self.put(key, Change::Gone, stage)
     }
 
-    /// Writes or removes a key; traps TooManyWrites where the call has written 256 other keys.
-    #[tactic(auto, unfolding(crate::specs::Step::write_result))]
-    fn put(&mut self, key: Key, value: Option<&Value>, stage: &mut Stage) -> Result<(), AllocError>
+    /// Adds an amount to a key without reading it; traps MemoryFault unless the key may be read.
+    #[tactic(auto, unfolding(crate::specs::Step::storage_call_result))]
+    fn add(&mut self, stage: &mut Stage) -> Result<(), AllocError>
         requires { stage.old ≡ Running }
-        ensures { MeetsStage result stage.new (write_result self.old (record { key = key; value = option_copied value.entry })) self.old self.new }
+        ensures { MeetsStage result stage.new (storage_call_result self.old (request_by call.Add self.old.regs self.old.memory)) self.old self.new }
+    {
+        let Some(key) = key_at(&self.memory, self.regs.get(Reg::a0())) else {
+            end_with(stage, End::Trapped(Trap::MemoryFault));
+            return Ok(());
+        };
+        let change = change_after_add(self.own.get(&key), added_amount(&self.regs));
+        self.put(key, change.as_ref(), stage)
+    }
+
+    /// Changes a key; traps TooManyWrites where the call has written 256 other keys.
+    #[tactic(auto, unfolding(crate::specs::Step::write_result))]
+    fn put(&mut self, key: Key, change: Change<&Value>, stage: &mut Stage) -> Result<(), AllocError>
+        requires { stage.old ≡ Running }
+        ensures { MeetsStage result stage.new (write_result self.old (record { key = key; change = change_copied change.entry })) self.old self.new }
     {
         if !self.own.has_room(&key) {
             end_with(stage, End::Trapped(Trap::TooManyWrites));
             return Ok(());
         }
-        self.own.set(key, value)?;
+        self.own.set(key, change)?;
         self.advance_pc();
         Ok(())
     }
@@ -291,5 +323,28 @@ impl Machine {
     {
         self.regs.set(Reg::a0(), number);
         self.advance_pc();
+    }
+}
+
+/// A call's own change of a key after it adds an amount: on an own value or removal a value of eight bytes,
+/// and without one a sum.
+fn change_after_add(own: Option<&Change<StoredValue>>, amount: u64) -> Change<Value>
+    ensures { result ≡ change_after_add (option_copied own.entry) amount }
+{
+    match own {
+        None => Change::Sum(amount),
+        Some(Change::Sum(sum)) => Change::Sum(wrapping_sum(*sum, amount)),
+        Some(Change::Value(value)) => Change::Value(add(Some(value.bytes()), amount)),
+        Some(Change::Gone) => Change::Value(add(None, amount)),
+    }
+}
+
+/// The bytes of a value, or None for None.
+fn bytes_of(content: Option<&Value>) -> Option<&[u8]>
+    ensures { option_copied result ≡ option_copied content.entry }
+{
+    match content {
+        Some(value) => Some(value.bytes()),
+        None => None,
     }
 }

@@ -1,13 +1,13 @@
 -- The answers of a run that a storage has answered are that storage's.
-use Rattle.std.proofs.Common.{◌≡◌, ℕ, List, [], ◌∷◌, ◌++◌, Option, Some, None, IfSome, refl, sym, ap, subst, ◌∙◌}
+use Rattle.std.proofs.Common.{◌≡◌, ℕ, List, [], ◌∷◌, ◌++◌, Option, IfSome, refl, sym, ap, subst, ◌∙◌}
 use Rattle.std.proofs.lemmas.List.{map-append}
 use Rattle.std.specs.FinMap as map
-use Rattle.read_set.specs.declared.Origin.{Origin}
+use Rattle.read_set.specs.Origin.{Origin}
 use Rattle.rv_ledger.specs.Key.{Storage}
 use Rattle.rv_step.specs.declared.answer.StorageAnswer.{StorageAnswer}
 use Rattle.rv_step.specs.declared.stage.Stage.{Stage}
-use Rattle.rv_step.specs.declared.stage.Stage.TheVariants.{Running, Asked, Ended}
-use Rattle.rv_step.specs.Step.{StepResult, Next, Asks, Ends, answered}
+use Rattle.rv_step.specs.declared.stage.Stage.TheVariants.{Asked}
+use Rattle.rv_step.specs.Step.{StepResult, Next, Asks, Ends, answered, delivered}
 use Rattle.rv_step.specs.Chain.{AreFrom, Reply}
 use Rattle.rv_step.specs.Replies.{replies_of, reply_of}
 use Rattle.rv_step.specs.Run.{RunView, after_answer, asked_key, after_result}
@@ -40,11 +40,11 @@ module _ (store : Storage) (old new : RunView) (key : List ℕ) (content : Optio
 
   -- an answer keeps the call
   pub same_call : new.call ≡ old.call
-  same_call = ap (λ (r : RunView). r.call) after ∙ moved_call (answered old.machine content) (record old { answers = old.answers ++ record { key = key; value = content; origin = origin } ∷ [] })
+  same_call = ap (λ (r : RunView). r.call) after ∙ moved_call (answered old.machine (delivered old.machine key content)) (record old { answers = old.answers ++ record { key = key; value = content; origin = origin } ∷ [] })
 
   -- and the answers are still the storage's
   pub still_from : content ≡ map.get store key → AreFrom store (replies_of old.answers) → AreFrom store (replies_of new.answers)
   still_from e from =
       subst (λ (t : List StorageAnswer). AreFrom store (replies_of t))
-      (sym (ap (λ (r : RunView). r.answers) after ∙ moved_told (answered old.machine content) (record old { answers = old.answers ++ record { key = key; value = content; origin = origin } ∷ [] })))
+      (sym (ap (λ (r : RunView). r.answers) after ∙ moved_told (answered old.machine (delivered old.machine key content)) (record old { answers = old.answers ++ record { key = key; value = content; origin = origin } ∷ [] })))
       (all_told store old.answers (record { key = key; value = content; origin = origin }) from e)

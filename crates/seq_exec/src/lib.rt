@@ -52,7 +52,7 @@ fn run_one(alloc: Global, call: &Call, store: &Store) -> Result<Receipt, AllocEr
     let mut run = Run::start(alloc, call)?;
     while let Pause::Ask(key) = run.go()? {
         let content = StoredValue::value_of(store.get(&key));
-        run.answer(content.as_ref(), Origin::Base)?;
+        run.answer(content.as_ref(), Origin::base(alloc))?;
     }
     let EndedRun {
         call: _,

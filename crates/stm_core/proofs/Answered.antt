@@ -1,22 +1,23 @@
 -- A run that is given the answer to its read fits its task after the read.
 use Rattle.std.proofs.Common.{◌≡◌, ◌<◌, ℕ, Bool, true, List, [], ◌∷◌, ◌++◌, length, Option, None, Some, Ok, IfSome, refl, sym, ap, subst, ◌∙◌, slice_get}
 use Rattle.std.proofs.lemmas.List.{get_or-set_same}
-use Rattle.read_set.specs.declared.Origin.{Origin}
-use Rattle.read_set.specs.declared.Origin.TheVariants as origin
-use Rattle.mvmap.specs.Reading.{Visible, Base, Found, Blocked, reading}
+use Rattle.std.specs.FinMap as map
+use Rattle.read_set.specs.Origin.{Origin, base_origin}
+use Rattle.mvmap.specs.Reading.{Visible, blocker, origin_in, reading, value_seen}
 use Rattle.rv_ledger.specs.Call.{Invocation}
+use Rattle.rv_ledger.specs.Key.{Storage}
 use Rattle.rv_step.specs.declared.answer.StorageAnswer.{StorageAnswer}
 use Rattle.rv_step.specs.declared.stage.Stage.{Stage}
 use Rattle.rv_step.specs.declared.stage.Stage.TheVariants.{Asked}
-use Rattle.rv_step.specs.Step.{StepResult, Next, Asks, Ends, answered}
+use Rattle.rv_step.specs.Step.{StepResult, Next, Asks, Ends, answered, delivered}
 use Rattle.rv_step.specs.Run.{RunView, after_answer, after_result, asked_key}
 use Rattle.stm_state.specs.declared.state.Task.{Task}
 use Rattle.stm_state.specs.declared.state.Task.TheVariants.{Idle, Running, Moving, Validating, Marking}
 use Rattle.stm_state.specs.State.{State, task_at}
-use Rattle.stm_state.specs.Steps.{Block, Read_key, answered_with, counted, one_step, read_at, step_with, worker_step}
+use Rattle.stm_state.specs.Steps.{Block, Read_key, answered_by, answered_with, counted, one_step, read_at, step_with, worker_step}
 use Rattle.stm_state.proofs.Tests.{equal_itself}
 use Rattle.stm_state.proofs.Whole.{same_state}
-use Rattle.stm_core.specs.CoreState.{read_result_of, runs}
+use Rattle.stm_core.specs.CoreState.{read_result_by, read_result_of, runs}
 use Rattle.stm_core.specs.Driving.{IsRunOf}
 use Rattle.stm_core.specs.declared.next_step.ReadResult.{ReadResult}
 use Rattle.stm_core.specs.declared.next_step.ReadResult.TheVariants as read_result
@@ -36,9 +37,9 @@ abbrev value_in : ReadResult → Option (List ℕ)
 value_in (read_result.Given value from) = value
 value_in read_result.Blocked = None
 
-abbrev origin_in : ReadResult → Origin
-origin_in (read_result.Given value from) = from
-origin_in read_result.Blocked = origin.Base
+abbrev origin_of : ReadResult → Origin
+origin_of (read_result.Given value from) = from
+origin_of read_result.Blocked = base_origin
 
 no_answer : (value : Option (List ℕ)) (from : Origin) → read_result.Given value from ≡ read_result.Blocked → ⊥
 no_answer value from e = cc
@@ -54,21 +55,23 @@ module _ (block : Block) (calls : List Invocation) (w : ℕ) (key : List ℕ) (v
   after = subst (λ (s : Stage). IfSome (asked_key s) (λ k. new ≡ after_answer k value from old)) asked is
 
   same_call : new.call ≡ old.call
-  same_call = ap (λ (r : RunView). r.call) after ∙ kept_call (answered old.machine value) before
+  same_call = ap (λ (r : RunView). r.call) after ∙ kept_call (answered old.machine (delivered old.machine key value)) before
 
   one_more : new.answers ≡ old.answers ++ given ∷ []
-  one_more = ap (λ (r : RunView). r.answers) after ∙ kept_answers (answered old.machine value) before
+  one_more = ap (λ (r : RunView). r.answers) after ∙ kept_answers (answered old.machine (delivered old.machine key value)) before
 
-  more : (answers : List StorageAnswer) → old.answers ≡ answers → (result : ReadResult) → read_result.Given value from ≡ result → new.answers ≡ answers ++ record { key = key; value = value_in result; origin = origin_in result } ∷ []
+  more : (answers : List StorageAnswer) → old.answers ≡ answers → (result : ReadResult) → read_result.Given value from ≡ result → new.answers ≡ answers ++ record { key = key; value = value_in result; origin = origin_of result } ∷ []
   more answers same result e =
       one_more
       ∙ ap (λ (xs : List StorageAnswer). xs ++ given ∷ []) same
-      ∙ ap (λ (r : ReadResult). answers ++ record { key = key; value = value_in r; origin = origin_in r } ∷ []) e
+      ∙ ap (λ (r : ReadResult). answers ++ record { key = key; value = value_in r; origin = origin_of r } ∷ []) e
 
   seen_fits : (i : ℕ) (answers : List StorageAnswer) → slice_get calls i ≡ Some old.call → old.answers ≡ answers → (seen : Visible) → read_result.Given value from ≡ read_result_of block.base key seen → IsRunOf calls new (answered_with block.base key i answers seen)
-  seen_fits i answers call same Base e = (call ∙ ap Some (sym same_call), more answers same (read_result_of block.base key Base) e)
-  seen_fits i answers call same (Found u n content) e = (call ∙ ap Some (sym same_call), more answers same (read_result_of block.base key (Found u n content)) e)
-  seen_fits i answers call same (Blocked b) e = absurd (no_answer value from e)
+  seen_fits i answers call same seen = go (blocker seen)
+    where
+      go : (o : Option ℕ) → read_result.Given value from ≡ read_result_by block.base key seen o → IsRunOf calls new (answered_by block.base key i answers seen o)
+      go None e = (call ∙ ap Some (sym same_call), more answers same (read_result_by block.base key seen None) e)
+      go (Some b) e = absurd (no_answer value from e)
 
   module _ (s t : State) (worker : w < length s.tasks) where
     task_after : (i : ℕ) (answers : List StorageAnswer) → task_at (counted one_step w (read_at block.base key w i answers s)) w ≡ answered_with block.base key i answers (reading s.versions key i)
@@ -87,3 +90,24 @@ module _ (block : Block) (calls : List Invocation) (w : ℕ) (key : List ℕ) (v
     -- the run fits its task after the read
     pub read_fits : worker_step block w (Read_key key) s ≡ Some (Ok t) → IsRunOf calls old (task_at s w) → ((i : ℕ) → runs (task_at s w) i ≡ true → read_result.Given value from ≡ read_result_of block.base key (reading s.versions key i)) → IsRunOf calls new (task_at t w)
     read_fits k fits told = fits_with (task_at s w) k fits told
+
+-- ---- what the core gives for a read
+
+module _ (store : Storage) (key : List ℕ) (i : ℕ) (answers : List StorageAnswer) (seen : Visible) where
+  -- where no estimate is met
+  module _ (open_now : blocker seen ≡ None) (value : Option (List ℕ)) (from : Origin) (value_is : value_seen (map.get store key) seen ≡ value) (origin_is : origin_in seen ≡ from) where
+    pub given_task : Running i (answers ++ record { key = key; value = value; origin = from } ∷ []) None ≡ answered_with store key i answers seen
+    given_task =
+        ap (λ v. Running i (answers ++ record { key = key; value = v; origin = from } ∷ []) None) (sym value_is)
+        ∙ ap (λ o. Running i (answers ++ record { key = key; value = value_seen (map.get store key) seen; origin = o } ∷ []) None) (sym origin_is)
+        ∙ ap (answered_by store key i answers seen) (sym open_now)
+
+    pub given_result : read_result.Given value from ≡ read_result_of store key seen
+    given_result = ap (λ v. read_result.Given v from) (sym value_is) ∙ ap (read_result.Given (value_seen (map.get store key) seen)) (sym origin_is) ∙ ap (read_result_by store key seen) (sym open_now)
+
+  -- where one is met
+  pub blocked_task : (b : ℕ) → blocker seen ≡ Some b → Running i answers (Some b) ≡ answered_with store key i answers seen
+  blocked_task b met = ap (answered_by store key i answers seen) (sym met)
+
+  pub blocked_result : (b : ℕ) → blocker seen ≡ Some b → read_result.Blocked ≡ read_result_of store key seen
+  blocked_result b met = ap (read_result_by store key seen) (sym met)

@@ -8,7 +8,7 @@ use Rattle.std.specs.Option.{option_map}
 use Rattle.std.specs.Ordering.{eq_by_cmp}
 use Rattle.std.specs.FinMap.{get}
 use Rattle.std.specs.FinSet.{FinSet, contains}
-use Rattle.version_arena.specs.ArenaState.{Content}
+use Rattle.rv_ledger.specs.Change.{ContentChange}
 use Rattle.mvmap.specs.Versions.{Entry, Stands, Estimate, Place, Versions, changed, place_cmp}
 use Rattle.mvmap.proofs.Places.{get_changed, same_place}
 use Rattle.stm_state.specs.declared.state.CallState.{CallState}
@@ -38,17 +38,17 @@ module _ (places : FinSet place_cmp) where
   pub moved_within : (i : ℕ) (call : CallState) (key : List ℕ) (v : Versions) → AreOpen places i (writes_at call.last (key ∷ [])) → Within places v → Within places (changed v (key, i) (version_of call key))
   moved_within i call key v open_ within = changed_within v (key, i) (version_of call key) (go (write_of call.last key) open_) within
     where
-      go : (o : Option Content) → AreOpen places i (with_write key o []) → IsSome (option_map (λ content. Stands call.incarnation content) o) → IsTrue (contains places (key, i))
+      go : (o : Option ContentChange) → AreOpen places i (with_write key o []) → IsSome (option_map (λ content. Stands call.incarnation content) o) → IsTrue (contains places (key, i))
       go None open_ there = cc
       go (Some content) open_ there = open_.0
 
   -- places that are open stay so where there are more
-  pub open_grown : (more : FinSet place_cmp) → ((place : Place) → IsTrue (contains places place) → IsTrue (contains more place)) → (i : ℕ) (es : List (List ℕ × Content)) → AreOpen places i es → AreOpen more i es
+  pub open_grown : (more : FinSet place_cmp) → ((place : Place) → IsTrue (contains places place) → IsTrue (contains more place)) → (i : ℕ) (es : List (List ℕ × ContentChange)) → AreOpen places i es → AreOpen more i es
   open_grown more grows i [] open_ = tt
   open_grown more grows i (e ∷ es) open_ = (grows (e.0, i) open_.0, open_grown more grows i es open_.1)
 
   -- places at all keys are places at the writes
-  pub open_keys : (i : ℕ) (es : List (List ℕ × Content)) → All (λ key. IsTrue (contains places (key, i))) (keys_of es) → AreOpen places i es
+  pub open_keys : (i : ℕ) (es : List (List ℕ × ContentChange)) → All (λ key. IsTrue (contains places (key, i))) (keys_of es) → AreOpen places i es
   open_keys i [] h = tt
   open_keys i (e ∷ es) h = (
     All-head (λ key. IsTrue (contains places (key, i))) e.0 (keys_of es) h,
@@ -56,7 +56,7 @@ module _ (places : FinSet place_cmp) where
   )
 
   -- so are places at keys that begin with those of the writes
-  pub open_first : (i n : ℕ) (es : List (List ℕ × Content)) (keys more : List (List ℕ)) → n ≡ length es → keys ≡ keys_of es ++ more → All (λ key. IsTrue (contains places (key, i))) (take n keys) → AreOpen places i es
+  pub open_first : (i n : ℕ) (es : List (List ℕ × ContentChange)) (keys more : List (List ℕ)) → n ≡ length es → keys ≡ keys_of es ++ more → All (λ key. IsTrue (contains places (key, i))) (take n keys) → AreOpen places i es
   open_first i n es keys more size same h =
       let first : take n keys ≡ keys_of es =
       ap (λ m. take m keys) (size ∙ sym (length-map es (λ e. e.0))) ∙ ap (take (length (keys_of es))) same ∙ take-append_seam (keys_of es) more in

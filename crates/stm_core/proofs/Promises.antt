@@ -7,7 +7,8 @@ use Rattle.std.proofs.lemmas.Bool.{cases_eq}
 use Rattle.std.proofs.lemmas.List.{get_or-set_same, get_or-set_other}
 use Rattle.std.proofs.lemmas.List.Folds.{sum_by-replicate}
 use Rattle.std.proofs.lemmas.List.Sums.{sum_by-cons}
-use Rattle.version_arena.specs.ArenaState.{ArenaState, Content, Record}
+use Rattle.rv_ledger.specs.Change.{ContentChange}
+use Rattle.version_arena.specs.ArenaState.{ArenaState, Record}
 use Rattle.mvmap.specs.Versions.{Place, place_cmp}
 use Rattle.mvmap.specs.Table.{Table}
 use Rattle.rv_ledger.specs.declared.receipt.Receipt.{Receipt}
@@ -49,7 +50,7 @@ sum_changed f g (x ∷ xs) (suc w) y d within same =
 
 -- ---- writes at keys
 
-with_write-append : (key : List ℕ) (o : Option Content) (xs ys : List (List ℕ × Content)) → with_write key o (xs ++ ys) ≡ with_write key o xs ++ ys
+with_write-append : (key : List ℕ) (o : Option ContentChange) (xs ys : List (List ℕ × ContentChange)) → with_write key o (xs ++ ys) ≡ with_write key o xs ++ ys
 with_write-append key None xs ys = refl
 with_write-append key (Some content) xs ys = refl
 
@@ -60,17 +61,17 @@ writes_at-append last (key ∷ keys) more =
     ∙ with_write-append key (write_of last key) (writes_at last keys) (writes_at last more)
 
 -- at the keys of writes that a run made they are those writes
-at_own : (run : Recorded) (es : List (List ℕ × Content)) → AllByRecursion (λ e. get run.receipt.writes e.0 ≡ Some e.1) es → writes_at (Some run) (keys_of es) ≡ es
+at_own : (run : Recorded) (es : List (List ℕ × ContentChange)) → AllByRecursion (λ e. get run.receipt.writes e.0 ≡ Some e.1) es → writes_at (Some run) (keys_of es) ≡ es
 at_own run [] found = refl
 at_own run (e ∷ es) found =
     ap (λ o. with_write e.0 o (writes_at (Some run) (keys_of es))) found.0 ∙ ap (λ rest. e ∷ rest) (at_own run es found.1)
 
 -- at the keys of writes that the run did not make there are none
-at_left : (run : Recorded) (es : List (List ℕ × Content)) → writes_at (Some run) (keys_of (filter (λ write. not (contains_key run.receipt.writes write.0)) es)) ≡ []
+at_left : (run : Recorded) (es : List (List ℕ × ContentChange)) → writes_at (Some run) (keys_of (filter (λ write. not (contains_key run.receipt.writes write.0)) es)) ≡ []
 at_left run [] = refl
 at_left run (e ∷ es) = go (get run.receipt.writes e.0) refl (at_left run es)
   where
-    go : (o : Option Content) → get run.receipt.writes e.0 ≡ o → writes_at (Some run) (keys_of (filter (λ write. not (contains_key run.receipt.writes write.0)) es)) ≡ []
+    go : (o : Option ContentChange) → get run.receipt.writes e.0 ≡ o → writes_at (Some run) (keys_of (filter (λ write. not (contains_key run.receipt.writes write.0)) es)) ≡ []
         → writes_at (Some run) (keys_of (cond (not (is_some o)) (e ∷ filter (λ write. not (contains_key run.receipt.writes write.0)) es) (filter (λ write. not (contains_key run.receipt.writes write.0)) es))) ≡ []
     go None found none = ap (λ o. with_write e.0 o (writes_at (Some run) (keys_of (filter (λ write. not (contains_key run.receipt.writes write.0)) es)))) found ∙ none
     go (Some content) found none = none
@@ -85,16 +86,16 @@ at_moved run last =
     ∙ ap (λ ys. es ++ ys) (at_left run (written_by last)) ∙ append-nil es
 
 -- those at the next key come before those at the others
-next_and_rest : (key : List ℕ) (o : Option Content) (writes : List (List ℕ × Content)) → length (with_write key o writes) ≡ length (with_write key o []) + length writes
+next_and_rest : (key : List ℕ) (o : Option ContentChange) (writes : List (List ℕ × ContentChange)) → length (with_write key o writes) ≡ length (with_write key o []) + length writes
 next_and_rest key None writes = omega arith
 next_and_rest key (Some content) writes = omega arith
 
-module _ (places : FinSet place_cmp) (i : ℕ) (key : List ℕ) (writes : List (List ℕ × Content)) where
-  next_open : (o : Option Content) → AreOpen places i (with_write key o writes) → AreOpen places i (with_write key o [])
+module _ (places : FinSet place_cmp) (i : ℕ) (key : List ℕ) (writes : List (List ℕ × ContentChange)) where
+  next_open : (o : Option ContentChange) → AreOpen places i (with_write key o writes) → AreOpen places i (with_write key o [])
   next_open None open_ = tt
   next_open (Some content) open_ = (open_.0, tt)
 
-  rest_open : (o : Option Content) → AreOpen places i (with_write key o writes) → AreOpen places i writes
+  rest_open : (o : Option ContentChange) → AreOpen places i (with_write key o writes) → AreOpen places i writes
   rest_open None open_ = open_
   rest_open (Some content) open_ = open_.1
 

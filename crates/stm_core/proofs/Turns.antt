@@ -7,12 +7,12 @@ use Rattle.rv_ledger.specs.declared.receipt.Receipt.{Receipt}
 use Rattle.rv_ledger.specs.declared.outcome.Counts.{Counts}
 use Rattle.rv_step.specs.Replies.{replies_of}
 use Rattle.rv_step.specs.declared.answer.StorageAnswer.{StorageAnswer}
-use Rattle.mvmap.specs.Reading.{Visible, Base, Found, Blocked, reading}
+use Rattle.mvmap.specs.Reading.{blocker, reading}
 use Rattle.stm_state.specs.declared.state.Task.{Task}
 use Rattle.stm_state.specs.declared.state.Task.TheVariants.{Idle, Running, Moving, Validating, Marking}
 use Rattle.stm_state.specs.declared.state.CallState.{CallState}
 use Rattle.stm_state.specs.State.{State, fresh, call_at, task_at, with_task, no_counts, is_ready, is_executed, is_done}
-use Rattle.stm_state.specs.Steps.{Block, Step, Ask, Read_key, Park, Record, Move_key, Finish_execution, Check_read, Decide, Mark_estimate, Finish_abort, ArenaFull, IncarnationLimit, counted, one_step, one_asking, one_execution, one_validation, asked, ask_validation, ask_execution, count_done, answered_with, read_at, parked, recorded, moved, executed, next_incarnation, is_parked_on, resume_if_parked, resume_dependents, to_validate, checked, next_stands, decided, marked, aborted, is_executed_at, record_within, step_with, worker_step}
+use Rattle.stm_state.specs.Steps.{Block, Step, Ask, Read_key, Park, Record, Move_key, Finish_execution, Check_read, Decide, Mark_estimate, Finish_abort, ArenaFull, IncarnationLimit, counted, one_step, one_asking, one_execution, one_validation, asked, ask_validation, ask_execution, count_done, answered_by, read_at, parked, recorded, moved, executed, next_incarnation, is_parked_on, resume_if_parked, resume_dependents, to_validate, checked, next_stands, decided, marked, aborted, is_executed_at, record_within, step_with, worker_step}
 use Rattle.stm_state.specs.Invariant.{owned_by}
 use Rattle.stm_state.proofs.Whole.{same_state, none_ok, err_ok}
 use Rattle.stm_core.specs.Driving.{HasNoAnswers}
@@ -137,12 +137,11 @@ module _ (w : ℕ) (s : State) where
   -- ---- read
 
   has_read : (base : Storage) (key : List ℕ) (i : ℕ) (answers : List StorageAnswer) → TaskTurn w (λ task. moved_by task ≡ None) s (read_at base key w i answers s)
-  has_read base key i answers = given (λ task. moved_by task ≡ None) _ _ (go (reading s.versions key i)) refl refl (λ j _. refl)
+  has_read base key i answers = given (λ task. moved_by task ≡ None) _ _ (go (blocker (reading s.versions key i))) refl refl (λ j _. refl)
     where
-      go : (seen : Visible) → moved_by (answered_with base key i answers seen) ≡ None
-      go Base = refl
-      go (Found u n content) = refl
-      go (Blocked b) = refl
+      go : (o : Option ℕ) → moved_by (answered_by base key i answers (reading s.versions key i) o) ≡ None
+      go None = refl
+      go (Some b) = refl
 
   -- ---- park
 

@@ -1,12 +1,11 @@
 -- The state of a job's run, and what its calls owe to worker steps.
-use Rattle.std.specs.Prelude.{◌≡◌, ◌<◌, ◌==◌, ℕ, zero, suc, Bool, true, false, List, [], ◌∷◌, length, get_or, None, Some, Ok, Err, slice_get}
+use Rattle.std.specs.Prelude.{◌≡◌, ◌<◌, ◌≤◌, ◌==◌, ℕ, zero, suc, Bool, true, false, List, [], ◌∷◌, length, get_or, Option, None, Some, Ok, Err, slice_get}
 use Rattle.std.specs.FinMap as map
 use Rattle.rv_ledger.specs.Key.{Storage}
 use Rattle.rv_ledger.specs.declared.job.Job.{Job}
-use Rattle.read_set.specs.declared.Origin.TheVariants as origin
 use Rattle.rv_step.specs.declared.answer.StorageAnswer.{StorageAnswer}
 use Rattle.rv_step.specs.declared.ended_run.EndedRun.{EndedRun}
-use Rattle.mvmap.specs.Reading.{Visible, Base, Found, Blocked}
+use Rattle.mvmap.specs.Reading.{Visible, blocker, origin_in, value_seen}
 use Rattle.stm_state.specs.declared.state.Task.{Task}
 use Rattle.stm_state.specs.declared.state.Task.TheVariants.{Idle, Running, Moving, Validating, Marking}
 use Rattle.stm_state.specs.State.{State, call_at, task_at, no_counts}
@@ -20,11 +19,19 @@ use Rattle.stm_core.specs.declared.next_step.NextStep.TheVariants as next_step
 use Rattle.stm_core.specs.declared.next_step.ReadResult.{ReadResult}
 use Rattle.stm_core.specs.declared.next_step.ReadResult.TheVariants as read_result
 
--- a job, the state of its run, and the number of further answers that each worker's run has room for
+-- how many versions a read may pass: in the list for the origin that is kept, and in the one for the origin that is handed
+-- out
+pub record PassedRoom : Type 0 where
+  pub kept : ℕ
+  pub lent : ℕ
+
+-- a job, the state of its run, the number of further answers that each worker's run has room for, and how many versions the
+-- next read of a worker may pass
 pub record CoreState : Type 0 where
   pub job : Job
   pub state : State
   pub rooms : List ℕ
+  pub passed : PassedRoom
 
 abbrev pub block_in : CoreState → Block
 block_in b = block_of b.job.block b.job.store
@@ -50,9 +57,17 @@ pub record IsDue (w : ℕ) (step : Step) (b : CoreState) : Type 0 where
   pub due_step : is_due step (task_at b.state w) ≡ true
   pub steps : (get_or b.state.counts w no_counts).steps < count_limit
 
--- a worker's step was made; the other workers' runs have room for as many answers as before
+-- whether a step reads a key
+abbrev pub is_read : Step → Bool
+is_read (Read_key key) = true
+is_read step = false
+
+-- a worker's step was made; the other workers' runs have room for as many answers as before, and unless it is a read there is
+-- room for as many passed versions
 abbrev pub Makes : ℕ → Step → CoreState → CoreState → Type 0
-Makes w step old new = (worker_step (block_in old) w step old.state ≡ Some (Ok new.state)) × (new.job ≡ old.job) × KeepsRooms w old.rooms new.rooms
+Makes w step old new =
+    (worker_step (block_in old) w step old.state ≡ Some (Ok new.state)) × (new.job ≡ old.job) × KeepsRooms w old.rooms new.rooms
+    × (is_read step ≡ false → new.passed ≡ old.passed)
 
 -- a worker's step is refused
 abbrev pub IsRefused : ℕ → Step → Limit → CoreState → Type 0
@@ -96,11 +111,13 @@ ask_result_of false (Moving i keys new) = ask_result.Task
 ask_result_of false (Validating i n left failed) = ask_result.Task
 ask_result_of false (Marking i keys) = ask_result.Task
 
--- the answer to a read of a key, by what the versions show of it; where they show nothing the storage answers
+-- the answer to a read of a key, by what is seen of it: the value and its origin, where no estimate is met
+abbrev pub read_result_by : Storage → List ℕ → Visible → Option ℕ → ReadResult
+read_result_by base key seen None = read_result.Given (value_seen (map.get base key) seen) (origin_in seen)
+read_result_by base key seen (Some writer) = read_result.Blocked
+
 abbrev pub read_result_of : Storage → List ℕ → Visible → ReadResult
-read_result_of base key Base = read_result.Given (map.get base key) origin.Base
-read_result_of base key (Found w n content) = read_result.Given content (origin.Version w n)
-read_result_of base key (Blocked b) = read_result.Blocked
+read_result_of base key seen = read_result_by base key seen (blocker seen)
 
 -- the answers that a task's run was given; none where the task runs no call
 abbrev pub answers_of : Task → List StorageAnswer
@@ -117,6 +134,29 @@ runs (Running j answers blocked) i = j == i
 runs (Moving j keys new) i = false
 runs (Validating j n left failed) i = false
 runs (Marking j keys) i = false
+
+-- the index of the call that a task runs; 0 where it runs none
+abbrev pub index_run : Task → ℕ
+index_run Idle = 0
+index_run (Running i answers blocked) = i
+index_run (Moving i keys new) = 0
+index_run (Validating i n left failed) = 0
+index_run (Marking i keys) = 0
+
+-- a read of the call that a task runs may pass all calls below it
+pub record IsRoomFor (task : Task) (room : PassedRoom) : Type 0 where
+  pub kept : index_run task ≤ room.kept
+  pub lent : index_run task ≤ room.lent
+
+-- there is no less room than before
+pub record IsNoLess (old new : PassedRoom) : Type 0 where
+  pub kept : old.kept ≤ new.kept
+  pub lent : old.lent ≤ new.lent
+
+-- there is room for a worker's next read: for one more answer, and for as many passed versions as there are calls below its own
+pub record HasReadRoom (w : ℕ) (b : CoreState) : Type 0 where
+  pub answer : 1 ≤ get_or b.rooms w 0
+  pub passed : IsRoomFor (task_at b.state w) b.passed
 
 -- a run is a run of the call that a worker's task runs, and was given exactly the answers of that task
 pub record IsOwn (w : ℕ) (run : EndedRun) (b : CoreState) : Type 0 where

@@ -1,10 +1,10 @@
 -- The parts of a job's run, for the invariant and the private functions: what runs wrote, the places of the versions, what is
 -- promised to runs whose keys are moved, and the state.
-use Rattle.std.specs.Prelude.{◌≡◌, ◌≤◌, ◌+◌, ◌*◌, ℕ, Bool, List, [], ◌∷◌, Option, None, Some, get_or, length, map, slice_get, sum_by, IsSome, IsTrue}
+use Rattle.std.specs.Prelude.{◌≡◌, ◌≤◌, ◌+◌, ◌*◌, ℕ, Bool, List, [], ◌∷◌, Option, None, Some, get_or, length, map, slice_get, sum_by, vec_capacity, IsSome, IsTrue}
 use Rattle.std.specs.List.{AllByRecursion}
 use Rattle.std.specs.FinMap.{entries, get, len}
 use Rattle.std.specs.FinSet.{FinSet, contains}
-use Rattle.version_arena.specs.ArenaState.{Content}
+use Rattle.rv_ledger.specs.Change.{ContentChange}
 use Rattle.mvmap.specs.Versions.{Place, place_cmp}
 use Rattle.mvmap.specs.Table.{Table}
 use Rattle.rv_ledger.specs.Key.{WriteMap}
@@ -22,10 +22,11 @@ use Rattle.stm_state.specs.State.{State, fresh, call_at, task_at}
 use Rattle.stm_state.specs.Steps.{read_of, write_of}
 use Rattle.stm_state.specs.Done.{Reached, block_of}
 use Rattle.scheduler.specs.Schedule.{Schedule, state_of}
-use Rattle.stm_core.specs.CoreState.{CoreState}
+use Rattle.stm_core.specs.CoreState.{CoreState, PassedRoom}
+use Rattle.stm_core.specs.declared.passed_lists.PassedLists.{PassedLists}
 
 -- a call has a place at the key of each write
-abbrev pub AreOpen : FinSet place_cmp → ℕ → List (List ℕ × Content) → Type 0
+abbrev pub AreOpen : FinSet place_cmp → ℕ → List (List ℕ × ContentChange) → Type 0
 AreOpen places i writes = AllByRecursion (λ write. IsTrue (contains places (write.0, i))) writes
 
 -- each entry of the versions has a place
@@ -45,16 +46,16 @@ abbrev pub IsHanded : List Invocation → ℕ → List StorageAnswer → EndedRu
 IsHanded calls i answers run = (slice_get calls i ≡ Some run.call) × (run.answers.items ≡ answers)
 
 -- what a recorded run wrote at some keys, in the order of the keys; a key that it did not write is left out
-abbrev pub with_write : List ℕ → Option Content → List (List ℕ × Content) → List (List ℕ × Content)
+abbrev pub with_write : List ℕ → Option ContentChange → List (List ℕ × ContentChange) → List (List ℕ × ContentChange)
 with_write key None writes = writes
-with_write key (Some content) writes = (key, content) ∷ writes
+with_write key (Some change) writes = (key, change) ∷ writes
 
-abbrev pub writes_at : Option Recorded → List (List ℕ) → List (List ℕ × Content)
+abbrev pub writes_at : Option Recorded → List (List ℕ) → List (List ℕ × ContentChange)
 writes_at last [] = []
 writes_at last (key ∷ keys) = with_write key (write_of last key) (writes_at last keys)
 
 -- the writes that a task is yet to publish
-abbrev pub unpublished : List CallState → Task → List (List ℕ × Content)
+abbrev pub unpublished : List CallState → Task → List (List ℕ × ContentChange)
 unpublished calls Idle = []
 unpublished calls (Running i answers blocked) = []
 unpublished calls (Moving i keys new) = writes_at (get_or calls i fresh).last keys
@@ -81,8 +82,12 @@ pub record IsPromised (i : ℕ) (writes : WriteMap) (table : Table) (before afte
 abbrev pub state_in : Table → ℕ → Schedule → State
 state_in table promised schedule = state_of table.versions (length table.arena.records + promised) schedule
 
-abbrev pub core_state_of : Job → Table → ℕ → Schedule → CoreState
-core_state_of job table promised schedule = record { job = job; state = state_in table promised schedule; rooms = schedule.rooms }
+abbrev pub core_state_of : Job → Table → ℕ → Schedule → PassedRoom → CoreState
+core_state_of job table promised schedule passed = record { job = job; state = state_in table promised schedule; rooms = schedule.rooms; passed = passed }
+
+-- how many versions two lists have room for
+abbrev pub room_of : PassedLists → PassedRoom
+room_of lists = record { kept = vec_capacity lists.kept; lent = vec_capacity lists.lent }
 
 -- some list of worker steps leads to the state, each version has a place, and the promises are kept
 pub record IsReached (job : Job) (table : Table) (promised : ℕ) (schedule : Schedule) : Type 0 where

@@ -6,6 +6,7 @@ pub mod engine;
 pub mod fault;
 pub mod next_step;
 mod outcome;
+mod passed_lists;
 mod reading;
 mod reads;
 mod recording;

@@ -1,23 +1,24 @@
 //! The step that a worker owes, and a read of its run.
 
-ghost use Rattle.std.specs.Prelude.{◌≡◌, ◌<◌, ◌≤◌, ℕ, Bool, List, length, get_or, IfSome, None, Ok, OnErr, OnOk, Some};
-ghost use Rattle.std.specs.Option.{option_copied};
+ghost use Rattle.std.specs.Prelude.{◌≡◌, ◌<◌, ◌≤◌, ℕ, [], Bool, List, length, get_or, vec_capacity, None, Ok, OnErr, OnOk};
 ghost use Rattle.rv_step.specs.declared.answer.StorageAnswer.{StorageAnswer};
 ghost use Rattle.mvmap.specs.Versions.{Versions};
-ghost use Rattle.mvmap.specs.Reading.{reading};
+ghost use Rattle.mvmap.specs.Reading.{passed_in, reading};
 ghost use Rattle.stm_state.specs.declared.state.Task.TheVariants as task;
 ghost use Rattle.stm_state.specs.State.{State, with_task};
 ghost use Rattle.stm_state.specs.Steps.{answered_with, counted, one_step};
 ghost use Rattle.stm_state.specs.Invariant.{named_by};
 ghost use Rattle.scheduler.specs.Schedule.{KeepsRooms, MayCount, state_of};
-ghost use Rattle.scheduler.specs.Workers.{HasKeys, with_answer};
+ghost use Rattle.stm_state.specs.declared.state.Task.{Task};
+ghost use Rattle.scheduler.specs.Workers.{HasKeys, IsTaskKindOf, with_answer};
 ghost use Rattle.stm_core.specs.declared.next_step.ReadResult.TheVariants as read_result;
-ghost use Rattle.stm_core.specs.CoreState.{next_step_of, read_result_of};
+ghost use Rattle.stm_core.specs.CoreState.{IsNoLess, IsRoomFor, index_run, next_step_of, read_result_of};
+ghost use Rattle.stm_core.specs.Inner.{room_of};
 
 use crate::next_step::{NextStep, ReadResult};
-use mvmap::MvMap;
-use read_set::Origin;
-use rv_ledger::inline_bytes::VALUE_LIMIT;
+use crate::passed_lists::{PassedLists, larger, replace};
+use mvmap::{Answer, MvMap, with_amount};
+use read_set::Version;
 use rv_ledger::{Key, Store, StoredValue, Value};
 use rv_step::StorageAnswer;
 use scheduler::{Scheduler, TaskKind};
@@ -116,79 +117,103 @@ pub(crate) fn make_answer_room(
     made
 }
 
-/// A worker's run reads a key for its call, in room that was made. Of the calls below, the highest
-/// one with an entry at the key decides: the run is given what that call wrote, or is blocked on it
-/// where the entry is an estimate. Where no call below has one, the storage answers. Takes no memory.
+/// Makes room for one more answer to a worker's run, and for a read of its call that passes as many versions as
+/// the call's index. Refused where memory ran out, and then nothing changes.
+pub(crate) fn make_read_room(
+    scheduler: &mut Scheduler,
+    worker: usize,
+    spare: &mut Vec<StorageAnswer>,
+    lists: &mut PassedLists,
+) -> Result<(), AllocError>
+    requires { worker < length scheduler.old.tasks }
+    ensures room { OnOk result (1 ≤ get_or scheduler.new.rooms worker 0) }
+    ensures passed { OnOk result (IsRoomFor (get_or scheduler.old.tasks worker task.Idle) (room_of lists.new)) }
+    ensures kept { get_or scheduler.old.rooms worker 0 ≤ get_or scheduler.new.rooms worker 0 }
+    ensures same { (v : Versions) (p : ℕ) → state_of v p scheduler.new ≡ state_of v p scheduler.old }
+    ensures rooms { KeepsRooms worker scheduler.old.rooms scheduler.new.rooms }
+    ensures grows { IsNoLess (room_of lists.old) (room_of lists.new) }
+    ensures unchanged { OnErr result ((scheduler.new ≡ scheduler.old) × (lists.new ≡ lists.old)) }
+    ensures succeeds { 1 ≤ get_or scheduler.old.rooms worker 0 → IsRoomFor (get_or scheduler.old.tasks worker task.Idle) (room_of lists.old) → result ≡ Ok tt }
+{
+    let count = index_run(scheduler.task_kind(worker));
+    let kept = larger(&lists.kept, count)?;
+    let lent = larger(&lists.lent, count)?;
+    make_answer_room(scheduler, worker, spare)?;
+    replace(&mut lists.kept, kept);
+    replace(&mut lists.lent, lent);
+    Ok(())
+}
+
+/// The index of the call that a worker runs; 0 where it runs none.
+fn index_run(kind: TaskKind) -> usize
+    ensures { (t : Task) → IsTaskKindOf kind t → result ≡ index_run t }
+{
+    match kind {
+        TaskKind::Running { call, .. } => usize::from(call),
+        _ => 0,
+    }
+}
+
+/// A worker's run reads a key for its call, in room that was made. From the highest call below downwards
+/// the read passes the versions that add an amount. What it then finds decides: the run is given the value
+/// that this version or the storage has, with the amounts added, or is blocked where it is an estimate.
+/// Takes no memory.
 pub(crate) fn read_at(
     store: &Store,
     map: &MvMap,
     scheduler: &mut Scheduler,
+    lists: &mut PassedLists,
     worker: usize,
     call: u16,
     key: &Key,
 ) -> ReadResult
     requires counts { MayCount worker scheduler.old }
     requires room { 1 ≤ get_or scheduler.old.rooms worker 0 }
+    requires kept { call ≤ vec_capacity lists.old.kept }
+    requires lent { call ≤ vec_capacity lists.old.lent }
     ensures answers { result ≡ read_result_of store.now key.now (reading map.now.versions key.now call) }
     ensures state { (answers : List StorageAnswer) → get_or scheduler.old.tasks worker task.Idle ≡ task.Running call answers None → (v : Versions) (p : ℕ) →
         state_of v p scheduler.new ≡ counted one_step worker (with_task worker (answered_with store.now key.now call answers (reading map.now.versions key.now call)) (state_of v p scheduler.old)) }
     ensures rooms { KeepsRooms worker scheduler.old.rooms scheduler.new.rooms }
+    ensures passed { passed_in (reading map.now.versions key.now call) ≡ [] → room_of lists.new ≡ room_of lists.old }
 {
-    match map.read(key, call) {
-        mvmap::Answer::Base => give(
-            scheduler,
-            worker,
-            key,
-            StoredValue::value_of(store.get(key)),
-            Origin::Base,
-        ),
-        mvmap::Answer::Found(version, content) => give(
-            scheduler,
-            worker,
-            key,
-            value_of(content),
-            Origin::Version {
-                writer: version.writer,
-                incarnation: version.incarnation,
-            },
-        ),
-        mvmap::Answer::Estimate(writer) => {
+    match map.read(key, call, &mut lists.kept) {
+        Answer::Base(sum) => {
+            let value = with_amount(StoredValue::bytes_of(store.get(key)), sum);
+            give(scheduler, lists, worker, key, value, None)
+        }
+        Answer::Found(version, value) => give(scheduler, lists, worker, key, value, Some(version)),
+        Answer::Estimate(writer) => {
             scheduler.block(worker, writer);
             ReadResult::Blocked
         }
     }
 }
 
-/// Keeps an answer to a worker's run, in room that was made, and returns it.
+/// Keeps an answer to a worker's run, in room that was made, and returns it. Its origin has the versions that
+/// stand in the list that is kept, and the one that was found below them.
 fn give(
     scheduler: &mut Scheduler,
+    lists: &mut PassedLists,
     worker: usize,
     key: &Key,
     value: Option<Value>,
-    origin: Origin,
+    bottom: Option<Version>,
 ) -> ReadResult
     requires counts { MayCount worker scheduler.old }
     requires room { 1 ≤ get_or scheduler.old.rooms worker 0 }
-    ensures answers { result ≡ read_result.Given value origin }
-    ensures state { (v : Versions) (p : ℕ) → state_of v p scheduler.new ≡ counted one_step worker (with_task worker (with_answer (record { key = key.now; value = value; origin = origin }) (get_or scheduler.old.tasks worker task.Idle)) (state_of v p scheduler.old)) }
+    requires lent { length lists.old.kept.items ≤ vec_capacity lists.old.lent }
+    ensures answers { result ≡ read_result.Given value (record { passed = lists.old.kept.items; bottom = bottom }) }
+    ensures state { (v : Versions) (p : ℕ) → state_of v p scheduler.new ≡ counted one_step worker (with_task worker (with_answer (record { key = key.now; value = value; origin = record { passed = lists.old.kept.items; bottom = bottom } }) (get_or scheduler.old.tasks worker task.Idle)) (state_of v p scheduler.old)) }
     ensures rooms { KeepsRooms worker scheduler.old.rooms scheduler.new.rooms }
+    ensures passed { lists.old.kept.items ≡ [] → lists.new ≡ lists.old }
 {
+    let (kept, lent) = lists.origins(bottom);
     let answer = StorageAnswer {
         key: *key,
         value: Value::copied(value.as_ref()),
-        origin,
+        origin: kept,
     };
     scheduler.answer(worker, answer);
-    ReadResult::Given(value, origin)
-}
-
-/// The value that a version has; None where the version says that the key is absent.
-fn value_of(content: Option<&[u8]>) -> Option<Value>
-    requires { IfSome content (λ bytes. length bytes.now ≤ VALUE_LIMIT) }
-    ensures { result ≡ option_copied content.entry }
-{
-    match content {
-        Some(bytes) => Value::of(bytes),
-        None => None,
-    }
+    ReadResult::Given(value, lent)
 }

@@ -18,7 +18,7 @@ pub(crate) fn reads_in(alloc: Global, answers: &[StorageAnswer]) -> Result<ReadS
     for answer in answers {
         reads.push(Read {
             key: answer.key,
-            origin: answer.origin,
+            origin: answer.origin.copy()?,
         })?;
     }
     Ok(reads)

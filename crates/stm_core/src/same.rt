@@ -24,5 +24,7 @@ pub(crate) fn same_answers(left: &[StorageAnswer], right: &[StorageAnswer]) -> b
 fn same_answer(left: &StorageAnswer, right: &StorageAnswer) -> bool
     ensures { (result ≡ true) ↔ (left.now ≡ right.now) }
 {
-    left.key == right.key && left.origin == right.origin && same_content(&left.value, &right.value)
+    left.key == right.key
+        && left.origin.is(&right.origin)
+        && same_content(&left.value, &right.value)
 }

@@ -8,7 +8,8 @@ ghost use Rattle.stm_core.specs.CoreState.{ask_result_of};
 use crate::fault::{IncarnationLimit, RecordFault, Refused};
 use crate::next_step::{AskResult, NextStep, ReadResult};
 use crate::outcome::outcome_of;
-use crate::reading::{make_answer_room, next_step_of, read_at};
+use crate::passed_lists::PassedLists;
+use crate::reading::{make_read_room, next_step_of, read_at};
 use crate::reads::next_stands;
 use crate::recording::{has_own_answers, is_run_of, record_run};
 use crate::versions::{mark_key, move_key};
@@ -31,6 +32,8 @@ pub struct Core {
     promised: usize,
     /// A list that takes the place of a run's answers while room is made for one more.
     spare_answers: Vec<StorageAnswer>,
+    /// The lists of the versions that a read passes.
+    passed: PassedLists,
 }
 
 impl Model for Core {
@@ -42,13 +45,13 @@ impl Model for Core {
     ghost use Rattle.stm_state.specs.contracts.state.CallState.{the_row as call_row};
     ghost use Rattle.stm_state.specs.contracts.state.Task.{the_row as task_row};
     ghost use Rattle.stm_core.specs.CoreState.{CoreState};
-    ghost use Rattle.stm_core.specs.Inner.{IsReached, core_state_of};
+    ghost use Rattle.stm_core.specs.Inner.{IsReached, core_state_of, room_of};
 
     ghost Value = { CoreState };
 
     ghost coded = { Prim.hlevel (codes, job_row.coded, call_row.coded, task_row.coded, finite.code {R = place_cmp} coded_place coded_entry) };
 
-    ghost view = { λ c. core_state_of c.job c.map c.promised c.scheduler };
+    ghost view = { λ c. core_state_of c.job c.map c.promised c.scheduler (room_of c.passed) };
 
     ghost invariant = { λ c. IsReached c.job c.map c.promised c.scheduler };
 }
@@ -56,7 +59,7 @@ impl Model for Core {
 impl Core {
     ghost use Rattle.std.specs.Prelude.{◌≡◌, ◌≢◌, ◌<◌, ◌≤◌, ◌↔◌, ℕ, Some, true, length, get_or, slice_get, [], IfOk, IfErr, OnOk, OnErr, Ok};
     ghost use Rattle.version_arena.specs.ArenaState.{emptied};
-    ghost use Rattle.mvmap.specs.Reading.{reading};
+    ghost use Rattle.mvmap.specs.Reading.{passed_in, reading};
     ghost use Rattle.rv_step.specs.Fold.{receipts_of, store_after};
     ghost use Rattle.stm_state.specs.State.{is_done, no_counts, start, task_at};
     ghost use Rattle.stm_state.specs.Steps as steps;
@@ -64,7 +67,7 @@ impl Core {
     ghost use Rattle.stm_state.specs.Invariant.{Invariant};
     ghost use Rattle.scheduler.specs.Schedule.{KeepsRooms};
     ghost use Rattle.stm_core.specs.declared.fault.RecordFault.TheVariants as fault;
-    ghost use Rattle.stm_core.specs.CoreState.{ask_result_of, IsDue, IsOwn, IsRefused, IsTaken, IsWithin, Makes, block_in, next_step_of, runs, read_result_of};
+    ghost use Rattle.stm_core.specs.CoreState.{ask_result_of, HasReadRoom, IsDue, IsNoLess, IsOwn, IsRefused, IsTaken, IsWithin, Makes, block_in, next_step_of, runs, read_result_of};
 
     /// The state at the start of a job; refused where memory ran out.
     pub fn new(alloc: Global, job: Job, workers: usize) -> Result<Core, AllocError>
@@ -94,6 +97,7 @@ impl Core {
                 scheduler,
                 promised: 0,
                 spare_answers: Vec::new(alloc),
+                passed: PassedLists::new(alloc),
             }),
             Err(_) => Err(map.into_arena()),
         }
@@ -154,19 +158,26 @@ impl Core {
         next_step_of(&self.scheduler, worker)
     }
 
-    /// Makes room for one more answer to a worker's run. Succeeds where the room is there. Refused where
-    /// memory ran out, and then nothing changes. This is not a step.
+    /// Makes room for the next read of a worker's run: for one more answer, and for as many passed versions as
+    /// the index of its call, in the origin that is kept and in the one that `read` hands out. Succeeds where
+    /// the room is there. Refused where memory ran out, and then nothing changes. This is not a step.
     pub fn room_for_read(&mut self, worker: usize) -> Result<(), AllocError>
         requires { worker < length self.old.state.tasks }
-        ensures room { OnOk result (1 ≤ get_or self.new.rooms worker 0) }
+        ensures room { OnOk result (HasReadRoom worker self.new) }
         ensures kept { get_or self.old.rooms worker 0 ≤ get_or self.new.rooms worker 0 }
         ensures rooms { KeepsRooms worker self.old.rooms self.new.rooms }
+        ensures passed { IsNoLess self.old.passed self.new.passed }
         ensures job { self.new.job ≡ self.old.job }
         ensures state { self.new.state ≡ self.old.state }
         ensures unchanged { OnErr result (self.new ≡ self.old) }
-        ensures succeeds { 1 ≤ get_or self.old.rooms worker 0 → result ≡ Ok tt }
+        ensures succeeds { HasReadRoom worker self.old → result ≡ Ok tt }
     {
-        make_answer_room(&mut self.scheduler, worker, &mut self.spare_answers)
+        make_read_room(
+            &mut self.scheduler,
+            worker,
+            &mut self.spare_answers,
+            &mut self.passed,
+        )
     }
 
     /// A worker without a task asks for work. Takes no memory.
@@ -183,9 +194,10 @@ impl Core {
     /// A worker's run reads the key that it asks for, in room that `room_for_read` made. Takes no memory.
     pub fn read(&mut self, worker: usize, key: &Key) -> ReadResult
         requires due { IsDue worker (steps.Read_key key.now) self.old }
-        requires room { 1 ≤ get_or self.old.rooms worker 0 }
+        requires room { HasReadRoom worker self.old }
         ensures makes { Makes worker (steps.Read_key key.now) self.old self.new }
         ensures answers { (i : ℕ) → runs (task_at self.old.state worker) i ≡ true → result ≡ read_result_of self.old.job.store key.now (reading self.old.state.versions key.now i) }
+        ensures passed { (i : ℕ) → runs (task_at self.old.state worker) i ≡ true → passed_in (reading self.old.state.versions key.now i) ≡ [] → self.new.passed ≡ self.old.passed }
     {
         let TaskKind::Running { call, .. } = self.scheduler.task_kind(worker) else {
             unreachable!();
@@ -194,6 +206,7 @@ impl Core {
             &self.job.store,
             &self.map,
             &mut self.scheduler,
+            &mut self.passed,
             worker,
             call,
             key,

@@ -1,18 +1,19 @@
 //! The keys that a run moves or that an abort marks, and what is put at them: a version, an estimate or
 //! nothing.
 
-ghost use Rattle.std.specs.Prelude.{◌≡◌, ◌≤◌, ◌+◌, ◌*◌, ◌∷◌, ◌++◌, [], length, not, IfOk, IfSome, IsTrue, OnOk, Some};
+ghost use Rattle.std.specs.Prelude.{◌≡◌, ◌≤◌, ◌+◌, ◌*◌, ◌∷◌, ◌++◌, [], length, not, IfOk, IsTrue, OnOk, Some};
 ghost use Rattle.std.specs.List.{filter};
 ghost use Rattle.std.specs.Option.{option_copied};
 ghost use Rattle.std.specs.FinMap.{contains_key, entries};
 ghost use Rattle.std.specs.FinSet.{contains};
+ghost use Rattle.version_arena.specs.ArenaState.{bytes_of};
 ghost use Rattle.mvmap.specs.Versions.{Estimate, changed};
 ghost use Rattle.stm_state.specs.Steps.{keys_of, keys_to_move, version_of, write_of};
 ghost use Rattle.stm_core.specs.Inner.{AreOpen, writes_at};
 
 use mvmap::MvMap;
 use rv_ledger::inline_bytes::VALUE_LIMIT;
-use rv_ledger::{Key, StoredValue, Value, Writes};
+use rv_ledger::{Change, Key, StoredValue, Value, Writes};
 use std::alloc::{AllocError, Global};
 use stm_state::{CallState, Recorded};
 
@@ -76,18 +77,18 @@ pub(crate) fn move_key(
     ensures bytes { promised.new * VALUE_LIMIT ≤ map.new.arena.bytes }
 {
     match write_at(&state.last, key) {
-        Some(content) => {
-            let value = StoredValue::value_of(content.as_ref());
-            see_short(&value);
-            map.publish(key, call, state.incarnation, value.as_ref());
+        Some(change) => {
+            let change = change_of(change);
+            see_short(&change);
+            map.publish(key, call, state.incarnation, change.as_ref());
             *promised -= 1;
         }
         None => map.withdraw(key, call),
     }
 }
 
-/// What a run wrote at a key; None where it did not write it, and where there is no run.
-fn write_at<'a>(last: &'a Option<Recorded>, key: &Key) -> Option<&'a Option<StoredValue>>
+/// The change of a key that a run made; None where it did not write the key, and where there is no run.
+fn write_at<'a>(last: &'a Option<Recorded>, key: &Key) -> Option<&'a Change<StoredValue>>
     ensures { option_copied result ≡ write_of last.now key.now }
 {
     match last {
@@ -96,11 +97,22 @@ fn write_at<'a>(last: &'a Option<Recorded>, key: &Key) -> Option<&'a Option<Stor
     }
 }
 
-/// For the proof: a written value is not longer than VALUE_LIMIT.
-fn see_short(value: &Option<Value>)
-    ensures { IfSome value.now (λ bytes. length bytes ≤ VALUE_LIMIT) }
+/// An equal change, whose value has an array of its own.
+fn change_of(change: &Change<StoredValue>) -> Change<Value>
+    ensures { result ≡ change.now }
 {
-    if let Some(value) = value {
+    match change {
+        Change::Value(value) => Change::Value(value.value()),
+        Change::Gone => Change::Gone,
+        Change::Sum(amount) => Change::Sum(*amount),
+    }
+}
+
+/// For the proof: a written value is not longer than VALUE_LIMIT.
+fn see_short(change: &Change<Value>)
+    ensures { bytes_of change.now ≤ VALUE_LIMIT }
+{
+    if let Change::Value(value) = change {
         let _ = value.bytes();
     }
 }

@@ -1,7 +1,7 @@
 -- Deciding a validation, and finishing an abort, keep the invariant.
 use Rattle.std.proofs.Common.{◌≡◌, ◌<◌, ◌≤◌, ◌⊎◌, ◌+◌, ◌&&◌, min, nat_lt, ℕ, Bool, true, false, is_some, option_map, List, [], length, Option, None, Some, arith, refl, sym, ap, ◌∙◌, inl, inr, length-set}
 use Rattle.std.proofs.lemmas.Bool.{cond_both, and_parts, and_cases}
-use Rattle.version_arena.specs.ArenaState.{Content}
+use Rattle.rv_ledger.specs.Change.{ContentChange}
 use Rattle.mvmap.specs.Versions.{Entry, Stands, Estimate, entry_at}
 use Rattle.stm_state.specs.declared.state.Status.{Status}
 use Rattle.stm_state.specs.declared.state.Status.TheVariants.{Ready, Executing, Executed, Aborting}
@@ -22,14 +22,14 @@ use Rattle.stm_state.proofs.Tests.{not_lt_says, resized}
 use Rattle.stm_state.proofs.Writes.{at_key_last}
 
 -- an entry before the first key is marked: none where the run wrote nothing, else a version that is to be marked
-amid_first : (n : ℕ) (o : Option Content) (entry : Option Entry) (there : Bool) → entry ≡ option_map (λ c. Stands n c) o → there ≡ is_some o → (entry ≡ option_map (λ c. Estimate) o) ⊎ ((there ≡ true) × IsUnmarkedEntry n entry)
+amid_first : (n : ℕ) (o : Option ContentChange) (entry : Option Entry) (there : Bool) → entry ≡ option_map (λ c. Stands n c) o → there ≡ is_some o → (entry ≡ option_map (λ c. Estimate) o) ⊎ ((there ≡ true) × IsUnmarkedEntry n entry)
 amid_first n None entry there at is = inl at
 amid_first n (Some x) entry there at is = inr (is, (x, at))
 
--- what is there is some content
-content_of : (o : Option Content) → is_some o ≡ true → (content : Content) × (o ≡ Some content)
-content_of None h = cc
-content_of (Some x) h = (x, refl)
+-- what is there is some change
+change_of : (o : Option ContentChange) → is_some o ≡ true → (c : ContentChange) × (o ≡ Some c)
+change_of None h = cc
+change_of (Some x) h = (x, refl)
 
 -- ---- deciding
 
@@ -54,7 +54,7 @@ module _ (block : Block) (s : State) (w i n left : ℕ) (failed : Bool) (f : Vie
   is_marked = record {
     aborting = refl;
     unparked = is_unparked;
-    written = λ key h. content_of (write_of (call_at s i).last key) (sym (at_key_last key (call_at s i).last) ∙ h);
+    written = λ key h. change_of (write_of (call_at s i).last key) (sym (at_key_last key (call_at s i).last) ∙ h);
     amid = λ key. amid_first (call_at s i).incarnation (write_of (call_at s i).last key) (entry_at s.versions key i) (has_key key keys) (executed_entries block (view_of s) f i done key) (at_key_last key (call_at s i).last);
   }
 

@@ -8,16 +8,15 @@ use Rattle.std.proofs.lemmas.List.Elements.{All-get_or, All-set, All-replicate}
 use Rattle.rv_ledger.specs.Key.{Storage}
 use Rattle.rv_ledger.specs.Call.{Invocation}
 use Rattle.rv_ledger.specs.declared.receipt.Receipt.{Receipt}
-use Rattle.read_set.specs.declared.Origin.{Origin}
-use Rattle.read_set.specs.declared.Origin.TheVariants as origin
+use Rattle.read_set.specs.Origin.{Origin}
 use Rattle.rv_step.specs.Replies.{reply_of, replies_of}
 use Rattle.rv_step.specs.declared.answer.StorageAnswer.{StorageAnswer}
-use Rattle.mvmap.specs.Reading.{Visible, Base, Found, Blocked, reading}
+use Rattle.mvmap.specs.Reading.{Visible, blocker, origin_in, reading, value_seen}
 use Rattle.stm_state.specs.declared.state.Task.{Task}
 use Rattle.stm_state.specs.declared.state.Task.TheVariants.{Idle, Running, Moving, Validating, Marking}
 use Rattle.stm_state.specs.Limits.{record_limit, incarnation_limit}
 use Rattle.stm_state.specs.State.{State, call_at, task_at, is_executed, is_ready, is_done}
-use Rattle.stm_state.specs.Steps.{Step, Read_key, ask_validation, ask_execution, asked, answered_with, parked, resume_dependents, to_validate, executed, checked, decided, aborted, is_executed_at, next_stands, record_within, step_with}
+use Rattle.stm_state.specs.Steps.{Step, Read_key, ask_validation, ask_execution, asked, answered_by, answered_with, parked, resume_dependents, to_validate, executed, checked, decided, aborted, is_executed_at, next_stands, record_within, step_with}
 use Rattle.stm_state.specs.Done.{Reached, started, stepped, borne_out_by, block_of}
 use Rattle.stm_state.specs.Drive.{due_step_of_run, asked_at, due_step, DrivenTo, at_start, made_step, DueStepHasResult}
 use Rattle.stm_state.specs.Invariant.{Invariant, named_by}
@@ -131,9 +130,11 @@ module _ (calls : List Invocation) (store : Storage) (w : ℕ) (s : State) (h : 
 
   -- whatever a read sees
   seen_goes : (i : ℕ) (answers : List StorageAnswer) (key : List ℕ) → asked_at (slice_get calls i) (replies_of answers) ≡ Some key → Goes calls (Running i answers None) → (seen : Visible) → Goes calls (answered_with store key i answers seen)
-  seen_goes i answers key asks g Base = answered_goes i answers key (get store key) origin.Base asks
-  seen_goes i answers key asks g (Found v n content) = answered_goes i answers key content (origin.Version v n) asks
-  seen_goes i answers key asks g (Blocked b) = g
+  seen_goes i answers key asks g seen = go (blocker seen)
+    where
+      go : (o : Option ℕ) → Goes calls (answered_by store key i answers seen o)
+      go None = answered_goes i answers key (value_seen (get store key) seen) (origin_in seen) asks
+      go (Some b) = g
 
 -- an execution that is finished
 executed_goes : (calls : List Invocation) (store : Storage) (w : ℕ) (s : State) → AllGo calls s → (i : ℕ) (new : Bool) → AllGo calls (executed w i new s)

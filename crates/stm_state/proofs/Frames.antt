@@ -2,9 +2,9 @@
 use Rattle.std.proofs.Common.{◌≡◌, ◌<◌, ◌≤◌, ◌+◌, ◌-◌, ◌≢◌, ◌⊎◌, ℕ, Bool, true, List, [], ◌∷◌, Option, None, Some, arith, refl, sym, ap, subst, ◌∙◌, inl, inr}
 use Rattle.std.specs.List.{AllByRecursion}
 use Rattle.std.proofs.lemmas.Bool.{cases_eq}
-use Rattle.version_arena.specs.ArenaState.{Content}
-use Rattle.read_set.specs.declared.Origin.{Origin}
-use Rattle.read_set.specs.declared.Origin.TheVariants as origin
+use Rattle.rv_ledger.specs.Change.{Content, ContentChange}
+use Rattle.read_set.specs.Origin.{Origin, named}
+use Rattle.read_set.specs.declared.origin.Version.{Version}
 use Rattle.rv_step.specs.declared.answer.StorageAnswer.{StorageAnswer}
 use Rattle.mvmap.specs.Versions.{Entry, Stands}
 use Rattle.stm_state.specs.declared.state.Status.{Status}
@@ -15,36 +15,57 @@ use Rattle.stm_state.specs.declared.state.Task.{Task}
 use Rattle.stm_state.specs.declared.state.Task.TheVariants.{Idle, Running, Moving, Validating, Marking}
 use Rattle.stm_state.specs.Limits.{incarnation_limit}
 use Rattle.stm_state.specs.Steps.{Block, version_of}
-use Rattle.stm_state.specs.Invariant.{View, ViewInvariant, AreSafe, IsChecked, IsMarked, IsMoved, IsPast, IsUnmarkedEntry, IsUnmovedEntry, IsUnturned, IsWaiting, IsRight, IsRightAnswer, IsBorneOut, entry_of, estimate_of, has_key, marked_by, named_by, owned_by, run_by, turned_by}
+use Rattle.stm_state.specs.Invariant.{View, ViewInvariant, AreSafe, IsChecked, IsMarked, IsMoved, IsPast, IsUnmarkedEntry, IsUnmovedEntry, IsUnturned, IsWaiting, IsKnown, IsRight, IsRightAnswer, StandWith, IsBorneOut, entry_of, estimate_of, has_key, marked_by, named_by, owned_by, run_by, turned_by}
 use Rattle.stm_state.proofs.Lists.{ChangesAt, each_at}
 
 -- ---- answers stay right
 
 -- a version is new at a key: none of its incarnation stood there, nor may one be gone
 abbrev pub IsNew : View → List ℕ → ℕ → ℕ → Type 0
-IsNew v key i n = ((c : Content) → v.entries key i ≢ Some (Stands n c)) × (IsPast (v.calls i) n → ⊥)
+IsNew v key i n = ((c : ContentChange) → v.entries key i ≢ Some (Stands n c)) × (IsPast (v.calls i) n → ⊥)
 
 -- incarnations grow, what may be gone still may, a version stands on or may be gone, and one that stands stood or is new
 pub record Grows (v u : View) : Type 0 where
   pub incarnations : (i : ℕ) → (v.calls i).incarnation ≤ (u.calls i).incarnation
   pub past : (i n : ℕ) → IsPast (v.calls i) n → IsPast (u.calls i) n
-  pub versions : (key : List ℕ) (i n : ℕ) (c : Content) → v.entries key i ≡ Some (Stands n c) → (u.entries key i ≡ Some (Stands n c)) ⊎ IsPast (u.calls i) n
-  pub known : (key : List ℕ) (i n : ℕ) (c : Content) → u.entries key i ≡ Some (Stands n c) → (v.entries key i ≡ Some (Stands n c)) ⊎ IsNew v key i n
+  pub versions : (key : List ℕ) (i n : ℕ) (c : ContentChange) → v.entries key i ≡ Some (Stands n c) → (u.entries key i ≡ Some (Stands n c)) ⊎ IsPast (u.calls i) n
+  pub known : (key : List ℕ) (i n : ℕ) (c : ContentChange) → u.entries key i ≡ Some (Stands n c) → (v.entries key i ≡ Some (Stands n c)) ⊎ IsNew v key i n
+
+module _ (v u : View) (g : Grows v u) (i : ℕ) (key : List ℕ) where
+  -- a version that is known stays so
+  known_still : (version : Version) → IsKnown v i key version → IsKnown u i key version
+  known_still version h = (
+    h.0,
+    elim h.1 [
+      | inl there ↦ elim (g.versions key version.writer version.incarnation there.0 there.1) [ inl on ↦ inl (there.0, on) | inr past ↦ inr past ]
+      | inr past ↦ inr (g.past version.writer version.incarnation past)
+    ],
+  )
+
+  -- a known version that stands now stood, with the same change
+  stood : (version : Version) (c : ContentChange) → IsKnown v i key version → u.entries key version.writer ≡ Some (Stands version.incarnation c) → v.entries key version.writer ≡ Some (Stands version.incarnation c)
+  stood version c h now = elim (g.known key version.writer version.incarnation c now) [
+    | inl was ↦ was
+    | inr new ↦ elim h.1 [ inl there ↦ absurd (new.0 there.0 there.1) | inr past ↦ absurd (new.1 past) ]
+  ]
+
+  -- so with all of them
+  all_known : (versions : List Version) → AllByRecursion (IsKnown v i key) versions → AllByRecursion (IsKnown u i key) versions
+  all_known [] h = tt
+  all_known (version ∷ versions) h = (known_still version h.0, all_known versions h.1)
+
+  all_stood : (versions : List Version) (changes : List ContentChange) → AllByRecursion (IsKnown v i key) versions → StandWith (u.entries key) versions changes → StandWith (v.entries key) versions changes
+  all_stood [] [] h stand = tt
+  all_stood [] (c ∷ changes) h stand = stand
+  all_stood (version ∷ versions) [] h stand = stand
+  all_stood (version ∷ versions) (c ∷ changes) h stand = (stood version c h.0 stand.0, all_stood versions changes h.1 stand.1)
 
 -- an answer stays right
 right_origin : (block : Block) (v u : View) (g : Grows v u) (i : ℕ) (key : List ℕ) (value : Content) (o : Origin) → IsRight block v i key value o → IsRight block u i key value o
-right_origin block v u g i key value origin.Base h = h
-right_origin block v u g i key value (origin.Version w n) h = (
-  h.0,
-  elim h.1 [
-    | inl there ↦ elim (g.versions key w n there.0 there.1) [ inl on ↦ inl (there.0, on) | inr past ↦ inr past ]
-    | inr past ↦ inr (g.past w n past)
-  ],
-  λ c now. elim (g.known key w n c now) [
-    | inl was ↦ h.2 c was
-    | inr new ↦ elim h.1 [ inl there ↦ absurd (new.0 there.0 there.1) | inr past ↦ absurd (new.1 past) ]
-  ],
-)
+right_origin block v u g i key value o h = record {
+  known = all_known v u g i key (named o) h.known;
+  value_is = λ changes stand. h.value_is changes (all_stood v u g i key (named o) changes h.known stand);
+}
 
 -- right answers stay right
 pub right_all : (block : Block) (v u : View) (g : Grows v u) (i : ℕ) (answers : List StorageAnswer) → AllByRecursion (IsRightAnswer block v i) answers → AllByRecursion (IsRightAnswer block u i) answers
@@ -149,8 +170,8 @@ keeps_unchecked before after not_executed not_aborting same = record {
 -- other calls keep their entries; the versions of call i stand on or may be gone, and those that stand stood or are new
 pub record EntriesOwe (v : View) (entries : List ℕ → ℕ → Option Entry) (i : ℕ) (c : CallState) : Type 0 where
   pub others : (j : ℕ) (key : List ℕ) → j ≢ i → entries key j ≡ v.entries key j
-  pub versions : (key : List ℕ) (n : ℕ) (x : Content) → v.entries key i ≡ Some (Stands n x) → (entries key i ≡ Some (Stands n x)) ⊎ IsPast c n
-  pub known : (key : List ℕ) (n : ℕ) (x : Content) → entries key i ≡ Some (Stands n x) → (v.entries key i ≡ Some (Stands n x)) ⊎ IsNew v key i n
+  pub versions : (key : List ℕ) (n : ℕ) (x : ContentChange) → v.entries key i ≡ Some (Stands n x) → (entries key i ≡ Some (Stands n x)) ⊎ IsPast c n
+  pub known : (key : List ℕ) (n : ℕ) (x : ContentChange) → entries key i ≡ Some (Stands n x) → (v.entries key i ≡ Some (Stands n x)) ⊎ IsNew v key i n
 
 -- so it is where all entries of a view stay
 pub entries_stay : (v : View) (i : ℕ) (c : CallState) → EntriesOwe v v.entries i c

@@ -6,7 +6,7 @@ use Rattle.std.proofs.lemmas.Slice.Eq.{bytes_eq-Decides}
 use Rattle.rv_ledger.specs.Call.{Invocation}
 use Rattle.rv_ledger.specs.declared.receipt.Receipt.{Receipt}
 use Rattle.rv_step.specs.declared.machine.Machine.{Machine}
-use Rattle.rv_step.specs.Step.{StepResult, Next, Asks, Ends, step, answered}
+use Rattle.rv_step.specs.Step.{StepResult, Next, Asks, Ends, step, answered, delivered}
 use Rattle.rv_step.specs.Chain.{Reply, after_step, borne_out, ends, followed, ran, receipt_of, replayed, start}
 use Rattle.rv_step.specs.Asked.{asked_after, asked_by, asked_in, asked_on}
 use Rattle.rv_step.proofs.Falls.{IsFalling, step_falls, answered_falls, less_gas, not_asked}
@@ -52,12 +52,12 @@ right_reply false o key e = cc
 outcome_goes : (key : List ℕ) (content : Option (List ℕ)) (f : Machine → List Reply → Option Receipt) (g : Machine → List Reply → Option (List ℕ)) (limit : ℕ) (s : Machine) (o : StepResult) (replies : List Reply) → IsFalling s.gas o → IsAnsweredBelow s.gas key content f g → ((t : Machine) → t.gas < s.gas → Completes (f t)) → asked_on g s o replies ≡ Some key → Completes (λ rest. followed f limit s o (replies ++ (key, content) ∷ rest))
 outcome_goes key content f g limit s (Next t) replies h below ends_below e = step_goes key content f g limit s.gas (Next t) replies h below e
 outcome_goes key content f g limit s (Asks other) [] h below ends_below e =
-    let done = told_goes f limit s.gas (answered s content) (answered_falls s content) (not_asked s content) ends_below in
-    (done.0, done.1, ap (λ (b : Bool). if b then after_step f limit (answered s content) done.0 else None) (same_key key other e) ∙ done.2)
+    let done = told_goes f limit s.gas (answered s (delivered s other content)) (answered_falls s (delivered s other content)) (not_asked s (delivered s other content)) ends_below in
+    (done.0, done.1, ap (λ (b : Bool). if b then after_step f limit (answered s (delivered s other content)) done.0 else None) (same_key key other e) ∙ done.2)
 outcome_goes key content f g limit s (Asks other) (reply ∷ replies) h below ends_below e =
-    let right = right_reply (bytes_eq reply.0 other) (asked_after g (answered s reply.1) replies) key e in
-    let done = step_goes key content f g limit s.gas (answered s reply.1) replies (answered_falls s reply.1) below right.1 in
-    (done.0, done.1, ap (λ (b : Bool). if b then after_step f limit (answered s reply.1) (replies ++ (key, content) ∷ done.0) else None) right.0 ∙ done.2)
+    let right = right_reply (bytes_eq reply.0 other) (asked_after g (answered s (delivered s other reply.1)) replies) key e in
+    let done = step_goes key content f g limit s.gas (answered s (delivered s other reply.1)) replies (answered_falls s (delivered s other reply.1)) below right.1 in
+    (done.0, done.1, ap (λ (b : Bool). if b then after_step f limit (answered s (delivered s other reply.1)) (replies ++ (key, content) ∷ done.0) else None) right.0 ∙ done.2)
 outcome_goes key content f g limit s (Ends end out t) replies h below ends_below e = cc
 
 -- the chain of a machine that asks for a key completes after each answer to it

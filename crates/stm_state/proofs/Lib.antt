@@ -1,5 +1,6 @@
 pub mod Lists
 pub mod Frames
+pub mod Origins
 pub mod Rests
 pub mod Safes
 pub mod Tests

@@ -2,7 +2,7 @@
 use Rattle.std.proofs.Common.{◌≡◌, ◌<◌, ◌≢◌, ◌⊎◌, ℕ, Bool, true, false, List, ◌∷◌, length, Some, arith, refl, sym, ap, subst, ◌∙◌, inl, inr, length-set}
 use Rattle.std.specs.Ordering.{eq_by_cmp}
 use Rattle.std.proofs.lemmas.Bool.{cases_eq, cases_lt}
-use Rattle.version_arena.specs.ArenaState.{Content}
+use Rattle.rv_ledger.specs.Change.{ContentChange}
 use Rattle.rv_ledger.specs.Key.{key_cmp}
 use Rattle.mvmap.specs.Versions.{Estimate, Stands, entry_at}
 use Rattle.stm_state.specs.declared.state.Status.TheVariants.{Executing, Executed}
@@ -50,13 +50,13 @@ module _ (block : Block) (s : State) (w i : ℕ) (key : List ℕ) (keys : List (
   }
 
   -- a version that stands afterwards is at the call's incarnation, where it did not stand before
-  at_incarnation : (k : List ℕ) (n : ℕ) (x : Content) → entry_at after.versions k i ≡ Some (Stands n x) → n ≡ (call_at s i).incarnation
+  at_incarnation : (k : List ℕ) (n : ℕ) (x : ContentChange) → entry_at after.versions k i ≡ Some (Stands n x) → n ≡ (call_at s i).incarnation
   at_incarnation k n x h = elim (still_moved.amid k) [
     | inl there ↦ (version_is (write_of (call_at s i).last k) (call_at s i).incarnation n x (sym there ∙ h)).0
     | inr q ↦ elim q.1 [ inl estimate ↦ cc | inr none ↦ let is_none = none.0 in cc ]
   ]
 
-  none_stood : (k : List ℕ) (n : ℕ) → IsUnmovedEntry new (entry_at s.versions k i) → (y : Content) → entry_at s.versions k i ≢ Some (Stands n y)
+  none_stood : (k : List ℕ) (n : ℕ) → IsUnmovedEntry new (entry_at s.versions k i) → (y : ContentChange) → entry_at s.versions k i ≢ Some (Stands n y)
   none_stood k n old y h = elim old [ inl estimate ↦ cc | inr none ↦ let is_none = none.0 in cc ]
 
   -- and none of that incarnation may be gone

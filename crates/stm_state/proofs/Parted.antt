@@ -2,9 +2,7 @@
 use Rattle.std.proofs.Common.{◌≡◌, ◌≢◌, ◌<◌, ◌⊎◌, ℕ, Bool, true, false, option_map, List, [], ◌∷◌, Some, refl, sym, ap, ◌∙◌, inl, inr}
 use Rattle.std.specs.List.{AllByRecursion}
 use Rattle.std.proofs.lemmas.Bool.{cases_lt}
-use Rattle.version_arena.specs.ArenaState.{Content}
-use Rattle.read_set.specs.declared.Origin.{Origin}
-use Rattle.read_set.specs.declared.Origin.TheVariants as origin
+use Rattle.rv_ledger.specs.Change.{ContentChange}
 use Rattle.rv_step.specs.declared.answer.StorageAnswer.{StorageAnswer}
 use Rattle.mvmap.specs.Versions.{Stands, entry_at}
 use Rattle.stm_state.specs.declared.state.Status.{Status}
@@ -13,8 +11,8 @@ use Rattle.stm_state.specs.declared.state.Task.{Task}
 use Rattle.stm_state.specs.declared.state.Task.TheVariants.{Running, Moving, Marking}
 use Rattle.stm_state.specs.State.{State, call_at, task_at}
 use Rattle.stm_state.specs.Steps.{Block, write_of}
-use Rattle.stm_state.specs.Invariant.{view_of, ViewInvariant, IsCovered, IsRight, IsRightAnswer, IsUnturned, IsWaiting, has_key, validated, ahead, lowered_by, marked_by, owned_by, run_by, turned_by}
-use Rattle.stm_state.specs.Parts.{HoldsWhereReached, IsRun, runs, moves, CallsAreAttended, IsOfUnfinishedRecord, OthersHaveEstimates, IsOfUnfinishedAbort, IsTakenBack, IsBehindNewKey, IsBehindAbort, IsToBeMet, ReadsAreWatched, IsContent, IsKnown, IsTrueAnswer, RunsAreBorneOut}
+use Rattle.stm_state.specs.Invariant.{view_of, ViewInvariant, IsCovered, IsRightAnswer, IsUnturned, IsWaiting, has_key, validated, ahead, lowered_by, marked_by, owned_by, run_by, turned_by}
+use Rattle.stm_state.specs.Parts.{HoldsWhereReached, IsRun, runs, moves, CallsAreAttended, IsOfUnfinishedRecord, OthersHaveEstimates, IsOfUnfinishedAbort, IsTakenBack, IsBehindNewKey, IsBehindAbort, IsToBeMet, ReadsAreWatched, IsTrueAnswer, RunsAreBorneOut}
 use Rattle.stm_state.proofs.Frames.{owned_status, turned_owned, unturned, unturned_run}
 use Rattle.stm_state.proofs.Asks.{same_entries, executed_entries}
 use Rattle.stm_state.proofs.Writes.{no_version, version_is}
@@ -50,29 +48,29 @@ module _ (block : Block) (s : State) (f : ViewInvariant block (view_of s)) where
   }
 
   -- a call that is not EXECUTED and whose keys nobody turns has no version
-  none_unturned : (i : ℕ) → (call_at s i).status ≢ Executed → IsUnturned (view_of s) i → (key : List ℕ) (n : ℕ) (content : Content) → entry_at s.versions key i ≢ Some (Stands n content)
-  none_unturned i ne free key n content h = no_version (write_of (call_at s i).last key) n content (sym (same_entries block (view_of s) f i ne free key) ∙ h)
+  none_unturned : (i : ℕ) → (call_at s i).status ≢ Executed → IsUnturned (view_of s) i → (key : List ℕ) (n : ℕ) (c : ContentChange) → entry_at s.versions key i ≢ Some (Stands n c)
+  none_unturned i ne free key n c h = no_version (write_of (call_at s i).last key) n c (sym (same_entries block (view_of s) f i ne free key) ∙ h)
 
   -- a version of a call whose keys are moved is of its run
-  of_unfinished : (w i : ℕ) (keys : List (List ℕ)) (new : Bool) → task_at s w ≡ Moving i keys new → (key : List ℕ) (n : ℕ) (content : Content) → entry_at s.versions key i ≡ Some (Stands n content) → IsOfUnfinishedRecord s i key n content
-  of_unfinished w i keys new at key n content h = go (has_key key keys) refl
+  of_unfinished : (w i : ℕ) (keys : List (List ℕ)) (new : Bool) → task_at s w ≡ Moving i keys new → (key : List ℕ) (n : ℕ) (c : ContentChange) → entry_at s.versions key i ≡ Some (Stands n c) → IsOfUnfinishedRecord s i key n c
+  of_unfinished w i keys new at key n c h = go (has_key key keys) refl
     where
-      go : (b : Bool) → has_key key keys ≡ b → IsOfUnfinishedRecord s i key n content
+      go : (b : Bool) → has_key key keys ≡ b → IsOfUnfinishedRecord s i key n c
       go true left = elim ((f.moving w i keys new at).unmoved key left) [ inl estimate ↦ cc | inr none ↦ let is_none = none.0 in cc ]
       go false moved = elim ((f.moving w i keys new at).amid key) [
-        | inl there ↦ let is = version_is (write_of (call_at s i).last key) (call_at s i).incarnation n content (sym there ∙ h) in record { worker = w; keys = keys; new = new; task = at; incarnation = is.0; written = is.1; published = moved }
+        | inl there ↦ let is = version_is (write_of (call_at s i).last key) (call_at s i).incarnation n c (sym there ∙ h) in record { worker = w; keys = keys; new = new; task = at; incarnation = is.0; written = is.1; published = moved }
         | inr q ↦ let left = q.0 in cc
       ]
 
   -- a version of an EXECUTING call is so
-  of_executing : (i : ℕ) → (call_at s i).status ≡ Executing → IsRun s i → (key : List ℕ) (n : ℕ) (content : Content) → entry_at s.versions key i ≡ Some (Stands n content) → IsOfUnfinishedRecord s i key n content
-  of_executing i is (runs w answers waits at) key n content h = absurd (none_unturned i (λ done. cc) (unturned_run block (view_of s) f i w (ap owned_by at) (ap turned_by at)) key n content h)
-  of_executing i is (moves w keys new at) key n content h = of_unfinished w i keys new at key n content h
+  of_executing : (i : ℕ) → (call_at s i).status ≡ Executing → IsRun s i → (key : List ℕ) (n : ℕ) (c : ContentChange) → entry_at s.versions key i ≡ Some (Stands n c) → IsOfUnfinishedRecord s i key n c
+  of_executing i is (runs w answers waits at) key n c h = absurd (none_unturned i (λ done. cc) (unturned_run block (view_of s) f i w (ap owned_by at) (ap turned_by at)) key n c h)
+  of_executing i is (moves w keys new at) key n c h = of_unfinished w i keys new at key n c h
 
   -- a version of a call whose keys are marked is yet to be turned
-  of_taken_back : (w i : ℕ) (keys : List (List ℕ)) → task_at s w ≡ Marking i keys → (key : List ℕ) (n : ℕ) (content : Content) → entry_at s.versions key i ≡ Some (Stands n content) → IsOfUnfinishedAbort s i key n
-  of_taken_back w i keys at key n content h = elim ((f.marking w i keys at).amid key) [
-    | inl there ↦ absurd (no_version (write_of (call_at s i).last key) n content (sym there ∙ h))
+  of_taken_back : (w i : ℕ) (keys : List (List ℕ)) → task_at s w ≡ Marking i keys → (key : List ℕ) (n : ℕ) (c : ContentChange) → entry_at s.versions key i ≡ Some (Stands n c) → IsOfUnfinishedAbort s i key n
+  of_taken_back w i keys at key n c h = elim ((f.marking w i keys at).amid key) [
+    | inl there ↦ absurd (no_version (write_of (call_at s i).last key) n c (sym there ∙ h))
     | inr q ↦ let version = q.1.1 in record { worker = w; keys = keys; task = at; incarnation = cc; left = q.0 }
   ]
 
@@ -81,21 +79,21 @@ module _ (block : Block) (s : State) (f : ViewInvariant block (view_of s)) where
   waiting_unturned i is wait w h = elim (owned_status block (view_of s) f w i (task_at s w) refl (turned_owned (task_at s w) i h)) [ inl other ↦ cc | inr none ↦ let unparked = none.1 in let parked = wait.parked in cc ]
 
   -- a version of an ABORTING call is so
-  of_aborting : (i : ℕ) → (call_at s i).status ≡ Aborting → (key : List ℕ) (n : ℕ) (content : Content) → entry_at s.versions key i ≡ Some (Stands n content) → IsOfUnfinishedAbort s i key n
-  of_aborting i is key n content h = elim (f.aborting i is) [
-    | inl wait ↦ absurd (none_unturned i (λ done. cc) (waiting_unturned i is wait) key n content h)
-    | inr marks ↦ let taken = taken_back_of s marks.0 i (task_at s marks.0) refl marks.1 in of_taken_back taken.worker i taken.keys taken.task key n content h
+  of_aborting : (i : ℕ) → (call_at s i).status ≡ Aborting → (key : List ℕ) (n : ℕ) (c : ContentChange) → entry_at s.versions key i ≡ Some (Stands n c) → IsOfUnfinishedAbort s i key n
+  of_aborting i is key n c h = elim (f.aborting i is) [
+    | inl wait ↦ absurd (none_unturned i (λ done. cc) (waiting_unturned i is wait) key n c h)
+    | inr marks ↦ let taken = taken_back_of s marks.0 i (task_at s marks.0) refl marks.1 in of_taken_back taken.worker i taken.keys taken.task key n c h
   ]
 
   -- part 2
   pub estimates : OthersHaveEstimates block s
-  estimates i ne key n content h = go (call_at s i).status refl
+  estimates i ne key n c h = go (call_at s i).status refl
     where
-      go : (st : Status) → (call_at s i).status ≡ st → IsOfUnfinishedRecord s i key n content ⊎ IsOfUnfinishedAbort s i key n
-      go Ready is = absurd (none_unturned i ne (unturned block (view_of s) f i (λ e. cc) (λ e. cc)) key n content h)
-      go Executing is = inl (of_executing i is (attended.executing i is) key n content h)
+      go : (st : Status) → (call_at s i).status ≡ st → IsOfUnfinishedRecord s i key n c ⊎ IsOfUnfinishedAbort s i key n
+      go Ready is = absurd (none_unturned i ne (unturned block (view_of s) f i (λ e. cc) (λ e. cc)) key n c h)
+      go Executing is = inl (of_executing i is (attended.executing i is) key n c h)
       go Executed is = absurd (ne is)
-      go Aborting is = inr (of_aborting i is key n content h)
+      go Aborting is = inr (of_aborting i is key n c h)
 
   -- what is yet to be met is met by some worker's task
   to_be_met : (i place : ℕ) → IsCovered (view_of s) i place → IsToBeMet s i place
@@ -109,20 +107,10 @@ module _ (block : Block) (s : State) (f : ViewInvariant block (view_of s)) where
     | inr high ↦ inl high
   ]
 
-  -- a right answer has the content of its origin
-  content_is : (i : ℕ) (key : List ℕ) (value : Content) (o : Origin) → IsRight block (view_of s) i key value o → IsContent block s key value o
-  content_is i key value origin.Base right = right
-  content_is i key value (origin.Version w n) right = right.2
-
-  -- and its origin is known
-  known : (i : ℕ) (key : List ℕ) (value : Content) (o : Origin) → IsRight block (view_of s) i key value o → IsKnown s i key o
-  known i key value origin.Base right = tt
-  known i key value (origin.Version w n) right = (right.0, right.1)
-
   -- so with all answers
   true_all : (i : ℕ) (answers : List StorageAnswer) → AllByRecursion (IsRightAnswer block (view_of s) i) answers → AllByRecursion (IsTrueAnswer block s i) answers
   true_all i [] h = tt
-  true_all i (x ∷ xs) h = ((content_is i x.key x.value x.origin h.0, known i x.key x.value x.origin h.0), true_all i xs h.1)
+  true_all i (x ∷ xs) h = ((h.0.value_is, h.0.known), true_all i xs h.1)
 
   -- part 4
   pub borne_out : RunsAreBorneOut block s

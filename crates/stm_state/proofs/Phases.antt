@@ -4,7 +4,7 @@ use Rattle.std.specs.FinMap.{get}
 use Rattle.std.proofs.lemmas.Grind.{get_or-set_at}
 use Rattle.std.proofs.lemmas.List.{get_or_past}
 use Rattle.std.proofs.lemmas.Option.{slice_get_cases}
-use Rattle.version_arena.specs.ArenaState.{Content}
+use Rattle.rv_ledger.specs.Change.{ContentChange}
 use Rattle.rv_ledger.specs.Key.{Storage}
 use Rattle.rv_ledger.specs.Call.{Invocation}
 use Rattle.rv_ledger.specs.declared.outcome.Counts.{Counts}
@@ -25,7 +25,7 @@ use Rattle.stm_state.specs.Done.{last_receipt, block_of}
 use Rattle.stm_state.specs.Drive.{due_step, due_result}
 use Rattle.stm_state.specs.OneWorker.{MeetsNoEstimate}
 use Rattle.stm_state.proofs.Asks.{executed_entries}
-use Rattle.stm_state.proofs.Writes.{over, laid_get}
+use Rattle.stm_state.proofs.Writes.{over, applied_get}
 use Rattle.stm_state.proofs.Whole.{worker_kept}
 use Rattle.stm_state.proofs.Serials.{held_see}
 use Rattle.stm_state.proofs.Rounds.{IsRunOnce, Stage, begun, to_run, run_over, other_call, run_asked, run_stage}
@@ -67,13 +67,13 @@ module _ (calls : List Invocation) (store : Storage) (d : ℕ) (s : State) (f : 
   sees key zero l = refl
   sees key (suc j) l =
       let there = call_there calls j (omega (arith, l, within)) in
-      let o : Option Content = get (ends there.0 (store_before calls j store)).writes key in
+      let o : Option ContentChange = get (ends there.0 (store_before calls j store)).writes key in
       let own = own_entry j (omega (arith, l)) there.0 there.1 key in
       let seen : Visible = visible_below (entry_at s.versions key) j in
       ap (λ e. value_seen (get store key) (visible_over j e seen)) own
       ∙ held_see (get store key) j 0 o seen
       ∙ ap (over o) (sees key j (omega (arith, l)))
-      ∙ sym (laid_get (store_before calls j store) (ends there.0 (store_before calls j store)).writes key)
+      ∙ sym (applied_get (store_before calls j store) (ends there.0 (store_before calls j store)).writes key)
       ∙ ap (λ before. get before key) (sym (store_next calls store j there.0 there.1))
 
 -- ---- the round of a call

@@ -1,7 +1,7 @@
 -- Keeping a run whose keys are to move keeps the invariant.
 use Rattle.std.proofs.Common.{◌≡◌, ◌<◌, ◌⊎◌, ◌&&◌, ◌||◌, not, ℕ, Bool, true, false, is_some, option_map, List, length, Option, None, Some, arith, refl, sym, ap, subst, inl, inr, length-set}
 use Rattle.std.specs.FinMap.{get}
-use Rattle.version_arena.specs.ArenaState.{Content}
+use Rattle.rv_ledger.specs.Change.{ContentChange}
 use Rattle.rv_ledger.specs.declared.receipt.Receipt.{Receipt}
 use Rattle.rv_step.specs.Replies.{replies_of}
 use Rattle.rv_step.specs.declared.answer.StorageAnswer.{StorageAnswer}
@@ -22,7 +22,7 @@ use Rattle.stm_state.proofs.Asks.{same_entries}
 use Rattle.stm_state.proofs.Writes.{distinct_to_move, to_move, no_new_key}
 
 -- an entry before the first key is moved, where its key is to move
-unmoved_first : (o old : Option Content) (entry : Option Entry) (there new : Bool) → entry ≡ option_map (λ c. Estimate) old → there ≡ (is_some o || (not (is_some o) && is_some old)) → (new ≡ false → is_some o ≡ true → is_some old ≡ true) → there ≡ true
+unmoved_first : (o old : Option ContentChange) (entry : Option Entry) (there new : Bool) → entry ≡ option_map (λ c. Estimate) old → there ≡ (is_some o || (not (is_some o) && is_some old)) → (new ≡ false → is_some o ≡ true → is_some old ≡ true) → there ≡ true
     → IsUnmovedEntry new entry
 unmoved_first None None entry there new at moves no_new is = cc
 unmoved_first None (Some y) entry there new at moves no_new is = inl at
@@ -31,7 +31,7 @@ unmoved_first (Some x) None entry there true at moves no_new is = inr (at, refl)
 unmoved_first (Some x) None entry there false at moves no_new is = let r : false ≡ true = no_new refl refl in cc
 
 -- an entry before the first key is moved: what the run wrote there stands, or its key is to move
-amid_first : (n : ℕ) (o old : Option Content) (entry : Option Entry) (there new : Bool) → entry ≡ option_map (λ c. Estimate) old → there ≡ (is_some o || (not (is_some o) && is_some old)) → (new ≡ false → is_some o ≡ true → is_some old ≡ true)
+amid_first : (n : ℕ) (o old : Option ContentChange) (entry : Option Entry) (there new : Bool) → entry ≡ option_map (λ c. Estimate) old → there ≡ (is_some o || (not (is_some o) && is_some old)) → (new ≡ false → is_some o ≡ true → is_some old ≡ true)
     → (entry ≡ option_map (λ c. Stands n c) o) ⊎ ((there ≡ true) × IsUnmovedEntry new entry)
 amid_first n None None entry there new at moves no_new = inl at
 amid_first n None (Some y) entry there new at moves no_new = inr (moves, unmoved_first None (Some y) entry there new at moves no_new moves)

@@ -16,6 +16,8 @@ use Rattle.rv_mem.specs.Space.{Space, loaded, copied}
 use Rattle.rv_mem.specs.declared.access.Access.TheVariants as access
 use Rattle.rv_mem.specs.declared.fault.Fault.{Fault}
 use Rattle.rv_ledger.specs.Call.{Invocation}
+use Rattle.rv_ledger.specs.Change.{ContentChange}
+use Rattle.rv_ledger.specs.declared.change.Change.TheVariants as change
 use Rattle.rv_ledger.specs.Key.{Storage, WriteMap, key_cmp, has_room}
 use Rattle.rv_ledger.specs.declared.end.End.{End}
 use Rattle.rv_ledger.specs.declared.end.End.TheVariants.{Returned, OutOfGas}
@@ -26,7 +28,7 @@ use Rattle.ecalls.specs.StorageCalls.{a1, a2, ecall_charge, late_charge, request
 use Rattle.ecalls.specs.declared.request_kind.Request.{Request}
 use Rattle.ecalls.specs.declared.request_kind.Request.TheVariants as request
 use Rattle.rv_step.specs.declared.machine.Machine.{Machine}
-use Rattle.rv_step.specs.Step.{StepResult, Next, Asks, Ends, instruction_result, answered, ecall_result, charged, compute_result, delivery_result, fetch_result, is_ecall, memory_result, decode_result, read_result, storage_call_result, step, load_result, value_result, write_result}
+use Rattle.rv_step.specs.Step.{StepResult, Next, Asks, Ends, instruction_result, answered, ecall_result, charged, compute_result, delivery_result, fetch_result, is_ecall, memory_result, decode_result, read_result, storage_call_result, step, load_result, delivered, value_result, write_result}
 use Rattle.rv_step.specs.Chain.{start, kept_writes, answered_by, settled, ran, ends}
 
 -- a machine's own writes are at most 256 keys
@@ -44,8 +46,8 @@ one_more : (b : Bool) (n : ℕ) → (b || nat_lt n 256) ≡ true → n ≤ 256 �
 one_more true n h k = k
 one_more false n h k = grind (arith, nat_tests)
 
-insert_few : (own : WriteMap) (key : List ℕ) (value : Option (List ℕ)) → has_room own key ≡ true → len own ≤ 256 → len (insert own key value) ≤ 256
-insert_few own key value room few = subst (λ n. n ≤ 256) (sym (len-insert nat_list_cmp_total own key value)) (one_more (contains_key own key) (len own) room few)
+insert_few : (own : WriteMap) (key : List ℕ) (c : ContentChange) → has_room own key ≡ true → len own ≤ 256 → len (insert own key c) ≤ 256
+insert_few own key c room few = subst (λ n. n ≤ 256) (sym (len-insert nat_list_cmp_total own key c)) (one_more (contains_key own key) (len own) room few)
 
 takes_few : (kind : LoadKind) (rd : Reg) (s : Machine) (r : Result ℕ Fault) → HasFew s → LeavesFew (load_result kind rd s r)
 unfolding LeavesFew
@@ -88,14 +90,16 @@ delivered_few s (Some value) h = cond_both (nat_lt (a2 s.regs) (length value)) _
     (λ _. unfold LeavesFew in h)
     (λ _. charged_few (late_charge s.rules (length value)) s (λ t. value_result t value) h (λ t k. leaves_few t (written t.regs 10 (length value)) (copied t.memory (a1 t.regs) value) k))
 
-read_own_few : (s : Machine) (key : List ℕ) (content : Option (Option (List ℕ))) → HasFew s → LeavesFew (read_result s key content)
-read_own_few s key (Some content) h = delivered_few s content h
+read_own_few : (s : Machine) (key : List ℕ) (own : Option ContentChange) → HasFew s → LeavesFew (read_result s key own)
+read_own_few s key (Some (change.Value value)) h = delivered_few s (Some value) h
+read_own_few s key (Some change.Gone) h = delivered_few s None h
+read_own_few s key (Some (change.Sum amount)) h = unfold LeavesFew in tt
 read_own_few s key None h = unfold LeavesFew in tt
 
 wrote_few : (s : Machine) (write : Write) → HasFew s → LeavesFew (write_result s write)
 unfolding write_result
 wrote_few s write h = cond_both (has_room s.own write.key) _ _ (λ o. LeavesFew o)
-    (λ room. unfold LeavesFew in insert_few s.own write.key write.value room h)
+    (λ room. unfold LeavesFew in insert_few s.own write.key write.change room h)
     (λ _. unfold LeavesFew in h)
 
 served_few : (s : Machine) (r : Result Request Trap) → HasFew s → LeavesFew (storage_call_result s r)
@@ -103,6 +107,7 @@ unfolding storage_call_result
 served_few s (Err cause) h = unfold LeavesFew in h
 served_few s (Ok (request.Read key)) h = read_own_few s key _ h
 served_few s (Ok (request.Write write)) h = wrote_few s write h
+served_few s (Ok (request.Add key amount)) h = wrote_few s _ h
 served_few s (Ok (request.Return out)) h = unfold LeavesFew in h
 served_few s (Ok (request.Revert out)) h = unfold LeavesFew in h
 
@@ -128,13 +133,13 @@ answered_few s content h = charged_few 200 s (λ t. delivery_result t content) h
 
 answered_by_few : (store : Storage) (s : Machine) (o : StepResult) → HasFew s → LeavesFew o → LeavesFew (answered_by store s o)
 answered_by_few store s (Next t) h k = k
-answered_by_few store s (Asks key) h k = answered_few s (get store key) h
+answered_by_few store s (Asks key) h k = answered_few s (delivered s key (get store key)) h
 answered_by_few store s (Ends end out t) h k = k
 
 -- a receipt has at most its machine's writes
 pub kept_few : (end : End) (own : WriteMap) → len own ≤ 256 → len (kept_writes end own) ≤ 256
 kept_few Returned own h = h
-kept_few end own h = subst (λ n. n ≤ 256) (sym (len-empty key_cmp (Option (List ℕ)))) (lit≤ tt)
+kept_few end own h = subst (λ n. n ≤ 256) (sym (len-empty key_cmp ContentChange)) (lit≤ tt)
 
 settled_few : (rest : Machine → Receipt) (limit : ℕ) (s : Machine) (o : StepResult) → HasFew s → LeavesFew o → ((t : Machine) → HasFew t → len (rest t).writes ≤ 256) → len (settled rest limit s o).writes ≤ 256
 unfolding LeavesFew
@@ -151,4 +156,4 @@ ran_few limit (suc steps) s store h =
 -- a call writes at most 256 keys
 pub ends_few : (call : Invocation) (store : Storage) → len (ends call store).writes ≤ 256
 unfolding ends start
-ends_few call store = ran_few call.gas (suc call.gas) (start call) store (subst (λ n. n ≤ 256) (sym (len-empty key_cmp (Option (List ℕ)))) (lit≤ tt))
+ends_few call store = ran_few call.gas (suc call.gas) (start call) store (subst (λ n. n ≤ 256) (sym (len-empty key_cmp ContentChange)) (lit≤ tt))

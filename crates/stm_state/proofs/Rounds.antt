@@ -1,5 +1,5 @@
 -- One worker on a block: where each of its calls is, and what its next step comes to, whatever keys its runs read.
-use Rattle.std.proofs.Common.{◌≡◌, ◌<◌, ◌≢◌, ◌+◌, ◌-◌, ◌&&◌, ◌==◌, nat_lt, min, ℕ, zero, suc, Bool, true, false, cond, List, [], ◌∷◌, ◌++◌, length, map, get_or, set, slice_get, None, Some, arith, refl, sym, ap, subst, ◌∙◌, inl, inr}
+use Rattle.std.proofs.Common.{◌≡◌, ◌<◌, ◌≢◌, ◌+◌, ◌-◌, ◌&&◌, ◌==◌, nat_lt, min, ℕ, zero, suc, Bool, true, false, cond, List, [], ◌∷◌, ◌++◌, length, map, get_or, set, slice_get, Option, None, Some, is_some, arith, refl, sym, ap, subst, ◌∙◌, inl, inr}
 use Rattle.std.specs.Cmp.Derive.{both_true}
 use Rattle.std.specs.List.{list_all}
 use Rattle.std.specs.FinMap.{get}
@@ -10,11 +10,10 @@ use Rattle.std.proofs.lemmas.List.Folds.{list_all-append}
 use Rattle.rv_ledger.specs.Key.{Storage}
 use Rattle.rv_ledger.specs.declared.outcome.Counts.{Counts}
 use Rattle.rv_ledger.specs.declared.receipt.Receipt.{Receipt}
-use Rattle.read_set.specs.declared.Origin.TheVariants as origin
 use Rattle.read_set.specs.declared.Read.{Read}
 use Rattle.rv_step.specs.declared.answer.StorageAnswer.{StorageAnswer}
 use Rattle.mvmap.specs.Versions.{Versions, entry_at}
-use Rattle.mvmap.specs.Reading.{Visible, Base, Found, Blocked, visible_below, is_origin, stands, value_seen}
+use Rattle.mvmap.specs.Reading.{Visible, blocker, visible_below, is_origin, stands, value_seen}
 use Rattle.mvmap.proofs.Readings.{is_blocked, blocked_at, seen_same}
 use Rattle.stm_state.specs.declared.state.Status.{Status}
 use Rattle.stm_state.specs.declared.state.Status.TheVariants.{Ready, Executing, Executed}
@@ -23,9 +22,10 @@ use Rattle.stm_state.specs.declared.state.Recorded.{Recorded}
 use Rattle.stm_state.specs.declared.state.Task.{Task}
 use Rattle.stm_state.specs.declared.state.Task.TheVariants.{Idle, Running, Moving, Validating}
 use Rattle.stm_state.specs.State.{State, fresh, start, call_at, task_at, with_call, with_task, is_ready, is_executed, is_aborting, is_idle, is_done}
-use Rattle.stm_state.specs.Steps.{Block, read_of, reads_of, counted, one_step, one_asking, one_execution, ask_validation, ask_execution, asked, count_done, answered_with, is_some_of, is_parked_on, resume_if_parked, lowered, resume_dependents, to_validate, recorded_run, has_new_key, keys_to_move, recorded, moved, executed, is_executed_at, read_stands, next_stands, checked, decided, version_of, write_of}
+use Rattle.stm_state.specs.Steps.{Block, read_of, reads_of, counted, one_step, one_asking, one_execution, ask_validation, ask_execution, asked, count_done, answered_by, answered_with, given, is_some_of, is_parked_on, resume_if_parked, lowered, resume_dependents, to_validate, recorded_run, has_new_key, keys_to_move, recorded, moved, executed, is_executed_at, read_stands, next_stands, checked, decided, version_of, write_of}
 use Rattle.stm_state.specs.Invariant.{view_of, ViewInvariant, Invariant}
 use Rattle.stm_state.proofs.Tests.{equal_itself, lt_is, not_lt_is}
+use Rattle.stm_state.proofs.Origins.{own_origin}
 use Rattle.stm_state.proofs.Asks.{executed_entries}
 use Rattle.stm_state.proofs.Writes.{changed_other}
 use Rattle.stm_state.proofs.Lists.{replicated, all_same}
@@ -148,26 +148,23 @@ pub record Answered (store : Storage) (key : List ℕ) (i : ℕ) (answers : List
   pub value : answer.value ≡ value_seen (get store key) seen
   pub stand : is_origin answer.origin seen ≡ true
 
-pub answered_by : (store : Storage) (key : List ℕ) (i : ℕ) (answers : List StorageAnswer) (seen : Visible) → is_blocked seen ≡ false → Answered store key i answers seen
-answered_by store key i answers Base h = record { answer = record { key = key; value = get store key; origin = origin.Base }; task = refl; at = refl; value = refl; stand = refl }
-answered_by store key i answers (Found w n content) h = record {
-  answer = record { key = key; value = content; origin = origin.Version w n };
-  task = refl;
-  at = refl;
-  value = refl;
-  stand = both_true (equal_itself w) (equal_itself n);
-}
-answered_by store key i answers (Blocked b) h = cc
+unblocked : (o : Option ℕ) → is_some o ≡ false → o ≡ None
+unblocked None h = refl
+unblocked (Some b) h = cc
+
+pub answered_here : (store : Storage) (key : List ℕ) (i : ℕ) (answers : List StorageAnswer) (seen : Visible) → is_blocked seen ≡ false → Answered store key i answers seen
+answered_here store key i answers seen h =
+    let none : blocker seen ≡ None = unblocked (blocker seen) h in
+    record { answer = given store key seen; task = ap (answered_by store key i answers seen) none; at = refl; value = refl; stand = own_origin seen none }
 
 module _ (block : Block) (s : State) where
   -- where the calls below d were run once no read of call d is blocked
   pub clear_below : ViewInvariant block (view_of s) → (d : ℕ) → ((j : ℕ) → j < d → IsRunOnce (call_at s j)) → (key : List ℕ) → is_blocked (visible_below (entry_at s.versions key) d) ≡ false
-  clear_below f d below key = go (visible_below (entry_at s.versions key) d) refl
+  clear_below f d below key = go (blocker (visible_below (entry_at s.versions key) d)) refl
     where
-      go : (seen : Visible) → visible_below (entry_at s.versions key) d ≡ seen → is_blocked seen ≡ false
-      go Base e = refl
-      go (Found w n content) e = refl
-      go (Blocked b) e =
+      go : (o : Option ℕ) → blocker (visible_below (entry_at s.versions key) d) ≡ o → is_some o ≡ false
+      go None e = refl
+      go (Some b) e =
           let from = blocked_at (entry_at s.versions key) d b e in
           absurd (no_estimate (write_of (call_at s b).last key) (call_at s b).incarnation (sym (executed_entries block (view_of s) f b (below b from.0).status key) ∙ from.1))
 

@@ -3,20 +3,22 @@ use Rattle.std.proofs.Common.{◌≡◌, ◌<◌, ◌≢◌, ◌++◌, ℕ, List
 use Rattle.std.specs.List.{AllByRecursion}
 use Rattle.std.specs.FinMap.{get}
 use Rattle.std.proofs.lemmas.Bool.{cond_both}
-use Rattle.read_set.specs.declared.Origin.TheVariants as origin
+use Rattle.read_set.specs.Origin.{named}
+use Rattle.read_set.specs.declared.origin.Version.{Version}
 use Rattle.rv_step.specs.declared.answer.StorageAnswer.{StorageAnswer}
 use Rattle.mvmap.specs.Versions.{entry_at}
-use Rattle.mvmap.specs.Reading.{Visible, Base, Found, Blocked, reading}
-use Rattle.mvmap.proofs.Readings.{found_at, blocked_at}
+use Rattle.mvmap.specs.Reading.{blocker, origin_in, reading}
+use Rattle.mvmap.proofs.Readings.{StandsAmong, blocked_at, named_stand}
 use Rattle.stm_state.specs.declared.state.Status.TheVariants.{Executing, Executed, Aborting}
 use Rattle.stm_state.specs.declared.state.CallState.{CallState}
 use Rattle.stm_state.specs.declared.state.Task.TheVariants.{Idle, Running}
 use Rattle.stm_state.specs.Limits.{incarnation_limit}
 use Rattle.stm_state.specs.State.{State, fresh, call_at, task_at, with_call, with_task, is_executed}
-use Rattle.stm_state.specs.Steps.{Block, answered_with, read_at, parked}
-use Rattle.stm_state.specs.Invariant.{view_of, ViewInvariant, IsRightAnswer, Invariant, IsUnturned, lowered_by, named_by, owned_by, run_by, turned_by}
+use Rattle.stm_state.specs.Steps.{Block, answered_by, given, read_at, parked}
+use Rattle.stm_state.specs.Invariant.{view_of, ViewInvariant, IsKnown, IsRightAnswer, Invariant, IsUnturned, lowered_by, named_by, owned_by, run_by, turned_by}
 use Rattle.stm_state.proofs.Lists.{all_append, stays_at, set_at}
 use Rattle.stm_state.proofs.Frames.{entries_stay, keeps_itself, keeps_unchecked, still_executing, unturned_run}
+use Rattle.stm_state.proofs.Origins.{made_of_changes}
 use Rattle.stm_state.proofs.Safes.{others_kept}
 use Rattle.stm_state.proofs.Tests.{not_executed_says, resized}
 use Rattle.stm_state.proofs.Asks.{same_entries}
@@ -54,13 +56,23 @@ module _ (block : Block) (s : State) (w i : ℕ) (answers : List StorageAnswer) 
   right_so_far : AllByRecursion (IsRightAnswer block (view_of s) i) answers
   right_so_far = f.answered w i answers waits runs
 
-  -- a read keeps the invariant, whatever is seen
-  seen_kept_by : (key : List ℕ) (seen : Visible) → reading s.versions key i ≡ seen → ViewInvariant block (view_of (with_task w (answered_with block.base key i answers seen) s))
-  seen_kept_by key Base h = goes (answers ++ record { key = key; value = get block.base key; origin = origin.Base } ∷ []) None (all_append (IsRightAnswer block (view_of s) i) answers (record { key = key; value = get block.base key; origin = origin.Base } ∷ []) right_so_far (refl, tt)) (λ b k. cc)
-  seen_kept_by key (Found v n c) h =
-      let at = found_at (entry_at s.versions key) i v n c h in
-      goes (answers ++ record { key = key; value = c; origin = origin.Version v n } ∷ []) None (all_append (IsRightAnswer block (view_of s) i) answers (record { key = key; value = c; origin = origin.Version v n } ∷ []) right_so_far ((at.0, inl (c, at.1), λ x there. let two = at.1 in cc), tt)) (λ b k. cc)
-  seen_kept_by key (Blocked b) h = goes answers (Some b) right_so_far (λ x k. let same : b ≡ x = cc in let low = (blocked_at (entry_at s.versions key) i b h).0 in omega (arith, same, low))
+  -- versions that stand are known
+  known_all : (key : List ℕ) (versions : List Version) → AllByRecursion (StandsAmong (entry_at s.versions key) i) versions → AllByRecursion (IsKnown (view_of s) i key) versions
+  known_all key [] h = tt
+  known_all key (version ∷ versions) h = ((h.0.0, inl h.0.1), known_all key versions h.1)
+
+  -- what the run is given is right
+  given_right : (key : List ℕ) → IsRightAnswer block (view_of s) i (given block.base key (reading s.versions key i))
+  given_right key = record {
+    known = known_all key (named (origin_in (reading s.versions key i))) (named_stand (entry_at s.versions key) i);
+    value_is = λ changes stand. made_of_changes (entry_at s.versions key) i (get block.base key) changes stand;
+  }
+
+  -- a read keeps the invariant, whether an estimate is met or not
+  seen_kept_by : (key : List ℕ) (o : Option ℕ) → blocker (reading s.versions key i) ≡ o → ViewInvariant block (view_of (with_task w (answered_by block.base key i answers (reading s.versions key i) o) s))
+  seen_kept_by key None h = goes (answers ++ given block.base key (reading s.versions key i) ∷ []) None
+      (all_append (IsRightAnswer block (view_of s) i) answers (given block.base key (reading s.versions key i) ∷ []) right_so_far (given_right key, tt)) (λ b k. cc)
+  seen_kept_by key (Some b) h = goes answers (Some b) right_so_far (λ x k. let same : b ≡ x = cc in let low = (blocked_at (entry_at s.versions key) i b h).0 in omega (arith, same, low))
 
   -- a call that is parked
   abbrev waiting : ℕ → CallState
@@ -91,7 +103,7 @@ module _ (block : Block) (s : State) (w i : ℕ) (answers : List StorageAnswer) 
 pub read_kept : (block : Block) (workers w i : ℕ) (answers : List StorageAnswer) (key : List ℕ) (s : State) → Invariant block workers s → w < workers → task_at s w ≡ Running i answers None → Invariant block workers (read_at block.base key w i answers s)
 read_kept block workers w i answers key s h w_in runs = record {
   sized = resized block.count workers s _ refl (length-set s.tasks w _) refl refl h.sized;
-  facts = seen_kept_by block s w i answers None h.facts runs (let e = h.sized.tasks in omega (arith, e)) key (reading s.versions key i) refl;
+  facts = seen_kept_by block s w i answers None h.facts runs (let e = h.sized.tasks in omega (arith, e)) key (blocker (reading s.versions key i)) refl;
 }
 
 -- parking keeps the invariant, whether the call is parked or its run starts again

@@ -4,21 +4,22 @@ use Rattle.std.specs.Ordering.{eq_by_cmp}
 use Rattle.std.specs.Cmp.Lexicographic.{nat_list_cmp_total}
 use Rattle.std.specs.FinMap.{get, empty, entries, get-empty, get-insert, entries-insert, len-empty, len-entries}
 use Rattle.std.specs.FinMap.Entries.{put}
-use Rattle.version_arena.specs.ArenaState.{Content}
+use Rattle.rv_ledger.specs.Change.{Content, ContentChange}
+use Rattle.rv_ledger.specs.declared.change.Change.TheVariants as change
 use Rattle.rv_ledger.specs.Key.{key_cmp}
 use Rattle.rv_ledger.specs.declared.receipt.Receipt.{Receipt}
 use Rattle.rv_step.specs.Chain.{Reply}
 use Rattle.stm_state.specs.Rows.{Turn, Reads, Ends, Script, writes_of, at_end, on_reply, borne_from}
 
 -- the entries of the writes that numbers tell
-abbrev pub entries_of : List ℕ → List (List ℕ × Content)
+abbrev pub entries_of : List ℕ → List (List ℕ × ContentChange)
 entries_of [] = []
-entries_of (key ∷ value) = (key ∷ [], Some value) ∷ []
+entries_of (key ∷ value) = (key ∷ [], change.Value value) ∷ []
 
 -- what those writes have at a key
-abbrev pub value_of : List ℕ → List ℕ → Option Content
+abbrev pub value_of : List ℕ → List ℕ → Option ContentChange
 value_of [] key = None
-value_of (k ∷ value) key = cond (eq_by_cmp key_cmp key (k ∷ [])) (Some (Some value)) None
+value_of (k ∷ value) key = cond (eq_by_cmp key_cmp key (k ∷ [])) (Some (change.Value value)) None
 
 -- a list of length 0 has no entry
 no_entries : {X : Type 0} (xs : List X) → length xs ≡ 0 → xs ≡ []
@@ -26,19 +27,19 @@ no_entries [] h = refl
 no_entries (x ∷ xs) h = cc
 
 -- no writes have no entries
-entries_empty : entries (empty {X = Content} {R = key_cmp}) ≡ []
-entries_empty = no_entries (entries (empty {X = Content} {R = key_cmp})) (sym (len-entries (empty {X = Content} {R = key_cmp})) ∙ len-empty key_cmp Content)
+entries_empty : entries (empty {X = ContentChange} {R = key_cmp}) ≡ []
+entries_empty = no_entries (entries (empty {X = ContentChange} {R = key_cmp})) (sym (len-entries (empty {X = ContentChange} {R = key_cmp})) ∙ len-empty key_cmp ContentChange)
 
 -- the entries of writes are those that their numbers tell
 pub entries_are : (write : List ℕ) → entries (writes_of write) ≡ entries_of write
 entries_are [] = entries_empty
-entries_are (key ∷ value) = entries-insert nat_list_cmp_total (empty {X = Content} {R = key_cmp}) (key ∷ []) (Some value) ∙ ap (put key_cmp (key ∷ []) (Some value)) entries_empty
+entries_are (key ∷ value) = entries-insert nat_list_cmp_total (empty {X = ContentChange} {R = key_cmp}) (key ∷ []) (change.Value value) ∙ ap (put key_cmp (key ∷ []) (change.Value value)) entries_empty
 
 -- and so is what they have at a key
 pub value_is : (write key : List ℕ) → get (writes_of write) key ≡ value_of write key
 value_is [] key = get-empty key_cmp key
-value_is (k ∷ value) key = get-insert nat_list_cmp_total (empty {X = Content} {R = key_cmp}) (k ∷ []) (Some value) key
-    ∙ ap (cond (eq_by_cmp key_cmp key (k ∷ [])) (Some (Some value))) (get-empty key_cmp key)
+value_is (k ∷ value) key = get-insert nat_list_cmp_total (empty {X = ContentChange} {R = key_cmp}) (k ∷ []) (change.Value value) key
+    ∙ ap (cond (eq_by_cmp key_cmp key (k ∷ [])) (Some (change.Value value))) (get-empty key_cmp key)
 
 -- a receipt at an end is shaped so
 shaped_end : (turn : Turn) (r : Receipt) → at_end turn ≡ Some r → r.writes ≡ writes_of r.regs

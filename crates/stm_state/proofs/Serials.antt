@@ -4,29 +4,30 @@ use Rattle.std.specs.List.{AllByRecursion, list_all}
 use Rattle.std.specs.FinMap.{get, empty, get-empty}
 use Rattle.std.proofs.lemmas.Bool.{and_parts, cases_lt}
 use Rattle.std.proofs.lemmas.List.{get_or_past}
-use Rattle.version_arena.specs.ArenaState.{Content}
+use Rattle.rv_ledger.specs.Change.{Content, ContentChange}
+use Rattle.rv_ledger.specs.declared.change.Change.TheVariants as change
 use Rattle.rv_ledger.specs.Key.{Storage, key_cmp}
 use Rattle.rv_ledger.specs.declared.end.End.TheVariants.{Returned}
 use Rattle.rv_ledger.specs.declared.receipt.Receipt.{Receipt}
-use Rattle.read_set.specs.declared.Origin.{Origin}
-use Rattle.read_set.specs.declared.Origin.TheVariants as origin
+use Rattle.read_set.specs.Origin.{Origin, named}
 use Rattle.rv_step.specs.Chain.{Reply, AreFrom}
 use Rattle.rv_step.specs.Fold.{apply_writes}
 use Rattle.rv_step.specs.Replies.{replies_of}
 use Rattle.rv_step.specs.declared.answer.StorageAnswer.{StorageAnswer}
 use Rattle.mvmap.specs.Versions.{Estimate, Stands, entry_at}
-use Rattle.mvmap.specs.Reading.{Visible, visible_over, visible_below, reading, is_origin, stands_among, value_seen}
-use Rattle.mvmap.proofs.Readings.{found_at, base_shown, version_shown}
+use Rattle.mvmap.specs.Reading.{Visible, visible_over, visible_below, reading, is_origin, origin_in, stands_among, value_seen}
+use Rattle.mvmap.proofs.Readings.{origin_seen}
 use Rattle.stm_state.specs.declared.state.Status.{Status}
 use Rattle.stm_state.specs.declared.state.Status.TheVariants.{Ready, Executing, Executed, Aborting}
 use Rattle.stm_state.specs.declared.state.Recorded.{Recorded}
 use Rattle.stm_state.specs.declared.state.Task.TheVariants.{Idle}
 use Rattle.stm_state.specs.State.{State, fresh, call_at, task_at, is_idle, is_done}
 use Rattle.stm_state.specs.Steps.{Block, read_of, reads_of, write_of}
-use Rattle.stm_state.specs.Invariant.{view_of, ViewInvariant, AreSafe, Invariant, IsCovered, IsRight, IsRightAnswer, validated, ahead, entry_of, lowered_by}
+use Rattle.stm_state.specs.Invariant.{view_of, ViewInvariant, AreSafe, Invariant, IsCovered, IsRight, IsRightAnswer, StandWith, validated, ahead, entry_of, lowered_by}
 use Rattle.stm_state.specs.Done.{HasVersionsAlone, Reached, IsSerial}
+use Rattle.stm_state.proofs.Origins.{made_of_changes, seen_changes}
 use Rattle.stm_state.proofs.Tests.{equal_says, idle_at_done}
-use Rattle.stm_state.proofs.Writes.{over, laid_get}
+use Rattle.stm_state.proofs.Writes.{over, applied_get}
 use Rattle.stm_state.proofs.Asks.{executed_entries}
 use Rattle.stm_state.proofs.Whole.{invariant_kept}
 
@@ -67,12 +68,14 @@ store_after_receipts base receipt zero = base
 store_after_receipts base receipt (suc i) = apply_writes (store_after_receipts base receipt i) (receipt i).writes
 
 -- what is seen of an EXECUTED call lies over what is seen below it
-pub held_see : (base : Option (List ℕ)) (i n : ℕ) (o : Option Content) (below : Visible) → value_seen base (visible_over i (option_map (λ c. Stands n c) o) below) ≡ over o (value_seen base below)
+pub held_see : (base : Content) (i n : ℕ) (o : Option ContentChange) (below : Visible) → value_seen base (visible_over i (option_map (λ c. Stands n c) o) below) ≡ over o (value_seen base below)
 held_see base i n None below = refl
-held_see base i n (Some c) below = refl
+held_see base i n (Some (change.Value value)) below = refl
+held_see base i n (Some change.Gone) below = refl
+held_see base i n (Some (change.Sum amount)) below = refl
 
 -- a version is no estimate
-pub no_estimate : (o : Option Content) (n : ℕ) → option_map (λ c. Stands n c) o ≢ Some Estimate
+pub no_estimate : (o : Option ContentChange) (n : ℕ) → option_map (λ c. Stands n c) o ≢ Some Estimate
 no_estimate None n h = cc
 no_estimate (Some c) n h = cc
 
@@ -137,24 +140,22 @@ module _ (block : Block) (s : State) (f : ViewInvariant block (view_of s)) (over
   unfolding visible_below
   seen_is_store zero l key = refl
   seen_is_store (suc i) l key =
-      let o : Option Content = get (receipt_at i).writes key in
+      let o : Option ContentChange = get (receipt_at i).writes key in
       let below : Visible = visible_below (entry_at s.versions key) i in
       let own : entry_at s.versions key i ≡ option_map (λ c. Stands (call_at s i).incarnation c) o = entry_is i (omega arith) key ∙ ap (option_map (λ c. Stands (call_at s i).incarnation c)) (write_is (call_at s i).last key) in
       ap (λ e. value_seen (get block.base key) (visible_over i e below)) own
       ∙ held_see (get block.base key) i (call_at s i).incarnation o below
       ∙ ap (over o) (seen_is_store i (omega arith) key)
-      ∙ sym (laid_get (before i) (receipt_at i).writes key)
+      ∙ sym (applied_get (before i) (receipt_at i).writes key)
 
   -- an answer whose read stands is that of the storage before the call
   answer_is : (i : ℕ) → i ≤ block.count → (key : List ℕ) (value : Content) (o : Origin) → is_origin o (reading s.versions key i) ≡ true → IsRight block (view_of s) i key value o → value ≡ get (before i) key
-  answer_is i l key value origin.Base stand right =
-      right ∙ ap (value_seen (get block.base key)) (sym (base_shown (reading s.versions key i) stand)) ∙ seen_is_store i l key
-  answer_is i l key value (origin.Version v n) stand right =
-      let shown = version_shown v n (reading s.versions key i) stand in
-      let at = found_at (entry_at s.versions key) i v n shown.0 shown.1 in
-      let there : entry_at s.versions key v ≡ Some (Stands n shown.0) = at.1 in
-      let content : shown.0 ≡ get (before i) key = ap (value_seen (get block.base key)) (sym shown.1) ∙ seen_is_store i l key in
-      right.2 shown.0 there ∙ content
+  answer_is i l key value o stand right =
+      let e = entry_at s.versions key in
+      let same : origin_in (reading s.versions key i) ≡ o = origin_seen o (reading s.versions key i) stand in
+      let told = seen_changes e i in
+      right.value_is told.0 (subst (λ (x : Origin). StandWith e (named x) told.0) same told.1)
+      ∙ sym (made_of_changes e i (get block.base key) told.0 told.1) ∙ seen_is_store i l key
 
   -- the answers of a run whose reads stand are those of the storage before the call
   answers_are : (i : ℕ) → i ≤ block.count → (answers : List StorageAnswer) → AllByRecursion (λ read. stands_among (entry_at s.versions) i read ≡ true) (map read_of answers) → AllByRecursion (IsRightAnswer block (view_of s) i) answers → AreFrom (before i) (replies_of answers)

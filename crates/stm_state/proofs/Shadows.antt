@@ -4,15 +4,14 @@ use Rattle.std.specs.List.{list_any, list_all, filter}
 use Rattle.std.specs.Ordering.{eq_by_cmp}
 use Rattle.std.specs.FinMap.{get, empty, entries, len, get-empty, len-entries, contains_key}
 use Rattle.std.proofs.lemmas.Bool.{and_parts, cond_both}
-use Rattle.version_arena.specs.ArenaState.{Content}
+use Rattle.rv_ledger.specs.Change.{Content, ContentChange}
 use Rattle.rv_ledger.specs.Key.{key_cmp}
 use Rattle.rv_ledger.specs.declared.receipt.Receipt.{Receipt}
-use Rattle.read_set.specs.declared.Origin.TheVariants as origin
 use Rattle.read_set.specs.declared.Read.{Read}
 use Rattle.rv_step.specs.Replies.{replies_of}
 use Rattle.rv_step.specs.declared.answer.StorageAnswer.{StorageAnswer}
 use Rattle.mvmap.specs.Versions.{Entry, Versions, Stands, Estimate, changed, entry_at, place_cmp}
-use Rattle.mvmap.specs.Reading.{Visible, Base, Found, Blocked, visible_below, reading, is_origin, stands_among}
+use Rattle.mvmap.specs.Reading.{Visible, blocker, origin_in, value_seen, visible_below, reading, is_origin, stands_among}
 use Rattle.mvmap.proofs.Readings.{seen_same}
 use Rattle.stm_state.specs.declared.state.Status.TheVariants.{Aborting}
 use Rattle.stm_state.specs.declared.state.CallState.{CallState}
@@ -21,7 +20,7 @@ use Rattle.stm_state.specs.declared.state.Task.{Task}
 use Rattle.stm_state.specs.declared.state.Task.TheVariants.{Idle, Running, Moving, Validating, Marking}
 use Rattle.stm_state.specs.Limits.{record_limit, incarnation_limit}
 use Rattle.stm_state.specs.State.{State, start, call_at, task_at, with_call, with_task, is_executed, is_ready, is_done}
-use Rattle.stm_state.specs.Steps.{Step, Ask, Read_key, Park, Record, Move_key, Finish_execution, Check_read, Decide, Mark_estimate, Finish_abort, Limit, ArenaFull, IncarnationLimit, counted, one_step, one_asking, one_execution, one_validation, ask_validation, ask_execution, asked, answered_with, parked, written_by, left_over, wrote, has_new_key, keys_of, keys_to_move, version_of, write_of, resume_dependents, to_validate, recorded_run, moved, executed, is_executed_at, read_stands, next_stands, checked, decided, marked, aborted, record_within, reads_of, step_with, worker_step}
+use Rattle.stm_state.specs.Steps.{Step, Ask, Read_key, Park, Record, Move_key, Finish_execution, Check_read, Decide, Mark_estimate, Finish_abort, Limit, ArenaFull, IncarnationLimit, counted, one_step, one_asking, one_execution, one_validation, ask_validation, ask_execution, asked, answered_by, answered_with, parked, written_by, left_over, wrote, has_new_key, keys_of, keys_to_move, version_of, write_of, resume_dependents, to_validate, recorded_run, moved, executed, is_executed_at, read_stands, next_stands, checked, decided, marked, aborted, record_within, reads_of, step_with, worker_step}
 use Rattle.stm_state.specs.Invariant.{view_of, ViewInvariant}
 use Rattle.stm_state.specs.Done.{Reached, started, stepped}
 use Rattle.stm_state.specs.Rows.{Script, writes_of, borne_from, block_of_scripts, due_step, after_schedule, echo}
@@ -47,11 +46,11 @@ abbrev changed_by : Entries → List ℕ → ℕ → Option Entry → Entries
 changed_by e k i o key j = cond (j == i) (cond (eq_by_cmp key_cmp key k) o (e key j)) (e key j)
 
 -- what a recorded run wrote at a key, and which entries it wrote
-abbrev written : Option Recorded → List ℕ → Option Content
+abbrev written : Option Recorded → List ℕ → Option ContentChange
 written None key = None
 written (Some run) key = value_of run.receipt.regs key
 
-abbrev listed : Option Recorded → List (List ℕ × Content)
+abbrev listed : Option Recorded → List (List ℕ × ContentChange)
 listed None = []
 listed (Some run) = entries_of run.receipt.regs
 
@@ -74,13 +73,15 @@ keys_by last write = keys_of (entries_of write) ++ keys_of (filter (λ e. not (i
 
 -- the version of a call's run at a key
 abbrev version_by : CallState → List ℕ → Option Entry
-version_by call key = option_map (λ content. Stands call.incarnation content) (written call.last key)
+version_by call key = option_map (λ change. Stands call.incarnation change) (written call.last key)
 
 -- the task after an answer
-abbrev answered_by : List ℕ → ℕ → List StorageAnswer → Visible → Task
-answered_by key i answers Base = Running i (answers ++ record { key = key; value = None; origin = origin.Base } ∷ []) None
-answered_by key i answers (Found w n content) = Running i (answers ++ record { key = key; value = content; origin = origin.Version w n } ∷ []) None
-answered_by key i answers (Blocked b) = Running i answers (Some b)
+abbrev answer_by : List ℕ → ℕ → List StorageAnswer → Visible → Option ℕ → Task
+answer_by key i answers seen None = Running i (answers ++ record { key = key; value = value_seen None seen; origin = origin_in seen } ∷ []) None
+answer_by key i answers seen (Some b) = Running i answers (Some b)
+
+abbrev told_by : List ℕ → ℕ → List StorageAnswer → Visible → Task
+told_by key i answers seen = answer_by key i answers seen (blocker seen)
 
 -- a record, with how many keys it wrote, which it is to move, and whether one is new
 abbrev recorded_by : ℕ → ℕ → List StorageAnswer → Receipt → State → ℕ → List (List ℕ) → Bool → Option (Result State Limit)
@@ -109,7 +110,7 @@ decided_by w i n failed keys s =
 -- a step
 abbrev step_by : List Script → ℕ → Task → Step → Entries → State → Option (Result State Limit)
 step_by scripts w Idle Ask e s = Some (Ok (counted one_asking w (asked w s)))
-step_by scripts w (Running i answers None) (Read_key key) e s = Some (Ok (counted one_step w (with_task w (answered_by key i answers (visible_below (e key) i)) s)))
+step_by scripts w (Running i answers None) (Read_key key) e s = Some (Ok (counted one_step w (with_task w (told_by key i answers (visible_below (e key) i)) s)))
 step_by scripts w (Running i answers (Some b)) Park e s =
     if nat_le incarnation_limit (call_at s i).incarnation then Some (Err IncarnationLimit) else Some (Ok (counted one_step w (parked w i b s)))
 step_by scripts w (Running i answers None) Record e s = within_by i answers w (borne_from (get_or scripts i echo) [] (replies_of answers)) s
@@ -148,10 +149,12 @@ filter_same f g h [] = refl
 filter_same f g h (x ∷ xs) = ap (λ b. cond b (x ∷ filter f xs) (filter f xs)) (h x) ∙ ap (λ ys. cond (g x) (x ∷ ys) ys) (filter_same f g h xs)
 
 -- the task after an answer is that task
-answered_same : (key : List ℕ) (i : ℕ) (answers : List StorageAnswer) (seen : Visible) → answered_with empty key i answers seen ≡ answered_by key i answers seen
-answered_same key i answers Base = ap (λ (c : Content). Running i (answers ++ record { key = key; value = c; origin = origin.Base } ∷ []) None) (get-empty key_cmp key)
-answered_same key i answers (Found w n content) = refl
-answered_same key i answers (Blocked b) = refl
+answered_same : (key : List ℕ) (i : ℕ) (answers : List StorageAnswer) (seen : Visible) → answered_with empty key i answers seen ≡ told_by key i answers seen
+answered_same key i answers seen = go (blocker seen)
+  where
+    go : (o : Option ℕ) → answered_by empty key i answers seen o ≡ answer_by key i answers seen o
+    go None = ap (λ (c : Content). Running i (answers ++ record { key = key; value = value_seen c seen; origin = origin_in seen } ∷ []) None) (get-empty key_cmp key)
+    go (Some b) = refl
 
 -- versions have these entries
 abbrev AreEntries : Entries → Versions → Type 0
@@ -285,7 +288,7 @@ module _ (scripts : List Script) (workers : ℕ) (s : State) (reached : Reached 
     step_same : (w : ℕ) (task : Task) (step : Step) → step_with (block_of_scripts scripts) w task step s ≡ step_by scripts w task step e s
     step_same w Idle Ask = refl
     step_same w (Running i answers None) (Read_key key) =
-        ap (λ task. Some (Ok (counted one_step w (with_task w task s)))) (answered_same key i answers (reading s.versions key i) ∙ ap (answered_by key i answers) (seen_same_by key i))
+        ap (λ task. Some (Ok (counted one_step w (with_task w task s)))) (answered_same key i answers (reading s.versions key i) ∙ ap (told_by key i answers) (seen_same_by key i))
     step_same w (Running i answers (Some b)) Park = refl
     step_same w (Running i answers None) Record = within_same i answers w (borne_from (get_or scripts i echo) [] (replies_of answers)) refl
     step_same w (Moving i (key ∷ keys) new) Move_key = refl

@@ -20,7 +20,7 @@ use Rattle.stm_state.proofs.Cases.{IsMade, by_ask, by_read, by_park, by_record, 
 use Rattle.stm_state.proofs.Lists.{one_element}
 use Rattle.stm_state.proofs.Whole.{worker_kept, invariant_kept}
 use Rattle.stm_state.proofs.Serials.{IsOver, over_at_done}
-use Rattle.stm_state.proofs.Rounds.{Stage, first_stage, begun, all_first, is_over, told_stage, answered_by, clear_below, task_stage, to_run, run_asked, run_stage, answer_stands, kept, all_stand, after_record, record_stage, after_move, moved_stands, moved_stage, finished, executed_is, finished_stands, finish_stage, to_check, check_asked, check_stage, check_stands, none_taken}
+use Rattle.stm_state.proofs.Rounds.{Stage, first_stage, begun, all_first, is_over, told_stage, answered_here, clear_below, task_stage, to_run, run_asked, run_stage, answer_stands, kept, all_stand, after_record, record_stage, after_move, moved_stands, moved_stage, finished, executed_is, finished_stands, finish_stage, to_check, check_asked, check_stage, check_stands, none_taken}
 
 -- ---- what the worker did
 
@@ -227,7 +227,7 @@ module _ (block : Block) where
     -- a read
     read_on : (i : ℕ) (answers : List StorageAnswer) (key : List ℕ) → Runs i answers s → Goes one_step (read_at block.base key 0 i answers s)
     read_on i answers key h =
-        let told = answered_by block.base key i answers (reading s.versions key i) (clear_below block s h.now.inv.facts i h.now.below key) in
+        let told = answered_here block.base key i answers (reading s.versions key i) (clear_below block s h.now.inv.facts i h.now.below key) in
         subst (λ (task : Task). Goes one_step (with_task 0 task s)) (sym told.task) (λ inv. runs i (answers ++ told.answer ∷ []) (record {
           now = task_stage block s i begun (i + 1) i (Running i answers None) (Running i (answers ++ told.answer ∷ []) None) one_step h.now inv;
           did = after_step s (with_task 0 (Running i (answers ++ told.answer ∷ []) None) s) refl refl h.now.inv.sized.counts (2 * i + 1) i i h.did;

@@ -28,7 +28,7 @@ use Rattle.stm_state.proofs.Askings.{asks_next, asks_none}
 use Rattle.stm_state.proofs.Rooms.{ends_few}
 use Rattle.stm_state.proofs.Paths.{Leads, leads_none, leads_next}
 use Rattle.stm_state.proofs.Phases.{HasReceipt, sees, did, Now, Takes, unblocked, still, one_more}
-use Rattle.stm_state.proofs.Rounds.{Stage, begun, kept, not_done, Answered, answered_by, clear_below, task_stage, answer_stands, all_stand, after_record, kept_else, record_stage, after_move, moved_stands, moved_stage, finished, done_last, done_else, executed_is, finished_stands, finish_stage, to_check, check_over, check_asked, check_stage, check_stands, none_taken}
+use Rattle.stm_state.proofs.Rounds.{Stage, begun, kept, not_done, Answered, answered_here, clear_below, task_stage, answer_stands, all_stand, after_record, kept_else, record_stage, after_move, moved_stands, moved_stage, finished, done_last, done_else, executed_is, finished_stands, finish_stage, to_check, check_over, check_asked, check_stage, check_stands, none_taken}
 
 -- the run of call d goes on: it was given the first of its replies, and these reads stand
 pub record Going (calls : List Invocation) (store : Storage) (d : ℕ) (call : Invocation) (answers : List StorageAnswer) (rest : List Reply) (counts : Counts) (s : State) : Type 0 where
@@ -64,7 +64,7 @@ module _ (calls : List Invocation) (store : Storage) (d : ℕ) (call : Invocatio
     is_seen = sees calls store d s stage.inv.facts stage.below going.now.receipts (omega (arith, within)) reply.0 d (omega arith)
 
     told : Answered store reply.0 d answers seen
-    told = answered_by store reply.0 d answers seen (clear_below (block_of calls store) s stage.inv.facts d stage.below reply.0)
+    told = answered_here store reply.0 d answers seen (clear_below (block_of calls store) s stage.inv.facts d stage.below reply.0)
 
     is_reply : reply_of told.answer ≡ reply
     is_reply = ap (λ k. (k, told.answer.value)) told.at ∙ ap (λ v. (reply.0, v)) (told.value ∙ is_seen ∙ sym going.from.0)

@@ -1,4 +1,4 @@
--- What a map has after an entry was changed, or writes were laid over a storage, and which keys a run is to move.
+-- What a map has after an entry was changed, or writes were applied to a storage, and which keys a run is to move.
 use Rattle.std.proofs.Common.{◌≡◌, ◌≢◌, ◌&&◌, ◌||◌, ℕ, Bool, true, false, not, cond, T, is_some, option_map, fold, map, List, [], ◌∷◌, ◌++◌, Option, None, Some, refl, sym, ap, ◌∙◌, inl, inr}
 use Rattle.std.specs.declared.cmp.Ordering.{Ordering}
 use Rattle.std.specs.declared.cmp.Ordering.TheVariants.{Less, Equal, Greater}
@@ -12,7 +12,8 @@ use Rattle.std.proofs.lemmas.Bool.{or_parts}
 use Rattle.std.proofs.lemmas.List.Folds.{list_any-append}
 use Rattle.std.proofs.lemmas.Map.Lookups.{exact_bytes}
 use Rattle.std.proofs.lemmas.Map.Views.{tells_apart}
-use Rattle.version_arena.specs.ArenaState.{Content}
+use Rattle.rv_ledger.specs.Change.{Content, ContentChange, add, apply_change}
+use Rattle.rv_ledger.specs.declared.change.Change.TheVariants as change
 use Rattle.rv_ledger.specs.Key.{Storage, WriteMap, key_cmp}
 use Rattle.rv_step.specs.Fold.{apply_writes, apply_write}
 use Rattle.mvmap.specs.Versions.{Entry, Stands, Estimate, Place, Versions, changed, place_cmp}
@@ -206,53 +207,61 @@ no_new_key last writes key none there =
 -- ---- entries by what a run wrote
 
 -- a version by what a run wrote is at its incarnation, and the run wrote it
-pub version_is : (o : Option Content) (m n : ℕ) (x : Content) → option_map (λ c. Stands m c) o ≡ Some (Stands n x) → (n ≡ m) × (o ≡ Some x)
+pub version_is : (o : Option ContentChange) (m n : ℕ) (x : ContentChange) → option_map (λ c. Stands m c) o ≡ Some (Stands n x) → (n ≡ m) × (o ≡ Some x)
 version_is None m n x h = cc
 version_is (Some c) m n x h = (cc, let same : c ≡ x = cc in ap Some same)
 
 -- an estimate is no version
-pub no_version : (o : Option Content) (n : ℕ) (x : Content) → option_map (λ c. Estimate) o ≡ Some (Stands n x) → ⊥
+pub no_version : (o : Option ContentChange) (n : ℕ) (x : ContentChange) → option_map (λ c. Estimate) o ≡ Some (Stands n x) → ⊥
 no_version None n x h = cc
 no_version (Some c) n x h = cc
 
--- ---- writes laid over a storage
+-- ---- writes applied to a storage
 
--- a content over what was there
-abbrev pub over : Option Content → Option (List ℕ) → Option (List ℕ)
+-- what a key has after a change, if there is one
+abbrev pub over : Option ContentChange → Content → Content
 over None old = old
-over (Some content) old = content
+over (Some c) old = apply_change c old
+
+chosen : (k key : List ℕ) (store : Storage) (amount : ℕ) (b : Bool) → (b ≡ true → key ≡ k) → cond b (Some (add (get store k) amount)) (get store key) ≡ cond b (Some (add (get store key) amount)) (get store key)
+chosen k key store amount true same = ap (λ q. Some (add (get store q) amount)) (sym (same refl))
+chosen k key store amount false same = refl
 
 -- what a storage has after one write
-get_laid_at : (store : Storage) (k : List ℕ) (content : Content) (key : List ℕ) → get (apply_write store k content) key ≡ cond (eq_by_cmp key_cmp key k) content (get store key)
-get_laid_at store k None key = get-remove nat_list_cmp_total store k key
-get_laid_at store k (Some value) key = get-insert nat_list_cmp_total store k value key
+get_applied : (store : Storage) (k : List ℕ) (c : ContentChange) (key : List ℕ) → get (apply_write store k c) key ≡ cond (eq_by_cmp key_cmp key k) (apply_change c (get store key)) (get store key)
+get_applied store k (change.Value value) key = get-insert nat_list_cmp_total store k value key
+get_applied store k change.Gone key = get-remove nat_list_cmp_total store k key
+get_applied store k (change.Sum amount) key =
+    get-insert nat_list_cmp_total store k (add (get store k) amount) key ∙ chosen k key store amount (eq_by_cmp key_cmp key k) (same_key key k)
 
--- a choice made twice
-picked : (a b : Bool) (x y o : Option (List ℕ)) → (b ≡ true → x ≡ y) → cond a y (cond b x o) ≡ cond (b || a) y o
-picked true true x y o h = refl
-picked true false x y o h = refl
-picked false true x y o h = h refl
-picked false false x y o h = refl
+-- the change of a key among some writes, of which one at most is at it
+abbrev change_at : List ℕ → List (List ℕ × ContentChange) → Option ContentChange
+change_at key [] = None
+change_at key (e ∷ es) = cond (eq_by_cmp key_cmp key e.0) (Some e.1) (change_at key es)
 
--- what a storage has after some writes
-laid_all : (es : List (List ℕ × Content)) (store : Storage) (key : List ℕ) (x : Option (List ℕ)) → AllByRecursion (λ e. key ≡ e.0 → e.1 ≡ x) es → get (fold (λ before write. apply_write before write.0 write.1) store es) key ≡ cond (at_key key es) x (get store key)
-laid_all [] store key x all = refl
-laid_all (e ∷ es) store key x all =
-    laid_all es (apply_write store e.0 e.1) key x all.1
-    ∙ ap (cond (at_key key es) x) (get_laid_at store e.0 e.1 key)
-    ∙ picked (at_key key es) (eq_by_cmp key_cmp key e.0) e.1 x (get store key) (λ t. all.0 (same_key key e.0 t))
+none_at : (key : List ℕ) (es : List (List ℕ × ContentChange)) → at_key key es ≡ false → change_at key es ≡ None
+none_at key [] h = refl
+none_at key (e ∷ es) h = let both = or_parts (eq_by_cmp key_cmp key e.0) (at_key key es) h in ap (λ b. cond b (Some e.1) (change_at key es)) both.0 ∙ none_at key es both.1
 
--- a choice by whether there is a content
-over_is : (o : Option Content) (old : Option (List ℕ)) → cond (is_some o) (over o None) old ≡ over o old
-over_is None old = refl
-over_is (Some c) old = refl
+-- a storage after writes with distinct keys
+applied_all : (es : List (List ℕ × ContentChange)) (store : Storage) (key : List ℕ) → AreDistinct (map (λ e. e.0) es) → get (fold (λ before write. apply_write before write.0 write.1) store es) key ≡ over (change_at key es) (get store key)
+applied_all [] store key distinct = refl
+applied_all (e ∷ es) store key distinct =
+    applied_all es (apply_write store e.0 e.1) key distinct.1
+    ∙ ap (over (change_at key es)) (get_applied store e.0 e.1 key)
+    ∙ go (eq_by_cmp key_cmp key e.0) refl
+  where
+    go : (b : Bool) → eq_by_cmp key_cmp key e.0 ≡ b → over (change_at key es) (cond b (apply_change e.1 (get store key)) (get store key)) ≡ over (cond b (Some e.1) (change_at key es)) (get store key)
+    go true h = ap (λ o. over o (apply_change e.1 (get store key))) (ap (λ k. change_at k es) (same_key key e.0 h) ∙ none_at e.0 es distinct.0)
+    go false h = refl
 
--- a storage with writes laid over it has at a key what was written there, and else what it had
-pub laid_get : (store : Storage) (writes : WriteMap) (key : List ℕ) → get (apply_writes store writes) key ≡ over (get writes key) (get store key)
+found_change : (key : List ℕ) (es : List (List ℕ × ContentChange)) → change_at key es ≡ find key_cmp key es
+found_change key [] = refl
+found_change key (e ∷ es) = ap (cond (eq_by_cmp key_cmp key e.0) (Some e.1)) (found_change key es)
+
+-- a storage after writes has at a key what the change of it makes of what it had
+pub applied_get : (store : Storage) (writes : WriteMap) (key : List ℕ) → get (apply_writes store writes) key ≡ over (get writes key) (get store key)
 unfolding apply_writes
-laid_get store writes key =
-    laid_all (entries writes) store key (over (get writes key) None)
-    (all_map (λ e. get writes e.0 ≡ Some e.1) (λ e. key ≡ e.0 → e.1 ≡ over (get writes key) None)
-    (λ e found same. sym (ap (λ o. over o None) (ap (get writes) same ∙ found))) (entries writes) (entries_found writes))
-    ∙ ap (λ b. cond b (over (get writes key) None) (get store key)) (sym (contains_key-keys writes key))
-    ∙ over_is (get writes key) (get store key)
+applied_get store writes key =
+    applied_all (entries writes) store key (distinct_in_order (entries writes) (entries_sorted writes))
+    ∙ ap (λ o. over o (get store key)) (found_change key (entries writes) ∙ sym (get-entries writes key))

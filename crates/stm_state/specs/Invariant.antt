@@ -6,9 +6,9 @@ use Rattle.std.specs.Ordering.{eq_by_cmp}
 use Rattle.rv_ledger.specs.Key.{key_cmp}
 use Rattle.std.specs.Option.{option_map}
 use Rattle.std.specs.FinMap.{get}
-use Rattle.version_arena.specs.ArenaState.{Content}
-use Rattle.read_set.specs.declared.Origin.{Origin}
-use Rattle.read_set.specs.declared.Origin.TheVariants as origin
+use Rattle.rv_ledger.specs.Change.{Content, ContentChange, apply_change}
+use Rattle.read_set.specs.Origin.{Origin, named}
+use Rattle.read_set.specs.declared.origin.Version.{Version}
 use Rattle.read_set.specs.declared.Read.{Read}
 use Rattle.rv_step.specs.Replies.{replies_of}
 use Rattle.rv_step.specs.declared.answer.StorageAnswer.{StorageAnswer}
@@ -92,9 +92,9 @@ named_by (Validating i n left failed) = Some i
 named_by (Marking i keys) = Some i
 
 -- the entry for what a call wrote: a version at its incarnation if the call is EXECUTED, and else an estimate
-abbrev pub entry_by : Bool → ℕ → Option Content → Option Entry
-entry_by true n content = option_map (λ c. Stands n c) content
-entry_by false n content = option_map (λ c. Estimate) content
+abbrev pub entry_by : Bool → ℕ → Option ContentChange → Option Entry
+entry_by true n change = option_map (λ c. Stands n c) change
+entry_by false n change = option_map (λ c. Estimate) change
 
 abbrev pub entry_of : CallState → List ℕ → Option Entry
 entry_of call key = entry_by (is_executed call.status) call.incarnation (write_of call.last key)
@@ -110,13 +110,28 @@ pub record IsWaiting (v : View) (i : ℕ) : Type 0 where
 abbrev pub IsPast : CallState → ℕ → Type 0
 IsPast call n = (n < call.incarnation) ⊎ ((n ≡ call.incarnation) × (call.status ≡ Aborting))
 
--- an answer to call i is right. From the storage before the block it is what that storage has. From a version it is that
--- version's content if the version stands; the version is of a lower call, and stands or may be gone
-abbrev pub IsRight : Block → View → ℕ → List ℕ → Content → Origin → Type 0
-IsRight block v i key value origin.Base = value ≡ get block.base key
-IsRight block v i key value (origin.Version w n) = (w < i)
-    × (((content : Content) × (v.entries key w ≡ Some (Stands n content))) ⊎ IsPast (v.calls w) n)
-    × ((content : Content) → v.entries key w ≡ Some (Stands n content) → value ≡ content)
+-- a version that call i was answered with is of a lower call; it stands, or may be gone
+abbrev pub IsKnown : View → ℕ → List ℕ → Version → Type 0
+IsKnown v i key version = (version.writer < i)
+    × (((c : ContentChange) × (v.entries key version.writer ≡ Some (Stands version.incarnation c))) ⊎ IsPast (v.calls version.writer) version.incarnation)
+
+-- versions of a key all stand, each with the change beside it
+abbrev pub StandWith : (ℕ → Option Entry) → List Version → List ContentChange → Type 0
+StandWith entries [] [] = Unit {0}
+StandWith entries (version ∷ versions) (c ∷ changes) = (entries version.writer ≡ Some (Stands version.incarnation c)) × StandWith entries versions changes
+StandWith entries [] (c ∷ changes) = ⊥
+StandWith entries (version ∷ versions) [] = ⊥
+
+-- a content after some changes, the last of which is made first
+abbrev pub apply_all : List ContentChange → Content → Content
+apply_all [] content = content
+apply_all (c ∷ changes) content = apply_change c (apply_all changes content)
+
+-- an answer to call i is right: the versions that it names are known, and where all of them stand its value is what their
+-- changes make of the storage before the block
+pub record IsRight (block : Block) (v : View) (i : ℕ) (key : List ℕ) (value : Content) (origin : Origin) : Type 0 where
+  pub known : AllByRecursion (IsKnown v i key) (named origin)
+  pub value_is : (changes : List ContentChange) → StandWith (v.entries key) (named origin) changes → value ≡ apply_all changes (get block.base key)
 
 abbrev pub IsRightAnswer : Block → View → ℕ → StorageAnswer → Type 0
 IsRightAnswer block v i answer = IsRight block v i answer.key answer.value answer.origin
@@ -157,18 +172,18 @@ pub record IsMoved (call : CallState) (entries : List ℕ → Option Entry) (key
 
 -- an estimate where a call's recorded run wrote the key
 abbrev pub estimate_of : CallState → List ℕ → Option Entry
-estimate_of call key = option_map (λ content. Estimate) (write_of call.last key)
+estimate_of call key = option_map (λ change. Estimate) (write_of call.last key)
 
--- what is at a key that is still to be marked: a version at the call's incarnation, of any content
+-- what is at a key that is still to be marked: a version at the call's incarnation, with any change
 abbrev pub IsUnmarkedEntry : ℕ → Option Entry → Type 0
-IsUnmarkedEntry n entry = (content : Content) × (entry ≡ Some (Stands n content))
+IsUnmarkedEntry n entry = (c : ContentChange) × (entry ≡ Some (Stands n c))
 
 -- a call whose keys a worker marks: it is ABORTING and not parked, its recorded run wrote the keys, and its entries are on
 -- their way to that run's estimates
 pub record IsMarked (call : CallState) (entries : List ℕ → Option Entry) (keys : List (List ℕ)) : Type 0 where
   pub aborting : call.status ≡ Aborting
   pub unparked : call.parked ≡ None
-  pub written : (key : List ℕ) → has_key key keys ≡ true → (content : Content) × (write_of call.last key ≡ Some content)
+  pub written : (key : List ℕ) → has_key key keys ≡ true → (c : ContentChange) × (write_of call.last key ≡ Some c)
   pub amid : IsAmid (estimate_of call) (λ key entry. IsUnmarkedEntry call.incarnation entry) entries keys
 
 -- no worker moves or marks the keys of a call

@@ -4,9 +4,9 @@ use Rattle.std.specs.Prelude.{◌≡◌, ◌<◌, ◌≤◌, ◌≢◌, ◌⊎�
 use Rattle.std.specs.List.{AllByRecursion}
 use Rattle.std.specs.Option.{option_map}
 use Rattle.std.specs.FinMap.{get}
-use Rattle.version_arena.specs.ArenaState.{Content}
-use Rattle.read_set.specs.declared.Origin.{Origin}
-use Rattle.read_set.specs.declared.Origin.TheVariants as origin
+use Rattle.rv_ledger.specs.Change.{Content, ContentChange}
+use Rattle.read_set.specs.Origin.{Origin, named}
+use Rattle.read_set.specs.declared.origin.Version.{Version}
 use Rattle.read_set.specs.declared.Read.{Read}
 use Rattle.rv_step.specs.Replies.{replies_of}
 use Rattle.rv_step.specs.declared.answer.StorageAnswer.{StorageAnswer}
@@ -17,7 +17,7 @@ use Rattle.stm_state.specs.declared.state.Recorded.{Recorded}
 use Rattle.stm_state.specs.declared.state.Task.TheVariants.{Running, Moving, Validating, Marking}
 use Rattle.stm_state.specs.State.{State, call_at, task_at}
 use Rattle.stm_state.specs.Steps.{Block, read_of, reads_of, write_of}
-use Rattle.stm_state.specs.Invariant.{IsPast, has_key}
+use Rattle.stm_state.specs.Invariant.{IsPast, StandWith, apply_all, has_key}
 use Rattle.stm_state.specs.Done.{Reached}
 
 -- it holds of each state that some list of worker steps leads to
@@ -51,13 +51,13 @@ pub record CallsAreAttended (block : Block) (s : State) : Type 0 where
 
 -- a version that the unfinished record of a call has published: some worker moves the keys of its run, the run wrote it, and
 -- its key is not among those that are left
-pub record IsOfUnfinishedRecord (s : State) (i : ℕ) (key : List ℕ) (n : ℕ) (content : Content) : Type 0 where
+pub record IsOfUnfinishedRecord (s : State) (i : ℕ) (key : List ℕ) (n : ℕ) (c : ContentChange) : Type 0 where
   pub worker : ℕ
   pub keys : List (List ℕ)
   pub new : Bool
   pub task : task_at s worker ≡ Moving i keys new
   pub incarnation : n ≡ (call_at s i).incarnation
-  pub written : write_of (call_at s i).last key ≡ Some content
+  pub written : write_of (call_at s i).last key ≡ Some c
   pub published : has_key key keys ≡ false
 
 -- a version that the unfinished abort of a call has yet to turn into an estimate: some worker marks the call's keys, and
@@ -72,8 +72,8 @@ pub record IsOfUnfinishedAbort (s : State) (i : ℕ) (key : List ℕ) (n : ℕ) 
 -- part 2: a call that is not EXECUTED has only estimates, apart from versions that its unfinished record has published and
 -- versions that its unfinished abort has yet to turn into estimates
 abbrev pub OthersHaveEstimates : Block → State → Type 0
-OthersHaveEstimates block s = (i : ℕ) → (call_at s i).status ≢ Executed → (key : List ℕ) (n : ℕ) (content : Content) → entry_at s.versions key i ≡ Some (Stands n content)
-    → IsOfUnfinishedRecord s i key n content ⊎ IsOfUnfinishedAbort s i key n
+OthersHaveEstimates block s = (i : ℕ) → (call_at s i).status ≢ Executed → (key : List ℕ) (n : ℕ) (c : ContentChange) → entry_at s.versions key i ≡ Some (Stands n c)
+    → IsOfUnfinishedRecord s i key n c ⊎ IsOfUnfinishedAbort s i key n
 
 -- some worker's validation of a call at its incarnation must still meet the read at a place: a read that it checked did not
 -- stand, or this read is among the last ones, which are left to check
@@ -108,16 +108,20 @@ abbrev pub ReadsAreWatched : Block → State → Type 0
 ReadsAreWatched block s = (i : ℕ) → (call_at s i).status ≡ Executed
     → (s.validation ≤ i) ⊎ ((place : ℕ) (read : Read) → slice_get (reads_of (call_at s i).last) place ≡ Some read → (stands s.versions i read ≡ true) ⊎ IsToBeMet s i place)
 
--- a value is that of the starting storage, or the content of its version if that version stands
+-- a value is what the changes of the versions that an origin names make of the starting storage, if all of them stand
 abbrev pub IsContent : Block → State → List ℕ → Content → Origin → Type 0
-IsContent block s key value origin.Base = value ≡ get block.base key
-IsContent block s key value (origin.Version w n) = (content : Content) → entry_at s.versions key w ≡ Some (Stands n content) → value ≡ content
+IsContent block s key value origin =
+    (changes : List ContentChange) → StandWith (entry_at s.versions key) (named origin) changes → value ≡ apply_all changes (get block.base key)
 
 -- a version that call i was answered with is of a lower call. It stands, or its incarnation is below its writer's, or its
 -- writer is ABORTING at that incarnation
+abbrev pub IsKnownVersion : State → ℕ → List ℕ → Version → Type 0
+IsKnownVersion s i key version = (version.writer < i)
+    × (((c : ContentChange) × (entry_at s.versions key version.writer ≡ Some (Stands version.incarnation c))) ⊎ IsPast (call_at s version.writer) version.incarnation)
+
+-- each version that an origin names is so
 abbrev pub IsKnown : State → ℕ → List ℕ → Origin → Type 0
-IsKnown s i key origin.Base = Unit {0}
-IsKnown s i key (origin.Version w n) = (w < i) × (((content : Content) × (entry_at s.versions key w ≡ Some (Stands n content))) ⊎ IsPast (call_at s w) n)
+IsKnown s i key origin = AllByRecursion (IsKnownVersion s i key) (named origin)
 
 -- an answer to call i is true: its value and its origin are as said above
 abbrev pub IsTrueAnswer : Block → State → ℕ → StorageAnswer → Type 0
@@ -134,7 +138,7 @@ pub record IsBorne (block : Block) (s : State) (i : ℕ) (run : Recorded) : Type
 pub record IsPublished (s : State) (i : ℕ) : Type 0 where
   pub run : Recorded
   pub last : (call_at s i).last ≡ Some run
-  pub entries : (key : List ℕ) → entry_at s.versions key i ≡ option_map (λ content. Stands (call_at s i).incarnation content) (get run.receipt.writes key)
+  pub entries : (key : List ℕ) → entry_at s.versions key i ≡ option_map (λ c. Stands (call_at s i).incarnation c) (get run.receipt.writes key)
 
 -- part 4: a recorded run is borne out by true answers, a run that goes on was given true answers, and the entries of an
 -- EXECUTED call are exactly the writes of its receipt, as versions at its incarnation

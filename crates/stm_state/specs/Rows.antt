@@ -3,7 +3,8 @@
 use Rattle.std.specs.Prelude.{◌≡◌, ℕ, ◌+◌, Bool, true, false, if◌then◌else◌, List, [], ◌∷◌, ◌++◌, length, map, get_or, replicate, Option, None, Some, bytes_eq}
 use Rattle.std.specs.Option.{option_map}
 use Rattle.std.specs.FinMap.{empty, insert}
-use Rattle.version_arena.specs.ArenaState.{Content}
+use Rattle.rv_ledger.specs.Change.{Content}
+use Rattle.rv_ledger.specs.declared.change.Change.TheVariants as change
 use Rattle.rv_ledger.specs.Key.{WriteMap}
 use Rattle.rv_ledger.specs.declared.end.End.{End}
 use Rattle.rv_ledger.specs.declared.end.End.TheVariants.{Returned, Reverted}
@@ -32,7 +33,7 @@ Script = List Content → Turn
 -- value
 abbrev pub writes_of : List ℕ → WriteMap
 writes_of [] = empty
-writes_of (key ∷ value) = insert empty (key ∷ []) (Some value)
+writes_of (key ∷ value) = insert empty (key ∷ []) (change.Value value)
 
 -- the receipt of a call that ended so; its registers are the list that stands for its write
 abbrev pub ended : End → List ℕ → List ℕ → Receipt

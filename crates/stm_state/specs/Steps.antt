@@ -6,14 +6,13 @@ use Rattle.std.specs.FinMap.{get, entries, contains_key, len}
 use Rattle.rv_ledger.specs.Key.{Storage, WriteMap}
 use Rattle.rv_ledger.specs.declared.receipt.Receipt.{Receipt}
 use Rattle.rv_ledger.specs.declared.outcome.Counts.{Counts}
-use Rattle.read_set.specs.declared.Origin.TheVariants as origin
 use Rattle.read_set.specs.declared.Read.{Read}
 use Rattle.rv_step.specs.Chain.{Reply}
 use Rattle.rv_step.specs.Replies.{replies_of}
 use Rattle.rv_step.specs.declared.answer.StorageAnswer.{StorageAnswer}
-use Rattle.version_arena.specs.ArenaState.{Content}
+use Rattle.rv_ledger.specs.Change.{ContentChange}
 use Rattle.mvmap.specs.Versions.{Entry, Versions, Stands, Estimate, changed}
-use Rattle.mvmap.specs.Reading.{Visible, Base, Found, Blocked, reading, stands}
+use Rattle.mvmap.specs.Reading.{Visible, blocker, origin_in, reading, stands, value_seen}
 use Rattle.stm_state.specs.declared.state.Status.TheVariants.{Ready, Executing, Executed, Aborting}
 use Rattle.stm_state.specs.declared.state.CallState.{CallState}
 use Rattle.stm_state.specs.declared.state.Recorded.{Recorded}
@@ -50,7 +49,7 @@ abbrev pub reads_of : Option Recorded → List Read
 reads_of None = []
 reads_of (Some run) = run.reads
 
-abbrev pub written_by : Option Recorded → List (List ℕ × Option (List ℕ))
+abbrev pub written_by : Option Recorded → List (List ℕ × ContentChange)
 written_by None = []
 written_by (Some run) = entries run.receipt.writes
 
@@ -87,11 +86,17 @@ asked w s =
     else if nat_lt s.execution (length s.calls) then ask_execution w s
     else s
 
--- read: the run gets its answer, or it is blocked on a call
+-- read: what a run is given of a key where no estimate is met
+abbrev pub given : Storage → List ℕ → Visible → StorageAnswer
+given base key seen = record { key = key; value = value_seen (get base key) seen; origin = origin_in seen }
+
+-- read: the run is given its answer, or it is blocked on the writer of the estimate that was met
+abbrev pub answered_by : Storage → List ℕ → ℕ → List StorageAnswer → Visible → Option ℕ → Task
+answered_by base key i answers seen None = Running i (answers ++ given base key seen ∷ []) None
+answered_by base key i answers seen (Some writer) = Running i answers (Some writer)
+
 abbrev pub answered_with : Storage → List ℕ → ℕ → List StorageAnswer → Visible → Task
-answered_with base key i answers Base = Running i (answers ++ record { key = key; value = get base key; origin = origin.Base } ∷ []) None
-answered_with base key i answers (Found w n content) = Running i (answers ++ record { key = key; value = content; origin = origin.Version w n } ∷ []) None
-answered_with base key i answers (Blocked b) = Running i answers (Some b)
+answered_with base key i answers seen = answered_by base key i answers seen (blocker seen)
 
 abbrev pub read_at : Storage → List ℕ → ℕ → ℕ → List StorageAnswer → State → State
 read_at base key w i answers s = with_task w (answered_with base key i answers (reading s.versions key i)) s
@@ -108,7 +113,7 @@ abbrev pub read_of : StorageAnswer → Read
 read_of answer = record { key = answer.key; origin = answer.origin }
 
 -- the writes of the last recorded run whose keys this run did not write
-abbrev pub left_over : Option Recorded → WriteMap → List (List ℕ × Option (List ℕ))
+abbrev pub left_over : Option Recorded → WriteMap → List (List ℕ × ContentChange)
 left_over last writes = filter (λ write. not (contains_key writes write.0)) (written_by last)
 
 -- whether the last recorded run wrote a key; and whether a run wrote a key that it did not: in a first run each key is new
@@ -120,7 +125,7 @@ abbrev pub has_new_key : Option Recorded → WriteMap → Bool
 has_new_key last writes = list_any (λ write. not (wrote last write.0)) (entries writes)
 
 -- the keys of some writes
-abbrev pub keys_of : List (List ℕ × Option (List ℕ)) → List (List ℕ)
+abbrev pub keys_of : List (List ℕ × ContentChange) → List (List ℕ)
 keys_of writes = map (λ write. write.0) writes
 
 -- record: the keys that a run is to move, first those that it wrote, then those that only the run before it wrote
@@ -128,13 +133,13 @@ abbrev pub keys_to_move : Option Recorded → WriteMap → List (List ℕ)
 keys_to_move last writes = keys_of (entries writes) ++ keys_of (left_over last writes)
 
 -- what a recorded run wrote at a key
-abbrev pub write_of : Option Recorded → List ℕ → Option Content
+abbrev pub write_of : Option Recorded → List ℕ → Option ContentChange
 write_of None key = None
 write_of (Some run) key = get run.receipt.writes key
 
 -- move key: a version at the call's incarnation where its recorded run wrote the key, else no entry
 abbrev pub version_of : CallState → List ℕ → Option Entry
-version_of call key = option_map (λ content. Stands call.incarnation content) (write_of call.last key)
+version_of call key = option_map (λ change. Stands call.incarnation change) (write_of call.last key)
 
 -- whether a number is there and is this one
 abbrev pub is_some_of : Option ℕ → ℕ → Bool

@@ -1,8 +1,7 @@
 -- What the chunks of a pool hold, and have room for, as one of them changes or one is added.
-use Rattle.std.proofs.Common.{◌≡◌, ℕ, zero, suc, ◌+◌, ◌-◌, ◌<◌, ◌≤◌, Bool, true, false, if◌then◌else◌, nat_lt, List, [], ◌∷◌, ◌++◌, length, take, drop, map, get_or, set, refl, sym, ap, subst, ◌∙◌, arith}
-use Rattle.std.proofs.lemmas.Bool.{ltb-false, ltb-true}
+use Rattle.std.proofs.Common.{◌≡◌, ℕ, zero, suc, ◌+◌, ◌-◌, ◌<◌, ◌≤◌, List, [], ◌∷◌, ◌++◌, length, take, drop, map, get_or, set, refl, sym, ap, ◌∙◌, arith}
 use Rattle.std.proofs.lemmas.List.{append-nil, length-append, length-set}
-use Rattle.version_arena.specs.Chunks.{ChunkState, KeepsBytes, bytes_at, capacity_of, empty_chunk, free, spare}
+use Rattle.version_arena.specs.Chunks.{ChunkState, KeepsBytes, bytes_at, capacity_of, empty_chunk, spare}
 
 abbrev emptied : ChunkState → ChunkState
 emptied c = empty_chunk c.size

@@ -1,8 +1,10 @@
 -- The records of an arena stay as they are where the chunks keep their bytes.
-use Rattle.std.proofs.Common.{◌≡◌, ◌≤◌, List, [], ◌∷◌, ◌++◌, All, IfSome, Option, None, Some, Result, Ok, Err, OnErr, length, take, drop, map, refl, ap, ◌∙◌, arith}
+use Rattle.std.proofs.Common.{◌≡◌, ◌≤◌, List, [], ◌∷◌, ◌++◌, All, Result, Ok, Err, OnErr, length, take, drop, map, refl, ap, ◌∙◌, arith}
 use Rattle.std.proofs.lemmas.List.{length-append, take-append-le, drop-append-le, length-drop}
 use Rattle.std.proofs.lemmas.List.Elements.{All-nil, All-cons, All-head, All-tail}
-use Rattle.std.specs.Option.{option_map}
+use Rattle.rv_ledger.specs.Change.{IfValue, change_map}
+use Rattle.rv_ledger.specs.declared.change.Change.{Change}
+use Rattle.rv_ledger.specs.declared.change.Change.TheVariants as change
 use Rattle.version_arena.specs.Chunks.{ChunkState, KeepsBytes, LiesWithin, bytes_at, part}
 use Rattle.version_arena.specs.Slots.{IsShortSpan, IsStored, record_of}
 use Rattle.version_arena.specs.declared.pool.Span.{Span}
@@ -21,16 +23,18 @@ module _ (cs ds : List ChunkState) (keeps : KeepsBytes cs ds) where
       let begins : s.start ≤ length old = omega (arith, h.1) in let ends : s.len ≤ length (drop s.start old) = omega (arith, h.1, length-drop s.start old) in
       ap (λ xs. take s.len (drop s.start xs)) kept.1 ∙ ap (take s.len) (drop-append-le s.start old kept.0 begins) ∙ take-append-le s.len (drop s.start old) kept.0 ends
 
-  content_same : (o : Option Span) → IfSome o (IsShortSpan cs) → option_map (part ds) o ≡ option_map (part cs) o
-  content_same None h = refl
-  content_same (Some s) h = ap Some (part_same s h.0)
+  change_same : (c : Change Span) → IfValue c (IsShortSpan cs) → change_map (part ds) c ≡ change_map (part cs) c
+  change_same (change.Value s) h = ap change.Value (part_same s h.0)
+  change_same change.Gone h = refl
+  change_same (change.Sum amount) h = refl
 
-  short_same : (o : Option Span) → IfSome o (IsShortSpan cs) → IfSome o (IsShortSpan ds)
-  short_same None h = tt
-  short_same (Some s) h = (within_same s h.0, h.1)
+  short_same : (c : Change Span) → IfValue c (IsShortSpan cs) → IfValue c (IsShortSpan ds)
+  short_same (change.Value s) h = (within_same s h.0, h.1)
+  short_same change.Gone h = tt
+  short_same (change.Sum amount) h = tt
 
   record_same : (s : Slot) → IsStored cs s → record_of ds s ≡ record_of cs s
-  record_same s h = ap (λ content. record { writer = s.writer; incarnation = s.incarnation; content = content }) (content_same s.content h)
+  record_same s h = ap (λ c. record { writer = s.writer; incarnation = s.incarnation; change = c }) (change_same s.change h)
 
   pub records_same : (ss : List Slot) → All (IsStored cs) ss → map (record_of ds) ss ≡ map (record_of cs) ss
   records_same [] h = refl
@@ -39,7 +43,7 @@ module _ (cs ds : List ChunkState) (keeps : KeepsBytes cs ds) where
 
   pub all_stored : (ss : List Slot) → All (IsStored cs) ss → All (IsStored ds) ss
   all_stored [] h = All-nil (IsStored ds)
-  all_stored (s ∷ ss) h = All-cons (IsStored ds) s ss (short_same s.content (All-head (IsStored cs) s ss h)) (all_stored ss (All-tail (IsStored cs) s ss h))
+  all_stored (s ∷ ss) h = All-cons (IsStored ds) s ss (short_same s.change (All-head (IsStored cs) s ss h)) (all_stored ss (All-tail (IsStored cs) s ss h))
 
 pub map_push : {X Y : Type 0} (f : X → Y) (xs : List X) (x : X) → map f (xs ++ x ∷ []) ≡ map f xs ++ f x ∷ []
 map_push f [] x = refl

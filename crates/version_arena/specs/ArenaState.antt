@@ -1,15 +1,13 @@
 -- The records of an arena, and the room for more.
-use Rattle.std.specs.Prelude.{ℕ, ◌+◌, ◌-◌, List, [], ◌∷◌, ◌++◌, Option, None, Some, length}
+use Rattle.std.specs.Prelude.{ℕ, ◌+◌, ◌-◌, List, [], ◌∷◌, ◌++◌, length}
+use Rattle.rv_ledger.specs.Change.{ContentChange}
+use Rattle.rv_ledger.specs.declared.change.Change.TheVariants as change
 
--- what a version says of its key: a value, or that it is absent
-abbrev pub Content : Type 0
-Content = Option (List ℕ)
-
--- what one run of a call wrote to one key
+-- what one run of a call did to one key
 pub record Record : Type 0 where
   pub writer : ℕ
   pub incarnation : ℕ
-  pub content : Content
+  pub change : ContentChange
 
 -- the records in the order in which they were placed, the number of further records that there is room for, and the number
 -- of bytes of further values that there is room for
@@ -18,18 +16,19 @@ pub record ArenaState : Type 0 where
   pub room : ℕ
   pub bytes : ℕ
 
--- the number of bytes that a content takes
-abbrev pub bytes_of : Content → ℕ
-bytes_of None = 0
-bytes_of (Some value) = length value
+-- the number of bytes that a change takes
+abbrev pub bytes_of : ContentChange → ℕ
+bytes_of (change.Value value) = length value
+bytes_of change.Gone = 0
+bytes_of (change.Sum amount) = 0
 
 -- an arena after one more record, which takes its room
-abbrev pub placed : ℕ → ℕ → Content → ArenaState → ArenaState
-placed writer incarnation content arena =
+abbrev pub placed : ℕ → ℕ → ContentChange → ArenaState → ArenaState
+placed writer incarnation written arena =
     record {
-      records = arena.records ++ (record { writer = writer; incarnation = incarnation; content = content }) ∷ [];
+      records = arena.records ++ (record { writer = writer; incarnation = incarnation; change = written }) ∷ [];
       room = arena.room - 1;
-      bytes = arena.bytes - bytes_of content;
+      bytes = arena.bytes - bytes_of written;
     }
 
 -- an arena after its records are removed, which leave their room

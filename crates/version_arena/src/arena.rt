@@ -1,7 +1,8 @@
 //! The list of a block's records.
 
 ghost use Rattle.std.specs.Prelude.{◌≡◌, ◌+◌, ◌<◌, ◌≤◌, ◌↔◌, [], Err, IfSome, Ok, OnErr, OnOk, length, max, nat_lt, slice_get, take};
-ghost use Rattle.std.specs.Option.{option_copied, option_map};
+ghost use Rattle.std.specs.Option.{option_map};
+ghost use Rattle.rv_ledger.specs.Change.{IfValue, change_copied};
 ghost use Rattle.version_arena.specs.ArenaState.{bytes_of, emptied, placed};
 ghost use Rattle.version_arena.specs.Lent.{lent};
 ghost use Rattle.version_arena.specs.declared.fault.ReserveFault.TheVariants.{ArenaFull};
@@ -10,7 +11,7 @@ use crate::fault::ReserveFault;
 use crate::pool::Pool;
 use crate::record::{Record, VersionId};
 use crate::slot::Slot;
-use rv_ledger::Value;
+use rv_ledger::{Change, Value};
 use std::alloc::{AllocError, Global};
 use std::marker::Model;
 
@@ -86,23 +87,24 @@ impl Arena {
     }
 
     /// Adds a record at the end, in room that was reserved, and returns its name. Takes no memory.
-    pub fn place(&mut self, writer: u16, incarnation: u16, value: Option<&Value>) -> VersionId
+    pub fn place(&mut self, writer: u16, incarnation: u16, change: Change<&Value>) -> VersionId
         requires room { 1 ≤ self.old.room }
-        requires bytes { bytes_of (option_copied value) ≤ self.old.bytes }
+        requires bytes { bytes_of (change_copied change) ≤ self.old.bytes }
         ensures id { result ≡ length self.old.records }
-        ensures placed { self.new ≡ placed writer incarnation (option_copied value.entry) self.old }
+        ensures placed { self.new ≡ placed writer incarnation (change_copied change.entry) self.old }
     {
         let place = self.len;
-        self.slots[place] = Slot::of(&mut self.pool, writer, incarnation, value);
+        let bytes = len_of(&change);
+        self.slots[place] = Slot::of(&mut self.pool, writer, incarnation, change);
         self.len += 1;
-        self.bytes -= len_of(value);
+        self.bytes -= bytes;
         VersionId { place }
     }
 
     /// The record that has a name, or None where none has it.
     pub fn get(&self, id: VersionId) -> Option<Record<'_>>
         ensures record { option_map lent result ≡ slice_get self.now.records id }
-        ensures short { IfSome result (λ r. IfSome r.content (λ bytes. length bytes.now ≤ 256)) }
+        ensures short { IfSome result (λ r. IfValue r.change (λ bytes. length bytes.now ≤ 256)) }
     {
         if id.place >= self.len {
             return None;
@@ -145,12 +147,12 @@ fn grow(slots: &mut Vec<Slot>, count: usize) -> Result<(), AllocError>
     Ok(())
 }
 
-/// The number of bytes of a value; absence has none.
-fn len_of(value: Option<&Value>) -> usize
-    ensures { result ≡ bytes_of (option_copied value.entry) }
+/// The number of bytes that a change takes: those of a value.
+fn len_of(change: &Change<&Value>) -> usize
+    ensures { result ≡ bytes_of (change_copied change.now) }
 {
-    match value {
-        Some(value) => value.bytes().len(),
-        None => 0,
+    match change {
+        Change::Value(value) => value.bytes().len(),
+        Change::Gone | Change::Sum(_) => 0,
     }
 }

@@ -1,5 +1,6 @@
 //! A record as an arena lends it, and the name of a record.
 
+use rv_ledger::Change;
 use std::marker::Model;
 
 /// The name of a record: its place in the arena's list.
@@ -18,13 +19,13 @@ impl Model for VersionId {
     ghost inverse = { λ n. record { place = n } };
 }
 
-/// A record, lent by its arena: what one run of a call wrote to one key.
-#[derive(Clone, Copy, Debug, PartialEq, Eq)]
+/// A record, lent by its arena: what one run of a call did to one key.
+#[derive(Debug, Drop)]
 pub struct Record<'a> {
     /// The index of the call that wrote it.
     pub writer: u16,
     /// Which run of that call wrote it.
     pub incarnation: u16,
-    /// The bytes that it wrote, or None where it removed the key.
-    pub content: Option<&'a [u8]>,
+    /// What it did to the key; a value is lent by its bytes.
+    pub change: Change<&'a [u8]>,
 }

@@ -71,7 +71,7 @@ impl<B: BlockName> Book<B> {
     ghost use Rattle.stm_state.specs.State.{task_at};
     ghost use Rattle.stm_state.specs.Steps as steps;
     ghost use Rattle.scheduler.specs.Schedule.{count_limit};
-    ghost use Rattle.stm_core.specs.CoreState.{IsOwn, IsTaken, block_in, next_step_of, read_result_of};
+    ghost use Rattle.stm_core.specs.CoreState.{HasReadRoom, IsOwn, IsTaken, block_in, next_step_of, read_result_of};
     ghost use Rattle.stm_core.specs.declared.next_step.NextStep.TheVariants as next_step;
     ghost use Rattle.workers.specs.Book.{FaultFits, HasKnownCalls, IsAsked, IsCause, IsMade, IsUnready, LeavesWritten, MayWrite, Owes, AgreesWith, first_fault, outside_fault};
 
@@ -197,7 +197,7 @@ impl<B: BlockName> Book<B> {
         ensures answer { IfOk result (λ answer. answer ≡ read_result_of self.old.core.job.store key.now (reading self.old.core.state.versions key.now call)) }
         ensures dones { OnOk result (share.new.dones ≡ share.old.dones) }
         ensures refused { IfErr result (λ e. LeavesWritten e self.old self.new share.old share.new) }
-        ensures cause { IfErr result (λ e. IsCause (Owes (next_step.Run call incarnation) share.old self.old.core) ⊤ (get_or self.old.core.rooms share.old.worker 0 < 1) (steps.Read_key key.now) share.old.worker self.old e) }
+        ensures cause { IfErr result (λ e. IsCause (Owes (next_step.Run call incarnation) share.old self.old.core) ⊤ (HasReadRoom share.old.worker self.old.core → ⊥) (steps.Read_key key.now) share.old.worker self.old e) }
     {
         self.ready(share, NextStep::Run { call, incarnation })?;
         stm_state::dones_grow_at_done();

@@ -1,10 +1,8 @@
-use Rattle.std.proofs.Common.{◌≡◌, ◌∙◌, sym, subst, refl, List, rules}
+use Rattle.std.proofs.Common.{◌≡◌, ◌∙◌, rules}
 use Rattle.std.specs.FinMap as map
 use Rattle.std.specs.Option.{option_copied}
-use Rattle.rv_step.specs.declared.answer.StorageAnswer.{StorageAnswer}
 use Rattle.rv_step.specs.declared.stage.Stage.TheVariants.{Asked}
-use Rattle.rv_ledger.specs.Call.{Invocation}
-use Rattle.rv_step.specs.Chain.{AreFrom, borne_out}
+use Rattle.rv_step.specs.Chain.{AreFrom}
 use Rattle.rv_step.specs.Replies.{replies_of}
 use Rattle.seq_exec.proofs.Told.{same_call, still_from}
 use Rattle.seq_exec.proofs.run_one.Goals as goal

@@ -21,24 +21,23 @@ pub loop-place-preserved : goal.loop-place-preserved
 loop-place-preserved c =
     walk_on c.args.slots.now.entries c.args.key.now c.args.i c.loop-place.below c.next_back.new.self c.in-Some.place.now c.in-Some.slot.now c.loop-place.invariant c.in-Some.ensures.steps c.in-Vacant.is
 
-pub returns-in-Estimate-clause-seen : goal.returns-in-Estimate-clause-seen
-returns-in-Estimate-clause-seen c =
+pub returns-in-Estimate-clause-nearest : goal.returns-in-Estimate-clause-nearest
+returns-in-Estimate-clause-nearest c =
     let rs = c.args.arena.now.records in
     let below = reading (versions_of rs c.args.slots.now.entries) c.args.key.now c.in-Some.place.now.1 in
     let seen = walk_stops rs c.args.slots.now c.args.key.now c.args.i c.range-below.result c.loop-place.below c.next_back.new.self c.in-Some.place.now c.in-Some.slot.now
     c.range-below.ensures.ordered (c.range-below.ensures.in_range tt) (c.range-below.ensures.between tt) c.loop-place.invariant c.in-Some.ensures.steps in
-    sym (seen.1 ∙ ap (λ (s : Slot). visible_over c.in-Some.place.now.1 (entry_of rs s) below) c.in-Estimate.is)
+    seen.1 ∙ ap (λ (s : Slot). visible_over c.in-Some.place.now.1 (entry_of rs s) below) c.in-Estimate.is
 
-pub returns-in-Placed-clause-seen : goal.returns-in-Placed-clause-seen
-returns-in-Placed-clause-seen c =
+pub returns-in-Placed-clause-nearest : goal.returns-in-Placed-clause-nearest
+returns-in-Placed-clause-nearest c =
     let rs = c.args.arena.now.records in
     let below = reading (versions_of rs c.args.slots.now.entries) c.args.key.now c.in-Some.place.now.1 in
     let seen = walk_stops rs c.args.slots.now c.args.key.now c.args.i c.range-below.result c.loop-place.below c.next_back.new.self c.in-Some.place.now c.in-Some.slot.now
     c.range-below.ensures.ordered (c.range-below.ensures.in_range tt) (c.range-below.ensures.between tt) c.loop-place.invariant c.in-Some.ensures.steps in
-    let stands = ap (option_map (λ (x : Record). Stands x.incarnation x.content)) (sym (ap (option_map lent) c.unwrap.ensures) ∙ c.get.ensures.record) in
-    c.found.ensures.seen
-    ∙ ap (λ o. visible_over c.in-Some.place.now.1 o below) (stands ∙ ap (entry_of rs) (sym c.in-Placed.is))
-    ∙ sym seen.1
+    let stands = ap (option_map (λ (x : Record). Stands x.incarnation x.change)) (sym (ap (option_map lent) c.unwrap.ensures) ∙ c.get.ensures.record) in
+    rw c.standing.ensures.is
+    (seen.2, seen.1 ∙ ap (λ o. visible_over c.in-Some.place.now.1 o below) (sym (stands ∙ ap (entry_of rs) (sym c.in-Placed.is))))
 
 pub unwrap-requires : goal.unwrap-requires
 unwrap-requires c =
@@ -47,5 +46,5 @@ unwrap-requires c =
     lent_within lent c.args.arena.now.records c.get.result c.in-Placed.id c.get.ensures.record
     (c.requires (c.args.key.now, c.in-Some.place.now.1) c.in-Placed.id (seen.0 ∙ ap Some c.in-Placed.is))
 
-pub returns-clause-seen : goal.returns-clause-seen
-returns-clause-seen c = sym (walk_ends c.args.arena.now.records c.args.slots.now.entries c.args.key.now c.args.i c.loop-place.below c.loop-place.invariant c.in_default.ensures.steps.0)
+pub returns-clause-nearest : goal.returns-clause-nearest
+returns-clause-nearest c = walk_ends c.args.arena.now.records c.args.slots.now.entries c.args.key.now c.args.i c.loop-place.below c.loop-place.invariant c.in_default.ensures.steps.0

@@ -1,12 +1,18 @@
-use Rattle.std.proofs.Common.{◌∙◌, ap, sym, Some}
-use Rattle.std.specs.Option.{option_copied}
-use Rattle.mvmap.proofs.Storages.{set_is, gone_is}
+use Rattle.std.proofs.Common.{◌∙◌, ap}
+use Rattle.std.specs.FinMap as map
+use Rattle.rv_ledger.specs.Change.{change_copied}
+use Rattle.rv_ledger.specs.declared.change.Change.TheVariants.{Value}
+use Rattle.mvmap.proofs.Storages.{amount_added, key_removed, value_written}
 use Rattle.mvmap.proofs.snapshot.write.Goals as goal
 
-pub returns-in_default : goal.returns-in_default
-returns-in_default c = gone_is c.args.store.now c.remove.new.self c.args.key.now (option_copied c.args.content) c.remove.ensures (ap option_copied c.in_default.is)
+pub returns-in_ok-insert-in-Value : goal.returns-in_ok-insert-in-Value
+returns-in_ok-insert-in-Value c =
+    value_written c.args.store.now c.insert.new.self c.args.key.now (change_copied c.args.change.now) c.in-Value.bytes.now
+    (c.in_ok-insert-in-Value.ensures.ok ∙ ap (map.insert c.args.store.now c.args.key.now) c.in-Some.ensures.value) (ap change_copied c.in-Value.is)
 
-pub returns-in_ok-insert : goal.returns-in_ok-insert
-returns-in_ok-insert c =
-    set_is c.args.store.now c.insert.new.self c.args.key.now c.in-Some-of.value (option_copied c.args.content) c.in_ok-insert.ensures.ok
-    (ap option_copied c.in-Some.is ∙ ap Some (sym c.in-Some-of.ensures.value))
+pub returns-in-Gone : goal.returns-in-Gone
+returns-in-Gone c = key_removed c.args.store.now c.remove.new.self c.args.key.now (change_copied c.args.change.now) c.remove.ensures (ap change_copied c.in-Gone.is)
+
+pub returns-in_ok-add-in-Sum : goal.returns-in_ok-add-in-Sum
+returns-in_ok-add-in-Sum c =
+    amount_added c.args.store.now c.add.new.self c.args.key.now (change_copied c.args.change.now) c.in-Sum.amount c.in_ok-add-in-Sum.ensures.ok (ap change_copied c.in-Sum.is)

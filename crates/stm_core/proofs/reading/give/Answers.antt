@@ -1,4 +1,5 @@
 use Rattle.std.proofs.Common.{◌∙◌, get_or, ap}
+use Rattle.read_set.specs.Origin.{Origin}
 use Rattle.stm_state.specs.declared.state.Task.TheVariants.{Idle}
 use Rattle.stm_state.specs.State.{with_task}
 use Rattle.stm_state.specs.Steps.{counted, one_step}
@@ -9,4 +10,5 @@ use Rattle.stm_core.proofs.reading.give.Goals as goal
 pub returns-clause-state : goal.returns-clause-state
 returns-clause-state c = λ v p.
     c.answer.ensures.state v p
-    ∙ ap (λ x. counted one_step c.args.worker (with_task c.args.worker (with_answer (record { key = c.args.key.now; value = x; origin = c.args.origin }) (get_or c.args.scheduler.now.tasks c.args.worker Idle)) (state_of v p c.args.scheduler.now))) (c.copied.ensures ∙ c.as_ref.ensures.value)
+    ∙ ap (λ x. counted one_step c.args.worker (with_task c.args.worker (with_answer (record { key = c.args.key.now; value = x; origin = c.origins-kept.result.0 }) (get_or c.args.scheduler.now.tasks c.args.worker Idle)) (state_of v p c.args.scheduler.now))) (c.copied.ensures ∙ c.as_ref.ensures.value)
+    ∙ ap (λ (o : Origin). counted one_step c.args.worker (with_task c.args.worker (with_answer (record { key = c.args.key.now; value = c.args.value; origin = o }) (get_or c.args.scheduler.now.tasks c.args.worker Idle)) (state_of v p c.args.scheduler.now))) c.origins-kept.ensures.kept

@@ -1,29 +1,39 @@
-use Rattle.std.proofs.Common.{◌∙◌, ◌++◌, ◌∷◌, [], None, ap}
-use Rattle.read_set.specs.declared.Origin.TheVariants as origin
+use Rattle.std.proofs.Common.{◌≡◌, ◌∙◌, None, Some, sym, ap}
+use Rattle.std.specs.FinMap as map
+use Rattle.read_set.specs.Origin.{Origin}
+use Rattle.mvmap.specs.Answers.{with_amount}
+use Rattle.mvmap.specs.Reading.{reading, value_seen}
 use Rattle.stm_state.specs.declared.state.Task.{Task}
-use Rattle.stm_state.specs.declared.state.Task.TheVariants.{Running}
 use Rattle.stm_state.specs.State.{with_task}
-use Rattle.stm_state.specs.Steps.{answered_with, counted, one_step}
+use Rattle.stm_state.specs.Steps.{counted, one_step}
 use Rattle.scheduler.specs.Schedule.{state_of}
-use Rattle.scheduler.specs.Workers.{with_answer, blocked_on}
+use Rattle.scheduler.specs.Workers.{blocked_on, with_answer}
+use Rattle.stm_core.proofs.Answered.{blocked_task, given_task}
 use Rattle.stm_core.proofs.reading.read_at.Goals as goal
 
 pub returns-in-Base-clause-state : goal.returns-in-Base-clause-state
 returns-in-Base-clause-state c = λ answers runs v p.
+    let seen = reading c.args.map.now.versions c.args.key.now c.args.call in
+    let tells = c.in-Base.ensures.tells in
+    let from : Origin = record { passed = c.read.new.passed.items; bottom = None } in
+    let value_is : value_seen (map.get c.args.store.now c.args.key.now) seen ≡ c.with_amount-value.result =
+    tells.2 (map.get c.args.store.now c.args.key.now) ∙ ap (λ x. with_amount x c.in-Base.sum) (sym (c.bytes_of.ensures.value ∙ c.get.ensures)) ∙ sym c.with_amount-value.ensures in
     c.give.ensures.state v p
-    ∙ ap (λ (t : Task). counted one_step c.args.worker (with_task c.args.worker (with_answer (record { key = c.args.key.now; value = c.value_of.result; origin = origin.Base }) t) (state_of v p c.args.scheduler.now))) runs
-    ∙ ap (λ x. counted one_step c.args.worker (with_task c.args.worker (Running c.args.call (answers ++ record { key = c.args.key.now; value = x; origin = origin.Base } ∷ []) None) (state_of v p c.args.scheduler.now))) (c.value_of.ensures ∙ c.get.ensures)
-    ∙ ap (λ seen. counted one_step c.args.worker (with_task c.args.worker (answered_with c.args.store.now c.args.key.now c.args.call answers seen) (state_of v p c.args.scheduler.now))) c.in-Base.ensures.seen
+    ∙ ap (λ (t : Task). counted one_step c.args.worker (with_task c.args.worker (with_answer (record { key = c.args.key.now; value = c.with_amount-value.result; origin = from }) t) (state_of v p c.args.scheduler.now))) runs
+    ∙ ap (λ (t : Task). counted one_step c.args.worker (with_task c.args.worker t (state_of v p c.args.scheduler.now))) (given_task c.args.store.now c.args.key.now c.args.call answers seen tells.0 c.with_amount-value.result from value_is tells.1)
 
 pub returns-in-Found-clause-state : goal.returns-in-Found-clause-state
 returns-in-Found-clause-state c = λ answers runs v p.
+    let seen = reading c.args.map.now.versions c.args.key.now c.args.call in
+    let tells = c.in-Found.ensures.tells in
+    let from : Origin = record { passed = c.read.new.passed.items; bottom = Some c.in-Found.version } in
     c.give-in-Found.ensures.state v p
-    ∙ ap (λ (t : Task). counted one_step c.args.worker (with_task c.args.worker (with_answer (record { key = c.args.key.now; value = c.value_of-in-Found.result; origin = origin.Version c.in-Found.version.writer c.in-Found.version.incarnation }) t) (state_of v p c.args.scheduler.now))) runs
-    ∙ ap (λ x. counted one_step c.args.worker (with_task c.args.worker (Running c.args.call (answers ++ record { key = c.args.key.now; value = x; origin = origin.Version c.in-Found.version.writer c.in-Found.version.incarnation } ∷ []) None) (state_of v p c.args.scheduler.now))) c.value_of-in-Found.ensures
-    ∙ ap (λ seen. counted one_step c.args.worker (with_task c.args.worker (answered_with c.args.store.now c.args.key.now c.args.call answers seen) (state_of v p c.args.scheduler.now))) c.in-Found.ensures.seen
+    ∙ ap (λ (t : Task). counted one_step c.args.worker (with_task c.args.worker (with_answer (record { key = c.args.key.now; value = c.in-Found.value; origin = from }) t) (state_of v p c.args.scheduler.now))) runs
+    ∙ ap (λ (t : Task). counted one_step c.args.worker (with_task c.args.worker t (state_of v p c.args.scheduler.now))) (given_task c.args.store.now c.args.key.now c.args.call answers seen tells.0 c.in-Found.value from (tells.2 (map.get c.args.store.now c.args.key.now)) tells.1)
 
 pub returns-in-Estimate-clause-state : goal.returns-in-Estimate-clause-state
 returns-in-Estimate-clause-state c = λ answers runs v p.
     c.block.ensures.state v p
     ∙ ap (λ (t : Task). counted one_step c.args.worker (with_task c.args.worker (blocked_on c.in-Estimate.writer t) (state_of v p c.args.scheduler.now))) runs
-    ∙ ap (λ seen. counted one_step c.args.worker (with_task c.args.worker (answered_with c.args.store.now c.args.key.now c.args.call answers seen) (state_of v p c.args.scheduler.now))) c.in-Estimate.ensures.seen
+    ∙ ap (λ (t : Task). counted one_step c.args.worker (with_task c.args.worker t (state_of v p c.args.scheduler.now)))
+    (blocked_task c.args.store.now c.args.key.now c.args.call answers (reading c.args.map.now.versions c.args.key.now c.args.call) c.in-Estimate.writer c.in-Estimate.ensures.tells)

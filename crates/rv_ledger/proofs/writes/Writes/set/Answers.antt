@@ -5,9 +5,9 @@ use Rattle.rv_ledger.proofs.writes.Writes.set.Goals as goal
 
 pub returns-clause-ok : goal.returns-clause-ok
 returns-clause-ok c =
-    one_set c.self.inside.entries.entries c.insert.new.self.entries c.args.key c.in_ok-value.value c.in_ok-insert.ensures.updates.0
-    ∙ ap (λ m. map.insert m c.args.key c.in_ok-value.value) c.self.view_is
-    ∙ ap (map.insert c.args.self.now c.args.key) c.in_ok-value.ensures
+    one_set c.self.inside.entries.entries c.insert.new.self.entries c.args.key c.in_ok-change.change c.in_ok-insert.ensures.updates.0
+    ∙ ap (λ m. map.insert m c.args.key c.in_ok-change.change) c.self.view_is
+    ∙ ap (map.insert c.args.self.now c.args.key) c.in_ok-change.ensures
 
 pub invariant_of-self-2 : goal.invariant_of-self-2
 invariant_of-self-2 c =

@@ -1,11 +1,27 @@
-use Rattle.std.proofs.Common.{◌+◌, ◌∙◌, length, ap}
-use Rattle.stm_core.specs.CoreState.{CoreState}
+use Rattle.std.proofs.Common.{◌≡◌, ◌+◌, ◌∙◌, Result, Ok, Err, OnOk, length, get_or, ap, sym, subst}
+use Rattle.stm_state.specs.declared.state.Task.{Task}
+use Rattle.stm_state.specs.declared.state.Task.TheVariants.{Idle}
+use Rattle.stm_state.specs.State.{State, task_at}
+use Rattle.stm_core.specs.CoreState.{CoreState, IsRoomFor}
+use Rattle.stm_core.specs.Inner.{room_of, state_in}
 use Rattle.stm_core.proofs.Made.{same_reached}
 use Rattle.stm_core.proofs.state.Core.room_for_read.Goals as goal
 
+both_ok : {X E : Type 0} (r : Result X E) {P Q R : Type 0} → OnOk r P → OnOk r Q → (P → Q → R) → OnOk r R
+both_ok (Ok x) p q f = f p q
+both_ok (Err e) p q f = p
+
 pub invariant_of-self : goal.invariant_of-self
 invariant_of-self c =
-    same_reached c.self.inside.job c.self.inside.map c.self.inside.promised c.self.inside.scheduler c.self.invariant c.make_answer_room.new.scheduler (c.make_answer_room.ensures.same c.self.inside.map.versions (length c.self.inside.map.arena.records + c.self.inside.promised))
+    same_reached c.self.inside.job c.self.inside.map c.self.inside.promised c.self.inside.scheduler c.self.invariant c.make_read_room.new.scheduler (c.make_read_room.ensures.same c.self.inside.map.versions (length c.self.inside.map.arena.records + c.self.inside.promised))
 
 pub returns-clause-state : goal.returns-clause-state
-returns-clause-state c = c.make_answer_room.ensures.same c.self.inside.map.versions (length c.self.inside.map.arena.records + c.self.inside.promised) ∙ ap (λ (b : CoreState). b.state) c.self.view_is
+returns-clause-state c = c.make_read_room.ensures.same c.self.inside.map.versions (length c.self.inside.map.arena.records + c.self.inside.promised) ∙ ap (λ (b : CoreState). b.state) c.self.view_is
+
+pub returns-clause-room : goal.returns-clause-room
+returns-clause-room c =
+    let same = c.make_read_room.ensures.same c.self.inside.map.versions (length c.self.inside.map.arena.records + c.self.inside.promised) in
+    both_ok c.make_read_room.result c.make_read_room.ensures.room c.make_read_room.ensures.passed (λ room passed. record {
+      answer = room;
+      passed = subst (λ (t : Task). IsRoomFor t (room_of c.make_read_room.new.lists)) (sym (ap (λ (s : State). task_at s c.args.worker) same)) passed;
+    })

@@ -20,7 +20,7 @@ invariant_of-self c =
     (All-push (IsStored ds) (take len slots) slot (all_stored cs ds c.of.ensures.keeps (take len slots) before.3) c.of.ensures.stored) in (
       omega (arith, long, there c),
       omega (arith, long, before.1),
-      λ h. omega (arith, before.2 (omega (arith, there c)), c.of.ensures.room, c.len_of.ensures, c.requires.bytes, ap (λ (a : ArenaState). a.bytes) c.self.view_is),
+      λ h. omega (arith, before.2 (omega (arith, there c)), c.of.ensures.room, c.len_of-bytes.ensures, c.requires.bytes, ap (λ (a : ArenaState). a.bytes) c.self.view_is),
       stored,
     )
 
@@ -31,4 +31,4 @@ returns-clause-placed c =
     let records = ap (map (record_of ds)) (take_more_set slots len slot (there c)) ∙ map_push (record_of ds) (take len slots) slot
     ∙ ap (λ rs. rs ++ record_of ds slot ∷ []) (records_same cs ds c.of.ensures.keeps (take len slots) c.self.invariant.3 ∙ ap (λ (a : ArenaState). a.records) c.self.view_is)
     ∙ ap (λ r. c.args.self.now.records ++ r ∷ []) c.of.ensures.record in
-    state_is _ _ records (omega (arith, length-set slots len slot, ap (λ (a : ArenaState). a.room) c.self.view_is)) (omega (arith, c.len_of.ensures, ap (λ (a : ArenaState). a.bytes) c.self.view_is))
+    state_is _ _ records (omega (arith, length-set slots len slot, ap (λ (a : ArenaState). a.room) c.self.view_is)) (omega (arith, c.len_of-bytes.ensures, ap (λ (a : ArenaState). a.bytes) c.self.view_is))

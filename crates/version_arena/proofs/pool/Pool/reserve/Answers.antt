@@ -1,7 +1,7 @@
-use Rattle.std.proofs.Common.{◌≡◌, ◌++◌, ◌∷◌, [], length, drop, ap, subst, sym, ◌∙◌, arith}
+use Rattle.std.proofs.Common.{◌≡◌, ◌++◌, ◌∷◌, [], length, drop, ap, ◌∙◌, arith}
 use Rattle.std.proofs.lemmas.List.{length-append}
-use Rattle.version_arena.specs.Chunks.{ChunkState, KeepsBytes, PoolState, capacity_of, empty_chunk, spare}
-use Rattle.version_arena.proofs.Chunks.{capacity-append, keeps-append, keeps-same, spare-more, spare-within}
+use Rattle.version_arena.specs.Chunks.{capacity_of, empty_chunk, spare}
+use Rattle.version_arena.proofs.Chunks.{capacity-append, spare-more, spare-within}
 use Rattle.version_arena.proofs.pool.Pool.reserve.Goals as goal
 
 pub overflow_add-self : goal.overflow_add-self

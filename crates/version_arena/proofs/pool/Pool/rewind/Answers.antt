@@ -1,6 +1,6 @@
 use Rattle.std.proofs.Common.{ap, arith}
 use Rattle.version_arena.specs.Chunks.{PoolState, spare}
-use Rattle.version_arena.proofs.Chunks.{capacity-rewound, spare-rewound, spare-within}
+use Rattle.version_arena.proofs.Chunks.{spare-rewound, spare-within}
 use Rattle.version_arena.proofs.pool.Pool.rewind.Goals as goal
 
 pub invariant_of-self : goal.invariant_of-self

@@ -1,0 +1,117 @@
+//! What a call sees of a key: a walk over the versions that add an amount, down to what is below them.
+
+ghost use Rattle.std.specs.Prelude.{◌≡◌, ◌≤◌, ℕ, IfSome, List, Option, length, vec_capacity};
+ghost use Rattle.std.specs.Option.{option_copied};
+ghost use Rattle.read_set.specs.declared.origin.Version.{Version};
+ghost use Rattle.mvmap.specs.Answers.{Tells, with_amount};
+ghost use Rattle.mvmap.specs.Laws.{amount_with};
+ghost use Rattle.mvmap.specs.Reading.{Found, Passed, Visible, is_origin, is_walk, reading};
+ghost use Rattle.mvmap.specs.Slots.{ArePlaced, versions_of, walk_after};
+
+use crate::answer::Answer;
+use crate::seek::{Nearest, seek};
+use crate::slot::Slots;
+use read_set::{Origin, Version};
+use rv_ledger::{Change, Key, Value, add, wrapping_sum};
+use version_arena::Arena;
+
+/// What the call of index `i` sees of a key, with the versions that it passes, the nearest first.
+pub(crate) fn walk(
+    slots: &Slots,
+    arena: &Arena,
+    key: &Key,
+    i: u16,
+    passed: &mut Vec<Version>,
+) -> Answer
+    requires placed { ArePlaced arena.now.records slots.now.entries }
+    requires room { i ≤ vec_capacity passed.old }
+    ensures tells { Tells result passed.new.items (reading (versions_of arena.now.records slots.now.entries) key.now i) }
+    ensures count { length passed.new.items ≤ i }
+    ensures room { vec_capacity passed.new ≡ vec_capacity passed.old }
+{
+    passed.clear();
+    let mut sum = None;
+    let mut below = i;
+    loop {
+        match seek(slots, arena, key, below) {
+            Nearest::Nothing => return Answer::Base(sum),
+            Nearest::Waiting(writer) => return Answer::Estimate(writer),
+            Nearest::Standing(version, Change::Sum(amount)) => {
+                passed.push_reserved(version);
+                sum = Some(amount_with(amount, sum));
+                below = version.writer;
+            }
+            Nearest::Standing(version, Change::Value(bytes)) => {
+                return Answer::Found(version, with_amount(Some(bytes), sum));
+            }
+            Nearest::Standing(version, Change::Gone) => {
+                return Answer::Found(version, with_amount(None, sum));
+            }
+        }
+    }
+}
+
+/// Whether what the call of index `i` sees of a key has this origin. It compares while it walks.
+pub(crate) fn has_walk(slots: &Slots, arena: &Arena, key: &Key, i: u16, origin: &Origin) -> bool
+    requires { ArePlaced arena.now.records slots.now.entries }
+    ensures { result ≡ is_origin origin.now (reading (versions_of arena.now.records slots.now.entries) key.now i) }
+{
+    let bottom = origin.bottom();
+    let mut left = origin.passed();
+    let mut below = i;
+    loop {
+        match seek(slots, arena, key, below) {
+            Nearest::Nothing => return left.is_empty() && bottom.is_none(),
+            Nearest::Waiting(_) => return false,
+            Nearest::Standing(version, Change::Sum(_)) => match after(left, version) {
+                Some(rest) => {
+                    left = rest;
+                    below = version.writer;
+                }
+                None => return false,
+            },
+            Nearest::Standing(version, Change::Value(_)) => return is_end(left, bottom, version),
+            Nearest::Standing(version, Change::Gone) => return is_end(left, bottom, version),
+        }
+    }
+}
+
+/// The versions after the first one, if that is this version.
+fn after(passed: &[Version], version: Version) -> Option<&[Version]>
+    ensures { (bottom : Option Version) (amount : ℕ) (below : Visible) → is_walk passed.now bottom (Passed version.writer version.incarnation amount below) ≡ walk_after (option_copied result) bottom below }
+{
+    match passed {
+        [first, rest @ ..] if *first == version => Some(rest),
+        _ => None,
+    }
+}
+
+/// Whether no version is left to be passed, and this is the one that was found below.
+fn is_end(left: &[Version], bottom: Option<Version>, version: Version) -> bool
+    ensures { (content : Option (List ℕ)) → result ≡ is_walk left.now bottom (Found version.writer version.incarnation content) }
+{
+    left.is_empty() && bottom == Some(version)
+}
+
+/// The sum of an amount and of those before it, modulo 2^64.
+fn amount_with(amount: u64, sum: Option<u64>) -> u64
+    ensures { result ≡ amount_with amount sum }
+{
+    match sum {
+        Some(sum) => wrapping_sum(amount, sum),
+        None => amount,
+    }
+}
+
+/// What a key has after an amount is added, if there is one. A value must have at most 256 bytes. Takes no
+/// memory.
+pub fn with_amount(content: Option<&[u8]>, sum: Option<u64>) -> Option<Value>
+    requires { IfSome content (λ bytes. length bytes.now ≤ 256) }
+    ensures { result ≡ with_amount (option_copied content.entry) sum }
+{
+    match (sum, content) {
+        (Some(amount), _) => Some(add(content, amount)),
+        (None, Some(bytes)) => Value::of(bytes),
+        (None, None) => None,
+    }
+}
