@@ -11,8 +11,8 @@ _rvstm() {
     --call) return ;;
     esac
     case $command in
-    run) options="--workers" ;;
-    drive) options="--workers --schedule" ;;
+    run) options="--workers --counts" ;;
+    drive) options="--workers --schedule --counts" ;;
     asm | migrate) options="--out" ;;
     debug) options="--call" ;;
     help) COMPREPLY=($(compgen -W "run seq drive asm dis debug migrate" -- "$word")) && return ;;

@@ -1,15 +1,16 @@
 -- What clap finds on the lines of `rvstm`.
-use Rattle.std.proofs.Common.{◌≡◌, ◌&&◌, Bool, true, false, not, ℕ, [], ◌∷◌, Some, option_map, refl, sym, ap, codes, get_or}
+use Rattle.std.proofs.Common.{◌≡◌, ◌&&◌, ◌∙◌, Bool, true, false, not, ℕ, [], ◌∷◌, Some, option_map, refl, sym, ap, codes, get_or}
 use Rattle.std.proofs.lemmas.Bool.{and_from}
 use Rattle.clap.specs.Simple.{Shape, built, built_leaf, inherited}
-use Rattle.clap.specs.Takes.{level_passes}
-use Rattle.clap.specs.Walk.{Walk, nothing_held, walk}
+use Rattle.clap.specs.Takes.{level_passes, turn_passes}
+use Rattle.clap.specs.Walk.{Walk, nothing_held, walk, walked}
 use Rattle.clap.specs.Words.{Text, first_of, first_value, is_simple, is_simple_and_free, rows_of, takes}
 use Rattle.clap.specs.declared.parser.matches.Found.{Found}
 use Rattle.clap.proofs.OnLiterals.{clap_on_literals}
 use Rattle.clap.proofs.WalkLemmas.{first_value-rows}
-use Rattle.cmdline.specs.Line.{AsmOf, Asked, DebugOf, DisOf, MigrateOf, RunOf, SeqOf, asked, is_call_number, is_operand, is_worker_number, last_call, max_workers, number_in, rvstm_app, top_app, written_app, written_of}
-use Rattle.cmdline.proofs.FileWords.{file_level, file_walked, number_asked, number_level, option_level, option_walked, rows_at_end}
+use Rattle.cmdline.specs.Line.{AsmOf, Asked, DebugOf, DisOf, MigrateOf, RunOf, SeqOf, asked, is_call_number, is_operand, is_worker_number, last_call, max_workers, number_in, run_of, rvstm_app, top_app, written_app, written_of}
+use Rattle.cmdline.proofs.FileWords.{after_option, file_level, file_walked, may_end, number_asked, number_level, option_level, option_passes, option_walked, rows_at_end}
+use Rattle.cmdline.proofs.Numbers.{is_no_flag, number_is_read}
 
 -- `get_str` reads the rows
 pub first_in_rows : (f : Found) (id : Text) → first_value f id ≡ first_of id (rows_of f)
@@ -47,6 +48,10 @@ dis_shape = shape_at 4
 abbrev debug_shape : Shape
 debug_shape = shape_at 5
 
+-- where the walk stands after `run FILE --workers N`
+abbrev after_run : Text → Text → Walk
+after_run = after_option run_shape (codes "workers") (codes "--workers")
+
 -- `run FILE --workers N`: clap takes it, and it asks for just what it says
 pub run_is_taken : (program file word : Text) → is_operand file ≡ true → is_worker_number word ≡ true
     → takes rvstm_app (program ∷ codes "run" ∷ file ∷ codes "--workers" ∷ word ∷ []) ≡ true
@@ -55,10 +60,43 @@ run_is_taken program file word o n =
     and_from _ _ (number_level run_shape (codes "workers") (codes "--workers") 1 max_workers file word refl o n refl refl refl) refl
 
 pub run_is_asked : (program file word : Text) → is_operand file ≡ true → is_worker_number word ≡ true
-    → asked (program ∷ codes "run" ∷ file ∷ codes "--workers" ∷ word ∷ []) ≡ Some (RunOf file (number_in word))
+    → asked (program ∷ codes "run" ∷ file ∷ codes "--workers" ∷ word ∷ []) ≡ Some (RunOf file (number_in word) false)
 unfolding clap_on_literals
 run_is_asked program file word o n =
-    number_asked run_shape (codes "workers") (codes "--workers") 1 max_workers file word refl o n RunOf refl refl
+    ap (λ (w : Walk). run_of (rows_at_end run_shape w)) (option_walked run_shape (codes "workers") (codes "--workers") file word refl o (is_no_flag 1 max_workers word n) [])
+    ∙ ap (option_map (λ (number : ℕ). RunOf file number false)) (number_is_read 1 max_workers word n)
+
+-- so is `run FILE --workers N --counts`
+abbrev with_counts : Text → Text → Walk
+with_counts file word = walked run_shape.rules [] (after_run file word) (codes "--counts")
+
+run_counts_walked : (file word : Text) → is_operand file ≡ true → is_operand word ≡ true
+    → walk run_shape.rules [] nothing_held (file ∷ codes "--workers" ∷ word ∷ codes "--counts" ∷ []) ≡ with_counts file word
+unfolding clap_on_literals
+run_counts_walked file word o p = option_walked run_shape (codes "workers") (codes "--workers") file word refl o p (codes "--counts" ∷ [])
+
+run_counts_passes : (file word : Text) → is_worker_number word ≡ true → turn_passes run_shape [] (after_run file word) (codes "--counts") ≡ true
+unfolding clap_on_literals
+run_counts_passes file word n = and_from ((is_worker_number word && true) && true) true (and_from (is_worker_number word && true) true (and_from (is_worker_number word) true n refl) refl) refl
+
+pub run_counts_is_taken : (program file word : Text) → is_operand file ≡ true → is_worker_number word ≡ true
+    → takes rvstm_app (program ∷ codes "run" ∷ file ∷ codes "--workers" ∷ word ∷ codes "--counts" ∷ []) ≡ true
+unfolding clap_on_literals
+run_counts_is_taken program file word o n =
+    let p : is_operand word ≡ true = is_no_flag 1 max_workers word n in
+    and_from _ _
+    (and_from _ _
+    (option_passes run_shape (codes "workers") (codes "--workers") file word refl o p refl refl (codes "--counts" ∷ [])
+    (and_from _ _ (run_counts_passes file word n) refl))
+    (ap (may_end run_shape) (run_counts_walked file word o p)))
+    refl
+
+pub run_counts_is_asked : (program file word : Text) → is_operand file ≡ true → is_worker_number word ≡ true
+    → asked (program ∷ codes "run" ∷ file ∷ codes "--workers" ∷ word ∷ codes "--counts" ∷ []) ≡ Some (RunOf file (number_in word) true)
+unfolding clap_on_literals
+run_counts_is_asked program file word o n =
+    ap (λ (w : Walk). run_of (rows_at_end run_shape w)) (run_counts_walked file word o (is_no_flag 1 max_workers word n))
+    ∙ ap (option_map (λ (number : ℕ). RunOf file number true)) (number_is_read 1 max_workers word n)
 
 -- the same of `seq FILE`
 pub seq_is_taken : (program file : Text) → is_operand file ≡ true

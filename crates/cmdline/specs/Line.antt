@@ -1,6 +1,7 @@
 -- The command line of `rvstm`, in clap's words.
-use Rattle.std.specs.Prelude.{◌≡◌, ℕ, Bool, true, not, ◌==◌, List, [], ◌∷◌, Option, Some, None, Result}
+use Rattle.std.specs.Prelude.{◌≡◌, ℕ, Bool, true, false, not, ◌==◌, List, [], ◌∷◌, Option, Some, None, Result}
 use Rattle.std.specs.Prelude.{MatchResult, codes, option_and_then, option_map, if◌then◌else◌}
+use Rattle.std.specs.Option.{option_map_or}
 use Rattle.std.specs.Str.{bytes_eq}
 use Rattle.std.specs.Str.Parse.{digits_value, without_leading_plus}
 use Rattle.clap.specs.Words.{App, Row, Rule, Text, first_of, new_app, new_rule, one_of}
@@ -49,9 +50,13 @@ call_rule = record (new_rule (codes "call")) {
   required = true;
 }
 
--- `run FILE --workers N`
+-- the option `--counts`, a word that may stand or not
+abbrev pub counts_rule : Rule
+counts_rule = record (new_rule (codes "counts")) { long = Some (codes "counts"); action = Some action.SetTrue }
+
+-- `run FILE --workers N`, and `--counts` behind it
 abbrev pub run_app : App
-run_app = with_rule (with_rule (new_app (codes "run")) file_rule) workers_rule
+run_app = with_rule (with_rule (with_rule (new_app (codes "run")) file_rule) workers_rule) counts_rule
 
 -- `seq FILE`
 abbrev pub seq_app : App
@@ -66,9 +71,9 @@ schedule_rule = record (new_rule (codes "schedule")) {
   required = true;
 }
 
--- `drive FILE --workers N --schedule FILE`
+-- `drive FILE --workers N --schedule FILE`, and `--counts` behind it
 abbrev pub drive_app : App
-drive_app = with_rule (with_rule (with_rule (new_app (codes "drive")) file_rule) workers_rule) schedule_rule
+drive_app = with_rule (with_rule (with_rule (with_rule (new_app (codes "drive")) file_rule) workers_rule) schedule_rule) counts_rule
 
 -- the option `--out FILE`: it is required
 abbrev pub out_rule : Rule
@@ -113,18 +118,18 @@ rvstm_app =
 
 -- a request with its words as texts
 pub data Asked : Type 0 where
-  RunOf : Text → ℕ → Asked
+  RunOf : Text → ℕ → Bool → Asked
   SeqOf : Text → Asked
-  DriveOf : Text → ℕ → Text → Asked
+  DriveOf : Text → ℕ → Text → Bool → Asked
   AsmOf : Text → Text → Asked
   DisOf : Text → Asked
   DebugOf : Text → ℕ → Asked
   MigrateOf : Text → Text → Asked
 
 abbrev pub asked_by : Request → Asked
-asked_by (Run file workers) = RunOf file.now workers
+asked_by (Run file workers counts) = RunOf file.now workers counts
 asked_by (Seq file) = SeqOf file.now
-asked_by (Drive file workers schedule) = DriveOf file.now workers schedule.now
+asked_by (Drive file workers schedule counts) = DriveOf file.now workers schedule.now counts
 asked_by (Asm file out) = AsmOf file.now out.now
 asked_by (Dis file) = DisOf file.now
 asked_by (Debug file call) = DebugOf file.now call
@@ -142,13 +147,21 @@ number_of word = if is_unsigned_in 0 0xffff_ffff_ffff_ffff word then Some (numbe
 abbrev pub number_at : Text → List Row → Option ℕ
 number_at option rows = option_and_then number_of (one_of option rows)
 
+-- whether a word such as `--counts` stands on the line: clap then has the text `true` for it
+abbrev pub flag_at : Text → List Row → Bool
+flag_at flag rows = option_map_or (λ text. bytes_eq text (codes "true")) (first_of flag rows) false
+
 -- what FILE and the number of an option ask for, from what clap found
 abbrev pub numbered_of : (Text → ℕ → Asked) → Text → List Row → Option Asked
 numbered_of ask option rows = option_and_then (λ file. option_map (ask file) (number_at option rows)) (first_of (codes "file") rows)
 
+-- what `run` asks for, from what clap found
+abbrev pub run_of : List Row → Option Asked
+run_of rows = numbered_of (λ file workers. RunOf file workers (flag_at (codes "counts") rows)) (codes "workers") rows
+
 -- what `drive` asks for, from what clap found
 abbrev pub drive_of : List Row → Option Asked
-drive_of rows = option_and_then (λ file. option_and_then (λ workers. option_map (λ schedule. DriveOf file workers schedule)
+drive_of rows = option_and_then (λ file. option_and_then (λ workers. option_map (λ schedule. DriveOf file workers schedule (flag_at (codes "counts") rows))
     (first_of (codes "schedule") rows)) (number_at (codes "workers") rows)) (first_of (codes "file") rows)
 
 -- what FILE and the FILE of `--out` ask for, from what clap found
@@ -158,7 +171,7 @@ written_of ask rows = option_and_then (λ file. option_map (ask file) (first_of 
 -- what a subcommand asks for, from its name and what clap found for its arguments
 abbrev pub asked_in : Text × List Row → Option Asked
 asked_in found = if bytes_eq found.0 (codes "run")
-    then numbered_of RunOf (codes "workers") found.1
+    then run_of found.1
     else if bytes_eq found.0 (codes "seq")
     then option_map SeqOf (first_of (codes "file") found.1)
     else if bytes_eq found.0 (codes "drive")

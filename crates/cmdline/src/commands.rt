@@ -2,7 +2,7 @@
 
 ghost use Rattle.std.specs.Prelude.{◌≡◌, IfOk, Some, false, true};
 ghost use Rattle.clap.specs.Words.{App, app_of, new_app, rule_of, with_rule, with_subcommand};
-ghost use Rattle.cmdline.specs.Line.{asm_app, call_rule, debug_app, dis_app, drive_app, file_rule, migrate_app, out_rule, run_app, rvstm_app, schedule_rule, seq_app, top_app, workers_rule};
+ghost use Rattle.cmdline.specs.Line.{asm_app, call_rule, counts_rule, debug_app, dis_app, drive_app, file_rule, migrate_app, out_rule, run_app, rvstm_app, schedule_rule, seq_app, top_app, workers_rule};
 
 use clap::{Arg, ArgAction, Command, value_parser};
 use std::alloc::{AllocError, Global};
@@ -54,7 +54,7 @@ fn program<'a>(alloc: Global) -> Command<'a>
         .subcommand_required(true)
 }
 
-/// `run FILE --workers N`
+/// `run FILE --workers N --counts`
 fn run<'a>(alloc: Global) -> Result<Command<'a>, AllocError>
     ensures { IfOk result (λ c. app_of c ≡ run_app) }
 {
@@ -65,7 +65,8 @@ fn run<'a>(alloc: Global) -> Result<Command<'a>, AllocError>
         about,
         "The block file that the workers run",
         workers(alloc),
-    )
+    )?
+    .arg(counts(alloc))
 }
 
 /// `seq FILE`
@@ -76,13 +77,15 @@ fn seq<'a>(alloc: Global) -> Result<Command<'a>, AllocError>
     file_command(alloc, "seq", about, "The block file")
 }
 
-/// `drive FILE --workers N --schedule FILE`
+/// `drive FILE --workers N --schedule FILE --counts`
 fn drive<'a>(alloc: Global) -> Result<Command<'a>, AllocError>
     ensures { IfOk result (λ c. app_of c ≡ drive_app) }
 {
     let about = "Runs the calls of a block file in the steps of a schedule and prints the result";
     let help = "The block file that is run";
-    option_command(alloc, "drive", about, help, workers(alloc))?.arg(schedule(alloc))
+    option_command(alloc, "drive", about, help, workers(alloc))?
+        .arg(schedule(alloc))?
+        .arg(counts(alloc))
 }
 
 /// `asm FILE --out FILE`
@@ -184,6 +187,17 @@ fn schedule<'a>(alloc: Global) -> Arg<'a>
 {
     let help = "The schedule file: the number of the worker of each step, one a line";
     option(alloc, "schedule", "FILE", help)
+}
+
+/// The option `--counts`.
+fn counts<'a>(alloc: Global) -> Arg<'a>
+    ensures rule { rule_of result ≡ counts_rule }
+    ensures local { result.global ≡ false }
+{
+    Arg::new(alloc, "counts")
+        .long("counts")
+        .help("Print on standard error what each worker did")
+        .action(ArgAction::SetTrue)
 }
 
 /// The option `--out FILE`.

@@ -4,7 +4,7 @@
 mod commands;
 mod requests;
 
-ghost use Rattle.std.specs.Prelude.{◌≡◌, ◌∷◌, [], List, ℕ, IfErr, IfOk, true, map, option_map, codes};
+ghost use Rattle.std.specs.Prelude.{◌≡◌, ◌∷◌, [], List, ℕ, IfErr, IfOk, false, true, map, option_map, codes};
 ghost use Rattle.std.specs.String.{string_bytes};
 ghost use Rattle.clap.specs.Words.{FailsBy, HasMatchesOf, fault_of, kind_of, takes};
 ghost use Rattle.clap.specs.declared.error.ErrorKind.TheVariants as kind;
@@ -24,6 +24,8 @@ pub enum Request<'a> {
         file: &'a str,
         /// The number of workers, 1 to 32.
         workers: usize,
+        /// Whether to print what each worker did, too.
+        counts: bool,
     },
     /// Run the calls of a block file in order, and print the result.
     Seq {
@@ -39,6 +41,8 @@ pub enum Request<'a> {
         workers: usize,
         /// The path of the schedule file.
         schedule: &'a str,
+        /// Whether to print what each worker did, too.
+        counts: bool,
     },
     /// Assemble a source and write its ELF file.
     Asm {
@@ -83,7 +87,12 @@ pub fn request_of<'a>(alloc: Global, words: &'a [String]) -> Result<Option<Reque
     ensures run { (program file word : List ℕ)
         → map string_bytes words.now ≡ program ∷ codes "run" ∷ file ∷ codes "--workers" ∷ word ∷ []
         → is_operand file ≡ true → is_worker_number word ≡ true
-        → AnswersUnlessMemory result (RunOf file (number_in word)) }
+        → AnswersUnlessMemory result (RunOf file (number_in word) false) }
+    // so is the same with `--counts`
+    ensures run_counts { (program file word : List ℕ)
+        → map string_bytes words.now ≡ program ∷ codes "run" ∷ file ∷ codes "--workers" ∷ word ∷ codes "--counts" ∷ []
+        → is_operand file ≡ true → is_worker_number word ≡ true
+        → AnswersUnlessMemory result (RunOf file (number_in word) true) }
     // so is `seq FILE`
     ensures seq { (program file : List ℕ)
         → map string_bytes words.now ≡ program ∷ codes "seq" ∷ file ∷ [] → is_operand file ≡ true
@@ -92,7 +101,12 @@ pub fn request_of<'a>(alloc: Global, words: &'a [String]) -> Result<Option<Reque
     ensures drive { (program file word schedule : List ℕ)
         → map string_bytes words.now ≡ program ∷ codes "drive" ∷ file ∷ codes "--workers" ∷ word ∷ codes "--schedule" ∷ schedule ∷ []
         → is_operand file ≡ true → is_worker_number word ≡ true → is_operand schedule ≡ true
-        → AnswersUnlessMemory result (DriveOf file (number_in word) schedule) }
+        → AnswersUnlessMemory result (DriveOf file (number_in word) schedule false) }
+    // so is the same with `--counts`
+    ensures drive_counts { (program file word schedule : List ℕ)
+        → map string_bytes words.now ≡ program ∷ codes "drive" ∷ file ∷ codes "--workers" ∷ word ∷ codes "--schedule" ∷ schedule ∷ codes "--counts" ∷ []
+        → is_operand file ≡ true → is_worker_number word ≡ true → is_operand schedule ≡ true
+        → AnswersUnlessMemory result (DriveOf file (number_in word) schedule true) }
     // so is `asm FILE --out OUT`
     ensures asm { (program file out : List ℕ)
         → map string_bytes words.now ≡ program ∷ codes "asm" ∷ file ∷ codes "--out" ∷ out ∷ [] → is_operand file ≡ true → is_operand out ≡ true

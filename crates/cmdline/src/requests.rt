@@ -2,7 +2,7 @@
 
 ghost use Rattle.std.specs.Prelude.{◌≡◌, option_and_then, option_map, codes};
 ghost use Rattle.clap.specs.Words.{Text, first_of, found_of, rows_of, subcommand_rows_of};
-ghost use Rattle.cmdline.specs.Line.{AsmOf, Asked, DebugOf, DisOf, MigrateOf, RunOf, SeqOf, asked_by, asked_in, drive_of, number_at, numbered_of, written_of};
+ghost use Rattle.cmdline.specs.Line.{AsmOf, Asked, DebugOf, DisOf, MigrateOf, SeqOf, asked_by, asked_in, drive_of, flag_at, number_at, numbered_of, run_of, written_of};
 
 use crate::Request;
 use clap::ArgMatches;
@@ -27,12 +27,16 @@ pub(crate) fn request_in<'a>(matches: &ArgMatches<'a>) -> Option<Request<'a>>
 /// The request of what clap found for `run`.
 #[tactic(auto, using(crate::proofs::Lines::first_in_rows))]
 fn run_in<'a>(found: &ArgMatches<'a>) -> Option<Request<'a>>
-    ensures { option_map asked_by result
-        ≡ numbered_of RunOf (codes "workers") (rows_of (found_of found.now)) }
+    ensures { option_map asked_by result ≡ run_of (rows_of (found_of found.now)) }
 {
     let file = found.get_str("file")?;
     let workers = number_found(found, "workers")?;
-    Some(Request::Run { file, workers })
+    let counts = flag_found(found, "counts");
+    Some(Request::Run {
+        file,
+        workers,
+        counts,
+    })
 }
 
 /// The request of what clap found for `seq`.
@@ -53,10 +57,12 @@ fn drive_in<'a>(found: &ArgMatches<'a>) -> Option<Request<'a>>
     let file = found.get_str("file")?;
     let workers = number_found(found, "workers")?;
     let schedule = found.get_str("schedule")?;
+    let counts = flag_found(found, "counts");
     Some(Request::Drive {
         file,
         workers,
         schedule,
+        counts,
     })
 }
 
@@ -106,6 +112,17 @@ fn files_in<'a>(found: &ArgMatches<'a>) -> Option<(&'a str, &'a str)>
     let file = found.get_str("file")?;
     let out = found.get_str("out")?;
     Some((file, out))
+}
+
+/// Whether clap found a word such as `--counts`.
+#[tactic(auto, using(crate::proofs::Lines::first_in_rows))]
+fn flag_found(found: &ArgMatches<'_>, flag: &str) -> bool
+    ensures { result ≡ flag_at flag.now (rows_of (found_of found.now)) }
+{
+    match found.get_str(flag) {
+        Some(text) => text == "true",
+        None => false,
+    }
 }
 
 /// The number that clap found for an option.

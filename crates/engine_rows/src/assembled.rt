@@ -139,7 +139,7 @@ fn a_refused_file_stays(rt: HostRuntime) -> Result<(), Fail> {
 }
 
 /// The names that are tried first.
-const FIRST_NAMES: [&str; 2] = ["out.elf.new0", "out.elf.new1"];
+const FIRST_NAMES: [&str; 2] = [".rvstm.new0", ".rvstm.new1"];
 
 /// A disk on which those names are taken.
 fn disk_of_two_names(alloc: Global) -> io::Result<Stored> {
@@ -169,7 +169,7 @@ fn no_other_file_is_written_over(rt: HostRuntime) -> Result<(), Fail> {
 
 /// Puts a file at one of the names that are tried.
 fn take_name(alloc: Global, stored: &Stored, number: usize) -> io::Result<()> {
-    let name = format!(in alloc; "out.elf.new{number}")?;
+    let name = format!(in alloc; ".rvstm.new{number}")?;
     stored.put(alloc, name.as_str(), OLD)
 }
 
@@ -188,6 +188,26 @@ fn no_free_name_is_refused(rt: HostRuntime) -> Result<(), Fail> {
     assert_unwritable(&rt, rt.alloc(), &stored);
     assert_file(&rt, rt.alloc(), &stored, "out.elf", OLD)?;
     assert_number(&rt, stored.count() as u64, 102, "files");
+    Ok(())
+}
+
+#[test]
+fn a_left_over_file_is_removed(rt: HostRuntime) -> Result<(), Fail> {
+    let mut stored = disk_of_all_names(rt.alloc())?;
+    stored.left_over = true;
+    assert_done(&rt, rt.alloc(), LINE, &stored);
+    assert_assembled(&rt, rt.alloc(), &stored, "out.elf")?;
+    assert_number(&rt, stored.count() as u64, 101, "files");
+    Ok(())
+}
+
+#[test]
+fn a_source_is_not_written_over(rt: HostRuntime) -> Result<(), Fail> {
+    let stored = disk_of_source(rt.alloc(), false, NONE)?;
+    let line = "rvstm asm echo.s --out link/echo.s";
+    let answer = answer_to(&rt, rt.alloc(), line.as_bytes(), &stored);
+    answer.assert_is(&rt, 1, "", "rvstm: file Unwritable 2\n", line);
+    assert_file(&rt, rt.alloc(), &stored, "echo.s", ECHO_SOURCE.as_bytes())?;
     Ok(())
 }
 
@@ -213,7 +233,14 @@ fn links_are_followed_and_devices_are_written(rt: HostRuntime) -> Result<(), Fai
         rt.alloc(),
         "rvstm asm echo.s --out link/out.elf",
         "out.elf",
-        "open echo.s\nend echo.s\ncreate out.elf.new0\nrename out.elf\n",
+        "open echo.s\nend echo.s\ncreate .rvstm.new0\nrename out.elf\n",
+    )?;
+    assert_path(
+        &rt,
+        rt.alloc(),
+        "rvstm asm echo.s --out deep/out.elf",
+        "deep/out.elf",
+        "open echo.s\nend echo.s\ncreate deep/.rvstm.new0\nrename deep/out.elf\n",
     )?;
     assert_path(
         &rt,

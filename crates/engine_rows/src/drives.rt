@@ -26,7 +26,8 @@ fn drive<S: Read>(
         files: block.files.as_slice(),
     };
     let mut text = block.text.as_bytes();
-    drive_to(alloc, &mut text, &mut programs, schedule, workers, out)
+    drive_to(alloc, &mut text, &mut programs, schedule, workers, out)?;
+    Ok(())
 }
 
 /// What the engine prints of a block along a schedule.

@@ -72,6 +72,8 @@ pub struct Stored {
     pub failing: usize,
     /// Whether a write that fails takes nothing instead.
     pub takes_nothing: bool,
+    /// Whether the new files on it were left over by other processes.
+    pub left_over: bool,
 }
 
 impl Stored {
@@ -83,6 +85,7 @@ impl Stored {
             changes: Cell::new(0),
             failing,
             takes_nothing: false,
+            left_over: false,
         }
     }
 
@@ -288,6 +291,17 @@ impl<'a> Disk for FakeDisk<'a> {
         self.create(path)
     }
 
+    fn remove_left_over(&self, path: &str) -> io::Result<()> {
+        if !self.stored.left_over {
+            return Err(io::Error::from(io::ErrorKind::AlreadyExists));
+        }
+        self.remove_file(path)
+    }
+
+    fn is_one_file(&self, left: &str, right: &str) -> bool {
+        behind_link(left) == behind_link(right)
+    }
+
     fn create(&self, path: &str) -> io::Result<FakeWriter<'a>> {
         self.stored.note("create", path)?;
         self.stored.change()?;
@@ -303,8 +317,7 @@ impl<'a> Disk for FakeDisk<'a> {
         if path.starts_with("/dev/") {
             return Ok(None);
         }
-        let path = path.strip_prefix("link/").unwrap_or(path);
-        Ok(Some(String::from_str(alloc, path)?))
+        Ok(Some(String::from_str(alloc, behind_link(path))?))
     }
 
     fn sync(&self, _file: &FakeWriter<'a>) -> io::Result<()> {
@@ -321,6 +334,11 @@ impl<'a> Disk for FakeDisk<'a> {
         self.stored.note("remove", path)?;
         self.stored.drop_file(self.alloc, path)
     }
+}
+
+/// The path behind a link: that without `link/` at its beginning.
+fn behind_link(path: &str) -> &str {
+    path.strip_prefix("link/").unwrap_or(path)
 }
 
 /// The words of a command line, with one space between them.

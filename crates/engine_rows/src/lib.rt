@@ -15,6 +15,8 @@ mod calls;
 #[cfg(test)]
 mod chains;
 #[cfg(test)]
+mod counts;
+#[cfg(test)]
 mod debugging;
 #[cfg(test)]
 mod drives;

@@ -76,6 +76,27 @@ const LINES: &[(&str, u8, &str, &str)] = &[
         RESULT,
         "",
     ),
+    (
+        "rvstm run echo.block --workers 1 --counts",
+        0,
+        RESULT,
+        "worker 0 steps 6 asks 3 executions 1 validations 1\n\
+        all steps 6 asks 3 executions 1 validations 1 repeated 0\n",
+    ),
+    (
+        "rvstm drive echo.block --workers 2 --schedule one.schedule --counts",
+        0,
+        RESULT,
+        "worker 0 steps 5 asks 2 executions 1 validations 1\n\
+        worker 1 steps 0 asks 0 executions 0 validations 0\n\
+        all steps 5 asks 2 executions 1 validations 1 repeated 0\n",
+    ),
+    (
+        "rvstm drive echo.block --workers 1 --schedule short.schedule --counts",
+        1,
+        "",
+        "rvstm: drive NotDone 1\n",
+    ),
     ("rvstm dis echo.elf", 0, ECHO_LISTING, ""),
     ("rvstm asm echo.s --out new.elf", 0, "", ""),
     ("rvstm seq no.block", 1, "", "rvstm: file Unreadable 1\n"),
@@ -317,7 +338,7 @@ const REQUESTS: &[(&str, &str)] = &[
     ("rvstm dis echo.elf", "open echo.elf\nend echo.elf\n"),
     (
         "rvstm asm echo.s --out new.elf",
-        "open echo.s\nend echo.s\ncreate new.elf.new0\nrename new.elf\n",
+        "open echo.s\nend echo.s\ncreate .rvstm.new0\nrename new.elf\n",
     ),
     ("rvstm asm no.s --out new.elf", "open no.s\nend no.s\n"),
 ];
@@ -380,6 +401,8 @@ fn a_failing_output_is_reported(rt: HostRuntime) -> Result<(), Fail> {
     ] {
         assert_output_fails(&rt, rt.alloc(), "rvstm seq echo.block", fails, error)?;
         assert_output_fails(&rt, rt.alloc(), "rvstm dis echo.elf", fails, error)?;
+        assert_output_fails(&rt, rt.alloc(), "rvstm --help", fails, error)?;
+        assert_output_fails(&rt, rt.alloc(), "rvstm --version", fails, error)?;
     }
     Ok(())
 }

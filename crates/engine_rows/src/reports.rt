@@ -3,7 +3,7 @@
 use crate::asserts::{assert_bytes, assert_number};
 use crate::failing::{FailingReader, FailingWriter, assert_begins};
 use crate::fake_disk::{answer_along, answer_on};
-use crate::programs::{assert_failed, disk_of_echo};
+use crate::programs::{RESULT, assert_failed, disk_of_echo};
 use engines::{FileFault, Refusal, report, write_refusal};
 use receipts::WriteFault;
 use std::alloc::Global;
@@ -165,10 +165,12 @@ fn reports_are_beginnings_of_the_line(rt: HostRuntime) {
     assert_report_whole(&rt, rt.alloc());
 }
 
-/// Asserts that a refused command ends with 1 where standard error takes nothing.
+/// Asserts that a command ends with 1, and prints this, where standard error takes nothing.
 fn assert_status_without_errors<R: Threads + Wait + Sync + Abort>(
     rt: &R,
     alloc: Global,
+    line: &str,
+    printed: &str,
 ) -> io::Result<()> {
     let stored = disk_of_echo(alloc)?;
     let mut input: &[u8] = b"";
@@ -177,19 +179,21 @@ fn assert_status_without_errors<R: Threads + Wait + Sync + Abort>(
     let status = answer_along(
         rt,
         alloc,
-        b"rvstm seq wrong.block",
+        line.as_bytes(),
         &stored,
         &mut input,
         &mut out,
         &mut errors,
     );
-    assert_number(rt, status as u64, 1, "a standard error that fails");
-    assert_bytes(rt, out.as_slice(), b"", "a standard error that fails");
+    assert_number(rt, status as u64, 1, line);
+    assert_bytes(rt, out.as_slice(), printed.as_bytes(), line);
     Ok(())
 }
 
 #[test]
 fn the_status_stands_without_standard_error(rt: HostRuntime) -> Result<(), Fail> {
-    assert_status_without_errors(&rt, rt.alloc())?;
+    assert_status_without_errors(&rt, rt.alloc(), "rvstm seq wrong.block", "")?;
+    let line = "rvstm run echo.block --workers 1 --counts";
+    assert_status_without_errors(&rt, rt.alloc(), line, RESULT)?;
     Ok(())
 }

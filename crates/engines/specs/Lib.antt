@@ -4,4 +4,5 @@ pub mod Parts
 pub mod Driving
 pub mod Faults
 pub mod Running
+pub mod Counts
 pub mod Debugging

@@ -18,8 +18,16 @@ pub trait Disk {
     /// Opens a file to read it.
     fn open(&self, path: &str) -> io::Result<Self::File>;
 
-    /// Makes a file to write it; refused as AlreadyExists where something is at the path.
+    /// Makes a file to write it, and keeps it for this process as long as it is open; refused as AlreadyExists
+    /// where something is at the path.
     fn create_new(&self, path: &str) -> io::Result<Self::NewFile>;
+
+    /// Removes the file at a path, which a process that has ended made by `create_new`; refused where something
+    /// else is there, or the file is still kept.
+    fn remove_left_over(&self, path: &str) -> io::Result<()>;
+
+    /// Whether two paths name one file.
+    fn is_one_file(&self, left: &str, right: &str) -> bool;
 
     /// Opens what is at a path, to write into it from its start.
     fn create(&self, path: &str) -> io::Result<Self::NewFile>;

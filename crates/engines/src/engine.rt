@@ -1,15 +1,17 @@
 //! The engines of `rvstm seq` and `rvstm drive`, over any readers, programs and writer.
 
-ghost use Rattle.std.specs.Prelude.{◌≡◌, IfErr, IfOk, IfSome, IsOkAnd, OnOk, Ok, Some};
+ghost use Rattle.std.specs.Prelude.{◌≡◌, IfErr, IfOk, IfSome, IsOkAnd, OnOk, Ok, Some, length};
 ghost use Rattle.std.specs.Io.KnownBytes.{Appends};
 ghost use Rattle.std.specs.Option.{option_map};
 ghost use Rattle.block_file.specs.Block.{block_of};
 ghost use Rattle.block_file.specs.Schedule.{schedule_of};
 ghost use Rattle.receipts.specs.Text.{result_text};
+ghost use Rattle.engines.specs.Counts.{AreCountsAlong};
 ghost use Rattle.engines.specs.Driving.{IsFaultOfDrive, driven_answer, text_along};
-ghost use Rattle.engines.specs.Engine.{answer_of, IsFaultOf, IsUnwritten};
+ghost use Rattle.engines.specs.Engine.{answer_of, loaded_job, IsFaultOf, IsUnwritten};
 ghost use Rattle.engines.specs.Parts.{IsDriveFault, IsOutputFault, IsRunFault, IsScheduleFault, text_of};
 
+use crate::counts::RunCounts;
 use crate::fault::{Refusal, SeqFault};
 use crate::loading::load_job;
 use crate::programs::Programs;
@@ -49,6 +51,7 @@ pub fn seq_to<R: Read, P: Programs, W: Write>(
 /// numbers. Reads a schedule file to its end and parses it. Then runs the calls on `workers` workers
 /// along the schedule and writes the result, which is that of the calls in order. The first refusal ends
 /// it. Where the output is refused, a beginning of the result was written; otherwise nothing was written.
+/// Where nothing is refused, it returns what the workers did.
 pub fn drive_to<R: Read, P: Programs, S: Read, W: Write>(
     alloc: Global,
     block: &mut R,
@@ -56,7 +59,7 @@ pub fn drive_to<R: Read, P: Programs, S: Read, W: Write>(
     schedule: &mut S,
     workers: usize,
     out: &mut W,
-) -> Result<(), Refusal>
+) -> Result<RunCounts, Refusal>
     ensures written { OnOk result (IfSome (R.remaining block.old) (λ input.
         IfSome (driven_answer (P.content programs.old) (block_of input) workers (option_map schedule_of (S.remaining schedule.old))) (λ answer.
         IsOkAnd answer (Appends (W.contents out.old) (W.contents out.new))))) }
@@ -64,6 +67,9 @@ pub fn drive_to<R: Read, P: Programs, S: Read, W: Write>(
         IsFaultOfDrive (P.content programs.old) (block_of input) workers (option_map schedule_of (S.remaining schedule.old))
         (W.contents out.old) (W.contents out.new) e)) }
     ensures unwritten { IfErr result (λ e. IsUnwritten (W.contents out.old) (W.contents out.new) e) }
+    ensures counts { IfOk result (λ counts. IfSome (R.remaining block.old) (λ input. IfSome (S.remaining schedule.old) (λ bytes.
+        IfSome (loaded_job (P.content programs.old) (block_of input)) (λ wanted. IsOkAnd wanted (λ job.
+        IsOkAnd (schedule_of bytes) (λ entries. AreCountsAlong job workers entries counts)))))) }
 {
     let job = match load_job(alloc, block, programs, Refusal::Drive(DriveFault::Memory)) {
         Ok(job) => job,
@@ -114,16 +120,48 @@ fn drive_job<W: Write>(
     workers: usize,
     entries: &[u16],
     out: &mut W,
-) -> Result<(), Refusal>
+) -> Result<RunCounts, Refusal>
     ensures written { OnOk result (IsOkAnd (text_along job.now.block job.now.store workers entries.now) (Appends (W.contents out.old) (W.contents out.new))) }
     ensures refused { IfErr result (λ e. IsDriveFault (text_along job.now.block job.now.store workers entries.now) (W.contents out.old) (W.contents out.new) e) }
     ensures unwritten { IfErr result (λ e. IsUnwritten (W.contents out.old) (W.contents out.new) e) }
+    ensures counts { IfOk result (AreCountsAlong job.now workers entries.now) }
 {
-    let outcome = match drive(alloc, job, workers, entries) {
-        Ok(outcome) => outcome,
-        Err(fault) => return Err(Refusal::Drive(fault)),
-    };
-    write_result(alloc, &outcome, out)
+    match drive(alloc, job, workers, entries) {
+        Ok(outcome) => write_counted(alloc, outcome, out),
+        Err(fault) => Err(Refusal::Drive(fault)),
+    }
+}
+
+/// Writes the result of a run, and returns what its workers did.
+pub(crate) fn write_counted<W: Write>(
+    alloc: Global,
+    outcome: Outcome,
+    out: &mut W,
+) -> Result<RunCounts, Refusal>
+    ensures written { OnOk result (Appends (W.contents out.old) (W.contents out.new)
+        (result_text outcome.receipts.items outcome.store)) }
+    ensures refused { IfErr result (λ e. IsOutputFault (result_text outcome.receipts.items outcome.store)
+        (W.contents out.old) (W.contents out.new) e) }
+    ensures unwritten { IfErr result (λ e. IsUnwritten (W.contents out.old) (W.contents out.new) e) }
+    ensures calls { IfOk result (λ counts. counts.calls ≡ length outcome.job.block) }
+    ensures workers { IfOk result (λ counts. counts.workers.items ≡ outcome.counts.items) }
+{
+    match write_result(alloc, &outcome, out) {
+        Ok(()) => Ok(counts_of(outcome)),
+        Err(refusal) => Err(refusal),
+    }
+}
+
+/// What the workers of a run did.
+fn counts_of(outcome: Outcome) -> RunCounts
+    ensures calls { result.calls ≡ length outcome.job.block }
+    ensures workers { result.workers.items ≡ outcome.counts.items }
+{
+    let Outcome { job, counts, .. } = outcome;
+    RunCounts {
+        calls: job.block.calls().len(),
+        workers: counts,
+    }
 }
 
 /// Writes the result of a run.

@@ -2,6 +2,7 @@
 #![tactic(auto)]
 
 mod assembling;
+mod counts;
 mod debugging;
 mod disk;
 mod engine;
@@ -18,6 +19,7 @@ mod reporting;
 mod running;
 
 pub use assembling::file_of_source;
+pub use counts::{RunCounts, write_counts};
 pub use debugging::debug_block_to;
 pub use disk::Disk;
 pub use engine::{drive_to, seq_to};

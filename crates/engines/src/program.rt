@@ -1,6 +1,7 @@
 //! The program, over any command line, files, input and writers.
 
 use crate::assembling::{SOURCE_MEMORY, file_of_source};
+use crate::counts::{RunCounts, write_counts};
 use crate::debugging::debug_block_to;
 use crate::disk::{Disk, LateFile, ProgramFiles};
 use crate::engine::{drive_to, seq_to};
@@ -12,6 +13,7 @@ use crate::replacing::replace;
 use crate::reporting::report;
 use crate::running::run_to;
 use cmdline::{Request, request_of};
+use receipts::{WriteFault, write_whole};
 use std::alloc::Global;
 use std::io::{Read, Write};
 use std::rt::Env;
@@ -24,7 +26,7 @@ const WRONG_LINE: u8 = 2;
 
 /// Does what the command line asks for, and returns the exit status: 0 where it is done, 1 where it is
 /// refused, 2 where the line is wrong. The lines of `debug` are read from `input`. Results, help and the
-/// version are written to `out`. Refusals, and what is wrong with the line, are written to `errors`.
+/// version are written to `out`. Refusals, what is wrong with the line, and counts are written to `errors`.
 pub fn status<R, T, D, I, W, E>(
     rt: &R,
     threads: &T,
@@ -46,7 +48,7 @@ where
         Err(error) => return refuse_line(text_of(&error), errors),
     };
     match read_request(rt.alloc(), words.as_slice(), out, errors) {
-        Ok(request) => match answer(threads, rt.alloc(), disk, request, input, out) {
+        Ok(request) => match answer(threads, rt.alloc(), disk, request, input, out, errors) {
             Ok(()) => 0,
             Err(refusal) => report(&refusal, errors),
         },
@@ -64,19 +66,34 @@ fn read_request<'a, W: Write, E: Write>(
     match request_of(alloc, words) {
         Ok(Some(request)) => Ok(request),
         Ok(None) => Err(refuse_line("error: a value is missing", errors)),
-        Err(error) => Err(print_error(&error, out, errors)),
+        Err(error) => Err(print_error(alloc, &error, out, errors)),
     }
 }
 
 /// Prints the help or the version to `out`, or what is wrong with a line to `errors`, and returns the exit
 /// status.
-fn print_error<W: Write, E: Write>(error: &clap::Error, out: &mut W, errors: &mut E) -> u8 {
+fn print_error<W: Write, E: Write>(
+    alloc: Global,
+    error: &clap::Error,
+    out: &mut W,
+    errors: &mut E,
+) -> u8 {
     if error.use_stderr() {
         let _ = write!(errors, "{error}");
         return WRONG_LINE;
     }
-    let _ = write!(out, "{error}");
-    0
+    match print_help(alloc, error, out) {
+        Ok(()) => 0,
+        Err(fault) => report(&Refusal::Output(fault), errors),
+    }
+}
+
+/// Prints the help or the version. Refused as Memory before anything is written, or as `write_whole` is.
+fn print_help<W: Write>(alloc: Global, help: &clap::Error, out: &mut W) -> Result<(), WriteFault> {
+    let Ok(text) = format!(in alloc; "{help}") else {
+        return Err(WriteFault::Memory);
+    };
+    write_whole(text.as_str().as_bytes(), out)
 }
 
 /// Prints what is wrong with a command line, and returns the exit status.
@@ -100,22 +117,34 @@ fn text_of(error: &io::Error) -> &'static str {
 }
 
 /// Does a request.
-fn answer<T: Threads + Wait + Sync, D: Disk, I: Read, W: Write>(
+fn answer<T: Threads + Wait + Sync, D: Disk, I: Read, W: Write, E: Write>(
     threads: &T,
     alloc: Global,
     disk: &D,
     request: Request<'_>,
     input: &mut I,
     out: &mut W,
+    errors: &mut E,
 ) -> Result<(), Refusal> {
     match request {
-        Request::Run { file, workers } => run(threads, alloc, disk, file, workers, out),
+        Request::Run {
+            file,
+            workers,
+            counts,
+        } => {
+            let found = run(threads, alloc, disk, file, workers, out)?;
+            print_counts(alloc, counts, &found, errors)
+        }
         Request::Seq { file } => seq(alloc, disk, file, out),
         Request::Drive {
             file,
             workers,
             schedule,
-        } => drive(alloc, disk, file, workers, schedule, out),
+            counts,
+        } => {
+            let found = drive(alloc, disk, file, workers, schedule, out)?;
+            print_counts(alloc, counts, &found, errors)
+        }
         Request::Asm { file, out } => asm(alloc, disk, file, out),
         Request::Dis { file } => dis(alloc, disk, file, out),
         Request::Migrate { file, out } => migrate(alloc, disk, file, out),
@@ -123,7 +152,24 @@ fn answer<T: Threads + Wait + Sync, D: Disk, I: Read, W: Write>(
     }
 }
 
-/// Runs the calls of a block file on workers, each on a thread of its own, and prints the result.
+/// Prints what the workers of a run did, where that is asked for.
+fn print_counts<E: Write>(
+    alloc: Global,
+    is_asked: bool,
+    counts: &RunCounts,
+    errors: &mut E,
+) -> Result<(), Refusal> {
+    if !is_asked {
+        return Ok(());
+    }
+    match write_counts(alloc, counts, errors) {
+        Ok(()) => Ok(()),
+        Err(fault) => Err(Refusal::Output(fault)),
+    }
+}
+
+/// Runs the calls of a block file on workers, each on a thread of its own, and prints the result. Returns what
+/// the workers did.
 fn run<T: Threads + Wait + Sync, D: Disk, W: Write>(
     threads: &T,
     alloc: Global,
@@ -131,7 +177,7 @@ fn run<T: Threads + Wait + Sync, D: Disk, W: Write>(
     file: &str,
     workers: usize,
     out: &mut W,
-) -> Result<(), Refusal> {
+) -> Result<RunCounts, Refusal> {
     let mut block = opened(disk, file)?;
     let mut programs = ProgramFiles { disk };
     run_to(threads, alloc, &mut block, &mut programs, workers, out)
@@ -143,8 +189,8 @@ fn seq<D: Disk, W: Write>(alloc: Global, disk: &D, file: &str, out: &mut W) -> R
     seq_to(alloc, &mut block, &mut ProgramFiles { disk }, out)
 }
 
-/// Runs the calls of a block file along a schedule, and prints the result. The schedule file is opened
-/// after the files of the programs.
+/// Runs the calls of a block file along a schedule, and prints the result. Returns what the workers did. The
+/// schedule file is opened after the files of the programs.
 fn drive<D: Disk, W: Write>(
     alloc: Global,
     disk: &D,
@@ -152,7 +198,7 @@ fn drive<D: Disk, W: Write>(
     workers: usize,
     schedule: &str,
     out: &mut W,
-) -> Result<(), Refusal> {
+) -> Result<RunCounts, Refusal> {
     let mut block = opened(disk, file)?;
     let mut schedule = LateFile {
         disk,
@@ -170,9 +216,12 @@ fn drive<D: Disk, W: Write>(
 }
 
 /// Assembles a source and puts its ELF file at a path. Where this is refused, an ordinary file at the path
-/// stays as it was.
+/// stays as it was. Refused as Unwritable where both paths name one file, since the source would be lost.
 fn asm<D: Disk>(alloc: Global, disk: &D, file: &str, out: &str) -> Result<(), Refusal> {
     let mut source = opened(disk, file)?;
+    if disk.is_one_file(file, out) {
+        return Err(Refusal::File(FileFault::Unwritable));
+    }
     let bytes = file_of_source(alloc, &mut source)?;
     let memory = Refusal::Asm(SOURCE_MEMORY);
     replace(alloc, disk, out, bytes.as_slice(), memory)

@@ -3,11 +3,14 @@
 use crate::disk::Disk;
 use crate::fault::{FileFault, Refusal};
 use receipts::write_whole;
-use std::alloc::Global;
+use std::alloc::{AllocError, Global};
 use std::io;
 
 /// The number of names that are tried for a new file.
 const NAME_LIMIT: usize = 100;
+
+/// The beginning of the name of a new file; its number stands behind it.
+const NEW_NAME: &str = ".rvstm.new";
 
 /// Puts bytes at a path. An ordinary file there is replaced in one step, by a file that was written in
 /// full beside it; where this is refused it stays as it was. A device is written directly. Refused as
@@ -46,9 +49,9 @@ fn replace_file<D: Disk>(
     Err(Refusal::File(FileFault::Unwritable))
 }
 
-/// Makes a file beside a path, and returns its name and the file. The name is the path with `.new0` to
-/// `.new99` added: the first that is free. Refused as Unwritable where none is free or the file can't be
-/// made, and as `memory` where memory ran out.
+/// Makes a file in the folder of a path, and returns its path and the file. Its name is `.rvstm.new0` to
+/// `.rvstm.new99`: the first that is free, or was left over. Refused as Unwritable where none is or the file
+/// can't be made, and as `memory` where memory ran out.
 fn new_beside<D: Disk>(
     alloc: Global,
     disk: &D,
@@ -56,16 +59,37 @@ fn new_beside<D: Disk>(
     memory: Refusal,
 ) -> Result<(String, D::NewFile), Refusal> {
     for number in 0..NAME_LIMIT {
-        let Ok(name) = format!(in alloc; "{path}.new{number}") else {
+        let Ok(name) = new_path(alloc, path, number) else {
             return Err(memory);
         };
-        match disk.create_new(name.as_str()) {
+        match new_file(disk, name.as_str()) {
             Ok(file) => return Ok((name, file)),
             Err(error) if error.kind() == io::ErrorKind::AlreadyExists => {}
             Err(_) => break,
         }
     }
     Err(Refusal::File(FileFault::Unwritable))
+}
+
+/// The path of a new file in the folder of a path; refused where memory ran out.
+fn new_path(alloc: Global, path: &str, number: usize) -> Result<String, AllocError> {
+    match path.rsplit_once('/') {
+        Some((folder, _)) => format!(in alloc; "{folder}/{NEW_NAME}{number}"),
+        None => format!(in alloc; "{NEW_NAME}{number}"),
+    }
+}
+
+/// Makes a file. One that was left over at the path is removed first.
+fn new_file<D: Disk>(disk: &D, path: &str) -> io::Result<D::NewFile> {
+    match disk.create_new(path) {
+        Err(error) if error.kind() == io::ErrorKind::AlreadyExists => {
+            if disk.remove_left_over(path).is_err() {
+                return Err(error);
+            }
+            disk.create_new(path)
+        }
+        made => made,
+    }
 }
 
 /// Writes bytes into what is at a path.

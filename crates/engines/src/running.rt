@@ -3,13 +3,15 @@
 ghost use Rattle.std.specs.Prelude.{◌≡◌, ◌≤◌, length, IfErr, IfOk, IfSome, IsOkAnd, OnOk};
 ghost use Rattle.std.specs.Io.KnownBytes.{Appends};
 ghost use Rattle.block_file.specs.Block.{block_of};
+ghost use Rattle.engines.specs.Counts.{AreCountsOfRun};
 ghost use Rattle.engines.specs.Engine.{answer_of, loaded_job, IsUnwritten};
 ghost use Rattle.engines.specs.Parts.{IsWorkersFault, text_of};
 ghost use Rattle.engines.specs.Running.{IsFaultOfRun, IsRefusalOf};
 ghost use Rattle.rv_step.specs.Fold.{receipts_of, store_after};
-ghost use Rattle.workers.specs.History.{AreOneWorkerCounts, HasHistory, IsRunBy};
+ghost use Rattle.workers.specs.History.{AreOneWorkerCounts, HasHistory};
 
-use crate::engine::write_result;
+use crate::counts::RunCounts;
+use crate::engine::write_counted;
 use crate::fault::Refusal;
 use crate::loading::load_job;
 use crate::programs::Programs;
@@ -23,7 +25,8 @@ use workers::{Executor, RunFault};
 /// Reads a block file to its end and parses it. Opens, reads and loads its programs in the order of
 /// their numbers. Then runs the calls on `workers` workers, each on a thread of its own, and writes the
 /// result, which is that of the calls in order. The first refusal ends it. Where the output is refused,
-/// a beginning of the result was written; otherwise nothing was written.
+/// a beginning of the result was written; otherwise nothing was written. Where nothing is refused, it returns
+/// what the workers did.
 pub fn run_to<T: Threads + Wait + Sync, R: Read, P: Programs, W: Write>(
     threads: &T,
     alloc: Global,
@@ -31,7 +34,7 @@ pub fn run_to<T: Threads + Wait + Sync, R: Read, P: Programs, W: Write>(
     programs: &mut P,
     workers: usize,
     out: &mut W,
-) -> Result<(), Refusal>
+) -> Result<RunCounts, Refusal>
     ensures written { OnOk result (IfSome (R.remaining block.old) (λ input.
         IfSome (answer_of (P.content programs.old) (block_of input)) (λ answer.
         IsOkAnd answer (Appends (W.contents out.old) (W.contents out.new))))) }
@@ -39,8 +42,8 @@ pub fn run_to<T: Threads + Wait + Sync, R: Read, P: Programs, W: Write>(
         IsFaultOfRun (P.content programs.old) (block_of input) workers (W.contents out.old) (W.contents out.new) e)) }
     ensures unwritten { IfErr result (λ e. IsUnwritten (W.contents out.old) (W.contents out.new) e) }
     ensures workers { OnOk result ((1 ≤ workers) × (workers ≤ 32)) }
-    ensures history { OnOk result (IfSome (R.remaining block.old) (λ input.
-        IfSome (loaded_job (P.content programs.old) (block_of input)) (λ wanted. IsOkAnd wanted (λ job. IsRunBy job workers)))) }
+    ensures history { IfOk result (λ counts. IfSome (R.remaining block.old) (λ input.
+        IfSome (loaded_job (P.content programs.old) (block_of input)) (λ wanted. IsOkAnd wanted (λ job. AreCountsOfRun job workers counts)))) }
 {
     let job = match load_job(alloc, block, programs, Refusal::Run(RunFault::Memory)) {
         Ok(job) => job,
@@ -56,15 +59,15 @@ fn run_threads<T: Threads + Wait + Sync, W: Write>(
     job: Job,
     workers: usize,
     out: &mut W,
-) -> Result<(), Refusal>
+) -> Result<RunCounts, Refusal>
     ensures written { OnOk result (Appends (W.contents out.old) (W.contents out.new) (text_of job)) }
     ensures refused { IfErr result (λ e. IsWorkersFault job workers (W.contents out.old) (W.contents out.new) e) }
     ensures unwritten { IfErr result (λ e. IsUnwritten (W.contents out.old) (W.contents out.new) e) }
     ensures workers { OnOk result ((1 ≤ workers) × (workers ≤ 32)) }
-    ensures history { OnOk result (IsRunBy job workers) }
+    ensures history { IfOk result (AreCountsOfRun job workers) }
 {
     match run_job(threads, alloc, job, workers) {
-        Ok(outcome) => write_result(alloc, &outcome, out),
+        Ok(outcome) => write_counted(alloc, outcome, out),
         Err(fault) => Err(Refusal::Run(fault)),
     }
 }
@@ -76,6 +79,7 @@ fn run_job<T: Threads + Wait + Sync>(
     job: Job,
     workers: usize,
 ) -> Result<Outcome, RunFault>
+    ensures job { IfOk result (λ o. o.job ≡ job) }
     ensures receipts { IfOk result (λ o. o.receipts.items ≡ receipts_of job.block job.store) }
     ensures store { IfOk result (λ o. o.store ≡ store_after job.block job.store) }
     ensures history { IfOk result (λ o. HasHistory job workers o.counts.items) }

@@ -85,26 +85,44 @@ fn reads_asm_and_dis(rt: HostRuntime) -> Result<(), AllocError> {
     Ok(())
 }
 
-/// Lines of `drive`, each with the number of workers.
-const DRIVES: &[(&str, usize)] = &[
-    ("rvstm drive a.block --workers 1 --schedule b.schedule", 1),
-    ("rvstm drive --schedule=b.schedule --workers=32 a.block", 32),
-    ("rvstm drive --workers 007 a.block --schedule b.schedule", 7),
+/// Lines of `drive`, each with the number of workers and whether it asks for counts.
+const DRIVES: &[(&str, usize, bool)] = &[
+    (
+        "rvstm drive a.block --workers 1 --schedule b.schedule",
+        1,
+        false,
+    ),
+    (
+        "rvstm drive --schedule=b.schedule --workers=32 a.block",
+        32,
+        false,
+    ),
+    (
+        "rvstm drive --workers 007 a.block --schedule b.schedule",
+        7,
+        false,
+    ),
+    (
+        "rvstm drive --counts a.block --workers 2 --schedule b.schedule",
+        2,
+        true,
+    ),
 ];
 
 /// The request of `drive` with this many workers.
-fn drive(workers: usize) -> Request<'static> {
+fn drive(workers: usize, counts: bool) -> Request<'static> {
     Request::Drive {
         file: "a.block",
         workers,
         schedule: "b.schedule",
+        counts,
     }
 }
 
 #[test]
 fn reads_drive(rt: HostRuntime) -> Result<(), AllocError> {
-    for (line, workers) in DRIVES {
-        assert_asks(&rt, rt.alloc(), line, &drive(*workers))?;
+    for (line, workers, counts) in DRIVES {
+        assert_asks(&rt, rt.alloc(), line, &drive(*workers, *counts))?;
     }
     Ok(())
 }
@@ -116,6 +134,7 @@ const RUNS: &[(&str, Request<'static>)] = &[
         Request::Run {
             file: "a.block",
             workers: 7,
+            counts: false,
         },
     ),
     (
@@ -123,6 +142,7 @@ const RUNS: &[(&str, Request<'static>)] = &[
         Request::Run {
             file: "a.block",
             workers: 32,
+            counts: false,
         },
     ),
     (

@@ -2,31 +2,55 @@
 
 use engines::Disk;
 use std::alloc::Global;
-use std::fs::{File, OpenFile, OpenOptions};
+use std::fs::{File, Metadata, OpenFile, OpenOptions, TryLockError};
+use std::os::unix::fs::MetadataExt;
 use std::rt::Files;
 use std::{fs, io};
 
 /// The files that a runtime opens, by their paths. A relative path starts at the working directory.
 #[derive(Drop)]
-pub struct SystemDisk<'a, R: Files> {
+pub struct SystemDisk<'a, R: Files<File = File>> {
     /// The runtime.
     pub rt: &'a R,
 }
 
-impl<'a, R: Files + AllocGlobal> Disk for SystemDisk<'a, R> {
-    type File = R::File;
+impl<'a, R: Files<File = File> + AllocGlobal> Disk for SystemDisk<'a, R> {
+    type File = File;
 
-    type NewFile = R::File;
+    type NewFile = File;
 
-    fn open(&self, path: &str) -> io::Result<R::File> {
+    fn open(&self, path: &str) -> io::Result<File> {
         fs::open(self.rt, path)
     }
 
-    fn create_new(&self, path: &str) -> io::Result<R::File> {
-        File::create_new(self.rt, path)
+    fn create_new(&self, path: &str) -> io::Result<File> {
+        let file = File::create_new(self.rt, path)?;
+        if is_locked_elsewhere(&file) || !is_at(self.rt, &file, path)? {
+            return Err(io::Error::from(io::ErrorKind::AlreadyExists));
+        }
+        Ok(file)
     }
 
-    fn create(&self, path: &str) -> io::Result<R::File> {
+    fn remove_left_over(&self, path: &str) -> io::Result<()> {
+        if !fs::symlink_metadata(self.rt, path)?.is_file() {
+            return Err(io::Error::from(io::ErrorKind::AlreadyExists));
+        }
+        let file = File::open(self.rt, path)?;
+        file.try_lock()?;
+        if !is_at(self.rt, &file, path)? {
+            return Err(io::Error::from(io::ErrorKind::AlreadyExists));
+        }
+        fs::remove_file(self.rt, path)
+    }
+
+    fn is_one_file(&self, left: &str, right: &str) -> bool {
+        match (fs::metadata(self.rt, left), fs::metadata(self.rt, right)) {
+            (Ok(left), Ok(right)) => left.is_file() && is_same_file(&left, &right),
+            _ => false,
+        }
+    }
+
+    fn create(&self, path: &str) -> io::Result<File> {
         fs::create(self.rt, path)
     }
 
@@ -42,20 +66,32 @@ impl<'a, R: Files + AllocGlobal> Disk for SystemDisk<'a, R> {
         Ok(Some(real))
     }
 
-    fn sync(&self, file: &R::File) -> io::Result<()> {
+    fn sync(&self, file: &File) -> io::Result<()> {
         file.sync_all()
     }
 
     fn rename(&self, from: &str, to: &str) -> io::Result<()> {
-        if let Ok(replaced) = fs::metadata(self.rt, to) {
-            let _ = fs::set_permissions(self.rt, from, replaced.permissions());
-        }
         fs::rename(self.rt, from, to)
     }
 
     fn remove_file(&self, path: &str) -> io::Result<()> {
         fs::remove_file(self.rt, path)
     }
+}
+
+/// Takes the lock of a file, and says whether somebody else has it. Where the system has no locks, nobody has.
+fn is_locked_elsewhere(file: &File) -> bool {
+    matches!(file.try_lock(), Err(TryLockError::WouldBlock))
+}
+
+/// Whether a path still names an open file.
+fn is_at<R: Files>(rt: &R, file: &File, path: &str) -> io::Result<bool> {
+    Ok(is_same_file(&file.metadata()?, &fs::symlink_metadata(rt, path)?))
+}
+
+/// Whether two files are one.
+fn is_same_file(left: &Metadata, right: &Metadata) -> bool {
+    left.dev() == right.dev() && left.ino() == right.ino()
 }
 
 /// The path itself where nothing is there; `None` where something is, such as a link that leads

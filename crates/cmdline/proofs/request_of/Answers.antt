@@ -4,8 +4,8 @@ use Rattle.clap.specs.declared.error.ErrorKind.TheVariants as kind
 use Rattle.clap.specs.declared.parser.matches.ArgMatches.{ArgMatches}
 use Rattle.cmdline.specs.Line.{Asked, asked, asked_by, asked_in, rvstm_app}
 use Rattle.cmdline.specs.declared.Request.{Request}
-use Rattle.cmdline.proofs.DriveLine.{drive_is_asked, drive_is_taken}
-use Rattle.cmdline.proofs.Lines.{asm_is_asked, asm_is_taken, debug_is_asked, debug_is_taken, dis_is_asked, dis_is_taken, is_plain, migrate_is_asked, migrate_is_taken, run_is_asked, run_is_taken, seq_is_asked, seq_is_taken}
+use Rattle.cmdline.proofs.DriveLine.{drive_counts_is_asked, drive_counts_is_taken, drive_is_asked, drive_is_taken}
+use Rattle.cmdline.proofs.Lines.{asm_is_asked, asm_is_taken, debug_is_asked, debug_is_taken, dis_is_asked, dis_is_taken, is_plain, migrate_is_asked, migrate_is_taken, run_counts_is_asked, run_counts_is_taken, run_is_asked, run_is_taken, seq_is_asked, seq_is_taken}
 use Rattle.cmdline.proofs.request_of.Goals as goal
 
 pub returns-clause-refused : goal.returns-clause-refused
@@ -27,6 +27,16 @@ pub returns-clause-run : goal.returns-clause-run
 returns-clause-run c = λ program file word line operand number.
     is_asked _ _ line _ _ _ c.in_ok-matches.ensures.found c.request_in.ensures (run_is_asked program file word operand number)
 
+pub returns-in_err-matches-clause-run_counts : goal.returns-in_err-matches-clause-run_counts
+returns-in_err-matches-clause-run_counts c = λ program file word line operand number.
+    let kind_is : kind_of c.in_err-matches.field-0.0 ≡ kind.OutOfMemory =
+    c.in_err-matches.ensures.passes (ap (takes rvstm_app) line ∙ run_counts_is_taken program file word operand number) in
+    search (rules, kind_is)
+
+pub returns-clause-run_counts : goal.returns-clause-run_counts
+returns-clause-run_counts c = λ program file word line operand number.
+    is_asked _ _ line _ _ _ c.in_ok-matches.ensures.found c.request_in.ensures (run_counts_is_asked program file word operand number)
+
 pub returns-in_err-matches-clause-seq : goal.returns-in_err-matches-clause-seq
 returns-in_err-matches-clause-seq c = λ program file line operand.
     let kind_is : kind_of c.in_err-matches.field-0.0 ≡ kind.OutOfMemory =
@@ -46,6 +56,16 @@ returns-in_err-matches-clause-drive c = λ program file word schedule line opera
 pub returns-clause-drive : goal.returns-clause-drive
 returns-clause-drive c = λ program file word schedule line operand number second.
     is_asked _ _ line _ _ _ c.in_ok-matches.ensures.found c.request_in.ensures (drive_is_asked program file word schedule operand number second)
+
+pub returns-in_err-matches-clause-drive_counts : goal.returns-in_err-matches-clause-drive_counts
+returns-in_err-matches-clause-drive_counts c = λ program file word schedule line operand number second.
+    let kind_is : kind_of c.in_err-matches.field-0.0 ≡ kind.OutOfMemory =
+    c.in_err-matches.ensures.passes (ap (takes rvstm_app) line ∙ drive_counts_is_taken program file word schedule operand number second) in
+    search (rules, kind_is)
+
+pub returns-clause-drive_counts : goal.returns-clause-drive_counts
+returns-clause-drive_counts c = λ program file word schedule line operand number second.
+    is_asked _ _ line _ _ _ c.in_ok-matches.ensures.found c.request_in.ensures (drive_counts_is_asked program file word schedule operand number second)
 
 pub returns-in_err-matches-clause-asm : goal.returns-in_err-matches-clause-asm
 returns-in_err-matches-clause-asm c = λ program file out line operand second.

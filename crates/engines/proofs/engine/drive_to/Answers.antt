@@ -25,7 +25,7 @@ returns-in-Err-clause-refused g c =
     loading (g.R.Read.remaining c.args.block.now) (g.P.Programs.content c.args.programs.now) c.args.workers (option_map schedule_of (g.S.Read.remaining c.args.schedule.now)) (g.W.Write.contents c.args.out.now) (g.W.Write.contents c.args.out.now) c.in-Err.refusal c.in-Err.ensures.err
 
 -- a refusal of the run along the list
-running : (input bytes : Option (List ℕ)) (content : List ℕ → Option (List ℕ)) (job : Job) (workers : ℕ) (entries items : List ℕ) (old new : Option (List ℕ)) (r : Result (Unit {0}) Refusal) → entries ≡ items
+running : {X : Type 0} (input bytes : Option (List ℕ)) (content : List ℕ → Option (List ℕ)) (job : Job) (workers : ℕ) (entries items : List ℕ) (old new : Option (List ℕ)) (r : Result X Refusal) → entries ≡ items
     → IfSome input (λ b. IfSome (loaded_job content (block_of b)) (λ wanted. wanted ≡ Ok job)) → IfSome bytes (λ b. schedule_of b ≡ Ok items)
     → IfErr r (λ e. IsDriveFault (text_along job.block job.store workers entries) old new e)
     → IfErr r (λ e. IfSome input (λ b. IsFaultOfDrive content (block_of b) workers (option_map schedule_of bytes) old new e))
