@@ -61,7 +61,7 @@ outside access rights a (inr h) =
     let e : ltb a 1114112 ≡ false = grind (arith, nat_tests) in and_left _ _ (and_right _ _ e)
 
 -- a byte of memory whose page has the right
-inside : (access : Access) (rights : List Rights) (a : ℕ) → 65536 ≤ a → a < 1114112 → allows access (get_or rights ((a - 65536) / 4096) no_rights) ≡ true → may access rights a ≡ true
+pub inside : (access : Access) (rights : List Rights) (a : ℕ) → 65536 ≤ a → a < 1114112 → allows access (get_or rights ((a - 65536) / 4096) no_rights) ≡ true → may access rights a ≡ true
 inside access rights a low high h =
     let e : leb 65536 a ≡ true = grind (arith, nat_tests) in
     let f : ltb a 1114112 ≡ true = grind (arith, nat_tests) in

@@ -4,3 +4,4 @@ mod Copied
 mod Placed
 mod Pools
 mod Calls
+mod Held

@@ -1,11 +1,14 @@
 -- The pages of a call, and the bytes that stand in them. Private help of proofs; no public clause cites it.
-use Rattle.std.specs.Prelude.{◌≡◌, ℕ, ◌+◌, ◌-◌, ◌≤◌, ◌<◌, nat_lt, if◌then◌else◌, List, ◌++◌, length, flat_map, replicate, slice_index, All}
+use Rattle.std.specs.Prelude.{◌≡◌, ℕ, ◌+◌, ◌-◌, ◌≤◌, ◌<◌, ◌%◌, ◌/◌, nat_lt, if◌then◌else◌, List, ◌++◌, length, flat_map, replicate, slice_index, slice_index_or, true, All}
 use Rattle.std.specs.List.{sum_by}
 use Rattle.std.specs.Arc.{arc_value}
-use Rattle.elf32.specs.Extent.{page_count, page_size}
+use Rattle.elf32.specs.Extent.{end_address, first_address, page_count, page_size}
 use Rattle.elf32.specs.Pages.{ArePages, page_at, zeros}
 use Rattle.elf32.specs.declared.pages.BasePages.{BasePages}
+use Rattle.elf32.specs.declared.segment.Rights.{Rights}
+use Rattle.rv_mem.specs.declared.pages.Held.{Held}
 use Rattle.rv_mem.specs.declared.pages.Pages.{Pages}
+use Rattle.rv_mem.specs.Space.{no_rights}
 
 -- the place of the call's first page of its own
 abbrev pub first_own : ℕ
@@ -42,11 +45,22 @@ pub record ArePlaced (base count own : ℕ) (index : List ℕ) : Type 0 where
   pub each : own + sum_by (is_shared count) index ≡ page_count
   pub alone : (i j : ℕ) → i < page_count → j < page_count → count ≤ slice_index index i → slice_index index i ≡ slice_index index j → i ≡ j
 
+-- what holds of the page that is held, where one is: it is the program's and may be executed
+pub record IsHeld (rights : List Rights) (index : List ℕ) (held : Held) : Type 0 where
+  pub few : held.len ≤ page_size
+  pub low : 0 < held.len → first_address ≤ held.first
+  pub high : 0 < held.len → held.first < end_address
+  pub start : 0 < held.len → (held.first - first_address) % page_size ≡ 0
+  pub here : 0 < held.len → slice_index index ((held.first - first_address) / page_size) ≡ held.place
+  pub shared : 0 < held.len → held.place < first_own
+  pub allowed : 0 < held.len → (slice_index_or rights ((held.first - first_address) / page_size) no_rights).executable ≡ true
+
 -- the pages of a call
 pub record IsPaged (p : Pages) : Type 0 where
   pub sizes : ArePages (λ q. q) (all_pages p)
   pub placed : ArePlaced (length (base_of p).pages.items) first_own (length p.own.items) p.index.items
   pub rights : length (base_of p).rights ≡ page_count
+  pub held : IsHeld (base_of p).rights p.index.items p.held
 
 -- the pages from one on and below another are the call's own
 abbrev pub AreOwn : Pages → ℕ → ℕ → Type 0

@@ -1,6 +1,6 @@
 //! The memory of one call.
 
-ghost use Rattle.std.specs.Prelude.{◌≡◌, ◌<◌, ◌≤◌, ◌+◌, ◌-◌, ◌^◌, ◌↔◌, true, length, IfOk, OnOk, IsOk, IfErr};
+ghost use Rattle.std.specs.Prelude.{◌≡◌, ◌<◌, ◌≤◌, ◌+◌, ◌-◌, ◌^◌, ◌↔◌, true, length, Ok, IfOk, OnOk, IsOk, IfErr, IfSome};
 ghost use Rattle.elf32.specs.Extent.{end_address, first_address, input_address};
 ghost use Rattle.elf32.specs.Pages.{over};
 ghost use Rattle.rv_mem.specs.Paged.{IsPaged, base_of, memory_bytes};
@@ -12,13 +12,13 @@ ghost use Rattle.rv_mem.specs.declared.fault.Fault.TheVariants.{MemoryFault};
 use crate::access::Access;
 use crate::fault::Fault;
 use crate::pages::{
-    Pages, byte_at, halfword_at, program_pages, program_word_at, read, word_at, write,
+    Pages, byte_at, halfword_at, held_word_at, hold, program_pages, read, word_at, write,
     write_in_page,
 };
 use crate::rights::{place, range_has};
 use byteorder::{ByteOrder, LittleEndian};
 use elf32::Image;
-use elf32::extent::{FIRST_ADDRESS, INPUT_ADDRESS};
+use elf32::extent::{END_ADDRESS, FIRST_ADDRESS, INPUT_ADDRESS};
 use std::alloc::{AllocError, Global};
 use std::marker::Model;
 
@@ -77,7 +77,31 @@ impl Memory {
         ensures { result ≡ loaded 4 Execute self.now address }
     {
         let at = place(&self.pages.base.rights, Access::Execute, address, 4)?;
-        Ok(program_word_at(&self.pages, at))
+        Ok(word_at(&self.pages, at))
+    }
+
+    /// The instruction word at the address where it stands in the page that is held, else None.
+    #[inline(always)]
+    pub fn held_word(&self, address: u32) -> Option<u32>
+        ensures { IfSome result (λ word. loaded 4 Execute self.now address ≡ Ok word) }
+    {
+        let offset = address.wrapping_sub(self.pages.held.first);
+        if offset < self.pages.held.len && address % 4 == 0 {
+            return Some(held_word_at(&self.pages, offset as usize));
+        }
+        None
+    }
+
+    /// Holds the page of the address, for `held_word`, where its instructions can be found sooner. A caller
+    /// sees no change.
+    #[cold]
+    #[inline(never)]
+    pub fn hold(&mut self, address: u32)
+        ensures { self.new ≡ self.old }
+    {
+        if FIRST_ADDRESS <= address && address < END_ADDRESS {
+            hold(&mut self.pages, (address - FIRST_ADDRESS) as usize);
+        }
     }
 
     /// The byte at the address, or MemoryFault where it may not be loaded.

@@ -2,13 +2,13 @@
 
 ghost use Rattle.std.specs.Prelude.{◌≡◌, ◌+◌, ◌/◌, ◌%◌, ◌-◌, ◌≤◌, ◌<◌, ◌++◌, ℕ, length, take, drop, slice_index, OnOk, OnErr, IfOk};
 ghost use Rattle.byteorder.specs.Endian.{little_number};
-ghost use Rattle.elf32.specs.Extent.{memory_size, page_count, page_size};
+ghost use Rattle.elf32.specs.Extent.{first_address, memory_size, page_count, page_size};
 ghost use Rattle.elf32.specs.Pages.{over, page_at, page_rights, segment_bytes};
 ghost use Rattle.rv_mem.specs.Paged.{IsPaged, AreOwn, base_of, first_own, memory_bytes};
 
 use byteorder::{ByteOrder, LittleEndian};
 use elf32::bytes::put;
-use elf32::extent::PAGE_SIZE;
+use elf32::extent::{FIRST_ADDRESS, PAGE_SIZE};
 use elf32::{BasePages, Image, Page};
 use std::alloc::{AllocError, Global};
 use std::slice::from_ref;
@@ -16,6 +16,24 @@ use std::sync::Arc;
 
 /// The place of the first page of a call's own.
 const FIRST_OWN: usize = 512;
+
+/// A page of the program that may be executed, which is held so that its words are found sooner.
+#[derive(Clone, Copy)]
+pub struct Held {
+    /// The page's first address.
+    pub first: u32,
+    /// The number of its bytes, or 0 where no page is held.
+    pub len: u32,
+    /// The page's place among the program's.
+    pub place: usize,
+}
+
+/// What is held where no page is.
+const NOTHING: Held = Held {
+    first: FIRST_ADDRESS,
+    len: 0,
+    place: 0,
+};
 
 /// The pages of one call.
 #[derive(Drop)]
@@ -26,6 +44,8 @@ pub struct Pages {
     pub index: Vec<u16>,
     /// The pages that the call has written. Each is one page of memory.
     pub own: Vec<Page>,
+    /// The page that instructions are fetched from.
+    pub held: Held,
 }
 
 /// The pages of a program before its first instruction; refused where memory ran out.
@@ -40,6 +60,7 @@ pub fn program_pages(alloc: Global, image: &Image) -> Result<Pages, AllocError>
         base,
         index,
         own: Vec::new(alloc),
+        held: NOTHING,
     })
 }
 
@@ -76,6 +97,7 @@ fn copy_page(pages: &mut Pages, page: usize) -> Result<usize, AllocError>
         .own
         .extend_from_slice(from_ref(&shared[pages.index[page] as usize]))?;
     pages.index[page] = (FIRST_OWN + place) as u16;
+    pages.held = NOTHING;
     Ok(place)
 }
 
@@ -234,44 +256,45 @@ pub fn word_at(pages: &Pages, at: usize) -> u32
     LittleEndian::read_u32(rest_of_page(pages, at))
 }
 
-/// The bytes from a place in memory to the end of its page, which is the program's.
-#[inline(always)]
-fn rest_of_shared(pages: &Pages, at: usize) -> &[u8]
-    requires paged { IsPaged pages.now }
+/// Holds the page of a place in memory where it is the program's and may be executed.
+pub fn hold(pages: &mut Pages, at: usize)
+    requires paged { IsPaged pages.old }
     requires first { at < memory_size }
-    requires shared { slice_index pages.now.index.items (at / page_size) < first_own }
-    ensures value { result.now ≡ take (page_size - at % page_size) (drop at (memory_bytes pages.now)) }
-    ensures len { length result.now ≡ page_size - at % page_size }
+    ensures paged { IsPaged pages.new }
+    ensures base { base_of pages.new ≡ base_of pages.old }
+    ensures bytes { memory_bytes pages.new ≡ memory_bytes pages.old }
 {
-    let place = pages.index[at / PAGE_SIZE] as usize;
-    &pages.base.pages[place][at % PAGE_SIZE..]
-}
-
-/// The word at a place in memory, in one page.
-#[cold]
-#[inline(never)]
-fn written_word_at(pages: &Pages, at: usize) -> u32
-    requires paged { IsPaged pages.now }
-    requires first { at < memory_size }
-    requires room { at % page_size + 4 ≤ page_size }
-    ensures { result ≡ little_number 4 (drop at (memory_bytes pages.now)) }
-{
-    word_at(pages, at)
-}
-
-/// The word at a place in memory, in one page. It is found sooner where the page is the program's, as a page
-/// of instructions is.
-#[inline(always)]
-pub fn program_word_at(pages: &Pages, at: usize) -> u32
-    requires paged { IsPaged pages.now }
-    requires first { at < memory_size }
-    requires room { at % page_size + 4 ≤ page_size }
-    ensures { result ≡ little_number 4 (drop at (memory_bytes pages.now)) }
-{
-    if pages.index[at / PAGE_SIZE] as usize >= FIRST_OWN {
-        return written_word_at(pages, at);
+    let page = at / PAGE_SIZE;
+    let place = pages.index[page] as usize;
+    if place < FIRST_OWN && pages.base.rights[page].executable {
+        pages.held = Held {
+            first: FIRST_ADDRESS + (page * PAGE_SIZE) as u32,
+            len: PAGE_SIZE as u32,
+            place,
+        };
     }
-    LittleEndian::read_u32(rest_of_shared(pages, at))
+}
+
+/// The bytes from a place in the page that is held to its end.
+#[inline(always)]
+fn rest_of_held(pages: &Pages, offset: usize) -> &[u8]
+    requires paged { IsPaged pages.now }
+    requires inside { offset < pages.now.held.len }
+    ensures value { result.now ≡ take (page_size - offset) (drop (pages.now.held.first - first_address + offset) (memory_bytes pages.now)) }
+    ensures len { length result.now ≡ page_size - offset }
+{
+    &pages.base.pages[pages.held.place][offset..]
+}
+
+/// The word at a place in the page that is held.
+#[inline(always)]
+pub fn held_word_at(pages: &Pages, offset: usize) -> u32
+    requires paged { IsPaged pages.now }
+    requires inside { offset < pages.now.held.len }
+    requires room { offset + 4 ≤ page_size }
+    ensures { result ≡ little_number 4 (drop (pages.now.held.first - first_address + offset) (memory_bytes pages.now)) }
+{
+    LittleEndian::read_u32(rest_of_held(pages, offset))
 }
 
 /// Fills `out` with the bytes from a place in memory on.

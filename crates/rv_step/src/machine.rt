@@ -22,7 +22,7 @@ use rv_isa::{
     decode_lui, decode_store, decode_system, funct3, opcode,
 };
 use rv_ledger::{Call, End, Rules, Writes};
-use rv_mem::Memory;
+use rv_mem::{Fault, Memory};
 use std::alloc::{AllocError, Global};
 
 /// Returns the value of an expression. The expression is written into a branch for each of the eight
@@ -148,10 +148,25 @@ impl Machine {
     fn execute_next(&mut self) -> Result<InstructionOutcome, AllocError>
         ensures { MeetsInstruction result (instruction_at self.old) (step self.old) self.old self.new }
     {
-        match self.memory.fetch(self.pc) {
+        match self.fetch() {
             Ok(word) => self.execute_word(word),
             Err(fault) => Ok(InstructionOutcome::End(End::Trapped(trap_of(fault)))),
         }
+    }
+
+    /// The word at the pc. The pc is written after the call since the compiler then knows its value.
+    #[inline(always)]
+    fn fetch(&mut self) -> Result<u32, Fault>
+        ensures value { result ≡ loaded 4 access.Execute self.old.memory self.old.pc }
+        ensures same { self.new ≡ self.old }
+    {
+        let pc = self.pc;
+        if let Some(word) = self.memory.held_word(pc) {
+            return Ok(word);
+        }
+        self.memory.hold(pc);
+        self.pc = pc;
+        self.memory.fetch(pc)
     }
 
     /// Ends the call out of gas: all that is left is spent.
