@@ -27,11 +27,14 @@ use std::alloc::{AllocError, Global};
 
 /// Returns the value of an expression. The expression is written into a branch for each of the eight
 /// funct3 of a word, so the compiler knows funct3 there and does not look up again which operation it
-/// names. The branches are comparisons, since a match of eight cases becomes a jump through a table, which
-/// may cost more than three branches.
+/// names. The branch of the given funct3, the most frequent one, comes first. The branches are comparisons,
+/// since a match of eight cases becomes a jump through a table, which may cost more than three branches.
 macro_rules! return_by_funct3 {
-    ($word:expr, $execution:expr) => {{
+    ($word:expr, $first:expr, $execution:expr) => {{
         let field = funct3($word);
+        if field == $first {
+            return $execution;
+        }
         if field < 4 {
             if field < 2 {
                 if field == 0 {
@@ -204,11 +207,11 @@ impl Machine {
     {
         let code = opcode_of(word);
         if code == opcode::OP_IMM {
-            return_by_funct3!(word, self.execute_decoded(decode_immediate(word)));
+            return_by_funct3!(word, 0, self.execute_decoded(decode_immediate(word)));
         }
         if code < opcode::OP_IMM {
             if code == opcode::LOAD {
-                return_by_funct3!(word, self.execute_decoded(decode_load(word)));
+                return_by_funct3!(word, 2, self.execute_decoded(decode_load(word)));
             }
             if code == opcode::MISC_MEM {
                 return self.execute_decoded(decode_fence(word));
@@ -231,11 +234,14 @@ impl Machine {
     {
         let code = opcode_of(word);
         if code == opcode::OP {
-            return_by_funct3!(word, self.execute_decoded(decode_compute(word)));
+            if word >> 25 == 0 {
+                return_by_funct3!(word, 0, self.execute_decoded(decode_compute(word)));
+            }
+            return_by_funct3!(word, 0, self.execute_decoded(decode_compute(word)));
         }
         if code < opcode::OP {
             if code == opcode::STORE {
-                return_by_funct3!(word, self.execute_decoded(decode_store(word)));
+                return_by_funct3!(word, 2, self.execute_decoded(decode_store(word)));
             }
             return self.execute_illegal(word);
         }
@@ -254,7 +260,7 @@ impl Machine {
     {
         let code = opcode_of(word);
         if code == opcode::BRANCH {
-            return_by_funct3!(word, self.execute_decoded(decode_branch(word)));
+            return_by_funct3!(word, 1, self.execute_decoded(decode_branch(word)));
         }
         if code < opcode::JAL {
             if code == opcode::JALR {
