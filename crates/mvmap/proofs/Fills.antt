@@ -102,6 +102,16 @@ pub put_nowhere : (es fs : Slots) (p : Place) (new : Slot) → slot_at es p ≡ 
     → (q : Place) → slot_at fs q ≡ cond (is_at (place_cmp p) q) (option_map (λ _. new) (slot_at es q)) (slot_at es q)
 put_nowhere es fs p new none same q = ap (λ (xs : Slots). slot_at xs q) same ∙ put_nowhere_at es p q new (is_at (place_cmp p) q) (same_place p q) none
 
+put_back_at : (es fs gs : Slots) (p q : Place) (old : Slot) (b : Bool) → (b ≡ true → p ≡ q) → slot_at es p ≡ Some old → slot_at fs q ≡ cond b (Some slot.Vacant) (slot_at es q)
+    → slot_at gs q ≡ cond b (option_map (λ _. old) (slot_at fs q)) (slot_at fs q) → slot_at gs q ≡ slot_at es q
+put_back_at es fs gs p q old true same there vacant back = back ∙ ap (option_map (λ (_ : Slot). old)) vacant ∙ sym there ∙ ap (slot_at es) (same refl)
+put_back_at es fs gs p q old false same there vacant back = back ∙ vacant
+
+-- a slot that was there and is put back over a vacant one
+pub put_back : (es fs gs : Slots) (p : Place) (old : Slot) → slot_at es p ≡ Some old → ((q : Place) → slot_at fs q ≡ cond (is_at (place_cmp p) q) (Some slot.Vacant) (slot_at es q))
+    → ((q : Place) → slot_at gs q ≡ cond (is_at (place_cmp p) q) (option_map (λ _. old) (slot_at fs q)) (slot_at fs q)) → (q : Place) → slot_at gs q ≡ slot_at es q
+put_back es fs gs p old there vacant back q = put_back_at es fs gs p q old (is_at (place_cmp p) q) (same_place p q) there (vacant q) (back q)
+
 -- an entry that none is written over stays none, and one that is written over is the new one
 written_entry : (rs ss : List Record) (es fs : Slots) (p q : Place) (s : Slot) (x : Option Entry) (b : Bool) → (b ≡ true → p ≡ q)
     → slot_at fs q ≡ cond b (option_map (λ _. s) (slot_at es q)) (slot_at es q) → option_and_then (entry_of ss) (slot_at es q) ≡ option_and_then (entry_of rs) (slot_at es q)

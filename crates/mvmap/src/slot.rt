@@ -47,8 +47,8 @@ fn open(slots: &mut Slots, key: Key, writer: u16) -> Result<(), AllocError>
     ensures elsewhere { (place : Place) → (key, writer) ≢ place → slot_at slots.new.entries place ≡ slot_at slots.old.entries place }
     ensures succeeds { IsSome (slot_at slots.old.entries (key, writer)) → result ≡ Ok tt }
 {
-    if !slots.contains_key(&(key, writer)) {
-        slots.insert((key, writer), Slot::Vacant)?;
+    if let Some(there) = slots.insert((key, writer), Slot::Vacant)? {
+        put(slots, &key, writer, there);
     }
     Ok(())
 }

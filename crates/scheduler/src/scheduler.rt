@@ -172,6 +172,14 @@ impl Scheduler {
         self.calls.as_slice()
     }
 
+    /// All calls in block order, moved out. Takes no memory.
+    pub fn into_calls(self) -> Vec<CallState>
+        ensures { result.items ≡ self.calls }
+    {
+        let Scheduler { calls, .. } = self;
+        calls
+    }
+
     /// The number of workers.
     pub fn workers(&self) -> usize
         ensures { result ≡ length self.now.tasks }

@@ -11,7 +11,7 @@ use mvmap::MvMap;
 use rv_ledger::{Counts, Job, Outcome, Receipt};
 use scheduler::Scheduler;
 use std::alloc::{AllocError, Global};
-use stm_state::CallState;
+use stm_state::{CallState, Recorded};
 
 /// What the run of a job leaves: the job, its receipts, the storage after it and the workers'
 /// counts. No entry may be an estimate. Refused where memory ran out.
@@ -36,6 +36,47 @@ pub(crate) fn outcome_of(
         store,
         counts: counts_in(alloc, scheduler)?,
     })
+}
+
+/// The same, but the job and the receipts are moved.
+pub(crate) fn moved_outcome(
+    alloc: Global,
+    job: Job,
+    map: &MvMap,
+    scheduler: Scheduler,
+) -> Result<Outcome, AllocError>
+    requires versions { HasNoEstimate map.now.versions }
+    requires counts { length scheduler.counts ≡ length scheduler.tasks }
+    ensures job { IfOk result (λ o. o.job ≡ job) }
+    ensures receipts { IfOk result (λ o. o.receipts.items ≡ filter_map last_receipt scheduler.calls) }
+    ensures store { IfOk result (λ o. (key : List ℕ) (i : ℕ) → ((w : ℕ) → i ≤ w → entry_at map.now.versions key w ≡ None) → get o.store key ≡ value_seen (get job.store key) (reading map.now.versions key i)) }
+    ensures counts { IfOk result (λ o. o.counts.items ≡ scheduler.counts) }
+{
+    let mut store = job.store.copy()?;
+    map.snapshot_into(&mut store)?;
+    let counts = counts_in(alloc, &scheduler)?;
+    let receipts = moved_receipts(alloc, scheduler.into_calls())?;
+    Ok(Outcome {
+        job,
+        receipts,
+        store,
+        counts,
+    })
+}
+
+/// The receipts of the calls' last recorded runs, moved out of them; refused where memory ran out.
+fn moved_receipts(alloc: Global, calls: Vec<CallState>) -> Result<Vec<Receipt>, AllocError>
+    ensures { IfOk result (λ receipts. receipts.items ≡ filter_map last_receipt calls.items) }
+{
+    let mut receipts = Vec::with_capacity(alloc, calls.len())?;
+    for call in calls {
+        let CallState { last, .. } = call;
+        if let Some(run) = last {
+            let Recorded { receipt, .. } = run;
+            receipts.push(receipt)?;
+        }
+    }
+    Ok(receipts)
 }
 
 /// The receipts of the calls' last recorded runs; refused where memory ran out.

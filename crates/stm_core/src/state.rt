@@ -7,7 +7,7 @@ ghost use Rattle.stm_core.specs.CoreState.{ask_result_of};
 
 use crate::fault::{IncarnationLimit, RecordFault, Refused};
 use crate::next_step::{AskResult, NextStep, ReadResult};
-use crate::outcome::outcome_of;
+use crate::outcome::{moved_outcome, outcome_of};
 use crate::passed_lists::PassedLists;
 use crate::reading::{make_read_room, next_step_of, read_at};
 use crate::reads::next_stands;
@@ -411,6 +411,25 @@ impl Core {
         ensures counts { IfOk result (λ o. o.counts.items ≡ self.now.state.counts) }
     {
         outcome_of(alloc, &self.job, &self.map, &self.scheduler)
+    }
+
+    /// The same outcome, once all is done, and the arena, without records. The job and the receipts are moved.
+    pub fn into_outcome(self, alloc: Global) -> (Result<Outcome, AllocError>, Arena)
+        requires { is_done self.state ≡ true }
+        ensures job { IfOk result.0 (λ o. o.job ≡ self.job) }
+        ensures receipts { IfOk result.0 (λ o. o.receipts.items ≡ receipts_of self.job.block self.job.store) }
+        ensures store { IfOk result.0 (λ o. o.store ≡ store_after self.job.block self.job.store) }
+        ensures counts { IfOk result.0 (λ o. o.counts.items ≡ self.state.counts) }
+        ensures arena { result.1.records ≡ [] }
+    {
+        let Core {
+            job,
+            map,
+            scheduler,
+            ..
+        } = self;
+        let outcome = moved_outcome(alloc, job, &map, scheduler);
+        (outcome, map.into_arena())
     }
 
     /// The arena, without records. Takes no memory.

@@ -5,3 +5,4 @@ pub mod AskResults
 pub mod Histories
 pub mod Chains
 pub mod Ways
+pub mod Settled

@@ -1,11 +1,14 @@
 //! The answer to a job after the join, by its book and the shares that came back.
 
-ghost use Rattle.std.specs.Prelude.{◌≡◌, ◌<◌, ◌↔◌, [], length, true};
-ghost use Rattle.workers.specs.Settle.{AreSettled, IsSettled, IsShareOf};
+ghost use Rattle.std.specs.Prelude.{◌≡◌, ◌<◌, ◌↔◌, [], Err, IfSome, None, Some, false, length, true};
+ghost use Rattle.rv_ledger.specs.declared.job.Job.{Job};
+ghost use Rattle.stm_state.specs.State.{is_done};
+ghost use Rattle.workers.specs.Settle.{AreSettled, IsOutcomeOrMemory, IsSettled, IsSettledAfter, IsShareOf};
+ghost use Rattle.workers.specs.declared.fault.RunFault.TheVariants as faults;
 
-use crate::book::{Book, Share};
+use crate::book::{BlockName, Book, Share};
 use crate::fault::RunFault;
-use rv_ledger::{Job, Outcome, same_job};
+use rv_ledger::{Job, Outcome, Store, same_job, same_store};
 use std::alloc::Global;
 use stm_core::Core;
 use version_arena::Arena;
@@ -24,40 +27,78 @@ pub fn settle(
     ensures answer { IsSettled job.now shares.items book result.0 }
     ensures arena { result.1.records ≡ [] }
 {
-    settle_shares(alloc, book, shares.as_slice(), job)
+    let is_same = same_job(book.core().job(), job);
+    let fault = book.fault();
+    settle_core(alloc, book.into_core(), fault, shares.as_slice(), is_same)
 }
 
-/// The same, with the shares of their owner.
-pub(crate) fn settle_shares(
+/// The same with the shares of their owner, for a book whose core has the job's calls. Only the storage is
+/// compared.
+pub(crate) fn settle_calls<B: BlockName>(
     alloc: Global,
-    book: Book,
+    book: Book<B>,
     shares: &[Share],
-    job: &Job,
+    store: &Store,
 ) -> (Result<Outcome, RunFault>, Arena)
-    ensures answer { IsSettled job.now shares.now book result.0 }
+    ensures answer { (job : Job) → book.core.job.block ≡ job.block → store.now ≡ job.store → IsSettled job shares.now book result.0 }
     ensures arena { result.1.records ≡ [] }
 {
-    let answer = answer_of(alloc, &book, shares, job);
-    (answer, book.into_core().into_arena())
+    let is_same = same_store(&book.core().job().store, store);
+    let fault = book.fault();
+    settle_core(alloc, book.into_core(), fault, shares, is_same)
 }
 
-/// The same without the arena.
-fn answer_of(alloc: Global, book: &Book, shares: &[Share], job: &Job) -> Result<Outcome, RunFault>
-    ensures { IsSettled job.now shares.now book.now result }
+/// The answer of a core with the fault that was written beside it: Foreign where it has not the same job.
+fn settle_core(
+    alloc: Global,
+    core: Core,
+    fault: Option<RunFault>,
+    shares: &[Share],
+    is_same: bool,
+) -> (Result<Outcome, RunFault>, Arena)
+    ensures same { is_same ≡ true → IsSettledAfter fault core shares.now result.0 }
+    ensures other { is_same ≡ false → result.0 ≡ Err faults.Foreign }
+    ensures arena { result.1.records ≡ [] }
 {
-    let core = book.core();
-    if !same_job(core.job(), job) {
-        return Err(RunFault::Foreign);
+    match fault_of(&core, fault, shares, is_same) {
+        Some(fault) => (Err(fault), core.into_arena()),
+        None => outcome_of(alloc, core),
     }
-    if let Some(fault) = book.fault() {
-        return Err(fault);
+}
+
+/// The fault that answers a job; None where the core's outcome does, if memory allows.
+fn fault_of(
+    core: &Core,
+    fault: Option<RunFault>,
+    shares: &[Share],
+    is_same: bool,
+) -> Option<RunFault>
+    ensures same { IfSome result (λ found. is_same ≡ true → IsSettledAfter fault core.now shares.now (Err found)) }
+    ensures other { is_same ≡ false → result ≡ Some faults.Foreign }
+    ensures none { result ≡ None → (fault ≡ None) × AreSettled core.now shares.now }
+{
+    if !is_same {
+        return Some(RunFault::Foreign);
+    }
+    if let Some(found) = fault {
+        return Some(found);
     }
     if !are_settled(core, shares) {
-        return Err(RunFault::Foreign);
+        return Some(RunFault::Foreign);
     }
-    match core.outcome(alloc) {
-        Ok(outcome) => Ok(outcome),
-        Err(_) => Err(RunFault::Memory),
+    None
+}
+
+/// The outcome of a core that is done, or Memory where memory ran out; and its arena, without records.
+fn outcome_of(alloc: Global, core: Core) -> (Result<Outcome, RunFault>, Arena)
+    requires { is_done core.state ≡ true }
+    ensures answer { IsOutcomeOrMemory core result.0 }
+    ensures arena { result.1.records ≡ [] }
+{
+    let (outcome, arena) = core.into_outcome(alloc);
+    match outcome {
+        Ok(outcome) => (Ok(outcome), arena),
+        Err(_) => (Err(RunFault::Memory), arena),
     }
 }
 

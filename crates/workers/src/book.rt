@@ -101,6 +101,13 @@ impl<B: BlockName> Book<B> {
         }
     }
 
+    /// Whether the core is known to have the calls that `B` names.
+    pub(crate) fn is_known(&self) -> bool
+        ensures { result ≡ true → self.now.core.job.block ≡ B.block }
+    {
+        self.known
+    }
+
     /// The core.
     pub fn core(&self) -> &Core
         ensures { result.now ≡ self.now.core }

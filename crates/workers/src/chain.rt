@@ -119,8 +119,8 @@ impl Executor {
         ensures left { result.1 ≡ store_left job.store job.block result.0 }
     {
         let arena = mem::replace(&mut self.arena, Arena::new(alloc));
-        let (answer, arena, shares) = run_over::<Brand, R, Open>(
-            rt, alloc, arena, &job, workers, &Open,
+        let (answer, arena, shares, before) = run_over::<Brand, R, Open>(
+            rt, alloc, arena, job, workers, &Open,
         );
         self.arena = arena;
         self.shares = shares;
@@ -134,10 +134,7 @@ impl Executor {
                 } = outcome;
                 (Ok(receipts), store)
             }
-            Err(fault) => {
-                let Job { block: _, store } = job;
-                (Err(ChainFault::Run(fault)), store)
-            }
+            Err(fault) => (Err(ChainFault::Run(fault)), before),
         }
     }
 }

@@ -9,13 +9,13 @@ ghost use Rattle.workers.specs.History.{HasHistory, HasLimit, AreOneWorkerCounts
 ghost use Rattle.workers.specs.Settle.{AreSharesOf};
 ghost use Rattle.workers.specs.declared.fault.RunFault.TheVariants as faults;
 
-use crate::answer::settle_shares;
+use crate::answer::settle_calls;
 use crate::book::{BlockName, Share, WrittenFault};
 use crate::fault::{OutsideFault, RunFault};
 use crate::gate::{Gate, Open};
 use crate::shared::Shared;
 use crate::worker::work;
-use rv_ledger::{Job, Outcome};
+use rv_ledger::{Job, Outcome, Store};
 use std::alloc::Global;
 use std::marker::Brand;
 use std::sync::Wait;
@@ -106,8 +106,8 @@ impl Executor {
             return Err(RunFault::BadCount);
         }
         let arena = mem::replace(&mut self.arena, Arena::new(alloc));
-        let (answer, arena, shares) = run_over::<Brand, R, G>(
-            rt, alloc, arena, &job, workers, gate,
+        let (answer, arena, shares, _) = run_over::<Brand, R, G>(
+            rt, alloc, arena, job, workers, gate,
         );
         self.arena = arena;
         self.shares = shares;
@@ -116,44 +116,70 @@ impl Executor {
 }
 
 /// Runs a job on threads over an arena. The arena comes back without records. Refused as `run_block` is, but
-/// never as BadCount. Beside it the shares that the threads gave back.
+/// never as BadCount. Beside it the shares that the threads gave back, and the storage before the block.
 pub(crate) fn run_over<B: BlockName + Send + Sync, R: Threads + Wait + Sync, G: Gate + Sync>(
     rt: &R,
     alloc: Global,
     arena: Arena,
-    job: &Job,
+    job: Job,
     workers: usize,
     gate: &G,
-) -> (Result<Outcome, RunFault>, Arena, Vec<Share>)
+) -> (Result<Outcome, RunFault>, Arena, Vec<Share>, Store)
     requires count { (1 ≤ workers) × (workers ≤ 32) }
-    requires block { job.now.block ≡ B.block }
+    requires block { job.block ≡ B.block }
     ensures bad_count { IfErr result.0 (λ e. e ≢ faults.BadCount) }
-    ensures job { IfOk result.0 (λ o. o.job ≡ job.now) }
-    ensures receipts { IfOk result.0 (λ o. o.receipts.items ≡ receipts_of job.now.block job.now.store) }
-    ensures store { IfOk result.0 (λ o. o.store ≡ store_after job.now.block job.now.store) }
-    ensures history { IfOk result.0 (λ o. HasHistory job.now workers o.counts.items) }
-    ensures one_worker { IfOk result.0 (λ o. workers ≡ 1 → AreOneWorkerCounts (length job.now.block) o.counts.items) }
+    ensures job { IfOk result.0 (λ o. o.job ≡ job) }
+    ensures receipts { IfOk result.0 (λ o. o.receipts.items ≡ receipts_of job.block job.store) }
+    ensures store { IfOk result.0 (λ o. o.store ≡ store_after job.block job.store) }
+    ensures history { IfOk result.0 (λ o. HasHistory job workers o.counts.items) }
+    ensures one_worker { IfOk result.0 (λ o. workers ≡ 1 → AreOneWorkerCounts (length job.block) o.counts.items) }
     ensures shares { IfOk result.0 (λ o. AreSharesOf o.counts.items result.2.items) }
-    ensures full { IfErr result.0 (λ e. e ≡ faults.ArenaFull → HasLimit job.now workers steps.ArenaFull) }
-    ensures limit { IfErr result.0 (λ e. e ≡ faults.IncarnationLimit → HasLimit job.now workers steps.IncarnationLimit) }
+    ensures full { IfErr result.0 (λ e. e ≡ faults.ArenaFull → HasLimit job workers steps.ArenaFull) }
+    ensures limit { IfErr result.0 (λ e. e ≡ faults.IncarnationLimit → HasLimit job workers steps.IncarnationLimit) }
     ensures arena { result.1.records ≡ [] }
+    ensures before { result.3 ≡ job.store }
 {
+    let Ok(store) = job.store.copy() else {
+        return (
+            Err(RunFault::Memory),
+            emptied(arena),
+            Vec::new(alloc),
+            job.store,
+        );
+    };
     let (shared, shares) = match share_out::<B>(alloc, arena, job, workers) {
         Ok(shared) => shared,
-        Err(arena) => return (Err(RunFault::Memory), arena, Vec::new(alloc)),
+        Err(arena) => return (Err(RunFault::Memory), arena, Vec::new(alloc), store),
     };
     let back = match run_threads(rt, alloc, &shared, shares, gate) {
         Ok(back) => back,
         Err(_) => Vec::new(alloc),
     };
-    let book = shared.into_book();
+    let book = shared.into_named_book();
+    if !book.is_known() {
+        return (
+            Err(RunFault::Foreign),
+            book.into_core().into_arena(),
+            back,
+            store,
+        );
+    }
     book.holds();
     stm_state::reached_by_list();
     stm_state::last_entry_is_done();
     stm_state::one_worker_counts_where_reached();
     let found = book.core().workers();
-    let (answer, arena) = settle_shares(alloc, book, back.as_slice(), job);
-    (answer_by(answer, found, workers), arena, back)
+    let (answer, arena) = settle_calls(alloc, book, back.as_slice(), &store);
+    (answer_by(answer, found, workers), arena, back, store)
+}
+
+/// The arena, without records. Takes no memory.
+fn emptied(arena: Arena) -> Arena
+    ensures { result.records ≡ [] }
+{
+    let mut arena = arena;
+    arena.reset();
+    arena
 }
 
 /// The answer of a core that has so many workers, but Foreign where another number was asked for.
@@ -176,19 +202,14 @@ fn answer_by(
 fn share_out<B: BlockName>(
     alloc: Global,
     arena: Arena,
-    job: &Job,
+    job: Job,
     workers: usize,
 ) -> Result<(Shared<B>, Vec<Share>), Arena>
     requires count { (1 ≤ workers) × (workers ≤ 32) }
-    requires block { job.now.block ≡ B.block }
+    requires block { job.block ≡ B.block }
     ensures passes { IfOk result (λ made. All (λ share. IsPassOf made.0.cell share.pass) made.1.items) }
     ensures back { IfErr result (λ arena. arena.records ≡ []) }
 {
-    let Ok(job) = job.copy() else {
-        let mut arena = arena;
-        arena.reset();
-        return Err(arena);
-    };
     let core = Core::over(alloc, arena, job, workers)?;
     Shared::over(alloc, core, true)
 }

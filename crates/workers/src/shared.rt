@@ -88,8 +88,13 @@ impl<B: BlockName> Shared<B> {
 
     /// The book that was under the lock, once no thread has the lock any more.
     pub fn into_book(self) -> Book {
+        self.into_named_book().without_name()
+    }
+
+    /// The same, with the name of its calls.
+    pub(crate) fn into_named_book(self) -> Book<B> {
         let Shared { lock, .. } = self;
-        lock.into_inner().without_name()
+        lock.into_inner()
     }
 
     /// Takes the lock. It is tried for a while before the thread waits for it, since a thread that waits

@@ -1,15 +1,21 @@
-use Rattle.std.proofs.Common.{◌≡◌, Option, None, Some, Bool, false, is_some, refl}
-use Rattle.mvmap.proofs.Fills.{opened_apart, opened_one}
+use Rattle.std.proofs.Common.{inl, sym, ◌∙◌}
+use Rattle.mvmap.proofs.Fills.{opened_apart, opened_one, put_back}
 use Rattle.mvmap.proofs.slot.open.Goals as goal
 
-absent : {X : Type 0} (o : Option X) (b : Bool) → b ≡ is_some o → b ≡ false → o ≡ None
-absent None b h k = refl
-absent (Some x) b h k = cc
+pub returns-in-Some-clause-opened : goal.returns-in-Some-clause-opened
+returns-in-Some-clause-opened c = λ q. inl (
+    put_back c.args.slots.now.entries c.insert.new.self.entries c.put.new.slots.entries (c.args.key, c.args.writer) c.in-Some.there
+    (sym c.in_ok-there.ensures.old ∙ c.in-Some.is) c.in_ok-there.ensures.updates.0 c.put.ensures q)
 
-pub returns-in_ok-insert-clause-opened : goal.returns-in_ok-insert-clause-opened
-returns-in_ok-insert-clause-opened c =
+pub returns-in-Some-clause-elsewhere : goal.returns-in-Some-clause-elsewhere
+returns-in-Some-clause-elsewhere c = λ q _.
+    put_back c.args.slots.now.entries c.insert.new.self.entries c.put.new.slots.entries (c.args.key, c.args.writer) c.in-Some.there
+    (sym c.in_ok-there.ensures.old ∙ c.in-Some.is) c.in_ok-there.ensures.updates.0 c.put.ensures q
+
+pub returns-in_default-clause-opened : goal.returns-in_default-clause-opened
+returns-in_default-clause-opened c =
     opened_one c.args.slots.now.entries c.insert.new.self.entries (c.args.key, c.args.writer)
-    (absent _ c.contains_key.result c.contains_key.ensures c.if-not-contains_key.true) c.in_ok-insert.ensures.updates.0
+    (sym c.in_ok-there.ensures.old ∙ c.in_default.is) c.in_ok-there.ensures.updates.0
 
-pub returns-in_ok-insert-clause-elsewhere : goal.returns-in_ok-insert-clause-elsewhere
-returns-in_ok-insert-clause-elsewhere c = opened_apart c.args.slots.now.entries c.insert.new.self.entries (c.args.key, c.args.writer) c.in_ok-insert.ensures.updates.0
+pub returns-in_default-clause-elsewhere : goal.returns-in_default-clause-elsewhere
+returns-in_default-clause-elsewhere c = opened_apart c.args.slots.now.entries c.insert.new.self.entries (c.args.key, c.args.writer) c.in_ok-there.ensures.updates.0

@@ -2,4 +2,4 @@
 use Rattle.workers.proofs.executor.Executor.run_next_job.Given as goal
 
 abbrev pub ghosts-run_over : goal.ghosts-run_over
-ghosts-run_over g a = record { block = a.job.now.block }
+ghosts-run_over g a = record { block = a.job.block }
