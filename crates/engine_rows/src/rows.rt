@@ -90,6 +90,38 @@ const COND: &[u32] = &[
     0x0000_0073,
 ];
 
+/// Copies the value at the first key of its input to the second, and writes nothing where the first is absent.
+const COPY: &[u32] = &[
+    0x0205_0413,
+    0xfc01_0593,
+    0x0400_0613,
+    0x0000_0073,
+    0xfff0_0293,
+    0x0055_0a63,
+    0x0005_0613,
+    0x0004_0513,
+    0x0010_0893,
+    0x0000_0073,
+    0x0030_0893,
+    0x0000_0593,
+    0x0000_0073,
+];
+
+/// Reads the value at a key twice, with room for 32 bytes, and returns the first byte of each.
+const GET_TWICE: &[u32] = &[
+    0x0005_0413,
+    0xfc01_0593,
+    0x0200_0613,
+    0x0000_0073,
+    0x0004_0513,
+    0xfc11_0593,
+    0x0000_0073,
+    0xfc01_0513,
+    0x0020_0593,
+    0x0030_0893,
+    0x0000_0073,
+];
+
 /// Counts a key up by one.
 pub const COUNT: &[u32] = &[
     0xfc01_0593,
@@ -161,6 +193,26 @@ pub const WITHDRAWN_WRITE: Row = Row {
         "call 1 returned gas 215 pc 00010024 out -\n",
         "call 2 reverted gas 215 pc 00010018 out -\n",
     ],
+};
+
+/// A writer of a key, a call that copies its value to another key, and one that asks for that.
+pub const NEW_KEY: Row = Row {
+    name: "new_key",
+    programs: &[PUT, COPY, SEEN],
+    lines: "call 0 1000 00000000000000000000000000000000000000000000000000000000000000aa01\ncall 1 1000 00000000000000000000000000000000000000000000000000000000000000aa00000000000000000000000000000000000000000000000000000000000000bb\ncall 2 1000 00000000000000000000000000000000000000000000000000000000000000bb\n",
+    pieces: &[
+        "call 1 returned gas 624 pc 00010030 out -\n",
+        "call 2 returned gas 214 pc 00010018 out -\n",
+        "store 00000000000000000000000000000000000000000000000000000000000000bb 01\nend\n",
+    ],
+};
+
+/// A writer of a key and a call that reads it twice.
+pub const REPEATED_READ: Row = Row {
+    name: "repeated_read",
+    programs: &[PUT, GET_TWICE],
+    lines: "call 0 1000 000000000000000000000000000000000000000000000000000000000000000101\ncall 1 1000 0000000000000000000000000000000000000000000000000000000000000001\n",
+    pieces: &["call 1 returned gas 420 pc 00010028 out 0101\n"],
 };
 
 /// The rows that `rows` gives.

@@ -1,17 +1,20 @@
 //! Lists of worker numbers, over blocks whose calls meet each other's writes: what is printed is what
 //! running the calls in order prints.
 
-use crate::asserts::assert_bytes;
+use crate::asserts::{assert_bytes, assert_number};
 use crate::blocks::{BlockInMemory, forty_counts_block, printed, shows_forty_counts};
-use crate::calls::job_of_inputs;
+use crate::calls::{job_of, job_of_inputs, text_of};
 use crate::drives::{assert_in_order, driven, push_worker};
-use crate::rows::{COUNT, ECHO, LATE_WRITER, READ_OF_ABSENCE, Row, WITHDRAWN_WRITE};
+use crate::rows::{
+    COUNT, ECHO, GET, LATE_WRITER, NEW_KEY, READ_OF_ABSENCE, REPEATED_READ, Row, WITHDRAWN_WRITE,
+};
 use engines::Refusal;
 use rv_ledger::{Counts, Job, Outcome};
+use scheduler::COUNT_LIMIT;
 use std::alloc::{AllocError, Global};
 use std::process::Abort;
 use std::test::Fail;
-use stm_core::{DriveFault, drive};
+use stm_core::{AskResult, Core, DriveFault, NextStep, drive};
 
 /// Three calls of ECHO.
 const THREE_ECHOES: Row = Row {
@@ -28,7 +31,7 @@ const THREE_ECHOES: Row = Row {
 
 /// Two calls of COUNT.
 const TWO_COUNTS: Row = Row {
-    name: "two counts",
+    name: "two_counts",
     programs: &[COUNT],
     lines: "\
         call 0 1000 0000000000000000000000000000000000000000000000000000000000000001\n\
@@ -40,142 +43,183 @@ const TWO_COUNTS: Row = Row {
     ],
 };
 
-/// A list of worker numbers, each so many times, over the block of a row, and whether the workers are done
-/// after it.
+/// Two calls of COUNT, and a reader of the key.
+const TWO_COUNTS_AND_GET: Row = Row {
+    name: "two_counts and a read after",
+    programs: &[COUNT, GET],
+    lines: "\
+        call 0 1000 0000000000000000000000000000000000000000000000000000000000000001\n\
+        call 0 1000 0000000000000000000000000000000000000000000000000000000000000001\n\
+        call 1 1000 0000000000000000000000000000000000000000000000000000000000000001\n",
+    pieces: &["call 2 returned gas 216 pc 00010018 out 02\n"],
+};
+
+/// A list of worker numbers, each so many times, over the block of a row. The workers are done after it, and
+/// not before its last entry; and how many runs each of them recorded.
 struct Schedule {
     name: &'static str,
     row: Row,
     workers: usize,
     turns: &'static [(u16, usize)],
-    is_done: bool,
+    executions: &'static [u64],
 }
 
-/// The schedules.
+/// The schedules. A call is run as often as its incarnation goes up, and once more, but for a run that is parked:
+/// it is not recorded.
 const SCHEDULES: &[Schedule] = &[
     Schedule {
         name: "late_writer",
         row: LATE_WRITER,
         workers: 3,
         turns: &[(0, 4), (1, 3), (2, 8), (1, 14)],
-        is_done: true,
+        executions: &[1, 2, 1],
     },
     Schedule {
-        name: "late_writer without its last step",
+        name: "late_writer: call 1's key is still to be moved",
         row: LATE_WRITER,
         workers: 3,
-        turns: &[(0, 4), (1, 3), (2, 8), (1, 13)],
-        is_done: false,
+        turns: &[(0, 4), (1, 4), (2, 8), (1, 13)],
+        executions: &[1, 2, 1],
     },
     Schedule {
-        name: "the newest in block order is read",
+        name: "late_writer: call 1's key is moved before its execution is finished",
+        row: LATE_WRITER,
+        workers: 3,
+        turns: &[(0, 4), (1, 5), (2, 8), (1, 6)],
+        executions: &[1, 1, 1],
+    },
+    Schedule {
+        name: "late_writer: the newest in block order is read",
         row: LATE_WRITER,
         workers: 2,
         turns: &[(0, 2), (1, 4), (0, 4), (1, 1), (0, 9)],
-        is_done: true,
+        executions: &[2, 1],
     },
     Schedule {
         name: "three_echoes",
         row: THREE_ECHOES,
         workers: 1,
         turns: &[(0, 15)],
-        is_done: true,
-    },
-    Schedule {
-        name: "three_echoes without its last step",
-        row: THREE_ECHOES,
-        workers: 1,
-        turns: &[(0, 14)],
-        is_done: false,
-    },
-    Schedule {
-        name: "three_echoes and a step more",
-        row: THREE_ECHOES,
-        workers: 1,
-        turns: &[(0, 16)],
-        is_done: true,
+        executions: &[3],
     },
     Schedule {
         name: "read_of_absence",
         row: READ_OF_ABSENCE,
         workers: 2,
         turns: &[(0, 1), (1, 5), (0, 14)],
-        is_done: true,
-    },
-    Schedule {
-        name: "read_of_absence without its last step",
-        row: READ_OF_ABSENCE,
-        workers: 2,
-        turns: &[(0, 1), (1, 5), (0, 13)],
-        is_done: false,
+        executions: &[2, 1],
     },
     Schedule {
         name: "withdrawn_write",
         row: WITHDRAWN_WRITE,
         workers: 2,
         turns: &[(0, 1), (1, 16), (0, 25)],
-        is_done: true,
+        executions: &[3, 2],
+    },
+    Schedule {
+        name: "withdrawn_write: a version is read that is being taken back",
+        row: WITHDRAWN_WRITE,
+        workers: 2,
+        turns: &[(0, 1), (1, 6), (0, 8), (1, 4), (0, 17)],
+        executions: &[3, 2],
     },
     Schedule {
         name: "estimate_met: parked",
         row: WITHDRAWN_WRITE,
         workers: 2,
         turns: &[(0, 1), (1, 10), (0, 9), (1, 2), (0, 14)],
-        is_done: true,
+        executions: &[3, 1],
     },
     Schedule {
         name: "estimate_met: the run starts again",
         row: WITHDRAWN_WRITE,
         workers: 2,
         turns: &[(0, 1), (1, 10), (0, 9), (1, 1), (0, 5), (1, 4), (0, 5)],
-        is_done: true,
+        executions: &[2, 2],
     },
     Schedule {
-        name: "own entries are not read",
+        name: "not_done: after a new key the calls above are validated again",
+        row: NEW_KEY,
+        workers: 2,
+        turns: &[(0, 2), (1, 5), (0, 8), (1, 7), (0, 16)],
+        executions: &[3, 2],
+    },
+    Schedule {
+        name: "not_done: each read of a key is checked",
+        row: REPEATED_READ,
+        workers: 2,
+        turns: &[(0, 1), (1, 3), (0, 6), (1, 13)],
+        executions: &[1, 2],
+    },
+    Schedule {
+        name: "two_counts: own entries are not read",
         row: TWO_COUNTS,
         workers: 1,
         turns: &[(0, 16)],
-        is_done: true,
+        executions: &[2],
+    },
+    Schedule {
+        name: "two_counts: a read after",
+        row: TWO_COUNTS_AND_GET,
+        workers: 1,
+        turns: &[(0, 23)],
+        executions: &[3],
     },
 ];
 
-/// The text of a list.
-fn schedule_of(alloc: Global, turns: &[(u16, usize)]) -> Result<String, AllocError> {
-    let mut text = String::new(alloc);
+/// The entries of a list.
+fn entries_of(alloc: Global, turns: &[(u16, usize)]) -> Result<Vec<u16>, AllocError> {
+    let mut entries = Vec::new(alloc);
     for (worker, times) in turns {
         for _ in 0..*times {
-            push_worker(alloc, &mut text, usize::from(*worker))?;
+            entries.push(*worker)?;
         }
     }
-    Ok(text)
+    Ok(entries)
 }
 
-/// What the engine answers to a case.
-fn answer_of(alloc: Global, case: &Schedule) -> Result<Result<Vec<u8>, Refusal>, AllocError> {
-    let block = BlockInMemory::new(alloc, case.row.programs, case.row.lines)?;
-    let schedule = schedule_of(alloc, case.turns)?;
-    Ok(driven(alloc, &block, case.workers, schedule.as_str()))
+/// Asserts how many runs each worker recorded.
+fn assert_executions(rt: &impl Abort, found: &[Counts], wanted: &[u64], case: &str) {
+    assert_number(rt, found.len() as u64, wanted.len() as u64, case);
+    for (counts, executions) in found.iter().zip(wanted) {
+        assert_number(rt, counts.executions, *executions, case);
+    }
 }
 
-/// Asserts that a case whose workers are not done is refused so.
-fn assert_not_done(rt: &impl Abort, case: &Schedule, refusal: Refusal) {
-    assert!(rt; !case.is_done, "{}", case.name);
-    assert_eq!(rt;
-        refusal,
-        Refusal::Drive(DriveFault::NotDone),
-        "{}",
-        case.name
-    );
+/// Asserts that the outcome of a case is what its calls come to in order, and how many runs each worker recorded.
+fn assert_done(
+    rt: &impl Abort,
+    alloc: Global,
+    case: &Schedule,
+    outcome: &Outcome,
+) -> Result<(), Fail> {
+    let text = text_of(alloc, outcome)?;
+    assert_in_order(rt, alloc, &case.row, text.as_bytes(), case.name)?;
+    assert_executions(rt, outcome.counts.as_slice(), case.executions, case.name);
+    Ok(())
 }
 
-/// Asserts that a case comes to what its calls come to in order, or is refused where its workers are not done.
+/// Asserts that a list is refused, since workers are not done after it.
+fn assert_not_done(
+    rt: &impl Abort,
+    alloc: Global,
+    job: &Job,
+    workers: usize,
+    schedule: &[u16],
+    case: &str,
+) {
+    let early = drive(alloc, job, workers, schedule);
+    assert!(rt; matches!(early, Err(DriveFault::NotDone)), "{case}");
+}
+
+/// Asserts what a case comes to, and that it is refused without its last entry.
 fn assert_case(rt: &impl Abort, alloc: Global, case: &Schedule) -> Result<(), Fail> {
-    match answer_of(alloc, case)? {
-        Ok(text) => {
-            assert!(rt; case.is_done, "{}", case.name);
-            assert_in_order(rt, alloc, &case.row, text.as_slice(), case.name)?;
-        }
-        Err(refusal) => assert_not_done(rt, case, refusal),
-    }
+    let job = job_of(alloc, case.row.programs, case.row.lines)?;
+    let mut entries = entries_of(alloc, case.turns)?;
+    let outcome = drive(alloc, &job, case.workers, entries.as_slice())?;
+    assert_done(rt, alloc, case, &outcome)?;
+    let _ = entries.pop();
+    assert_not_done(rt, alloc, &job, case.workers, entries.as_slice(), case.name);
     Ok(())
 }
 
@@ -258,38 +302,81 @@ fn forty_counts_by_32_workers(rt: HostRuntime) -> Result<(), Fail> {
     assert_forty_counts(&rt, rt.alloc(), 32, 5150)
 }
 
-/// Runs a job by one worker along a list.
-fn driven_job(alloc: Global, job: &Job, schedule: &[u16]) -> Result<Outcome, DriveFault> {
-    drive(alloc, job, 1, schedule)
-}
-
-/// Asserts the counts of one worker who ran three calls.
-fn assert_counts(rt: &impl Abort, found: &[Counts], steps: u64, asks: u64) {
-    let wanted = Counts {
+/// The counts of so many steps and asks, and of so many calls run and validated once.
+fn counts(steps: u64, asks: u64, calls: u64) -> Counts {
+    Counts {
         steps,
         asks,
-        executions: 3,
-        validations: 3,
-    };
-    assert_eq!(rt; found.first().copied(), Some(wanted));
+        executions: calls,
+        validations: calls,
+    }
 }
 
-/// Asserts how many steps and asks a list comes to over three calls of ECHO.
-fn assert_echo_counts(
+/// Asserts what each worker did along a list over calls of ECHO.
+fn assert_counts(
     rt: &impl Abort,
     alloc: Global,
+    inputs: &[&[u8]],
     schedule: &[u16],
-    steps: u64,
-    asks: u64,
+    wanted: &[Counts],
 ) -> Result<(), Fail> {
-    let job = job_of_inputs(alloc, ECHO, &[b"", b"", b""])?;
-    let outcome = driven_job(alloc, &job, schedule)?;
-    assert_counts(rt, outcome.counts.as_slice(), steps, asks);
+    let job = job_of_inputs(alloc, ECHO, inputs)?;
+    let outcome = drive(alloc, &job, wanted.len(), schedule)?;
+    assert!(rt; outcome.counts.as_slice() == wanted);
+    Ok(())
+}
+
+/// The inputs of three calls of ECHO.
+const THREE_INPUTS: &[&[u8]] = &[b"", b"", b""];
+
+#[test]
+fn three_echoes(rt: HostRuntime) -> Result<(), Fail> {
+    let alloc = rt.alloc();
+    assert_counts(&rt, alloc, THREE_INPUTS, &[0; 15], &[counts(15, 6, 3)])?;
+    assert_counts(&rt, alloc, THREE_INPUTS, &[0; 16], &[counts(16, 7, 3)])
+}
+
+/// One of three workers does all, and each of the others asks once.
+#[test]
+fn three_echoes_by_one_of_three(rt: HostRuntime) -> Result<(), Fail> {
+    let schedule = [0, 0, 0, 0, 0, 0, 0, 0, 0, 0, 0, 0, 0, 0, 0, 0, 1, 2];
+    let wanted = [counts(16, 7, 3), counts(1, 1, 0), counts(1, 1, 0)];
+    assert_counts(&rt, rt.alloc(), THREE_INPUTS, &schedule, &wanted)
+}
+
+/// What a worker without a task is answered when it asks for work.
+fn asked(rt: &impl Abort, core: &mut Core, worker: usize) -> AskResult {
+    assert!(rt; worker < core.workers());
+    assert!(rt; core.counts(worker).steps < COUNT_LIMIT);
+    match core.doing(worker) {
+        NextStep::Ask => core.ask(worker),
+        other => panic!(rt; "worker {worker} owes {other:?}"),
+    }
+}
+
+/// Worker 1 gets call 1 when it asks again: first it meets call 0, which is not run yet.
+#[test]
+fn three_echoes_by_two(rt: HostRuntime) -> Result<(), Fail> {
+    let job = job_of_inputs(rt.alloc(), ECHO, THREE_INPUTS)?;
+    let mut core = Core::new(rt.alloc(), job, 2)?;
+    assert_eq!(rt; asked(&rt, &mut core, 0), AskResult::Task);
+    assert_eq!(rt; asked(&rt, &mut core, 1), AskResult::Nothing);
+    assert_eq!(rt; asked(&rt, &mut core, 1), AskResult::Task);
+    let wanted = NextStep::Run {
+        call: 1,
+        incarnation: 0,
+    };
+    assert!(rt; 1 < core.workers());
+    assert_eq!(rt; core.doing(1), wanted);
     Ok(())
 }
 
 #[test]
-fn counts_of_three_echoes(rt: HostRuntime) -> Result<(), Fail> {
-    assert_echo_counts(&rt, rt.alloc(), &[0; 15], 15, 6)?;
-    assert_echo_counts(&rt, rt.alloc(), &[0; 16], 16, 7)
+fn empty_block(rt: HostRuntime) -> Result<(), Fail> {
+    assert_counts(&rt, rt.alloc(), &[], &[], &[counts(0, 0, 0)])?;
+    assert_counts(&rt, rt.alloc(), &[], &[0], &[counts(1, 1, 0)])?;
+    let job = job_of_inputs(rt.alloc(), ECHO, &[])?;
+    let mut core = Core::new(rt.alloc(), job, 1)?;
+    assert_eq!(rt; asked(&rt, &mut core, 0), AskResult::Done);
+    Ok(())
 }

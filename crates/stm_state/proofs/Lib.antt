@@ -19,9 +19,6 @@ pub mod Marks
 pub mod Whole
 pub mod Serials
 pub mod Orders
-pub mod Scripts
-pub mod Shadows
-pub mod Computed
 pub mod Counted
 pub mod Walks
 pub mod Dones

@@ -5,7 +5,6 @@ pub mod Invariant
 pub mod Done
 pub mod Walk
 pub mod Dones
-pub mod Rows
 pub mod Drive
 pub mod Parts
 pub mod OneWorker

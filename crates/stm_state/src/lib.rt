@@ -3,7 +3,6 @@
 #![tactic(auto)]
 
 mod laws;
-mod schedules;
 mod state;
 
 pub use laws::{
@@ -11,5 +10,4 @@ pub use laws::{
     due_step_has_result, invariant_holds, last_entry_is_done, one_worker_counts,
     one_worker_counts_where_reached, reached_by_list, refused_list_meets_limit, the_parts_hold,
 };
-pub use schedules::schedules_come_to;
 pub use state::{Answers, CallState, Keys, Recorded, Status, Task};
