@@ -30,8 +30,9 @@ pub fn replace<D: Disk>(
     }
 }
 
-/// Writes bytes to a new file beside a path, and renames it to that path. Where a step is refused, the
-/// new file is removed, and what is at the path stays as it was.
+/// Writes bytes to a new file beside a path, and renames it to that path while it is still open, so that nobody
+/// takes it for one that was left over. Where a step is refused, the new file is removed, and what is at the
+/// path stays as it was.
 fn replace_file<D: Disk>(
     alloc: Global,
     disk: &D,
@@ -41,7 +42,6 @@ fn replace_file<D: Disk>(
 ) -> Result<(), Refusal> {
     let (name, mut file) = new_beside(alloc, disk, path, memory)?;
     let is_written = write_whole(bytes, &mut file).is_ok() && disk.sync(&file).is_ok();
-    drop(file);
     if is_written && disk.rename(name.as_str(), path).is_ok() {
         return Ok(());
     }

@@ -25,7 +25,7 @@ impl<'a, R: Files<File = File> + AllocGlobal> Disk for SystemDisk<'a, R> {
 
     fn create_new(&self, path: &str) -> io::Result<File> {
         let file = File::create_new(self.rt, path)?;
-        if is_locked_elsewhere(&file) || !is_at(self.rt, &file, path)? {
+        if is_locked_elsewhere(&file) || !is_at(self.rt, &file, path) {
             return Err(io::Error::from(io::ErrorKind::AlreadyExists));
         }
         Ok(file)
@@ -37,7 +37,7 @@ impl<'a, R: Files<File = File> + AllocGlobal> Disk for SystemDisk<'a, R> {
         }
         let file = File::open(self.rt, path)?;
         file.try_lock()?;
-        if !is_at(self.rt, &file, path)? {
+        if !is_at(self.rt, &file, path) {
             return Err(io::Error::from(io::ErrorKind::AlreadyExists));
         }
         fs::remove_file(self.rt, path)
@@ -85,8 +85,11 @@ fn is_locked_elsewhere(file: &File) -> bool {
 }
 
 /// Whether a path still names an open file.
-fn is_at<R: Files>(rt: &R, file: &File, path: &str) -> io::Result<bool> {
-    Ok(is_same_file(&file.metadata()?, &fs::symlink_metadata(rt, path)?))
+fn is_at<R: Files>(rt: &R, file: &File, path: &str) -> bool {
+    match (file.metadata(), fs::symlink_metadata(rt, path)) {
+        (Ok(file), Ok(found)) => is_same_file(&file, &found),
+        _ => false,
+    }
 }
 
 /// Whether two files are one.
