@@ -28,18 +28,40 @@ fn empty(alloc: Global) -> MvMap
     MvMap::over(alloc, Arena::new(alloc))
 }
 
-// Publishes what a call's run did to a key.
-fn publish(
+// Publishes a value that a call's run wrote to a key.
+fn set_value(
     map: &mut MvMap,
     key: Key,
     writer: u16,
     incarnation: u16,
-    change: Change<&Value>,
+    value: Value,
 ) -> Result<(), ReserveFault>
     ensures { OnOk result (HasNoEstimate map.old.versions → HasNoEstimate map.new.versions) }
 {
     map.reserve_for(&[key], writer, 1, 256)?;
-    map.publish(&key, writer, incarnation, change);
+    map.publish(&key, writer, incarnation, Change::Value(&value));
+    Ok(())
+}
+
+// Publishes that a call's run removed a key.
+fn set_gone(map: &mut MvMap, key: Key, writer: u16, incarnation: u16) -> Result<(), ReserveFault>
+    ensures { OnOk result (HasNoEstimate map.old.versions → HasNoEstimate map.new.versions) }
+{
+    map.reserve_for(&[key], writer, 1, 0)?;
+    map.publish(&key, writer, incarnation, Change::Gone);
+    Ok(())
+}
+
+// Publishes an amount that a call's run added to a key.
+fn set_sum(
+    map: &mut MvMap,
+    key: Key,
+    writer: u16,
+    incarnation: u16,
+    amount: u64,
+) -> Result<(), ReserveFault> {
+    map.reserve_for(&[key], writer, 1, 0)?;
+    map.publish(&key, writer, incarnation, Change::Sum(amount));
     Ok(())
 }
 
@@ -54,8 +76,8 @@ fn set(
     ensures { OnOk result (HasNoEstimate map.old.versions → HasNoEstimate map.new.versions) }
 {
     match byte {
-        Some(byte) => publish(map, key, writer, incarnation, Change::Value(&value(byte))),
-        None => publish(map, key, writer, incarnation, Change::Gone),
+        Some(byte) => set_value(map, key, writer, incarnation, value(byte)),
+        None => set_gone(map, key, writer, incarnation),
     }
 }
 
@@ -143,9 +165,9 @@ fn readings(rt: HostRuntime) -> Result<(), Fail> {
 // Publishes two sums at a key, of calls 1 and 4, over a value of three bytes.
 fn set_sums(map: &mut MvMap) -> Result<(), ReserveFault> {
     let short = Value::of(&[1, 2, 3]).unwrap_or(Value::empty());
-    publish(map, key(1), 0, 0, Change::Value(&short))?;
-    publish(map, key(1), 1, 2, Change::Sum(7))?;
-    publish(map, key(1), 4, 0, Change::Sum(u64::MAX))
+    set_value(map, key(1), 0, 0, short)?;
+    set_sum(map, key(1), 1, 2, 7)?;
+    set_sum(map, key(1), 4, 0, u64::MAX)
 }
 
 // Asserts that call 9 passes both sums and finds the value, which counts as 0; and that call 4 passes one.
