@@ -21,7 +21,7 @@ def reason(error):
 def need_rt():
     """Ends the script where there is no rt."""
     if not shutil.which("rt"):
-        raise ValueError("there is no rt: install Rattle's kit, rattle-kit-13b, and put its bin/rt on the path")
+        raise ValueError("there is no rt: install Rattle's kit, rattle-kit-13f, and put its bin/rt on the path")
 
 
 def run(main):

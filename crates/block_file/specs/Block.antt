@@ -49,8 +49,8 @@ abbrev pub start : Rules → Parsed
 start rules = record { block = record { rules = rules; programs = []; store = finite.empty; calls = [] }; last = None }
 
 -- the PATH of a line `program N PATH` behind n others
-abbrev pub program_of : ℕ → List ℕ → List ℕ → Result (List ℕ) Cause
-program_of n number path = do
+abbrev pub program_path : ℕ → List ℕ → List ℕ → Result (List ℕ) Cause
+program_path n number path = do
   p ← path_of path
   next ← ok_or (decimal_of number) BadNumber
   if not (next == n) then Err BadNumber else
@@ -70,8 +70,8 @@ stored_of rules last key value = do
       if nat_lt (longest_value rules) (length v) then Err Limit else Ok (k, v)
 
 -- the call of a line `call PROGRAM GAS INPUT` behind `programs` programs and `calls` calls
-abbrev pub call_of : ℕ → ℕ → List ℕ → List ℕ → List ℕ → Result CallValue Cause
-call_of programs calls program gas input = do
+abbrev pub line_call : ℕ → ℕ → List ℕ → List ℕ → List ℕ → Result CallValue Cause
+line_call programs calls program gas input = do
   p ← ok_or (decimal_of program) BadNumber
   g ← ok_or (decimal_of gas) BadNumber
   bytes ← bytes_of input
@@ -82,7 +82,7 @@ call_of programs calls program gas input = do
 -- what each kind of line adds
 abbrev pub with_program : Parsed → List ℕ → List ℕ → Result Parsed Cause
 with_program s number path = do
-  p ← program_of (length s.block.programs) number path
+  p ← program_path (length s.block.programs) number path
   Ok (record s { block = record s.block { programs = s.block.programs ++ p ∷ [] } })
 
 abbrev pub with_stored : Parsed → List ℕ → List ℕ → Result Parsed Cause
@@ -92,7 +92,7 @@ with_stored s key value = do
 
 abbrev pub with_call : Parsed → List ℕ → List ℕ → List ℕ → Result Parsed Cause
 with_call s program gas input = do
-  call ← call_of (length s.block.programs) (length s.block.calls) program gas input
+  call ← line_call (length s.block.programs) (length s.block.calls) program gas input
   Ok (record s { block = record s.block { calls = s.block.calls ++ call ∷ [] } })
 
 -- what a line of three or four fields adds; the first field is its kind, and the kinds come in the order program,

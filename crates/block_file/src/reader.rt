@@ -3,15 +3,13 @@
 ghost use Rattle.std.specs.Prelude.{◌≡◌, ◌<◌, [], ◌∷◌, IfOk};
 ghost use Rattle.std.specs.String.{string_bytes};
 ghost use Rattle.block_file.specs.Answer.{Gives};
-ghost use Rattle.block_file.specs.Block.{call_value, program_of, stored_of, call_of, is_above, with_program, with_stored, with_call, with_fields, with_line, start};
+ghost use Rattle.block_file.specs.Block.{call_value, program_path, stored_of, line_call, is_above, with_program, with_stored, with_call, with_fields, with_line, start};
 ghost use Rattle.block_file.specs.Reader.{parsed};
 
 use crate::block_text::{BlockText, CallLine, PROGRAM_LIMIT};
 use crate::fault::Cause;
 use crate::fields;
-use rv_ledger::call::{GAS_LIMIT, INPUT_LIMIT};
-use rv_ledger::job::CALL_LIMIT;
-use rv_ledger::{Key, Rules, Store, Value};
+use rv_ledger::{CALL_LIMIT, GAS_LIMIT, INPUT_LIMIT, Key, Rules, Store, Value};
 use std::alloc::Global;
 
 /// What the lines so far say.
@@ -105,7 +103,7 @@ impl Reader {
     fn program(&mut self, alloc: Global, number: &[u8], path: &[u8]) -> Result<(), Cause>
         ensures { Gives (λ _. parsed self.new) result (with_program (parsed self.old) number.now path.now) }
     {
-        let path = program_of(alloc, self.text.programs.len(), number, path)?;
+        let path = program_path(alloc, self.text.programs.len(), number, path)?;
         self.text.programs.push(path)?;
         Ok(())
     }
@@ -126,7 +124,7 @@ impl Reader {
     {
         let programs = self.text.programs.len();
         let calls = self.text.calls.len();
-        let call = call_of(alloc, programs, calls, program, gas, input)?;
+        let call = line_call(alloc, programs, calls, program, gas, input)?;
         self.text.calls.push(call)?;
         Ok(())
     }
@@ -143,8 +141,8 @@ fn is_above(last: Option<Key>, key: &Key) -> bool
 }
 
 /// The path of a `program` line that follows `count` others.
-fn program_of(alloc: Global, count: usize, number: &[u8], path: &[u8]) -> Result<String, Cause>
-    ensures path { Gives string_bytes result (program_of count number.now path.now) }
+fn program_path(alloc: Global, count: usize, number: &[u8], path: &[u8]) -> Result<String, Cause>
+    ensures path { Gives string_bytes result (program_path count number.now path.now) }
     ensures few { IfOk result (λ _. count < 64) }
 {
     let path = fields::path(alloc, path)?;
@@ -179,7 +177,7 @@ fn stored_of(
 }
 
 /// The call of a `call` line that follows `programs` programs and `calls` calls.
-fn call_of(
+fn line_call(
     alloc: Global,
     programs: usize,
     calls: usize,
@@ -187,7 +185,7 @@ fn call_of(
     gas: &[u8],
     input: &[u8],
 ) -> Result<CallLine, Cause>
-    ensures line { Gives call_value result (call_of programs calls program.now gas.now input.now) }
+    ensures line { Gives call_value result (line_call programs calls program.now gas.now input.now) }
     ensures limits { IfOk result (λ call. (call.program < programs) × (calls < 1024)) }
 {
     let program = fields::decimal(program).ok_or(Cause::BadNumber)?;

@@ -5,7 +5,7 @@ use Rattle.clap.specs.Simple.{Shape}
 use Rattle.clap.specs.Takes.{level_passes, takes, turn_passes, walk_passes}
 use Rattle.clap.specs.Walk.{Text, Walk, nothing_held, walk, walked}
 use Rattle.clap.proofs.OnLiterals.{clap_on_literals}
-use Rattle.cmdline.specs.Line.{DriveOf, asked, drive_of, is_operand, is_worker_number, max_workers, number_in, rvstm_app}
+use Rattle.cmdline.specs.Line.{DriveOf, requested, drive_of, is_operand, is_worker_number, max_workers, number_in, rvstm_app}
 use Rattle.cmdline.proofs.Numbers.{is_no_flag, number_is_read}
 use Rattle.cmdline.proofs.Operands.{value_passes, value_walked}
 use Rattle.cmdline.proofs.FileWords.{after_option, after_value, may_end, option_passes, option_walked, rows_at_end}
@@ -61,7 +61,7 @@ drive_is_taken program file word schedule o n q =
 
 -- and it asks for just what it says
 pub drive_is_asked : (program file word schedule : Text) → is_operand file ≡ true → is_worker_number word ≡ true → is_operand schedule ≡ true
-    → asked (program ∷ codes "drive" ∷ words file word schedule) ≡ Some (DriveOf file (number_in word) schedule false)
+    → requested (program ∷ codes "drive" ∷ words file word schedule) ≡ Some (DriveOf file (number_in word) schedule false)
 unfolding clap_on_literals
 drive_is_asked program file word schedule o n q =
     ap (λ (w : Walk). drive_of (rows_at_end shape w)) (walked_all file word schedule o (is_no_flag 1 max_workers word n) q)
@@ -101,7 +101,7 @@ drive_counts_is_taken program file word schedule o n q =
     and_from _ _ (all_with_counts_pass file word schedule o (is_no_flag 1 max_workers word n) n q) refl
 
 pub drive_counts_is_asked : (program file word schedule : Text) → is_operand file ≡ true → is_worker_number word ≡ true → is_operand schedule ≡ true
-    → asked (program ∷ codes "drive" ∷ counts_words file word schedule) ≡ Some (DriveOf file (number_in word) schedule true)
+    → requested (program ∷ codes "drive" ∷ counts_words file word schedule) ≡ Some (DriveOf file (number_in word) schedule true)
 unfolding clap_on_literals
 drive_counts_is_asked program file word schedule o n q =
     ap (λ (w : Walk). drive_of (rows_at_end shape w)) (walked_counts file word schedule o (is_no_flag 1 max_workers word n) q)

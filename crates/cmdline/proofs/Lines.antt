@@ -8,7 +8,7 @@ use Rattle.clap.specs.Words.{Text, first_of, first_value, is_simple, is_simple_a
 use Rattle.clap.specs.declared.parser.matches.Found.{Found}
 use Rattle.clap.proofs.OnLiterals.{clap_on_literals}
 use Rattle.clap.proofs.WalkLemmas.{first_value-rows}
-use Rattle.cmdline.specs.Line.{AsmOf, Asked, DebugOf, DisOf, MigrateOf, RunOf, SeqOf, asked, is_call_number, is_operand, is_worker_number, last_call, max_workers, number_in, run_of, rvstm_app, top_app, written_app, written_of}
+use Rattle.cmdline.specs.Line.{AsmOf, Asked, DebugOf, DisOf, MigrateOf, RunOf, SeqOf, requested, is_call_number, is_operand, is_worker_number, last_call, max_workers, number_in, run_of, rvstm_app, top_app, written_app, written_of}
 use Rattle.cmdline.proofs.FileWords.{after_option, file_level, file_walked, may_end, number_asked, number_level, option_level, option_passes, option_walked, rows_at_end}
 use Rattle.cmdline.proofs.Numbers.{is_no_flag, number_is_read}
 
@@ -60,7 +60,7 @@ run_is_taken program file word o n =
     and_from _ _ (number_level run_shape (codes "workers") (codes "--workers") 1 max_workers file word refl o n refl refl refl) refl
 
 pub run_is_asked : (program file word : Text) → is_operand file ≡ true → is_worker_number word ≡ true
-    → asked (program ∷ codes "run" ∷ file ∷ codes "--workers" ∷ word ∷ []) ≡ Some (RunOf file (number_in word) false)
+    → requested (program ∷ codes "run" ∷ file ∷ codes "--workers" ∷ word ∷ []) ≡ Some (RunOf file (number_in word) false)
 unfolding clap_on_literals
 run_is_asked program file word o n =
     ap (λ (w : Walk). run_of (rows_at_end run_shape w)) (option_walked run_shape (codes "workers") (codes "--workers") file word refl o (is_no_flag 1 max_workers word n) [])
@@ -92,7 +92,7 @@ run_counts_is_taken program file word o n =
     refl
 
 pub run_counts_is_asked : (program file word : Text) → is_operand file ≡ true → is_worker_number word ≡ true
-    → asked (program ∷ codes "run" ∷ file ∷ codes "--workers" ∷ word ∷ codes "--counts" ∷ []) ≡ Some (RunOf file (number_in word) true)
+    → requested (program ∷ codes "run" ∷ file ∷ codes "--workers" ∷ word ∷ codes "--counts" ∷ []) ≡ Some (RunOf file (number_in word) true)
 unfolding clap_on_literals
 run_counts_is_asked program file word o n =
     ap (λ (w : Walk). run_of (rows_at_end run_shape w)) (run_counts_walked file word o (is_no_flag 1 max_workers word n))
@@ -105,7 +105,7 @@ unfolding clap_on_literals
 seq_is_taken program file o = and_from _ _ (file_level seq_shape file o refl refl) refl
 
 pub seq_is_asked : (program file : Text) → is_operand file ≡ true
-    → asked (program ∷ codes "seq" ∷ file ∷ []) ≡ Some (SeqOf file)
+    → requested (program ∷ codes "seq" ∷ file ∷ []) ≡ Some (SeqOf file)
 unfolding clap_on_literals
 seq_is_asked program file o =
     ap (λ (w : Walk). option_map SeqOf (first_of (codes "file") (rows_at_end seq_shape w))) (file_walked seq_shape file o)
@@ -134,7 +134,7 @@ asm_is_taken program file out o p =
     and_from _ _ (written_level (codes "asm") file out o p) refl
 
 pub asm_is_asked : (program file out : Text) → is_operand file ≡ true → is_operand out ≡ true
-    → asked (program ∷ codes "asm" ∷ file ∷ codes "--out" ∷ out ∷ []) ≡ Some (AsmOf file out)
+    → requested (program ∷ codes "asm" ∷ file ∷ codes "--out" ∷ out ∷ []) ≡ Some (AsmOf file out)
 unfolding clap_on_literals
 asm_is_asked program file out o p =
     written_asked (codes "asm") file out o p AsmOf
@@ -146,7 +146,7 @@ unfolding clap_on_literals
 dis_is_taken program file o = and_from _ _ (file_level dis_shape file o refl refl) refl
 
 pub dis_is_asked : (program file : Text) → is_operand file ≡ true
-    → asked (program ∷ codes "dis" ∷ file ∷ []) ≡ Some (DisOf file)
+    → requested (program ∷ codes "dis" ∷ file ∷ []) ≡ Some (DisOf file)
 unfolding clap_on_literals
 dis_is_asked program file o =
     ap (λ (w : Walk). option_map DisOf (first_of (codes "file") (rows_at_end dis_shape w))) (file_walked dis_shape file o)
@@ -159,7 +159,7 @@ debug_is_taken program file word o n =
     and_from _ _ (number_level debug_shape (codes "call") (codes "--call") 0 last_call file word refl o n refl refl refl) refl
 
 pub debug_is_asked : (program file word : Text) → is_operand file ≡ true → is_call_number word ≡ true
-    → asked (program ∷ codes "debug" ∷ file ∷ codes "--call" ∷ word ∷ []) ≡ Some (DebugOf file (number_in word))
+    → requested (program ∷ codes "debug" ∷ file ∷ codes "--call" ∷ word ∷ []) ≡ Some (DebugOf file (number_in word))
 unfolding clap_on_literals
 debug_is_asked program file word o n =
     number_asked debug_shape (codes "call") (codes "--call") 0 last_call file word refl o n DebugOf refl refl
@@ -171,6 +171,6 @@ unfolding clap_on_literals
 migrate_is_taken program file out o p = and_from _ _ (written_level (codes "migrate") file out o p) refl
 
 pub migrate_is_asked : (program file out : Text) → is_operand file ≡ true → is_operand out ≡ true
-    → asked (program ∷ codes "migrate" ∷ file ∷ codes "--out" ∷ out ∷ []) ≡ Some (MigrateOf file out)
+    → requested (program ∷ codes "migrate" ∷ file ∷ codes "--out" ∷ out ∷ []) ≡ Some (MigrateOf file out)
 unfolding clap_on_literals
 migrate_is_asked program file out o p = written_asked (codes "migrate") file out o p MigrateOf

@@ -187,8 +187,8 @@ asked_in found = if bytes_eq found.0 (codes "run")
     else None
 
 -- what a whole line, with the program's name first, asks for, where clap accepts it
-abbrev pub asked : List Text → Option Asked
-asked words = option_and_then asked_in (subcommand_of rvstm_app words)
+abbrev pub requested : List Text → Option Asked
+requested words = option_and_then asked_in (subcommand_of rvstm_app words)
 
 -- the word does not begin with a hyphen
 abbrev pub is_operand : Text → Bool

@@ -8,7 +8,7 @@ ghost use Rattle.std.specs.Prelude.{◌≡◌, ◌∷◌, [], List, ℕ, IfErr, 
 ghost use Rattle.std.specs.String.{string_bytes};
 ghost use Rattle.clap.specs.Words.{FailsBy, HasMatchesOf, fault_of, kind_of, takes};
 ghost use Rattle.clap.specs.declared.error.ErrorKind.TheVariants as kind;
-ghost use Rattle.cmdline.specs.Line.{AnswersUnlessMemory, AsmOf, DebugOf, DisOf, DriveOf, MigrateOf, RunOf, SeqOf, asked, asked_by, is_call_number, is_operand, is_worker_number, number_in, rvstm_app};
+ghost use Rattle.cmdline.specs.Line.{AnswersUnlessMemory, AsmOf, DebugOf, DisOf, DriveOf, MigrateOf, RunOf, SeqOf, requested, asked_by, is_call_number, is_operand, is_worker_number, number_in, rvstm_app};
 
 use crate::commands::rvstm;
 use crate::requests::request_in;
@@ -80,7 +80,7 @@ pub enum Request<'a> {
 pub fn request_of<'a>(alloc: Global, words: &'a [String]) -> Result<Option<Request<'a>>, Error>
     // an accepted line asks for exactly this
     ensures answer { IfOk result (λ r.
-        option_map asked_by r ≡ asked (map string_bytes words.now)) }
+        option_map asked_by r ≡ requested (map string_bytes words.now)) }
     // a line with a fault is never accepted; the error is of the fault's kind, or memory ran out
     ensures refused { FailsBy (fault_of rvstm_app (map string_bytes words.now)) result }
     // `run FILE --workers N` is accepted, where N is a whole number of 1 to 32, unless memory runs out

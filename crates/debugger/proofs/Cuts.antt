@@ -14,7 +14,7 @@ use Rattle.debugger.specs.Session.{AppendsBeginning, Ending, IsCutAt, IsCutShort
 use Rattle.debugger.specs.Hearing.{HasAnswered, IsCutAnswer, IsCutIn, IsInLine}
 use Rattle.debugger.proofs.Lines.{last_line, line_and_more}
 use Rattle.debugger.proofs.Stops.{still_past}
-use Rattle.debugger.proofs.Hearings.{all_of, more_text, session_append, session_nil, session_on, session_quit, with_more}
+use Rattle.debugger.proofs.SessionInputs.{all_of, more_text, session_append, session_nil, session_on, session_quit, with_more}
 
 -- a part of a text
 pub part_begins : (a b : Option (List ℕ)) (text : List ℕ) → AppendsPart a b text → AppendsBeginning a b text

@@ -1,7 +1,7 @@
 pub mod Moments
-pub mod Standings
+pub mod ReplayMoments
 pub mod Stops
 pub mod Storages
 pub mod Lines
-pub mod Hearings
+pub mod SessionInputs
 pub mod Cuts

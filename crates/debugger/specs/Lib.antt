@@ -1,6 +1,5 @@
-pub mod Moment
 pub mod Replay
-pub mod Standing
+pub mod ReplayMoment
 pub mod Faults
 pub mod Command
 pub mod Session

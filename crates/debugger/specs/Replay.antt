@@ -7,16 +7,16 @@ use Rattle.rv_ledger.specs.Key.{Storage}
 use Rattle.rv_ledger.specs.Call.{Invocation}
 use Rattle.rv_ledger.specs.declared.outcome.Outcome.{Outcome}
 use Rattle.rv_ledger.specs.declared.receipt.Receipt.{Receipt}
-use Rattle.rv_mem.specs.Space.{bytes_at, loaded}
+use Rattle.rv_mem.specs.Space.{AccessFault, bytes_at, loaded}
 use Rattle.rv_mem.specs.declared.access.Access.TheVariants.{Execute}
-use Rattle.rv_mem.specs.declared.fault.Fault.{Fault}
 use Rattle.rv_names.specs.Text as names
 use Rattle.receipts.specs.Text.{word_text}
 use Rattle.rv_step.specs.declared.machine.Machine.{Machine}
 use Rattle.rv_step.specs.Fold.{apply_writes}
 use Rattle.debugger.specs.declared.fault.ReplayFault.{ReplayFault}
 use Rattle.debugger.specs.declared.fault.ReplayFault.TheVariants.{NoSuchCall, AtEnd, BadRange, Memory}
-use Rattle.debugger.specs.Moment.{Standing, is_over, machine_of, moment_of}
+use Rattle.rv_step.specs.Step.{Progress}
+use Rattle.rv_step.specs.Moment.{is_over, machine_of, moment_over}
 
 -- a replay of a call over a storage stands at a moment; everything else that it shows is a function of these
 pub record ReplayState : Type 0 where
@@ -25,8 +25,8 @@ pub record ReplayState : Type 0 where
   pub moment : ℕ
 
 -- where the call stands
-abbrev pub standing : ReplayState → Standing
-standing r = moment_of r.call r.store r.moment
+abbrev pub standing : ReplayState → Progress
+standing r = moment_over r.call r.store r.moment
 
 abbrev pub machine_at : ReplayState → Machine
 machine_at r = machine_of (standing r)
@@ -37,7 +37,7 @@ is_at_end r = is_over (standing r)
 
 -- the call goes on at each moment before one
 abbrev pub GoesOnBefore : ReplayState → Type 0
-GoesOnBefore r = (n : ℕ) → n < r.moment → is_over (moment_of r.call r.store n) ≡ false
+GoesOnBefore r = (n : ℕ) → n < r.moment → is_over (moment_over r.call r.store n) ≡ false
 
 -- the storage that receipts leave: the writes of each, in order
 unfoldable pub store_left : Storage → List Receipt → Storage
@@ -73,7 +73,7 @@ Moves edge (Err Memory) wanted old new = IsSome wanted × (new ≡ old)
 Moves edge (Err fault) wanted old new = (fault ≡ edge) × (wanted ≡ None) × (new ≡ old)
 
 -- a moment at which a run to a pc stops
-abbrev pub stops : ℕ → Standing → Bool
+abbrev pub stops : ℕ → Progress → Bool
 stops pc at = is_over at || (machine_of at).pc == pc
 
 -- the new moment is the old one or a later one, and a run to a pc stops at none between them
@@ -81,7 +81,7 @@ pub record IsPast (pc : ℕ) (old new : ReplayState) : Type 0 where
   pub call : new.call ≡ old.call
   pub store : new.store ≡ old.store
   pub later : old.moment ≤ new.moment
-  pub between : (n : ℕ) → old.moment < n → n < new.moment → stops pc (moment_of old.call old.store n) ≡ false
+  pub between : (n : ℕ) → old.moment < n → n < new.moment → stops pc (moment_over old.call old.store n) ≡ false
 
 -- a run to a pc goes to the first later moment at which it stops; where memory ran out it stands at a moment before
 -- that one; where there is no later moment it is refused and nothing changes
@@ -106,9 +106,9 @@ Shows view (Err Memory) wanted = IsSome wanted
 Shows view (Err fault) wanted = ⊥
 
 -- the text of the word that was fetched, if it may be
-abbrev pub fetched_text : Result ℕ Fault → List ℕ
+abbrev pub fetched_text : Result ℕ AccessFault → List ℕ
 fetched_text (Ok word) = names.word_text word
-fetched_text (Err fault) = codes "fetch-fault"
+fetched_text (Err cause) = codes "fetch-fault"
 
 -- a moment in decimal, the pc in eight hex digits, and the text of the word there
 abbrev pub place_text : ℕ → Machine → List ℕ

@@ -13,7 +13,7 @@ use Rattle.debugger.specs.declared.fault.ReplayFault.{ReplayFault}
 use Rattle.debugger.specs.declared.fault.ReplayFault.TheVariants.{AtEnd, AtStart, BadRange}
 use Rattle.debugger.specs.Command.{command_of}
 use Rattle.debugger.specs.Faults.{fault_text}
-use Rattle.debugger.specs.Moment.{moment_of}
+use Rattle.rv_step.specs.Moment.{moment_over}
 use Rattle.debugger.specs.Replay.{IsPast, ReplayState, bytes_seen, is_at_end, machine_at, next_of, previous_of, standing, stops, where_text}
 
 -- the line of a refusal
@@ -26,7 +26,7 @@ where_line r = where_text r ++ 10 ∷ []
 -- the first of `left` moments from n on at which a run to a pc stops; where there is none, the moment after them
 unfoldable pub first_stop : ℕ → Invocation → Storage → ℕ → ℕ → ℕ
 first_stop zero call store pc n = n
-first_stop (suc left) call store pc n = if stops pc (moment_of call store n) then n else first_stop left call store pc (n + 1)
+first_stop (suc left) call store pc n = if stops pc (moment_over call store n) then n else first_stop left call store pc (n + 1)
 
 -- where a run to a pc goes, if this is not the last moment; a call is over after at most one step more than it has gas
 abbrev pub stop_of : ℕ → ReplayState → Option ReplayState

@@ -6,7 +6,7 @@ ghost use Rattle.rv_ledger.specs.Key.{Storage};
 ghost use Rattle.rv_ledger.specs.declared.outcome.Outcome.{Outcome};
 ghost use Rattle.rv_step.specs.Chain.{ends};
 ghost use Rattle.rv_step.specs.Fold.{receipts_of, store_before};
-ghost use Rattle.debugger.specs.Moment.{is_over, machine_of, moment_of};
+ghost use Rattle.rv_step.specs.Moment.{is_over, machine_of, moment_over};
 ghost use Rattle.debugger.specs.Replay.{opened};
 
 /// A law, and no code: where an outcome's receipts are those of running its calls in order, a replay of
@@ -20,9 +20,9 @@ pub fn opens_over_its_storage()
 /// A law, and no code: a call is over after at most one step more than it has gas. When it is over, it has
 /// the pc and the registers of its receipt.
 pub fn last_moment_is_the_receipts()
-    ensures comes { (call : Invocation) (store : Storage) → (n : ℕ) × (n ≤ call.gas + 1) × (is_over (moment_of call store n) ≡ true) }
-    ensures pc { (call : Invocation) (store : Storage) (n : ℕ) → is_over (moment_of call store n) ≡ true
-        → (machine_of (moment_of call store n)).pc ≡ (ends call store).pc }
-    ensures regs { (call : Invocation) (store : Storage) (n : ℕ) → is_over (moment_of call store n) ≡ true
-        → (machine_of (moment_of call store n)).regs ≡ (ends call store).regs }
+    ensures comes { (call : Invocation) (store : Storage) → (n : ℕ) × (n ≤ call.gas + 1) × (is_over (moment_over call store n) ≡ true) }
+    ensures pc { (call : Invocation) (store : Storage) (n : ℕ) → is_over (moment_over call store n) ≡ true
+        → (machine_of (moment_over call store n)).pc ≡ (ends call store).pc }
+    ensures regs { (call : Invocation) (store : Storage) (n : ℕ) → is_over (moment_over call store n) ≡ true
+        → (machine_of (moment_over call store n)).regs ≡ (ends call store).regs }
 {}

@@ -2,16 +2,16 @@
 #![tactic(auto)]
 
 mod answer;
-pub mod command;
-pub mod fault;
+mod command;
+mod fault;
 mod laws;
 mod place;
-pub mod replay;
+mod replay;
 mod running;
 mod session;
 mod storage;
 
-pub use command::Command;
+pub use command::{Command, command_of};
 pub use fault::{DebugFault, ReplayFault};
 pub use laws::{last_moment_is_the_receipts, opens_over_its_storage};
 pub use replay::Replay;

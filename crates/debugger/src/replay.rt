@@ -26,7 +26,7 @@ impl Model for Replay {
     ghost use Rattle.std.specs.Coded.{codes};
     ghost use Rattle.rv_ledger.specs.contracts.store.Store.{the_row as store_row};
     ghost use Rattle.debugger.specs.Replay.{ReplayState};
-    ghost use Rattle.debugger.specs.Standing.{IsReplay};
+    ghost use Rattle.debugger.specs.ReplayMoment.{IsReplay};
 
     ghost Value = { ReplayState };
 
@@ -63,7 +63,7 @@ impl Replay {
     }
 
     /// The replay of a call over a storage at its moment 0; refused where memory ran out.
-    #[tactic(auto, unfolding(crate::specs::Moment::moment_of))]
+    #[tactic(auto, unfolding(rv_step::specs::Moment::moment_from))]
     fn start(alloc: Global, call: &Call, store: Store) -> Result<Replay, AllocError>
         ensures { IfOk result (λ r. r ≡ record { call = call.now; store = store; moment = 0 }) }
     {

@@ -2,8 +2,9 @@
 
 ghost use Rattle.std.specs.Prelude.{◌≡◌, ◌<◌, ℕ, false, IfOk, IsSome, OnErr, OnOk};
 ghost use Rattle.rv_step.specs.Run.{asked_key};
-ghost use Rattle.debugger.specs.Moment.{Going, advance, moment_of};
-ghost use Rattle.debugger.specs.Standing.{GoesOn, IsAnswered, IsRunAt};
+ghost use Rattle.rv_step.specs.Moment.{moment_over};
+ghost use Rattle.rv_step.specs.Step.{Going};
+ghost use Rattle.debugger.specs.ReplayMoment.{GoesOn, IsAnswered, IsRunAt, advance_over};
 
 use read_set::Origin;
 use rv_ledger::{Call, Store, StoredValue};
@@ -14,7 +15,7 @@ use std::alloc::{AllocError, Global};
 /// run stands where it stood.
 pub(crate) fn step_run(alloc: Global, run: &mut Run, store: &Store) -> Result<(), AllocError>
     requires { IsRunAt (Going run.old.machine) run.old }
-    ensures ok { OnOk result (IsRunAt (advance store.now (Going run.old.machine)) run.new) }
+    ensures ok { OnOk result (IsRunAt (advance_over store.now (Going run.old.machine)) run.new) }
     ensures err { OnErr result (IsRunAt (Going run.old.machine) run.new) }
 {
     if run.is_running() {
@@ -40,7 +41,7 @@ fn answer_from(alloc: Global, run: &mut Run, store: &Store) -> Result<(), AllocE
 
 /// The run of a call over a storage after `steps` steps; the call is not over at any moment before.
 /// Refused where memory ran out.
-#[tactic(auto, unfolding(crate::specs::Moment::moment_of))]
+#[tactic(auto, unfolding(rv_step::specs::Moment::moment_from))]
 pub(crate) fn run_after(
     alloc: Global,
     call: &Call,
@@ -48,7 +49,7 @@ pub(crate) fn run_after(
     steps: u64,
 ) -> Result<Run, AllocError>
     requires { GoesOn call.now store.now steps }
-    ensures { IfOk result (λ run. IsRunAt (moment_of call.now store.now steps) run) }
+    ensures { IfOk result (λ run. IsRunAt (moment_over call.now store.now steps) run) }
 {
     let mut run = Run::start(alloc, call)?;
     for _ in 0..steps {

@@ -8,7 +8,7 @@ use Rattle.rv_ledger.specs.declared.change.Change.TheVariants as change
 use Rattle.rv_ledger.specs.declared.end.Trap.{Trap}
 use Rattle.rv_ledger.specs.declared.end.Trap.TheVariants.{MemoryFault, UnknownCall, BadLength}
 use Rattle.rv_mem.specs.declared.access.Access.TheVariants as access
-use Rattle.rv_mem.specs.Space.{Space, bytes_at, each}
+use Rattle.rv_mem.specs.Space.{Space, bytes_at, allows_range}
 use Rattle.ecalls.specs.declared.storage_call.StorageCall.{StorageCall}
 use Rattle.ecalls.specs.declared.storage_call.StorageCall.TheVariants as call
 use Rattle.ecalls.specs.declared.request_kind.Request.{Request}
@@ -34,8 +34,8 @@ add_under rules.Two = None
 add_under rules.Three = Some call.Add
 
 -- the call that has a number under some rules
-abbrev pub call_of : Rules → ℕ → Option StorageCall
-call_of rules number =
+abbrev pub numbered_call : Rules → ℕ → Option StorageCall
+numbered_call rules number =
     if number == 0 then Some call.Read
     else if number == 1 then Some call.Write
     else if number == 2 then Some call.Remove
@@ -87,8 +87,8 @@ within_length registers rules None = Err UnknownCall
 within_length registers rules (Some call) = if nat_lt (longest call rules) (length_of call registers) then Err BadLength else Ok call
 
 -- the call that the registers ask for, by its number and then its length, or the trap, which costs nothing
-unfoldable pub asked : List ℕ → Rules → Result StorageCall Trap
-asked registers rules = within_length registers rules (call_of rules (a7 registers))
+unfoldable pub requested_call : List ℕ → Rules → Result StorageCall Trap
+requested_call registers rules = within_length registers rules (numbered_call rules (a7 registers))
 
 -- its charge, or the trap
 abbrev pub charge_asked : List ℕ → Result StorageCall Trap → Result ℕ Trap
@@ -97,15 +97,15 @@ charge_asked registers (Ok call) = Ok (charge_of call registers)
 
 -- the charge of an ECALL, or the trap that costs nothing
 abbrev pub ecall_charge : List ℕ → Rules → Result ℕ Trap
-ecall_charge registers rules = charge_asked registers (asked registers rules)
+ecall_charge registers rules = charge_asked registers (requested_call registers rules)
 
 -- whether n bytes may be read
 abbrev pub is_readable : Space → ℕ → ℕ → Bool
-is_readable memory address n = each access.Read memory.rights address n
+is_readable memory address n = allows_range access.Read memory.rights address n
 
 -- whether n bytes may be written
 abbrev pub is_writable : Space → ℕ → ℕ → Bool
-is_writable memory address n = each access.Write memory.rights address n
+is_writable memory address n = allows_range access.Write memory.rights address n
 
 -- whether a call has its rights over the whole of each range: a key has 32 bytes
 abbrev pub has_rights : StorageCall → List ℕ → Space → Bool
@@ -136,4 +136,4 @@ request_asked registers memory (Ok call) = request_by call registers memory
 
 -- what an ECALL asks for, or its first trap: by number, length and rights
 unfoldable pub request_of : List ℕ → Space → Rules → Result Request Trap
-request_of registers memory rules = request_asked registers memory (asked registers rules)
+request_of registers memory rules = request_asked registers memory (requested_call registers rules)

@@ -2,12 +2,14 @@
 #![tactic(auto)]
 
 mod copies;
-pub mod request_kind;
-pub mod requests;
-pub mod storage_call;
+mod request_kind;
+mod requests;
+mod storage_call;
 
 pub use copies::{bytes_at, key_at};
 pub use request_kind::Request;
 pub use requests::request;
 pub use rv_ledger::{Rules, Trap, Writes};
-pub use storage_call::{READ_CHARGE, StorageCall, added_amount, asked, ecall_charge, late_charge};
+pub use storage_call::{
+    READ_CHARGE, StorageCall, added_amount, ecall_charge, late_charge, requested_call,
+};

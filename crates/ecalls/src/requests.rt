@@ -8,7 +8,7 @@ ghost use Rattle.ecalls.specs.declared.storage_call.StorageCall.TheVariants as c
 
 use crate::copies::{bytes_at, key_at};
 use crate::request_kind::Request;
-use crate::storage_call::{StorageCall, added_amount, asked};
+use crate::storage_call::{StorageCall, added_amount, requested_call};
 use rv_isa::{Reg, Regs};
 use rv_ledger::{Change, Output, Rules, Trap, Write};
 use rv_mem::Memory;
@@ -19,7 +19,7 @@ use rv_mem::Memory;
 pub fn request(registers: &Regs, memory: &Memory, rules: Rules) -> Result<Request, Trap>
     ensures { result ≡ request_of registers.now memory.now rules }
 {
-    request_by(asked(registers, rules)?, registers, memory)
+    request_by(requested_call(registers, rules)?, registers, memory)
 }
 
 /// What a storage call asks for, or MemoryFault where a byte of its key, buffer, value or output lacks

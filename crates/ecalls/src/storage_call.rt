@@ -1,7 +1,7 @@
 //! The storage calls, their lengths and their charges.
 
 ghost use Rattle.std.specs.Prelude.{◌≡◌, ◌≤◌, IfOk};
-ghost use Rattle.ecalls.specs.StorageCalls.{add_under, added_amount, asked, call_of, charge_of, ecall_charge, late_charge, length_of, longest};
+ghost use Rattle.ecalls.specs.StorageCalls.{add_under, added_amount, requested_call, numbered_call, charge_of, ecall_charge, late_charge, length_of, longest};
 
 use rv_isa::{Reg, Regs};
 use rv_ledger::{OUTPUT_LIMIT, Rules, Trap};
@@ -29,7 +29,7 @@ pub enum StorageCall {
 impl StorageCall {
     /// The storage call that has a number under some rules, or None where none has it.
     fn of(rules: Rules, number: u32) -> Option<StorageCall>
-        ensures { result ≡ call_of rules number }
+        ensures { result ≡ numbered_call rules number }
     {
         match number {
             0 => Some(StorageCall::Read),
@@ -93,9 +93,9 @@ impl StorageCall {
 /// The storage call whose number is in a7. Traps UnknownCall where no call has that number under the rules,
 /// and else BadLength where its length is above the limit: a2 above the rules' longest value for READ and
 /// WRITE, or a1 above 256 for RETURN and REVERT.
-#[tactic(auto, unfolding(crate::specs::StorageCalls::asked))]
-pub fn asked(registers: &Regs, rules: Rules) -> Result<StorageCall, Trap>
-    ensures call { result ≡ asked registers.now rules }
+#[tactic(auto, unfolding(crate::specs::StorageCalls::requested_call))]
+pub fn requested_call(registers: &Regs, rules: Rules) -> Result<StorageCall, Trap>
+    ensures call { result ≡ requested_call registers.now rules }
     ensures short { IfOk result (λ call. length_of call registers.now ≤ 256) }
 {
     let Some(call) = StorageCall::of(rules, registers.get(Reg::a7())) else {
@@ -112,7 +112,7 @@ pub fn asked(registers: &Regs, rules: Rules) -> Result<StorageCall, Trap>
 pub fn ecall_charge(registers: &Regs, rules: Rules) -> Result<u32, Trap>
     ensures { result ≡ ecall_charge registers.now rules }
 {
-    let call = asked(registers, rules)?;
+    let call = requested_call(registers, rules)?;
     Ok(call.charge(registers))
 }
 

@@ -12,7 +12,7 @@ use Rattle.elf32.specs.declared.header.ProgramHeader.{ProgramHeader}
 use Rattle.elf32.specs.declared.segment.Segment.{Segment}
 use Rattle.elf32.specs.declared.words.PlacedWord.{PlacedWord}
 use Rattle.elf32.specs.Faults as f
-use Rattle.elf32.specs.Faults.{is_below, share_a_page, some_pair, is_out_of_range, has_bad_range, is_out_of_order, shares_page, fault_of, loads}
+use Rattle.elf32.specs.Faults.{is_below, share_a_page, some_pair, is_out_of_range, has_bad_range, is_out_of_order, shares_page, least_fault, loads}
 use Rattle.elf32.specs.Layout.{Layout}
 use Rattle.elf32.specs.Image.{segment_of, image_of, layout_of}
 use Rattle.elf32.specs.Readable.{IsInRange}
@@ -146,22 +146,22 @@ tests bytes =
     ∷ (f.has_bad_type bytes, BadType) ∷ (f.has_bad_range bytes, SegmentRange) ∷ (f.is_out_of_order bytes, SegmentOrder)
     ∷ (f.shares_page bytes, PageShared) ∷ (f.is_write_execute bytes, WriteExecute) ∷ (f.has_bad_entry bytes, BadEntry) ∷ []
 
-none_holds : (bytes : List ℕ) → fault_of bytes ≡ None → Clear (tests bytes)
-unfolding fault_of
+none_holds : (bytes : List ℕ) → least_fault bytes ≡ None → Clear (tests bytes)
+unfolding least_fault
 none_holds bytes h = clear (tests bytes) h
 
 chain_of : (bytes : List ℕ) → has_bad_range bytes ≡ false → is_out_of_order bytes ≡ false → shares_page bytes ≡ false → Chain (map (segment_of bytes) (loads bytes))
 unfolding has_bad_range is_out_of_order shares_page
 chain_of bytes range order page = chain bytes (loads bytes) range order page
 
-faultless : (bytes : List ℕ) (layout : Layout) (o : Option ElfError) → fault_of bytes ≡ o → image_of bytes ≡ Ok layout → (fault_of bytes ≡ None) × (layout ≡ layout_of bytes)
+faultless : (bytes : List ℕ) (layout : Layout) (o : Option ElfError) → least_fault bytes ≡ o → image_of bytes ≡ Ok layout → (least_fault bytes ≡ None) × (layout ≡ layout_of bytes)
 unfolding image_of
 faultless bytes layout (Some e) is h = cc
 faultless bytes layout None is h = let e = rw is at h in (is, cc)
 
 pub ascending : (bytes : List ℕ) (layout : Layout) → image_of bytes ≡ Ok layout → AllPairs (λ v w. v.address < w.address) (words_of layout)
 ascending bytes layout h =
-    let fine = faultless bytes layout (fault_of bytes) refl h in
+    let fine = faultless bytes layout (least_fault bytes) refl h in
     let all = none_holds bytes fine.0 in
     let range : has_bad_range bytes ≡ false = all.1.1.1.1.1.1.1.1.1.1.0 in
     let order : is_out_of_order bytes ≡ false = all.1.1.1.1.1.1.1.1.1.1.1.0 in

@@ -5,7 +5,7 @@ use Rattle.std.proofs.lemmas.Bool.Decides.{nat_tests}
 use Rattle.rv_program.specs.Sections.{Sections, IsSized}
 use Rattle.elf32.specs.declared.header.ProgramHeader.{ProgramHeader}
 use Rattle.elf32.specs.Header.{half, word, header_from, program_headers, e_entry, e_phnum}
-use Rattle.elf32.specs.Faults.{is_truncated, has_bad_magic, has_bad_class_or_data, has_bad_version, is_not_exec, is_not_riscv, has_bad_flags, has_bad_header_size, has_bad_count, has_bad_type, has_bad_range, is_out_of_order, shares_page, is_write_execute, has_bad_entry, fault_of, loads}
+use Rattle.elf32.specs.Faults.{is_truncated, has_bad_magic, has_bad_class_or_data, has_bad_version, is_not_exec, is_not_riscv, has_bad_flags, has_bad_header_size, has_bad_count, has_bad_type, has_bad_range, is_out_of_order, shares_page, is_write_execute, has_bad_entry, least_fault, loads}
 use Rattle.elf32.specs.Image.{image_of, layout_of}
 use Rattle.elf32.specs.Written.{half_bytes, word_bytes, elf_header, program_header_bytes, file_of, program_layout, text_bytes, load_header}
 
@@ -128,13 +128,13 @@ two_segments bytes t d headers entry some fit more small long = record {
 -- ---- the whole file
 
 -- no fault holds where each test is false
-none_holds : (bytes : List ℕ) → is_truncated bytes ≡ false → has_bad_count bytes ≡ false → HeaderClear bytes → SegmentsClear bytes → fault_of bytes ≡ None
-unfolding fault_of
+none_holds : (bytes : List ℕ) → is_truncated bytes ≡ false → has_bad_count bytes ≡ false → HeaderClear bytes → SegmentsClear bytes → least_fault bytes ≡ None
+unfolding least_fault
 none_holds bytes long count h s =
     rw (long, h.magic, h.kind, h.version, h.exec, h.riscv, h.flags, h.sizes, count, s.type, s.range, s.order, s.page, s.write_execute, s.entry) refl
 
 -- a file without fault stands for its layout
-loads_as : (bytes : List ℕ) → fault_of bytes ≡ None → image_of bytes ≡ Ok (layout_of bytes)
+loads_as : (bytes : List ℕ) → least_fault bytes ≡ None → image_of bytes ≡ Ok (layout_of bytes)
 unfolding image_of
 loads_as bytes none = rw none refl
 

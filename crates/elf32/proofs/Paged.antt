@@ -7,35 +7,35 @@ use Rattle.std.proofs.lemmas.List.Elements.{All-head, All-tail, All-take}
 use Rattle.std.proofs.lemmas.List.Sums.{fold_more}
 use Rattle.elf32.specs.declared.segment.Segment.{Segment}
 use Rattle.elf32.specs.Layout.{IsPlaced}
-use Rattle.elf32.specs.Pages.{over, zeros, segment_bytes, with_segment, bytes_of_page}
+use Rattle.elf32.specs.Pages.{overwritten_at, zeros, segment_bytes, with_segment, bytes_of_page}
 
 -- ---- a place of a list laid over another
 
-read_before : (xs new : List ℕ) (at i d : ℕ) → at ≤ length xs → i < at → get_or (over xs at new) i d ≡ get_or xs i d
-unfolding over
+read_before : (xs new : List ℕ) (at i d : ℕ) → at ≤ length xs → i < at → get_or (overwritten_at xs at new) i d ≡ get_or xs i d
+unfolding overwritten_at
 read_before xs new at i d inside low =
     let front : length (take at xs) ≡ at = length-take-le at xs inside in
     get_or_append_left (take at xs ++ new) (drop (at + length new) xs) d i (omega (arith, length-append (take at xs) new))
     ∙ get_or_append_left (take at xs) new d i (omega arith)
     ∙ get_or-take at xs i d low
 
-read_new : (xs new : List ℕ) (at i d : ℕ) → at ≤ length xs → at ≤ i → i < at + length new → get_or (over xs at new) i d ≡ get_or new (i - at) d
-unfolding over
+read_new : (xs new : List ℕ) (at i d : ℕ) → at ≤ length xs → at ≤ i → i < at + length new → get_or (overwritten_at xs at new) i d ≡ get_or new (i - at) d
+unfolding overwritten_at
 read_new xs new at i d inside low high =
     let front : length (take at xs) ≡ at = length-take-le at xs inside in
     get_or_append_left (take at xs ++ new) (drop (at + length new) xs) d i (omega (arith, length-append (take at xs) new))
     ∙ get_or-append_right (take at xs) new at i d front low
 
-read_after : (xs new : List ℕ) (at i d : ℕ) → at ≤ length xs → at + length new ≤ i → get_or (over xs at new) i d ≡ get_or xs i d
-unfolding over
+read_after : (xs new : List ℕ) (at i d : ℕ) → at ≤ length xs → at + length new ≤ i → get_or (overwritten_at xs at new) i d ≡ get_or xs i d
+unfolding overwritten_at
 read_after xs new at i d inside high =
     let front : length (take at xs) ≡ at = length-take-le at xs inside in
     get_or-append_right (take at xs ++ new) (drop (at + length new) xs) (at + length new) i d (omega (arith, length-append (take at xs) new)) high
     ∙ get_or-drop (at + length new) xs (i - (at + length new)) d
     ∙ ap (λ (j : ℕ). get_or xs j d) (omega arith)
 
-pub length_over : (xs new : List ℕ) (at : ℕ) → at + length new ≤ length xs → length (over xs at new) ≡ length xs
-unfolding over
+pub length_over : (xs new : List ℕ) (at : ℕ) → at + length new ≤ length xs → length (overwritten_at xs at new) ≡ length xs
+unfolding overwritten_at
 length_over xs new at fits =
     let front : length (take at xs) ≡ at = length-take-le at xs (omega arith) in
     omega (arith, length-append (take at xs ++ new) (drop (at + length new) xs), length-append (take at xs) new, length-drop (at + length new) xs)
@@ -50,14 +50,14 @@ length_part xs s n fits = length-take-le n (drop s xs) (omega (arith, length-dro
 
 -- a part that has none of what is laid over
 module _ (xs new : List ℕ) (at s n : ℕ) (fits : at + length new ≤ length xs) (inside : s + n ≤ length xs) where
-  size : length (take n (drop s (over xs at new))) ≡ n
-  size = length_part (over xs at new) s n (omega (arith, length_over xs new at fits))
+  size : length (take n (drop s (overwritten_at xs at new))) ≡ n
+  size = length_part (overwritten_at xs at new) s n (omega (arith, length_over xs new at fits))
 
-  pub over_elsewhere : min (at + length new) (s + n) ≤ max at s → take n (drop s (over xs at new)) ≡ take n (drop s xs)
+  pub over_elsewhere : min (at + length new) (s + n) ≤ max at s → take n (drop s (overwritten_at xs at new)) ≡ take n (drop s xs)
   over_elsewhere apart =
       same_lists _ _ (size ∙ sym (length_part xs s n inside)) (λ k d below.
       let low : k < n = omega (arith, size) in
-      read_part (over xs at new) s n k d low
+      read_part (overwritten_at xs at new) s n k d low
       ∙ elim (dec_lt (s + k) at) [
         | yes before ↦ read_before xs new at (s + k) d (omega arith) before
         | no later ↦ read_after xs new at (s + k) d (omega arith) (omega arith)
@@ -65,7 +65,7 @@ module _ (xs new : List ℕ) (at s n : ℕ) (fits : at + length new ≤ length x
       ∙ sym (read_part xs s n k d low))
 
   -- a part that has some of it
-  pub over_here : (from to : ℕ) → from ≡ max at s → to ≡ min (at + length new) (s + n) → from < to → take n (drop s (over xs at new)) ≡ over (take n (drop s xs)) (from - s) (take (to - from) (drop (from - at) new))
+  pub over_here : (from to : ℕ) → from ≡ max at s → to ≡ min (at + length new) (s + n) → from < to → take n (drop s (overwritten_at xs at new)) ≡ overwritten_at (take n (drop s xs)) (from - s) (take (to - from) (drop (from - at) new))
   over_here from to first last some =
       let part = take n (drop s xs) in
       let piece = take (to - from) (drop (from - at) new) in
@@ -73,7 +73,7 @@ module _ (xs new : List ℕ) (at s n : ℕ) (fits : at + length new ≤ length x
       let piece_size : length piece ≡ to - from = length_part new (from - at) (to - from) (omega arith) in
       same_lists _ _ (size ∙ sym (length_over part piece (from - s) (omega arith) ∙ part_size)) (λ k d below.
       let low : k < n = omega (arith, size) in
-      read_part (over xs at new) s n k d low
+      read_part (overwritten_at xs at new) s n k d low
       ∙ elim (dec_lt k (from - s)) [
         | yes before ↦
             read_before xs new at (s + k) d (omega arith) (omega arith)

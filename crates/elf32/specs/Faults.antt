@@ -131,8 +131,8 @@ segment_fault bytes =
     else None
 
 -- the least-numbered fault that holds
-unfoldable pub fault_of : List ℕ → Option ElfError
-fault_of bytes =
+unfoldable pub least_fault : List ℕ → Option ElfError
+least_fault bytes =
     if is_truncated bytes then Some Truncated
     else if has_bad_magic bytes then Some BadMagic
     else if has_bad_class_or_data bytes then Some BadClassOrData

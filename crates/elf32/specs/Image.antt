@@ -6,7 +6,7 @@ use Rattle.elf32.specs.declared.header.ProgramHeader.{ProgramHeader}
 use Rattle.elf32.specs.declared.segment.Rights.{Rights}
 use Rattle.elf32.specs.declared.segment.Segment.{Segment}
 use Rattle.elf32.specs.Header.{e_entry}
-use Rattle.elf32.specs.Faults.{has_read, has_write, has_execute, loads, fault_of}
+use Rattle.elf32.specs.Faults.{has_read, has_write, has_execute, loads, least_fault}
 use Rattle.elf32.specs.Layout.{Layout}
 
 abbrev pub rights_of : ProgramHeader → Rights
@@ -31,7 +31,7 @@ unless_fault None layout = Ok layout
 
 -- what a file stands for: its program, or the least-numbered fault
 unfoldable pub image_of : List ℕ → Result Layout ElfError
-image_of bytes = unless_fault (fault_of bytes) (layout_of bytes)
+image_of bytes = unless_fault (least_fault bytes) (layout_of bytes)
 
 -- a call answers what is wanted, or Memory where a program is wanted
 abbrev pub Gives : Result Layout ElfError → Result Layout ElfError → Type 0

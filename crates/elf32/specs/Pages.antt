@@ -9,8 +9,8 @@ use Rattle.elf32.specs.declared.segment.Rights.{Rights}
 use Rattle.elf32.specs.declared.segment.Segment.{Segment}
 
 -- the list with another written over it from a place on
-unfoldable pub over : List ℕ → ℕ → List ℕ → List ℕ
-over bytes place new = take place bytes ++ new ++ drop (place + length new) bytes
+unfoldable pub overwritten_at : List ℕ → ℕ → List ℕ → List ℕ
+overwritten_at bytes place new = take place bytes ++ new ++ drop (place + length new) bytes
 
 -- n zeros
 unfoldable pub zeros : ℕ → List ℕ
@@ -18,7 +18,7 @@ zeros n = replicate n 0
 
 -- the bytes with the file bytes of a segment at its address (System V ABI, Program Header, PT_LOAD)
 abbrev pub with_segment : List ℕ → Segment → List ℕ
-with_segment bytes s = over bytes (s.address - first_address) s.content
+with_segment bytes s = overwritten_at bytes (s.address - first_address) s.content
 
 -- the bytes of memory with the file bytes of the segments at their addresses, and zeros elsewhere
 unfoldable pub segment_bytes : List Segment → List ℕ

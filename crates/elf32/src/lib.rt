@@ -3,24 +3,24 @@
 #![tactic(auto)]
 
 pub mod bytes;
-pub mod error;
+mod error;
 pub mod extent;
 mod header;
 mod header_faults;
-pub mod image;
-pub mod pages;
+mod image;
+mod pages;
 mod reading;
 mod rights;
-pub mod segment;
+mod segment;
 mod segment_faults;
 mod table;
-pub mod words;
-pub mod writing;
+mod words;
+mod writing;
 
 pub use error::ElfError;
 pub use image::Image;
 pub use pages::{BasePages, Page};
 pub use reading::load;
 pub use segment::{Content, Rights, Segment};
-pub use words::PlacedWord;
-pub use writing::write;
+pub use words::{PlacedWord, words_ascend, words_stand_in_segments};
+pub use writing::{file_loads, write};

@@ -2,7 +2,7 @@
 
 ghost use Rattle.std.specs.Prelude.{◌≡◌, ◌≢◌, false, All, length, map, IfNone, IfOk, IfSome};
 ghost use Rattle.elf32.specs.declared.error.ElfError.TheVariants.{Memory};
-ghost use Rattle.elf32.specs.Faults.{fault_of, has_bad_range, loads, segment_fault};
+ghost use Rattle.elf32.specs.Faults.{least_fault, has_bad_range, loads, segment_fault};
 ghost use Rattle.elf32.specs.Image.{Gives, image_of, layout_of, segment_of};
 ghost use Rattle.elf32.specs.Layout.{IsPlaced};
 ghost use Rattle.elf32.specs.Readable.{IsInRange, IsReadable};
@@ -49,9 +49,9 @@ fn segment_fault(bytes: &[u8]) -> Option<ElfError>
 }
 
 /// The least-numbered fault of a file, or None where it has none.
-#[tactic(auto, unfolding(crate::specs::Faults::fault_of))]
+#[tactic(auto, unfolding(crate::specs::Faults::least_fault))]
 fn fault(bytes: &[u8]) -> Option<ElfError>
-    ensures value { result ≡ fault_of bytes.now }
+    ensures value { result ≡ least_fault bytes.now }
     ensures fault { IfSome result (λ e. e ≢ Memory) }
     ensures readable { IfNone result (IsReadable bytes.now) }
     ensures in_range { IfNone result (has_bad_range bytes.now ≡ false) }

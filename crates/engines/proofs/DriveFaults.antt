@@ -13,7 +13,7 @@ use Rattle.engines.specs.declared.fault.FileFault.TheVariants.{Unreadable, Unwri
 use Rattle.rv_ledger.specs.declared.job.Job.{Job}
 use Rattle.engines.specs.Driving.{IsFaultOfDrive, driven_answer, text_along, text_by, text_over}
 use Rattle.engines.specs.Engine.{job_over, loaded_job, programs_of}
-use Rattle.engines.specs.Parts.{IsDriveFault, IsJobFault}
+use Rattle.engines.specs.StageFaults.{IsDriveFault, IsJobFault}
 
 module _ (workers : ℕ) (schedule : Option (Result (List ℕ) BlockFault)) where
   with_programs : (block : BlockValue) (programs : Option (Result (List Layout) Refusal)) (e : Refusal) → IfSome (option_map (result_map_both (job_over block) (λ fault. fault)) programs) (λ w. w ≡ Err e) → IfSome (option_and_then (text_over block workers schedule) programs) (λ a. a ≡ Err e)

@@ -10,7 +10,7 @@ use Rattle.engines.specs.declared.fault.Refusal.{Refusal}
 use Rattle.engines.specs.declared.fault.Refusal.TheVariants.{File, Block, Elf, Asm, Seq, Schedule, Run, Drive, Debug, Output}
 use Rattle.engines.specs.declared.fault.FileFault.TheVariants.{Unreadable, Unwritable, TooLong}
 use Rattle.engines.specs.Engine.{answer_of, job_over, loaded_job, programs_of, result_of, IsFaultOf}
-use Rattle.engines.specs.Parts.{IsJobFault}
+use Rattle.engines.specs.StageFaults.{IsJobFault}
 
 with_programs : (block : BlockValue) (programs : Option (Result (List Layout) Refusal)) (e : Refusal) → IfSome (option_map (result_map_both (job_over block) (λ fault. fault)) programs) (λ w. w ≡ Err e) → IfSome (option_map (result_map_both (result_of block) (λ fault. fault)) programs) (λ a. a ≡ Err e)
 with_programs block None e h = tt

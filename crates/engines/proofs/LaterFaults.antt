@@ -6,7 +6,7 @@ use Rattle.block_file.specs.declared.fault.BlockFault.{BlockFault}
 use Rattle.engines.specs.declared.fault.Refusal.{Refusal}
 use Rattle.engines.specs.declared.fault.Refusal.TheVariants.{File, Block, Elf, Asm, Seq, Schedule, Run, Drive, Debug, Output}
 use Rattle.engines.specs.Debugging.{IsFaultOfDebug}
-use Rattle.engines.specs.Parts.{IsJobFault}
+use Rattle.engines.specs.StageFaults.{IsJobFault}
 use Rattle.engines.specs.Running.{IsFaultOfRun}
 use Rattle.engines.proofs.JobFaults.{job_fault}
 

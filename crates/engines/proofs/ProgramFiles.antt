@@ -7,8 +7,8 @@ use Rattle.elf32.specs.Layout.{Layout}
 use Rattle.engines.specs.declared.fault.Refusal.{Refusal}
 use Rattle.engines.specs.declared.fault.Refusal.TheVariants.{File, Block, Elf, Asm, Seq, Schedule, Run, Drive, Debug, Output}
 use Rattle.engines.specs.declared.fault.FileFault.TheVariants.{Unreadable, Unwritable, TooLong}
-use Rattle.engines.specs.Engine.{program_of, with_program, programs_of}
-use Rattle.engines.specs.Parts.{IsProgramFault}
+use Rattle.engines.specs.Engine.{layout_of_file, with_program, programs_of}
+use Rattle.engines.specs.StageFaults.{IsProgramFault}
 
 -- the programs of the first files, before those of the rest
 abbrev pub with_programs : List Layout → Result (List Layout) Refusal → Result (List Layout) Refusal
@@ -41,9 +41,9 @@ met_fault all file rest done (Debug fault) h w = w
 met_fault all file rest done (Output fault) h w = w
 
 -- a refusal of the next program is the one of all programs
-pub next_fault : {S : Type 0} (content known : List ℕ → Option (List ℕ)) (bytes_of : S → List ℕ) (paths : List S) (i : ℕ) (path : S) (text : List ℕ) (done : List Layout) (e : Refusal) → known ≡ content → i < length paths → path ≡ get_or paths i path → text ≡ bytes_of path → Loaded content (map bytes_of paths) (map bytes_of (drop i paths)) done → IsProgramFault (option_map program_of (known text)) e → IsProgramFault (programs_of content (map bytes_of paths)) e
+pub next_fault : {S : Type 0} (content known : List ℕ → Option (List ℕ)) (bytes_of : S → List ℕ) (paths : List S) (i : ℕ) (path : S) (text : List ℕ) (done : List Layout) (e : Refusal) → known ≡ content → i < length paths → path ≡ get_or paths i path → text ≡ bytes_of path → Loaded content (map bytes_of paths) (map bytes_of (drop i paths)) done → IsProgramFault (option_map layout_of_file (known text)) e → IsProgramFault (programs_of content (map bytes_of paths)) e
 next_fault content known bytes_of paths i path text done e same below is named loaded fault =
     let cut : drop i paths ≡ path ∷ drop (suc i) paths = subst (λ p. drop i paths ≡ p ∷ drop (suc i) paths) (sym is) (drop-cons paths i path below) in
-    met_fault (programs_of content (map bytes_of paths)) (option_map program_of (content (bytes_of path))) (programs_of content (map bytes_of (drop (suc i) paths))) done e
+    met_fault (programs_of content (map bytes_of paths)) (option_map layout_of_file (content (bytes_of path))) (programs_of content (map bytes_of (drop (suc i) paths))) done e
     (subst (λ rest. Loaded content (map bytes_of paths) (map bytes_of rest) done) cut loaded)
-    (subst (λ t. IsProgramFault (option_map program_of (content t)) e) named (subst (λ k. IsProgramFault (option_map program_of (k text)) e) same fault))
+    (subst (λ t. IsProgramFault (option_map layout_of_file (content t)) e) named (subst (λ k. IsProgramFault (option_map layout_of_file (k text)) e) same fault))

@@ -22,17 +22,17 @@ use Rattle.engines.specs.declared.fault.Refusal.TheVariants.{File, Block, Elf, S
 use Rattle.engines.specs.declared.fault.FileFault.TheVariants.{Unreadable, TooLong}
 
 -- the refusal of a list of worker numbers
-abbrev pub fault_of : list.Refusal → DriveFault
-fault_of list.NotDone = drive.NotDone
-fault_of list.BadWorker = drive.BadWorker
-fault_of (list.Limited ArenaFull) = drive.ArenaFull
-fault_of (list.Limited IncarnationLimit) = drive.IncarnationLimit
+abbrev pub drive_fault : list.Refusal → DriveFault
+drive_fault list.NotDone = drive.NotDone
+drive_fault list.BadWorker = drive.BadWorker
+drive_fault (list.Limited ArenaFull) = drive.ArenaFull
+drive_fault (list.Limited IncarnationLimit) = drive.IncarnationLimit
 
 -- the text of the result of calls along a list of worker numbers: where the list is not refused, it is the text of the
 -- calls run in order
 abbrev pub text_along : List Invocation → Storage → ℕ → List ℕ → Result (List ℕ) Refusal
 text_along calls store workers entries = result_map_both (λ s. result_text (receipts_of calls store) (store_after calls store))
-    (λ refusal. Drive (fault_of refusal)) (list.drive_of calls store workers entries)
+    (λ refusal. Drive (drive_fault refusal)) (list.drive_of calls store workers entries)
 
 -- the same for a schedule file; its first fault comes before those of the list
 abbrev pub text_by : BlockValue → List Layout → ℕ → Result (List ℕ) BlockFault → Result (List ℕ) Refusal

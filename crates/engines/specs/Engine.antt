@@ -20,8 +20,8 @@ use Rattle.engines.specs.declared.fault.Refusal.TheVariants.{File, Block, Elf, S
 use Rattle.engines.specs.declared.fault.FileFault.TheVariants.{TooLong, Unreadable}
 
 -- the program of a file of at most 131,072 bytes, or its fault
-abbrev pub program_of : List ℕ → Result Layout Refusal
-program_of bytes = if nat_lt 131072 (length bytes) then Err (File TooLong) else result_map_both (λ image. image) Elf (image_of bytes)
+abbrev pub layout_of_file : List ℕ → Result Layout Refusal
+layout_of_file bytes = if nat_lt 131072 (length bytes) then Err (File TooLong) else result_map_both (λ image. image) Elf (image_of bytes)
 
 -- a program before others, or the first fault; None where what decides this is unknown
 abbrev pub with_program : Option (Result Layout Refusal) → Option (Result (List Layout) Refusal) → Option (Result (List Layout) Refusal)
@@ -33,7 +33,7 @@ with_program (Some (Ok image)) rest = option_map (result_map_both (λ images. im
 -- file before the first faulty one is unknown
 abbrev pub programs_of : (List ℕ → Option (List ℕ)) → List (List ℕ) → Option (Result (List Layout) Refusal)
 programs_of content [] = Some (Ok [])
-programs_of content (path ∷ paths) = with_program (option_map program_of (content path)) (programs_of content paths)
+programs_of content (path ∷ paths) = with_program (option_map layout_of_file (content path)) (programs_of content paths)
 
 -- the call of a line under the rules of its block, over the program that has its number
 abbrev pub call_over : Rules → List Layout → CallValue → Invocation

@@ -1,6 +1,6 @@
 pub mod Engine
 pub mod Listing
-pub mod Parts
+pub mod StageFaults
 pub mod Driving
 pub mod Faults
 pub mod Running

@@ -6,7 +6,7 @@ ghost use Rattle.block_file.specs.Block.{block_of};
 ghost use Rattle.debugger.specs.Session.{AppendsBeginning, lines_of, session};
 ghost use Rattle.engines.specs.Debugging.{first_moment, replayed_text, IsFaultOfDebug, IsUnwrittenBefore};
 ghost use Rattle.engines.specs.Engine.{loaded_job};
-ghost use Rattle.engines.specs.Parts.{IsReplayFault, IsSessionFault};
+ghost use Rattle.engines.specs.StageFaults.{IsReplayFault, IsSessionFault};
 
 use crate::fault::{FileFault, Refusal, SeqFault};
 use crate::loading::load_job;

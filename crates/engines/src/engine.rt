@@ -9,7 +9,7 @@ ghost use Rattle.receipts.specs.Text.{result_text};
 ghost use Rattle.engines.specs.Counts.{AreCountsAlong};
 ghost use Rattle.engines.specs.Driving.{IsFaultOfDrive, driven_answer, text_along};
 ghost use Rattle.engines.specs.Engine.{answer_of, loaded_job, IsFaultOf, IsUnwritten};
-ghost use Rattle.engines.specs.Parts.{IsDriveFault, IsOutputFault, IsRunFault, IsScheduleFault, text_of};
+ghost use Rattle.engines.specs.StageFaults.{IsDriveFault, IsOutputFault, IsRunFault, IsScheduleFault, text_of};
 
 use crate::counts::RunCounts;
 use crate::fault::{Refusal, SeqFault};

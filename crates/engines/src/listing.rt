@@ -4,9 +4,9 @@ ghost use Rattle.std.specs.Prelude.{◌≡◌, ◌++◌, [], ◌∷◌, flat_map
 ghost use Rattle.std.specs.Io.KnownBytes.{Appends};
 ghost use Rattle.std.specs.Option.{option_map};
 ghost use Rattle.std.specs.String.{string_bytes};
-ghost use Rattle.engines.specs.Engine.{IsUnwritten, program_of};
+ghost use Rattle.engines.specs.Engine.{IsUnwritten, layout_of_file};
 ghost use Rattle.engines.specs.Listing.{IsListingFault, listing_line, listing_of, listing_of_file};
-ghost use Rattle.engines.specs.Parts.{IsProgramFault};
+ghost use Rattle.engines.specs.StageFaults.{IsProgramFault};
 ghost use Rattle.receipts.specs.Text.{word_text};
 
 use crate::fault::Refusal;
@@ -40,7 +40,7 @@ pub fn dis_to<R: Read, W: Write>(alloc: Global, file: &mut R, out: &mut W) -> Re
 /// The lines of an ELF file.
 fn listing<R: Read>(alloc: Global, file: &mut R) -> Result<String, Refusal>
     ensures ok { IfOk result (λ t. IfSome (R.remaining file.old) (λ bytes. listing_of_file bytes ≡ Ok (string_bytes t))) }
-    ensures err { IfErr result (λ e. IsProgramFault (option_map program_of (R.remaining file.old)) e) }
+    ensures err { IfErr result (λ e. IsProgramFault (option_map layout_of_file (R.remaining file.old)) e) }
 {
     let bytes = match read_elf(alloc, file) {
         Ok(bytes) => bytes,

@@ -5,8 +5,8 @@ ghost use Rattle.std.specs.Arc.{arc_value};
 ghost use Rattle.std.specs.Option.{option_map};
 ghost use Rattle.std.specs.String.{string_bytes};
 ghost use Rattle.block_file.specs.Block.{block_of, block_value, call_value};
-ghost use Rattle.engines.specs.Engine.{IsBlockFault, call_over, loaded_job, program_of, programs_of};
-ghost use Rattle.engines.specs.Parts.{IsLoadFault, IsProgramFault};
+ghost use Rattle.engines.specs.Engine.{IsBlockFault, call_over, loaded_job, layout_of_file, programs_of};
+ghost use Rattle.engines.specs.StageFaults.{IsLoadFault, IsProgramFault};
 
 use crate::fault::{FileFault, Refusal};
 use crate::programs::Programs;
@@ -112,8 +112,8 @@ fn load_all<P: Programs>(
 /// Opens, reads and loads a program.
 fn load_one<P: Programs>(alloc: Global, programs: &mut P, path: &str) -> Result<Arc<Image>, Refusal>
     ensures same { P.content programs.new ≡ P.content programs.old }
-    ensures ok { IfOk result (λ i. IfSome (P.content programs.old path.now) (λ bytes. program_of bytes ≡ Ok (arc_value i))) }
-    ensures err { IfErr result (λ e. IsProgramFault (option_map program_of (P.content programs.old path.now)) e) }
+    ensures ok { IfOk result (λ i. IfSome (P.content programs.old path.now) (λ bytes. layout_of_file bytes ≡ Ok (arc_value i))) }
+    ensures err { IfErr result (λ e. IsProgramFault (option_map layout_of_file (P.content programs.old path.now)) e) }
 {
     match read_program(alloc, programs, path) {
         Ok(bytes) => load_program(alloc, bytes.as_slice()),
@@ -130,7 +130,7 @@ fn read_program<P: Programs>(
     ensures same { P.content programs.new ≡ P.content programs.old }
     ensures ok { IfOk result (λ v. IfSome (P.content programs.old path.now) (λ bytes. v.items ≡ bytes)) }
     ensures short { IfOk result (λ v. vec_len v ≤ 131072) }
-    ensures err { IfErr result (λ e. IsProgramFault (option_map program_of (P.content programs.old path.now)) e) }
+    ensures err { IfErr result (λ e. IsProgramFault (option_map layout_of_file (P.content programs.old path.now)) e) }
 {
     let Ok(mut file) = programs.open(path) else {
         return Err(Refusal::File(FileFault::Unreadable));
@@ -141,8 +141,8 @@ fn read_program<P: Programs>(
 /// Loads the program of a file of at most 131,072 bytes.
 fn load_program(alloc: Global, bytes: &[u8]) -> Result<Arc<Image>, Refusal>
     requires { length bytes.now ≤ 131072 }
-    ensures ok { IfOk result (λ i. program_of bytes.now ≡ Ok (arc_value i)) }
-    ensures err { IfErr result (λ e. IsProgramFault (Some (program_of bytes.now)) e) }
+    ensures ok { IfOk result (λ i. layout_of_file bytes.now ≡ Ok (arc_value i)) }
+    ensures err { IfErr result (λ e. IsProgramFault (Some (layout_of_file bytes.now)) e) }
 {
     let image = match load(alloc, bytes) {
         Ok(image) => image,
@@ -168,7 +168,7 @@ fn job_of(
 {
     let mut calls = Vec::with_capacity(alloc, lines.len())?;
     for line in lines {
-        calls.push(call_of(rules, images, line)?)?;
+        calls.push(call_on_line(rules, images, line)?)?;
     }
     let Ok(job) = Job::new(calls, store) else {
         unreachable!()
@@ -177,7 +177,7 @@ fn job_of(
 }
 
 /// The call of a line over the loaded programs; refused where memory ran out.
-fn call_of(rules: Rules, images: &[Arc<Image>], line: CallLine) -> Result<Call, AllocError>
+fn call_on_line(rules: Rules, images: &[Arc<Image>], line: CallLine) -> Result<Call, AllocError>
     requires { line.program < length images.now }
     ensures { IfOk result (λ c. c ≡ call_over rules (map arc_value images.now) (call_value line)) }
 {

@@ -2,8 +2,8 @@
 
 ghost use Rattle.std.specs.Prelude.{◌≡◌, ◌⊎◌, ◌<◌, ◌≤◌, length, vec_len, IfOk, IfErr, IfSome, Option, Some};
 ghost use Rattle.std.specs.Option.{option_map};
-ghost use Rattle.engines.specs.Engine.{program_of};
-ghost use Rattle.engines.specs.Parts.{IsProgramFault};
+ghost use Rattle.engines.specs.Engine.{layout_of_file};
+ghost use Rattle.engines.specs.StageFaults.{IsProgramFault};
 
 use crate::fault::{FileFault, Refusal};
 use elf32::ElfError;
@@ -75,7 +75,7 @@ pub(crate) fn read_text<R: Read>(
 pub(crate) fn read_elf<R: Read>(alloc: Global, reader: &mut R) -> Result<Vec<u8>, Refusal>
     ensures ok { IfOk result (λ v. IfSome (R.remaining reader.old) (λ bytes. v.items ≡ bytes)) }
     ensures short { IfOk result (λ v. vec_len v ≤ 131072) }
-    ensures err { IfErr result (λ e. IsProgramFault (option_map program_of (R.remaining reader.old)) e) }
+    ensures err { IfErr result (λ e. IsProgramFault (option_map layout_of_file (R.remaining reader.old)) e) }
 {
     match read_whole(alloc, reader, PROGRAM_FILE_LIMIT) {
         Ok(bytes) => Ok(bytes),

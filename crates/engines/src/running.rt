@@ -5,7 +5,7 @@ ghost use Rattle.std.specs.Io.KnownBytes.{Appends};
 ghost use Rattle.block_file.specs.Block.{block_of};
 ghost use Rattle.engines.specs.Counts.{AreCountsOfRun};
 ghost use Rattle.engines.specs.Engine.{answer_of, loaded_job, IsUnwritten};
-ghost use Rattle.engines.specs.Parts.{IsWorkersFault, text_of};
+ghost use Rattle.engines.specs.StageFaults.{IsWorkersFault, text_of};
 ghost use Rattle.engines.specs.Running.{IsFaultOfRun, IsRefusalOf};
 ghost use Rattle.rv_step.specs.Fold.{receipts_of, store_after};
 ghost use Rattle.workers.specs.History.{AreOneWorkerCounts, HasHistory};

@@ -3,7 +3,7 @@
 ghost use Rattle.std.specs.Prelude.{◌≤◌, All, IfOk};
 ghost use Rattle.workers.specs.DoneCell.{IsPassOf};
 
-use crate::images::{COUNT, ECHO, KEY, call_of, copy_of, job_of};
+use crate::images::{COUNT, ECHO, KEY, assembled_call, copy_of, job_of};
 use crate::limits::{no_blocks, reserve_of, take_rest, take_space};
 use crate::rows::{ECHO_TEXT, ECHOED, are_counts, assert_text};
 use crate::taking::Taking;
@@ -122,7 +122,7 @@ fn chain_growth_refused(rt: HostRuntime) -> Result<(), Fail> {
     let mut executor = Executor::new(rt.alloc());
     assert_usable(&rt, rt.alloc(), &mut executor)?;
     let mut calls = Vec::with_capacity(rt.alloc(), 1)?;
-    calls.push(call_of(rt.alloc(), COUNT, KEY)?)?;
+    calls.push(assembled_call(rt.alloc(), COUNT, KEY)?)?;
     let mut blocks = Vec::with_capacity(rt.alloc(), 1)?;
     blocks.push((calls, 2_usize))?;
     let answer = chain_without_memory(&rt, rt.alloc(), &mut executor, blocks)?;

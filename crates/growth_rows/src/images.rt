@@ -48,7 +48,7 @@ pub const COND: &str = "addi s0,a0,32\necall\naddi t0,x0,-1\nbne a0,t0,16\naddi 
 pub const KEY: &[u8] = &[0x28; 32];
 
 /// The program of a source. A call that is refused as Memory is made once more.
-fn program_of(alloc: Global, source: &str) -> Result<Program, AsmError> {
+fn assembled(alloc: Global, source: &str) -> Result<Program, AsmError> {
     match assemble(alloc, source) {
         Err(
             AsmError {
@@ -93,8 +93,8 @@ fn input_of(alloc: Global, bytes: &[u8]) -> Result<Vec<u8>, AllocError> {
 }
 
 /// A call of a source.
-pub fn call_of(alloc: Global, source: &str, input: &[u8]) -> Result<Call, Fail> {
-    let file = file_of(alloc, &program_of(alloc, source)?)?;
+pub fn assembled_call(alloc: Global, source: &str, input: &[u8]) -> Result<Call, Fail> {
+    let file = file_of(alloc, &assembled(alloc, source)?)?;
     let image = shared(alloc, image_of(alloc, file.as_slice())?)?;
     Ok(Call::new(image, GAS, input_of(alloc, input)?)?)
 }
@@ -106,7 +106,7 @@ pub fn job_of(alloc: Global, sources: &[(&str, &[u8])]) -> Result<Job, Fail> {
         Err(_) => Vec::with_capacity(alloc, sources.len())?,
     };
     for (source, input) in sources {
-        calls.push(call_of(alloc, source, input)?)?;
+        calls.push(assembled_call(alloc, source, input)?)?;
     }
     Ok(Job::new(calls, Store::new(alloc))?)
 }

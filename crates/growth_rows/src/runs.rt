@@ -3,7 +3,7 @@
 ghost use Rattle.std.specs.Prelude.{◌≡◌, IfOk, IsSome, IsTrue};
 ghost use Rattle.rv_step.specs.Run.{IsPause, asked_key, is_running};
 
-use crate::images::{KEY, LEN, TOUCH, call_of};
+use crate::images::{KEY, LEN, TOUCH, assembled_call};
 use read_set::Origin;
 use rv_isa::Regs;
 use rv_ledger::{Call, End, Receipt, Value};
@@ -78,7 +78,7 @@ fn step(rt: &impl Abort, run: &mut Run) -> Result<(), AllocError>
 
 /// A run of a source at its start.
 fn run_of(alloc: Global, source: &str, input: &[u8]) -> Result<Run, Fail> {
-    let call = call_of(alloc, source, input)?;
+    let call = assembled_call(alloc, source, input)?;
     Ok(start_run(alloc, &call)?)
 }
 

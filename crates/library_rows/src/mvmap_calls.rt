@@ -135,7 +135,7 @@ fn assert_base(rt: &impl Abort, alloc: Global, map: &MvMap, reader: u16) -> Resu
 
 // Asserts that this many versions were placed in a map.
 fn assert_placed(rt: &impl Abort, map: &MvMap, count: usize) {
-    assert_eq!(rt; map.placed(), count);
+    assert_eq!(rt; map.record_count(), count);
 }
 
 // Publishes versions of calls 0 and 3 at a key, and one of call 4 at another key.

@@ -3,8 +3,8 @@
 use crate::source_lines::word;
 use rv_isa::{Reg, decode, encode};
 use rv_names::{
-    Cause, Section, Statement, branch_offset, instruction_text, jump_offset, load_number, mnemonic,
-    number, read_line, register, shape, trimmed, x_name,
+    Cause, Section, Statement, branch_offset, instruction_text, jump_offset, keyword, load_number,
+    mnemonic, number, read_line, register, trimmed, x_name,
 };
 use std::alloc::Global;
 use std::test::Fail;
@@ -142,7 +142,7 @@ fn x_name_of(name: &[u8]) -> Option<&'static str> {
 
 /// The mnemonic that a name is read as.
 fn mnemonic_of(name: &[u8]) -> Option<&'static str> {
-    Some(mnemonic(shape(name)?))
+    Some(mnemonic(keyword(name)?))
 }
 
 /// The first word of the two that load a number into a register.

@@ -2,13 +2,13 @@
 //! call sees what the calls before it wrote.
 #![tactic(auto)]
 
-pub mod answer;
+mod answer;
 mod laws;
-pub mod map;
+mod map;
 mod seek;
 mod slot;
 mod snapshot;
-pub mod walk;
+mod walk;
 
 pub use answer::Answer;
 pub use laws::{

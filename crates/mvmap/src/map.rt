@@ -42,7 +42,7 @@ impl MvMap {
     ghost use Rattle.std.specs.List.{All};
     ghost use Rattle.std.specs.FinMap as map;
     ghost use Rattle.std.specs.FinSet as set;
-    ghost use Rattle.version_arena.specs.ArenaState.{bytes_of, emptied, placed};
+    ghost use Rattle.version_arena.specs.ArenaState.{bytes_of, emptied, with_record};
     ghost use Rattle.version_arena.specs.declared.fault.ReserveFault.TheVariants.{ArenaFull};
     ghost use Rattle.mvmap.specs.Versions.{Estimate, HasNoEstimate, Place, Stands, entry_at};
     ghost use Rattle.mvmap.specs.Reading.{is_origin, reading, value_seen};
@@ -135,7 +135,7 @@ impl MvMap {
         requires bytes { bytes_of (change_copied change) ≤ self.old.arena.bytes }
         ensures versions { self.new.versions ≡ map.insert self.old.versions (key.now, writer) (Stands incarnation (change_copied change.entry)) }
         ensures places { self.new.places ≡ self.old.places }
-        ensures arena { self.new.arena ≡ placed writer incarnation (change_copied change.entry) self.old.arena }
+        ensures arena { self.new.arena ≡ with_record writer incarnation (change_copied change.entry) self.old.arena }
     {
         let id = self.arena.place(writer, incarnation, change);
         put(&mut self.slots, key, writer, Slot::Placed(id));
@@ -158,7 +158,7 @@ impl MvMap {
     }
 
     /// How many records the arena has, at most 1,048,576.
-    pub fn placed(&self) -> usize
+    pub fn record_count(&self) -> usize
         ensures placed { result ≡ length self.now.arena.records }
         ensures limit { result ≤ 1048576 }
     {

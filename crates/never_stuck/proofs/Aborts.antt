@@ -8,7 +8,7 @@ use Rattle.stm_state.specs.declared.state.CallState.{CallState}
 use Rattle.stm_state.specs.declared.state.Task.{Task}
 use Rattle.stm_state.specs.declared.state.Task.TheVariants.{Idle, Running, Marking}
 use Rattle.stm_state.specs.State.{State, fresh, call_at, task_at, with_call, with_task}
-use Rattle.stm_state.specs.Steps.{counted, one_step, next_incarnation, marked, aborted}
+use Rattle.stm_state.specs.Steps.{counted, one_step, next_incarnation, after_mark_estimate, after_finish_abort}
 use Rattle.stm_state.proofs.Tests.{not_lt_says}
 use Rattle.never_stuck.proofs.Settings.{Setting}
 use Rattle.never_stuck.proofs.Comes.{Comes, comes_here, comes_so}
@@ -30,12 +30,12 @@ module _ (w i : ℕ) (s : State) where
   abbrev again : CallState
   again = record (next_incarnation (call_at s i)) { status = Executing }
 
-  aborted_below : nat_lt i s.execution ≡ true → aborted w i s ≡ resumed (Running i [] None) again
-  unfolding aborted
+  aborted_below : nat_lt i s.execution ≡ true → after_finish_abort w i s ≡ resumed (Running i [] None) again
+  unfolding after_finish_abort
   aborted_below low = cond-true (nat_lt i s.execution) _ _ low
 
-  aborted_above : nat_lt i s.execution ≡ false → aborted w i s ≡ resumed Idle (next_incarnation (call_at s i))
-  unfolding aborted
+  aborted_above : nat_lt i s.execution ≡ false → after_finish_abort w i s ≡ resumed Idle (next_incarnation (call_at s i))
+  unfolding after_finish_abort
   aborted_above high = cond-false (nat_lt i s.execution) _ _ high
 
   resumed_kept : (task : Task) (call : CallState) → Kept w i s (counted one_step w (resumed task call))
@@ -74,7 +74,7 @@ module _ (setting : Setting) (w i : ℕ) (w_in : w < setting.workers) where
   pub abort_ends : (keys : List (List ℕ)) (s : State) → IsSound setting s → task_at s w ≡ Marking i keys → Comes setting (AbortOutcome w i s) (length keys + 1) 0 s
   abort_ends [] s h at = finishes s h at
   abort_ends (key ∷ keys) s h at =
-      let u : State = counted one_step w (marked w i key keys s) in
+      let u : State = counted one_step w (after_mark_estimate w i key keys s) in
       steps_on setting w w_in s h (length keys + 1) u (due_at setting w s (Marking i (key ∷ keys)) at) refl (omega arith)
       (λ k. comes_so (λ t. after_mark w i s u t (new_entry w i one_step (Marking i keys) key (Some Estimate) s) refl)
       (abort_ends keys u k (get_or-set_same s.tasks w (Marking i keys) Idle (worker_there setting s h w w_in))))

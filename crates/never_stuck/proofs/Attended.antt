@@ -17,7 +17,7 @@ use Rattle.never_stuck.proofs.Owed.{IsSound, worker_there, due_at, steps_on, com
 use Rattle.never_stuck.proofs.Validations.{ValidationOutcome, passes, takes_back, validation_ends}
 use Rattle.never_stuck.proofs.Aborts.{AbortOutcome, runs_again, readies, abort_ends}
 use Rattle.never_stuck.proofs.Tasks.{FreshOutcome, executes, parks_call, fresh_ends, same_call}
-use Rattle.never_stuck.proofs.Rests.{below_executed, asks_validation, asks_run}
+use Rattle.never_stuck.proofs.IdleStates.{below_executed, asks_validation, asks_run}
 
 -- nobody has a task; the other calls stay, or were ABORTING and are readied; call i's incarnation grows by at most so much; the
 -- execution index is the one that is given; and the validation index is past call i

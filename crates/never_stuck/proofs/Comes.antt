@@ -17,8 +17,8 @@ AreDone s = is_done s ≡ true
 -- the steps is refused for a limit. Where `strict` is true none is refused for an incarnation
 pub data Comes (setting : Setting) (P : State → Type 0) : ℕ → ℕ → State → Type 0 where
   comes_here : {n r : ℕ} {s : State} → P s → Comes setting P n r s
-  comes_on : {n r : ℕ} {s : State} (w m q : ℕ) (t : State) → w < setting.workers → due setting w s ≡ Some (Ok t) → m < n → t.placed + 256 * q ≤ s.placed + 256 * r → Comes setting P m q t → Comes setting P n r s
-  meets_full : {n r : ℕ} {s : State} (w : ℕ) → w < setting.workers → due setting w s ≡ Some (Err ArenaFull) → record_limit < s.placed + 256 * r → Comes setting P n r s
+  comes_on : {n r : ℕ} {s : State} (w m q : ℕ) (t : State) → w < setting.workers → due setting w s ≡ Some (Ok t) → m < n → t.record_count + 256 * q ≤ s.record_count + 256 * r → Comes setting P m q t → Comes setting P n r s
+  meets_full : {n r : ℕ} {s : State} (w : ℕ) → w < setting.workers → due setting w s ≡ Some (Err ArenaFull) → record_limit < s.record_count + 256 * r → Comes setting P n r s
   meets_spent : {n r : ℕ} {s : State} (w : ℕ) → w < setting.workers → due setting w s ≡ Some (Err IncarnationLimit) → setting.strict ≡ false → Comes setting P n r s
 
 module _ {setting : Setting} where
@@ -71,7 +71,7 @@ module _ (setting : Setting) where
   can_end {s = s} (meets_spent w w_in refused free) = meets (w ∷ []) IncarnationLimit (driven_refused w s IncarnationLimit w_in refused)
 
   -- where `strict` is true and the arena has room for the records, the list leads to the end, and is no longer than the bound
-  pub ends_within : setting.strict ≡ true → {n r : ℕ} {s : State} → s.placed + 256 * r ≤ record_limit → Comes setting AreDone n r s → EndsWithin n setting.calls setting.store setting.workers s
+  pub ends_within : setting.strict ≡ true → {n r : ℕ} {s : State} → s.record_count + 256 * r ≤ record_limit → Comes setting AreDone n r s → EndsWithin n setting.calls setting.store setting.workers s
   ends_within is {s = s} fits (comes_here done) = record { list = []; short = omega arith; state = s; ends = driven_done s done }
   ends_within is {s = s} fits (comes_on w a b t w_in made fewer room rest) =
       let more = ends_within is (omega (arith, fits, room)) rest in

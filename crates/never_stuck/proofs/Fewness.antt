@@ -13,11 +13,11 @@ use Rattle.rv_step.specs.declared.answer.StorageAnswer.{StorageAnswer}
 use Rattle.mvmap.specs.Reading.{reading}
 use Rattle.stm_state.specs.declared.state.Recorded.{Recorded}
 use Rattle.stm_state.specs.declared.state.Task.{Task}
-use Rattle.stm_state.specs.declared.state.Task.TheVariants.{Idle, Running, Moving, Validating, Marking}
+use Rattle.stm_state.specs.declared.state.Task.TheVariants.{Idle, Moving, Validating, Marking}
 use Rattle.stm_state.specs.State.{State, call_at, task_at, is_executed, is_ready, is_done}
-use Rattle.stm_state.specs.Steps.{Step, answered_with, ask_validation, ask_execution, asked, parked, resume_dependents, to_validate, executed, checked, decided, aborted, is_executed_at, keys_of, keys_to_move, left_over, next_stands, written_by, worker_step}
+use Rattle.stm_state.specs.Steps.{Step, answered_with, ask_validation, ask_execution, after_ask, after_park, resume_dependents, to_validate, after_finish_execution, after_check_read, after_decide, after_finish_abort, is_executed_at, keys_of, keys_to_move, left_over, next_stands, written_by, worker_step}
 use Rattle.stm_state.specs.Done.{Reached, started, stepped}
-use Rattle.stm_state.specs.Invariant.{Invariant}
+use Rattle.stm_state.proofs.Invariant.{Invariant}
 use Rattle.stm_state.proofs.Cases.{IsMade, by_ask, by_read, by_park, by_record, by_move, by_finish, by_check, by_decide, by_mark, by_abort, made}
 use Rattle.stm_state.proofs.Whole.{invariant_kept}
 use Rattle.never_stuck.proofs.Settings.{Setting, block}
@@ -26,11 +26,9 @@ use Rattle.never_stuck.proofs.Sizes.{borne_small, written_few}
 
 -- a task has at most 512 keys left
 abbrev pub HasFewKeys : Task → Type 0
-HasFewKeys Idle = Unit {0}
-HasFewKeys (Running i answers waits) = Unit {0}
 HasFewKeys (Moving i keys new) = length keys ≤ 512
-HasFewKeys (Validating i n left failed) = Unit {0}
 HasFewKeys (Marking i keys) = length keys ≤ 512
+HasFewKeys task = Unit {0}
 
 -- so it is with each task
 abbrev pub AllFewKeys : State → Type 0
@@ -52,7 +50,7 @@ module _ (w : ℕ) (s : State) (h : AllFewKeys s) where
   unfolding ask_execution
   ask_execution_few = cond_both (is_ready (call_at s s.execution).status) _ _ (λ t. AllFewKeys t) (λ _. takes _ tt) (λ _. h)
 
-  asked_few : AllFewKeys (asked w s)
+  asked_few : AllFewKeys (after_ask w s)
   asked_few = cond_both (is_done s) _ _ (λ t. AllFewKeys t) (λ _. h)
       (λ _. cond_both (nat_lt s.validation s.execution) _ _ (λ t. AllFewKeys t) (λ _. ask_validation_few)
       (λ _. cond_both (nat_lt s.execution (length s.calls)) _ _ (λ t. AllFewKeys t) (λ _. ask_execution_few) (λ _. h)))
@@ -66,22 +64,22 @@ module _ (w : ℕ) (s : State) (h : AllFewKeys s) where
       go (blocks_run b seen waits) = takes _ (subst HasFewKeys (sym waits) tt)
 
   -- a run that is parked or starts again
-  parked_few : (i b : ℕ) → AllFewKeys (parked w i b s)
-  unfolding parked
+  parked_few : (i b : ℕ) → AllFewKeys (after_park w i b s)
+  unfolding after_park
   parked_few i b = cond_both (is_executed (call_at s b).status) _ _ (λ t. AllFewKeys t) (λ _. takes _ tt) (λ _. takes _ tt)
 
   -- a check of a read, a decision and the end of an abort
-  checked_few : (i n left : ℕ) → AllFewKeys (checked w i n left s)
-  unfolding checked
+  checked_few : (i n left : ℕ) → AllFewKeys (after_check_read w i n left s)
+  unfolding after_check_read
   checked_few i n left = cond_both (is_executed_at n (call_at s i)) _ _ (λ t. AllFewKeys t)
       (λ _. cond_both (next_stands i (suc left) s) _ _ (λ t. AllFewKeys t) (λ _. takes _ tt) (λ _. takes _ tt)) (λ _. takes _ tt)
 
-  decided_few : (i n : ℕ) (failed : Bool) → length (keys_of (written_by (call_at s i).last)) ≤ 256 → AllFewKeys (decided w i n failed s)
-  unfolding decided
+  decided_few : (i n : ℕ) (failed : Bool) → length (keys_of (written_by (call_at s i).last)) ≤ 256 → AllFewKeys (after_decide w i n failed s)
+  unfolding after_decide
   decided_few i n failed few = cond_both (failed && is_executed_at n (call_at s i)) _ _ (λ t. AllFewKeys t) (λ _. takes _ (omega (arith, few))) (λ _. takes _ tt)
 
-  aborted_few : (i : ℕ) → AllFewKeys (aborted w i s)
-  unfolding aborted
+  aborted_few : (i : ℕ) → AllFewKeys (after_finish_abort w i s)
+  unfolding after_finish_abort
   aborted_few i = cond_both (nat_lt i s.execution) _ _ (λ t. AllFewKeys t) (λ _. takes _ tt) (λ _. takes _ tt)
 
   -- what is validated again after an execution
@@ -90,7 +88,7 @@ module _ (w : ℕ) (s : State) (h : AllFewKeys s) where
   to_validate_few i n left new = cond_both (nat_lt i s.validation) _ _ (λ t. AllFewKeys t) (λ _. cond_both new _ _ (λ t. AllFewKeys t) (λ _. takes _ tt) (λ _. takes _ tt)) (λ _. takes _ tt)
 
 -- the end of an execution
-executed_few : (w : ℕ) (s : State) → AllFewKeys s → (i : ℕ) (new : Bool) → AllFewKeys (executed w i new s)
+executed_few : (w : ℕ) (s : State) → AllFewKeys s → (i : ℕ) (new : Bool) → AllFewKeys (after_finish_execution w i new s)
 unfolding resume_dependents
 executed_few w s h i new = to_validate_few w _ h i (call_at s i).incarnation _ new
 

@@ -9,7 +9,7 @@ use Rattle.stm_state.specs.declared.state.CallState.{CallState}
 use Rattle.stm_state.specs.declared.state.Task.{Task}
 use Rattle.stm_state.specs.declared.state.Task.TheVariants.{Idle}
 use Rattle.stm_state.specs.State.{State, fresh, call_at, task_at, with_call, with_task}
-use Rattle.stm_state.specs.Steps.{counted, next_incarnation, is_parked_on, lowered}
+use Rattle.stm_state.specs.Steps.{counted, next_incarnation, is_parked_on, least_parked_call}
 use Rattle.stm_state.proofs.Writes.{changed_other}
 
 -- ---- three relations of states, each weaker than the one before
@@ -166,7 +166,7 @@ lowered_joined i x p y call calls true on (inr lower) = let less = lower.0 in le
 lowered_joined i x p y call calls false off (inl same) = inl same
 lowered_joined i x p y call calls false off (inr lower) = let at = lower.1.1 in inr (lower.0, (suc lower.1.0, omega (arith, at), lower.1.2))
 
-pub lowered_is : (i x p : ℕ) (calls : List CallState) → IsLoweredTo i x p calls (lowered i x p calls)
+pub lowered_is : (i x p : ℕ) (calls : List CallState) → IsLoweredTo i x p calls (least_parked_call i x p calls)
 lowered_is i x p [] = inl refl
 lowered_is i x p (call ∷ calls) =
-    lowered_joined i x p (lowered i (cond (is_parked_on i call) (min x p) x) (p + 1) calls) call calls (is_parked_on i call) refl (lowered_is i (cond (is_parked_on i call) (min x p) x) (p + 1) calls)
+    lowered_joined i x p (least_parked_call i (cond (is_parked_on i call) (min x p) x) (p + 1) calls) call calls (is_parked_on i call) refl (lowered_is i (cond (is_parked_on i call) (min x p) x) (p + 1) calls)

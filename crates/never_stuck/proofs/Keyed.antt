@@ -1,12 +1,12 @@
 -- A run that was answered a key which its call does not ask for is borne out by nothing.
-use Rattle.std.proofs.Common.{◌≡◌, ◌≢◌, ◌<◌, ◌++◌, ◌+◌, ℕ, suc, false, List, [], ◌∷◌, length, None, Some, Ok, length-set, arith, sym, ap, subst, ◌∙◌}
+use Rattle.std.proofs.Common.{◌≡◌, ◌≢◌, ◌<◌, ◌++◌, ◌+◌, ℕ, false, List, [], ◌∷◌, length, None, Some, Ok, length-set, arith, sym, ap, subst, ◌∙◌}
 use Rattle.std.proofs.lemmas.Bool.{false_from_ne_true}
 use Rattle.std.proofs.lemmas.List.{get_or-set_same, length-replicate}
 use Rattle.rv_ledger.specs.Key.{Storage}
 use Rattle.rv_ledger.specs.Call.{Invocation}
 use Rattle.rv_ledger.specs.declared.receipt.Receipt.{Receipt}
 use Rattle.rv_step.specs.Asked.{asked_by}
-use Rattle.rv_step.specs.Chain.{borne_out, start as call_start}
+use Rattle.rv_step.specs.Chain.{borne_out}
 use Rattle.rv_step.specs.Replies.{replies_of}
 use Rattle.rv_step.specs.declared.answer.StorageAnswer.{StorageAnswer}
 use Rattle.rv_step.proofs.Askings.{chain_asks}
@@ -24,7 +24,7 @@ use Rattle.stm_state.proofs.Walks.{walk_first, walk_none}
 use Rattle.stm_state.proofs.Whole.{start_kept}
 use Rattle.never_stuck.specs.Astray.{KeyedListsGoAstray, NeverEnds}
 use Rattle.never_stuck.proofs.Seen.{ReadOutcome, answers_run, blocks_run, read_outcome, blocker_lower}
-use Rattle.never_stuck.proofs.Rests.{asks_run}
+use Rattle.never_stuck.proofs.IdleStates.{asks_run}
 
 -- worker 0 runs call 0, whose first answer was to this key
 record IsAstray (key : List ℕ) (s : State) : Type 0 where
@@ -44,7 +44,7 @@ module _ (call : Invocation) (store : Storage) (key : List ℕ) (never : asked_b
 
   -- no receipt is borne out
   not_borne : (first : StorageAnswer) (rest : List StorageAnswer) (receipt : Receipt) → first.key ≡ key → borne_out call (replies_of (first ∷ rest)) ≡ Some receipt → ⊥
-  not_borne first rest receipt is borne = never (chain_asks call.gas (suc call.gas) (call_start call) [] (replies_of (first ∷ rest)) receipt borne ∙ ap Some is)
+  not_borne first rest receipt is borne = never (chain_asks call [] (replies_of (first ∷ rest)) receipt borne ∙ ap Some is)
 
   -- a run of call 0 is the one that goes astray
   same_run : (i : ℕ) (answers : List StorageAnswer) (first : StorageAnswer) (rest : List StorageAnswer) → Running 0 (first ∷ rest) None ≡ Running i answers None → (i ≡ 0) × (answers ≡ first ∷ rest)

@@ -12,7 +12,7 @@ pub mod Runs
 pub mod Moves
 pub mod Tasks
 pub mod Workers
-pub mod Rests
+pub mod IdleStates
 pub mod Attended
 pub mod Unstuck
 pub mod Lists

@@ -6,7 +6,7 @@ use Rattle.std.proofs.lemmas.List.Elements.{All-from_get_or}
 use Rattle.rv_ledger.specs.Key.{Storage}
 use Rattle.rv_ledger.specs.Call.{Invocation}
 use Rattle.stm_state.specs.declared.state.Task.{Task}
-use Rattle.stm_state.specs.declared.state.Task.TheVariants.{Idle, Running, Moving, Validating, Marking}
+use Rattle.stm_state.specs.declared.state.Task.TheVariants.{Idle, Running}
 use Rattle.stm_state.specs.Limits.{incarnation_limit}
 use Rattle.stm_state.specs.State.{State, start, task_at}
 use Rattle.stm_state.specs.Steps.{Limit}
@@ -14,7 +14,7 @@ use Rattle.stm_state.specs.Done.{Reached}
 use Rattle.stm_state.specs.Drive.{DrivenTo, at_start, made_step, NotDone, BadWorker, continue_drive, due_result, driven, drive_of}
 use Rattle.stm_state.proofs.Tests.{lt_says}
 use Rattle.stm_state.proofs.Whole.{invariant_kept}
-use Rattle.stm_state.proofs.Dues.{Goes, AllGo, all_go, reached_where_led, due_where_led}
+use Rattle.stm_state.proofs.DueSteps.{Goes, AllGo, all_go, reached_where_led, due_where_led}
 use Rattle.never_stuck.specs.Ending.{CanEnd, ends, meets, EndsWithin, IsContinued, to_end, to_limit}
 use Rattle.never_stuck.specs.Far.{HasAtMostGas, IsFarFromLimits, entries_to_end}
 use Rattle.never_stuck.specs.Stuck.{NeverStuck, NeverStuckFarFromLimits, NeverStuckWhereReached, NoListIsDeadEnd, RunsGoOn}
@@ -36,11 +36,8 @@ module _ (setting : Setting) (s : State) where
 -- where each run goes on, so does each task's
 module _ (calls : List Invocation) (s : State) (on : RunsGoOn calls s) where
   goes_by : (w : ℕ) (task : Task) → task_at s w ≡ task → Goes calls task
-  goes_by w Idle at = tt
   goes_by w (Running i answers waits) at = λ call there. on w i answers waits call at there
-  goes_by w (Moving i keys new) at = tt
-  goes_by w (Validating i n left failed) at = tt
-  goes_by w (Marking i keys) at = tt
+  goes_by w task at = tt
 
   all_go_on : AllGo calls s
   all_go_on = All-from_get_or (Goes calls) s.tasks Idle (λ w less. goes_by w (task_at s w) refl)

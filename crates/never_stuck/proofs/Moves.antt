@@ -9,8 +9,8 @@ use Rattle.stm_state.specs.declared.state.CallState.{CallState}
 use Rattle.stm_state.specs.declared.state.Task.{Task}
 use Rattle.stm_state.specs.declared.state.Task.TheVariants.{Idle, Moving, Validating}
 use Rattle.stm_state.specs.State.{State, fresh, call_at, task_at, with_task}
-use Rattle.stm_state.specs.Steps.{counted, one_step, reads_of, is_parked_on, resume_if_parked, lowered, resume_dependents, to_validate, moved, executed, version_of}
-use Rattle.stm_state.proofs.Wakes.{readied_cases, parked_aborting}
+use Rattle.stm_state.specs.Steps.{counted, one_step, reads_of, is_parked_on, resume_if_parked, least_parked_call, resume_dependents, to_validate, after_move_key, after_finish_execution, version_of}
+use Rattle.stm_state.proofs.Resumptions.{readied_cases, parked_aborting}
 use Rattle.stm_state.proofs.Finishes.{mapped_at}
 use Rattle.stm_state.proofs.Tests.{lt_says}
 use Rattle.never_stuck.proofs.Settings.{Setting}
@@ -53,7 +53,7 @@ module _ (w i : ℕ) (new : Bool) (s : State) (i_in : i < length s.calls) where
 
   -- the execution index afterwards
   abbrev lower : ℕ
-  lower = lowered i s.execution 0 (set s.calls i done)
+  lower = least_parked_call i s.execution 0 (set s.calls i done)
 
   -- the state afterwards, with a task and a validation index
   abbrev finished : Task → ℕ → State
@@ -67,20 +67,20 @@ module _ (w i : ℕ) (new : Bool) (s : State) (i_in : i < length s.calls) where
   record Finish : Type 0 where
     task : Task
     validation : ℕ
-    is : executed w i new s ≡ finished task validation
+    is : after_finish_execution w i new s ≡ finished task validation
     kind : (task ≡ Idle) ⊎ (task ≡ check)
     not_raised : validation ≤ s.validation
     not_below : min s.validation i ≤ validation
 
-  below_new : nat_lt i s.validation ≡ true → new ≡ true → executed w i new s ≡ finished Idle i
+  below_new : nat_lt i s.validation ≡ true → new ≡ true → after_finish_execution w i new s ≡ finished Idle i
   unfolding to_validate resume_dependents
   below_new low is = cond-true (nat_lt i s.validation) _ _ low ∙ cond-true new _ _ is
 
-  below_old : nat_lt i s.validation ≡ true → new ≡ false → executed w i new s ≡ finished check s.validation
+  below_old : nat_lt i s.validation ≡ true → new ≡ false → after_finish_execution w i new s ≡ finished check s.validation
   unfolding to_validate resume_dependents
   below_old low is = cond-true (nat_lt i s.validation) _ _ low ∙ cond-false new _ _ is
 
-  above : nat_lt i s.validation ≡ false → executed w i new s ≡ finished Idle s.validation
+  above : nat_lt i s.validation ≡ false → after_finish_execution w i new s ≡ finished Idle s.validation
   unfolding to_validate resume_dependents
   above high = cond-false (nat_lt i s.validation) _ _ high
 
@@ -151,7 +151,7 @@ module _ (setting : Setting) (w i : ℕ) (new : Bool) (w_in : w < setting.worker
   pub move_ends : (keys : List (List ℕ)) (s : State) → IsSound setting s → task_at s w ≡ Moving i keys new → Comes setting (MoveOutcome w i s) (length keys + 1) 0 s
   move_ends [] s h at = finishes s h at
   move_ends (key ∷ keys) s h at =
-      let u : State = counted one_step w (moved w i key keys new s) in
+      let u : State = counted one_step w (after_move_key w i key keys new s) in
       steps_on setting w w_in s h (length keys + 1) u (due_at setting w s (Moving i (key ∷ keys) new) at) refl (omega arith)
       (λ k. comes_so (λ t. after_move w i s u t (new_entry w i one_step (Moving i keys new) key (version_of (call_at s i) key) s) refl)
       (move_ends keys u k (get_or-set_same s.tasks w (Moving i keys new) Idle (worker_there setting s h w w_in))))

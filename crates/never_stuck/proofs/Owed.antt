@@ -9,16 +9,16 @@ use Rattle.stm_state.specs.declared.state.Task.{Task}
 use Rattle.stm_state.specs.declared.state.Task.TheVariants.{Idle, Running}
 use Rattle.stm_state.specs.Limits.{record_limit, incarnation_limit}
 use Rattle.stm_state.specs.State.{State, call_at, task_at}
-use Rattle.stm_state.specs.Steps.{ArenaFull, IncarnationLimit, counted, one_execution, one_step, parked, recorded, record_within, step_with}
+use Rattle.stm_state.specs.Steps.{ArenaFull, IncarnationLimit, counted, one_execution, one_step, after_park, after_record, record_within, step_with}
 use Rattle.stm_state.specs.Done.{borne_out_by}
 use Rattle.stm_state.specs.Drive.{asked_at, due_step, due_step_of_run}
-use Rattle.stm_state.specs.Invariant.{Invariant, named_by}
+use Rattle.stm_state.proofs.Invariant.{Invariant, named_by}
 use Rattle.stm_state.proofs.Cases.{made}
 use Rattle.stm_state.proofs.Tests.{lt_says, not_le_is}
 use Rattle.stm_state.proofs.Whole.{worker_kept}
 use Rattle.stm_state.proofs.Phases.{call_there}
-use Rattle.stm_state.proofs.Goings.{goes_last}
-use Rattle.stm_state.proofs.Dues.{Goes, AllGo, made_goes}
+use Rattle.stm_state.proofs.FurtherAsks.{goes_last}
+use Rattle.stm_state.proofs.DueSteps.{Goes, AllGo, made_goes}
 use Rattle.never_stuck.proofs.Settings.{Setting, block, due}
 use Rattle.never_stuck.proofs.Sizes.{borne_small}
 use Rattle.never_stuck.proofs.Fewness.{AllFewKeys, HasFewKeys, few_after}
@@ -72,7 +72,7 @@ module _ (setting : Setting) where
 
   module _ (w : ℕ) (w_in : w < setting.workers) (s : State) (h : IsSound setting s) where
     -- a step that is made and records nothing
-    pub steps_on : {P : State → Type 0} {n r : ℕ} (m : ℕ) (t : State) → due setting w s ≡ Some (Ok t) → t.placed ≡ s.placed → m < n → (IsSound setting t → Comes setting P m r t) → Comes setting P n r s
+    pub steps_on : {P : State → Type 0} {n r : ℕ} (m : ℕ) (t : State) → due setting w s ≡ Some (Ok t) → t.record_count ≡ s.record_count → m < n → (IsSound setting t → Comes setting P m r t) → Comes setting P n r s
     steps_on {r = r} m t is same fewer rest = comes_on w m r t w_in is fewer (omega (arith, same)) (rest (sound_on w s t w_in is h))
 
     module _ (i : ℕ) (low : setting.strict ≡ true → (call_at s i).incarnation < incarnation_limit) where
@@ -82,12 +82,12 @@ module _ (setting : Setting) where
       not_strict true is spent = let below = not_le_is incarnation_limit (call_at s i).incarnation (low is) in cc
 
       -- a run that met an estimate is parked or starts again, or is refused
-      parks_by : {P : State → Type 0} {n r : ℕ} (m : ℕ) (t : State) → t.placed ≡ s.placed → (spent : Bool) → nat_le incarnation_limit (call_at s i).incarnation ≡ spent → due setting w s ≡ (if spent then Some (Err IncarnationLimit) else Some (Ok t))
+      parks_by : {P : State → Type 0} {n r : ℕ} (m : ℕ) (t : State) → t.record_count ≡ s.record_count → (spent : Bool) → nat_le incarnation_limit (call_at s i).incarnation ≡ spent → due setting w s ≡ (if spent then Some (Err IncarnationLimit) else Some (Ok t))
           → m < n → (IsSound setting t → Comes setting P m r t) → Comes setting P n r s
       parks_by m t same true at_limit is fewer rest = meets_spent w w_in is (not_strict setting.strict refl at_limit)
       parks_by m t same false at_limit is fewer rest = steps_on m t is same fewer rest
 
-      pub parks_on : {P : State → Type 0} {n r : ℕ} (m : ℕ) (answers : List StorageAnswer) (b : ℕ) (t : State) → task_at s w ≡ Running i answers (Some b) → parked w i b s ≡ t → t.placed ≡ s.placed
+      pub parks_on : {P : State → Type 0} {n r : ℕ} (m : ℕ) (answers : List StorageAnswer) (b : ℕ) (t : State) → task_at s w ≡ Running i answers (Some b) → after_park w i b s ≡ t → t.record_count ≡ s.record_count
           → m < n → (IsSound setting (counted one_step w t) → Comes setting P m r (counted one_step w t)) → Comes setting P n r s
       parks_on m answers b t at is same fewer rest =
           parks_by m (counted one_step w t) same (nat_le incarnation_limit (call_at s i).incarnation) refl
@@ -95,24 +95,24 @@ module _ (setting : Setting) where
 
       module _ (answers : List StorageAnswer) (receipt : Receipt) where
         -- the state after the run is recorded
-        abbrev pub after_record : State
-        after_record = counted one_execution w (recorded w i answers receipt s)
+        abbrev pub recorded_state : State
+        recorded_state = counted one_execution w (after_record w i answers receipt s)
 
         -- a run that has ended is recorded, or refused
-        records_by : {P : State → Type 0} {n k : ℕ} (m r : ℕ) → len receipt.writes ≤ 256 → (full spent : Bool) → nat_lt record_limit (s.placed + len receipt.writes) ≡ full → nat_le incarnation_limit (call_at s i).incarnation ≡ spent
-            → due setting w s ≡ (if full then Some (Err ArenaFull) else if spent then Some (Err IncarnationLimit) else Some (Ok after_record)) → m < n → r < k → (IsSound setting after_record → Comes setting P m r after_record) → Comes setting P n k s
-        records_by m r few true spent is_full at_limit is fewer less rest = meets_full w w_in is (let over = lt_says record_limit (s.placed + len receipt.writes) is_full in omega (arith, over, few, less))
+        records_by : {P : State → Type 0} {n k : ℕ} (m r : ℕ) → len receipt.writes ≤ 256 → (full spent : Bool) → nat_lt record_limit (s.record_count + len receipt.writes) ≡ full → nat_le incarnation_limit (call_at s i).incarnation ≡ spent
+            → due setting w s ≡ (if full then Some (Err ArenaFull) else if spent then Some (Err IncarnationLimit) else Some (Ok recorded_state)) → m < n → r < k → (IsSound setting recorded_state → Comes setting P m r recorded_state) → Comes setting P n k s
+        records_by m r few true spent is_full at_limit is fewer less rest = meets_full w w_in is (let over = lt_says record_limit (s.record_count + len receipt.writes) is_full in omega (arith, over, few, less))
         records_by m r few false true is_full at_limit is fewer less rest = meets_spent w w_in is (not_strict setting.strict refl at_limit)
-        records_by m r few false false is_full at_limit is fewer less rest = comes_on w m r after_record w_in is fewer (omega (arith, few, less)) (rest (sound_on w s after_record w_in is h))
+        records_by m r few false false is_full at_limit is fewer less rest = comes_on w m r recorded_state w_in is fewer (omega (arith, few, less)) (rest (sound_on w s recorded_state w_in is h))
 
       pub records_on : {P : State → Type 0} {n k : ℕ} (m r : ℕ) (answers : List StorageAnswer) → task_at s w ≡ Running i answers None → asked_at (slice_get setting.calls i) (replies_of answers) ≡ None
-          → m < n → r < k → ((receipt : Receipt) → IsSound setting (counted one_execution w (recorded w i answers receipt s)) → Comes setting P m r (counted one_execution w (recorded w i answers receipt s))) → Comes setting P n k s
+          → m < n → r < k → ((receipt : Receipt) → IsSound setting (counted one_execution w (after_record w i answers receipt s)) → Comes setting P m r (counted one_execution w (after_record w i answers receipt s))) → Comes setting P n k s
       records_on m r answers at asks fewer less rest =
           let within = h.inv.facts.named w i (ap named_by at) in
           let call = call_there setting.calls i within in
           let ended = goes_last call.0 (replies_of answers) (task_goes s h w w_in (Running i answers None) at call.0 call.1) (ap (λ o. asked_at o (replies_of answers)) (sym call.1) ∙ asks) in
           let bears : (block setting).borne_out i (replies_of answers) ≡ Some ended.0 = ap (λ o. borne_out_by o (replies_of answers)) call.1 ∙ ended.1 in
           let small = borne_small setting i (replies_of answers) ended.0 bears in
-          records_by answers ended.0 m r small.0 (nat_lt record_limit (s.placed + len ended.0.writes)) (nat_le incarnation_limit (call_at s i).incarnation) refl refl
+          records_by answers ended.0 m r small.0 (nat_lt record_limit (s.record_count + len ended.0.writes)) (nat_le incarnation_limit (call_at s i).incarnation) refl refl
           (due_at w s (Running i answers None) at ∙ ap (λ o. step_with (block setting) w (Running i answers None) (due_step_of_run o) s) asks ∙ ap (λ o. record_within i answers w o s) bears)
           fewer less (rest ended.0)

@@ -13,9 +13,9 @@ use Rattle.stm_state.specs.declared.state.Task.{Task}
 use Rattle.stm_state.specs.declared.state.Task.TheVariants.{Idle, Running, Moving}
 use Rattle.stm_state.specs.Limits.{incarnation_limit}
 use Rattle.stm_state.specs.State.{State, fresh, call_at, task_at, with_call, with_task, is_executed}
-use Rattle.stm_state.specs.Steps.{counted, one_step, one_execution, answered_with, read_of, reads_of, parked, recorded, recorded_run, keys_to_move, has_new_key, step_with}
+use Rattle.stm_state.specs.Steps.{counted, one_step, one_execution, answered_with, read_of, reads_of, after_park, after_record, recorded_run, keys_to_move, has_new_key, step_with}
 use Rattle.stm_state.specs.Drive.{asked_at, due_step_of_run}
-use Rattle.stm_state.specs.Invariant.{named_by}
+use Rattle.stm_state.proofs.Invariant.{named_by}
 use Rattle.stm_state.proofs.Tests.{is_executed_says}
 use Rattle.stm_state.proofs.Phases.{call_there}
 use Rattle.stm_state.proofs.Rounds.{Answered}
@@ -37,8 +37,8 @@ abbrev pub waiting : ℕ → CallState → CallState
 waiting b call = record call { status = Aborting; parked = Some b }
 
 -- a run that met the estimate of a call that is not EXECUTED is parked
-pub parked_is : (w i b : ℕ) (s : State) → (call_at s b).status ≢ Executed → parked w i b s ≡ with_task w Idle (with_call i (waiting b (call_at s i)) s)
-unfolding parked
+pub parked_is : (w i b : ℕ) (s : State) → (call_at s b).status ≢ Executed → after_park w i b s ≡ with_task w Idle (with_call i (waiting b (call_at s i)) s)
+unfolding after_park
 parked_is w i b s ne = cond-false (is_executed (call_at s b).status) _ _ (false_from_ne_true (is_executed (call_at s b).status) (λ e. ne (is_executed_says (call_at s b).status e)))
 
 module _ (setting : Setting) (w i : ℕ) (w_in : w < setting.workers) where
@@ -49,7 +49,7 @@ module _ (setting : Setting) (w i : ℕ) (w_in : w < setting.workers) where
     there = named_there setting s h w w_in (Running i answers None) i at refl
 
     -- it is kept
-    kept_run : (receipt : Receipt) → RunOutcome w i answers s (counted one_execution w (recorded w i answers receipt s))
+    kept_run : (receipt : Receipt) → RunOutcome w i answers s (counted one_execution w (after_record w i answers receipt s))
     kept_run receipt =
         let call : CallState = record (call_at s i) { last = Some (recorded_run answers receipt) } in
         let keys = keys_to_move (call_at s i).last receipt.writes in

@@ -11,7 +11,7 @@ use Rattle.stm_state.specs.declared.state.Status.TheVariants.{Executed}
 use Rattle.stm_state.specs.declared.state.Task.TheVariants.{Running}
 use Rattle.stm_state.specs.State.{State, call_at}
 use Rattle.stm_state.specs.Steps.{Block, answered_by, answered_with, read_of, write_of}
-use Rattle.stm_state.specs.Invariant.{view_of, ViewInvariant}
+use Rattle.stm_state.proofs.Invariant.{view_of, ViewInvariant}
 use Rattle.stm_state.proofs.Lists.{all_same}
 use Rattle.stm_state.proofs.Asks.{executed_entries}
 use Rattle.stm_state.proofs.Serials.{no_estimate}

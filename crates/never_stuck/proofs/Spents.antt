@@ -6,10 +6,10 @@ use Rattle.stm_state.specs.declared.state.CallState.{CallState}
 use Rattle.stm_state.specs.declared.state.Task.{Task}
 use Rattle.stm_state.specs.declared.state.Status.TheVariants.{Executed}
 use Rattle.stm_state.specs.State.{State, fresh, call_at, is_executed, is_ready, is_done}
-use Rattle.stm_state.specs.Steps.{Block, Step, ask_validation, ask_execution, asked, parked, resume_if_parked, resume_dependents, to_validate, executed, checked, decided, aborted, is_executed_at, next_stands}
+use Rattle.stm_state.specs.Steps.{Block, Step, ask_validation, ask_execution, after_ask, after_park, resume_if_parked, resume_dependents, to_validate, after_finish_execution, after_check_read, after_decide, after_finish_abort, is_executed_at, next_stands}
 use Rattle.stm_state.specs.Walk.{walk}
-use Rattle.stm_state.proofs.Cases.{IsMade, by_ask, by_read, by_park, by_record, by_move, by_finish, by_check, by_decide, by_mark, by_abort, made}
-use Rattle.stm_state.proofs.Wakes.{readied_cases}
+use Rattle.stm_state.proofs.Cases.{IsMade, by_ask, by_park, by_record, by_finish, by_check, by_decide, by_abort, made}
+use Rattle.stm_state.proofs.Resumptions.{readied_cases}
 use Rattle.stm_state.proofs.Finishes.{mapped_at}
 use Rattle.stm_state.proofs.Walks.{walk_first, walk_none, reached_on}
 use Rattle.stm_state.proofs.Whole.{invariant_kept}
@@ -61,7 +61,7 @@ module _ (w : ℕ) (s : State) where
   stays : AreGrown s.calls s.calls
   stays = grown_itself s.calls
 
-  asked_grown : IsGrown s (asked w s)
+  asked_grown : IsGrown s (after_ask w s)
   unfolding ask_validation ask_execution
   asked_grown = cond_both (is_done s) _ _ (λ t. IsGrown s t) (λ _. stays)
       (λ _. cond_both (nat_lt s.validation s.execution) _ _ (λ t. IsGrown s t)
@@ -69,47 +69,45 @@ module _ (w : ℕ) (s : State) where
       (λ _. cond_both (nat_lt s.execution (length s.calls)) _ _ (λ t. IsGrown s t)
       (λ _. cond_both (is_ready (call_at s s.execution).status) _ _ (λ t. IsGrown s t) (λ _. sets s.execution _ (omega arith)) (λ _. stays)) (λ _. stays)))
 
-  parked_grown : (i b : ℕ) → IsGrown s (parked w i b s)
-  unfolding parked
+  parked_grown : (i b : ℕ) → IsGrown s (after_park w i b s)
+  unfolding after_park
   parked_grown i b = cond_both (is_executed (call_at s b).status) _ _ (λ t. IsGrown s t) (λ _. stays) (λ _. sets i _ (omega arith))
 
-  checked_grown : (i n left : ℕ) → IsGrown s (checked w i n left s)
-  unfolding checked
+  checked_grown : (i n left : ℕ) → IsGrown s (after_check_read w i n left s)
+  unfolding after_check_read
   checked_grown i n left = cond_both (is_executed_at n (call_at s i)) _ _ (λ t. IsGrown s t) (λ _. cond_both (next_stands i (suc left) s) _ _ (λ t. IsGrown s t) (λ _. stays) (λ _. stays)) (λ _. stays)
 
-  decided_grown : (i n : ℕ) (failed : Bool) → IsGrown s (decided w i n failed s)
-  unfolding decided
+  decided_grown : (i n : ℕ) (failed : Bool) → IsGrown s (after_decide w i n failed s)
+  unfolding after_decide
   decided_grown i n failed = cond_both (failed && is_executed_at n (call_at s i)) _ _ (λ t. IsGrown s t) (λ _. sets i _ (omega arith)) (λ _. stays)
 
-  aborted_grown : (i : ℕ) → IsGrown s (aborted w i s)
-  unfolding aborted
+  aborted_grown : (i : ℕ) → IsGrown s (after_finish_abort w i s)
+  unfolding after_finish_abort
   aborted_grown i = cond_both (nat_lt i s.execution) _ _ (λ t. IsGrown s t) (λ _. sets i _ (omega arith)) (λ _. sets i _ (omega arith))
 
   to_validate_grown : (i : ℕ) (new : Bool) (task : Task) → IsGrown s (to_validate w i new task s)
   unfolding to_validate
   to_validate_grown i new task = cond_both (nat_lt i s.validation) _ _ (λ t. IsGrown s t) (λ _. cond_both new _ _ (λ t. IsGrown s t) (λ _. stays) (λ _. stays)) (λ _. stays)
 
-executed_grown : (w i : ℕ) (new : Bool) (s : State) → IsGrown s (executed w i new s)
+executed_grown : (w i : ℕ) (new : Bool) (s : State) → IsGrown s (after_finish_execution w i new s)
 unfolding resume_dependents
 executed_grown w i new s =
     let done : CallState = record (call_at s i) { status = Executed } in
     let sets_done = sets w s i done (omega arith) in
-    grown_on s.calls (map (resume_if_parked i) (set s.calls i done)) (executed w i new s).calls
+    grown_on s.calls (map (resume_if_parked i) (set s.calls i done)) (after_finish_execution w i new s).calls
     (grown_on s.calls (set s.calls i done) (map (resume_if_parked i) (set s.calls i done)) sets_done (readied_grown i (set s.calls i done)))
     (to_validate_grown w _ i new _)
 
 -- no step lowers an incarnation
 made_grown : (block : Block) (w : ℕ) (s : State) (step : Step) (t : State) → IsMade block w s step t → IsGrown s t
 made_grown block w s step t (by_ask at) = asked_grown w s
-made_grown block w s step t (by_read i answers key at) = stays w s
 made_grown block w s step t (by_park i b answers at below) = parked_grown w s i b
 made_grown block w s step t (by_record i answers receipt at bears below) = sets w s i _ (omega arith)
-made_grown block w s step t (by_move i key keys new at) = stays w s
 made_grown block w s step t (by_finish i new at) = executed_grown w i new s
 made_grown block w s step t (by_check i n left at) = checked_grown w s i n left
 made_grown block w s step t (by_decide i n left failed at last) = decided_grown w s i n failed
-made_grown block w s step t (by_mark i key keys at) = stays w s
 made_grown block w s step t (by_abort i at) = aborted_grown w s i
+made_grown block w s step t did = stays w s
 
 -- nor does a list of steps
 walk_grown : (block : Block) (entries : List (ℕ × Step)) (s t : State) → walk block entries s ≡ Some t → IsGrown s t

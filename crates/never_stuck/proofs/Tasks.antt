@@ -11,7 +11,7 @@ use Rattle.stm_state.specs.declared.state.Task.{Task}
 use Rattle.stm_state.specs.declared.state.Task.TheVariants.{Idle, Running, Moving, Validating, Marking}
 use Rattle.stm_state.specs.Limits.{incarnation_limit}
 use Rattle.stm_state.specs.State.{State, fresh, call_at, task_at, with_call, with_task, is_executed}
-use Rattle.stm_state.specs.Steps.{counted, one_step, parked, read_of, reads_of}
+use Rattle.stm_state.specs.Steps.{counted, one_step, after_park, read_of, reads_of}
 use Rattle.stm_state.proofs.Tests.{not_executed_says}
 use Rattle.never_stuck.proofs.Settings.{Setting}
 use Rattle.never_stuck.proofs.Comes.{Comes, comes_here, comes_more, comes_so}
@@ -138,7 +138,7 @@ module _ (setting : Setting) (w i : ℕ) (w_in : w < setting.workers) where
 
   -- a blocked run and what follows it
   blocked_task : (answers : List StorageAnswer) (b : ℕ) (s : State) → IsLow s → IsSound setting s → task_at s w ≡ Running i answers (Some b) → Comes setting (TaskEnded w i s) (2 * setting.reads + 518) 1 s
-  unfolding parked
+  unfolding after_park
   blocked_task answers b s low h at = elim (cases_Bool (is_executed (call_at s b).status)) [
     | inl done ↦
         let u : State = with_task w (Running i [] None) s in

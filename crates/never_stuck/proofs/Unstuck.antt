@@ -14,7 +14,7 @@ use Rattle.never_stuck.proofs.Kept.{Stays}
 use Rattle.never_stuck.proofs.Owed.{IsSound, due_at, steps_on, comes_then}
 use Rattle.never_stuck.proofs.Tasks.{IsBelow}
 use Rattle.never_stuck.proofs.Workers.{workers_settle}
-use Rattle.never_stuck.proofs.Rests.{below_executed, next_status, done_is, asks_past}
+use Rattle.never_stuck.proofs.IdleStates.{below_executed, next_status, done_is, asks_past}
 use Rattle.never_stuck.proofs.Attended.{Attended, runs_next, validates_again}
 
 -- a call is READY, or below both indices

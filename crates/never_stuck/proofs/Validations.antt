@@ -8,8 +8,8 @@ use Rattle.stm_state.specs.declared.state.CallState.{CallState}
 use Rattle.stm_state.specs.declared.state.Task.{Task}
 use Rattle.stm_state.specs.declared.state.Task.TheVariants.{Idle, Validating, Marking}
 use Rattle.stm_state.specs.State.{State, fresh, call_at, task_at, with_call, with_task}
-use Rattle.stm_state.specs.Steps.{counted, one_step, one_validation, checked, decided, is_executed_at, keys_of, next_stands, reads_of, written_by}
-use Rattle.stm_state.specs.Invariant.{IsChecked}
+use Rattle.stm_state.specs.Steps.{counted, one_step, one_validation, after_check_read, after_decide, is_executed_at, keys_of, next_stands, reads_of, written_by}
+use Rattle.stm_state.proofs.Invariant.{IsChecked}
 use Rattle.stm_state.proofs.Checks.{executed_at_says}
 use Rattle.stm_state.proofs.Rounds.{each_stands}
 use Rattle.never_stuck.proofs.Settings.{Setting}
@@ -31,24 +31,24 @@ pub data ValidationOutcome (w i : ℕ) (failed : Bool) (s t : State) : Type 0 wh
 -- ---- what the steps come to
 
 module _ (w i n : ℕ) (s : State) where
-  decided_failed : is_executed_at n (call_at s i) ≡ true → decided w i n true s ≡ with_task w (Marking i (keys_of (written_by (call_at s i).last))) (with_call i (taken_back (call_at s i)) s)
-  unfolding decided
+  decided_failed : is_executed_at n (call_at s i) ≡ true → after_decide w i n true s ≡ with_task w (Marking i (keys_of (written_by (call_at s i).last))) (with_call i (taken_back (call_at s i)) s)
+  unfolding after_decide
   decided_failed is = cond-true (is_executed_at n (call_at s i)) _ _ is
 
-  decided_over : (failed : Bool) → (failed && is_executed_at n (call_at s i)) ≡ false → decided w i n failed s ≡ with_task w Idle s
-  unfolding decided
+  decided_over : (failed : Bool) → (failed && is_executed_at n (call_at s i)) ≡ false → after_decide w i n failed s ≡ with_task w Idle s
+  unfolding after_decide
   decided_over failed over = cond-false (failed && is_executed_at n (call_at s i)) _ _ over
 
-  checked_over : (left : ℕ) → is_executed_at n (call_at s i) ≡ false → checked w i n left s ≡ with_task w Idle s
-  unfolding checked
+  checked_over : (left : ℕ) → is_executed_at n (call_at s i) ≡ false → after_check_read w i n left s ≡ with_task w Idle s
+  unfolding after_check_read
   checked_over left over = cond-false (is_executed_at n (call_at s i)) _ _ over
 
-  checked_good : (left : ℕ) → is_executed_at n (call_at s i) ≡ true → next_stands i (suc left) s ≡ true → checked w i n left s ≡ with_task w (Validating i n left false) s
-  unfolding checked
+  checked_good : (left : ℕ) → is_executed_at n (call_at s i) ≡ true → next_stands i (suc left) s ≡ true → after_check_read w i n left s ≡ with_task w (Validating i n left false) s
+  unfolding after_check_read
   checked_good left is stand = cond-true (is_executed_at n (call_at s i)) _ _ is ∙ cond-true (next_stands i (suc left) s) _ _ stand
 
-  checked_bad : (left : ℕ) → is_executed_at n (call_at s i) ≡ true → next_stands i (suc left) s ≡ false → checked w i n left s ≡ with_task w (Validating i n (suc left) true) s
-  unfolding checked
+  checked_bad : (left : ℕ) → is_executed_at n (call_at s i) ≡ true → next_stands i (suc left) s ≡ false → after_check_read w i n left s ≡ with_task w (Validating i n (suc left) true) s
+  unfolding after_check_read
   checked_bad left is bad = cond-true (is_executed_at n (call_at s i)) _ _ is ∙ cond-false (next_stands i (suc left) s) _ _ bad
 
 -- what a step to another task leaves to come

@@ -1,7 +1,7 @@
 //! The reads that a run of a call made of the storage, in order, with where each answer came from.
 #![tactic(auto)]
 
-pub mod origin;
+mod origin;
 
 ghost use Rattle.std.specs.Prelude.{◌≡◌, ◌++◌, ◌∷◌, [], List, OnOk, OnErr};
 ghost use Rattle.read_set.specs.declared.Read.{Read};

@@ -9,7 +9,7 @@ use Rattle.rv_ledger.specs.declared.rules.Rules.{Rules}
 use Rattle.block_file.specs.declared.fault.Cause.{Cause}
 use Rattle.block_file.specs.declared.fault.Cause.TheVariants.{BadLine}
 use Rattle.block_file.specs.Line.{◌>>=◌, cut}
-use Rattle.block_file.specs.Block.{Parsed, CallValue, call_of, with_program, with_stored, with_call, with_kind, with_fields, with_line}
+use Rattle.block_file.specs.Block.{Parsed, CallValue, line_call, with_program, with_stored, with_call, with_kind, with_fields, with_line}
 
 abbrev pub state : Rules → List (List ℕ) → Storage → List CallValue → Option (List ℕ) → Parsed
 state rules programs store calls last = record { block = record { rules = rules; programs = programs; store = store; calls = calls }; last = last }
@@ -38,7 +38,7 @@ module _ (rules : Rules) (programs : List (List ℕ)) (store : Storage) (calls :
   one_of_two false true x y h = inr h
   one_of_two false false x y h = cc
 
-  call_done : (a : Bool) (r : Result CallValue Cause) (kind first second third : List ℕ) → bytes_eq kind (codes "call") ≡ a → call_of (length programs) (length calls) first second third ≡ r
+  call_done : (a : Bool) (r : Result CallValue Cause) (kind first second third : List ℕ) → bytes_eq kind (codes "call") ≡ a → line_call (length programs) (length calls) first second third ≡ r
       → (if a then (r >>= λ c. Ok (state rules programs store (calls ++ c ∷ []) last)) else Err BadLine) ≡ Ok t → Adds (λ s. with_kind s (kind ∷ first ∷ second ∷ third ∷ []))
   call_done true (Ok c) kind first second third e f h = inr (inr (
     c,
@@ -59,7 +59,7 @@ module _ (rules : Rules) (programs : List (List ℕ)) (store : Storage) (calls :
       by : (with_program here a b ≡ Ok t) ⊎ (with_stored here a b ≡ Ok t) → Adds (λ s. with_kind s (kind ∷ a ∷ b ∷ []))
       by (inl e) = inl (program_done _ e)
       by (inr e) = inr (inl (stored_done _ e))
-  kind_adds (kind ∷ a ∷ b ∷ c ∷ []) h = call_done (bytes_eq kind (codes "call")) (call_of (length programs) (length calls) a b c) kind a b c refl refl h
+  kind_adds (kind ∷ a ∷ b ∷ c ∷ []) h = call_done (bytes_eq kind (codes "call")) (line_call (length programs) (length calls) a b c) kind a b c refl refl h
   kind_adds (kind ∷ a ∷ b ∷ c ∷ d ∷ more) h = cc
 
   fields_add : (a : Bool) (fields : List (List ℕ)) → list_all (λ field. not (length field == 0)) fields ≡ a → (if a then with_kind here fields else Err BadLine) ≡ Ok t → Adds (λ s. with_fields s fields)

@@ -14,8 +14,8 @@ abbrev pub register_value : List ℕ → Reg → ℕ
 register_value registers register = slice_index registers register.number
 
 -- the registers after z, modulo 2^32, is written to rd
-abbrev pub put : List ℕ → Reg → ℤ → List ℕ
-put registers rd z = written registers rd.number (wrapped z)
+abbrev pub with_register : List ℕ → Reg → ℤ → List ℕ
+with_register registers rd z = written registers rd.number (wrapped z)
 
 -- goes on to the next instruction
 abbrev pub onward : List ℕ → ℕ → Option (List ℕ × ℕ)
@@ -28,23 +28,23 @@ jumped registers target = if target % 4 == 0 then Some (registers, target) else 
 -- the registers and the pc after an instruction at pc; None where its target is misaligned. What a load, a store,
 -- ECALL and EBREAK do is not defined here: for them this only goes on to the next instruction
 abbrev pub effect_of : Instr → List ℕ → ℕ → Option (List ℕ × ℕ)
-effect_of (Lui rd immediate) registers pc = onward (put registers rd (pos (immediate.value * 2 ^ 12))) pc
+effect_of (Lui rd immediate) registers pc = onward (with_register registers rd (pos (immediate.value * 2 ^ 12))) pc
 effect_of (Auipc rd immediate) registers pc =
-    onward (put registers rd (pos pc +ℤ pos (immediate.value * 2 ^ 12))) pc
+    onward (with_register registers rd (pos pc +ℤ pos (immediate.value * 2 ^ 12))) pc
 effect_of (Jal rd offset) registers pc =
-    jumped (put registers rd (pos pc +ℤ pos 4)) (wrapped (pos pc +ℤ offset.value))
+    jumped (with_register registers rd (pos pc +ℤ pos 4)) (wrapped (pos pc +ℤ offset.value))
 effect_of (Jalr rd base offset) registers pc =
-    jumped (put registers rd (pos pc +ℤ pos 4)) (wrapped (pos (register_value registers base) +ℤ offset.value) / 2 * 2)
+    jumped (with_register registers rd (pos pc +ℤ pos 4)) (wrapped (pos (register_value registers base) +ℤ offset.value) / 2 * 2)
 effect_of (Branch condition left right offset) registers pc =
     if is_taken condition (register_value registers left) (register_value registers right)
     then jumped registers (wrapped (pos pc +ℤ offset.value))
     else onward registers pc
 effect_of (ComputeImmediate operation rd source immediate) registers pc =
-    onward (put registers rd (immediate_value operation (register_value registers source) immediate.value)) pc
+    onward (with_register registers rd (immediate_value operation (register_value registers source) immediate.value)) pc
 effect_of (ShiftImmediate shift rd source amount) registers pc =
-    onward (put registers rd (shift_value shift (register_value registers source) amount.value)) pc
+    onward (with_register registers rd (shift_value shift (register_value registers source) amount.value)) pc
 effect_of (Compute operation rd left right) registers pc =
-    onward (put registers rd (value_of operation (register_value registers left) (register_value registers right))) pc
+    onward (with_register registers rd (value_of operation (register_value registers left) (register_value registers right))) pc
 effect_of (Fence rd source immediate) registers pc = onward registers pc
 effect_of (Load kind rd base offset) registers pc = onward registers pc
 effect_of (Store kind source base offset) registers pc = onward registers pc

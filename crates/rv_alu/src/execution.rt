@@ -1,7 +1,7 @@
 //! The effect of an instruction that does not use memory.
 
 ghost use Rattle.std.specs.Prelude.{◌≡◌, pos, ◌+ℤ◌, IsTrue, IfSome, IfNone};
-ghost use Rattle.rv_alu.specs.Effects.{effect_of, is_plain, put, onward, jumped};
+ghost use Rattle.rv_alu.specs.Effects.{effect_of, is_plain, with_register, onward, jumped};
 ghost use Rattle.rv_alu.specs.Computations.{is_computation};
 
 use crate::accesses::address;
@@ -53,9 +53,9 @@ pub fn execute(instr: &Instr, registers: &mut Regs, pc: u32) -> Option<u32>
 /// then nothing changes.
 #[inline(always)]
 fn jump(registers: &mut Regs, rd: Reg, pc: u32, target: u32) -> Option<u32>
-    ensures done { let linked = put registers.old rd (pos pc +ℤ pos 4) in
+    ensures done { let linked = with_register registers.old rd (pos pc +ℤ pos 4) in
         IfSome result (λ next. jumped linked target ≡ Some (registers.new, next)) }
-    ensures misaligned { let linked = put registers.old rd (pos pc +ℤ pos 4) in
+    ensures misaligned { let linked = with_register registers.old rd (pos pc +ℤ pos 4) in
         IfNone result (jumped linked target ≡ None) }
     ensures unchanged { IfNone result (registers.new ≡ registers.old) }
 {

@@ -4,7 +4,7 @@ use Rattle.std.specs.Option.{option_map}
 use Rattle.std.proofs.lemmas.Int.{ints}
 use Rattle.rv_isa.specs.Number.{residue, bits}
 use Rattle.rv_isa.specs.Ranges.{IsImmediate, IsBranchOffset, IsJumpOffset}
-use Rattle.rv_isa.specs.Word.{word_of, condition_funct3, load_funct3, store_funct3, immediate_funct3, shift_funct3, shift_funct7, operation_funct3, operation_funct7}
+use Rattle.rv_isa.specs.Word.{word_of, condition_funct3, load_funct3, store_funct3, immediate_funct3, shift_functs, operation_functs}
 use Rattle.rv_isa.specs.Decoding.{Slots, slots, slots_of, register_at, immediate_at, amount_at, branch_at, jump_at, u_immediate, condition_at, load_at, store_at, immediate_operation_at, shift_at, operation_at, shift_of, compute_immediate_of, instr_of}
 use Rattle.rv_isa.specs.Number.{extended}
 use Rattle.rv_isa.specs.declared.register.Reg.{Reg}
@@ -14,17 +14,17 @@ use Rattle.rv_isa.specs.declared.operands.JumpOffset.{JumpOffset}
 use Rattle.rv_isa.specs.declared.operands.Upper.{Upper}
 use Rattle.rv_isa.specs.declared.operands.ShiftAmount.{ShiftAmount}
 use Rattle.rv_isa.specs.declared.instruction.Condition.{Condition}
-use Rattle.rv_isa.specs.declared.instruction.Condition.TheVariants.{Beq, Bne, Blt, Bge, Bltu, Bgeu}
+use Rattle.rv_isa.specs.declared.instruction.Condition.TheVariants.{Beq}
 use Rattle.rv_isa.specs.declared.instruction.LoadKind.{LoadKind}
-use Rattle.rv_isa.specs.declared.instruction.LoadKind.TheVariants.{Lb, Lh, Lw, Lbu, Lhu}
+use Rattle.rv_isa.specs.declared.instruction.LoadKind.TheVariants.{Lb}
 use Rattle.rv_isa.specs.declared.instruction.StoreKind.{StoreKind}
-use Rattle.rv_isa.specs.declared.instruction.StoreKind.TheVariants.{Sb, Sh, Sw}
+use Rattle.rv_isa.specs.declared.instruction.StoreKind.TheVariants.{Sb}
 use Rattle.rv_isa.specs.declared.instruction.ImmediateOperation.{ImmediateOperation}
-use Rattle.rv_isa.specs.declared.instruction.ImmediateOperation.TheVariants.{Addi, Slti, Sltiu, Xori, Ori, Andi}
+use Rattle.rv_isa.specs.declared.instruction.ImmediateOperation.TheVariants.{Addi}
 use Rattle.rv_isa.specs.declared.instruction.Shift.{Shift}
-use Rattle.rv_isa.specs.declared.instruction.Shift.TheVariants.{Slli, Srli, Srai}
+use Rattle.rv_isa.specs.declared.instruction.Shift.TheVariants.{Slli}
 use Rattle.rv_isa.specs.declared.instruction.Operation.{Operation}
-use Rattle.rv_isa.specs.declared.instruction.Operation.TheVariants.{Add, Sub, Sll, Slt, Sltu, Xor, Srl, Sra, Or, And, Mul, Mulh, Mulhsu, Mulhu, Div, Divu, Rem, Remu}
+use Rattle.rv_isa.specs.declared.instruction.Operation.TheVariants.{Add}
 use Rattle.rv_isa.specs.declared.instruction.Instr.{Instr}
 use Rattle.rv_isa.specs.declared.instruction.Instr.TheVariants.{Lui, Auipc, Jal, Jalr, Branch, Load, Store, ComputeImmediate, ShiftImmediate, Compute, Fence, Ecall, Ebreak}
 use Rattle.rv_isa.proofs.Same.{same_register, same_immediate, same_branch, same_jump, same_upper, same_amount}
@@ -41,19 +41,23 @@ amount_again m = same_amount (amount_at m.value) m (omega (arith, m.in_range))
 upper_again : (m : Upper) (d op : ℕ) → u_immediate (slots (m.value / 2 ^ 13) (m.value / 2 ^ 8 % 2 ^ 5) (m.value / 2 ^ 3 % 2 ^ 5) (m.value % 2 ^ 3) d op) ≡ m
 upper_again m d op = same_upper (u_immediate (slots (m.value / 2 ^ 13) (m.value / 2 ^ 8 % 2 ^ 5) (m.value / 2 ^ 3 % 2 ^ 5) (m.value % 2 ^ 3) d op)) m (omega (arith, m.in_range))
 
-i_value : (z : ℤ) → IsImmediate z → extended 12 ((residue 12 z / 2 ^ 5 * 2 ^ 5 + residue 12 z % 2 ^ 5) % 2 ^ 12) ≡ z
-i_value (pos n) h = grind (arith, ints)
-i_value (negsuc n) h = grind (arith, ints)
+residue_below : (z : ℤ) → (residue 12 z < 2 ^ 12) × (residue 13 z < 2 ^ 13) × (residue 21 z < 2 ^ 21)
+residue_below (pos n) = (omega arith, omega arith, omega arith)
+residue_below (negsuc n) = (omega arith, omega arith, omega arith)
+
+pub immediate_value : (z : ℤ) → IsImmediate z → extended 12 (residue 12 z % 2 ^ 12) ≡ z
+immediate_value (pos n) h = grind (arith, ints)
+immediate_value (negsuc n) h = grind (arith, ints)
+
+-- an immediate, out of the two parts of a word that hold it
+parts_again : (m : Immediate) (n : ℕ) → n ≡ residue 12 m.value → immediate_at n ≡ m
+parts_again m n e = ap immediate_at e ∙ same_immediate (immediate_at (residue 12 m.value)) m (immediate_value m.value m.in_range)
 
 i_again : (m : Immediate) → immediate_at (residue 12 m.value / 2 ^ 5 * 2 ^ 5 + residue 12 m.value % 2 ^ 5) ≡ m
-i_again m = same_immediate (immediate_at (residue 12 m.value / 2 ^ 5 * 2 ^ 5 + residue 12 m.value % 2 ^ 5)) m (i_value m.value m.in_range)
-
-s_value : (z : ℤ) → IsImmediate z → extended 12 ((bits (residue 12 z) 5 7 * 2 ^ 5 + bits (residue 12 z) 0 5) % 2 ^ 12) ≡ z
-s_value (pos n) h = grind (arith, ints)
-s_value (negsuc n) h = grind (arith, ints)
+i_again m = parts_again m (residue 12 m.value / 2 ^ 5 * 2 ^ 5 + residue 12 m.value % 2 ^ 5) (omega arith)
 
 s_again : (m : Immediate) → immediate_at (bits (residue 12 m.value) 5 7 * 2 ^ 5 + bits (residue 12 m.value) 0 5) ≡ m
-s_again m = same_immediate (immediate_at (bits (residue 12 m.value) 5 7 * 2 ^ 5 + bits (residue 12 m.value) 0 5)) m (s_value m.value m.in_range)
+s_again m = parts_again m (bits (residue 12 m.value) 5 7 * 2 ^ 5 + bits (residue 12 m.value) 0 5) (omega (arith, (residue_below m.value).0))
 
 -- half of a branch's offset, out of the slots that hold it
 abbrev b_half : ℕ → ℕ → ℕ
@@ -62,18 +66,14 @@ b_half f7 d = f7 / 2 ^ 6 * 2 ^ 11 + d % 2 * 2 ^ 10 + f7 % 2 ^ 6 * 2 ^ 4 + d / 2
 b_bits : (n : ℕ) → n < 2 ^ 13 → b_half (bits n 12 1 * 2 ^ 6 + bits n 5 6) (bits n 1 4 * 2 + bits n 11 1) ≡ n / 2
 b_bits n h = omega arith
 
-b_value : (z : ℤ) → IsBranchOffset z → extended 13 (residue 13 z / 2 % 2 ^ 12 * 2) ≡ z
-b_value (pos n) h = grind (arith, ints)
-b_value (negsuc n) h = grind (arith, ints)
-
-residue_below : (z : ℤ) → (residue 13 z < 2 ^ 13) × (residue 21 z < 2 ^ 21)
-residue_below (pos n) = (omega arith, omega arith)
-residue_below (negsuc n) = (omega arith, omega arith)
+pub branch_value : (z : ℤ) → IsBranchOffset z → extended 13 (residue 13 z / 2 % 2 ^ 12 * 2) ≡ z
+branch_value (pos n) h = grind (arith, ints)
+branch_value (negsuc n) h = grind (arith, ints)
 
 b_again : (m : BranchOffset) → branch_at (b_half (bits (residue 13 m.value) 12 1 * 2 ^ 6 + bits (residue 13 m.value) 5 6) (bits (residue 13 m.value) 1 4 * 2 + bits (residue 13 m.value) 11 1)) ≡ m
 b_again m =
-    ap branch_at (b_bits (residue 13 m.value) (residue_below m.value).0)
-    ∙ same_branch (branch_at (residue 13 m.value / 2)) m (b_value m.value m.in_range)
+    ap branch_at (b_bits (residue 13 m.value) (residue_below m.value).1)
+    ∙ same_branch (branch_at (residue 13 m.value / 2)) m (branch_value m.value m.in_range)
 
 -- half of a jump's offset, out of the slots that hold it
 abbrev j_half : ℕ → ℕ
@@ -82,69 +82,40 @@ j_half top = top / 2 ^ 13 / 2 ^ 6 * 2 ^ 19 + top / 2 ^ 3 % 2 ^ 5 * 2 ^ 14 + top 
 j_bits : (n : ℕ) → n < 2 ^ 21 → j_half (j_top n) ≡ n / 2
 j_bits n h = omega arith
 
-j_value : (z : ℤ) → IsJumpOffset z → extended 21 (residue 21 z / 2 % 2 ^ 20 * 2) ≡ z
-j_value (pos n) h = grind (arith, ints)
-j_value (negsuc n) h = grind (arith, ints)
+pub jump_value : (z : ℤ) → IsJumpOffset z → extended 21 (residue 21 z / 2 % 2 ^ 20 * 2) ≡ z
+jump_value (pos n) h = grind (arith, ints)
+jump_value (negsuc n) h = grind (arith, ints)
 
 j_again : (m : JumpOffset) → jump_at (j_half (j_top (residue 21 m.value))) ≡ m
 j_again m =
-    ap jump_at (j_bits (residue 21 m.value) (residue_below m.value).1)
-    ∙ same_jump (jump_at (residue 21 m.value / 2)) m (j_value m.value m.in_range)
+    ap jump_at (j_bits (residue 21 m.value) (residue_below m.value).2)
+    ∙ same_jump (jump_at (residue 21 m.value / 2)) m (jump_value m.value m.in_range)
 
 -- ---- tables
 
 condition_again : (c : Condition) → (condition_funct3 c < 8) × (condition_at (condition_funct3 c) ≡ Some c)
 condition_again Beq = (omega arith, refl)
-condition_again Bne = (omega arith, refl)
-condition_again Blt = (omega arith, refl)
-condition_again Bge = (omega arith, refl)
-condition_again Bltu = (omega arith, refl)
-condition_again Bgeu = (omega arith, refl)
+condition_again _ = (omega arith, refl)
 
 load_again : (k : LoadKind) → (load_funct3 k < 8) × (load_at (load_funct3 k) ≡ Some k)
 load_again Lb = (omega arith, refl)
-load_again Lh = (omega arith, refl)
-load_again Lw = (omega arith, refl)
-load_again Lbu = (omega arith, refl)
-load_again Lhu = (omega arith, refl)
+load_again _ = (omega arith, refl)
 
 store_again : (k : StoreKind) → (store_funct3 k < 8) × (store_at (store_funct3 k) ≡ Some k)
 store_again Sb = (omega arith, refl)
-store_again Sh = (omega arith, refl)
-store_again Sw = (omega arith, refl)
+store_again _ = (omega arith, refl)
 
 immediate_again : (o : ImmediateOperation) → (immediate_funct3 o < 8) × (immediate_operation_at (immediate_funct3 o) ≡ Some o) × (nat_eq (immediate_funct3 o % 4) 1 ≡ false)
 immediate_again Addi = (omega arith, refl, refl)
-immediate_again Slti = (omega arith, refl, refl)
-immediate_again Sltiu = (omega arith, refl, refl)
-immediate_again Xori = (omega arith, refl, refl)
-immediate_again Ori = (omega arith, refl, refl)
-immediate_again Andi = (omega arith, refl, refl)
+immediate_again _ = (omega arith, refl, refl)
 
-shift_again : (o : Shift) → (shift_funct3 o < 8) × (shift_at (shift_funct7 o) (shift_funct3 o) ≡ Some o) × (nat_eq (shift_funct3 o % 4) 1 ≡ true)
+shift_again : (o : Shift) → ((shift_functs o).1 < 8) × (shift_at (shift_functs o).0 (shift_functs o).1 ≡ Some o) × (nat_eq ((shift_functs o).1 % 4) 1 ≡ true)
 shift_again Slli = (omega arith, refl, refl)
-shift_again Srli = (omega arith, refl, refl)
-shift_again Srai = (omega arith, refl, refl)
+shift_again _ = (omega arith, refl, refl)
 
-operation_again : (o : Operation) → (operation_funct3 o < 8) × (operation_at (operation_funct7 o) (operation_funct3 o) ≡ Some o)
+operation_again : (o : Operation) → ((operation_functs o).1 < 8) × (operation_at (operation_functs o).0 (operation_functs o).1 ≡ Some o)
 operation_again Add = (omega arith, refl)
-operation_again Sub = (omega arith, refl)
-operation_again Sll = (omega arith, refl)
-operation_again Slt = (omega arith, refl)
-operation_again Sltu = (omega arith, refl)
-operation_again Xor = (omega arith, refl)
-operation_again Srl = (omega arith, refl)
-operation_again Sra = (omega arith, refl)
-operation_again Or = (omega arith, refl)
-operation_again And = (omega arith, refl)
-operation_again Mul = (omega arith, refl)
-operation_again Mulh = (omega arith, refl)
-operation_again Mulhsu = (omega arith, refl)
-operation_again Mulhu = (omega arith, refl)
-operation_again Div = (omega arith, refl)
-operation_again Divu = (omega arith, refl)
-operation_again Rem = (omega arith, refl)
-operation_again Remu = (omega arith, refl)
+operation_again _ = (omega arith, refl)
 
 -- ---- instructions
 
@@ -160,8 +131,8 @@ immediate_found o rd source m =
 shift_found : (o : Shift) (rd source : Reg) (m : ShiftAmount) → instr_of (slots_of (word_of (ShiftImmediate o rd source m))) ≡ Some (ShiftImmediate o rd source m)
 unfolding instr_of
 shift_found o rd source m =
-    let s : Slots = slots (shift_funct7 o) m.value source.number (shift_funct3 o) rd.number 0b0010011 in
-    ap instr_of (slots-r_word (shift_funct7 o) m.value source.number (shift_funct3 o) rd.number 0b0010011 m.in_range source.in_range (shift_again o).0 rd.in_range (omega arith))
+    let s : Slots = slots (shift_functs o).0 m.value source.number (shift_functs o).1 rd.number 0b0010011 in
+    ap instr_of (slots-r_word (shift_functs o).0 m.value source.number (shift_functs o).1 rd.number 0b0010011 m.in_range source.in_range (shift_again o).0 rd.in_range (omega arith))
     ∙ ap (λ b. cond b (shift_of s) (compute_immediate_of s)) (shift_again o).2
     ∙ ap (option_map (λ k. ShiftImmediate k (register_at rd.number) (register_at source.number) (amount_at m.value))) (shift_again o).1
     ∙ (let r = register_again rd in let b = register_again source in let i = amount_again m in cc)
@@ -195,7 +166,7 @@ decoded_again (Store kind source base m) =
 decoded_again (ComputeImmediate o rd source m) = immediate_found o rd source m
 decoded_again (ShiftImmediate o rd source m) = shift_found o rd source m
 decoded_again (Compute o rd left right) =
-    ap instr_of (slots-r_word (operation_funct7 o) right.number left.number (operation_funct3 o) rd.number 0b0110011 right.in_range left.in_range (operation_again o).0 rd.in_range (omega arith))
+    ap instr_of (slots-r_word (operation_functs o).0 right.number left.number (operation_functs o).1 rd.number 0b0110011 right.in_range left.in_range (operation_again o).0 rd.in_range (omega arith))
     ∙ ap (option_map (λ k. Compute k (register_at rd.number) (register_at left.number) (register_at right.number))) (operation_again o).1
     ∙ (let d = register_again rd in let l = register_again left in let r = register_again right in cc)
 decoded_again (Fence rd source m) =

@@ -2,4 +2,4 @@ pub mod Same
 mod Signs
 mod Bits
 mod Slots
-mod Again
+pub mod Again

@@ -48,59 +48,32 @@ immediate_funct3 Xori = 0b100
 immediate_funct3 Ori = 0b110
 immediate_funct3 Andi = 0b111
 
--- funct3 of a shift by a fixed amount
-abbrev pub shift_funct3 : Shift → ℕ
-shift_funct3 Slli = 0b001
-shift_funct3 Srli = 0b101
-shift_funct3 Srai = 0b101
+-- funct7 and funct3 of a shift by a fixed amount
+abbrev pub shift_functs : Shift → ℕ × ℕ
+shift_functs Slli = (0b0000000, 0b001)
+shift_functs Srli = (0b0000000, 0b101)
+shift_functs Srai = (0b0100000, 0b101)
 
--- bits 31:25 of a shift by a fixed amount
-abbrev pub shift_funct7 : Shift → ℕ
-shift_funct7 Slli = 0b0000000
-shift_funct7 Srli = 0b0000000
-shift_funct7 Srai = 0b0100000
-
--- funct3 of an operation on two registers
-abbrev pub operation_funct3 : Operation → ℕ
-operation_funct3 Add = 0b000
-operation_funct3 Sub = 0b000
-operation_funct3 Sll = 0b001
-operation_funct3 Slt = 0b010
-operation_funct3 Sltu = 0b011
-operation_funct3 Xor = 0b100
-operation_funct3 Srl = 0b101
-operation_funct3 Sra = 0b101
-operation_funct3 Or = 0b110
-operation_funct3 And = 0b111
-operation_funct3 Mul = 0b000
-operation_funct3 Mulh = 0b001
-operation_funct3 Mulhsu = 0b010
-operation_funct3 Mulhu = 0b011
-operation_funct3 Div = 0b100
-operation_funct3 Divu = 0b101
-operation_funct3 Rem = 0b110
-operation_funct3 Remu = 0b111
-
--- funct7 of an operation on two registers
-abbrev pub operation_funct7 : Operation → ℕ
-operation_funct7 Add = 0b0000000
-operation_funct7 Sub = 0b0100000
-operation_funct7 Sll = 0b0000000
-operation_funct7 Slt = 0b0000000
-operation_funct7 Sltu = 0b0000000
-operation_funct7 Xor = 0b0000000
-operation_funct7 Srl = 0b0000000
-operation_funct7 Sra = 0b0100000
-operation_funct7 Or = 0b0000000
-operation_funct7 And = 0b0000000
-operation_funct7 Mul = 0b0000001
-operation_funct7 Mulh = 0b0000001
-operation_funct7 Mulhsu = 0b0000001
-operation_funct7 Mulhu = 0b0000001
-operation_funct7 Div = 0b0000001
-operation_funct7 Divu = 0b0000001
-operation_funct7 Rem = 0b0000001
-operation_funct7 Remu = 0b0000001
+-- funct7 and funct3 of an operation on two registers
+abbrev pub operation_functs : Operation → ℕ × ℕ
+operation_functs Add = (0b0000000, 0b000)
+operation_functs Sub = (0b0100000, 0b000)
+operation_functs Sll = (0b0000000, 0b001)
+operation_functs Slt = (0b0000000, 0b010)
+operation_functs Sltu = (0b0000000, 0b011)
+operation_functs Xor = (0b0000000, 0b100)
+operation_functs Srl = (0b0000000, 0b101)
+operation_functs Sra = (0b0100000, 0b101)
+operation_functs Or = (0b0000000, 0b110)
+operation_functs And = (0b0000000, 0b111)
+operation_functs Mul = (0b0000001, 0b000)
+operation_functs Mulh = (0b0000001, 0b001)
+operation_functs Mulhsu = (0b0000001, 0b010)
+operation_functs Mulhu = (0b0000001, 0b011)
+operation_functs Div = (0b0000001, 0b100)
+operation_functs Divu = (0b0000001, 0b101)
+operation_functs Rem = (0b0000001, 0b110)
+operation_functs Remu = (0b0000001, 0b111)
 
 -- the word of an instruction; a word that no instruction has is illegal
 abbrev pub word_of : Instr → ℕ
@@ -112,8 +85,8 @@ word_of (Branch condition left right offset) = b_word offset.value right.number 
 word_of (Load kind rd base offset) = i_word offset.value base.number (load_funct3 kind) rd.number 0b0000011
 word_of (Store kind source base offset) = s_word offset.value source.number base.number (store_funct3 kind) 0b0100011
 word_of (ComputeImmediate operation rd source immediate) = i_word immediate.value source.number (immediate_funct3 operation) rd.number 0b0010011
-word_of (ShiftImmediate shift rd source amount) = r_word (shift_funct7 shift) amount.value source.number (shift_funct3 shift) rd.number 0b0010011
-word_of (Compute operation rd left right) = r_word (operation_funct7 operation) right.number left.number (operation_funct3 operation) rd.number 0b0110011
+word_of (ShiftImmediate shift rd source amount) = r_word (shift_functs shift).0 amount.value source.number (shift_functs shift).1 rd.number 0b0010011
+word_of (Compute operation rd left right) = r_word (operation_functs operation).0 right.number left.number (operation_functs operation).1 rd.number 0b0110011
 word_of (Fence rd source immediate) = i_word immediate.value source.number 0b000 rd.number 0b0001111
 word_of Ecall = 0x00000073
 word_of Ebreak = 0x00100073

@@ -1,7 +1,7 @@
 //! The tables of funct3 and funct7, in both directions.
 
 ghost use Rattle.std.specs.Prelude.{◌≡◌, ◌<◌, ◌^◌};
-ghost use Rattle.rv_isa.specs.Word.{condition_funct3, load_funct3, store_funct3, immediate_funct3, shift_funct3, shift_funct7, operation_funct3, operation_funct7};
+ghost use Rattle.rv_isa.specs.Word.{condition_funct3, load_funct3, store_funct3, immediate_funct3, shift_functs, operation_functs};
 ghost use Rattle.rv_isa.specs.Decoding.{condition_at, load_at, store_at, immediate_operation_at, shift_at, operation_at};
 
 use crate::{Condition, ImmediateOperation, LoadKind, Operation, Shift, StoreKind};
@@ -159,8 +159,7 @@ pub fn immediate_funct3(operation: ImmediateOperation) -> u32
 
 /// The funct7 and funct3 of a shift by a fixed amount.
 pub fn shift_functs(shift: Shift) -> (u32, u32)
-    ensures funct7 { result.0 ≡ shift_funct7 shift }
-    ensures funct3 { result.1 ≡ shift_funct3 shift }
+    ensures value { result ≡ shift_functs shift }
     ensures small7 { result.0 < 2 ^ 7 }
     ensures small3 { result.1 < 2 ^ 3 }
 {
@@ -173,8 +172,7 @@ pub fn shift_functs(shift: Shift) -> (u32, u32)
 
 /// The funct7 and funct3 of a computation of two registers.
 pub fn operation_functs(operation: Operation) -> (u32, u32)
-    ensures funct7 { result.0 ≡ operation_funct7 operation }
-    ensures funct3 { result.1 ≡ operation_funct3 operation }
+    ensures value { result ≡ operation_functs operation }
     ensures small7 { result.0 < 2 ^ 7 }
     ensures small3 { result.1 < 2 ^ 3 }
 {

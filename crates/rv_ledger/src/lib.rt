@@ -2,25 +2,25 @@
 //! outcomes. Each type keeps its own limits, so that a value of it is always within them.
 #![tactic(auto)]
 
-pub mod call;
-pub mod change;
-pub mod end;
-pub mod inline_bytes;
-pub mod job;
-pub mod key;
-pub mod outcome;
-pub mod receipt;
-pub mod rules;
-pub mod same;
-pub mod store;
-pub mod stored_value;
-pub mod writes;
+mod call;
+mod change;
+mod end;
+mod inline_bytes;
+mod job;
+mod key;
+mod outcome;
+mod receipt;
+mod rules;
+mod same;
+mod store;
+mod stored_value;
+mod writes;
 
-pub use call::{Call, CallFault};
+pub use call::{Call, CallFault, GAS_LIMIT, INPUT_LIMIT};
 pub use change::{Change, add, wrapping_sum};
 pub use end::{End, Trap};
 pub use inline_bytes::{InlineBytes, OUTPUT_LIMIT, Output, VALUE_LIMIT, Value};
-pub use job::{Block, Job, JobFault};
+pub use job::{Block, CALL_LIMIT, Job, JobFault};
 pub use key::Key;
 pub use outcome::{Counts, Outcome};
 pub use receipt::Receipt;
@@ -28,4 +28,4 @@ pub use rules::{Rules, SHORT_VALUE_LIMIT};
 pub use same::{same_call, same_content, same_job, same_store};
 pub use store::Store;
 pub use stored_value::StoredValue;
-pub use writes::{Write, Writes};
+pub use writes::{WRITE_LIMIT, Write, Writes};

@@ -1,10 +1,10 @@
 -- The pages of a call under its steps.
-use Rattle.std.proofs.Common.{◌≡◌, ℕ, ◌+◌, ◌-◌, ◌*◌, ◌/◌, ◌%◌, ◌<◌, ◌≤◌, List, [], ◌∷◌, ◌++◌, length, get_or, set, replicate, All, refl, sym, ap, ◌∙◌, arith, length-append, append_assoc}
+use Rattle.std.proofs.Common.{◌≡◌, ℕ, ◌+◌, ◌-◌, ◌*◌, ◌/◌, ◌%◌, ◌^◌, ◌<◌, ◌≤◌, List, [], ◌∷◌, ◌++◌, length, get_or, set, replicate, All, refl, sym, ap, ◌∙◌, arith, length-append, append_assoc}
 use native.Mathlib.Decide.{dec_lt}
 use Rattle.std.proofs.lemmas.List.{append-nil, get_or_append_left, get_or-append_right, get_or_default, get_or_read, length-replicate, length_push, length-set, set-append_right}
 use Rattle.std.proofs.lemmas.List.Elements.{All-append, All-push, All-replicate, All-set}
 use Rattle.elf32.specs.declared.segment.Segment.{Segment}
-use Rattle.elf32.specs.Pages.{over, page_at, segment_bytes, zeros, ArePages, HoldSegments}
+use Rattle.elf32.specs.Pages.{overwritten_at, page_at, segment_bytes, zeros, ArePages, HoldSegments}
 use Rattle.rv_mem.specs.declared.pages.Pages.{Pages}
 use Rattle.rv_mem.specs.Paged.{IsPaged, all_pages, base_of, base_pages, memory_bytes}
 use Rattle.rv_mem.proofs.Flat.{length_pages}
@@ -26,7 +26,7 @@ padded_sized pages n h =
     All-append (λ (q : List ℕ). length q ≡ 4096) pages (replicate n (zeros 4096)) h (All-replicate (λ (q : List ℕ). length q ≡ 4096) n (zeros 4096) (length_zeros 4096))
 
 -- the first: each page is the program's
-pub paged_none : (p : Pages) (segments : List Segment) → HoldSegments (base_of p) segments → p.own.items ≡ [] → p.index.items ≡ (base_of p).index → p.held.len ≡ 0 → IsPaged p
+pub paged_none : (p : Pages) (segments : List Segment) → HoldSegments (base_of p) segments → p.own.items ≡ [] → p.index.items ≡ (base_of p).index → p.held.first ≡ 2 ^ 32 → IsPaged p
 paged_none p segments h none same free =
     let count = h.count in
     record {
@@ -101,7 +101,7 @@ module _ (p q : Pages) (page : ℕ) (x : List ℕ) (h : IsPaged p) (below : page
   all_more : all_pages q ≡ all_pages p ++ x ∷ []
   all_more = rw (base, items) (sym (append_assoc (base_pages p) p.own.items (x ∷ [])))
 
-  pub paged_more : q.held.len ≡ 0 → IsPaged q
+  pub paged_more : q.held.first ≡ 2 ^ 32 → IsPaged q
   paged_more free =
       let count : length q.own.items ≡ length p.own.items + 1 = ap length items ∙ length_push p.own.items x in
       record {
@@ -136,10 +136,10 @@ module _ (p q : Pages) (place : ℕ) (x : List ℕ) (h : IsPaged p) (inside : pl
         held = rw (base, index, kept) h.held;
       }
 
-  pub bytes_put : (old new : List ℕ) (at : ℕ) → at < 1048576 → get_or p.index.items (at / 4096) 0 ≡ 512 + place → at % 4096 + length new ≤ 4096 → old ≡ get_or p.own.items place old → x ≡ over old (at % 4096) new → memory_bytes q ≡ over (memory_bytes p) at new
+  pub bytes_put : (old new : List ℕ) (at : ℕ) → at < 1048576 → get_or p.index.items (at / 4096) 0 ≡ 512 + place → at % 4096 + length new ≤ 4096 → old ≡ get_or p.own.items place old → x ≡ overwritten_at old (at % 4096) new → memory_bytes q ≡ overwritten_at (memory_bytes p) at new
   bytes_put old new at first here room read is =
       let len = h.placed.len in
       let was = own_is p h place old inside read in
       rw (all_put, index)
       (put_bytes (all_pages p) p.index.items new x at (512 + place) h.sizes len (all_places p h) first here (λ j b same.
-      sym (h.placed.alone (at / 4096) j (omega arith) b (omega arith) (here ∙ sym same))) room (is ∙ ap (λ (l : List ℕ). over l (at % 4096) new) was))
+      sym (h.placed.alone (at / 4096) j (omega arith) b (omega arith) (here ∙ sym same))) room (is ∙ ap (λ (l : List ℕ). overwritten_at l (at % 4096) new) was))

@@ -3,21 +3,21 @@ use Rattle.std.proofs.Common.{◌≡◌, ℕ, zero, suc, ◌+◌, ◌-◌, ◌*�
 use Rattle.std.proofs.lemmas.Bool.{and_left, and_right, and_from}
 use Rattle.std.proofs.lemmas.Bool.Decides.{nat_tests}
 use Rattle.elf32.specs.declared.segment.Rights.{Rights}
-use Rattle.rv_mem.specs.Space.{is_address, allows, no_rights, may, each}
+use Rattle.rv_mem.specs.Space.{is_address, allows, no_rights, allows_at, allows_range}
 use Rattle.rv_mem.specs.declared.access.Access.{Access}
 
 -- a range of which each byte may be used
-pub each_true : (access : Access) (rights : List Rights) (a n : ℕ) → ((i : ℕ) → i < n → may access rights (a + i) ≡ true) → each access rights a n ≡ true
-unfolding each
+pub each_true : (access : Access) (rights : List Rights) (a n : ℕ) → ((i : ℕ) → i < n → allows_at access rights (a + i) ≡ true) → allows_range access rights a n ≡ true
+unfolding allows_range
 each_true access rights a zero h = refl
 each_true access rights a (suc n) h =
-    let here : may access rights a ≡ true = let e : a + 0 ≡ a = omega arith in (rw e at (h 0 (omega arith))) in
+    let here : allows_at access rights a ≡ true = let e : a + 0 ≡ a = omega arith in (rw e at (h 0 (omega arith))) in
     let rest = each_true access rights (a + 1) n (λ i l. let e : (a + 1) + i ≡ a + (i + 1) = omega arith in rw e (h (i + 1) (omega arith))) in
     and_from _ _ here rest
 
 -- a range with a byte that may not be used
-pub each_false : (access : Access) (rights : List Rights) (a n i : ℕ) → i < n → may access rights (a + i) ≡ false → each access rights a n ≡ false
-unfolding each
+pub each_false : (access : Access) (rights : List Rights) (a n i : ℕ) → i < n → allows_at access rights (a + i) ≡ false → allows_range access rights a n ≡ false
+unfolding allows_range
 each_false access rights a zero i l h = absurd (omega arith)
 each_false access rights a (suc n) zero l h =
     let e : a + 0 ≡ a = omega arith in and_left _ _ (rw e at h)
@@ -26,7 +26,7 @@ each_false access rights a (suc n) (suc i) l h =
     and_right _ _ (each_false access rights (a + 1) n i (omega arith) (rw e at h))
 
 -- two bytes of one page
-may_same : (access : Access) (rights : List Rights) (a b : ℕ) → a / 4096 ≡ b / 4096 → may access rights a ≡ may access rights b
+may_same : (access : Access) (rights : List Rights) (a b : ℕ) → a / 4096 ≡ b / 4096 → allows_at access rights a ≡ allows_at access rights b
 may_same access rights a b h =
     let e : (a - 65536) / 4096 ≡ (b - 65536) / 4096 = omega arith in
     let low : leb 65536 a ≡ leb 65536 b = grind (arith, nat_tests) in
@@ -42,7 +42,7 @@ aligned_in_page : (n a i : ℕ) → IsTrue (is_size n) → a % n ≡ 0 → i < n
 aligned_in_page n a i s h l = grind (arith, nat_tests)
 
 -- so its first byte tells of all
-by_first : (access : Access) (rights : List Rights) (a n : ℕ) (b : Bool) → IsTrue (is_size n) → a % n ≡ 0 → may access rights a ≡ b → each access rights a n ≡ b
+by_first : (access : Access) (rights : List Rights) (a n : ℕ) (b : Bool) → IsTrue (is_size n) → a % n ≡ 0 → allows_at access rights a ≡ b → allows_range access rights a n ≡ b
 by_first access rights a n true s h e =
     each_true access rights a n (λ i l. sym (may_same access rights a (a + i) (aligned_in_page n a i s h l)) ∙ e)
 by_first access rights a n false s h e =
@@ -50,41 +50,41 @@ by_first access rights a n false s h e =
     let p : 0 < n = grind (arith, nat_tests) in
     each_false access rights a n 0 p (rw z e)
 
-pub each_aligned : (access : Access) (rights : List Rights) (a n : ℕ) → IsTrue (is_size n) → a % n ≡ 0 → each access rights a n ≡ may access rights a
-each_aligned access rights a n s h = by_first access rights a n (may access rights a) s h refl
+pub each_aligned : (access : Access) (rights : List Rights) (a n : ℕ) → IsTrue (is_size n) → a % n ≡ 0 → allows_range access rights a n ≡ allows_at access rights a
+each_aligned access rights a n s h = by_first access rights a n (allows_at access rights a) s h refl
 
 -- a byte outside memory
-outside : (access : Access) (rights : List Rights) (a : ℕ) → (a < 65536) ⊎ (1114112 ≤ a) → may access rights a ≡ false
+outside : (access : Access) (rights : List Rights) (a : ℕ) → (a < 65536) ⊎ (1114112 ≤ a) → allows_at access rights a ≡ false
 outside access rights a (inl h) =
     let e : leb 65536 a ≡ false = grind (arith, nat_tests) in and_left _ _ (and_left _ _ e)
 outside access rights a (inr h) =
     let e : ltb a 1114112 ≡ false = grind (arith, nat_tests) in and_left _ _ (and_right _ _ e)
 
 -- a byte of memory whose page has the right
-pub inside : (access : Access) (rights : List Rights) (a : ℕ) → 65536 ≤ a → a < 1114112 → allows access (get_or rights ((a - 65536) / 4096) no_rights) ≡ true → may access rights a ≡ true
+pub inside : (access : Access) (rights : List Rights) (a : ℕ) → 65536 ≤ a → a < 1114112 → allows access (get_or rights ((a - 65536) / 4096) no_rights) ≡ true → allows_at access rights a ≡ true
 inside access rights a low high h =
     let e : leb 65536 a ≡ true = grind (arith, nat_tests) in
     let f : ltb a 1114112 ≡ true = grind (arith, nat_tests) in
     and_from _ _ (and_from _ _ e f) h
 
 -- a range with its first byte below memory
-pub each_below : (access : Access) (rights : List Rights) (a n : ℕ) → 0 < n → a < 65536 → each access rights a n ≡ false
+pub each_below : (access : Access) (rights : List Rights) (a n : ℕ) → 0 < n → a < 65536 → allows_range access rights a n ≡ false
 each_below access rights a n l h =
     let z : a + 0 ≡ a = omega arith in
     each_false access rights a n 0 l (rw z (outside access rights a (inl h)))
 
 -- a range with its last byte past memory
-pub each_past : (access : Access) (rights : List Rights) (a n : ℕ) → 0 < n → 1114112 < a + n → each access rights a n ≡ false
+pub each_past : (access : Access) (rights : List Rights) (a n : ℕ) → 0 < n → 1114112 < a + n → allows_range access rights a n ≡ false
 each_past access rights a n l h =
     each_false access rights a n (n - 1) (omega arith) (outside access rights (a + (n - 1)) (inr (omega arith)))
 
 -- a range of which each page may be used
-pub each_pages : (access : Access) (rights : List Rights) (a n : ℕ) → 65536 ≤ a → a + n ≤ 1114112 → ((k : ℕ) → (a - 65536) / 4096 ≤ k → k ≤ (a - 65536 + (n - 1)) / 4096 → allows access (get_or rights k no_rights) ≡ true) → each access rights a n ≡ true
+pub each_pages : (access : Access) (rights : List Rights) (a n : ℕ) → 65536 ≤ a → a + n ≤ 1114112 → ((k : ℕ) → (a - 65536) / 4096 ≤ k → k ≤ (a - 65536 + (n - 1)) / 4096 → allows access (get_or rights k no_rights) ≡ true) → allows_range access rights a n ≡ true
 each_pages access rights a n low high h =
     each_true access rights a n (λ i l. inside access rights (a + i) (omega arith) (omega arith) (h ((a + i - 65536) / 4096) (omega arith) (omega arith)))
 
 -- a range with a page that may not be used
-pub each_page_without : (access : Access) (rights : List Rights) (a n k : ℕ) → 0 < n → 65536 ≤ a → (a - 65536) / 4096 ≤ k → k ≤ (a - 65536 + (n - 1)) / 4096 → allows access (get_or rights k no_rights) ≡ false → each access rights a n ≡ false
+pub each_page_without : (access : Access) (rights : List Rights) (a n k : ℕ) → 0 < n → 65536 ≤ a → (a - 65536) / 4096 ≤ k → k ≤ (a - 65536 + (n - 1)) / 4096 → allows access (get_or rights k no_rights) ≡ false → allows_range access rights a n ≡ false
 each_page_without access rights a n k l low first last h =
     let i = max a (65536 + 4096 * k) - a in
     let e : (a + i - 65536) / 4096 ≡ k = omega arith in

@@ -5,27 +5,27 @@ use Rattle.std.proofs.Math.Seq.{take-append-add, drop-append-add}
 use Rattle.std.proofs.lemmas.List.{take-append-le, drop-append-le, take-append-drop, set_split, set-get_or, take_at, drop-drop, length-take-le, take-take, drop_at, drop-take}
 use Rattle.std.proofs.lemmas.List.Concat.{flat_map-append}
 use Rattle.std.proofs.lemmas.List.Elements.{All-head, All-tail, All-take}
-use Rattle.elf32.specs.Pages.{over, ArePages}
+use Rattle.elf32.specs.Pages.{overwritten_at, ArePages}
 
 -- ---- a list laid over a part of another
 
 -- over the second part
-over_second : (xs ys new : List ℕ) (at : ℕ) → over (xs ++ ys) (length xs + at) new ≡ xs ++ over ys at new
-unfolding over
+over_second : (xs ys new : List ℕ) (at : ℕ) → overwritten_at (xs ++ ys) (length xs + at) new ≡ xs ++ overwritten_at ys at new
+unfolding overwritten_at
 over_second xs ys new at =
     let e : length xs + at + length new ≡ length xs + (at + length new) = omega arith in
     rw (e, take-append-add xs ys at, drop-append-add xs ys (at + length new)) (simp append_assoc)
 
 -- over the first part
-over_first : (xs ys new : List ℕ) (at : ℕ) → at + length new ≤ length xs → over (xs ++ ys) at new ≡ over xs at new ++ ys
-unfolding over
+over_first : (xs ys new : List ℕ) (at : ℕ) → at + length new ≤ length xs → overwritten_at (xs ++ ys) at new ≡ overwritten_at xs at new ++ ys
+unfolding overwritten_at
 over_first xs ys new at h =
     let a : at ≤ length xs = omega arith in
     rw (take-append-le at xs ys a, drop-append-le (at + length new) xs ys h) (simp append_assoc)
 
 -- the later of two pieces first
-pub over_pieces : (xs a b : List ℕ) (at k : ℕ) → k ≡ at + length a → k + length b ≤ length xs → over (over xs k b) at a ≡ over xs at (a ++ b)
-unfolding over
+pub over_pieces : (xs a b : List ℕ) (at k : ℕ) → k ≡ at + length a → k + length b ≤ length xs → overwritten_at (overwritten_at xs k b) at a ≡ overwritten_at xs at (a ++ b)
+unfolding overwritten_at
 over_pieces xs a b at k e h =
     let low : at ≤ k = omega arith in
     let inside : k ≤ length xs = omega arith in
@@ -62,7 +62,7 @@ module _ {X : Type 0} (bytes : X → List ℕ) where
   by_page : (pages : List X) (k : ℕ) (d : X) → k < length pages → flat_map bytes pages ≡ flat_map bytes (take k pages) ++ (bytes (get_or pages k d) ++ flat_map bytes (drop (suc k) pages))
   by_page pages k d below = ap (flat_map bytes) (sym (set-get_or pages k d)) ∙ with_page pages k (get_or pages k d) below
 
-  pub write_one : (pages : List X) (new : List ℕ) (at k : ℕ) (p d : X) → ArePages bytes pages → k ≡ at / 4096 → k < length pages → at % 4096 + length new ≤ 4096 → bytes p ≡ over (bytes (get_or pages k d)) (at % 4096) new → flat_map bytes (set pages k p) ≡ over (flat_map bytes pages) at new
+  pub write_one : (pages : List X) (new : List ℕ) (at k : ℕ) (p d : X) → ArePages bytes pages → k ≡ at / 4096 → k < length pages → at % 4096 + length new ≤ 4096 → bytes p ≡ overwritten_at (bytes (get_or pages k d)) (at % 4096) new → flat_map bytes (set pages k p) ≡ overwritten_at (flat_map bytes pages) at new
   write_one pages new at k p d h e below room is =
       let front = flat_map bytes (take k pages) in
       let page = bytes (get_or pages k d) in
@@ -72,8 +72,8 @@ module _ {X : Type 0} (bytes : X → List ℕ) where
       let fits : at % 4096 + length new ≤ length page = omega arith in
       with_page pages k p below
       ∙ ap (λ (l : List ℕ). front ++ (l ++ back)) is
-      ∙ sym (ap (λ (l : List ℕ). over l at new) (by_page pages k d below)
-      ∙ ap (λ (n : ℕ). over (front ++ (page ++ back)) n new) place
+      ∙ sym (ap (λ (l : List ℕ). overwritten_at l at new) (by_page pages k d below)
+      ∙ ap (λ (n : ℕ). overwritten_at (front ++ (page ++ back)) n new) place
       ∙ over_second front (page ++ back) new (at % 4096)
       ∙ ap (λ (l : List ℕ). front ++ l) (over_first page back new (at % 4096) fits))
 

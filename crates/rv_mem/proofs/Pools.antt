@@ -5,7 +5,7 @@ use Rattle.std.proofs.lemmas.Bool.{cases_eq}
 use Rattle.std.proofs.lemmas.List.{get_or_append_left, get_or_push, get_or-set_same, get_or-set_other, get_or-map, get_or_default, length-set, length-map}
 use Rattle.std.proofs.lemmas.List.Elements.{All-map}
 use Rattle.std.proofs.lemmas.List.Folds.{flat_map-map}
-use Rattle.elf32.specs.Pages.{over, page_at, ArePages}
+use Rattle.elf32.specs.Pages.{overwritten_at, page_at, ArePages}
 use Rattle.rv_mem.proofs.Flat.{write_one}
 
 -- two lists of the same bytes, one by one
@@ -41,7 +41,7 @@ module _ (all : List (List ℕ)) (index : List ℕ) (page : ℕ) (places : All (
 
 -- a write to a page that stands once
 module _ (all : List (List ℕ)) (index new p : List ℕ) (at place : ℕ) where
-  pub put_bytes : ArePages (λ q. q) all → length index ≡ 256 → All (λ k. k < length all) index → at < 1048576 → get_or index (at / 4096) 0 ≡ place → ((j : ℕ) → j < 256 → get_or index j 0 ≡ place → j ≡ at / 4096) → at % 4096 + length new ≤ 4096 → p ≡ over (page_at all place) (at % 4096) new → flat_map (page_at (set all place p)) index ≡ over (flat_map (page_at all) index) at new
+  pub put_bytes : ArePages (λ q. q) all → length index ≡ 256 → All (λ k. k < length all) index → at < 1048576 → get_or index (at / 4096) 0 ≡ place → ((j : ℕ) → j < 256 → get_or index j 0 ≡ place → j ≡ at / 4096) → at % 4096 + length new ≤ 4096 → p ≡ overwritten_at (page_at all place) (at % 4096) new → flat_map (page_at (set all place p)) index ≡ overwritten_at (flat_map (page_at all) index) at new
   put_bytes sizes len places first here alone room is =
       let number = at / 4096 in
       let pages = map (page_at all) index in
@@ -62,5 +62,5 @@ module _ (all : List (List ℕ)) (index new p : List ℕ) (at place : ℕ) where
             ∙ get_or-set_other all place (get_or index i 0) p [] apart
             ∙ sym (get_or-set_other pages number i p e other ∙ read i e inside)
       ])
-      ∙ write_one (λ (q : List ℕ). q) pages new at number p [] (All-map (λ q. length q ≡ 4096) (page_at all) index (sized all index sizes places)) refl (omega arith) room (is ∙ sym (ap (λ (l : List ℕ). over l (at % 4096) new) (read number [] (omega arith) ∙ ap (page_at all) here)))
-      ∙ ap (λ (l : List ℕ). over l at new) (flat_map-map (λ (q : List ℕ). q) (page_at all) index)
+      ∙ write_one (λ (q : List ℕ). q) pages new at number p [] (All-map (λ q. length q ≡ 4096) (page_at all) index (sized all index sizes places)) refl (omega arith) room (is ∙ sym (ap (λ (l : List ℕ). overwritten_at l (at % 4096) new) (read number [] (omega arith) ∙ ap (page_at all) here)))
+      ∙ ap (λ (l : List ℕ). overwritten_at l at new) (flat_map-map (λ (q : List ℕ). q) (page_at all) index)

@@ -1,5 +1,5 @@
 -- The pages of a call, and the bytes that stand in them. Private help of proofs; no public clause cites it.
-use Rattle.std.specs.Prelude.{◌≡◌, ℕ, ◌+◌, ◌-◌, ◌≤◌, ◌<◌, ◌%◌, ◌/◌, nat_lt, if◌then◌else◌, List, ◌++◌, length, flat_map, replicate, slice_index, slice_index_or, true, All}
+use Rattle.std.specs.Prelude.{◌≡◌, ℕ, ◌+◌, ◌-◌, ◌^◌, ◌≤◌, ◌<◌, ◌%◌, ◌/◌, nat_lt, if◌then◌else◌, List, ◌++◌, length, flat_map, replicate, slice_index, slice_index_or, true, All}
 use Rattle.std.specs.List.{sum_by}
 use Rattle.std.specs.Arc.{arc_value}
 use Rattle.elf32.specs.Extent.{end_address, first_address, page_count, page_size}
@@ -45,15 +45,16 @@ pub record ArePlaced (base count own : ℕ) (index : List ℕ) : Type 0 where
   pub each : own + sum_by (is_shared count) index ≡ page_count
   pub alone : (i j : ℕ) → i < page_count → j < page_count → count ≤ slice_index index i → slice_index index i ≡ slice_index index j → i ≡ j
 
--- what holds of the page that is held, where one is: it is the program's and may be executed
+-- what holds of the page that is held, where one is: it is the program's and may be executed. Where none is, `first` is
+-- 2^32, and so no address of 32 bits is within a page from there on
 pub record IsHeld (rights : List Rights) (index : List ℕ) (held : Held) : Type 0 where
-  pub few : held.len ≤ page_size
-  pub low : 0 < held.len → first_address ≤ held.first
-  pub high : 0 < held.len → held.first < end_address
-  pub start : 0 < held.len → (held.first - first_address) % page_size ≡ 0
-  pub here : 0 < held.len → slice_index index ((held.first - first_address) / page_size) ≡ held.place
-  pub shared : 0 < held.len → held.place < first_own
-  pub allowed : 0 < held.len → (slice_index_or rights ((held.first - first_address) / page_size) no_rights).executable ≡ true
+  pub far : held.first ≤ 2 ^ 32
+  pub low : first_address ≤ held.first
+  pub start : (held.first - first_address) % page_size ≡ 0
+  pub high : held.first < 2 ^ 32 → held.first < end_address
+  pub here : held.first < 2 ^ 32 → slice_index index ((held.first - first_address) / page_size) ≡ held.place
+  pub shared : held.first < 2 ^ 32 → held.place < first_own
+  pub allowed : held.first < 2 ^ 32 → (slice_index_or rights ((held.first - first_address) / page_size) no_rights).executable ≡ true
 
 -- the pages of a call
 pub record IsPaged (p : Pages) : Type 0 where

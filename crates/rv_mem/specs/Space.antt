@@ -2,12 +2,12 @@
 use Rattle.std.specs.Prelude.{◌≡◌, ℕ, zero, suc, ◌+◌, ◌-◌, ◌/◌, ◌%◌, ◌==◌, nat_le, nat_lt, Bool, true, false, ◌&&◌, if◌then◌else◌, List, length, take, drop, slice_index_or, Result, Ok, Err, IsOk}
 use Rattle.byteorder.specs.Endian.{little_number, little_bytes}
 use Rattle.elf32.specs.Extent.{end_address, first_address, page_size}
-use Rattle.elf32.specs.Pages.{over}
+use Rattle.elf32.specs.Pages.{overwritten_at}
 use Rattle.elf32.specs.declared.segment.Rights.{Rights}
 use Rattle.rv_mem.specs.declared.access.Access.{Access}
 use Rattle.rv_mem.specs.declared.access.Access.TheVariants.{Read, Write, Execute}
 use Rattle.rv_mem.specs.declared.fault.Fault.{Fault}
-use Rattle.rv_mem.specs.declared.fault.Fault.TheVariants.{Misaligned, MemoryFault, FetchFault, Memory}
+use Rattle.rv_mem.specs.declared.fault.Fault.TheVariants as fault
 
 -- memory: the k-th byte has the address 0x10000 + k, and the k-th rights are those of the 4,096 bytes
 -- from 0x10000 + 4096 k on
@@ -34,51 +34,68 @@ abbrev pub no_rights : Rights
 no_rights = record { readable = false; writable = false; executable = false }
 
 -- the byte at an address may be used by an access: it is in memory, and its page has the right
-abbrev pub may : Access → List Rights → ℕ → Bool
-may access rights a = is_address a && allows access (slice_index_or rights ((a - first_address) / page_size) no_rights)
+abbrev pub allows_at : Access → List Rights → ℕ → Bool
+allows_at access rights a = is_address a && allows access (slice_index_or rights ((a - first_address) / page_size) no_rights)
 
 -- each of the n bytes from an address on may be used by an access
-unfoldable pub each : Access → List Rights → ℕ → ℕ → Bool
-each access rights a zero = true
-each access rights a (suc n) = may access rights a && each access rights (a + 1) n
+unfoldable pub allows_range : Access → List Rights → ℕ → ℕ → Bool
+allows_range access rights a zero = true
+allows_range access rights a (suc n) = allows_at access rights a && allows_range access rights (a + 1) n
+
+-- why an access is refused
+pub data AccessFault : Type 0 where
+  Misaligned : AccessFault
+  MemoryFault : AccessFault
+  FetchFault : AccessFault
+
+-- the fault that a call answers where an access is refused
+abbrev pub as_fault : AccessFault → Fault
+as_fault Misaligned = fault.Misaligned
+as_fault MemoryFault = fault.MemoryFault
+as_fault FetchFault = fault.FetchFault
+
+-- what a call answers
+abbrev pub as_answer : {X : Type 0} → Result X AccessFault → Result X Fault
+as_answer (Ok x) = Ok x
+as_answer (Err cause) = Err (as_fault cause)
 
 -- the fault of an access without the right
-abbrev pub fault_of : Access → Fault
-fault_of Read = MemoryFault
-fault_of Write = MemoryFault
-fault_of Execute = FetchFault
+abbrev pub access_fault : Access → AccessFault
+access_fault Read = MemoryFault
+access_fault Write = MemoryFault
+access_fault Execute = FetchFault
 
 -- where in the bytes an access to n bytes at an address begins, or its fault: alignment comes first
-abbrev pub place_of : ℕ → Access → List Rights → ℕ → Result ℕ Fault
+abbrev pub place_of : ℕ → Access → List Rights → ℕ → Result ℕ AccessFault
 place_of n access rights a =
-    if a % n == 0 then (if each access rights a n then Ok (a - first_address) else Err (fault_of access)) else Err Misaligned
+    if a % n == 0 then (if allows_range access rights a n then Ok (a - first_address) else Err (access_fault access)) else Err Misaligned
 
 -- what f makes of a place, or the fault
-abbrev pub from_place : {X : Type 0} → (ℕ → X) → Result ℕ Fault → Result X Fault
+abbrev pub from_place : {X : Type 0} → (ℕ → X) → Result ℕ AccessFault → Result X AccessFault
 from_place f (Ok place) = Ok (f place)
-from_place f (Err fault) = Err fault
+from_place f (Err cause) = Err cause
 
 -- a load of n bytes: the number that they are, the lowest first (RISC-V Unprivileged ISA, 2.6)
-abbrev pub loaded : ℕ → Access → Space → ℕ → Result ℕ Fault
+abbrev pub loaded : ℕ → Access → Space → ℕ → Result ℕ AccessFault
 loaded n access m a =
     from_place (λ place. little_number n (drop place m.bytes)) (place_of n access m.rights a)
 
 -- memory with bytes written from a place on
 abbrev pub written : Space → List ℕ → ℕ → Space
-written m new place = record m { bytes = over m.bytes place new }
+written m new place = record m { bytes = overwritten_at m.bytes place new }
 
 -- a store of the lowest n bytes of a value, the lowest first (RISC-V Unprivileged ISA, 2.6)
-abbrev pub stored : ℕ → Space → ℕ → ℕ → Result Space Fault
+abbrev pub stored : ℕ → Space → ℕ → ℕ → Result Space AccessFault
 stored n m a value = from_place (written m (little_bytes n value)) (place_of n Write m.rights a)
 
 -- a copy into memory, at any alignment
-abbrev pub copied : Space → ℕ → List ℕ → Result Space Fault
+abbrev pub copied : Space → ℕ → List ℕ → Result Space AccessFault
 copied m a new =
-    if each Write m.rights a (length new) then Ok (written m new (a - first_address)) else Err MemoryFault
+    if allows_range Write m.rights a (length new) then Ok (written m new (a - first_address)) else Err MemoryFault
 
 -- a call that should leave memory as `want` has it: it does so, or it answers the fault that `want` has. Where
 -- `want` has no fault it may also answer Memory. A refused call changes nothing
-abbrev pub Leaves : {X : Type 0} → Result X Fault → Result Space Fault → Space → Space → Type 0
-Leaves (Ok x) want old new = want ≡ Ok new
-Leaves (Err Memory) want old new = IsOk want × (new ≡ old)
-Leaves (Err fault) want old new = (want ≡ Err fault) × (new ≡ old)
+abbrev pub LeavesMemory : {X : Type 0} → Result X Fault → Result Space AccessFault → Space → Space → Type 0
+LeavesMemory (Ok x) want old new = want ≡ Ok new
+LeavesMemory (Err fault.Memory) want old new = IsOk want × (new ≡ old)
+LeavesMemory (Err fault) want old new = (as_answer want ≡ Err fault) × (new ≡ old)

@@ -1,7 +1,7 @@
 //! The ways to use a byte of memory.
 
 ghost use Rattle.std.specs.Prelude.{◌≡◌};
-ghost use Rattle.rv_mem.specs.Space.{allows, fault_of};
+ghost use Rattle.rv_mem.specs.Space.{allows, access_fault, as_fault};
 
 use crate::fault::Fault;
 use elf32::Rights;
@@ -32,7 +32,7 @@ impl Access {
 
     /// The fault of an access without the right.
     pub(crate) fn fault(self) -> Fault
-        ensures { result ≡ fault_of self }
+        ensures { result ≡ as_fault (access_fault self) }
     {
         match self {
             Access::Read | Access::Write => Fault::MemoryFault,

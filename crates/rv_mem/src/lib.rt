@@ -2,9 +2,9 @@
 //! page has rights of its own.
 #![tactic(auto)]
 
-pub mod access;
-pub mod fault;
-pub mod memory;
+mod access;
+mod fault;
+mod memory;
 mod pages;
 mod rights;
 

@@ -2,9 +2,9 @@
 
 ghost use Rattle.std.specs.Prelude.{◌≡◌, ◌<◌, ◌≤◌, ◌+◌, ◌-◌, ◌^◌, ◌↔◌, true, length, Ok, IfOk, OnOk, IsOk, IfErr, IfSome};
 ghost use Rattle.elf32.specs.Extent.{end_address, first_address, input_address};
-ghost use Rattle.elf32.specs.Pages.{over};
+ghost use Rattle.elf32.specs.Pages.{overwritten_at};
 ghost use Rattle.rv_mem.specs.Paged.{IsPaged, base_of, memory_bytes};
-ghost use Rattle.rv_mem.specs.Space.{bytes_at, each, loaded, stored, copied, Leaves};
+ghost use Rattle.rv_mem.specs.Space.{as_answer, bytes_at, allows_range, loaded, stored, copied, LeavesMemory};
 ghost use Rattle.rv_mem.specs.Start.{start_space};
 ghost use Rattle.rv_mem.specs.declared.access.Access.TheVariants.{Read, Write, Execute};
 ghost use Rattle.rv_mem.specs.declared.fault.Fault.TheVariants.{MemoryFault};
@@ -18,9 +18,12 @@ use crate::pages::{
 use crate::rights::{place, range_has};
 use byteorder::{ByteOrder, LittleEndian};
 use elf32::Image;
-use elf32::extent::{END_ADDRESS, FIRST_ADDRESS, INPUT_ADDRESS};
+use elf32::extent::{END_ADDRESS, FIRST_ADDRESS, INPUT_ADDRESS, PAGE_SIZE};
 use std::alloc::{AllocError, Global};
 use std::marker::Model;
+
+/// The number of bytes of a page.
+const PAGE: u64 = PAGE_SIZE as u64;
 
 /// The place of the input, in bytes from the first address of memory.
 const INPUT: usize = (INPUT_ADDRESS - FIRST_ADDRESS) as usize;
@@ -29,7 +32,7 @@ const INPUT: usize = (INPUT_ADDRESS - FIRST_ADDRESS) as usize;
 fn put_input(pages: &mut Pages, input: &[u8]) -> Result<(), AllocError>
     requires input { length input.now ≤ 4096 }
     requires paged { IsPaged pages.old }
-    ensures ok { OnOk result (memory_bytes pages.new ≡ over (memory_bytes pages.old) (input_address - first_address) input.now) }
+    ensures ok { OnOk result (memory_bytes pages.new ≡ overwritten_at (memory_bytes pages.old) (input_address - first_address) input.now) }
     ensures base { base_of pages.new ≡ base_of pages.old }
     ensures paged { IsPaged pages.new }
 {
@@ -74,7 +77,7 @@ impl Memory {
     /// FetchFault where one of the word's bytes may not be executed.
     #[inline(always)]
     pub fn fetch(&self, address: u32) -> Result<u32, Fault>
-        ensures { result ≡ loaded 4 Execute self.now address }
+        ensures { result ≡ as_answer (loaded 4 Execute self.now address) }
     {
         let at = place(&self.pages.base.rights, Access::Execute, address, 4)?;
         Ok(word_at(&self.pages, at))
@@ -85,8 +88,8 @@ impl Memory {
     pub fn held_word(&self, address: u32) -> Option<u32>
         ensures { IfSome result (λ word. loaded 4 Execute self.now address ≡ Ok word) }
     {
-        let offset = address.wrapping_sub(self.pages.held.first);
-        if offset < self.pages.held.len && address % 4 == 0 {
+        let offset = u64::from(address).wrapping_sub(self.pages.held.first);
+        if offset < PAGE && offset % 4 == 0 {
             return Some(held_word_at(&self.pages, offset as usize));
         }
         None
@@ -107,7 +110,7 @@ impl Memory {
     /// The byte at the address, or MemoryFault where it may not be loaded.
     #[inline(always)]
     pub fn load8(&self, address: u32) -> Result<u8, Fault>
-        ensures { result ≡ loaded 1 Read self.now address }
+        ensures { result ≡ as_answer (loaded 1 Read self.now address) }
     {
         let at = place(&self.pages.base.rights, Access::Read, address, 1)?;
         Ok(byte_at(&self.pages, at))
@@ -117,7 +120,7 @@ impl Memory {
     /// bytes may not be loaded.
     #[inline(always)]
     pub fn load16(&self, address: u32) -> Result<u16, Fault>
-        ensures { result ≡ loaded 2 Read self.now address }
+        ensures { result ≡ as_answer (loaded 2 Read self.now address) }
     {
         let at = place(&self.pages.base.rights, Access::Read, address, 2)?;
         Ok(halfword_at(&self.pages, at))
@@ -127,7 +130,7 @@ impl Memory {
     /// one of its bytes may not be loaded.
     #[inline(always)]
     pub fn load32(&self, address: u32) -> Result<u32, Fault>
-        ensures { result ≡ loaded 4 Read self.now address }
+        ensures { result ≡ as_answer (loaded 4 Read self.now address) }
     {
         let at = place(&self.pages.base.rights, Access::Read, address, 4)?;
         Ok(word_at(&self.pages, at))
@@ -136,7 +139,7 @@ impl Memory {
     /// Writes a byte at the address, or refuses with MemoryFault or Memory and changes nothing.
     #[inline(always)]
     pub fn store8(&mut self, address: u32, value: u8) -> Result<(), Fault>
-        ensures { Leaves result (stored 1 self.old address value) self.old self.new }
+        ensures { LeavesMemory result (stored 1 self.old address value) self.old self.new }
     {
         let at = place(&self.pages.base.rights, Access::Write, address, 1)?;
         write_in_page(&mut self.pages, at, &[value]).map_err(|_| Fault::Memory)
@@ -146,7 +149,7 @@ impl Memory {
     /// changes nothing.
     #[inline(always)]
     pub fn store16(&mut self, address: u32, value: u16) -> Result<(), Fault>
-        ensures { Leaves result (stored 2 self.old address value) self.old self.new }
+        ensures { LeavesMemory result (stored 2 self.old address value) self.old self.new }
     {
         let at = place(&self.pages.base.rights, Access::Write, address, 2)?;
         let mut halfword = [0; 2];
@@ -158,7 +161,7 @@ impl Memory {
     /// nothing.
     #[inline(always)]
     pub fn store32(&mut self, address: u32, value: u32) -> Result<(), Fault>
-        ensures { Leaves result (stored 4 self.old address value) self.old self.new }
+        ensures { LeavesMemory result (stored 4 self.old address value) self.old self.new }
     {
         let at = place(&self.pages.base.rights, Access::Write, address, 4)?;
         let mut word = [0; 4];
@@ -168,14 +171,14 @@ impl Memory {
 
     /// Whether each of the `len` bytes from the address on may be loaded. Addresses do not wrap.
     pub fn range_readable(&self, address: u32, len: u32) -> bool
-        ensures { result ≡ each Read self.now.rights address len }
+        ensures { result ≡ allows_range Read self.now.rights address len }
     {
         range_has(&self.pages.base.rights, Access::Read, address, len)
     }
 
     /// Whether each of the `len` bytes from the address on may be stored to. Addresses do not wrap.
     pub fn range_writable(&self, address: u32, len: u32) -> bool
-        ensures { result ≡ each Write self.now.rights address len }
+        ensures { result ≡ allows_range Write self.now.rights address len }
     {
         range_has(&self.pages.base.rights, Access::Write, address, len)
     }
@@ -185,7 +188,7 @@ impl Memory {
     pub fn copy_out(&self, address: u32, out: &mut [u8]) -> Result<(), Fault>
         requires { length out.old < 2 ^ 32 }
         ensures copied { OnOk result (out.new ≡ bytes_at self.now address (length out.old)) }
-        ensures ok { IsOk result ↔ (each Read self.now.rights address (length out.old) ≡ true) }
+        ensures ok { IsOk result ↔ (allows_range Read self.now.rights address (length out.old) ≡ true) }
         ensures err { IfErr result (λ e. (e ≡ MemoryFault) × (out.new ≡ out.old)) }
     {
         if !range_has(
@@ -219,7 +222,7 @@ impl Memory {
     #[tactic(auto, using(crate::proofs::Copied::copied_nothing))]
     pub fn copy_in(&mut self, address: u32, bytes: &[u8]) -> Result<(), Fault>
         requires { length bytes.now < 2 ^ 32 }
-        ensures { Leaves result (copied self.old address bytes.now) self.old self.new }
+        ensures { LeavesMemory result (copied self.old address bytes.now) self.old self.new }
     {
         if !range_has(
             &self.pages.base.rights,

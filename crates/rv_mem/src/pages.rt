@@ -1,9 +1,9 @@
 //! Reads and writes of bytes that stand in pages. A page is shared with the program until it is written.
 
-ghost use Rattle.std.specs.Prelude.{◌≡◌, ◌+◌, ◌/◌, ◌%◌, ◌-◌, ◌≤◌, ◌<◌, ◌++◌, ℕ, length, take, drop, slice_index, OnOk, OnErr, IfOk};
+ghost use Rattle.std.specs.Prelude.{◌≡◌, ◌+◌, ◌/◌, ◌%◌, ◌-◌, ◌^◌, ◌≤◌, ◌<◌, ◌++◌, ℕ, length, take, drop, slice_index, OnOk, OnErr, IfOk};
 ghost use Rattle.byteorder.specs.Endian.{little_number};
 ghost use Rattle.elf32.specs.Extent.{first_address, memory_size, page_count, page_size};
-ghost use Rattle.elf32.specs.Pages.{over, page_at, page_rights, segment_bytes};
+ghost use Rattle.elf32.specs.Pages.{overwritten_at, page_at, page_rights, segment_bytes};
 ghost use Rattle.rv_mem.specs.Paged.{IsPaged, AreOwn, base_of, first_own, memory_bytes};
 
 use byteorder::{ByteOrder, LittleEndian};
@@ -20,18 +20,15 @@ const FIRST_OWN: usize = 512;
 /// A page of the program that may be executed, which is held so that its words are found sooner.
 #[derive(Clone, Copy)]
 pub struct Held {
-    /// The page's first address.
-    pub first: u32,
-    /// The number of its bytes, or 0 where no page is held.
-    pub len: u32,
+    /// The page's first address, or 2^32 where no page is held: no word of an address of 32 bits is found there.
+    pub first: u64,
     /// The page's place among the program's.
     pub place: usize,
 }
 
 /// What is held where no page is.
 const NOTHING: Held = Held {
-    first: FIRST_ADDRESS,
-    len: 0,
+    first: 1 << 32,
     place: 0,
 };
 
@@ -112,7 +109,7 @@ fn put_own(pages: &mut Pages, place: usize, at: usize, new: &[u8])
     ensures paged { IsPaged pages.new }
     ensures base { base_of pages.new ≡ base_of pages.old }
     ensures index { pages.new.index.items ≡ pages.old.index.items }
-    ensures bytes { memory_bytes pages.new ≡ over (memory_bytes pages.old) at new.now }
+    ensures bytes { memory_bytes pages.new ≡ overwritten_at (memory_bytes pages.old) at new.now }
 {
     put(&mut pages.own[place], at % PAGE_SIZE, new);
 }
@@ -128,7 +125,7 @@ fn copy_and_write(pages: &mut Pages, at: usize, new: &[u8]) -> Result<(), AllocE
     requires shared { slice_index pages.old.index.items (at / page_size) < first_own }
     ensures paged { IsPaged pages.new }
     ensures base { base_of pages.new ≡ base_of pages.old }
-    ensures ok { OnOk result (memory_bytes pages.new ≡ over (memory_bytes pages.old) at new.now) }
+    ensures ok { OnOk result (memory_bytes pages.new ≡ overwritten_at (memory_bytes pages.old) at new.now) }
     ensures err { OnErr result (memory_bytes pages.new ≡ memory_bytes pages.old) }
 {
     let place = copy_page(pages, at / PAGE_SIZE)?;
@@ -145,7 +142,7 @@ pub fn write_in_page(pages: &mut Pages, at: usize, new: &[u8]) -> Result<(), All
     requires room { at % page_size + length new.now ≤ page_size }
     ensures paged { IsPaged pages.new }
     ensures base { base_of pages.new ≡ base_of pages.old }
-    ensures ok { OnOk result (memory_bytes pages.new ≡ over (memory_bytes pages.old) at new.now) }
+    ensures ok { OnOk result (memory_bytes pages.new ≡ overwritten_at (memory_bytes pages.old) at new.now) }
     ensures err { OnErr result (memory_bytes pages.new ≡ memory_bytes pages.old) }
 {
     let place = pages.index[at / PAGE_SIZE] as usize;
@@ -183,7 +180,7 @@ fn put_in_pages(pages: &mut Pages, at: usize, new: &[u8])
     ensures paged { IsPaged pages.new }
     ensures base { base_of pages.new ≡ base_of pages.old }
     ensures index { pages.new.index.items ≡ pages.old.index.items }
-    ensures bytes { memory_bytes pages.new ≡ over (memory_bytes pages.old) at new.now }
+    ensures bytes { memory_bytes pages.new ≡ overwritten_at (memory_bytes pages.old) at new.now }
 {
     let place = pages.index[at / PAGE_SIZE] as usize - FIRST_OWN;
     let room = PAGE_SIZE - at % PAGE_SIZE;
@@ -204,7 +201,7 @@ pub fn write(pages: &mut Pages, at: usize, new: &[u8]) -> Result<(), AllocError>
     requires room { at + length new.now ≤ memory_size }
     ensures paged { IsPaged pages.new }
     ensures base { base_of pages.new ≡ base_of pages.old }
-    ensures ok { OnOk result (memory_bytes pages.new ≡ over (memory_bytes pages.old) at new.now) }
+    ensures ok { OnOk result (memory_bytes pages.new ≡ overwritten_at (memory_bytes pages.old) at new.now) }
     ensures err { OnErr result (memory_bytes pages.new ≡ memory_bytes pages.old) }
 {
     own_pages(pages, at / PAGE_SIZE, (at + (new.len() - 1)) / PAGE_SIZE)?;
@@ -268,8 +265,7 @@ pub fn hold(pages: &mut Pages, at: usize)
     let place = pages.index[page] as usize;
     if place < FIRST_OWN && pages.base.rights[page].executable {
         pages.held = Held {
-            first: FIRST_ADDRESS + (page * PAGE_SIZE) as u32,
-            len: PAGE_SIZE as u32,
+            first: u64::from(FIRST_ADDRESS) + (page * PAGE_SIZE) as u64,
             place,
         };
     }
@@ -279,7 +275,8 @@ pub fn hold(pages: &mut Pages, at: usize)
 #[inline(always)]
 fn rest_of_held(pages: &Pages, offset: usize) -> &[u8]
     requires paged { IsPaged pages.now }
-    requires inside { offset < pages.now.held.len }
+    requires held { pages.now.held.first < 2 ^ 32 }
+    requires inside { offset < page_size }
     ensures value { result.now ≡ take (page_size - offset) (drop (pages.now.held.first - first_address + offset) (memory_bytes pages.now)) }
     ensures len { length result.now ≡ page_size - offset }
 {
@@ -290,7 +287,7 @@ fn rest_of_held(pages: &Pages, offset: usize) -> &[u8]
 #[inline(always)]
 pub fn held_word_at(pages: &Pages, offset: usize) -> u32
     requires paged { IsPaged pages.now }
-    requires inside { offset < pages.now.held.len }
+    requires held { pages.now.held.first < 2 ^ 32 }
     requires room { offset + 4 ≤ page_size }
     ensures { result ≡ little_number 4 (drop (pages.now.held.first - first_address + offset) (memory_bytes pages.now)) }
 {

@@ -2,7 +2,7 @@
 
 ghost use Rattle.std.specs.Prelude.{◌≡◌, ◌+◌, ◌%◌, ◌≤◌, ◌<◌, ◌==◌, ◌||◌, length, IfOk, IsTrue};
 ghost use Rattle.elf32.specs.Extent.{end_address, first_address, memory_size, page_count, page_size};
-ghost use Rattle.rv_mem.specs.Space.{may, each, place_of};
+ghost use Rattle.rv_mem.specs.Space.{allows_at, allows_range, as_answer, place_of};
 
 use crate::access::Access;
 use crate::fault::Fault;
@@ -14,9 +14,9 @@ const PAGE: u32 = PAGE_SIZE as u32;
 
 /// Whether the byte at the address lies in memory and its page allows the access.
 #[inline(always)]
-pub fn may(rights: &[Rights], access: Access, address: u32) -> bool
+pub fn allows_at(rights: &[Rights], access: Access, address: u32) -> bool
     requires { length rights.now ≡ page_count }
-    ensures { result ≡ may access rights.now address }
+    ensures { result ≡ allows_at access rights.now address }
 {
     FIRST_ADDRESS <= address
         && address < END_ADDRESS
@@ -27,7 +27,7 @@ pub fn may(rights: &[Rights], access: Access, address: u32) -> bool
 /// Addresses do not wrap. For `len` 0 it is true at any address.
 pub fn range_has(rights: &[Rights], access: Access, address: u32, len: u32) -> bool
     requires { length rights.now ≡ page_count }
-    ensures value { result ≡ each access rights.now address len }
+    ensures value { result ≡ allows_range access rights.now address len }
     ensures room { IsTrue result → 0 < len → (first_address ≤ address) × (address + len ≤ end_address) }
 {
     if len == 0 {
@@ -56,14 +56,14 @@ pub fn range_has(rights: &[Rights], access: Access, address: u32, len: u32) -> b
 pub fn place(rights: &[Rights], access: Access, address: u32, size: u32) -> Result<usize, Fault>
     requires pages { length rights.now ≡ page_count }
     requires size { IsTrue (size == 1 || size == 2 || size == 4) }
-    ensures value { result ≡ place_of size access rights.now address }
+    ensures value { result ≡ as_answer (place_of size access rights.now address) }
     ensures room { IfOk result (λ k. k + size ≤ memory_size) }
     ensures page { IfOk result (λ k. k % page_size + size ≤ page_size) }
 {
     if address % size != 0 {
         return Err(Fault::Misaligned);
     }
-    if !may(rights, access, address) {
+    if !allows_at(rights, access, address) {
         return Err(access.fault());
     }
     Ok((address - FIRST_ADDRESS) as usize)

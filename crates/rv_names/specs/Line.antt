@@ -3,9 +3,9 @@ use Rattle.std.specs.Prelude.{ℕ, ◌==◌, Bool, List, length, Option, Some, N
 use Rattle.std.specs.List.{list_any, before_first, after_first}
 use Rattle.std.specs.Option.{ok_or, option_map}
 use Rattle.rv_names.specs.Operands.{◌>>=◌, is_blank, trimmed, is_name}
-use Rattle.rv_names.specs.Mnemonics.{shape_of}
-use Rattle.rv_names.specs.Statements.{Said, saying, statement_of}
-use Rattle.rv_names.specs.declared.shapes.Shape.{Shape}
+use Rattle.rv_names.specs.Mnemonics.{keyword_of}
+use Rattle.rv_names.specs.Statements.{TextLine, saying, statement_of}
+use Rattle.rv_names.specs.declared.keywords.Keyword.{Keyword}
 use Rattle.rv_names.specs.declared.lines.Section.{Section}
 use Rattle.rv_names.specs.declared.lines.Cause.{Cause}
 use Rattle.rv_names.specs.declared.lines.Cause.TheVariants.{UnknownMnemonic, BadOperand}
@@ -39,14 +39,14 @@ word_of_body body = before_first is_blank body
 abbrev pub rest_of_body : List ℕ → List ℕ
 rest_of_body body = trimmed (after_first is_blank body)
 
--- the shape of a statement; None where the statement is empty
-unfoldable pub command_of : List ℕ → Result (Option Shape) Cause
+-- the keyword of a statement; None where the statement is empty
+unfoldable pub command_of : List ℕ → Result (Option Keyword) Cause
 command_of body =
-    if length body == 0 then Ok None else ok_or (option_map Some (shape_of (word_of_body body))) UnknownMnemonic
+    if length body == 0 then Ok None else ok_or (option_map Some (keyword_of (word_of_body body))) UnknownMnemonic
 
-abbrev pub said_by : Section → List ℕ → Option Shape → Result Said Cause
+abbrev pub said_by : Section → List ℕ → Option Keyword → Result TextLine Cause
 said_by section body None = Ok (saying Empty)
-said_by section body (Some shape) = statement_of section shape (rest_of_body body)
+said_by section body (Some keyword) = statement_of section keyword (rest_of_body body)
 
 -- what a line says, or the least-numbered cause that holds of it
 unfoldable pub line_of : Section → List ℕ → Result (Line (List ℕ)) Cause

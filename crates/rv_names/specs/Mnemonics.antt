@@ -14,8 +14,8 @@ use Rattle.rv_isa.specs.declared.instruction.Shift.{Shift}
 use Rattle.rv_isa.specs.declared.instruction.Shift.TheVariants.{Slli, Srli, Srai}
 use Rattle.rv_isa.specs.declared.instruction.Operation.{Operation}
 use Rattle.rv_isa.specs.declared.instruction.Operation.TheVariants.{Add, Sub, Sll, Slt, Sltu, Xor, Srl, Sra, Or, And, Mul, Mulh, Mulhsu, Mulhu, Div, Divu, Rem, Remu}
-use Rattle.rv_names.specs.declared.shapes.Shape.{Shape}
-use Rattle.rv_names.specs.declared.shapes.Shape.TheVariants.{LoadUpper, AddUpper, JumpAndLink, JumpRegister, Branching, Loading, Storing, OnImmediate, OnAmount, OnRegisters, Barrier, Call, Break, Nothing, Move, Jump, Return, LoadConstant, TextSection, DataSection, WordDirective, ByteDirective, ZeroDirective}
+use Rattle.rv_names.specs.declared.keywords.Keyword.{Keyword}
+use Rattle.rv_names.specs.declared.keywords.Keyword.TheVariants.{Lui, Auipc, Jal, Jalr, Branch, Load, Store, ComputeImmediate, ShiftImmediate, Compute, Fence, Ecall, Ebreak, Nop, Mv, J, Ret, Li, TextSection, DataSection, WordDirective, ByteDirective, ZeroDirective}
 
 -- the mnemonic of a branch
 abbrev pub condition_name : Condition → List ℕ
@@ -76,49 +76,49 @@ operation_name Divu = codes "divu"
 operation_name Rem = codes "rem"
 operation_name Remu = codes "remu"
 
--- the mnemonic or directive of each shape
-unfoldable pub mnemonic : Shape → List ℕ
-mnemonic LoadUpper = codes "lui"
-mnemonic AddUpper = codes "auipc"
-mnemonic JumpAndLink = codes "jal"
-mnemonic JumpRegister = codes "jalr"
-mnemonic (Branching condition) = condition_name condition
-mnemonic (Loading kind) = load_name kind
-mnemonic (Storing kind) = store_name kind
-mnemonic (OnImmediate operation) = immediate_name operation
-mnemonic (OnAmount shift) = shift_name shift
-mnemonic (OnRegisters operation) = operation_name operation
-mnemonic Barrier = codes "fence"
-mnemonic Call = codes "ecall"
-mnemonic Break = codes "ebreak"
-mnemonic Nothing = codes "nop"
-mnemonic Move = codes "mv"
-mnemonic Jump = codes "j"
-mnemonic Return = codes "ret"
-mnemonic LoadConstant = codes "li"
+-- the mnemonic or directive of each keyword
+unfoldable pub mnemonic : Keyword → List ℕ
+mnemonic Lui = codes "lui"
+mnemonic Auipc = codes "auipc"
+mnemonic Jal = codes "jal"
+mnemonic Jalr = codes "jalr"
+mnemonic (Branch condition) = condition_name condition
+mnemonic (Load kind) = load_name kind
+mnemonic (Store kind) = store_name kind
+mnemonic (ComputeImmediate operation) = immediate_name operation
+mnemonic (ShiftImmediate shift) = shift_name shift
+mnemonic (Compute operation) = operation_name operation
+mnemonic Fence = codes "fence"
+mnemonic Ecall = codes "ecall"
+mnemonic Ebreak = codes "ebreak"
+mnemonic Nop = codes "nop"
+mnemonic Mv = codes "mv"
+mnemonic J = codes "j"
+mnemonic Ret = codes "ret"
+mnemonic Li = codes "li"
 mnemonic TextSection = codes ".text"
 mnemonic DataSection = codes ".data"
 mnemonic WordDirective = codes ".word"
 mnemonic ByteDirective = codes ".byte"
 mnemonic ZeroDirective = codes ".zero"
 
--- every shape
-abbrev pub shapes : List Shape
-shapes =
-    LoadUpper ∷ AddUpper ∷ JumpAndLink ∷ JumpRegister
-    ∷ Branching Beq ∷ Branching Bne ∷ Branching Blt ∷ Branching Bge ∷ Branching Bltu ∷ Branching Bgeu
-    ∷ Loading Lb ∷ Loading Lh ∷ Loading Lw ∷ Loading Lbu ∷ Loading Lhu
-    ∷ Storing Sb ∷ Storing Sh ∷ Storing Sw
-    ∷ OnImmediate Addi ∷ OnImmediate Slti ∷ OnImmediate Sltiu ∷ OnImmediate Xori ∷ OnImmediate Ori ∷ OnImmediate Andi
-    ∷ OnAmount Slli ∷ OnAmount Srli ∷ OnAmount Srai
-    ∷ OnRegisters Add ∷ OnRegisters Sub ∷ OnRegisters Sll ∷ OnRegisters Slt ∷ OnRegisters Sltu ∷ OnRegisters Xor
-    ∷ OnRegisters Srl ∷ OnRegisters Sra ∷ OnRegisters Or ∷ OnRegisters And
-    ∷ OnRegisters Mul ∷ OnRegisters Mulh ∷ OnRegisters Mulhsu ∷ OnRegisters Mulhu
-    ∷ OnRegisters Div ∷ OnRegisters Divu ∷ OnRegisters Rem ∷ OnRegisters Remu
-    ∷ Barrier ∷ Call ∷ Break
-    ∷ Nothing ∷ Move ∷ Jump ∷ Return ∷ LoadConstant
+-- every keyword
+abbrev pub keywords : List Keyword
+keywords =
+    Lui ∷ Auipc ∷ Jal ∷ Jalr
+    ∷ Branch Beq ∷ Branch Bne ∷ Branch Blt ∷ Branch Bge ∷ Branch Bltu ∷ Branch Bgeu
+    ∷ Load Lb ∷ Load Lh ∷ Load Lw ∷ Load Lbu ∷ Load Lhu
+    ∷ Store Sb ∷ Store Sh ∷ Store Sw
+    ∷ ComputeImmediate Addi ∷ ComputeImmediate Slti ∷ ComputeImmediate Sltiu ∷ ComputeImmediate Xori ∷ ComputeImmediate Ori ∷ ComputeImmediate Andi
+    ∷ ShiftImmediate Slli ∷ ShiftImmediate Srli ∷ ShiftImmediate Srai
+    ∷ Compute Add ∷ Compute Sub ∷ Compute Sll ∷ Compute Slt ∷ Compute Sltu ∷ Compute Xor
+    ∷ Compute Srl ∷ Compute Sra ∷ Compute Or ∷ Compute And
+    ∷ Compute Mul ∷ Compute Mulh ∷ Compute Mulhsu ∷ Compute Mulhu
+    ∷ Compute Div ∷ Compute Divu ∷ Compute Rem ∷ Compute Remu
+    ∷ Fence ∷ Ecall ∷ Ebreak
+    ∷ Nop ∷ Mv ∷ J ∷ Ret ∷ Li
     ∷ TextSection ∷ DataSection ∷ WordDirective ∷ ByteDirective ∷ ZeroDirective ∷ []
 
--- the shape whose mnemonic or directive is `word`
-unfoldable pub shape_of : List ℕ → Option Shape
-shape_of word = find (λ shape. bytes_eq (mnemonic shape) word) shapes
+-- the keyword whose mnemonic or directive is `word`
+unfoldable pub keyword_of : List ℕ → Option Keyword
+keyword_of word = find (λ keyword. bytes_eq (mnemonic keyword) word) keywords

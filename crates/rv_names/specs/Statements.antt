@@ -1,4 +1,4 @@
--- The statements of a line of source, each by the shape of its mnemonic or directive.
+-- The statements of a line of source, each by the keyword of its mnemonic or directive.
 use Rattle.std.specs.Prelude.{ℕ, ◌/◌, ◌%◌, ◌^◌, Bool, true, false, not, List, ℤ, pos, ◌-ℤ◌, unsigned_abs, Some, None, Result, Ok, Err, if◌then◌else◌}
 use Rattle.std.specs.Option.{ok_or}
 use Rattle.rv_isa.specs.Decoding.{register_at, immediate_at, upper_at}
@@ -15,8 +15,8 @@ use Rattle.rv_isa.specs.declared.instruction.Instr.TheVariants.{Lui, Auipc, Jal,
 use Rattle.rv_names.specs.Operands.{◌>>=◌, no_operand, one_operand, two_operands, three_operands, register_operand, number_operand, place_operand, target_operand, immediate_of, branch_offset_of, jump_offset_of, upper_of, amount_of, word_value_of, count_of}
 use Rattle.rv_names.specs.declared.target.Target.{Target}
 use Rattle.rv_names.specs.declared.target.Target.TheVariants.{Number, Label}
-use Rattle.rv_names.specs.declared.shapes.Shape.{Shape}
-use Rattle.rv_names.specs.declared.shapes.Shape.TheVariants.{LoadUpper, AddUpper, JumpAndLink, JumpRegister, Branching, Loading, Storing, OnImmediate, OnAmount, OnRegisters, Barrier, Call, Break, Nothing, Move, Jump, Return, LoadConstant, TextSection, DataSection, WordDirective, ByteDirective, ZeroDirective}
+use Rattle.rv_names.specs.declared.keywords.Keyword.{Keyword}
+use Rattle.rv_names.specs.declared.keywords.Keyword.TheVariants as keyword
 use Rattle.rv_names.specs.declared.lines.Section.{Section}
 use Rattle.rv_names.specs.declared.lines.Section.TheVariants.{Text, Data}
 use Rattle.rv_names.specs.declared.lines.Cause.{Cause}
@@ -26,14 +26,14 @@ use Rattle.rv_names.specs.declared.lines.Statement.{Statement}
 use Rattle.rv_names.specs.declared.lines.Statement.TheVariants.{Plain, Pair, BranchTo, JumpTo, AddressOf, WordValue, ByteValue, ZeroBytes, Enter}
 
 -- a line without its label; its names are texts
-abbrev pub Said : Type 0
-Said = Line (List ℕ)
+abbrev pub TextLine : Type 0
+TextLine = Line (List ℕ)
 
 -- a statement that names no label, and one that does
-abbrev pub saying : Statement → Said
+abbrev pub saying : Statement → TextLine
 saying statement = record { label = None; statement = statement; target = None }
 
-abbrev pub naming : List ℕ → Statement → Said
+abbrev pub naming : List ℕ → Statement → TextLine
 naming target statement = record { label = None; statement = statement; target = Some target }
 
 -- ---- LUI and then ADDI
@@ -52,16 +52,16 @@ load_number rd v = (Lui rd (upper_at (high_of v)), ComputeImmediate Addi rd rd (
 -- ---- instructions
 
 -- `lui rd,N` and `auipc rd,N`
-unfoldable pub load_upper : List ℕ → Result Said Cause
-load_upper rest = do
+unfoldable pub lui : List ℕ → Result TextLine Cause
+lui rest = do
   operands ← two_operands rest
   rd ← register_operand operands.0
   n ← number_operand operands.1
   immediate ← upper_of n
   Ok (saying (Plain (Lui rd immediate)))
 
-unfoldable pub add_upper : List ℕ → Result Said Cause
-add_upper rest = do
+unfoldable pub auipc : List ℕ → Result TextLine Cause
+auipc rest = do
   operands ← two_operands rest
   rd ← register_operand operands.0
   n ← number_operand operands.1
@@ -69,23 +69,23 @@ add_upper rest = do
   Ok (saying (Plain (Auipc rd immediate)))
 
 -- JAL to a target
-abbrev pub jump_to : Reg → Target (List ℕ) → Result Said Cause
+abbrev pub jump_to : Reg → Target (List ℕ) → Result TextLine Cause
 jump_to rd (Number n) = do
   offset ← ok_or (jump_offset_of n) ImmediateRange
   Ok (saying (Plain (Jal rd offset)))
 jump_to rd (Label label) = Ok (naming label (JumpTo rd))
 
 -- `jal rd,TARGET`
-unfoldable pub jump_and_link : List ℕ → Result Said Cause
-jump_and_link rest = do
+unfoldable pub jal : List ℕ → Result TextLine Cause
+jal rest = do
   operands ← two_operands rest
   rd ← register_operand operands.0
   target ← target_operand operands.1
   jump_to rd target
 
 -- `jalr rd,N(rs1)`
-unfoldable pub jump_register : List ℕ → Result Said Cause
-jump_register rest = do
+unfoldable pub jalr : List ℕ → Result TextLine Cause
+jalr rest = do
   operands ← two_operands rest
   rd ← register_operand operands.0
   place ← place_operand operands.1
@@ -93,15 +93,15 @@ jump_register rest = do
   Ok (saying (Plain (Jalr rd place.1 offset)))
 
 -- a branch to a target
-abbrev pub branch_to : Condition → Reg → Reg → Target (List ℕ) → Result Said Cause
+abbrev pub branch_to : Condition → Reg → Reg → Target (List ℕ) → Result TextLine Cause
 branch_to condition left right (Number n) = do
   offset ← ok_or (branch_offset_of n) ImmediateRange
   Ok (saying (Plain (Branch condition left right offset)))
 branch_to condition left right (Label label) = Ok (naming label (BranchTo condition left right))
 
 -- `beq rs1,rs2,TARGET`
-unfoldable pub branching : Condition → List ℕ → Result Said Cause
-branching condition rest = do
+unfoldable pub branch : Condition → List ℕ → Result TextLine Cause
+branch condition rest = do
   operands ← three_operands rest
   left ← register_operand operands.0
   right ← register_operand operands.1
@@ -109,8 +109,8 @@ branching condition rest = do
   branch_to condition left right target
 
 -- `lw rd,N(rs1)`
-unfoldable pub loading : LoadKind → List ℕ → Result Said Cause
-loading kind rest = do
+unfoldable pub load : LoadKind → List ℕ → Result TextLine Cause
+load kind rest = do
   operands ← two_operands rest
   rd ← register_operand operands.0
   place ← place_operand operands.1
@@ -118,8 +118,8 @@ loading kind rest = do
   Ok (saying (Plain (Load kind rd place.1 offset)))
 
 -- `sw rs2,N(rs1)`
-unfoldable pub storing : StoreKind → List ℕ → Result Said Cause
-storing kind rest = do
+unfoldable pub store : StoreKind → List ℕ → Result TextLine Cause
+store kind rest = do
   operands ← two_operands rest
   source ← register_operand operands.0
   place ← place_operand operands.1
@@ -127,8 +127,8 @@ storing kind rest = do
   Ok (saying (Plain (Store kind source place.1 offset)))
 
 -- `addi rd,rs1,N`
-unfoldable pub on_immediate : ImmediateOperation → List ℕ → Result Said Cause
-on_immediate operation rest = do
+unfoldable pub compute_immediate : ImmediateOperation → List ℕ → Result TextLine Cause
+compute_immediate operation rest = do
   operands ← three_operands rest
   rd ← register_operand operands.0
   source ← register_operand operands.1
@@ -137,8 +137,8 @@ on_immediate operation rest = do
   Ok (saying (Plain (ComputeImmediate operation rd source immediate)))
 
 -- `slli rd,rs1,N`
-unfoldable pub on_amount : Shift → List ℕ → Result Said Cause
-on_amount shift rest = do
+unfoldable pub shift_immediate : Shift → List ℕ → Result TextLine Cause
+shift_immediate shift rest = do
   operands ← three_operands rest
   rd ← register_operand operands.0
   source ← register_operand operands.1
@@ -147,8 +147,8 @@ on_amount shift rest = do
   Ok (saying (Plain (ShiftImmediate shift rd source amount)))
 
 -- `add rd,rs1,rs2`
-unfoldable pub on_registers : Operation → List ℕ → Result Said Cause
-on_registers operation rest = do
+unfoldable pub compute : Operation → List ℕ → Result TextLine Cause
+compute operation rest = do
   operands ← three_operands rest
   rd ← register_operand operands.0
   left ← register_operand operands.1
@@ -156,7 +156,7 @@ on_registers operation rest = do
   Ok (saying (Plain (Compute operation rd left right)))
 
 -- a statement without operands
-abbrev pub alone : Statement → List ℕ → Result Said Cause
+abbrev pub alone : Statement → List ℕ → Result TextLine Cause
 alone statement rest = do
   none ← no_operand rest
   Ok (saying statement)
@@ -164,41 +164,41 @@ alone statement rest = do
 -- ---- pseudo-instructions
 
 -- `fence` has the word 0x0ff0000f
-abbrev pub full_fence : Instr
-full_fence = Fence (register_at 0) (register_at 0) (immediate_at 0x0ff)
+abbrev pub fence : Instr
+fence = Fence (register_at 0) (register_at 0) (immediate_at 0x0ff)
 
 -- `nop` is `addi x0,x0,0`
-abbrev pub no_operation : Instr
-no_operation = ComputeImmediate Addi (register_at 0) (register_at 0) (immediate_at 0)
+abbrev pub nop : Instr
+nop = ComputeImmediate Addi (register_at 0) (register_at 0) (immediate_at 0)
 
 -- `ret` is `jalr x0,0(x1)`
-abbrev pub return_jump : Instr
-return_jump = Jalr (register_at 0) (register_at 1) (immediate_at 0)
+abbrev pub ret : Instr
+ret = Jalr (register_at 0) (register_at 1) (immediate_at 0)
 
 -- `mv rd,rs` is `addi rd,rs,0`
-unfoldable pub move_register : List ℕ → Result Said Cause
-move_register rest = do
+unfoldable pub mv : List ℕ → Result TextLine Cause
+mv rest = do
   operands ← two_operands rest
   rd ← register_operand operands.0
   source ← register_operand operands.1
   Ok (saying (Plain (ComputeImmediate Addi rd source (immediate_at 0))))
 
 -- `j TARGET` is `jal x0,TARGET`
-unfoldable pub jump : List ℕ → Result Said Cause
-jump rest = do
+unfoldable pub j : List ℕ → Result TextLine Cause
+j rest = do
   operand ← one_operand rest
   target ← target_operand operand
   jump_to (register_at 0) target
 
 -- `li rd,N` and `li rd,LABEL`
-abbrev pub load_target : Reg → Target (List ℕ) → Result Said Cause
+abbrev pub load_target : Reg → Target (List ℕ) → Result TextLine Cause
 load_target rd (Number n) = do
   v ← word_value_of n
   Ok (saying (Pair (load_number rd v).0 (load_number rd v).1))
 load_target rd (Label label) = Ok (naming label (AddressOf rd))
 
-unfoldable pub load_constant : List ℕ → Result Said Cause
-load_constant rest = do
+unfoldable pub li : List ℕ → Result TextLine Cause
+li rest = do
   operands ← two_operands rest
   rd ← register_operand operands.0
   target ← target_operand operands.1
@@ -212,19 +212,19 @@ only_number rest = do
   operand ← one_operand rest
   number_operand operand
 
-unfoldable pub word_statement : List ℕ → Result Said Cause
+unfoldable pub word_statement : List ℕ → Result TextLine Cause
 word_statement rest = do
   n ← only_number rest
   v ← word_value_of n
   Ok (saying (WordValue v))
 
-unfoldable pub byte_statement : List ℕ → Result Said Cause
+unfoldable pub byte_statement : List ℕ → Result TextLine Cause
 byte_statement rest = do
   n ← only_number rest
   v ← count_of 255 n
   Ok (saying (ByteValue v))
 
-unfoldable pub zero_statement : List ℕ → Result Said Cause
+unfoldable pub zero_statement : List ℕ → Result TextLine Cause
 zero_statement rest = do
   n ← only_number rest
   v ← count_of 65536 n
@@ -232,45 +232,45 @@ zero_statement rest = do
 
 -- ---- all of them
 
--- the statement of a shape, in a section where it may stand
-unfoldable pub shaped : Shape → List ℕ → Result Said Cause
-shaped LoadUpper rest = load_upper rest
-shaped AddUpper rest = add_upper rest
-shaped JumpAndLink rest = jump_and_link rest
-shaped JumpRegister rest = jump_register rest
-shaped (Branching condition) rest = branching condition rest
-shaped (Loading kind) rest = loading kind rest
-shaped (Storing kind) rest = storing kind rest
-shaped (OnImmediate operation) rest = on_immediate operation rest
-shaped (OnAmount shift) rest = on_amount shift rest
-shaped (OnRegisters operation) rest = on_registers operation rest
-shaped Barrier rest = alone (Plain full_fence) rest
-shaped Call rest = alone (Plain Ecall) rest
-shaped Break rest = alone (Plain Ebreak) rest
-shaped Nothing rest = alone (Plain no_operation) rest
-shaped Move rest = move_register rest
-shaped Jump rest = jump rest
-shaped Return rest = alone (Plain return_jump) rest
-shaped LoadConstant rest = load_constant rest
-shaped TextSection rest = alone (Enter Text) rest
-shaped DataSection rest = alone (Enter Data) rest
-shaped WordDirective rest = word_statement rest
-shaped ByteDirective rest = byte_statement rest
-shaped ZeroDirective rest = zero_statement rest
+-- the statement of a keyword, in a section where it may stand
+unfoldable pub keyword_statement : Keyword → List ℕ → Result TextLine Cause
+keyword_statement keyword.Lui rest = lui rest
+keyword_statement keyword.Auipc rest = auipc rest
+keyword_statement keyword.Jal rest = jal rest
+keyword_statement keyword.Jalr rest = jalr rest
+keyword_statement (keyword.Branch condition) rest = branch condition rest
+keyword_statement (keyword.Load kind) rest = load kind rest
+keyword_statement (keyword.Store kind) rest = store kind rest
+keyword_statement (keyword.ComputeImmediate operation) rest = compute_immediate operation rest
+keyword_statement (keyword.ShiftImmediate shift) rest = shift_immediate shift rest
+keyword_statement (keyword.Compute operation) rest = compute operation rest
+keyword_statement keyword.Fence rest = alone (Plain fence) rest
+keyword_statement keyword.Ecall rest = alone (Plain Ecall) rest
+keyword_statement keyword.Ebreak rest = alone (Plain Ebreak) rest
+keyword_statement keyword.Nop rest = alone (Plain nop) rest
+keyword_statement keyword.Mv rest = mv rest
+keyword_statement keyword.J rest = j rest
+keyword_statement keyword.Ret rest = alone (Plain ret) rest
+keyword_statement keyword.Li rest = li rest
+keyword_statement keyword.TextSection rest = alone (Enter Text) rest
+keyword_statement keyword.DataSection rest = alone (Enter Data) rest
+keyword_statement keyword.WordDirective rest = word_statement rest
+keyword_statement keyword.ByteDirective rest = byte_statement rest
+keyword_statement keyword.ZeroDirective rest = zero_statement rest
 
 abbrev pub is_data : Section → Bool
 is_data Text = false
 is_data Data = true
 
 -- `.byte` and `.zero` stand in data, `.word` in both sections, instructions in text
-unfoldable pub may_stand_in : Section → Shape → Bool
-may_stand_in section TextSection = true
-may_stand_in section DataSection = true
-may_stand_in section WordDirective = true
-may_stand_in section ByteDirective = is_data section
-may_stand_in section ZeroDirective = is_data section
+unfoldable pub may_stand_in : Section → Keyword → Bool
+may_stand_in section keyword.TextSection = true
+may_stand_in section keyword.DataSection = true
+may_stand_in section keyword.WordDirective = true
+may_stand_in section keyword.ByteDirective = is_data section
+may_stand_in section keyword.ZeroDirective = is_data section
 may_stand_in section _ = not (is_data section)
 
--- the statement of a shape; BadOperand where it may not stand in the section
-unfoldable pub statement_of : Section → Shape → List ℕ → Result Said Cause
-statement_of section shape rest = if may_stand_in section shape then shaped shape rest else Err BadOperand
+-- the statement of a keyword; BadOperand where it may not stand in the section
+unfoldable pub statement_of : Section → Keyword → List ℕ → Result TextLine Cause
+statement_of section keyword rest = if may_stand_in section keyword then keyword_statement keyword rest else Err BadOperand

@@ -13,12 +13,12 @@ use Rattle.rv_isa.specs.Word.{word_of}
 use Rattle.rv_isa.specs.Decoded.{decoded}
 use Rattle.rv_names.specs.Registers.{x_name}
 use Rattle.rv_names.specs.Mnemonics.{mnemonic}
-use Rattle.rv_names.specs.declared.shapes.Shape.{Shape}
-use Rattle.rv_names.specs.declared.shapes.Shape.TheVariants.{LoadUpper, AddUpper, JumpAndLink, JumpRegister, Branching, Loading, Storing, OnImmediate, OnAmount, OnRegisters, Barrier, Call, Break, WordDirective}
+use Rattle.rv_names.specs.declared.keywords.Keyword.{Keyword}
+use Rattle.rv_names.specs.declared.keywords.Keyword.TheVariants as keyword
 
 -- a mnemonic, one blank, and the operands, separated by commas
-abbrev pub command : Shape → List (List ℕ) → List ℕ
-command shape operands = mnemonic shape ++ 32 ∷ join_with_byte 44 operands
+abbrev pub command : Keyword → List (List ℕ) → List ℕ
+command keyword operands = mnemonic keyword ++ 32 ∷ join_with_byte 44 operands
 
 -- imm[31:12] in hex, without leading zeros
 abbrev pub upper_text : Upper → List ℕ
@@ -30,31 +30,31 @@ place_text offset base = signed_decimal offset.value ++ 40 ∷ (x_name base ++ 4
 
 -- `.word 0x` and the word in eight hex digits
 abbrev pub word_directive : ℕ → List ℕ
-word_directive word = command WordDirective ((codes "0x" ++ encode_lower (to_be_bytes w32 word)) ∷ [])
+word_directive word = command keyword.WordDirective ((codes "0x" ++ encode_lower (to_be_bytes w32 word)) ∷ [])
 
 -- the text of a FENCE by its word: `fence` for 0x0ff0000f alone
 abbrev pub fence_text : ℕ → List ℕ
-fence_text word = if word == 0x0ff0000f then mnemonic Barrier else word_directive word
+fence_text word = if word == 0x0ff0000f then mnemonic keyword.Fence else word_directive word
 
 -- the text of an instruction
 unfoldable pub text_of : Instr → List ℕ
-text_of (Lui rd immediate) = command LoadUpper (x_name rd ∷ upper_text immediate ∷ [])
-text_of (Auipc rd immediate) = command AddUpper (x_name rd ∷ upper_text immediate ∷ [])
-text_of (Jal rd offset) = command JumpAndLink (x_name rd ∷ signed_decimal offset.value ∷ [])
-text_of (Jalr rd base offset) = command JumpRegister (x_name rd ∷ place_text offset base ∷ [])
+text_of (Lui rd immediate) = command keyword.Lui (x_name rd ∷ upper_text immediate ∷ [])
+text_of (Auipc rd immediate) = command keyword.Auipc (x_name rd ∷ upper_text immediate ∷ [])
+text_of (Jal rd offset) = command keyword.Jal (x_name rd ∷ signed_decimal offset.value ∷ [])
+text_of (Jalr rd base offset) = command keyword.Jalr (x_name rd ∷ place_text offset base ∷ [])
 text_of (Branch condition left right offset) =
-    command (Branching condition) (x_name left ∷ x_name right ∷ signed_decimal offset.value ∷ [])
-text_of (Load kind rd base offset) = command (Loading kind) (x_name rd ∷ place_text offset base ∷ [])
-text_of (Store kind source base offset) = command (Storing kind) (x_name source ∷ place_text offset base ∷ [])
+    command (keyword.Branch condition) (x_name left ∷ x_name right ∷ signed_decimal offset.value ∷ [])
+text_of (Load kind rd base offset) = command (keyword.Load kind) (x_name rd ∷ place_text offset base ∷ [])
+text_of (Store kind source base offset) = command (keyword.Store kind) (x_name source ∷ place_text offset base ∷ [])
 text_of (ComputeImmediate operation rd source immediate) =
-    command (OnImmediate operation) (x_name rd ∷ x_name source ∷ signed_decimal immediate.value ∷ [])
+    command (keyword.ComputeImmediate operation) (x_name rd ∷ x_name source ∷ signed_decimal immediate.value ∷ [])
 text_of (ShiftImmediate shift rd source amount) =
-    command (OnAmount shift) (x_name rd ∷ x_name source ∷ decimal amount.value ∷ [])
+    command (keyword.ShiftImmediate shift) (x_name rd ∷ x_name source ∷ decimal amount.value ∷ [])
 text_of (Compute operation rd left right) =
-    command (OnRegisters operation) (x_name rd ∷ x_name left ∷ x_name right ∷ [])
+    command (keyword.Compute operation) (x_name rd ∷ x_name left ∷ x_name right ∷ [])
 text_of (Fence rd source immediate) = fence_text (word_of (Fence rd source immediate))
-text_of Ecall = mnemonic Call
-text_of Ebreak = mnemonic Break
+text_of Ecall = mnemonic keyword.Ecall
+text_of Ebreak = mnemonic keyword.Ebreak
 
 -- the text of a word: the text of its instruction, or `.word 0x` and eight hex digits where it has none
 abbrev pub text_or_word : ℕ → Option Instr → List ℕ

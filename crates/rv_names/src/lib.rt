@@ -2,6 +2,7 @@
 //! instruction.
 #![tactic(auto)]
 
+mod keywords;
 mod lines;
 mod mnemonics;
 mod numbers;
@@ -9,17 +10,16 @@ mod operands;
 mod ranges;
 mod reading;
 mod registers;
-mod shapes;
 mod statements;
 mod target;
 mod texts;
 
+pub use keywords::Keyword;
 pub use lines::{Cause, Line, Section, Statement};
-pub use mnemonics::{mnemonic, shape};
+pub use mnemonics::{keyword, mnemonic};
 pub use numbers::number;
 pub use operands::trimmed;
 pub use ranges::{branch_offset, jump_offset, load_number};
 pub use reading::read_line;
 pub use registers::{register, x_name};
-pub use shapes::Shape;
 pub use texts::{instruction_text, word_text};

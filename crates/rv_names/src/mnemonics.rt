@@ -1,73 +1,73 @@
-//! The mnemonics and directives by their shapes.
+//! The keywords of source by their text: mnemonics and directives.
 
 ghost use Rattle.std.specs.Prelude.{◌≡◌, map};
 ghost use Rattle.std.specs.List.{find};
 ghost use Rattle.std.specs.Str.{bytes_eq};
-ghost use Rattle.rv_names.specs.Mnemonics.{condition_name, load_name, store_name, immediate_name, shift_name, operation_name, mnemonic, shapes, shape_of};
+ghost use Rattle.rv_names.specs.Mnemonics.{condition_name, load_name, store_name, immediate_name, shift_name, operation_name, mnemonic, keywords, keyword_of};
 
-use crate::Shape;
+use crate::Keyword;
 use rv_isa::{Condition, ImmediateOperation, LoadKind, Operation, Shift, StoreKind};
 
-/// Every shape.
-const SHAPES: [Shape; 58] = [
-    Shape::LoadUpper,
-    Shape::AddUpper,
-    Shape::JumpAndLink,
-    Shape::JumpRegister,
-    Shape::Branching(Condition::Beq),
-    Shape::Branching(Condition::Bne),
-    Shape::Branching(Condition::Blt),
-    Shape::Branching(Condition::Bge),
-    Shape::Branching(Condition::Bltu),
-    Shape::Branching(Condition::Bgeu),
-    Shape::Loading(LoadKind::Lb),
-    Shape::Loading(LoadKind::Lh),
-    Shape::Loading(LoadKind::Lw),
-    Shape::Loading(LoadKind::Lbu),
-    Shape::Loading(LoadKind::Lhu),
-    Shape::Storing(StoreKind::Sb),
-    Shape::Storing(StoreKind::Sh),
-    Shape::Storing(StoreKind::Sw),
-    Shape::OnImmediate(ImmediateOperation::Addi),
-    Shape::OnImmediate(ImmediateOperation::Slti),
-    Shape::OnImmediate(ImmediateOperation::Sltiu),
-    Shape::OnImmediate(ImmediateOperation::Xori),
-    Shape::OnImmediate(ImmediateOperation::Ori),
-    Shape::OnImmediate(ImmediateOperation::Andi),
-    Shape::OnAmount(Shift::Slli),
-    Shape::OnAmount(Shift::Srli),
-    Shape::OnAmount(Shift::Srai),
-    Shape::OnRegisters(Operation::Add),
-    Shape::OnRegisters(Operation::Sub),
-    Shape::OnRegisters(Operation::Sll),
-    Shape::OnRegisters(Operation::Slt),
-    Shape::OnRegisters(Operation::Sltu),
-    Shape::OnRegisters(Operation::Xor),
-    Shape::OnRegisters(Operation::Srl),
-    Shape::OnRegisters(Operation::Sra),
-    Shape::OnRegisters(Operation::Or),
-    Shape::OnRegisters(Operation::And),
-    Shape::OnRegisters(Operation::Mul),
-    Shape::OnRegisters(Operation::Mulh),
-    Shape::OnRegisters(Operation::Mulhsu),
-    Shape::OnRegisters(Operation::Mulhu),
-    Shape::OnRegisters(Operation::Div),
-    Shape::OnRegisters(Operation::Divu),
-    Shape::OnRegisters(Operation::Rem),
-    Shape::OnRegisters(Operation::Remu),
-    Shape::Barrier,
-    Shape::Call,
-    Shape::Break,
-    Shape::Nothing,
-    Shape::Move,
-    Shape::Jump,
-    Shape::Return,
-    Shape::LoadConstant,
-    Shape::TextSection,
-    Shape::DataSection,
-    Shape::WordDirective,
-    Shape::ByteDirective,
-    Shape::ZeroDirective,
+/// Every keyword.
+const KEYWORDS: [Keyword; 58] = [
+    Keyword::Lui,
+    Keyword::Auipc,
+    Keyword::Jal,
+    Keyword::Jalr,
+    Keyword::Branch(Condition::Beq),
+    Keyword::Branch(Condition::Bne),
+    Keyword::Branch(Condition::Blt),
+    Keyword::Branch(Condition::Bge),
+    Keyword::Branch(Condition::Bltu),
+    Keyword::Branch(Condition::Bgeu),
+    Keyword::Load(LoadKind::Lb),
+    Keyword::Load(LoadKind::Lh),
+    Keyword::Load(LoadKind::Lw),
+    Keyword::Load(LoadKind::Lbu),
+    Keyword::Load(LoadKind::Lhu),
+    Keyword::Store(StoreKind::Sb),
+    Keyword::Store(StoreKind::Sh),
+    Keyword::Store(StoreKind::Sw),
+    Keyword::ComputeImmediate(ImmediateOperation::Addi),
+    Keyword::ComputeImmediate(ImmediateOperation::Slti),
+    Keyword::ComputeImmediate(ImmediateOperation::Sltiu),
+    Keyword::ComputeImmediate(ImmediateOperation::Xori),
+    Keyword::ComputeImmediate(ImmediateOperation::Ori),
+    Keyword::ComputeImmediate(ImmediateOperation::Andi),
+    Keyword::ShiftImmediate(Shift::Slli),
+    Keyword::ShiftImmediate(Shift::Srli),
+    Keyword::ShiftImmediate(Shift::Srai),
+    Keyword::Compute(Operation::Add),
+    Keyword::Compute(Operation::Sub),
+    Keyword::Compute(Operation::Sll),
+    Keyword::Compute(Operation::Slt),
+    Keyword::Compute(Operation::Sltu),
+    Keyword::Compute(Operation::Xor),
+    Keyword::Compute(Operation::Srl),
+    Keyword::Compute(Operation::Sra),
+    Keyword::Compute(Operation::Or),
+    Keyword::Compute(Operation::And),
+    Keyword::Compute(Operation::Mul),
+    Keyword::Compute(Operation::Mulh),
+    Keyword::Compute(Operation::Mulhsu),
+    Keyword::Compute(Operation::Mulhu),
+    Keyword::Compute(Operation::Div),
+    Keyword::Compute(Operation::Divu),
+    Keyword::Compute(Operation::Rem),
+    Keyword::Compute(Operation::Remu),
+    Keyword::Fence,
+    Keyword::Ecall,
+    Keyword::Ebreak,
+    Keyword::Nop,
+    Keyword::Mv,
+    Keyword::J,
+    Keyword::Ret,
+    Keyword::Li,
+    Keyword::TextSection,
+    Keyword::DataSection,
+    Keyword::WordDirective,
+    Keyword::ByteDirective,
+    Keyword::ZeroDirective,
 ];
 
 /// A branch's mnemonic.
@@ -159,52 +159,52 @@ fn operation_name(operation: Operation) -> &'static str
     }
 }
 
-/// The mnemonic or directive of a shape, in lower case.
+/// The mnemonic or directive of a keyword, in lower case.
 #[tactic(auto, unfolding(crate::specs::Mnemonics::mnemonic))]
-pub fn mnemonic(shape: Shape) -> &'static str
-    ensures { result.now ≡ mnemonic shape }
+pub fn mnemonic(keyword: Keyword) -> &'static str
+    ensures { result.now ≡ mnemonic keyword }
 {
-    match shape {
-        Shape::LoadUpper => "lui",
-        Shape::AddUpper => "auipc",
-        Shape::JumpAndLink => "jal",
-        Shape::JumpRegister => "jalr",
-        Shape::Branching(condition) => condition_name(condition),
-        Shape::Loading(kind) => load_name(kind),
-        Shape::Storing(kind) => store_name(kind),
-        Shape::OnImmediate(operation) => immediate_name(operation),
-        Shape::OnAmount(shift) => shift_name(shift),
-        Shape::OnRegisters(operation) => operation_name(operation),
-        Shape::Barrier => "fence",
-        Shape::Call => "ecall",
-        Shape::Break => "ebreak",
-        Shape::Nothing => "nop",
-        Shape::Move => "mv",
-        Shape::Jump => "j",
-        Shape::Return => "ret",
-        Shape::LoadConstant => "li",
-        Shape::TextSection => ".text",
-        Shape::DataSection => ".data",
-        Shape::WordDirective => ".word",
-        Shape::ByteDirective => ".byte",
-        Shape::ZeroDirective => ".zero",
+    match keyword {
+        Keyword::Lui => "lui",
+        Keyword::Auipc => "auipc",
+        Keyword::Jal => "jal",
+        Keyword::Jalr => "jalr",
+        Keyword::Branch(condition) => condition_name(condition),
+        Keyword::Load(kind) => load_name(kind),
+        Keyword::Store(kind) => store_name(kind),
+        Keyword::ComputeImmediate(operation) => immediate_name(operation),
+        Keyword::ShiftImmediate(shift) => shift_name(shift),
+        Keyword::Compute(operation) => operation_name(operation),
+        Keyword::Fence => "fence",
+        Keyword::Ecall => "ecall",
+        Keyword::Ebreak => "ebreak",
+        Keyword::Nop => "nop",
+        Keyword::Mv => "mv",
+        Keyword::J => "j",
+        Keyword::Ret => "ret",
+        Keyword::Li => "li",
+        Keyword::TextSection => ".text",
+        Keyword::DataSection => ".data",
+        Keyword::WordDirective => ".word",
+        Keyword::ByteDirective => ".byte",
+        Keyword::ZeroDirective => ".zero",
     }
 }
 
-/// The first of the shapes whose mnemonic or directive is `word`; `None` where there is none.
-fn found(shapes: &[Shape], word: &[u8]) -> Option<Shape>
-    ensures { result ≡ find (λ shape. bytes_eq (mnemonic shape) word.now) shapes.now }
+/// The first of the keywords whose mnemonic or directive is `word`; `None` where there is none.
+fn found(keywords: &[Keyword], word: &[u8]) -> Option<Keyword>
+    ensures { result ≡ find (λ keyword. bytes_eq (mnemonic keyword) word.now) keywords.now }
 {
-    shapes
+    keywords
         .iter()
         .copied()
-        .find(|shape| mnemonic(*shape).as_bytes() == word)
+        .find(|keyword| mnemonic(*keyword).as_bytes() == word)
 }
 
-/// The shape whose mnemonic or directive is `word`; `None` for any other word, also for one in capitals.
-#[tactic(auto, unfolding(crate::specs::Mnemonics::shape_of))]
-pub fn shape(word: &[u8]) -> Option<Shape>
-    ensures { result ≡ shape_of word.now }
+/// The keyword whose mnemonic or directive is `word`; `None` for any other word, also for one in capitals.
+#[tactic(auto, unfolding(crate::specs::Mnemonics::keyword_of))]
+pub fn keyword(word: &[u8]) -> Option<Keyword>
+    ensures { result ≡ keyword_of word.now }
 {
-    found(SHAPES.as_slice(), word)
+    found(KEYWORDS.as_slice(), word)
 }

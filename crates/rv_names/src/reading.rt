@@ -8,10 +8,10 @@ ghost use Rattle.rv_names.specs.Operands.{is_blank};
 ghost use Rattle.rv_names.specs.Shown.{line_map};
 ghost use Rattle.rv_names.specs.Line.{content_of, label_of, body_of, word_of_body, rest_of_body, command_of, said_by, line_of};
 
-use crate::mnemonics::shape;
+use crate::mnemonics::keyword;
 use crate::operands::{before, behind, has, is_blank, is_name, trimmed};
 use crate::statements::statement;
-use crate::{Cause, Line, Section, Shape, Statement};
+use crate::{Cause, Keyword, Line, Section, Statement};
 
 /// A line without its comment, and without the blanks at its beginning and its end.
 #[tactic(auto, unfolding(crate::specs::Line::content_of))]
@@ -74,27 +74,27 @@ fn behind_word(body: &[u8]) -> &[u8]
     }
 }
 
-/// The shape of a statement; `None` where the statement is empty, UnknownMnemonic where its first word is
+/// The keyword of a statement; `None` where the statement is empty, UnknownMnemonic where its first word is
 /// neither a mnemonic nor a directive.
 #[tactic(auto, unfolding(crate::specs::Line::command_of))]
-fn command(body: &[u8]) -> Result<Option<Shape>, Cause>
+fn command(body: &[u8]) -> Result<Option<Keyword>, Cause>
     ensures { result ≡ command_of body.now }
 {
     if body.is_empty() {
         return Ok(None);
     }
-    match shape(first_word(body)) {
-        Some(shape) => Ok(Some(shape)),
+    match keyword(first_word(body)) {
+        Some(keyword) => Ok(Some(keyword)),
         None => Err(Cause::UnknownMnemonic),
     }
 }
 
-/// The statement of a shape, or the empty statement where there is no shape.
-fn said(section: Section, body: &[u8], command: Option<Shape>) -> Result<Line<&[u8]>, Cause>
+/// The statement of a keyword, or the empty statement where there is no keyword.
+fn said(section: Section, body: &[u8], command: Option<Keyword>) -> Result<Line<&[u8]>, Cause>
     ensures { result_map_both (line_map (λ label. label.now)) (λ cause. cause) result ≡ said_by section body.now command }
 {
     match command {
-        Some(shape) => statement(section, shape, trimmed(behind_word(body))),
+        Some(keyword) => statement(section, keyword, trimmed(behind_word(body))),
         None => Ok(Line::saying(Statement::Empty)),
     }
 }

@@ -1,9 +1,9 @@
-//! The statements of source: one function for each shape, which reads the operands.
+//! The statements of source: one function for each keyword, which reads the operands.
 
 ghost use Rattle.std.specs.Prelude.{◌≡◌, ◌<◌};
 ghost use Rattle.std.specs.Result.{result_map_both};
 ghost use Rattle.rv_names.specs.Shown.{line_map, target_map};
-ghost use Rattle.rv_names.specs.Statements.{load_upper, add_upper, jump_to, jump_and_link, jump_register, branch_to, branching, loading, storing, on_immediate, on_amount, on_registers, alone, move_register, jump, load_target, load_constant, only_number, word_statement, byte_statement, zero_statement, full_fence, no_operation, return_jump, shaped, is_data, may_stand_in, statement_of};
+ghost use Rattle.rv_names.specs.Statements.{lui, auipc, jump_to, jal, jalr, branch_to, branch, load, store, compute_immediate, shift_immediate, compute, alone, mv, j, load_target, li, only_number, word_statement, byte_statement, zero_statement, fence, nop, ret, keyword_statement, is_data, may_stand_in, statement_of};
 ghost use Rattle.rv_isa.specs.Decoding.{register_at, immediate_at};
 
 use crate::operands::{
@@ -14,7 +14,7 @@ use crate::ranges::{
     amount, branch_offset, count, immediate, jump_offset, load_number, upper, word_value,
 };
 use crate::target::Target;
-use crate::{Cause, Line, Section, Shape, Statement};
+use crate::{Cause, Keyword, Line, Section, Statement};
 use rv_isa::{
     Condition, Immediate, ImmediateOperation, Instr, LoadKind, Operation, Reg, Shift, StoreKind,
 };
@@ -47,9 +47,9 @@ fn small(n: u16) -> Immediate
 }
 
 /// `lui rd,N`
-#[tactic(auto, unfolding(crate::specs::Statements::load_upper))]
-fn load_upper(rest: &[u8]) -> Result<Line<&[u8]>, Cause>
-    ensures { result_map_both (line_map (λ label. label.now)) (λ cause. cause) result ≡ load_upper rest.now }
+#[tactic(auto, unfolding(crate::specs::Statements::lui))]
+fn lui(rest: &[u8]) -> Result<Line<&[u8]>, Cause>
+    ensures { result_map_both (line_map (λ label. label.now)) (λ cause. cause) result ≡ lui rest.now }
 {
     let (rd, n) = two_operands(rest)?;
     let rd = register_operand(rd)?;
@@ -58,9 +58,9 @@ fn load_upper(rest: &[u8]) -> Result<Line<&[u8]>, Cause>
 }
 
 /// `auipc rd,N`
-#[tactic(auto, unfolding(crate::specs::Statements::add_upper))]
-fn add_upper(rest: &[u8]) -> Result<Line<&[u8]>, Cause>
-    ensures { result_map_both (line_map (λ label. label.now)) (λ cause. cause) result ≡ add_upper rest.now }
+#[tactic(auto, unfolding(crate::specs::Statements::auipc))]
+fn auipc(rest: &[u8]) -> Result<Line<&[u8]>, Cause>
+    ensures { result_map_both (line_map (λ label. label.now)) (λ cause. cause) result ≡ auipc rest.now }
 {
     let (rd, n) = two_operands(rest)?;
     let rd = register_operand(rd)?;
@@ -82,9 +82,9 @@ fn jump_to(rd: Reg, target: Target<&[u8]>) -> Result<Line<&[u8]>, Cause>
 }
 
 /// `jal rd,TARGET`
-#[tactic(auto, unfolding(crate::specs::Statements::jump_and_link))]
-fn jump_and_link(rest: &[u8]) -> Result<Line<&[u8]>, Cause>
-    ensures { result_map_both (line_map (λ label. label.now)) (λ cause. cause) result ≡ jump_and_link rest.now }
+#[tactic(auto, unfolding(crate::specs::Statements::jal))]
+fn jal(rest: &[u8]) -> Result<Line<&[u8]>, Cause>
+    ensures { result_map_both (line_map (λ label. label.now)) (λ cause. cause) result ≡ jal rest.now }
 {
     let (rd, target) = two_operands(rest)?;
     let rd = register_operand(rd)?;
@@ -92,9 +92,9 @@ fn jump_and_link(rest: &[u8]) -> Result<Line<&[u8]>, Cause>
 }
 
 /// `jalr rd,N(rs1)`
-#[tactic(auto, unfolding(crate::specs::Statements::jump_register))]
-fn jump_register(rest: &[u8]) -> Result<Line<&[u8]>, Cause>
-    ensures { result_map_both (line_map (λ label. label.now)) (λ cause. cause) result ≡ jump_register rest.now }
+#[tactic(auto, unfolding(crate::specs::Statements::jalr))]
+fn jalr(rest: &[u8]) -> Result<Line<&[u8]>, Cause>
+    ensures { result_map_both (line_map (λ label. label.now)) (λ cause. cause) result ≡ jalr rest.now }
 {
     let (rd, place) = two_operands(rest)?;
     let rd = register_operand(rd)?;
@@ -134,9 +134,9 @@ fn branch_to(
 }
 
 /// `beq rs1,rs2,TARGET`
-#[tactic(auto, unfolding(crate::specs::Statements::branching))]
-fn branching(condition: Condition, rest: &[u8]) -> Result<Line<&[u8]>, Cause>
-    ensures { result_map_both (line_map (λ label. label.now)) (λ cause. cause) result ≡ branching condition rest.now }
+#[tactic(auto, unfolding(crate::specs::Statements::branch))]
+fn branch(condition: Condition, rest: &[u8]) -> Result<Line<&[u8]>, Cause>
+    ensures { result_map_both (line_map (λ label. label.now)) (λ cause. cause) result ≡ branch condition rest.now }
 {
     let (left, right, target) = three_operands(rest)?;
     let left = register_operand(left)?;
@@ -145,9 +145,9 @@ fn branching(condition: Condition, rest: &[u8]) -> Result<Line<&[u8]>, Cause>
 }
 
 /// `lw rd,N(rs1)`
-#[tactic(auto, unfolding(crate::specs::Statements::loading))]
-fn loading(kind: LoadKind, rest: &[u8]) -> Result<Line<&[u8]>, Cause>
-    ensures { result_map_both (line_map (λ label. label.now)) (λ cause. cause) result ≡ loading kind rest.now }
+#[tactic(auto, unfolding(crate::specs::Statements::load))]
+fn load(kind: LoadKind, rest: &[u8]) -> Result<Line<&[u8]>, Cause>
+    ensures { result_map_both (line_map (λ label. label.now)) (λ cause. cause) result ≡ load kind rest.now }
 {
     let (rd, place) = two_operands(rest)?;
     let rd = register_operand(rd)?;
@@ -162,9 +162,9 @@ fn loading(kind: LoadKind, rest: &[u8]) -> Result<Line<&[u8]>, Cause>
 }
 
 /// `sw rs2,N(rs1)`
-#[tactic(auto, unfolding(crate::specs::Statements::storing))]
-fn storing(kind: StoreKind, rest: &[u8]) -> Result<Line<&[u8]>, Cause>
-    ensures { result_map_both (line_map (λ label. label.now)) (λ cause. cause) result ≡ storing kind rest.now }
+#[tactic(auto, unfolding(crate::specs::Statements::store))]
+fn store(kind: StoreKind, rest: &[u8]) -> Result<Line<&[u8]>, Cause>
+    ensures { result_map_both (line_map (λ label. label.now)) (λ cause. cause) result ≡ store kind rest.now }
 {
     let (source, place) = two_operands(rest)?;
     let source = register_operand(source)?;
@@ -179,9 +179,9 @@ fn storing(kind: StoreKind, rest: &[u8]) -> Result<Line<&[u8]>, Cause>
 }
 
 /// `addi rd,rs1,N`
-#[tactic(auto, unfolding(crate::specs::Statements::on_immediate))]
-fn on_immediate(operation: ImmediateOperation, rest: &[u8]) -> Result<Line<&[u8]>, Cause>
-    ensures { result_map_both (line_map (λ label. label.now)) (λ cause. cause) result ≡ on_immediate operation rest.now }
+#[tactic(auto, unfolding(crate::specs::Statements::compute_immediate))]
+fn compute_immediate(operation: ImmediateOperation, rest: &[u8]) -> Result<Line<&[u8]>, Cause>
+    ensures { result_map_both (line_map (λ label. label.now)) (λ cause. cause) result ≡ compute_immediate operation rest.now }
 {
     let (rd, source, n) = three_operands(rest)?;
     let rd = register_operand(rd)?;
@@ -196,9 +196,9 @@ fn on_immediate(operation: ImmediateOperation, rest: &[u8]) -> Result<Line<&[u8]
 }
 
 /// `slli rd,rs1,N`
-#[tactic(auto, unfolding(crate::specs::Statements::on_amount))]
-fn on_amount(shift: Shift, rest: &[u8]) -> Result<Line<&[u8]>, Cause>
-    ensures { result_map_both (line_map (λ label. label.now)) (λ cause. cause) result ≡ on_amount shift rest.now }
+#[tactic(auto, unfolding(crate::specs::Statements::shift_immediate))]
+fn shift_immediate(shift: Shift, rest: &[u8]) -> Result<Line<&[u8]>, Cause>
+    ensures { result_map_both (line_map (λ label. label.now)) (λ cause. cause) result ≡ shift_immediate shift rest.now }
 {
     let (rd, source, n) = three_operands(rest)?;
     let rd = register_operand(rd)?;
@@ -213,9 +213,9 @@ fn on_amount(shift: Shift, rest: &[u8]) -> Result<Line<&[u8]>, Cause>
 }
 
 /// `add rd,rs1,rs2`
-#[tactic(auto, unfolding(crate::specs::Statements::on_registers))]
-fn on_registers(operation: Operation, rest: &[u8]) -> Result<Line<&[u8]>, Cause>
-    ensures { result_map_both (line_map (λ label. label.now)) (λ cause. cause) result ≡ on_registers operation rest.now }
+#[tactic(auto, unfolding(crate::specs::Statements::compute))]
+fn compute(operation: Operation, rest: &[u8]) -> Result<Line<&[u8]>, Cause>
+    ensures { result_map_both (line_map (λ label. label.now)) (λ cause. cause) result ≡ compute operation rest.now }
 {
     let (rd, left, right) = three_operands(rest)?;
     let rd = register_operand(rd)?;
@@ -238,9 +238,9 @@ fn alone(statement: Statement, rest: &[u8]) -> Result<Line<&[u8]>, Cause>
 }
 
 /// `mv rd,rs`, which is `addi rd,rs,0`
-#[tactic(auto, unfolding(crate::specs::Statements::move_register))]
-fn move_register(rest: &[u8]) -> Result<Line<&[u8]>, Cause>
-    ensures { result_map_both (line_map (λ label. label.now)) (λ cause. cause) result ≡ move_register rest.now }
+#[tactic(auto, unfolding(crate::specs::Statements::mv))]
+fn mv(rest: &[u8]) -> Result<Line<&[u8]>, Cause>
+    ensures { result_map_both (line_map (λ label. label.now)) (λ cause. cause) result ≡ mv rest.now }
 {
     let (rd, source) = two_operands(rest)?;
     let rd = register_operand(rd)?;
@@ -254,9 +254,9 @@ fn move_register(rest: &[u8]) -> Result<Line<&[u8]>, Cause>
 }
 
 /// `j TARGET`, which is `jal x0,TARGET`
-#[tactic(auto, unfolding(crate::specs::Statements::jump))]
-fn jump(rest: &[u8]) -> Result<Line<&[u8]>, Cause>
-    ensures { result_map_both (line_map (λ label. label.now)) (λ cause. cause) result ≡ jump rest.now }
+#[tactic(auto, unfolding(crate::specs::Statements::j))]
+fn j(rest: &[u8]) -> Result<Line<&[u8]>, Cause>
+    ensures { result_map_both (line_map (λ label. label.now)) (λ cause. cause) result ≡ j rest.now }
 {
     let target = target_operand(one_operand(rest)?)?;
     jump_to(zero(), target)
@@ -276,9 +276,9 @@ fn load_target(rd: Reg, target: Target<&[u8]>) -> Result<Line<&[u8]>, Cause>
 }
 
 /// `li rd,N` and `li rd,LABEL`
-#[tactic(auto, unfolding(crate::specs::Statements::load_constant))]
-fn load_constant(rest: &[u8]) -> Result<Line<&[u8]>, Cause>
-    ensures { result_map_both (line_map (λ label. label.now)) (λ cause. cause) result ≡ load_constant rest.now }
+#[tactic(auto, unfolding(crate::specs::Statements::li))]
+fn li(rest: &[u8]) -> Result<Line<&[u8]>, Cause>
+    ensures { result_map_both (line_map (λ label. label.now)) (λ cause. cause) result ≡ li rest.now }
 {
     let (rd, target) = two_operands(rest)?;
     let rd = register_operand(rd)?;
@@ -320,8 +320,8 @@ fn zero_statement(rest: &[u8]) -> Result<Line<&[u8]>, Cause>
 }
 
 /// `fence`, whose word is 0x0ff0000f.
-fn barrier() -> Instr
-    ensures { result ≡ full_fence }
+fn fence() -> Instr
+    ensures { result ≡ fence }
 {
     Instr::Fence {
         rd: zero(),
@@ -331,8 +331,8 @@ fn barrier() -> Instr
 }
 
 /// `nop`, which is `addi x0,x0,0`.
-fn no_operation() -> Instr
-    ensures { result ≡ no_operation }
+fn nop() -> Instr
+    ensures { result ≡ nop }
 {
     Instr::ComputeImmediate {
         operation: ImmediateOperation::Addi,
@@ -343,8 +343,8 @@ fn no_operation() -> Instr
 }
 
 /// `ret`, which is `jalr x0,0(x1)`.
-fn return_jump() -> Instr
-    ensures { result ≡ return_jump }
+fn ret() -> Instr
+    ensures { result ≡ ret }
 {
     Instr::Jalr {
         rd: zero(),
@@ -353,46 +353,46 @@ fn return_jump() -> Instr
     }
 }
 
-/// The statement of a shape with the operands `rest`.
-#[tactic(auto, unfolding(crate::specs::Statements::shaped))]
-fn shaped(shape: Shape, rest: &[u8]) -> Result<Line<&[u8]>, Cause>
-    ensures { result_map_both (line_map (λ label. label.now)) (λ cause. cause) result ≡ shaped shape rest.now }
+/// The statement of a keyword with the operands `rest`.
+#[tactic(auto, unfolding(crate::specs::Statements::keyword_statement))]
+fn keyword_statement(keyword: Keyword, rest: &[u8]) -> Result<Line<&[u8]>, Cause>
+    ensures { result_map_both (line_map (λ label. label.now)) (λ cause. cause) result ≡ keyword_statement keyword rest.now }
 {
-    match shape {
-        Shape::LoadUpper => load_upper(rest),
-        Shape::AddUpper => add_upper(rest),
-        Shape::JumpAndLink => jump_and_link(rest),
-        Shape::JumpRegister => jump_register(rest),
-        Shape::Branching(condition) => branching(condition, rest),
-        Shape::Loading(kind) => loading(kind, rest),
-        Shape::Storing(kind) => storing(kind, rest),
-        Shape::OnImmediate(operation) => on_immediate(operation, rest),
-        Shape::OnAmount(shift) => on_amount(shift, rest),
-        Shape::OnRegisters(operation) => on_registers(operation, rest),
-        Shape::Barrier => alone(Statement::Plain(barrier()), rest),
-        Shape::Call => alone(Statement::Plain(Instr::Ecall), rest),
-        Shape::Break => alone(Statement::Plain(Instr::Ebreak), rest),
-        Shape::Nothing => alone(Statement::Plain(no_operation()), rest),
-        Shape::Move => move_register(rest),
-        Shape::Jump => jump(rest),
-        Shape::Return => alone(Statement::Plain(return_jump()), rest),
-        Shape::LoadConstant => load_constant(rest),
-        Shape::TextSection => alone(Statement::Enter(Section::Text), rest),
-        Shape::DataSection => alone(Statement::Enter(Section::Data), rest),
-        Shape::WordDirective => word_statement(rest),
-        Shape::ByteDirective => byte_statement(rest),
-        Shape::ZeroDirective => zero_statement(rest),
+    match keyword {
+        Keyword::Lui => lui(rest),
+        Keyword::Auipc => auipc(rest),
+        Keyword::Jal => jal(rest),
+        Keyword::Jalr => jalr(rest),
+        Keyword::Branch(condition) => branch(condition, rest),
+        Keyword::Load(kind) => load(kind, rest),
+        Keyword::Store(kind) => store(kind, rest),
+        Keyword::ComputeImmediate(operation) => compute_immediate(operation, rest),
+        Keyword::ShiftImmediate(shift) => shift_immediate(shift, rest),
+        Keyword::Compute(operation) => compute(operation, rest),
+        Keyword::Fence => alone(Statement::Plain(fence()), rest),
+        Keyword::Ecall => alone(Statement::Plain(Instr::Ecall), rest),
+        Keyword::Ebreak => alone(Statement::Plain(Instr::Ebreak), rest),
+        Keyword::Nop => alone(Statement::Plain(nop()), rest),
+        Keyword::Mv => mv(rest),
+        Keyword::J => j(rest),
+        Keyword::Ret => alone(Statement::Plain(ret()), rest),
+        Keyword::Li => li(rest),
+        Keyword::TextSection => alone(Statement::Enter(Section::Text), rest),
+        Keyword::DataSection => alone(Statement::Enter(Section::Data), rest),
+        Keyword::WordDirective => word_statement(rest),
+        Keyword::ByteDirective => byte_statement(rest),
+        Keyword::ZeroDirective => zero_statement(rest),
     }
 }
 
-/// Whether a shape may stand in a section.
+/// Whether a keyword may stand in a section.
 #[tactic(auto, unfolding(crate::specs::Statements::may_stand_in))]
-fn may_stand_in(section: Section, shape: Shape) -> bool
-    ensures { result ≡ may_stand_in section shape }
+fn may_stand_in(section: Section, keyword: Keyword) -> bool
+    ensures { result ≡ may_stand_in section keyword }
 {
-    match shape {
-        Shape::TextSection | Shape::DataSection | Shape::WordDirective => true,
-        Shape::ByteDirective | Shape::ZeroDirective => is_data(section),
+    match keyword {
+        Keyword::TextSection | Keyword::DataSection | Keyword::WordDirective => true,
+        Keyword::ByteDirective | Keyword::ZeroDirective => is_data(section),
         _ => !is_data(section),
     }
 }
@@ -407,13 +407,17 @@ fn is_data(section: Section) -> bool
     }
 }
 
-/// The statement of a shape with the operands `rest`; BadOperand where it may not stand in the section.
+/// The statement of a keyword with the operands `rest`; BadOperand where it may not stand in the section.
 #[tactic(auto, unfolding(crate::specs::Statements::statement_of))]
-pub(crate) fn statement(section: Section, shape: Shape, rest: &[u8]) -> Result<Line<&[u8]>, Cause>
-    ensures { result_map_both (line_map (λ label. label.now)) (λ cause. cause) result ≡ statement_of section shape rest.now }
+pub(crate) fn statement(
+    section: Section,
+    keyword: Keyword,
+    rest: &[u8],
+) -> Result<Line<&[u8]>, Cause>
+    ensures { result_map_both (line_map (λ label. label.now)) (λ cause. cause) result ≡ statement_of section keyword rest.now }
 {
-    if !may_stand_in(section, shape) {
+    if !may_stand_in(section, keyword) {
         return Err(Cause::BadOperand);
     }
-    shaped(shape, rest)
+    keyword_statement(keyword, rest)
 }

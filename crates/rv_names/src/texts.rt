@@ -4,35 +4,40 @@ ghost use Rattle.std.specs.Prelude.{◌≡◌, ◌∷◌, [], IfOk};
 ghost use Rattle.std.specs.Fmt.{decimal, signed_decimal};
 ghost use Rattle.rv_names.specs.Registers.{x_name};
 ghost use Rattle.rv_names.specs.Mnemonics.{mnemonic};
-ghost use Rattle.rv_names.specs.declared.shapes.Shape.TheVariants.{JumpAndLink};
+ghost use Rattle.rv_names.specs.declared.keywords.Keyword.TheVariants.{Jal};
 ghost use Rattle.std.specs.String.{string_bytes};
 ghost use Rattle.rv_names.specs.Text.{command, upper_text, place_text, word_directive, fence_text, text_of, word_text, text_or_word};
 
-use crate::Shape;
+use crate::Keyword;
 use crate::mnemonics::mnemonic;
 use crate::registers::x_name;
 use rv_isa::{Immediate, Instr, Reg, Upper, decode, encode};
 use std::alloc::{AllocError, Global};
 
 /// A command with two operands.
-fn with_two(alloc: Global, shape: Shape, first: &str, second: &str) -> Result<String, AllocError>
-    ensures { IfOk result (λ t. string_bytes t ≡ command shape (first.now ∷ second.now ∷ [])) }
+fn with_two(
+    alloc: Global,
+    keyword: Keyword,
+    first: &str,
+    second: &str,
+) -> Result<String, AllocError>
+    ensures { IfOk result (λ t. string_bytes t ≡ command keyword (first.now ∷ second.now ∷ [])) }
 {
-    let name = mnemonic(shape);
+    let name = mnemonic(keyword);
     format!(in alloc; "{name} {first},{second}")
 }
 
 /// A command with three operands.
 fn with_three(
     alloc: Global,
-    shape: Shape,
+    keyword: Keyword,
     first: &str,
     second: &str,
     third: &str,
 ) -> Result<String, AllocError>
-    ensures { IfOk result (λ t. string_bytes t ≡ command shape (first.now ∷ second.now ∷ third.now ∷ [])) }
+    ensures { IfOk result (λ t. string_bytes t ≡ command keyword (first.now ∷ second.now ∷ third.now ∷ [])) }
 {
-    let name = mnemonic(shape);
+    let name = mnemonic(keyword);
     format!(in alloc; "{name} {first},{second},{third}")
 }
 
@@ -44,44 +49,49 @@ fn signed_text(alloc: Global, value: i32) -> Result<String, AllocError>
 }
 
 /// A command with a register and the upper 20 bits in hex.
-fn upper_text(alloc: Global, shape: Shape, rd: Reg, immediate: Upper) -> Result<String, AllocError>
-    ensures { IfOk result (λ t. string_bytes t ≡ command shape (x_name rd ∷ upper_text immediate ∷ [])) }
+fn upper_text(
+    alloc: Global,
+    keyword: Keyword,
+    rd: Reg,
+    immediate: Upper,
+) -> Result<String, AllocError>
+    ensures { IfOk result (λ t. string_bytes t ≡ command keyword (x_name rd ∷ upper_text immediate ∷ [])) }
 {
     let value = immediate.value;
     let operand = format!(in alloc; "0x{value:x}")?;
-    with_two(alloc, shape, x_name(rd), operand.as_str())
+    with_two(alloc, keyword, x_name(rd), operand.as_str())
 }
 
 /// A command with a register and the operand `N(REGISTER)`.
 fn place_text(
     alloc: Global,
-    shape: Shape,
+    keyword: Keyword,
     register: Reg,
     base: Reg,
     offset: Immediate,
 ) -> Result<String, AllocError>
-    ensures { IfOk result (λ t. string_bytes t ≡ command shape (x_name register ∷ place_text offset base ∷ [])) }
+    ensures { IfOk result (λ t. string_bytes t ≡ command keyword (x_name register ∷ place_text offset base ∷ [])) }
 {
     let value = offset.value;
     let base = x_name(base);
     let operand = format!(in alloc; "{value}({base})")?;
-    with_two(alloc, shape, x_name(register), operand.as_str())
+    with_two(alloc, keyword, x_name(register), operand.as_str())
 }
 
 /// A command with two registers and a signed number.
 fn number_text(
     alloc: Global,
-    shape: Shape,
+    keyword: Keyword,
     first: Reg,
     second: Reg,
     value: i32,
 ) -> Result<String, AllocError>
-    ensures { IfOk result (λ t. string_bytes t ≡ command shape (x_name first ∷ x_name second ∷ signed_decimal value ∷ [])) }
+    ensures { IfOk result (λ t. string_bytes t ≡ command keyword (x_name first ∷ x_name second ∷ signed_decimal value ∷ [])) }
 {
     let operand = signed_text(alloc, value)?;
     with_three(
         alloc,
-        shape,
+        keyword,
         x_name(first),
         x_name(second),
         operand.as_str(),
@@ -91,17 +101,17 @@ fn number_text(
 /// A command with two registers and the number of places of a shift.
 fn amount_text(
     alloc: Global,
-    shape: Shape,
+    keyword: Keyword,
     first: Reg,
     second: Reg,
     value: u8,
 ) -> Result<String, AllocError>
-    ensures { IfOk result (λ t. string_bytes t ≡ command shape (x_name first ∷ x_name second ∷ decimal value ∷ [])) }
+    ensures { IfOk result (λ t. string_bytes t ≡ command keyword (x_name first ∷ x_name second ∷ decimal value ∷ [])) }
 {
     let operand = format!(in alloc; "{value}")?;
     with_three(
         alloc,
-        shape,
+        keyword,
         x_name(first),
         x_name(second),
         operand.as_str(),
@@ -109,27 +119,27 @@ fn amount_text(
 }
 
 /// JAL with its register and its distance in bytes.
-fn jump_text(alloc: Global, rd: Reg, value: i32) -> Result<String, AllocError>
-    ensures { IfOk result (λ t. string_bytes t ≡ command JumpAndLink (x_name rd ∷ signed_decimal value ∷ [])) }
+fn jal_text(alloc: Global, rd: Reg, value: i32) -> Result<String, AllocError>
+    ensures { IfOk result (λ t. string_bytes t ≡ command Jal (x_name rd ∷ signed_decimal value ∷ [])) }
 {
     let operand = signed_text(alloc, value)?;
-    with_two(alloc, Shape::JumpAndLink, x_name(rd), operand.as_str())
+    with_two(alloc, Keyword::Jal, x_name(rd), operand.as_str())
 }
 
 /// `.word 0x` and eight hex digits.
 fn word_directive(alloc: Global, word: u32) -> Result<String, AllocError>
     ensures { IfOk result (λ t. string_bytes t ≡ word_directive word) }
 {
-    let name = mnemonic(Shape::WordDirective);
+    let name = mnemonic(Keyword::WordDirective);
     let digits = hex::encode(alloc, word.to_be_bytes().as_slice())?;
     format!(in alloc; "{name} 0x{digits}")
 }
 
 /// A mnemonic alone.
-fn alone(alloc: Global, shape: Shape) -> Result<String, AllocError>
-    ensures { IfOk result (λ t. string_bytes t ≡ mnemonic shape) }
+fn alone(alloc: Global, keyword: Keyword) -> Result<String, AllocError>
+    ensures { IfOk result (λ t. string_bytes t ≡ mnemonic keyword) }
 {
-    String::from_str(alloc, mnemonic(shape))
+    String::from_str(alloc, mnemonic(keyword))
 }
 
 /// `fence` for the word 0x0ff0000f; for any other word `.word 0x` and eight hex digits.
@@ -137,7 +147,7 @@ fn fence_text(alloc: Global, word: u32) -> Result<String, AllocError>
     ensures { IfOk result (λ t. string_bytes t ≡ fence_text word) }
 {
     if word == 0x0ff0000f {
-        return alone(alloc, Shape::Barrier);
+        return alone(alloc, Keyword::Fence);
     }
     word_directive(alloc, word)
 }
@@ -149,36 +159,28 @@ pub fn instruction_text(alloc: Global, instr: &Instr) -> Result<String, AllocErr
     ensures { IfOk result (λ t. string_bytes t ≡ text_of instr.now) }
 {
     match *instr {
-        Instr::Lui { rd, immediate } => upper_text(alloc, Shape::LoadUpper, rd, immediate),
-        Instr::Auipc { rd, immediate } => upper_text(alloc, Shape::AddUpper, rd, immediate),
-        Instr::Jal { rd, offset } => jump_text(alloc, rd, offset.value),
-        Instr::Jalr { rd, base, offset } => {
-            place_text(alloc, Shape::JumpRegister, rd, base, offset)
-        }
+        Instr::Lui { rd, immediate } => upper_text(alloc, Keyword::Lui, rd, immediate),
+        Instr::Auipc { rd, immediate } => upper_text(alloc, Keyword::Auipc, rd, immediate),
+        Instr::Jal { rd, offset } => jal_text(alloc, rd, offset.value),
+        Instr::Jalr { rd, base, offset } => { place_text(alloc, Keyword::Jalr, rd, base, offset) }
         Instr::Branch {
             condition,
             left,
             right,
             offset,
-        } => number_text(
-            alloc,
-            Shape::Branching(condition),
-            left,
-            right,
-            offset.value,
-        ),
+        } => number_text(alloc, Keyword::Branch(condition), left, right, offset.value),
         Instr::Load {
             kind,
             rd,
             base,
             offset,
-        } => place_text(alloc, Shape::Loading(kind), rd, base, offset),
+        } => place_text(alloc, Keyword::Load(kind), rd, base, offset),
         Instr::Store {
             kind,
             source,
             base,
             offset,
-        } => place_text(alloc, Shape::Storing(kind), source, base, offset),
+        } => place_text(alloc, Keyword::Store(kind), source, base, offset),
         Instr::ComputeImmediate {
             operation,
             rd,
@@ -186,7 +188,7 @@ pub fn instruction_text(alloc: Global, instr: &Instr) -> Result<String, AllocErr
             immediate,
         } => number_text(
             alloc,
-            Shape::OnImmediate(operation),
+            Keyword::ComputeImmediate(operation),
             rd,
             source,
             immediate.value,
@@ -196,7 +198,13 @@ pub fn instruction_text(alloc: Global, instr: &Instr) -> Result<String, AllocErr
             rd,
             source,
             amount,
-        } => amount_text(alloc, Shape::OnAmount(shift), rd, source, amount.value),
+        } => amount_text(
+            alloc,
+            Keyword::ShiftImmediate(shift),
+            rd,
+            source,
+            amount.value,
+        ),
         Instr::Compute {
             operation,
             rd,
@@ -204,14 +212,14 @@ pub fn instruction_text(alloc: Global, instr: &Instr) -> Result<String, AllocErr
             right,
         } => with_three(
             alloc,
-            Shape::OnRegisters(operation),
+            Keyword::Compute(operation),
             x_name(rd),
             x_name(left),
             x_name(right),
         ),
         Instr::Fence { .. } => fence_text(alloc, encode(instr)),
-        Instr::Ecall => alone(alloc, Shape::Call),
-        Instr::Ebreak => alone(alloc, Shape::Break),
+        Instr::Ecall => alone(alloc, Keyword::Ecall),
+        Instr::Ebreak => alone(alloc, Keyword::Ebreak),
     }
 }
 

@@ -31,12 +31,12 @@ impl Model for Program {
 
 impl Program {
     ghost use Rattle.std.specs.Prelude.{◌≡◌};
-    ghost use Rattle.rv_program.specs.Sections.{IsSized, program_of};
+    ghost use Rattle.rv_program.specs.Sections.{IsSized, sections_of};
 
     /// The program of these text words and data bytes. None where the text has more than `TEXT_LIMIT`
     /// bytes or the data more than `DATA_LIMIT`.
     pub fn new(text: Vec<u32>, data_bytes: Vec<u8>) -> Option<Program>
-        ensures { result ≡ program_of text.items data_bytes.items }
+        ensures { result ≡ sections_of text.items data_bytes.items }
     {
         if TEXT_LIMIT / 4 < text.len() || DATA_LIMIT < data_bytes.len() {
             return None;

@@ -1,6 +1,5 @@
 -- What a run asks for is the key of the next answer in whatever bears a receipt out.
-use Rattle.std.proofs.Common.{◌≡◌, ℕ, zero, suc, Bool, if◌then◌else◌, List, [], ◌∷◌, ◌++◌, Option, Some, None, refl, sym, ap, ◌∙◌, arith}
-use Rattle.std.specs.FinMap as map
+use Rattle.std.proofs.Common.{◌≡◌, ℕ, Bool, true, false, if◌then◌else◌, List, [], ◌∷◌, ◌++◌, Option, Some, None, refl, sym, ap, ◌∙◌}
 use Rattle.std.specs.Str.{bytes_eq}
 use Rattle.std.proofs.lemmas.Slice.Eq.{bytes_eq-Decides}
 use Rattle.rv_ledger.specs.Call.{Invocation}
@@ -9,66 +8,79 @@ use Rattle.rv_ledger.specs.declared.receipt.Receipt.{Receipt}
 use Rattle.rv_step.specs.declared.machine.Machine.{Machine}
 use Rattle.rv_step.specs.declared.answer.StorageAnswer.{StorageAnswer}
 use Rattle.rv_step.specs.declared.stage.Stage.TheVariants.{Asked, Ended}
-use Rattle.rv_step.specs.Step.{StepResult, Next, Asks, Ends, step, answered, delivered}
-use Rattle.rv_step.specs.Chain.{Reply, after_ask, after_step, closed, followed, receipt_of, replayed}
-use Rattle.rv_step.specs.Asked.{asked_after, asked_by, asked_in, asked_on}
-use Rattle.rv_step.specs.Run.{IsSoFar}
+use Rattle.rv_step.specs.Step.{Progress, Going, Over, StepResult, Leads, Asks, answered, delivered, step}
+use Rattle.rv_step.specs.Moment.{Reply, from_replies, moment_with, start}
+use Rattle.rv_step.specs.Chain.{borne_out, enough_steps, receipt_with}
+use Rattle.rv_step.specs.Asked.{asked_by, key_asked, key_of}
+use Rattle.rv_step.specs.Run.{IsBeginning}
 use Rattle.rv_step.specs.Replies.{replies_of}
-use Rattle.rv_step.proofs.Receipts.{none_some, reached, right_key}
+use Rattle.rv_step.proofs.Falls.{answered_falls, step_falls}
+use Rattle.rv_step.proofs.Moments.{IsLast, advance_leads, advance_told, advance_waits, last_after_gas}
+use Rattle.rv_step.proofs.Receipts.{bears_over, last_with, start_gas, takes_something, with_more}
 
 -- the key of the next answer
 abbrev pub next_key : List Reply → Option (List ℕ)
 next_key [] = None
 next_key (reply ∷ rest) = Some reply.0
 
--- a chain that ends leaves no answer over
-closed_asks : (replies rest : List Reply) (receipt r : Receipt) → closed (replies ++ rest) receipt ≡ Some r → None ≡ next_key rest
-closed_asks [] [] receipt r e = refl
-closed_asks [] (reply ∷ rest) receipt r e = absurd (none_some r e)
-closed_asks (first ∷ replies) rest receipt r e = absurd (none_some r e)
+-- a reply answers a key, or the call waits
+reply_test : (key : List ℕ) (reply : Reply) (left : List Reply) (b : Bool) → bytes_eq reply.0 key ≡ b → from_replies (reply ∷ left) key ≡ (if b then Some (reply.1, left) else None)
+reply_test key reply left b same = ap (λ (b : Bool). if b then Some (reply.1, left) else None) same
 
-step_asks : (f : Machine → List Reply → Option Receipt) (g : Machine → List Reply → Option (List ℕ)) (limit : ℕ) (o : StepResult) (replies rest : List Reply) (r : Receipt) → ((t : Machine) (l : List Reply) → f t (l ++ rest) ≡ Some r → g t l ≡ next_key rest) → after_step f limit o (replies ++ rest) ≡ Some r → asked_after g o replies ≡ next_key rest
-step_asks f g limit (Next t) replies rest r same e = same t replies e
-step_asks f g limit (Asks key) replies rest r same e = absurd (none_some r e)
-step_asks f g limit (Ends end out t) replies rest r same e = closed_asks replies rest (receipt_of limit end out t) r e
+module _ (call : Invocation) (all : List Reply) (m : ℕ) (r : Receipt) (bears : borne_out call all ≡ Some r) where
+  -- replies that bear a receipt out leave no call waiting
+  not_waiting : (s : Machine) (left : List Reply) → moment_with call all m ≡ (Going s, left) → IsLast from_replies (Going s, left) → ⊥
+  not_waiting s left e last = let none : None ≡ Some r = sym (ap (receipt_with call.gas) (last_with call all m (Going s, left) e last)) ∙ bears in cc
 
--- an asking that no reply answers is answered next
-next_asks : (f : Machine → List Reply → Option Receipt) (limit : ℕ) (s : Machine) (key : List ℕ) (rest : List Reply) (r : Receipt) → after_ask f limit s key rest ≡ Some r → Some key ≡ next_key rest
-next_asks f limit s key [] r e = absurd (none_some r e)
-next_asks f limit s key (reply ∷ rest) r e =
-    let found = right_key (bytes_eq reply.0 key) (after_step f limit (answered s (delivered s key reply.1)) rest) r e in
-    ap Some (sym ((bytes_eq-Decides reply.0 key).0 found.0))
+  -- and none of them over
+  none_left : (end : End) (out : List ℕ) (s : Machine) (left : List Reply) → moment_with call all m ≡ (Over end out s, left) → left ≡ []
+  none_left end out s left e = (bears_over call.gas (Over end out s) left r (sym (ap (receipt_with call.gas) (last_with call all m (Over end out s, left) e refl)) ∙ bears)).1
 
-outcome_asks : (f : Machine → List Reply → Option Receipt) (g : Machine → List Reply → Option (List ℕ)) (limit : ℕ) (s : Machine) (o : StepResult) (replies rest : List Reply) (r : Receipt) → ((t : Machine) (l : List Reply) → f t (l ++ rest) ≡ Some r → g t l ≡ next_key rest) → followed f limit s o (replies ++ rest) ≡ Some r → asked_on g s o replies ≡ next_key rest
-outcome_asks f g limit s (Next t) replies rest r same e = same t replies e
-outcome_asks f g limit s (Asks key) [] rest r same e = next_asks f limit s key rest r e
-outcome_asks f g limit s (Asks key) (reply ∷ replies) rest r same e =
-    let found = right_key (bytes_eq reply.0 key) (after_step f limit (answered s (delivered s key reply.1)) (replies ++ rest)) r e in
-    ap (λ (b : Bool). if b then asked_after g (answered s (delivered s key reply.1)) replies else None) found.0
-    ∙ step_asks f g limit (answered s (delivered s key reply.1)) replies rest r same found.1
-outcome_asks f g limit s (Ends end out t) replies rest r same e = closed_asks replies rest (receipt_of limit end out t) r e
+nothing_after : (replies rest : List Reply) → replies ++ rest ≡ [] → None ≡ next_key rest
+nothing_after [] [] e = refl
+nothing_after [] (reply ∷ rest) e = cc
+nothing_after (first ∷ replies) rest e = cc
 
--- where some replies and others after them bear a receipt out, the chain asks for the key of the first of the others
-pub chain_asks : (limit n : ℕ) (s : Machine) (replies rest : List Reply) (r : Receipt) → replayed limit n s (replies ++ rest) ≡ Some r → asked_in n s replies ≡ next_key rest
-unfolding replayed asked_in
-chain_asks limit zero s replies rest r e = absurd (none_some r e)
-chain_asks limit (suc n) s replies rest r e =
-    outcome_asks (λ t l. replayed limit n t l) (λ t l. asked_in n t l) limit s (step s) replies rest r
-    (λ t l h. chain_asks limit n t l rest r h) e
+module _ (call : Invocation) (all : List Reply) (m : ℕ) (r : Receipt) (bears : borne_out call all ≡ Some r) where
+  -- an asking is answered by the first of the replies that are left
+  first_answers : (s : Machine) (key : List ℕ) (reply : Reply) (left : List Reply) (b : Bool) → bytes_eq reply.0 key ≡ b → step s ≡ Asks key → moment_with call all m ≡ (Going s, reply ∷ left) → Some key ≡ Some reply.0
+  first_answers s key reply left true same e stands = ap Some (sym ((bytes_eq-Decides reply.0 key).0 same))
+  first_answers s key reply left false same e stands =
+      absurd (not_waiting call all m r bears s (reply ∷ left) stands (advance_waits from_replies s (reply ∷ left) key e (reply_test key reply left false same)))
 
-asks_key : (n : ℕ) (s : Machine) (key : List ℕ) → step s ≡ Asks key → asked_in (suc n) s [] ≡ Some key
-unfolding asked_in
-asks_key n s key e = ap (λ (o : StepResult). asked_on (λ t l. asked_in n t l) s o []) e
+  asks_first : (s : Machine) (key : List ℕ) (left : List Reply) → step s ≡ Asks key → moment_with call all m ≡ (Going s, left) → Some key ≡ next_key left
+  asks_first s key [] e stands = absurd (not_waiting call all m r bears s [] stands (advance_waits from_replies s [] key e refl))
+  asks_first s key (reply ∷ left) e stands = first_answers s key reply left (bytes_eq reply.0 key) refl e stands
 
--- a run that asked for a key: any answers that follow begin with that key
-pub asked_asks : (call : Invocation) (s : Machine) (answers : List StorageAnswer) (key : List ℕ) → IsSoFar (record { call = call; machine = s; answers = answers; stage = Asked key }) → Some key ≡ asked_by call (replies_of answers)
+  -- a reply to another key is not taken at the last moment, whatever follows it
+  never_stuck : (s : Machine) (key : List ℕ) (reply : Reply) (left more : List Reply) (b : Bool) → bytes_eq reply.0 key ≡ b → step s ≡ Asks key → IsLast from_replies (Going s, reply ∷ left) → moment_with call all m ≡ (Going s, reply ∷ more) → ⊥
+  never_stuck s key reply left more true same e last stands =
+      takes_something s (answered s (delivered s key reply.1)) left (reply ∷ left) (answered_falls s (delivered s key reply.1)) (sym (advance_told from_replies s (reply ∷ left) key reply.1 left e (reply_test key reply left true same)) ∙ last)
+  never_stuck s key reply left more false same e last stands =
+      not_waiting call all m r bears s (reply ∷ more) stands (advance_waits from_replies s (reply ∷ more) key e (reply_test key reply more false same))
+
+  step_asks : (s : Machine) (left rest : List Reply) (o : StepResult) → step s ≡ o → IsLast from_replies (Going s, left) → moment_with call all m ≡ (Going s, left ++ rest) → key_asked (Going s, left) ≡ next_key rest
+  step_asks s left rest (Leads progress) e last stands = absurd (takes_something s progress left left (step_falls s progress e) (sym (advance_leads from_replies s left progress e) ∙ last))
+  step_asks s [] rest (Asks key) e last stands = ap key_of e ∙ asks_first s key rest e stands
+  step_asks s (reply ∷ left) rest (Asks key) e last stands = absurd (never_stuck s key reply left (left ++ rest) (bytes_eq reply.0 key) refl e last stands)
+
+  progress_asks : (progress : Progress) (left rest : List Reply) → IsLast from_replies (progress, left) → moment_with call all m ≡ (progress, left ++ rest) → key_asked (progress, left) ≡ next_key rest
+  progress_asks (Going s) left rest last stands = step_asks s left rest (step s) refl last stands
+  progress_asks (Over end out s) left rest last stands = nothing_after left rest (none_left call all m r bears end out s (left ++ rest) stands)
+
+-- where some replies and others after them bear a receipt out, the call asks for the key of the first of the others
+pub chain_asks : (call : Invocation) (replies rest : List Reply) (r : Receipt) → borne_out call (replies ++ rest) ≡ Some r → asked_by call replies ≡ next_key rest
+chain_asks call replies rest r bears =
+    let at : Progress × List Reply = moment_with call replies (enough_steps call) in
+    let comes = with_more replies rest (Going (start call)) (enough_steps call) in
+    progress_asks call (replies ++ rest) comes.0 r bears at.0 at.1 rest (last_after_gas from_replies call.gas (Going (start call), replies) (start_gas call)) comes.1
+
+-- a run that asked for a key asks for it still
+pub asked_asks : (call : Invocation) (s : Machine) (answers : List StorageAnswer) (key : List ℕ) → IsBeginning (record { call = call; machine = s; answers = answers; stage = Asked key }) → Some key ≡ asked_by call (replies_of answers)
 asked_asks call s answers key so_far =
-    let found = reached call.gas (suc s.gas) s map.empty (omega arith) in
-    sym (asks_key s.gas s key so_far.stands.1)
-    ∙ chain_asks call.gas (suc s.gas) s [] found.0 _ found.2
-    ∙ sym (chain_asks call.gas (suc call.gas) _ (replies_of answers) found.0 _ (so_far.chain found.0 ∙ found.2))
+    sym (ap key_asked (last_with call (replies_of answers) so_far.moment.0 (Going s, []) so_far.moment.1 (advance_waits from_replies s [] key so_far.stands.1 refl)) ∙ ap key_of so_far.stands.1)
 
 -- a run that has ended asks for nothing
-pub ended_asks : (call : Invocation) (s : Machine) (answers : List StorageAnswer) (end : End) (out : List ℕ) → IsSoFar (record { call = call; machine = s; answers = answers; stage = Ended end out }) → None ≡ asked_by call (replies_of answers)
+pub ended_asks : (call : Invocation) (s : Machine) (answers : List StorageAnswer) (end : End) (out : List ℕ) → IsBeginning (record { call = call; machine = s; answers = answers; stage = Ended end out }) → None ≡ asked_by call (replies_of answers)
 ended_asks call s answers end out so_far =
-    sym (chain_asks call.gas (suc call.gas) _ (replies_of answers) [] _ (so_far.chain []))
+    sym (ap key_asked (last_with call (replies_of answers) so_far.moment.0 (Over end out s, []) so_far.moment.1 refl))

@@ -1,5 +1,5 @@
 -- Each step takes gas, so that a chain ends.
-use Rattle.std.proofs.Common.{◌≡◌, ℕ, ◌-◌, ◌<◌, ◌≤◌, Bool, true, false, if◌then◌else◌, nat_le, nat_lt, List, [], length, Option, Some, None, Result, Ok, Err, refl, subst, arith, lit≤}
+use Rattle.std.proofs.Common.{◌≡◌, ℕ, ◌-◌, ◌<◌, ◌≤◌, Bool, true, false, if◌then◌else◌, nat_le, nat_lt, List, length, Option, Some, None, Result, Ok, Err, refl, subst, arith, lit≤}
 use Rattle.std.specs.FinMap as map
 use Rattle.std.proofs.lemmas.Bool.Decides.{nat_tests}
 use Rattle.rv_isa.specs.Decoded.{decoded}
@@ -12,46 +12,51 @@ use Rattle.rv_isa.specs.declared.register.Reg.{Reg}
 use Rattle.gas.specs.Costs.{cost_of, cost_of_operation}
 use Rattle.rv_isa.specs.Registers.{written}
 use Rattle.rv_alu.specs.Effects.{effect_of}
-use Rattle.rv_mem.specs.Space.{Space, loaded}
+use Rattle.rv_mem.specs.Space.{AccessFault, Space, loaded}
 use Rattle.rv_mem.specs.declared.access.Access.TheVariants as access
-use Rattle.rv_mem.specs.declared.fault.Fault.{Fault}
 use Rattle.rv_ledger.specs.Change.{ContentChange}
 use Rattle.rv_ledger.specs.declared.change.Change.TheVariants as change
 use Rattle.rv_ledger.specs.Key.{has_room}
 use Rattle.rv_ledger.specs.declared.end.End.{End}
-use Rattle.rv_ledger.specs.declared.end.End.TheVariants.{OutOfGas}
 use Rattle.rv_ledger.specs.declared.end.Trap.{Trap}
 use Rattle.rv_ledger.specs.declared.end.Trap.TheVariants as trap
 use Rattle.rv_ledger.specs.declared.writes.Write.{Write}
-use Rattle.ecalls.specs.StorageCalls.{a2, asked, charge_of, charge_asked, late_charge, request_of}
+use Rattle.ecalls.specs.StorageCalls.{a2, requested_call, charge_of, charge_asked, late_charge, request_of}
 use Rattle.ecalls.specs.declared.storage_call.StorageCall.{StorageCall}
 use Rattle.ecalls.specs.declared.storage_call.StorageCall.TheVariants as call
 use Rattle.ecalls.specs.declared.request_kind.Request.{Request}
 use Rattle.ecalls.specs.declared.request_kind.Request.TheVariants as request
 use Rattle.rv_step.specs.declared.machine.Machine.{Machine}
-use Rattle.rv_step.specs.Step.{StepResult, Next, Asks, Ends, TakesGas, instruction_result, answered, ecall_result, charged, compute_result, delivery_result, fetch_result, next_instruction, is_ecall, memory_result, decode_result, read_result, storage_call_result, step, load_result, trapped, value_result, write_result}
+use Rattle.rv_step.specs.Step.{Progress, Going, Over, StepResult, Leads, Asks, TakesGas, charged_call_result, out_of_gas, instruction_result, answered, ecall_result, charged, compute_result, delivery_result, fetch_result, next_instruction, is_ecall, memory_result, decode_result, read_result, storage_call_result, step, load_result, trapped, value_result, write_result}
 
 -- a step leaves less gas where the call goes on, and no more where it ends
-unfoldable pub IsFalling : ℕ → StepResult → Type 0
-IsFalling gas (Next t) = t.gas < gas
-IsFalling gas (Asks key) = Unit {0}
-IsFalling gas (Ends end out t) = t.gas ≤ gas
+unfoldable pub IsFalling : ℕ → Progress → Type 0
+IsFalling gas (Going t) = t.gas < gas
+IsFalling gas (Over end out t) = t.gas ≤ gas
+
+-- so does a step that does not ask
+unfoldable IsStepFalling : ℕ → StepResult → Type 0
+IsStepFalling gas (Leads progress) = IsFalling gas progress
+IsStepFalling gas (Asks key) = Unit {0}
 
 -- what comes after the charge leaves no more gas
-unfoldable pub IsWithin : ℕ → StepResult → Type 0
-IsWithin gas (Next t) = t.gas ≤ gas
-IsWithin gas (Asks key) = Unit {0}
-IsWithin gas (Ends end out t) = t.gas ≤ gas
+unfoldable IsWithin : ℕ → Progress → Type 0
+IsWithin gas (Going t) = t.gas ≤ gas
+IsWithin gas (Over end out t) = t.gas ≤ gas
 
-takes_within : (kind : LoadKind) (rd : Reg) (s : Machine) (r : Result ℕ Fault) → IsWithin s.gas (load_result kind rd s r)
+unfoldable IsStepWithin : ℕ → StepResult → Type 0
+IsStepWithin gas (Leads progress) = IsWithin gas progress
+IsStepWithin gas (Asks key) = Unit {0}
+
+takes_within : (kind : LoadKind) (rd : Reg) (s : Machine) (r : Result ℕ AccessFault) → IsWithin s.gas (load_result kind rd s r)
 unfolding IsWithin
 takes_within kind rd s (Ok n) = omega arith
-takes_within kind rd s (Err fault) = omega arith
+takes_within kind rd s (Err cause) = omega arith
 
-leaves_within : (s : Machine) (registers : List ℕ) (r : Result Space Fault) → IsWithin s.gas (memory_result s registers r)
+leaves_within : (s : Machine) (registers : List ℕ) (r : Result Space AccessFault) → IsWithin s.gas (memory_result s registers r)
 unfolding IsWithin
 leaves_within s registers (Ok memory) = omega arith
-leaves_within s registers (Err fault) = omega arith
+leaves_within s registers (Err cause) = omega arith
 
 computes_within : (s : Machine) (o : Option (List ℕ × ℕ)) → IsWithin s.gas (compute_result s o)
 unfolding IsWithin
@@ -74,19 +79,18 @@ acted_within (Compute operation rd left right) s = computes_within s (effect_of 
 acted_within (Fence rd source m) s = computes_within s (effect_of (Fence rd source m) s.regs s.pc)
 acted_within Ecall s = computes_within s (effect_of Ecall s.regs s.pc)
 
-either_within : (gas : ℕ) (b : Bool) (o p : StepResult) → IsWithin gas o → IsWithin gas p → IsWithin gas (if b then o else p)
+either_within : (gas : ℕ) (b : Bool) (o p : Progress) → IsWithin gas o → IsWithin gas p → IsWithin gas (if b then o else p)
 either_within gas true o p h k = h
 either_within gas false o p h k = k
 
-more_within : (gas rest : ℕ) (o : StepResult) → rest ≤ gas → IsWithin rest o → IsWithin gas o
+more_within : (gas rest : ℕ) (o : Progress) → rest ≤ gas → IsWithin rest o → IsWithin gas o
 unfolding IsWithin
-more_within gas rest (Next t) h k = omega arith
-more_within gas rest (Asks key) h k = tt
-more_within gas rest (Ends end out t) h k = omega arith
+more_within gas rest (Going t) h k = omega arith
+more_within gas rest (Over end out t) h k = omega arith
 
-charged_within : (cost : ℕ) (s : Machine) (act : Machine → StepResult) → ((t : Machine) → IsWithin t.gas (act t)) → IsWithin s.gas (charged cost s act)
+charged_within : (cost : ℕ) (s : Machine) (act : Machine → Progress) → ((t : Machine) → IsWithin t.gas (act t)) → IsWithin s.gas (charged cost s act)
 charged_within cost s act k =
-    either_within s.gas (nat_le cost s.gas) (act (record s { gas = s.gas - cost })) (Ends OutOfGas [] (record s { gas = 0 }))
+    either_within s.gas (nat_le cost s.gas) (act (record s { gas = s.gas - cost })) (out_of_gas s)
     (more_within s.gas (s.gas - cost) (act (record s { gas = s.gas - cost })) (omega arith) (k (record s { gas = s.gas - cost }))) (unfold IsWithin in omega arith)
 
 delivered_within : (s : Machine) (content : Option (List ℕ)) → IsWithin s.gas (delivery_result s content)
@@ -97,11 +101,12 @@ delivered_within s (Some value) =
     (next_instruction (record s { regs = written s.regs 10 0xffff_fffe })) (charged (late_charge s.rules (length value)) s (λ t. value_result t value))
     (unfold IsWithin in omega arith) (charged_within _ s (λ t. value_result t value) (λ t. leaves_within t _ _))
 
-read_own_within : (s : Machine) (key : List ℕ) (own : Option ContentChange) → IsWithin s.gas (read_result s key own)
+read_own_within : (s : Machine) (key : List ℕ) (own : Option ContentChange) → IsStepWithin s.gas (read_result s key own)
+unfolding IsStepWithin
 read_own_within s key (Some (change.Value value)) = delivered_within s (Some value)
 read_own_within s key (Some change.Gone) = delivered_within s None
-read_own_within s key (Some (change.Sum amount)) = unfold IsWithin in tt
-read_own_within s key None = unfold IsWithin in tt
+read_own_within s key (Some (change.Sum amount)) = tt
+read_own_within s key None = tt
 
 wrote_within : (s : Machine) (write : Write) → IsWithin s.gas (write_result s write)
 unfolding write_result
@@ -110,8 +115,8 @@ wrote_within s write =
     (next_instruction (record s { own = map.insert s.own write.key write.change })) (trapped trap.TooManyWrites s)
     (unfold IsWithin in omega arith) (unfold IsWithin in omega arith)
 
-served_within : (s : Machine) (r : Result Request Trap) → IsWithin s.gas (storage_call_result s r)
-unfolding storage_call_result
+served_within : (s : Machine) (r : Result Request Trap) → IsStepWithin s.gas (storage_call_result s r)
+unfolding storage_call_result IsStepWithin
 served_within s (Err cause) = unfold IsWithin in omega arith
 served_within s (Ok (request.Read key)) = read_own_within s key _
 served_within s (Ok (request.Write write)) = wrote_within s write
@@ -119,18 +124,17 @@ served_within s (Ok (request.Add key amount)) = wrote_within s _
 served_within s (Ok (request.Return out)) = unfold IsWithin in omega arith
 served_within s (Ok (request.Revert out)) = unfold IsWithin in omega arith
 
-within_falls : (gas rest : ℕ) (o : StepResult) → rest < gas → IsWithin rest o → IsFalling gas o
+within_falls : (gas rest : ℕ) (o : Progress) → rest < gas → IsWithin rest o → IsFalling gas o
 unfolding IsWithin IsFalling
-within_falls gas rest (Next t) h k = omega arith
-within_falls gas rest (Asks key) h k = tt
-within_falls gas rest (Ends end out t) h k = omega arith
+within_falls gas rest (Going t) h k = omega arith
+within_falls gas rest (Over end out t) h k = omega arith
 
-charged_cases : (cost : ℕ) (s : Machine) (act : Machine → StepResult) (b : Bool) → nat_le cost s.gas ≡ b → 1 ≤ cost → ((t : Machine) → IsWithin t.gas (act t)) → IsFalling s.gas (charged cost s act)
+charged_cases : (cost : ℕ) (s : Machine) (act : Machine → Progress) (b : Bool) → nat_le cost s.gas ≡ b → 1 ≤ cost → ((t : Machine) → IsWithin t.gas (act t)) → IsFalling s.gas (charged cost s act)
 charged_cases cost s act true e h k = rw e (within_falls s.gas (s.gas - cost) _ (let fits : cost ≤ s.gas = grind (arith, nat_tests) in omega arith) (k (record s { gas = s.gas - cost })))
 charged_cases cost s act false e h k = rw e (unfold IsFalling in omega arith)
 
 -- an instruction that costs takes gas
-charged_falls : (cost : ℕ) (s : Machine) (act : Machine → StepResult) → 1 ≤ cost → ((t : Machine) → IsWithin t.gas (act t)) → IsFalling s.gas (charged cost s act)
+charged_falls : (cost : ℕ) (s : Machine) (act : Machine → Progress) → 1 ≤ cost → ((t : Machine) → IsWithin t.gas (act t)) → IsFalling s.gas (charged cost s act)
 charged_falls cost s act h k = charged_cases cost s act (nat_le cost s.gas) refl h k
 
 operation_costs : (o : Operation) → 1 ≤ cost_of_operation o
@@ -178,26 +182,41 @@ call_costs call.Return registers = omega arith
 call_costs call.Revert registers = omega arith
 call_costs call.Add registers = lit≤ tt
 
-called_falls : (s : Machine) (r : Result StorageCall Trap) → IsFalling s.gas (ecall_result s (charge_asked s.regs r))
-called_falls s (Err cause) = unfold IsFalling in omega arith
-called_falls s (Ok c) = charged_falls _ s (λ t. storage_call_result t (request_of t.regs t.memory t.rules)) (call_costs c s.regs) (λ t. served_within t (request_of t.regs t.memory t.rules))
+step_within_falls : (gas rest : ℕ) (o : StepResult) → rest < gas → IsStepWithin rest o → IsStepFalling gas o
+unfolding IsStepWithin IsStepFalling
+step_within_falls gas rest (Leads progress) h k = within_falls gas rest progress h k
+step_within_falls gas rest (Asks key) h k = tt
 
-obeyed_cases : (s : Machine) (i : Instr) (b : Bool) → is_ecall i ≡ b → IsFalling s.gas (decode_result s (Some i))
-obeyed_cases s i true e = rw e (called_falls s (asked s.regs s.rules))
-obeyed_cases s i false e = rw e (charged_falls _ s (λ t. instruction_result i t) (instr_costs i e) (λ t. acted_within i t))
+called_cases : (cost : ℕ) (s : Machine) (b : Bool) → nat_le cost s.gas ≡ b → 1 ≤ cost → IsStepFalling s.gas (ecall_result s (Ok cost))
+called_cases cost s true e h =
+    let t : Machine = record s { gas = s.gas - cost } in
+    rw e (step_within_falls s.gas (s.gas - cost) (charged_call_result t) (let fits : cost ≤ s.gas = grind (arith, nat_tests) in omega arith) (served_within t (request_of t.regs t.memory t.rules)))
+called_cases cost s false e h = rw e (unfold IsStepFalling in unfold IsFalling in omega arith)
 
-obeyed_falls : (s : Machine) (o : Option Instr) → IsFalling s.gas (decode_result s o)
-obeyed_falls s None = unfold IsFalling in omega arith
+called_falls : (s : Machine) (r : Result StorageCall Trap) → IsStepFalling s.gas (ecall_result s (charge_asked s.regs r))
+called_falls s (Err cause) = unfold IsStepFalling in unfold IsFalling in omega arith
+called_falls s (Ok c) = called_cases (charge_of c s.regs) s (nat_le (charge_of c s.regs) s.gas) refl (call_costs c s.regs)
+
+obeyed_cases : (s : Machine) (i : Instr) (b : Bool) → is_ecall i ≡ b → IsStepFalling s.gas (decode_result s (Some i))
+obeyed_cases s i true e = rw e (called_falls s (requested_call s.regs s.rules))
+obeyed_cases s i false e = rw e (unfold IsStepFalling in charged_falls _ s (λ t. instruction_result i t) (instr_costs i e) (λ t. acted_within i t))
+
+obeyed_falls : (s : Machine) (o : Option Instr) → IsStepFalling s.gas (decode_result s o)
+obeyed_falls s None = unfold IsStepFalling in unfold IsFalling in omega arith
 obeyed_falls s (Some i) = obeyed_cases s i (is_ecall i) refl
 
-fetched_falls : (s : Machine) (r : Result ℕ Fault) → IsFalling s.gas (fetch_result s r)
+fetched_falls : (s : Machine) (r : Result ℕ AccessFault) → IsStepFalling s.gas (fetch_result s r)
 fetched_falls s (Ok word) = obeyed_falls s (decoded word)
-fetched_falls s (Err fault) = unfold IsFalling in omega arith
+fetched_falls s (Err cause) = unfold IsStepFalling in unfold IsFalling in omega arith
+
+step_falling : (s : Machine) → IsStepFalling s.gas (step s)
+unfolding step
+step_falling s = fetched_falls s (loaded 4 access.Execute s.memory s.pc)
 
 -- a step takes gas
-pub step_falls : (s : Machine) → IsFalling s.gas (step s)
-unfolding step
-step_falls s = fetched_falls s (loaded 4 access.Execute s.memory s.pc)
+pub step_falls : (s : Machine) (progress : Progress) → step s ≡ Leads progress → IsFalling s.gas progress
+unfolding IsStepFalling
+step_falls s progress e = subst (λ o. IsStepFalling s.gas o) e (step_falling s)
 
 -- so does a step that is answered
 pub answered_falls : (s : Machine) (content : Option (List ℕ)) → IsFalling s.gas (answered s content)
@@ -205,58 +224,21 @@ unfolding answered
 answered_falls s content = charged_falls 200 s (λ t. delivery_result t content) (lit≤ tt) (λ t. delivered_within t content)
 
 -- the gas after a step that goes on, and at an end
-pub less_gas : (gas : ℕ) (o : StepResult) (t : Machine) → IsFalling gas o → o ≡ Next t → t.gas < gas
+pub less_gas : (gas : ℕ) (t : Machine) → IsFalling gas (Going t) → t.gas < gas
 unfolding IsFalling
-less_gas gas o t h e = subst (λ p. IsFalling gas p) e h
+less_gas gas t h = h
 
-pub end_gas : (gas : ℕ) (o : StepResult) (end : End) (out : List ℕ) (t : Machine) → IsFalling gas o → o ≡ Ends end out t → t.gas ≤ gas
+pub end_gas : (gas : ℕ) (end : End) (out : List ℕ) (t : Machine) → IsFalling gas (Over end out t) → t.gas ≤ gas
 unfolding IsFalling
-end_gas gas o end out t h e = subst (λ p. IsFalling gas p) e h
+end_gas gas end out t h = h
 
--- an answer is not followed by another asking in one step
-unfoldable pub IsTold : StepResult → Type 0
-IsTold (Next t) = Unit {0}
-IsTold (Asks key) = ⊥
-IsTold (Ends end out t) = Unit {0}
-
-either_told : (b : Bool) (o p : StepResult) → IsTold o → IsTold p → IsTold (if b then o else p)
-either_told true o p h k = h
-either_told false o p h k = k
-
-leaves_told : (s : Machine) (registers : List ℕ) (r : Result Space Fault) → IsTold (memory_result s registers r)
-unfolding IsTold
-leaves_told s registers (Ok memory) = tt
-leaves_told s registers (Err fault) = tt
-
-charged_told : (cost : ℕ) (s : Machine) (act : Machine → StepResult) → ((t : Machine) → IsTold (act t)) → IsTold (charged cost s act)
-charged_told cost s act k =
-    either_told (nat_le cost s.gas) (act (record s { gas = s.gas - cost })) (Ends OutOfGas [] (record s { gas = 0 }))
-    (k (record s { gas = s.gas - cost })) (unfold IsTold in tt)
-
-delivered_told : (s : Machine) (content : Option (List ℕ)) → IsTold (delivery_result s content)
-unfolding delivery_result
-delivered_told s None = unfold IsTold in tt
-delivered_told s (Some value) =
-    either_told (nat_lt (a2 s.regs) (length value))
-    (next_instruction (record s { regs = written s.regs 10 0xffff_fffe })) (charged (late_charge s.rules (length value)) s (λ t. value_result t value))
-    (unfold IsTold in tt) (charged_told _ s (λ t. value_result t value) (λ t. leaves_told t _ _))
-
-answered_told : (s : Machine) (content : Option (List ℕ)) → IsTold (answered s content)
-unfolding answered
-answered_told s content = charged_told 200 s (λ t. delivery_result t content) (λ t. delivered_told t content)
-
-pub not_asked : (s : Machine) (content : Option (List ℕ)) (key : List ℕ) → answered s content ≡ Asks key → ⊥
-unfolding IsTold
-not_asked s content key e = subst (λ o. IsTold o) e (answered_told s content)
-
-takes_gas : (s : Machine) (o : StepResult) → IsFalling s.gas o → TakesGas s o
+takes_gas : (s : Machine) (progress : Progress) → IsFalling s.gas progress → TakesGas s progress
 unfolding IsFalling
-takes_gas s (Next t) h = h
-takes_gas s (Asks key) h = tt
-takes_gas s (Ends end out t) h = h
+takes_gas s (Going t) h = h
+takes_gas s (Over end out t) h = h
 
-pub step_takes_gas : (s : Machine) → TakesGas s (step s)
-step_takes_gas s = takes_gas s (step s) (step_falls s)
+pub step_takes_gas : (s : Machine) (progress : Progress) → step s ≡ Leads progress → TakesGas s progress
+step_takes_gas s progress e = takes_gas s progress (step_falls s progress e)
 
 pub answer_takes_gas : (s : Machine) (content : Option (List ℕ)) → TakesGas s (answered s content)
 answer_takes_gas s content = takes_gas s (answered s content) (answered_falls s content)

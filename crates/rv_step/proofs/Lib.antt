@@ -1,9 +1,12 @@
 mod Illegal
+mod Refused
 pub mod Falls
-pub mod Chains
+pub mod Moments
 pub mod Beginnings
 pub mod Receipts
 pub mod Askings
 pub mod Steps
 pub mod PartlyApplied
 pub mod Reached
+pub mod Stops
+pub mod StorageRuns

@@ -1,5 +1,5 @@
 -- Machines and runs after steps that each go on.
-use Rattle.std.proofs.Common.{◌≡◌, ℕ, zero, suc, ◌<◌, ◌≤◌, true, false, List, Ok, Err, refl, sym, ap, subst, ◌∙◌, arith}
+use Rattle.std.proofs.Common.{◌≡◌, ℕ, zero, suc, ◌<◌, ◌≤◌, true, false, List, Ok, refl, sym, ap, ◌∙◌, arith}
 use Rattle.rv_ledger.specs.Call.{Invocation}
 use Rattle.rv_step.specs.declared.machine.Machine.{Machine}
 use Rattle.rv_step.specs.declared.answer.StorageAnswer.{StorageAnswer}
@@ -7,14 +7,12 @@ use Rattle.rv_step.specs.declared.stage.Stage.{Stage}
 use Rattle.rv_step.specs.declared.stage.Stage.TheVariants.{Running, Asked, Ended}
 use Rattle.rv_step.specs.declared.outcome.InstructionOutcome.{InstructionOutcome}
 use Rattle.rv_step.specs.declared.outcome.InstructionOutcome.TheVariants as outcome
-use Rattle.rv_step.specs.Step.{Next, ecall_result, step}
-use Rattle.std.specs.declared.alloc.AllocError.{AllocError}
-use Rattle.ecalls.specs.StorageCalls.{ecall_charge}
-use Rattle.rv_step.specs.Meets.{MeetsInstructions, MeetsResult, Reaches, is_next}
-use Rattle.rv_step.specs.Run.{IsSoFar, RunView, after_one, after_result, after_steps, is_running, left_for}
+use Rattle.rv_step.specs.Step.{Leads, Going, step}
+use Rattle.rv_step.specs.Meets.{MeetsResult, Reaches, is_next}
+use Rattle.rv_step.specs.Run.{IsBeginning, RunView, after_one, after_result, after_steps, is_running, left_for}
 use Rattle.rv_step.proofs.Falls.{less_gas, step_falls}
-use Rattle.rv_step.proofs.Beginnings.{step_keeps, step_leaves_fewer, steps_on}
-use Rattle.rv_step.proofs.Steps.{one_more_step}
+use Rattle.rv_step.proofs.Beginnings.{steps_on}
+use Rattle.rv_step.proofs.Steps.{more}
 
 -- each machine is reached from itself
 pub here : (s : Machine) → (n : ℕ) × Reaches n s s
@@ -22,13 +20,13 @@ unfolding Reaches
 here s = (zero, refl)
 
 -- a step that goes on reaches one machine further
-pub further : (s m t : Machine) → (n : ℕ) × Reaches n s m → step m ≡ Next t → (n : ℕ) × Reaches n s t
+pub further : (s m t : Machine) → (n : ℕ) × Reaches n s m → step m ≡ Leads (Going t) → (n : ℕ) × Reaches n s t
 unfolding Reaches
 further s m t reached e = (suc reached.0, (m, reached.1, e))
 
 -- a step that goes on leaves less gas
-pub next_takes_gas : (s t : Machine) → step s ≡ Next t → t.gas < s.gas
-next_takes_gas s t e = less_gas s.gas (step s) t (step_falls s) e
+pub next_takes_gas : (s t : Machine) → step s ≡ Leads (Going t) → t.gas < s.gas
+next_takes_gas s t e = less_gas s.gas t (step_falls s (Going t) e)
 
 -- steps that go on give no gas back
 pub reached_gas : (n : ℕ) (s t : Machine) → Reaches n s t → t.gas ≤ s.gas
@@ -40,7 +38,7 @@ reached_gas (suc n) s t reached =
     omega arith
 
 -- a run stays a beginning of its call's chain over steps that go on
-pub reached_keeps : (n : ℕ) (call : Invocation) (s t : Machine) (answers : List StorageAnswer) (stage : Stage) → IsSoFar (record { call = call; machine = s; answers = answers; stage = stage }) → is_running stage ≡ true → Reaches n s t → IsSoFar (record { call = call; machine = t; answers = answers; stage = stage })
+pub reached_keeps : (n : ℕ) (call : Invocation) (s t : Machine) (answers : List StorageAnswer) (stage : Stage) → IsBeginning (record { call = call; machine = s; answers = answers; stage = stage }) → is_running stage ≡ true → Reaches n s t → IsBeginning (record { call = call; machine = t; answers = answers; stage = stage })
 unfolding Reaches
 reached_keeps zero call s t answers stage so_far running reached = rw reached so_far
 reached_keeps (suc n) call s t answers stage so_far running reached =
@@ -65,59 +63,20 @@ running_is (Asked key) h = cc
 running_is (Ended end out) h = cc
 
 -- a run after one step that goes on
-one_on : (r : RunView) (t : Machine) → is_running r.stage ≡ true → step r.machine ≡ Next t → after_one r ≡ record r { machine = t }
+one_on : (r : RunView) (t : Machine) → is_running r.stage ≡ true → step r.machine ≡ Leads (Going t) → after_one r ≡ record r { machine = t }
 one_on r t running e = rw (running) (rw (e) (ap (λ (stage : Stage). record r { machine = t; stage = stage }) (sym (running_is r.stage running))))
 
 -- steps that go on are steps of the run
 pub reached_steps : (n : ℕ) (r : RunView) (t : Machine) → is_running r.stage ≡ true → Reaches n r.machine t → record r { machine = t } ≡ after_steps n r
-unfolding Reaches after_steps
+unfolding Reaches
 reached_steps zero r t running reached = ap (λ (m : Machine). record r { machine = m }) reached
 reached_steps (suc n) r t running reached =
     sym (one_on (record r { machine = reached.0 }) t running reached.2)
     ∙ ap after_one (reached_steps n r reached.0 running reached.1)
-
--- where memory ran out the machine was reached
-pub err_reached : (s t : Machine) (e : AllocError) → MeetsInstructions (Err e) s t → (n : ℕ) × Reaches n s t
-err_reached s t e did = (did.count, subst (λ (m : Machine). Reaches did.count s m) (sym did.did.2) did.reached)
-
--- a machine that was found at an ECALL was reached
-pub ecall_reached : (s m : Machine) → MeetsInstructions (Ok outcome.StorageCall) s m → (n : ℕ) × Reaches n s m
-ecall_reached s m did = (did.count, subst (λ (x : Machine). Reaches did.count s x) (sym did.did.2) did.reached)
-
--- and the storage call is its step
-pub ecall_found : (s m t : Machine) (came : Stage) → MeetsInstructions (Ok outcome.StorageCall) s m → MeetsResult (Ok came) (ecall_result m (ecall_charge m.regs m.rules)) m t → MeetsResult (Ok came) (step m) m t
-ecall_found s m t came did came_to =
-    let found : step m ≡ ecall_result m (ecall_charge m.regs m.rules) = subst (λ (x : Machine). step x ≡ ecall_result x (ecall_charge x.regs x.rules)) (sym did.did.2) did.did.1 in
-    rw found came_to
+    ∙ sym (more n r)
 
 -- what a step came to is the stage after it
-came_result : (q : RunView) (t : Machine) (came : Stage) → MeetsResult (Ok came) (step q.machine) q.machine t → record q { machine = t; stage = came } ≡ after_result (step q.machine) q
+pub came_result : (q : RunView) (t : Machine) (came : Stage) → MeetsResult (Ok came) (step q.machine) q.machine t → record q { machine = t; stage = came } ≡ after_result (step q.machine) q
 came_result q t Running did = rw did refl
 came_result q t (Asked key) did = rw (did.0) (ap (λ (m : Machine). record q { machine = m; stage = Asked key }) did.1)
 came_result q t (Ended end out) did = rw did refl
-
-module _ (r : RunView) (m : Machine) (running : is_running r.stage ≡ true) (reached : (n : ℕ) × Reaches n r.machine m) where
-  -- steps that go on, as steps of the run
-  pub stands_after : (n : ℕ) × (record r { machine = m } ≡ after_steps n r)
-  stands_after = (reached.0, reached_steps reached.0 r m running reached.1)
-
-  -- and a step after them
-  pub comes_after : (t : Machine) (came : Stage) → MeetsResult (Ok came) (step m) m t → (n : ℕ) × (record r { machine = t; stage = came } ≡ after_steps n r)
-  comes_after t came did =
-      one_more_step r (record r { machine = m }) (record r { machine = t; stage = came }) stands_after running (came_result (record r { machine = m }) t came did)
-
-module _ (call : Invocation) (s m : Machine) (answers : List StorageAnswer) (stage : Stage) (running : is_running stage ≡ true) (reached : (n : ℕ) × Reaches n s m) where
-  -- a run after steps that go on is a beginning of its call's chain
-  pub stands_keeps : IsSoFar (record { call = call; machine = s; answers = answers; stage = stage }) → IsSoFar (record { call = call; machine = m; answers = answers; stage = stage })
-  stands_keeps so_far = reached_keeps reached.0 call s m answers stage so_far running reached.1
-
-  -- and after one more
-  pub comes_keeps : (t : Machine) (came : Stage) → MeetsResult (Ok came) (step m) m t → IsSoFar (record { call = call; machine = s; answers = answers; stage = stage }) → IsSoFar (record { call = call; machine = t; answers = answers; stage = came })
-  comes_keeps t came did so_far = step_keeps call m t answers stage came (stands_keeps so_far) running did
-
-  -- it has fewer steps to come
-  pub comes_leaves : (t : Machine) (came : Stage) → MeetsResult (Ok came) (step m) m t → left_for t.gas came < left_for s.gas stage
-  comes_leaves t came did =
-      let less : left_for t.gas came < left_for m.gas stage = step_leaves_fewer m t stage came running did in
-      let before : left_for m.gas stage ≤ left_for s.gas stage = reached_leaves reached.0 s m stage running reached.1 in
-      omega arith

@@ -1,94 +1,226 @@
 -- A call over a storage has exactly one receipt.
-use Rattle.std.proofs.Common.{◌≡◌, ℕ, zero, suc, ◌<◌, Bool, true, false, if◌then◌else◌, List, [], ◌∷◌, Option, Some, None, refl, sym, ap, ◌∙◌, arith}
+use Rattle.std.proofs.Common.{◌≡◌, ℕ, zero, suc, ◌≤◌, inl, inr, Bool, true, false, if◌then◌else◌, List, [], ◌∷◌, ◌++◌, Some, None, refl, sym, ap, subst, ◌∙◌, arith}
 use Rattle.std.specs.FinMap as map
 use Rattle.std.specs.Str.{bytes_eq}
 use Rattle.std.proofs.lemmas.Slice.Eq.{bytes_eq-Decides}
+use Rattle.rv_ledger.specs.Change.{Content}
 use Rattle.rv_ledger.specs.Call.{Invocation}
 use Rattle.rv_ledger.specs.Key.{Storage}
 use Rattle.rv_ledger.specs.declared.receipt.Receipt.{Receipt}
 use Rattle.rv_step.specs.declared.machine.Machine.{Machine}
-use Rattle.rv_step.specs.Step.{StepResult, Next, Asks, Ends, step, answered, delivered}
-use Rattle.rv_step.specs.Chain.{AreFrom, HasOneReceipt, Reply, after_ask, after_step, answered_by, closed, ends, followed, ran, receipt_of, replayed, settled, start}
-use Rattle.rv_step.proofs.Falls.{IsFalling, step_falls, answered_falls, less_gas, not_asked}
+use Rattle.rv_step.specs.Step.{Progress, Going, Over, StepResult, Leads, Asks, step, answered, delivered}
+use Rattle.rv_step.specs.Moment.{Reply, advance, from_replies, from_storage, is_over, machine_of, moment_from, moment_over, moment_with, start}
+use Rattle.rv_step.specs.Chain.{AreFrom, HasOneReceipt, borne_out, ends, enough_steps, receipt_at, receipt_with}
+use Rattle.rv_step.proofs.Falls.{IsFalling, answered_falls, less_gas, step_falls}
+use Rattle.rv_step.proofs.Moments.{IsLast, IsNear, advance_leads, advance_told, kept, last_after_gas, last_is, near_at, no_more, one_more}
 
--- a receipt that is closed is the one
-closed_is : (replies : List Reply) (receipt r : Receipt) → closed replies receipt ≡ Some r → r ≡ receipt
-closed_is [] receipt r e = cc
-closed_is (reply ∷ replies) receipt r e = cc
-
--- what both ways of going on make of a step that was answered
-step_agrees : (f : Machine → List Reply → Option Receipt) (g : Machine → Receipt) (limit : ℕ) (s : Machine) (o : StepResult) (replies : List Reply) (r : Receipt) → ((t : Machine) → f t replies ≡ Some r → r ≡ g t) → after_step f limit o replies ≡ Some r → r ≡ settled g limit s o
-step_agrees f g limit s (Next t) replies r same e = same t e
-step_agrees f g limit s (Asks key) replies r same e = cc
-step_agrees f g limit s (Ends end out t) replies r same e = closed_is replies (receipt_of limit end out t) r e
-
-pub none_some : (r : Receipt) → None ≡ Some r → ⊥
-none_some r e = cc
-
--- an answer to another key bears nothing out
-pub right_key : (b : Bool) (o : Option Receipt) (r : Receipt) → (if b then o else None) ≡ Some r → (b ≡ true) × (o ≡ Some r)
-right_key true o r e = (refl, e)
-right_key false o r e = absurd (none_some r e)
-
-ask_agrees : (f : Machine → List Reply → Option Receipt) (g : Machine → Receipt) (limit : ℕ) (s : Machine) (store : Storage) (key : List ℕ) (replies : List Reply) (r : Receipt) → ((t : Machine) (rest : List Reply) → AreFrom store rest → f t rest ≡ Some r → r ≡ g t) → AreFrom store replies → after_ask f limit s key replies ≡ Some r → r ≡ settled g limit s (answered s (delivered s key (map.get store key)))
-ask_agrees f g limit s store key [] r same from e = absurd (none_some r e)
-ask_agrees f g limit s store key (reply ∷ replies) r same from e =
-    let found = right_key (bytes_eq reply.0 key) (after_step f limit (answered s (delivered s key reply.1)) replies) r e in
-    let is_key : reply.0 ≡ key = (bytes_eq-Decides reply.0 key).0 found.0 in
-    let content : reply.1 ≡ map.get store key = from.0 ∙ ap (map.get store) is_key in
-    step_agrees f g limit s (answered s (delivered s key (map.get store key))) replies r (λ t h. same t replies from.1 h)
-    (ap (λ (c : Option (List ℕ)). after_step f limit (answered s (delivered s key c)) replies) (sym content) ∙ found.1)
-
-outcome_agrees : (f : Machine → List Reply → Option Receipt) (g : Machine → Receipt) (limit : ℕ) (s : Machine) (store : Storage) (o : StepResult) (replies : List Reply) (r : Receipt) → ((t : Machine) (rest : List Reply) → AreFrom store rest → f t rest ≡ Some r → r ≡ g t) → AreFrom store replies → followed f limit s o replies ≡ Some r → r ≡ settled g limit s (answered_by store s o)
-outcome_agrees f g limit s store (Next t) replies r same from e = same t replies from e
-outcome_agrees f g limit s store (Asks key) replies r same from e = ask_agrees f g limit s store key replies r same from e
-outcome_agrees f g limit s store (Ends end out t) replies r same from e = closed_is replies (receipt_of limit end out t) r e
-
-agrees : (limit n : ℕ) (s : Machine) (store : Storage) (replies : List Reply) (r : Receipt) → AreFrom store replies → replayed limit n s replies ≡ Some r → r ≡ ran limit n s store
-unfolding replayed ran
-agrees limit zero s store replies r from e = absurd (none_some r e)
-agrees limit (suc n) s store replies r from e =
-    outcome_agrees (λ t rest. replayed limit n t rest) (λ t. ran limit n t store) limit s store (step s) replies r
-    (λ t rest h k. agrees limit n t store rest r h k) from e
-
--- answers of a storage that come to a receipt
-abbrev IsReached : (Machine → List Reply → Option Receipt) → Storage → Machine → Receipt → Type 0
-IsReached f store s r = (replies : List Reply) × AreFrom store replies × (f s replies ≡ Some r)
-
-step_reached : (f : Machine → List Reply → Option Receipt) (g : Machine → Receipt) (limit gas : ℕ) (s : Machine) (store : Storage) (o : StepResult) → IsFalling gas o → ((key : List ℕ) → o ≡ Asks key → ⊥) → ((t : Machine) → t.gas < gas → IsReached f store t (g t)) → (replies : List Reply) × AreFrom store replies × (after_step f limit o replies ≡ Some (settled g limit s o))
-step_reached f g limit gas s store (Next t) h never reach = reach t (less_gas gas (Next t) t h refl)
-step_reached f g limit gas s store (Asks key) h never reach = absurd (never key refl)
-step_reached f g limit gas s store (Ends end out t) h never reach = ([], tt, refl)
+-- ---- replies
 
 same_key : (key : List ℕ) → bytes_eq key key ≡ true
 same_key key = (bytes_eq-Decides key key).1 refl
 
-outcome_reached : (f : Machine → List Reply → Option Receipt) (g : Machine → Receipt) (limit : ℕ) (s : Machine) (store : Storage) (o : StepResult) → IsFalling s.gas o → ((t : Machine) → t.gas < s.gas → IsReached f store t (g t)) → (replies : List Reply) × AreFrom store replies × (followed f limit s o replies ≡ Some (settled g limit s (answered_by store s o)))
-outcome_reached f g limit s store (Next t) h reach = reach t (less_gas s.gas (Next t) t h refl)
-outcome_reached f g limit s store (Asks key) h reach =
-    let rest = step_reached f g limit s.gas s store (answered s (delivered s key (map.get store key))) (answered_falls s (delivered s key (map.get store key))) (not_asked s (delivered s key (map.get store key))) reach in (
-      (key, map.get store key) ∷ rest.0,
-      (refl, rest.1),
-      ap (λ (b : Bool). if b then after_step f limit (answered s (delivered s key (map.get store key))) rest.0 else None) (same_key key) ∙ rest.2,
-    )
-outcome_reached f g limit s store (Ends end out t) h reach = ([], tt, refl)
+-- a reply to the key that is asked for
+pub reply_told : (key : List ℕ) (content : Content) (rest : List Reply) → from_replies ((key, content) ∷ rest) key ≡ Some (content, rest)
+reply_told key content rest = ap (λ (b : Bool). if b then Some (content, rest) else None) (same_key key)
 
--- some answers of a storage come to a receipt
-pub reached : (limit n : ℕ) (s : Machine) (store : Storage) → s.gas < n → (replies : List Reply) × AreFrom store replies × (replayed limit n s replies ≡ Some (ran limit n s store))
-unfolding replayed ran
-reached limit zero s store h = absurd (omega arith)
-reached limit (suc n) s store h =
-    outcome_reached (λ t rest. replayed limit n t rest) (λ t. ran limit n t store) limit s store (step s) (step_falls s)
-    (λ t less. reached limit n t store (omega arith))
+none_some : (x : Content × List Reply) → None ≡ Some x → ⊥
+none_some x e = cc
 
-start_gas : (call : Invocation) → (start call).gas ≡ call.gas
+pair_is : {A : Type 0} (x y : Content × A) → Some x ≡ Some y → (x.0 ≡ y.0) × (x.1 ≡ y.1)
+pair_is x y e = let same : x ≡ y = cc in (ap (λ p. p.0) same, ap (λ p. p.1) same)
+
+-- the reply that was taken
+pub reply_taken : (reply : Reply) (left : List Reply) (key : List ℕ) (content : Content) (rest : List Reply) → from_replies (reply ∷ left) key ≡ Some (content, rest) → (bytes_eq reply.0 key ≡ true) × (reply.1 ≡ content) × (left ≡ rest)
+reply_taken reply left key content rest e = by_test (bytes_eq reply.0 key) refl
+  where
+    by_test : (b : Bool) → bytes_eq reply.0 key ≡ b → (bytes_eq reply.0 key ≡ true) × (reply.1 ≡ content) × (left ≡ rest)
+    by_test true same = let both = pair_is (reply.1, left) (content, rest) (sym (ap (λ (b : Bool). if b then Some (reply.1, left) else None) same) ∙ e) in (same, both.0, both.1)
+    by_test false other = absurd (none_some (content, rest) (sym (ap (λ (b : Bool). if b then Some (reply.1, left) else None) other) ∙ e))
+
+-- it is taken whatever follows
+told_before : (more left : List Reply) (key : List ℕ) (content : Content) (rest : List Reply) → from_replies left key ≡ Some (content, rest) → from_replies (left ++ more) key ≡ Some (content, rest ++ more)
+told_before more [] key content rest e = cc
+told_before more (reply ∷ left) key content rest e =
+    let taken = reply_taken reply left key content rest e in
+    ap (λ (b : Bool). if b then Some (reply.1, left ++ more) else None) taken.0
+    ∙ ap (λ (c : Content). Some (c, left ++ more)) taken.1
+    ∙ ap (λ (l : List Reply). Some (content, l ++ more)) taken.2
+
+-- with further replies behind them, the same steps are made
+module _ (replies more : List Reply) (first : Progress) where
+  abbrev Comes : Progress × List Reply → Type 0
+  Comes at = (m : ℕ) × (moment_from from_replies m (first, replies ++ more) ≡ (at.0, at.1 ++ more))
+
+  comes_on : (at next : Progress × List Reply) → Comes at → advance from_replies (at.0, at.1 ++ more) ≡ (next.0, next.1 ++ more) → Comes next
+  comes_on at next comes e = (suc comes.0, one_more from_replies comes.0 (first, replies ++ more) ∙ ap (advance from_replies) comes.1 ∙ e)
+
+  pub with_more : (n : ℕ) → Comes (moment_from from_replies n (first, replies))
+  with_more n = kept from_replies Comes
+      (λ s left progress comes e. comes_on (Going s, left) (progress, left) comes (advance_leads from_replies s (left ++ more) progress e))
+      (λ s left key content rest comes e told. comes_on (Going s, left) (answered s (delivered s key content), rest) comes (advance_told from_replies s (left ++ more) key content (rest ++ more) e (told_before more left key content rest told)))
+      n (first, replies) (zero, no_more from_replies (first, replies ++ more))
+
+-- ---- a storage
+
+-- a step that takes gas changes something
+pub takes_something : {A : Type 0} (s : Machine) (progress : Progress) (rest left : A) → IsFalling s.gas progress → ◌≡◌ {A = Progress × A} (progress, rest) (Going s, left) → ⊥
+takes_something s (Going t) rest left falls e = let less = less_gas s.gas t falls in let same : t.gas ≡ s.gas = ap (λ at. (machine_of at.0).gas) e in omega (arith, less, same)
+takes_something s (Over end out t) rest left falls e = let other : true ≡ false = ap (λ at. is_over at.0) e in cc
+
+-- a storage answers all keys, so only the end is the last moment
+never_last : (store : Storage) (s : Machine) (o : StepResult) → step s ≡ o → IsLast from_storage (Going s, store) → ⊥
+never_last store s (Leads progress) e last = takes_something s progress store store (step_falls s progress e) (sym (advance_leads from_storage s store progress e) ∙ last)
+never_last store s (Asks key) e last =
+    let content : Content = map.get store key in
+    takes_something s (answered s (delivered s key content)) store store (answered_falls s (delivered s key content)) (sym (advance_told from_storage s store key content store e refl) ∙ last)
+
+last_over : (progress : Progress) (store : Storage) → IsLast from_storage (progress, store) → is_over progress ≡ true
+last_over (Going s) store last = absurd (never_last store s (step s) refl last)
+last_over (Over end out s) store last = refl
+
+-- so a chain over a storage comes to its end
+pub over_from : (store : Storage) (limit : ℕ) (progress : Progress) → (machine_of progress).gas ≤ limit → is_over (moment_from from_storage (suc limit) (progress, store)).0 ≡ true
+over_from store limit progress h =
+    let at = moment_from from_storage (suc limit) (progress, store) in last_over at.0 at.1 (last_after_gas from_storage limit (progress, store) h)
+
+pub start_gas : (call : Invocation) → (start call).gas ≤ call.gas
 unfolding start
-start_gas call = refl
+start_gas call = omega arith
+
+pub over_after_gas : (call : Invocation) (store : Storage) → is_over (moment_over call store (enough_steps call)) ≡ true
+over_after_gas call store = over_from store call.gas (Going (start call)) (start_gas call)
+
+-- ---- replies of a storage
+
+-- with replies of a storage the same steps are made as over it
+module _ (store : Storage) (first : Progress) where
+  abbrev IsOver : Progress × List Reply → Type 0
+  IsOver at = AreFrom store at.1 × ((m : ℕ) × (moment_from from_storage m (first, store) ≡ (at.0, store)))
+
+  over_on : (s : Machine) (left : List Reply) (next : Progress) (rest : List Reply) → IsOver (Going s, left) → AreFrom store rest → advance from_storage (Going s, store) ≡ (next, store) → IsOver (next, rest)
+  over_on s left next rest over from e = (from, (suc over.1.0, one_more from_storage over.1.0 (first, store) ∙ ap (advance from_storage) over.1.1 ∙ e))
+
+  told_over : (s : Machine) (left : List Reply) (key : List ℕ) (content : Content) (rest : List Reply) → IsOver (Going s, left) → step s ≡ Asks key → from_replies left key ≡ Some (content, rest) → IsOver (answered s (delivered s key content), rest)
+  told_over s [] key content rest over e told = cc
+  told_over s (reply ∷ left) key content rest over e told =
+      let taken = reply_taken reply left key content rest told in
+      let there : map.get store key ≡ content = ap (map.get store) (sym ((bytes_eq-Decides reply.0 key).0 taken.0)) ∙ sym over.0.0 ∙ taken.1 in
+      over_on s (reply ∷ left) (answered s (delivered s key content)) rest over (subst (AreFrom store) taken.2 over.0.1)
+      (advance_told from_storage s store key content store e (ap (λ (c : Content). Some (c, store)) there))
+
+  pub with_is_over : (replies : List Reply) → AreFrom store replies → (n : ℕ) → IsOver (moment_from from_replies n (first, replies))
+  with_is_over replies from n = kept from_replies IsOver
+      (λ s left progress over e. over_on s left progress left over over.0 (advance_leads from_storage s store progress e))
+      (λ s left key content rest over e told. told_over s left key content rest over e told)
+      n (first, replies) (from, (zero, no_more from_storage (first, store)))
+
+one_more_from : (store : Storage) (replies : List Reply) (reply : Reply) → AreFrom store replies → reply.1 ≡ map.get store reply.0 → AreFrom store (replies ++ reply ∷ [])
+one_more_from store [] reply from e = (e, tt)
+one_more_from store (first ∷ replies) reply from e = (from.0, one_more_from store replies reply from.1 e)
+
+-- some replies of the storage lead where it does, all of them used
+pub record IsLedTo (store : Storage) (first : Progress) (at : Progress × Storage) : Type 0 where
+  pub same : at.1 ≡ store
+  pub replies : List Reply
+  pub from : AreFrom store replies
+  pub count : ℕ
+  pub comes : moment_from from_replies count (first, replies) ≡ (at.0, [])
+
+module _ (store : Storage) (first : Progress) where
+  leads_led : (s : Machine) (left : Storage) (progress : Progress) → IsLedTo store first (Going s, left) → step s ≡ Leads progress → IsLedTo store first (progress, left)
+  leads_led s left progress led e = record {
+    same = led.same;
+    replies = led.replies;
+    from = led.from;
+    count = suc led.count;
+    comes = one_more from_replies led.count (first, led.replies) ∙ ap (advance from_replies) led.comes ∙ advance_leads from_replies s [] progress e;
+  }
+
+  told_led : (s : Machine) (left : Storage) (key : List ℕ) (content : Content) (rest : Storage) → IsLedTo store first (Going s, left) → step s ≡ Asks key → from_storage left key ≡ Some (content, rest) → IsLedTo store first (answered s (delivered s key content), rest)
+  told_led s left key content rest led e told =
+      let given = pair_is (map.get left key, left) (content, rest) told in
+      let reply : Reply = (key, content) in
+      let comes = with_more led.replies (reply ∷ []) first led.count in
+      let stands : moment_from from_replies comes.0 (first, led.replies ++ reply ∷ []) ≡ (Going s, reply ∷ []) = comes.1 ∙ ap (λ (at : Progress × List Reply). (at.0, at.1 ++ reply ∷ [])) led.comes in
+      record {
+        same = sym given.1 ∙ led.same;
+        replies = led.replies ++ reply ∷ [];
+        from = one_more_from store led.replies reply led.from (sym given.0 ∙ ap (λ (x : Storage). map.get x key) led.same);
+        count = suc comes.0;
+        comes = one_more from_replies comes.0 (first, led.replies ++ reply ∷ []) ∙ ap (advance from_replies) stands ∙ advance_told from_replies s (reply ∷ []) key content [] e (reply_told key content []);
+      }
+
+  pub led_to : (n : ℕ) → IsLedTo store first (moment_from from_storage n (first, store))
+  led_to n = kept from_storage (IsLedTo store first) leads_led told_led
+      n (first, store) (record { same = refl; replies = []; from = tt; count = zero; comes = no_more from_replies (first, []) })
+
+-- ---- the receipt
+
+-- where a call is over, nothing changes any more
+pub over_last : (progress : Progress) (left : List Reply) → is_over progress ≡ true → IsLast from_replies (progress, left)
+over_last (Going s) left over = cc
+over_last (Over end out s) left over = refl
+
+-- a moment at which nothing changes any more is the one that tells the receipt
+pub last_with : (call : Invocation) (replies : List Reply) (n : ℕ) (at : Progress × List Reply) → moment_with call replies n ≡ at → IsLast from_replies at → moment_with call replies (enough_steps call) ≡ at
+last_with call replies n at e last =
+    last_is from_replies call.gas n (Going (start call), replies) (start_gas call) (rw e last) ∙ e
+
+receipt_with_all : (limit : ℕ) (progress : Progress) → is_over progress ≡ true → receipt_with limit (progress, []) ≡ Some (receipt_at limit progress)
+receipt_with_all limit (Going s) over = cc
+receipt_with_all limit (Over end out s) over = refl
+
+-- a call that is over with its replies used tells the receipt
+pub over_bears : (call : Invocation) (replies : List Reply) (n : ℕ) (progress : Progress) → moment_with call replies n ≡ (progress, []) → is_over progress ≡ true → borne_out call replies ≡ Some (receipt_at call.gas progress)
+over_bears call replies n progress e over =
+    ap (receipt_with call.gas) (last_with call replies n (progress, []) e (over_last progress [] over)) ∙ receipt_with_all call.gas progress over
+
+-- where there is a receipt the call is over and its replies are used
+pub bears_over : (limit : ℕ) (progress : Progress) (left : List Reply) (r : Receipt) → receipt_with limit (progress, left) ≡ Some r → (is_over progress ≡ true) × (left ≡ []) × (r ≡ receipt_at limit progress)
+bears_over limit (Going s) left r e = cc
+bears_over limit (Over end out s) [] r e = (refl, refl, cc)
+bears_over limit (Over end out s) (reply ∷ left) r e = cc
+
+over_last_storage : (progress : Progress) (store : Storage) → is_over progress ≡ true → IsLast from_storage (progress, store)
+over_last_storage (Going s) store over = cc
+over_last_storage (Over end out s) store over = refl
+
+-- a call that is over over a storage has its receipt
+pub over_ends : (call : Invocation) (store : Storage) (n : ℕ) (at : Progress × Storage) → moment_from from_storage n (Going (start call), store) ≡ at → is_over at.0 ≡ true → receipt_at call.gas at.0 ≡ ends call store
+unfolding ends
+over_ends call store n at e over =
+    ap (λ (x : Progress × Storage). receipt_at call.gas x.0)
+    (sym (last_is from_storage call.gas n (Going (start call), store) (start_gas call) (rw e (over_last_storage at.0 at.1 over)) ∙ e))
 
 -- for each call and storage there is exactly one receipt
-pub one_receipt_lem : (call : Invocation) (store : Storage) → HasOneReceipt call store
+some_bear : (call : Invocation) (store : Storage) → (replies : List Reply) × AreFrom store replies × (borne_out call replies ≡ Some (ends call store))
 unfolding ends
-one_receipt_lem call store = record {
-  some_answers = reached call.gas (suc call.gas) (start call) store (let e = start_gas call in omega (arith, e));
-  no_other = λ replies receipt from e. agrees call.gas (suc call.gas) (start call) store replies receipt from e;
-}
+some_bear call store =
+    let led = led_to store (Going (start call)) (enough_steps call) in
+    (led.replies, led.from, over_bears call led.replies led.count (moment_over call store (enough_steps call)) led.comes (over_after_gas call store))
+
+no_other_bears : (call : Invocation) (store : Storage) (replies : List Reply) (receipt : Receipt) → AreFrom store replies → borne_out call replies ≡ Some receipt → receipt ≡ ends call store
+no_other_bears call store replies receipt from e =
+    let at : Progress × List Reply = moment_with call replies (enough_steps call) in
+    let over = with_is_over store (Going (start call)) replies from (enough_steps call) in
+    let told = bears_over call.gas at.0 at.1 receipt e in
+    told.2 ∙ over_ends call store over.1.0 (at.0, store) over.1.1 told.0
+
+pub one_receipt_lem : (call : Invocation) (store : Storage) → HasOneReceipt call store
+one_receipt_lem call store = record { some_answers = some_bear call store; no_other = no_other_bears call store }
+
+-- ---- moments over a storage
+
+-- the storage stays
+pub keeps_storage : (store : Storage) (first : Progress) (n : ℕ) → moment_from from_storage n (first, store) ≡ ((moment_from from_storage n (first, store)).0, store)
+keeps_storage store first n = ap (λ (x : Storage). ((moment_from from_storage n (first, store)).0, x)) (led_to store first n).same
+
+-- a call that goes on has made no more steps than it had gas
+going_near : (limit n : ℕ) (at : Progress × Storage) → IsNear from_storage limit n at → is_over at.0 ≡ false → n ≤ limit
+going_near limit n at (inl last) going = let over = last_over at.0 at.1 last in cc
+going_near limit n at (inr near) going = omega (arith, near)
+
+pub going_within : (call : Invocation) (store : Storage) (n : ℕ) → is_over (moment_over call store n) ≡ false → n ≤ call.gas
+going_within call store n going =
+    let at : Progress × Storage = moment_from from_storage n (Going (start call), store) in
+    going_near call.gas n at (near_at from_storage call.gas n (Going (start call), store) (start_gas call)) going

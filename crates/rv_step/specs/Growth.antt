@@ -3,16 +3,15 @@ use Rattle.std.specs.Prelude.{ℕ, Bool, true, false, Option, Some, None, Result
 use Rattle.rv_isa.specs.Decoded.{decoded}
 use Rattle.rv_isa.specs.declared.instruction.Instr.{Instr}
 use Rattle.rv_isa.specs.declared.instruction.Instr.TheVariants.{Store, Ecall}
-use Rattle.rv_mem.specs.Space.{loaded}
+use Rattle.rv_mem.specs.Space.{AccessFault, loaded}
 use Rattle.rv_mem.specs.declared.access.Access.TheVariants as access
-use Rattle.rv_mem.specs.declared.fault.Fault.{Fault}
 use Rattle.rv_step.specs.declared.machine.Machine.{Machine}
-use Rattle.rv_step.specs.Step.{StepResult, Next, step}
+use Rattle.rv_step.specs.Step.{StepResult, Leads, Going, step}
 
 -- the instruction of a word that was fetched
-abbrev pub fetched_instruction : Result ℕ Fault → Option Instr
+abbrev pub fetched_instruction : Result ℕ AccessFault → Option Instr
 fetched_instruction (Ok word) = decoded word
-fetched_instruction (Err fault) = None
+fetched_instruction (Err cause) = None
 
 -- the instruction at which a machine stands, if there is one
 abbrev pub instruction_at : Machine → Option Instr
@@ -26,7 +25,7 @@ may_grow _ = false
 
 -- the call goes on after the step
 abbrev pub goes_on : StepResult → Bool
-goes_on (Next t) = true
+goes_on (Leads (Going t)) = true
 goes_on _ = false
 
 -- the machine's next step may take memory: it is a store or an ECALL after which the call goes on. So it does not trap,

@@ -1,4 +1,5 @@
 pub mod Step
+pub mod Moment
 pub mod Chain
 pub mod Fold
 pub mod Replies
@@ -6,3 +7,4 @@ pub mod Run
 pub mod Growth
 pub mod Meets
 pub mod Asked
+pub mod Over

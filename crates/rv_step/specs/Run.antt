@@ -10,8 +10,9 @@ use Rattle.rv_step.specs.declared.stage.Stage.TheVariants.{Running, Asked, Ended
 use Rattle.rv_step.specs.declared.run.Pause.{Pause}
 use Rattle.rv_step.specs.declared.run.Pause.TheVariants as pause
 use Rattle.rv_step.specs.Replies.{replies_of}
-use Rattle.rv_step.specs.Step.{StepResult, Next, Asks, Ends, step, answered, delivered}
-use Rattle.rv_step.specs.Chain.{Reply, borne_out, replayed, closed, receipt_of, start}
+use Rattle.rv_step.specs.Step.{Progress, Going, Over, StepResult, Leads, Asks, step, answered, delivered}
+use Rattle.rv_step.specs.Moment.{from_replies, moment_from, moment_with, start}
+use Rattle.rv_step.specs.Chain.{receipt_of}
 
 -- what callers see of a run: its call, where it stands, and the answers that it was given
 pub record RunView : Type 0 where
@@ -23,11 +24,15 @@ pub record RunView : Type 0 where
 abbrev pub run_at_start : Invocation → RunView
 run_at_start call = record { call = call; machine = start call; answers = []; stage = Running }
 
+-- a run that stands there
+abbrev pub standing_at : Progress → RunView → RunView
+standing_at (Going t) r = record r { machine = t; stage = Running }
+standing_at (Over end out t) r = record r { machine = t; stage = Ended end out }
+
 -- a run after a step with this result
 abbrev pub after_result : StepResult → RunView → RunView
-after_result (Next t) r = record r { machine = t; stage = Running }
+after_result (Leads progress) r = standing_at progress r
 after_result (Asks key) r = record r { stage = Asked key }
-after_result (Ends end out t) r = record r { machine = t; stage = Ended end out }
 
 abbrev pub is_running : Stage → Bool
 is_running Running = true
@@ -37,10 +42,10 @@ is_running _ = false
 abbrev pub after_one : RunView → RunView
 after_one r = if is_running r.stage then after_result (step r.machine) r else r
 
--- a run after a number of steps; one that asks or has ended stays
-unfoldable pub after_steps : ℕ → RunView → RunView
+-- a run after a number of steps without an answer, if it can make one; the last of them may ask
+abbrev pub after_steps : ℕ → RunView → RunView
 after_steps zero r = r
-after_steps (suc n) r = after_one (after_steps n r)
+after_steps (suc n) r = if is_running r.stage then after_one (standing_at (moment_from from_replies n (Going r.machine, [])).0 r) else r
 
 -- the greatest number of steps and answers that may still come: each instruction takes gas, so that a call ends
 abbrev pub left_for : ℕ → Stage → ℕ
@@ -59,23 +64,22 @@ asked_key _ = None
 -- a run that asked for a key, after its answer
 abbrev pub after_answer : List ℕ → Option (List ℕ) → Origin → RunView → RunView
 after_answer key content origin r =
-    after_result (answered r.machine (delivered r.machine key content)) (record r { answers = r.answers ++ record { key = key; value = content; origin = origin } ∷ [] })
-
--- the receipt that these further answers lead to
-abbrev pub left_over : ℕ → Machine → Stage → List Reply → Option Receipt
-left_over limit s (Ended end out) replies = closed replies (receipt_of limit end out s)
-left_over limit s _ replies = replayed limit (suc s.gas) s replies
+    standing_at (answered r.machine (delivered r.machine key content)) (record r { answers = r.answers ++ record { key = key; value = content; origin = origin } ∷ [] })
 
 -- what a stage says about the machine
 abbrev pub IsStage : ℕ → Machine → Stage → Type 0
 IsStage limit s (Asked key) = (s.gas ≤ limit) × (step s ≡ Asks key)
 IsStage limit s _ = s.gas ≤ limit
 
--- the run so far is a beginning of its call's chain: whatever answers come, the whole chain comes to the receipt that these
--- answers lead to from here
-pub record IsSoFar (r : RunView) : Type 0 where
+-- where a call stands, by its machine and the stage of its run
+abbrev pub progress_of : Machine → Stage → Progress
+progress_of s (Ended end out) = Over end out s
+progress_of s _ = Going s
+
+-- the run stands at a moment of its call with its answers, all of which were used
+pub record IsBeginning (r : RunView) : Type 0 where
   pub stands : IsStage r.call.gas r.machine r.stage
-  pub chain : (rest : List Reply) → borne_out r.call (replies_of r.answers ++ rest) ≡ left_over r.call.gas r.machine r.stage rest
+  pub moment : (n : ℕ) × (moment_with r.call (replies_of r.answers) n ≡ (progress_of r.machine r.stage, []))
 
 -- the call has ended
 abbrev pub IsEnded : Stage → Type 0

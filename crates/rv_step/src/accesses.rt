@@ -2,7 +2,7 @@
 
 ghost use Rattle.std.specs.Prelude.{◌≡◌, ◌<◌, ◌*◌, ◌^◌, IfOk};
 ghost use Rattle.rv_alu.specs.Accesses.{store_width, width_of};
-ghost use Rattle.rv_mem.specs.Space.{Leaves, loaded, stored};
+ghost use Rattle.rv_mem.specs.Space.{LeavesMemory, as_answer, loaded, stored};
 ghost use Rattle.rv_mem.specs.declared.access.Access.TheVariants as access;
 
 use rv_isa::{LoadKind, StoreKind};
@@ -12,7 +12,7 @@ use rv_mem::{Fault, Memory};
 /// address is not a multiple of the width, and else as MemoryFault where a byte may not be read.
 #[inline(always)]
 pub fn number_at(memory: &Memory, kind: LoadKind, address: u32) -> Result<u32, Fault>
-    ensures value { result ≡ loaded (width_of kind) access.Read memory.now address }
+    ensures value { result ≡ as_answer (loaded (width_of kind) access.Read memory.now address) }
     ensures small { IfOk result (λ n. n < 2 ^ (8 * width_of kind)) }
 {
     match kind {
@@ -31,7 +31,7 @@ pub fn store_number(
     address: u32,
     value: u32,
 ) -> Result<(), Fault>
-    ensures { Leaves result (stored (store_width kind) memory.old address value) memory.old memory.new }
+    ensures { LeavesMemory result (stored (store_width kind) memory.old address value) memory.old memory.new }
 {
     match kind {
         StoreKind::Sb => memory.store8(address, (value & 0xff) as u8),

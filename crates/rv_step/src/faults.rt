@@ -1,6 +1,7 @@
 //! Faults of memory, and what they mean for a call.
 
 ghost use Rattle.std.specs.Prelude.{◌≡◌};
+ghost use Rattle.rv_mem.specs.Space.{AccessFault, as_fault};
 ghost use Rattle.rv_step.specs.Meets.{refusal_of};
 ghost use Rattle.rv_step.specs.Step.{trap_of};
 
@@ -8,9 +9,9 @@ use rv_ledger::{End, Trap};
 use rv_mem::Fault;
 use std::alloc::AllocError;
 
-/// The trap that a fault of memory causes.
+/// The trap that the refusal of an access causes. `refusal` hands Memory on, and does not ask for its trap.
 pub(crate) fn trap_of(fault: Fault) -> Trap
-    ensures { result ≡ trap_of fault }
+    ensures { (cause : AccessFault) → fault ≡ as_fault cause → result ≡ trap_of cause }
 {
     match fault {
         Fault::Misaligned => Trap::Misaligned,

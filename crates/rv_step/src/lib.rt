@@ -3,21 +3,23 @@
 #![tactic(auto)]
 
 mod accesses;
-pub mod answer;
-pub mod ended_run;
+mod answer;
+mod ended_run;
 mod faults;
 mod laws;
-pub mod machine;
+mod machine;
 mod outcome;
-pub mod run;
-pub mod stage;
+mod over;
+mod run;
+mod stage;
 mod storage;
 mod storage_calls;
 
 pub use answer::StorageAnswer;
 pub use ended_run::EndedRun;
-pub use laws::{each_step_takes_gas, one_receipt};
+pub use laws::{call_ends, each_step_takes_gas, one_receipt};
 pub use machine::Machine;
+pub use over::receipt_over;
 pub use run::{Pause, Run};
 pub use stage::Stage;
 pub use storage::apply_writes;

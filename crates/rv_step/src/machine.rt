@@ -6,7 +6,7 @@ ghost use Rattle.rv_alu.specs.Effects.{effect_of, register_value, is_plain};
 ghost use Rattle.rv_ledger.specs.declared.end.End.TheVariants.{OutOfGas, Trapped};
 ghost use Rattle.rv_isa.specs.Decoded.{decoded};
 ghost use Rattle.rv_isa.specs.declared.instruction.Instr.TheVariants.{Load, Store};
-ghost use Rattle.rv_mem.specs.Space.{Leaves, loaded, stored};
+ghost use Rattle.rv_mem.specs.Space.{LeavesMemory, as_answer, loaded, stored};
 ghost use Rattle.rv_mem.specs.declared.access.Access.TheVariants as access;
 
 use crate::accesses::{number_at, store_number};
@@ -29,8 +29,12 @@ use std::alloc::{AllocError, Global};
 /// funct3 of a word, so the compiler knows funct3 there and does not look up again which operation it
 /// names. The branch of the given funct3, the most frequent one, comes first. The branches are comparisons,
 /// since a match of eight cases becomes a jump through a table, which may cost more than three branches.
+/// The branch of funct3 101, which both shifts to the right have, is given apart where funct7 tells them.
 macro_rules! return_by_funct3 {
-    ($word:expr, $first:expr, $execution:expr) => {{
+    ($word:expr, $first:expr, $execution:expr) => {
+        return_by_funct3!($word, $first, $execution, return $execution)
+    };
+    ($word:expr, $first:expr, $execution:expr, $fifth:expr) => {{
         let field = funct3($word);
         if field == $first {
             return $execution;
@@ -51,9 +55,20 @@ macro_rules! return_by_funct3 {
             if field == 4 {
                 return $execution;
             }
-            return $execution;
+            $fifth;
         }
         if field == 6 {
+            return $execution;
+        }
+        return $execution;
+    }};
+}
+
+/// Returns the value of an expression, which is written into a branch for funct7 0 and into another for all
+/// others.
+macro_rules! return_by_funct7 {
+    ($word:expr, $execution:expr) => {{
+        if $word >> 25 == 0 {
             return $execution;
         }
         return $execution;
@@ -86,13 +101,13 @@ pub struct Machine {
 }
 
 impl Machine {
-    ghost use Rattle.rv_step.specs.Step.{Next, instruction_result, address_of, compute_result, next_instruction, is_ecall, memory_result, decode_result, step, load_result};
-    ghost use Rattle.rv_step.specs.Chain.{start};
+    ghost use Rattle.rv_step.specs.Step.{Going, Leads, instruction_result, address_of, compute_result, next_instruction, is_ecall, memory_result, decode_result, step, load_result};
+    ghost use Rattle.rv_step.specs.Moment.{start};
     ghost use Rattle.rv_step.specs.Growth.{instruction_at};
     ghost use Rattle.rv_step.specs.Meets.{MeetsEffect, MeetsInstruction, MeetsInstructions, is_next};
 
     /// The machine of a call before its first instruction; refused where memory ran out.
-    #[tactic(auto, unfolding(crate::specs::Chain::start))]
+    #[tactic(auto, unfolding(crate::specs::Moment::start))]
     pub(crate) fn start(alloc: Global, call: &Call) -> Result<Machine, AllocError>
         ensures { IfOk result (λ s. s ≡ start call.now) }
     {
@@ -160,7 +175,7 @@ impl Machine {
     /// The word at the pc. The pc is written after the call since the compiler then knows its value.
     #[inline(always)]
     fn fetch(&mut self) -> Result<u32, Fault>
-        ensures value { result ≡ loaded 4 access.Execute self.old.memory self.old.pc }
+        ensures value { result ≡ as_answer (loaded 4 access.Execute self.old.memory self.old.pc) }
         ensures same { self.new ≡ self.old }
     {
         let pc = self.pc;
@@ -207,7 +222,12 @@ impl Machine {
     {
         let code = opcode_of(word);
         if code == opcode::OP_IMM {
-            return_by_funct3!(word, 0, self.execute_decoded(decode_immediate(word)));
+            return_by_funct3!(
+                word,
+                0,
+                self.execute_decoded(decode_immediate(word)),
+                return_by_funct7!(word, self.execute_decoded(decode_immediate(word)))
+            );
         }
         if code < opcode::OP_IMM {
             if code == opcode::LOAD {
@@ -395,7 +415,7 @@ impl Machine {
     /// Goes on to the next instruction.
     #[inline(always)]
     pub(crate) fn advance_pc(&mut self)
-        ensures { next_instruction self.old ≡ Next self.new }
+        ensures { next_instruction self.old ≡ Going self.new }
     {
         self.pc = self.pc.wrapping_add(4);
     }

@@ -2,6 +2,8 @@
 
 ghost use Rattle.std.specs.Prelude.{◌≡◌, ◌≤◌};
 ghost use Rattle.rv_step.specs.Chain.{receipt_of};
+ghost use Rattle.rv_step.specs.Meets.{MeetsSteps};
+ghost use Rattle.rv_step.specs.declared.stage.Stage.TheVariants.{Running};
 
 use crate::answer::StorageAnswer;
 use crate::ended_run::EndedRun;
@@ -24,7 +26,7 @@ pub struct Run {
 
 impl Model for Run {
     ghost use Rattle.std.specs.Coded.{codes};
-    ghost use Rattle.rv_step.specs.Run.{RunView, IsSoFar};
+    ghost use Rattle.rv_step.specs.Run.{RunView, IsBeginning};
     ghost use Rattle.rv_step.specs.contracts.machine.Machine.{the_row as machine_row};
 
     ghost Value = { RunView };
@@ -33,7 +35,7 @@ impl Model for Run {
 
     ghost view = { λ r. record { call = r.call; machine = r.machine; answers = r.answers.items; stage = r.stage } };
 
-    ghost invariant = { λ r. IsSoFar (record { call = r.call; machine = r.machine; answers = r.answers.items; stage = r.stage }) };
+    ghost invariant = { λ r. IsBeginning (record { call = r.call; machine = r.machine; answers = r.answers.items; stage = r.stage }) };
 }
 
 /// Why a run stands still.
@@ -125,8 +127,7 @@ impl Run {
         Ok(self.pause())
     }
 
-    /// Makes steps of a run that is running, up to and including the first ECALL, or up to the end of the
-    /// call. Refused where memory ran out; then the run stands before the instruction that needed memory.
+    /// Makes steps of a run that is running, as `run_until_stop` does.
     fn step_until_stop(&mut self) -> Result<(), AllocError>
         requires { IsTrue (is_running self.old.stage) }
         ensures call { self.new.call ≡ self.old.call }
@@ -137,12 +138,7 @@ impl Run {
         ensures stopped { OnErr result (IsTrue (is_running self.new.stage)) }
         ensures grows { OnErr result (TakesMemory self.new.machine) }
     {
-        match self.machine.execute_until_stop()? {
-            InstructionOutcome::Next => unreachable!(),
-            InstructionOutcome::StorageCall => self.machine.execute_ecall(&mut self.stage)?,
-            InstructionOutcome::End(end) => end_with(&mut self.stage, end),
-        }
-        Ok(())
+        run_until_stop(&mut self.machine, &mut self.stage)
     }
 
     /// Why the run stands still. It must not be running.
@@ -213,8 +209,22 @@ impl Run {
     }
 }
 
+/// Makes steps of a machine that is running, up to and including the first ECALL, or up to the end of the
+/// call. Refused where memory ran out; then the machine stands before the instruction that needed memory.
+pub(crate) fn run_until_stop(machine: &mut Machine, stage: &mut Stage) -> Result<(), AllocError>
+    requires { stage.old ≡ Running }
+    ensures { MeetsSteps result stage.new machine.old machine.new }
+{
+    match machine.execute_until_stop()? {
+        InstructionOutcome::Next => unreachable!(),
+        InstructionOutcome::StorageCall => machine.execute_ecall(stage)?,
+        InstructionOutcome::End(end) => end_with(stage, end),
+    }
+    Ok(())
+}
+
 /// The receipt of a call with this gas limit that ended so; only a call that returned keeps its writes.
-fn receipt(limit: u32, end: End, out: Output, machine: Machine) -> Receipt
+pub(crate) fn receipt(limit: u32, end: End, out: Output, machine: Machine) -> Receipt
     requires { machine.gas ≤ limit }
     ensures { result ≡ receipt_of limit end out machine }
 {

@@ -2,6 +2,7 @@
 
 ghost use Rattle.std.specs.Prelude.{◌≡◌, []};
 ghost use Rattle.rv_step.specs.Meets.{is_asked};
+ghost use Rattle.rv_step.specs.Over.{is_ended};
 ghost use Rattle.rv_step.specs.declared.stage.Stage.TheVariants.{Ended};
 
 use rv_ledger::{End, Key, Output};
@@ -22,6 +23,13 @@ pub(crate) fn is_asked(stage: &Stage) -> bool
     ensures { result ≡ is_asked stage.now }
 {
     matches!(stage, Stage::Asked(_))
+}
+
+/// Whether the call has ended.
+pub(crate) fn is_ended(stage: &Stage) -> bool
+    ensures { result ≡ is_ended stage.now }
+{
+    matches!(stage, Stage::Ended(_, _))
 }
 
 /// Sets the stage of a call that ends without an output. It is kept out of the loop over instructions,

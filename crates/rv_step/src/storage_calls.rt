@@ -10,13 +10,15 @@ ghost use Rattle.rv_isa.specs.Registers.{written};
 ghost use Rattle.rv_ledger.specs.declared.end.End.TheVariants.{OutOfGas, Returned, Reverted};
 ghost use Rattle.rv_step.specs.Meets.{MeetsStage, is_asked};
 ghost use Rattle.rv_ledger.specs.Change.{change_copied};
-ghost use Rattle.rv_step.specs.Step.{Next, answered, change_after_add, charged, delivered, delivery_result, ecall_result, next_instruction, read_result, storage_call_result, value_result, write_result};
+ghost use Rattle.rv_step.specs.Step.{Going, Leads, answered, change_after_add, charged, delivered, delivery_result, ecall_result, next_instruction, read_result, storage_call_result, value_result, write_result};
 ghost use Rattle.rv_step.specs.declared.stage.Stage.TheVariants.{Ended, Running};
 
 use crate::faults::refusal;
 use crate::machine::Machine;
 use crate::stage::{Stage, end_with, is_asked};
-use ecalls::{READ_CHARGE, StorageCall, Trap, added_amount, asked, bytes_at, key_at, late_charge};
+use ecalls::{
+    READ_CHARGE, StorageCall, Trap, added_amount, bytes_at, key_at, late_charge, requested_call,
+};
 use gas::Meter;
 use rv_isa::Reg;
 use rv_ledger::{Change, End, Key, StoredValue, Value, add, wrapping_sum};
@@ -37,7 +39,7 @@ impl Machine {
         requires { stage.old ≡ Running }
         ensures { MeetsStage result stage.new (ecall_result self.old (ecall_charge self.old.regs self.old.rules)) self.old self.new }
     {
-        let call = match asked(&self.regs, self.rules) {
+        let call = match requested_call(&self.regs, self.rules) {
             Ok(call) => call,
             Err(cause) => {
                 end_with(stage, End::Trapped(cause));
@@ -72,7 +74,7 @@ impl Machine {
         stage: &mut Stage,
     ) -> Result<(), AllocError>
         requires { stage.old ≡ Running }
-        ensures { MeetsStage result stage.new (answered self.old (delivered self.old key.now (option_copied content.entry))) self.old self.new }
+        ensures { MeetsStage result stage.new (Leads (answered self.old (delivered self.old key.now (option_copied content.entry)))) self.old self.new }
     {
         let Some(Change::Sum(amount)) = self.own.get(key) else {
             return self.answer_with(content, stage);
@@ -85,7 +87,7 @@ impl Machine {
     #[tactic(auto, unfolding(crate::specs::Step::answered))]
     fn answer_with(&mut self, content: Option<&Value>, stage: &mut Stage) -> Result<(), AllocError>
         requires { stage.old ≡ Running }
-        ensures { MeetsStage result stage.new (answered self.old (option_copied content.entry)) self.old self.new }
+        ensures { MeetsStage result stage.new (Leads (answered self.old (option_copied content.entry))) self.old self.new }
     {
         let gas = self.gas;
         if !self.gas.charge(READ_CHARGE) {
@@ -93,10 +95,7 @@ impl Machine {
             return Ok(());
         }
         match self.deliver(content, stage) {
-            Ok(()) => {
-                self.refund_if_asked(gas, stage);
-                Ok(())
-            }
+            Ok(()) => Ok(()),
             Err(refused) => {
                 self.gas = gas;
                 Err(refused)
@@ -220,7 +219,7 @@ impl Machine {
     #[tactic(auto, unfolding(crate::specs::Step::write_result))]
     fn put(&mut self, key: Key, change: Change<&Value>, stage: &mut Stage) -> Result<(), AllocError>
         requires { stage.old ≡ Running }
-        ensures { MeetsStage result stage.new (write_result self.old (record { key = key; change = change_copied change.entry })) self.old self.new }
+        ensures { MeetsStage result stage.new (Leads (write_result self.old (record { key = key; change = change_copied change.entry }))) self.old self.new }
     {
         if !self.own.has_room(&key) {
             end_with(stage, End::Trapped(Trap::TooManyWrites));
@@ -271,7 +270,7 @@ impl Machine {
     #[tactic(auto, unfolding(crate::specs::Step::delivery_result))]
     fn deliver(&mut self, content: Option<&Value>, stage: &mut Stage) -> Result<(), AllocError>
         requires { stage.old ≡ Running }
-        ensures { MeetsStage result stage.new (delivery_result self.old (option_copied content.entry)) self.old self.new }
+        ensures { MeetsStage result stage.new (Leads (delivery_result self.old (option_copied content.entry))) self.old self.new }
     {
         let Some(value) = content else {
             self.end_read(ABSENT);
@@ -288,7 +287,7 @@ impl Machine {
     /// less gas is left. Refused where memory ran out, and then nothing changes.
     fn deliver_charged(&mut self, value: &Value, stage: &mut Stage) -> Result<(), AllocError>
         requires { stage.old ≡ Running }
-        ensures { MeetsStage result stage.new (charged (late_charge self.old.rules (length value.now)) self.old (λ t. value_result t value.now)) self.old self.new }
+        ensures { MeetsStage result stage.new (Leads (charged (late_charge self.old.rules (length value.now)) self.old (λ t. value_result t value.now))) self.old self.new }
     {
         let gas = self.gas;
         let cost = late_charge(self.rules, value.bytes().len() as u32);
@@ -308,7 +307,7 @@ impl Machine {
     /// Copies a value into the buffer of a READ. Refused where memory ran out, and then nothing changes.
     fn copy_value(&mut self, value: &Value, stage: &mut Stage) -> Result<(), AllocError>
         requires { stage.old ≡ Running }
-        ensures { MeetsStage result stage.new (value_result self.old value.now) self.old self.new }
+        ensures { MeetsStage result stage.new (Leads (value_result self.old value.now)) self.old self.new }
     {
         match self.memory.copy_in(self.regs.get(Reg::a1()), value.bytes()) {
             Ok(()) => self.end_read(value.bytes().len() as u32),
@@ -319,7 +318,7 @@ impl Machine {
 
     /// Sets a0 at the end of a READ, and goes on to the next instruction.
     fn end_read(&mut self, number: u32)
-        ensures { next_instruction (record self.old { regs = written self.old.regs 10 number }) ≡ Next self.new }
+        ensures { next_instruction (record self.old { regs = written self.old.regs 10 number }) ≡ Going self.new }
     {
         self.regs.set(Reg::a0(), number);
         self.advance_pc();

@@ -22,7 +22,7 @@ use Rattle.rv_isa.proofs.Same.{same_register}
 use Rattle.rv_text.proofs.Cuts.{neither, none_of_stronger}
 use Rattle.rv_text.proofs.Lines.{is_mark}
 
--- a byte that parts a line, its operands or the parts of an operand
+-- a byte that parts lines, the parts of a line, its operands or the parts of an operand
 abbrev pub is_parting : ℕ → Bool
 is_parting b = is_mark b || (b == 44 || (b == 40 || b == 41))
 
@@ -224,9 +224,9 @@ eight_value a b c d e f g h la lb lc ld le lf lg lh =
     rw (glyph_value a la, glyph_value b lb, glyph_value c lc, glyph_value d ld, glyph_value e le, glyph_value f lf, glyph_value g lg, glyph_value h lh) (omega arith)
 
 -- a word in eight digits
-pub word_numeral : (word : ℕ) → word < 2 ^ 32 → IsNumeral 16 (encode_lower (to_be_bytes w32 word)) × (length (encode_lower (to_be_bytes w32 word)) ≤ 8) × (digits_value 16 (encode_lower (to_be_bytes w32 word)) ≡ word)
+pub word_numeral : (word : ℕ) → IsNumeral 16 (encode_lower (to_be_bytes w32 word)) × (length (encode_lower (to_be_bytes w32 word)) ≤ 8) × (word < 2 ^ 32 → digits_value 16 (encode_lower (to_be_bytes w32 word)) ≡ word)
 unfolding eight
-word_numeral word small =
+word_numeral word =
     let a = byte_at 3 word in
     let b = byte_at 2 word in
     let c = byte_at 1 word in
@@ -239,19 +239,19 @@ word_numeral word small =
     let mc : c % 16 < 16 = omega arith in
     let ld : d / 16 < 16 = omega arith in
     let md : d % 16 < 16 = omega arith in
-    let whole : ((((((a / 16 * 16 + a % 16) * 16 + b / 16) * 16 + b % 16) * 16 + c / 16) * 16 + c % 16) * 16 + d / 16) * 16 + d % 16 ≡ word = omega arith in
+    let whole : word < 2 ^ 32 → ((((((a / 16 * 16 + a % 16) * 16 + b / 16) * 16 + b % 16) * 16 + c / 16) * 16 + c % 16) * 16 + d / 16) * 16 + d % 16 ≡ word = λ small. omega arith in
     rw (word_digits word) (
       eight_numeral (a / 16) (a % 16) (b / 16) (b % 16) (c / 16) (c % 16) (d / 16) (d % 16) la ma lb mb lc mc ld md,
       lit≤ tt,
-      eight_value (a / 16) (a % 16) (b / 16) (b % 16) (c / 16) (c % 16) (d / 16) (d % 16) la ma lb mb lc mc ld md ∙ whole,
+      λ small. eight_value (a / 16) (a % 16) (b / 16) (b % 16) (c / 16) (c % 16) (d / 16) (d % 16) la ma lb mb lc mc ld md ∙ whole small,
     )
 
 pub word_read : (word : ℕ) → word < 2 ^ 32 → number_of (codes "0x" ++ encode_lower (to_be_bytes w32 word)) ≡ Some (pos word)
 word_read word small =
-    let d = word_numeral word small in
-    hex_number _ ∙ ap (option_map pos) (numeral_read 16 8 _ word d.0 d.1 d.2)
+    let d = word_numeral word in
+    hex_number _ ∙ ap (option_map pos) (numeral_read 16 8 _ word d.0 d.1 (d.2 small))
 
-pub word_atom : (word : ℕ) → word < 2 ^ 32 → IsAtom (codes "0x" ++ encode_lower (to_be_bytes w32 word))
-word_atom word small =
-    let d : IsNumeral 16 (encode_lower (to_be_bytes w32 word)) = (word_numeral word small).0 in
+pub word_atom : (word : ℕ) → IsAtom (codes "0x" ++ encode_lower (to_be_bytes w32 word))
+word_atom word =
+    let d : IsNumeral 16 (encode_lower (to_be_bytes w32 word)) = (word_numeral word).0 in
     atom_from _ (omega arith) (digits_part_nothing 16 _ (lit≤ tt) d.1)

@@ -4,10 +4,8 @@ pub mod Cuts
 pub mod Held
 pub mod Instructions
 pub mod Layouts
-pub mod LineFeeds
 pub mod Lines
 pub mod Listings
 pub mod Mapped
-pub mod OneLine
 pub mod Places
 pub mod Sizes

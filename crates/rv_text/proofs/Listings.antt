@@ -5,7 +5,7 @@ use Rattle.std.specs.List.{list_any, slice_split}
 use Rattle.std.specs.Result.{result_map_both}
 use Rattle.std.proofs.lemmas.Bool.Decides.{nat_tests}
 use Rattle.std.proofs.lemmas.List.Elements.{All-cons, All-head, All-tail}
-use Rattle.std.proofs.lemmas.List.Splits.{slice_split_at}
+use Rattle.std.proofs.lemmas.List.Splits.{slice_split_at, slice_split_none}
 use Rattle.rv_names.specs.Operands.{trimmed}
 use Rattle.rv_names.specs.Line.{line_of, content_of, label_of, body_of, command_of}
 use Rattle.rv_names.specs.Text.{word_text}
@@ -13,14 +13,14 @@ use Rattle.rv_names.specs.declared.lines.Cause.{Cause}
 use Rattle.rv_names.specs.declared.lines.Line.{Line}
 use Rattle.rv_names.specs.declared.lines.Section.TheVariants.{Text}
 use Rattle.rv_names.specs.declared.lines.Statement.{Statement}
-use Rattle.rv_names.specs.declared.lines.Statement.TheVariants.{Empty, Plain, Pair, BranchTo, JumpTo, AddressOf, WordValue, ByteValue, ZeroBytes, Enter}
+use Rattle.rv_names.specs.declared.lines.Statement.TheVariants.{Plain, WordValue}
 use Rattle.rv_program.specs.Sections.{Sections}
 use Rattle.rv_text.specs.declared.fault.AsmCause.{AsmCause}
 use Rattle.rv_text.specs.declared.fault.AsmError.{AsmError}
 use Rattle.rv_text.specs.Assembly.{Item, Labels, SourceLayout, empty_layout, on_line, place_in, with_label, with_text, with_statement, with_line, layout_from, words_of_item, words_of, program_from, assembled}
 use Rattle.rv_text.specs.Back.{IsWord, IsLineOf, IsReadBack, IsAssembledBack, listing}
 use Rattle.rv_text.proofs.Cuts.{neither}
-use Rattle.rv_text.proofs.LineFeeds.{word_text_is_one_line}
+use Rattle.rv_text.proofs.Instructions.{word_text_is_one_line}
 
 -- ---- the lines of a listing
 
@@ -84,14 +84,7 @@ module _ (n size word : ℕ) (items : List Item) (front : List ℕ) (texts : Lis
       rw (fits size room) (laid_item (record { line = n; address = place_in Text (state items size); statement = Plain instr; target = target }) (ap (λ w. Ok (w ∷ [])) e))
   stated label target (WordValue value) e =
       rw (fits size room) (laid_item (record { line = n; address = place_in Text (state items size); statement = WordValue value; target = target }) (ap (λ w. Ok (w ∷ [])) e))
-  stated label target Empty h = absurd h
-  stated label target (Pair first second) h = absurd h
-  stated label target (BranchTo condition left right) h = absurd h
-  stated label target (JumpTo rd) h = absurd h
-  stated label target (AddressOf rd) h = absurd h
-  stated label target (ByteValue value) h = absurd h
-  stated label target (ZeroBytes count) h = absurd h
-  stated label target (Enter section) h = absurd h
+  stated label target _ h = absurd h
 
   line_read : (text : List ℕ) (r : Result (Line (List ℕ)) Cause) → line_of Text text ≡ r → IsLineOf word r → rest_gives n (text ∷ texts) items size ≡ wanted
   unfolding layout_from with_line with_label
@@ -124,3 +117,12 @@ unfolding assembled
 assembled_listing words h room =
     ap (λ texts. program_from (layout_from 1 texts empty_layout)) (lines_of words)
     ∙ lines_read 1 0 [] [] words no_words h (omega arith)
+
+-- the text of a word, which is read back, is the source of that word
+pub assembled_word_text : (word : ℕ) → IsReadBack word → assembled (word_text word) ≡ only_words (word ∷ [])
+unfolding assembled layout_from
+assembled_word_text word back =
+    ap (λ texts. program_from (layout_from 1 texts empty_layout)) (slice_split_none (λ b. b == 10) (word_text word) (lacks (word_text word) (word_text_is_one_line word)))
+    ∙ line_read 1 0 word [] [] [] (only_words (word ∷ [])) no_words (omega arith)
+    (λ item more. ap (λ r. result_map_both (λ text. (record { text = text; data_bytes = [] })) (λ fault. fault) r) more)
+    (word_text word) (line_of Text (word_text word)) refl back

@@ -175,11 +175,11 @@ words_of labels (item ∷ items) =
     on_line item.line (words_of_item labels item) (λ words. result_map_both (λ more. words ++ more) (λ fault. fault) (words_of labels items))
 
 -- the program of what was laid down
-abbrev pub program_of : SourceLayout → Result Sections AsmError
-program_of l = result_map_both (λ text. record { text = text; data_bytes = l.data_bytes }) (λ fault. fault) (words_of l.labels l.items)
+abbrev pub assembled_program : SourceLayout → Result Sections AsmError
+assembled_program l = result_map_both (λ text. record { text = text; data_bytes = l.data_bytes }) (λ fault. fault) (words_of l.labels l.items)
 
 abbrev pub program_from : Result SourceLayout AsmError → Result Sections AsmError
-program_from (Ok l) = program_of l
+program_from (Ok l) = assembled_program l
 program_from (Err fault) = Err fault
 
 -- what a source stands for; its lines are separated by LF and counted from 1

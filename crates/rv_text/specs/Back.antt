@@ -2,7 +2,7 @@
 use Rattle.std.specs.Prelude.{◌≡◌, ◌++◌, ℕ, List, [], None, Result, Ok, IsOkAnd, codes, flat_map}
 use Rattle.rv_isa.specs.Word.{word_of}
 use Rattle.rv_names.specs.Line.{line_of}
-use Rattle.rv_names.specs.Statements.{Said}
+use Rattle.rv_names.specs.Statements.{TextLine}
 use Rattle.rv_names.specs.Text.{word_text}
 use Rattle.rv_names.specs.declared.lines.Cause.{Cause}
 use Rattle.rv_names.specs.declared.lines.Section.TheVariants.{Text}
@@ -17,7 +17,7 @@ IsWord (WordValue n) word = n ≡ word
 IsWord _ word = ⊥
 
 -- a line without a label whose statement stands for one word alone
-abbrev pub IsLineOf : ℕ → Result Said Cause → Type 0
+abbrev pub IsLineOf : ℕ → Result TextLine Cause → Type 0
 IsLineOf word r = IsOkAnd r (λ line. (line.label ≡ None) × IsWord line.statement word)
 
 -- the text of a word is a line of source that stands for it

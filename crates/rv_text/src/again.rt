@@ -9,7 +9,7 @@ use crate::laws::text_is_read_back;
 use rv_program::Program;
 
 /// A law: the text of a word, as a source, gives the program with just that word and no data.
-#[tactic(auto, using(crate::proofs::OneLine::assembled_word_text))]
+#[tactic(auto, using(crate::proofs::Listings::assembled_word_text))]
 pub fn assembled_again(word: u32)
     ensures { assembled (word_text word) ≡ Ok (record { text = word ∷ []; data_bytes = [] }) }
 {

@@ -2,7 +2,7 @@
 
 ghost use Rattle.std.specs.Prelude.{◌≡◌, ◌≢◌, ◌==◌, map, IfOk};
 ghost use Rattle.std.specs.List.{slice_split};
-ghost use Rattle.rv_text.specs.Assembly.{Gives, empty_layout, layout_from, program_of, assembled};
+ghost use Rattle.rv_text.specs.Assembly.{Gives, empty_layout, layout_from, assembled_program, assembled};
 ghost use Rattle.rv_text.specs.Answer.{Reads};
 ghost use Rattle.rv_text.specs.Layout.{layout_of};
 
@@ -38,7 +38,7 @@ fn lay_out<'a>(alloc: Global, lines: &[&'a [u8]]) -> Result<Layout<'a>, AsmError
 
 /// The program of what was laid down, or the first fault of a label, of the causes 4 and 6.
 fn program(alloc: Global, layout: Layout<'_>) -> Result<Program, AsmError>
-    ensures { Reads (λ program. program) result (program_of (layout_of layout.entry)) }
+    ensures { Reads (λ program. program) result (assembled_program (layout_of layout.entry)) }
 {
     let text = words_of(alloc, &layout.labels, layout.items.as_slice())?;
     match Program::new(text, layout.data_bytes) {

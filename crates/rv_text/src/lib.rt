@@ -4,7 +4,7 @@
 mod again;
 mod assembler;
 mod disassembler;
-pub mod fault;
+mod fault;
 mod item;
 mod laws;
 mod layout;

@@ -5,7 +5,7 @@ use Rattle.std.proofs.lemmas.List.{drop_more, get_or-set_same, get_or-set_other,
 use Rattle.std.proofs.Math.ListN.{get_or-map}
 use Rattle.stm_state.specs.declared.state.CallState.{CallState}
 use Rattle.stm_state.specs.State.{fresh, is_aborting}
-use Rattle.stm_state.specs.Steps.{is_parked_on, is_some_of, lowered, next_incarnation, resume_if_parked}
+use Rattle.stm_state.specs.Steps.{is_parked_on, is_some_of, least_parked_call, next_incarnation, resume_if_parked}
 use Rattle.scheduler.specs.Awaited.{IsAwaited}
 use Rattle.scheduler.specs.Workers.{WorkerState}
 use Rattle.scheduler.specs.Schedule.{Schedule, schedule_of}
@@ -27,8 +27,8 @@ still_within f xs ys i lt h =
 
 -- the index, lowered by one call more
 pub lowered_more : (on x i : ℕ) (calls : List CallState) (call : CallState) → i < length calls → call ≡ get_or calls i call
-    → lowered on (if is_parked_on on call then min x i else x) (i + 1) (drop (i + 1) calls) ≡ lowered on x i (drop i calls)
-lowered_more on x i calls call lt is = ap (lowered on x i) (ap (λ c. c ∷ drop (i + 1) calls) is ∙ sym (drop_more calls i call lt))
+    → least_parked_call on (if is_parked_on on call then min x i else x) (i + 1) (drop (i + 1) calls) ≡ least_parked_call on x i (drop i calls)
+lowered_more on x i calls call lt is = ap (least_parked_call on x i) (ap (λ c. c ∷ drop (i + 1) calls) is ∙ sym (drop_more calls i call lt))
 
 or_left : (b c : Bool) → b ≡ true → (b || c) ≡ true
 or_left true c e = refl
@@ -122,14 +122,14 @@ none_readied : (on : ℕ) (calls : List CallState) → ((i : ℕ) → is_parked_
 none_readied on [] h = refl
 none_readied on (c ∷ calls) h = rw (h 0, none_readied on calls (λ i. h (suc i))) refl
 
-none_lower : (on x p : ℕ) (calls : List CallState) → ((i : ℕ) → is_parked_on on (get_or calls i fresh) ≡ false) → lowered on x p calls ≡ x
+none_lower : (on x p : ℕ) (calls : List CallState) → ((i : ℕ) → is_parked_on on (get_or calls i fresh) ≡ false) → least_parked_call on x p calls ≡ x
 none_lower on x p [] h = refl
 none_lower on x p (c ∷ calls) h = rw (h 0) (none_lower on x (p + 1) calls (λ i. h (suc i)))
 
 -- where none is parked on a call, to ready those changes nothing
 pub none_resumed : (on : ℕ) (calls : List CallState) (execution validation : ℕ) (workers : List WorkerState) (s : Schedule) → schedule_of calls execution validation workers ≡ s
     → ((i : ℕ) → is_parked_on on (get_or calls i fresh) ≡ false)
-    → schedule_of calls execution validation workers ≡ record s { calls = map (resume_if_parked on) s.calls; execution = lowered on s.execution 0 s.calls }
+    → schedule_of calls execution validation workers ≡ record s { calls = map (resume_if_parked on) s.calls; execution = least_parked_call on s.execution 0 s.calls }
 none_resumed on calls execution validation workers s was none =
     sym (rw (none_readied on calls none, none_lower on execution 0 calls none) refl)
-    ∙ ap (λ (t : Schedule). record t { calls = map (resume_if_parked on) t.calls; execution = lowered on t.execution 0 t.calls }) was
+    ∙ ap (λ (t : Schedule). record t { calls = map (resume_if_parked on) t.calls; execution = least_parked_call on t.execution 0 t.calls }) was

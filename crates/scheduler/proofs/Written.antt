@@ -8,7 +8,7 @@ use Rattle.stm_state.specs.declared.state.CallState.{CallState}
 use Rattle.stm_state.specs.declared.state.Recorded.{Recorded}
 use Rattle.stm_state.specs.declared.state.Status.TheVariants.{Executed}
 use Rattle.stm_state.specs.declared.state.Task.{Task}
-use Rattle.stm_state.specs.declared.state.Task.TheVariants.{Idle, Running, Moving, Validating, Marking}
+use Rattle.stm_state.specs.declared.state.Task.TheVariants.{Idle, Running, Moving, Marking}
 use Rattle.stm_state.specs.State.{fresh}
 use Rattle.stm_state.specs.Steps.{keys_of, next_incarnation, resume_if_parked, is_parked_on, written_by}
 use Rattle.scheduler.specs.declared.worker.TaskKind.{TaskKind}
@@ -23,57 +23,37 @@ given_keys w = w.keys
 -- ---- a task whose answers are swapped
 pub task_swapped : (kind : TaskKind) (before after : List StorageAnswer) (keys : List (List ℕ)) → task_with kind after keys ≡ with_answers after (task_with kind before keys)
 task_swapped task_kind.Idle before after keys = refl
-task_swapped (task_kind.Running c b) before after keys = refl
-task_swapped (task_kind.Moving c n) before after keys = refl
-task_swapped (task_kind.Validating c n l f) before after keys = refl
-task_swapped (task_kind.Marking c) before after keys = refl
+task_swapped kind before after keys = refl
 
 pub answers_of_run : (kind : TaskKind) (before : List StorageAnswer) (keys : List (List ℕ)) (i : ℕ) (answers : List StorageAnswer) (blocked : Option ℕ) → task_with kind before keys ≡ Running i answers blocked → before ≡ answers
-answers_of_run task_kind.Idle before keys i answers blocked h = cc
 answers_of_run (task_kind.Running c b) before keys i answers blocked h = cc
-answers_of_run (task_kind.Moving c n) before keys i answers blocked h = cc
-answers_of_run (task_kind.Validating c n l f) before keys i answers blocked h = cc
-answers_of_run (task_kind.Marking c) before keys i answers blocked h = cc
+answers_of_run kind before keys i answers blocked h = cc
 
 -- ---- tasks that move keys before, where they do after
 pub moves_answered : (answer : StorageAnswer) (t : Task) (i : ℕ) (keys : List (List ℕ)) (new : Bool) → with_answer answer t ≡ Moving i keys new → t ≡ Moving i keys new
-moves_answered answer Idle i keys new h = cc
-moves_answered answer (Running c a b) i keys new h = cc
 moves_answered answer (Moving c k n) i keys new h = h
-moves_answered answer (Validating c n l f) i keys new h = cc
-moves_answered answer (Marking c k) i keys new h = cc
+moves_answered answer t i keys new h = cc
 
 pub moves_swapped : (answers : List StorageAnswer) (t : Task) (i : ℕ) (keys : List (List ℕ)) (new : Bool) → with_answers answers t ≡ Moving i keys new → t ≡ Moving i keys new
-moves_swapped answers Idle i keys new h = cc
-moves_swapped answers (Running c a b) i keys new h = cc
 moves_swapped answers (Moving c k n) i keys new h = h
-moves_swapped answers (Validating c n l f) i keys new h = cc
-moves_swapped answers (Marking c k) i keys new h = cc
+moves_swapped answers t i keys new h = cc
 
 pub moves_blocked : (on : ℕ) (t : Task) (i : ℕ) (keys : List (List ℕ)) (new : Bool) → blocked_on on t ≡ Moving i keys new → t ≡ Moving i keys new
-moves_blocked on Idle i keys new h = cc
-moves_blocked on (Running c a b) i keys new h = cc
 moves_blocked on (Moving c k n) i keys new h = h
-moves_blocked on (Validating c n l f) i keys new h = cc
-moves_blocked on (Marking c k) i keys new h = cc
+moves_blocked on t i keys new h = cc
 
 pub moves_failed : (t : Task) (i : ℕ) (keys : List (List ℕ)) (new : Bool) → failed_check t ≡ Moving i keys new → t ≡ Moving i keys new
-moves_failed Idle i keys new h = cc
-moves_failed (Running c a b) i keys new h = cc
 moves_failed (Moving c k n) i keys new h = h
-moves_failed (Validating c n l f) i keys new h = cc
-moves_failed (Marking c k) i keys new h = cc
+moves_failed t i keys new h = cc
 
 pub moves_same : (t : Task) (i : ℕ) (keys : List (List ℕ)) (new : Bool) → t ≡ Moving i keys new → t ≡ Moving i keys new
 moves_same t i keys new h = h
 
 -- where a worker gets no keys
 pub moves_nothing : (kind : TaskKind) → HasNoKeys kind → (i : ℕ) (keys : List (List ℕ)) (new : Bool) → task_with kind [] [] ≢ Moving i keys new
-moves_nothing task_kind.Idle none i keys new h = cc
-moves_nothing (task_kind.Running c b) none i keys new h = cc
 moves_nothing (task_kind.Moving c n) none i keys new h = none
-moves_nothing (task_kind.Validating c n l f) none i keys new h = cc
 moves_nothing (task_kind.Marking c) none i keys new h = none
+moves_nothing kind none i keys new h = cc
 
 -- where it gets keys to move
 pub moves_given : (calls : List CallState) (i j : ℕ) (given keys all : List (List ℕ)) (new n : Bool) → Moving i given new ≡ Moving j keys n → all ≡ given → BeginWithWritten (get_or calls i fresh) given → BeginWithWritten (get_or calls j fresh) all
@@ -89,19 +69,15 @@ pub moves_dropped : (old new : WorkerState) (t : Task) → old.task ≡ t → Ha
     → ((i : ℕ) (key : List ℕ) (keys : List (List ℕ)) (n : Bool) → old.task ≡ Moving i (key ∷ keys) n → new ≡ record old { task = Moving i keys n })
     → ((i : ℕ) (key : List ℕ) (keys : List (List ℕ)) → old.task ≡ Marking i (key ∷ keys) → new ≡ record old { task = Marking i keys })
     → MovedBefore old.task new.task × (new.keys ≡ old.keys)
-moves_dropped old new Idle is left moving marking = elim left [ ]
-moves_dropped old new (Running c a b) is left moving marking = elim left [ ]
-moves_dropped old new (Moving c [] n) is left moving marking = elim left [ ]
 moves_dropped old new (Moving c (key ∷ keys) n) is left moving marking =
     let e : new ≡ record old { task = Moving c keys n } = moving c key keys n is in
     let t : new.task ≡ Moving c keys n = ap task_of e in
     (λ i k m h. (key ∷ keys, is ∙ (let both : Moving c keys n ≡ Moving i k m = sym t ∙ h in cc)), ap given_keys e)
-moves_dropped old new (Validating c n l f) is left moving marking = elim left [ ]
-moves_dropped old new (Marking c []) is left moving marking = elim left [ ]
 moves_dropped old new (Marking c (key ∷ keys)) is left moving marking =
     let e : new ≡ record old { task = Marking c keys } = marking c key keys is in
     let t : new.task ≡ Marking c keys = ap task_of e in
     (λ i k m h. absurd (let both : Marking c keys ≡ Moving i k m = sym t ∙ h in cc), ap given_keys e)
+moves_dropped old new t is left moving marking = elim left [ ]
 
 -- ---- a call's run after those that are parked are readied
 resumed_last : (b : Bool) (call : CallState) → (if b then next_incarnation call else call).last ≡ call.last

@@ -39,7 +39,7 @@ state_of versions placed s = record {
   tasks = s.tasks;
   counts = s.counts;
   dones = s.dones;
-  placed = placed;
+  record_count = placed;
 }
 
 -- every other worker has as much room for answers as before

@@ -7,7 +7,7 @@ use stm_state::Status;
 impl Scheduler {
     ghost use Rattle.std.specs.Prelude.{◌≡◌, ◌≤◌, ◌<◌, ℕ, get_or, length};
     ghost use Rattle.mvmap.specs.Versions.{Versions};
-    ghost use Rattle.stm_state.specs.Steps.{ask_execution, ask_validation, asked, counted, one_asking};
+    ghost use Rattle.stm_state.specs.Steps.{ask_execution, ask_validation, after_ask, counted, one_asking};
     ghost use Rattle.stm_state.specs.declared.state.Task.TheVariants as Task;
     ghost use Rattle.scheduler.specs.Schedule.{KeepsRooms, MayCount, state_of};
 
@@ -19,7 +19,7 @@ impl Scheduler {
         requires counts { MayCount worker self.old }
         requires idle { get_or self.old.tasks worker Task.Idle ≡ Task.Idle }
         requires execution { self.old.execution ≤ length self.old.calls }
-        ensures state { (v : Versions) (p : ℕ) → state_of v p self.new ≡ counted one_asking worker (asked worker (state_of v p self.old)) }
+        ensures state { (v : Versions) (p : ℕ) → state_of v p self.new ≡ counted one_asking worker (after_ask worker (state_of v p self.old)) }
         ensures rooms { KeepsRooms worker self.old.rooms self.new.rooms }
     {
         self.count_asking(worker);

@@ -2,13 +2,12 @@
 
 ghost use Rattle.std.specs.Prelude.{◌≡◌, ◌≤◌, ◌<◌, ◌+◌, ℕ, [], Some, None, IfOk, false, true, if◌then◌else◌, length, map, min, get_or, replicate, vec_items};
 ghost use Rattle.stm_state.specs.State.{fresh, is_executed, is_ready};
-ghost use Rattle.stm_state.specs.Steps.{has_new_key, is_executed_at, is_parked_on, lowered, next_incarnation, resume_if_parked, reads_of, written_by, wrote};
+ghost use Rattle.stm_state.specs.Steps.{has_new_key, is_executed_at, is_parked_on, least_parked_call, next_incarnation, resume_if_parked, reads_of, written_by, wrote};
 ghost use Rattle.stm_state.specs.declared.state.Status.TheVariants as status;
 ghost use Rattle.scheduler.specs.declared.worker.TaskKind.TheVariants as task_kind;
 
 use crate::worker::TaskKind;
-use rv_ledger::job::CALL_LIMIT;
-use rv_ledger::{Key, Writes};
+use rv_ledger::{CALL_LIMIT, Key, Writes};
 use std::alloc::{AllocError, Global};
 use stm_state::{CallState, Recorded, Status};
 
@@ -72,7 +71,7 @@ pub(crate) fn resume_parked(calls: &mut Vec<CallState>, on: u16, execution: &mut
     requires count { length calls.old.items ≤ CALL_LIMIT }
     requires incarnations { (i : ℕ) → (get_or calls.old.items i fresh).status ≡ status.Aborting → (get_or calls.old.items i fresh).incarnation ≤ LAST_INCARNATION }
     ensures calls { calls.new.items ≡ map (resume_if_parked on) calls.old.items }
-    ensures execution { execution.new ≡ lowered on execution.old 0 calls.old.items }
+    ensures execution { execution.new ≡ least_parked_call on execution.old 0 calls.old.items }
     ensures named { (i : ℕ) → (get_or calls.new.items i fresh).parked ≡ Some on → result ≡ true }
 {
     let mut named = false;

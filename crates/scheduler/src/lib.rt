@@ -2,13 +2,13 @@
 //! index, and each worker's task. Once it is made, it takes no memory.
 #![tactic(auto)]
 
-pub mod asking;
-pub mod calls;
-pub mod counting;
-pub mod moving;
-pub mod scheduler;
-pub mod validating;
-pub mod worker;
+mod asking;
+mod calls;
+mod counting;
+mod moving;
+mod scheduler;
+mod validating;
+mod worker;
 
 pub use calls::{INCARNATION_LIMIT, LAST_INCARNATION};
 pub use counting::COUNT_LIMIT;

@@ -14,7 +14,7 @@ impl Scheduler {
     ghost use Rattle.mvmap.specs.Versions.{Versions};
     ghost use Rattle.rv_step.specs.declared.answer.StorageAnswer.{StorageAnswer};
     ghost use Rattle.stm_state.specs.State.{fresh, with_task};
-    ghost use Rattle.stm_state.specs.Steps.{counted, executed, keys_to_move, one_execution, one_step, read_of, recorded, to_validate};
+    ghost use Rattle.stm_state.specs.Steps.{counted, after_finish_execution, keys_to_move, one_execution, one_step, read_of, after_record, to_validate};
     ghost use Rattle.stm_state.specs.declared.state.Status.TheVariants as Status;
     ghost use Rattle.stm_state.specs.declared.state.Task.TheVariants as Task;
     ghost use Rattle.scheduler.specs.Schedule.{KeepsRooms, MayCount, state_of};
@@ -28,7 +28,7 @@ impl Scheduler {
         requires executing { (get_or self.old.calls call fresh).status ≡ Status.Executing }
         requires nobody { NobodyMoves call self.old.tasks }
         requires keys { keys.items ≡ keys_to_move (get_or self.old.calls call fresh).last run.receipt.writes }
-        ensures state { (answers : List StorageAnswer) → run.reads ≡ map read_of answers → (v : Versions) (p : ℕ) → state_of v (p + len run.receipt.writes) self.new ≡ counted one_execution worker (recorded worker call answers run.receipt (state_of v p self.old)) }
+        ensures state { (answers : List StorageAnswer) → run.reads ≡ map read_of answers → (v : Versions) (p : ℕ) → state_of v (p + len run.receipt.writes) self.new ≡ counted one_execution worker (after_record worker call answers run.receipt (state_of v p self.old)) }
         ensures rooms { KeepsRooms worker self.old.rooms self.new.rooms }
     {
         self.count_execution(worker);
@@ -57,7 +57,7 @@ impl Scheduler {
         requires within { call < length self.old.calls }
         requires moving { get_or self.old.tasks worker Task.Idle ≡ Task.Moving call [] new_key }
         requires incarnations { (i : ℕ) → (get_or self.old.calls i fresh).status ≡ Status.Aborting → (get_or self.old.calls i fresh).incarnation ≤ LAST_INCARNATION }
-        ensures state { (v : Versions) (p : ℕ) → state_of v p self.new ≡ counted one_step worker (executed worker call new_key (state_of v p self.old)) }
+        ensures state { (v : Versions) (p : ℕ) → state_of v p self.new ≡ counted one_step worker (after_finish_execution worker call new_key (state_of v p self.old)) }
         ensures rooms { KeepsRooms worker self.old.rooms self.new.rooms }
     {
         self.count_step(worker);

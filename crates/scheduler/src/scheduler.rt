@@ -4,8 +4,7 @@ use crate::calls::{INCARNATION_LIMIT, LAST_INCARNATION};
 use crate::counting::COUNT_LIMIT;
 use crate::worker::{TaskKind, Worker};
 use crate::{calls, worker};
-use rv_ledger::job::CALL_LIMIT;
-use rv_ledger::{Counts, Key};
+use rv_ledger::{CALL_LIMIT, Counts, Key};
 use rv_step::StorageAnswer;
 use std::alloc::{AllocError, Global};
 use std::marker::Model;
@@ -49,7 +48,7 @@ impl Scheduler {
     ghost use Rattle.mvmap.specs.Versions.{Versions};
     ghost use Rattle.rv_step.specs.declared.answer.StorageAnswer.{StorageAnswer};
     ghost use Rattle.stm_state.specs.State.{fresh, is_done, is_idle, no_counts, start, with_call, with_task};
-    ghost use Rattle.stm_state.specs.Steps.{counted, keys_of, lowered, one_step, parked, next_incarnation, resume_if_parked, written_by};
+    ghost use Rattle.stm_state.specs.Steps.{counted, keys_of, least_parked_call, one_step, after_park, next_incarnation, resume_if_parked, written_by};
     ghost use Rattle.stm_state.specs.declared.state.Status.TheVariants as Status;
     ghost use Rattle.stm_state.specs.declared.state.Task.TheVariants as Task;
     ghost use Rattle.scheduler.specs.Schedule.{KeepsRooms, MayCount, state_of};
@@ -60,7 +59,7 @@ impl Scheduler {
     /// Both indices are 0. Refused where memory ran out.
     pub fn new(alloc: Global, calls: usize, workers: usize) -> Result<Scheduler, AllocError>
         requires { calls ≤ 1024 }
-        ensures { IfOk result (λ s. (v : Versions) (p : ℕ) → state_of v p s ≡ record (start calls workers) { versions = v; placed = p }) }
+        ensures { IfOk result (λ s. (v : Versions) (p : ℕ) → state_of v p s ≡ record (start calls workers) { versions = v; record_count = p }) }
     {
         Ok(Scheduler {
             calls: calls::fresh_calls(alloc, calls)?,
@@ -110,7 +109,7 @@ impl Scheduler {
     pub fn add_dependency(&mut self, worker: usize, call: u16, on: u16)
         requires counts { MayCount worker self.old }
         requires within { (call < length self.old.calls) × (on < length self.old.calls) }
-        ensures state { (v : Versions) (p : ℕ) → state_of v p self.new ≡ counted one_step worker (parked worker call on (state_of v p self.old)) }
+        ensures state { (v : Versions) (p : ℕ) → state_of v p self.new ≡ counted one_step worker (after_park worker call on (state_of v p self.old)) }
         ensures rooms { KeepsRooms worker self.old.rooms self.new.rooms }
     {
         self.count_step(worker);
@@ -340,7 +339,7 @@ impl Scheduler {
     pub(crate) fn resume_dependents(&mut self, on: u16)
         requires within { on < length self.old.calls }
         requires incarnations { (i : ℕ) → (get_or self.old.calls i fresh).status ≡ Status.Aborting → (get_or self.old.calls i fresh).incarnation ≤ LAST_INCARNATION }
-        ensures { self.new ≡ record self.old { calls = map (resume_if_parked on) self.old.calls; execution = lowered on self.old.execution 0 self.old.calls } }
+        ensures { self.new ≡ record self.old { calls = map (resume_if_parked on) self.old.calls; execution = least_parked_call on self.old.execution 0 self.old.calls } }
     {
         let awaited = &mut self.awaited[usize::from(on)];
         if *awaited {

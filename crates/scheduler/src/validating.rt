@@ -9,7 +9,7 @@ impl Scheduler {
     ghost use Rattle.std.specs.Prelude.{◌≡◌, ◌<◌, ◌+◌, ℕ, false, get_or, length};
     ghost use Rattle.mvmap.specs.Versions.{Versions};
     ghost use Rattle.stm_state.specs.State.{fresh};
-    ghost use Rattle.stm_state.specs.Steps.{aborted, checked, counted, decided, next_stands, one_step, one_validation};
+    ghost use Rattle.stm_state.specs.Steps.{after_finish_abort, after_check_read, counted, after_decide, next_stands, one_step, one_validation};
     ghost use Rattle.stm_state.specs.declared.state.Task.TheVariants as Task;
     ghost use Rattle.scheduler.specs.Schedule.{KeepsRooms, MayCount, state_of};
 
@@ -27,7 +27,7 @@ impl Scheduler {
         requires counts { MayCount worker self.old }
         requires within { call < length self.old.calls }
         requires checking { get_or self.old.tasks worker Task.Idle ≡ Task.Validating call incarnation (left + 1) false }
-        ensures state { (v : Versions) (p : ℕ) → next_stands call (left + 1) (state_of v p self.old) ≡ stands → state_of v p self.new ≡ counted one_step worker (checked worker call incarnation left (state_of v p self.old)) }
+        ensures state { (v : Versions) (p : ℕ) → next_stands call (left + 1) (state_of v p self.old) ≡ stands → state_of v p self.new ≡ counted one_step worker (after_check_read worker call incarnation left (state_of v p self.old)) }
         ensures rooms { KeepsRooms worker self.old.rooms self.new.rooms }
     {
         self.count_step(worker);
@@ -52,7 +52,7 @@ impl Scheduler {
     pub fn try_abort(&mut self, worker: usize, call: u16, incarnation: u16, failed: bool)
         requires counts { MayCount worker self.old }
         requires within { call < length self.old.calls }
-        ensures state { (v : Versions) (p : ℕ) → state_of v p self.new ≡ counted one_validation worker (decided worker call incarnation failed (state_of v p self.old)) }
+        ensures state { (v : Versions) (p : ℕ) → state_of v p self.new ≡ counted one_validation worker (after_decide worker call incarnation failed (state_of v p self.old)) }
         ensures rooms { KeepsRooms worker self.old.rooms self.new.rooms }
     {
         self.count_validation(worker);
@@ -70,7 +70,7 @@ impl Scheduler {
         requires counts { MayCount worker self.old }
         requires within { call < length self.old.calls }
         requires incarnation { (get_or self.old.calls call fresh).incarnation < 65535 }
-        ensures state { (v : Versions) (p : ℕ) → state_of v p self.new ≡ counted one_step worker (aborted worker call (state_of v p self.old)) }
+        ensures state { (v : Versions) (p : ℕ) → state_of v p self.new ≡ counted one_step worker (after_finish_abort worker call (state_of v p self.old)) }
         ensures rooms { KeepsRooms worker self.old.rooms self.new.rooms }
     {
         self.count_step(worker);

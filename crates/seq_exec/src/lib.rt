@@ -2,12 +2,10 @@
 #![tactic(auto)]
 
 ghost use Rattle.std.specs.Prelude.{◌≡◌, [], IfOk, OnOk};
-ghost use Rattle.rv_step.specs.Chain.{ends};
 ghost use Rattle.rv_step.specs.Fold.{receipts_of, store_after};
 
-use read_set::Origin;
-use rv_ledger::{Call, Job, Outcome, Receipt, Store, StoredValue};
-use rv_step::{EndedRun, Pause, Run, apply_writes, one_receipt};
+use rv_ledger::{Call, Job, Outcome, Receipt, Store};
+use rv_step::{apply_writes, receipt_over};
 use std::alloc::{AllocError, Global};
 
 /// Runs the calls of a job one after another on one storage, which starts as the job's. The outcome has
@@ -37,27 +35,9 @@ fn run_all(alloc: Global, calls: &[Call], store: &mut Store) -> Result<Vec<Recei
 {
     let mut receipts = Vec::with_capacity(alloc, calls.len())?;
     for call in calls {
-        let receipt = run_one(alloc, call, store)?;
+        let receipt = receipt_over(alloc, call, store)?;
         apply_writes(store, &receipt.writes)?;
         receipts.push(receipt)?;
     }
     Ok(receipts)
-}
-
-/// Runs one call on a storage, and returns its receipt. Refused where memory ran out.
-fn run_one(alloc: Global, call: &Call, store: &Store) -> Result<Receipt, AllocError>
-    ensures { IfOk result (λ r. r ≡ ends call.now store.now) }
-{
-    one_receipt();
-    let mut run = Run::start(alloc, call)?;
-    while let Pause::Ask(key) = run.go()? {
-        let content = StoredValue::value_of(store.get(&key));
-        run.answer(content.as_ref(), Origin::base(alloc))?;
-    }
-    let EndedRun {
-        call: _,
-        answers: _,
-        receipt,
-    } = run.finish();
-    Ok(receipt)
 }

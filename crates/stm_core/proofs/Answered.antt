@@ -9,12 +9,12 @@ use Rattle.rv_ledger.specs.Key.{Storage}
 use Rattle.rv_step.specs.declared.answer.StorageAnswer.{StorageAnswer}
 use Rattle.rv_step.specs.declared.stage.Stage.{Stage}
 use Rattle.rv_step.specs.declared.stage.Stage.TheVariants.{Asked}
-use Rattle.rv_step.specs.Step.{StepResult, Next, Asks, Ends, answered, delivered}
-use Rattle.rv_step.specs.Run.{RunView, after_answer, after_result, asked_key}
+use Rattle.rv_step.specs.Step.{Progress, Going, Over, answered, delivered}
+use Rattle.rv_step.specs.Run.{RunView, after_answer, asked_key, standing_at}
 use Rattle.stm_state.specs.declared.state.Task.{Task}
-use Rattle.stm_state.specs.declared.state.Task.TheVariants.{Idle, Running, Moving, Validating, Marking}
+use Rattle.stm_state.specs.declared.state.Task.TheVariants.{Idle, Running}
 use Rattle.stm_state.specs.State.{State, task_at}
-use Rattle.stm_state.specs.Steps.{Block, Read_key, answered_by, answered_with, counted, one_step, read_at, step_with, worker_step}
+use Rattle.stm_state.specs.Steps.{Block, Read_key, answered_by, answered_with, counted, one_step, after_read_key, step_with, worker_step}
 use Rattle.stm_state.proofs.Tests.{equal_itself}
 use Rattle.stm_state.proofs.Whole.{same_state}
 use Rattle.stm_core.specs.CoreState.{read_result_by, read_result_of, runs}
@@ -23,15 +23,13 @@ use Rattle.stm_core.specs.declared.next_step.ReadResult.{ReadResult}
 use Rattle.stm_core.specs.declared.next_step.ReadResult.TheVariants as read_result
 
 -- a step keeps the call and the answers
-kept_call : (o : StepResult) (r : RunView) → (after_result o r).call ≡ r.call
-kept_call (Next t) r = refl
-kept_call (Asks key) r = refl
-kept_call (Ends end out t) r = refl
+kept_call : (progress : Progress) (r : RunView) → (standing_at progress r).call ≡ r.call
+kept_call (Going t) r = refl
+kept_call (Over end out t) r = refl
 
-kept_answers : (o : StepResult) (r : RunView) → (after_result o r).answers ≡ r.answers
-kept_answers (Next t) r = refl
-kept_answers (Asks key) r = refl
-kept_answers (Ends end out t) r = refl
+kept_answers : (progress : Progress) (r : RunView) → (standing_at progress r).answers ≡ r.answers
+kept_answers (Going t) r = refl
+kept_answers (Over end out t) r = refl
 
 abbrev value_in : ReadResult → Option (List ℕ)
 value_in (read_result.Given value from) = value
@@ -74,18 +72,14 @@ module _ (block : Block) (calls : List Invocation) (w : ℕ) (key : List ℕ) (v
       go (Some b) e = absurd (no_answer value from e)
 
   module _ (s t : State) (worker : w < length s.tasks) where
-    task_after : (i : ℕ) (answers : List StorageAnswer) → task_at (counted one_step w (read_at block.base key w i answers s)) w ≡ answered_with block.base key i answers (reading s.versions key i)
+    task_after : (i : ℕ) (answers : List StorageAnswer) → task_at (counted one_step w (after_read_key block.base key w i answers s)) w ≡ answered_with block.base key i answers (reading s.versions key i)
     task_after i answers = get_or-set_same s.tasks w (answered_with block.base key i answers (reading s.versions key i)) Idle worker
 
     fits_with : (task : Task) → step_with block w task (Read_key key) s ≡ Some (Ok t) → IsRunOf calls old task → ((i : ℕ) → runs task i ≡ true → read_result.Given value from ≡ read_result_of block.base key (reading s.versions key i)) → IsRunOf calls new (task_at t w)
-    fits_with Idle k fits told = absurd fits
     fits_with (Running i answers None) k fits told =
         subst (λ (x : State). IsRunOf calls new (task_at x w)) (same_state _ t k)
         (subst (IsRunOf calls new) (sym (task_after i answers)) (seen_fits i answers fits.0 fits.1 (reading s.versions key i) (told i (equal_itself i))))
-    fits_with (Running i answers (Some b)) k fits told = absurd fits
-    fits_with (Moving i keys new_key) k fits told = absurd fits
-    fits_with (Validating i n left failed) k fits told = absurd fits
-    fits_with (Marking i keys) k fits told = absurd fits
+    fits_with task k fits told = absurd fits
 
     -- the run fits its task after the read
     pub read_fits : worker_step block w (Read_key key) s ≡ Some (Ok t) → IsRunOf calls old (task_at s w) → ((i : ℕ) → runs (task_at s w) i ≡ true → read_result.Given value from ≡ read_result_of block.base key (reading s.versions key i)) → IsRunOf calls new (task_at t w)

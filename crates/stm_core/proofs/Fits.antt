@@ -6,7 +6,7 @@ use Rattle.rv_ledger.specs.Call.{Invocation}
 use Rattle.rv_step.specs.Run.{RunView}
 use Rattle.rv_step.specs.declared.ended_run.EndedRun.{EndedRun}
 use Rattle.stm_state.specs.declared.state.Task.{Task}
-use Rattle.stm_state.specs.declared.state.Task.TheVariants.{Idle, Running, Moving, Validating, Marking}
+use Rattle.stm_state.specs.declared.state.Task.TheVariants.{Running}
 use Rattle.stm_state.specs.State.{State, task_at}
 use Rattle.stm_state.specs.Steps.{Record}
 use Rattle.stm_state.proofs.Tests.{equal_itself}
@@ -17,41 +17,18 @@ use Rattle.stm_core.specs.Driving.{FitsTask, HasNoAnswers, IsRunOf}
 
 -- a worker's step is to let a run go on, which may end
 abbrev pub is_run : NextStep → Bool
-is_run next_step.Ask = false
 is_run (next_step.Run i n) = true
-is_run (next_step.Park i n) = false
-is_run (next_step.MoveKey i n) = false
-is_run (next_step.FinishExecution i n) = false
-is_run (next_step.CheckRead i n) = false
-is_run (next_step.Decide i n) = false
-is_run (next_step.MarkEstimate i n) = false
-is_run (next_step.FinishAbort i n) = false
+is_run step = false
 
--- only then the worker may owe a record
-owes_record : (s : State) (task : Task) → is_due Record task ≡ is_run (next_step_of s task)
-owes_record s Idle = refl
-owes_record s (Running j answers None) = refl
-owes_record s (Running j answers (Some b)) = refl
-owes_record s (Moving j (key ∷ keys) new) = refl
-owes_record s (Moving j [] new) = refl
-owes_record s (Validating j m left true) = refl
-owes_record s (Validating j m zero false) = refl
-owes_record s (Validating j m (suc left) false) = refl
-owes_record s (Marking j (key ∷ keys)) = refl
-owes_record s (Marking j []) = refl
-
+-- else it owes no record
 pub no_record : (s : State) (task : Task) (step : NextStep) → step ≡ next_step_of s task → is_run step ≡ false → is_due Record task ≡ false
-no_record s task step doing other = owes_record s task ∙ sym (ap is_run doing) ∙ other
+no_record s (Running j answers None) step doing other = let runs = ap is_run doing in cc
+no_record s task step doing other = refl
 
 -- a run fits no task that owes no record
 no_run : (calls : List Invocation) (run : RunView) (task : Task) → is_due Record task ≡ false → IsRunOf calls run task → ⊥
-no_run calls run Idle e h = h
 no_run calls run (Running i answers None) e h = cc
-no_run calls run (Running i answers (Some b)) e h = h
-no_run calls run (Moving i (key ∷ keys) new) e h = h
-no_run calls run (Moving i [] new) e h = h
-no_run calls run (Validating i n left failed) e h = h
-no_run calls run (Marking i keys) e h = h
+no_run calls run task e h = h
 
 -- so that where the task owed no record there was no run, and the next task is fit where it has no answers
 pub next_fits : (calls : List Invocation) (run : Option RunView) (old new : Task) → is_due Record old ≡ false → FitsTask calls run old → HasNoAnswers new → FitsTask calls run new
@@ -69,17 +46,13 @@ all_fit calls runs s t w run lt others before own u = elim (cases_eq u w) [
 -- a run that fits the worker's task is its own
 module _ (w : ℕ) (b : CoreState) (run : RunView) (ended : EndedRun) (same_call : ended.call ≡ run.call) (same_answers : ended.answers.items ≡ run.answers) where
   own_with : (task : Task) → task_at b.state w ≡ task → is_due Record task ≡ true → IsRunOf b.job.block run task → IsOwn w ended b
-  own_with Idle at due fits = absurd fits
   own_with (Running i answers None) at due fits = record {
     call = i;
     runs = ap (λ (t : Task). runs t i) at ∙ equal_itself i;
     same_call = fits.0 ∙ ap Some (sym same_call);
     same_answers = same_answers ∙ fits.1 ∙ sym (ap answers_of at);
   }
-  own_with (Running i answers (Some x)) at due fits = absurd fits
-  own_with (Moving i keys new) at due fits = absurd fits
-  own_with (Validating i n left failed) at due fits = absurd fits
-  own_with (Marking i keys) at due fits = absurd fits
+  own_with task at due fits = absurd fits
 
   pub own_run : is_due Record (task_at b.state w) ≡ true → IsRunOf b.job.block run (task_at b.state w) → IsOwn w ended b
   own_run due fits = own_with (task_at b.state w) refl due fits

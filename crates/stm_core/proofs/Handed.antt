@@ -9,9 +9,9 @@ use Rattle.mvmap.specs.Versions.{Estimate, Versions, changed}
 use Rattle.stm_state.specs.declared.state.Task.{Task}
 use Rattle.stm_state.specs.declared.state.Task.TheVariants.{Idle, Running, Moving, Marking}
 use Rattle.stm_state.specs.State.{State, fresh, task_at}
-use Rattle.stm_state.specs.Steps.{Record, Move_key, Mark_estimate, counted, marked, moved, one_execution, one_step, recorded, version_of, worker_step}
+use Rattle.stm_state.specs.Steps.{Record, Move_key, Mark_estimate, counted, after_mark_estimate, after_move_key, one_execution, one_step, after_record, version_of, worker_step}
 use Rattle.stm_state.specs.Done.{block_of}
-use Rattle.stm_state.specs.Invariant.{named_by}
+use Rattle.stm_state.proofs.Invariant.{named_by}
 use Rattle.stm_state.proofs.Tests.{equal_itself}
 use Rattle.scheduler.specs.Schedule.{KeepsRooms, Schedule}
 use Rattle.stm_core.specs.CoreState.{CoreState, IsDue, Makes, PassedRoom, runs}
@@ -34,7 +34,7 @@ module _ (job : Job) (table : Table) (promised : ℕ) (schedule : Schedule) (h :
     -- a worker's own run within the limits leads on
     pub record_reached : (after_table : Table) (more : ℕ) (after : Schedule) → IsGrown table after_table → IsPromised i run.receipt.writes after_table promised more
         → (length table.arena.records + promised + len run.receipt.writes ≤ 1048576) × ((get_or schedule.calls i fresh).incarnation < 65535)
-        → state_in after_table more after ≡ counted one_execution w (recorded w i run.answers.items run.receipt (state_in table promised schedule)) → IsReached job after_table more after
+        → state_in after_table more after ≡ counted one_execution w (after_record w i run.answers.items run.receipt (state_in table promised schedule)) → IsReached job after_table more after
     record_reached after_table more after grown promises within same =
         let s = state_in table promised schedule in
         let own : get_or schedule.tasks w Idle ≡ Running i run.answers.items None = at ∙ ap (λ x. Running i x None) (sym handed.1) in
@@ -55,7 +55,7 @@ module _ (job : Job) (table : Table) (promised : ℕ) (schedule : Schedule) (h :
     pub key_is_promised : length (writes_at (get_or schedule.calls i fresh).last (key ∷ [])) ≤ promised
     key_is_promised = next_is_promised (block_of job.block job.store) (length schedule.tasks) w (state_in table promised schedule) (invariant_at job table promised schedule h) (due_at job table promised schedule h b is w Move_key due).worker table promised h.promises i key keys new at
 
-    module _ (after_table : Table) (more : ℕ) (after : Schedule) (same : state_in after_table more after ≡ counted one_step w (moved w i key keys new (state_in table promised schedule))) where
+    module _ (after_table : Table) (more : ℕ) (after : Schedule) (same : state_in after_table more after ≡ counted one_step w (after_move_key w i key keys new (state_in table promised schedule))) where
       move_is_made : worker_step (block_of job.block job.store) w Move_key (state_in table promised schedule) ≡ Some (Ok (state_in after_table more after))
       move_is_made = move_made (block_of job.block job.store) w (state_in table promised schedule) i key keys new at ∙ ap (λ t. Some (Ok t)) (sym same)
 
@@ -82,7 +82,7 @@ module _ (job : Job) (table : Table) (promised : ℕ) (schedule : Schedule) (h :
     abbrev pub with_estimate : Table
     with_estimate = record table { versions = changed table.versions (key, i) (Some Estimate) }
 
-    module _ (same : state_in with_estimate promised after ≡ counted one_step w (marked w i key keys (state_in table promised schedule))) where
+    module _ (same : state_in with_estimate promised after ≡ counted one_step w (after_mark_estimate w i key keys (state_in table promised schedule))) where
       mark_is_made : worker_step (block_of job.block job.store) w Mark_estimate (state_in table promised schedule) ≡ Some (Ok (state_in with_estimate promised after))
       mark_is_made = mark_made (block_of job.block job.store) w (state_in table promised schedule) i key keys at ∙ ap (λ t. Some (Ok t)) (sym same)
 

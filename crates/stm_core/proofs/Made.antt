@@ -20,9 +20,10 @@ use Rattle.mvmap.specs.Versions.{Entry, Estimate, Versions, place_cmp}
 use Rattle.stm_state.specs.declared.state.Status.TheVariants.{Executing, Aborting}
 use Rattle.stm_state.specs.declared.state.Task.TheVariants.{Idle, Running, Moving, Validating, Marking}
 use Rattle.stm_state.specs.State.{State, fresh, start, call_at, task_at}
-use Rattle.stm_state.specs.Steps.{Block, Step, Ask, Read_key, Park, Record, Move_key, Finish_execution, Check_read, Decide, Mark_estimate, Finish_abort, ArenaFull, IncarnationLimit, counted, one_asking, one_step, one_execution, one_validation, asked, read_at, parked, recorded, moved, executed, record_within, checked, decided, marked, aborted, step_with, worker_step}
+use Rattle.stm_state.specs.Steps.{Block, Step, Ask, Read_key, Park, Record, Move_key, Finish_execution, Check_read, Decide, Mark_estimate, Finish_abort, ArenaFull, IncarnationLimit, counted, one_asking, one_step, one_execution, one_validation, after_ask, after_read_key, after_park, after_record, after_move_key, after_finish_execution, record_within, after_check_read, after_decide, after_mark_estimate, after_finish_abort, step_with, worker_step}
 use Rattle.stm_state.specs.Done.{Reached, started, stepped, block_of, borne_out_by}
-use Rattle.stm_state.specs.Invariant.{Invariant, has_key, named_by, owned_by, run_by}
+use Rattle.stm_state.specs.Parts.{has_key}
+use Rattle.stm_state.proofs.Invariant.{Invariant, named_by, owned_by, run_by}
 use Rattle.stm_state.proofs.Whole.{invariant_kept}
 use Rattle.stm_state.proofs.Counted.{counts_within}
 use Rattle.scheduler.specs.Schedule.{KeepsRooms, Schedule, MayCount, state_of}
@@ -78,9 +79,9 @@ module _ (job : Job) (table : Table) (promised : ℕ) (schedule : Schedule) (h :
   -- the next key that is marked has an entry, and so a place
   pub mark_has_place : (w i : ℕ) (key : List ℕ) (keys : List (List ℕ)) → get_or schedule.tasks w Idle ≡ Marking i (key ∷ keys) → IsTrue (contains table.places (key, i))
   mark_has_place w i key keys at =
-      let marked = invariant_at.facts.marking w i (key ∷ keys) at in
-      let content = marked.written key (ap (λ o. is_eq o || has_key key keys) (tied_itself nat_list_cmp_total key)) in
-      h.places (key, i) (elim (marked.amid key) [
+      let at_mark = invariant_at.facts.marking w i (key ∷ keys) at in
+      let content = at_mark.written key (ap (λ o. is_eq o || has_key key keys) (tied_itself nat_list_cmp_total key)) in
+      h.places (key, i) (elim (at_mark.amid key) [
         | inl turned ↦ ap is_some (turned ∙ ap (option_map (λ c. Estimate)) content.1)
         | inr before ↦ ap is_some before.1.1
       ])
@@ -160,15 +161,15 @@ module _ (job : Job) (table : Table) (promised : ℕ) (schedule : Schedule) (h :
 -- ---- the start
 
 -- the parts of a run at its start are the start of its block
-pub start_is : (n workers : ℕ) (table : Table) (schedule : Schedule) → table.versions ≡ empty → table.arena.records ≡ [] → ((v : Versions) (p : ℕ) → state_of v p schedule ≡ record (start n workers) { versions = v; placed = p })
+pub start_is : (n workers : ℕ) (table : Table) (schedule : Schedule) → table.versions ≡ empty → table.arena.records ≡ [] → ((v : Versions) (p : ℕ) → state_of v p schedule ≡ record (start n workers) { versions = v; record_count = p })
     → state_in table 0 schedule ≡ start n workers
 start_is n workers table schedule none records is =
     is table.versions (length table.arena.records + 0)
-    ∙ ap (λ v. record (start n workers) { versions = v; placed = length table.arena.records + 0 }) none
-    ∙ ap (λ (rs : List Placing). record (start n workers) { placed = length rs + 0 }) records
+    ∙ ap (λ v. record (start n workers) { versions = v; record_count = length table.arena.records + 0 }) none
+    ∙ ap (λ (rs : List Placing). record (start n workers) { record_count = length rs + 0 }) records
 
 -- it is reached
-pub start_reached : (job : Job) (n workers : ℕ) (table : Table) (schedule : Schedule) → n ≡ length job.block → table.versions ≡ empty → table.arena.records ≡ [] → ((v : Versions) (p : ℕ) → state_of v p schedule ≡ record (start n workers) { versions = v; placed = p })
+pub start_reached : (job : Job) (n workers : ℕ) (table : Table) (schedule : Schedule) → n ≡ length job.block → table.versions ≡ empty → table.arena.records ≡ [] → ((v : Versions) (p : ℕ) → state_of v p schedule ≡ record (start n workers) { versions = v; record_count = p })
     → IsReached job table 0 schedule
 start_reached job n workers table schedule count none records is =
     let same : state_in table 0 schedule ≡ start (length job.block) workers = start_is n workers table schedule none records is ∙ ap (λ x. start x workers) count in
@@ -199,64 +200,64 @@ is_le : (a b : ℕ) → a ≤ b → nat_le a b ≡ true
 is_le a b h = grind (arith)
 
 module _ (block : Block) (w : ℕ) (s : State) where
-  pub ask_made : task_at s w ≡ Idle → worker_step block w Ask s ≡ Some (Ok (counted one_asking w (asked w s)))
+  pub ask_made : task_at s w ≡ Idle → worker_step block w Ask s ≡ Some (Ok (counted one_asking w (after_ask w s)))
   ask_made idle = ap (λ t. step_with block w t Ask s) idle
 
-  pub read_made : (key : List ℕ) (i : ℕ) (answers : List StorageAnswer) → task_at s w ≡ Running i answers None → worker_step block w (Read_key key) s ≡ Some (Ok (counted one_step w (read_at block.base key w i answers s)))
+  pub read_made : (key : List ℕ) (i : ℕ) (answers : List StorageAnswer) → task_at s w ≡ Running i answers None → worker_step block w (Read_key key) s ≡ Some (Ok (counted one_step w (after_read_key block.base key w i answers s)))
   read_made key i answers runs = ap (λ t. step_with block w t (Read_key key) s) runs
 
-  pub park_made : (i b : ℕ) (answers : List StorageAnswer) → task_at s w ≡ Running i answers (Some b) → (call_at s i).incarnation < 65535 → worker_step block w Park s ≡ Some (Ok (counted one_step w (parked w i b s)))
+  pub park_made : (i b : ℕ) (answers : List StorageAnswer) → task_at s w ≡ Running i answers (Some b) → (call_at s i).incarnation < 65535 → worker_step block w Park s ≡ Some (Ok (counted one_step w (after_park w i b s)))
   park_made i b answers runs low =
       ap (λ t. step_with block w t Park s) runs
-      ∙ ap (λ spent. cond spent (Some (Err IncarnationLimit)) (Some (Ok (counted one_step w (parked w i b s))))) (not_le 65535 (call_at s i).incarnation low)
+      ∙ ap (λ spent. cond spent (Some (Err IncarnationLimit)) (Some (Ok (counted one_step w (after_park w i b s))))) (not_le 65535 (call_at s i).incarnation low)
 
-  pub move_made : (i : ℕ) (key : List ℕ) (keys : List (List ℕ)) (new : Bool) → task_at s w ≡ Moving i (key ∷ keys) new → worker_step block w Move_key s ≡ Some (Ok (counted one_step w (moved w i key keys new s)))
+  pub move_made : (i : ℕ) (key : List ℕ) (keys : List (List ℕ)) (new : Bool) → task_at s w ≡ Moving i (key ∷ keys) new → worker_step block w Move_key s ≡ Some (Ok (counted one_step w (after_move_key w i key keys new s)))
   move_made i key keys new at = ap (λ t. step_with block w t Move_key s) at
 
-  pub finish_made : (i : ℕ) (new : Bool) → task_at s w ≡ Moving i [] new → worker_step block w Finish_execution s ≡ Some (Ok (counted one_step w (executed w i new s)))
+  pub finish_made : (i : ℕ) (new : Bool) → task_at s w ≡ Moving i [] new → worker_step block w Finish_execution s ≡ Some (Ok (counted one_step w (after_finish_execution w i new s)))
   finish_made i new at = ap (λ t. step_with block w t Finish_execution s) at
 
-  pub check_made : (i n left : ℕ) → task_at s w ≡ Validating i n (suc left) false → worker_step block w Check_read s ≡ Some (Ok (counted one_step w (checked w i n left s)))
+  pub check_made : (i n left : ℕ) → task_at s w ≡ Validating i n (suc left) false → worker_step block w Check_read s ≡ Some (Ok (counted one_step w (after_check_read w i n left s)))
   check_made i n left at = ap (λ t. step_with block w t Check_read s) at
 
-  pub decide_made : (i n left : ℕ) (failed : Bool) → task_at s w ≡ Validating i n left failed → is_due Decide (task_at s w) ≡ true → worker_step block w Decide s ≡ Some (Ok (counted one_validation w (decided w i n failed s)))
+  pub decide_made : (i n left : ℕ) (failed : Bool) → task_at s w ≡ Validating i n left failed → is_due Decide (task_at s w) ≡ true → worker_step block w Decide s ≡ Some (Ok (counted one_validation w (after_decide w i n failed s)))
   decide_made i n left failed at due = ap (λ t. step_with block w t Decide s) at ∙ go left failed (sym (ap (is_due Decide) at) ∙ due)
     where
-      go : (left : ℕ) (failed : Bool) → is_due Decide (Validating i n left failed) ≡ true → step_with block w (Validating i n left failed) Decide s ≡ Some (Ok (counted one_validation w (decided w i n failed s)))
+      go : (left : ℕ) (failed : Bool) → is_due Decide (Validating i n left failed) ≡ true → step_with block w (Validating i n left failed) Decide s ≡ Some (Ok (counted one_validation w (after_decide w i n failed s)))
       go left true h = refl
       go zero false h = refl
       go (suc left) false h = cc
 
-  pub mark_made : (i : ℕ) (key : List ℕ) (keys : List (List ℕ)) → task_at s w ≡ Marking i (key ∷ keys) → worker_step block w Mark_estimate s ≡ Some (Ok (counted one_step w (marked w i key keys s)))
+  pub mark_made : (i : ℕ) (key : List ℕ) (keys : List (List ℕ)) → task_at s w ≡ Marking i (key ∷ keys) → worker_step block w Mark_estimate s ≡ Some (Ok (counted one_step w (after_mark_estimate w i key keys s)))
   mark_made i key keys at = ap (λ t. step_with block w t Mark_estimate s) at
 
-  pub abort_made : (i : ℕ) → task_at s w ≡ Marking i [] → worker_step block w Finish_abort s ≡ Some (Ok (counted one_step w (aborted w i s)))
+  pub abort_made : (i : ℕ) → task_at s w ≡ Marking i [] → worker_step block w Finish_abort s ≡ Some (Ok (counted one_step w (after_finish_abort w i s)))
   abort_made i at = ap (λ t. step_with block w t Finish_abort s) at
 
 module _ (block : Block) (w i : ℕ) (answers : List StorageAnswer) (s : State) where
   -- a record within the limits, and one that is refused
-  pub record_made : (receipt : Receipt) → task_at s w ≡ Running i answers None → block.borne_out i (replies_of answers) ≡ Some receipt → s.placed + len receipt.writes ≤ 1048576 → (call_at s i).incarnation < 65535
-      → worker_step block w Record s ≡ Some (Ok (counted one_execution w (recorded w i answers receipt s)))
+  pub record_made : (receipt : Receipt) → task_at s w ≡ Running i answers None → block.borne_out i (replies_of answers) ≡ Some receipt → s.record_count + len receipt.writes ≤ 1048576 → (call_at s i).incarnation < 65535
+      → worker_step block w Record s ≡ Some (Ok (counted one_execution w (after_record w i answers receipt s)))
   record_made receipt runs bears room low =
       ap (λ t. step_with block w t Record s) runs
       ∙ ap (λ o. record_within i answers w o s) bears
-      ∙ ap (λ b. cond b (Some (Err ArenaFull)) (cond (nat_le 65535 (call_at s i).incarnation) (Some (Err IncarnationLimit)) (Some (Ok (counted one_execution w (recorded w i answers receipt s)))))) (not_lt 1048576 (s.placed + len receipt.writes) room)
-      ∙ ap (λ b. cond b (Some (Err IncarnationLimit)) (Some (Ok (counted one_execution w (recorded w i answers receipt s))))) (not_le 65535 (call_at s i).incarnation low)
+      ∙ ap (λ b. cond b (Some (Err ArenaFull)) (cond (nat_le 65535 (call_at s i).incarnation) (Some (Err IncarnationLimit)) (Some (Ok (counted one_execution w (after_record w i answers receipt s)))))) (not_lt 1048576 (s.record_count + len receipt.writes) room)
+      ∙ ap (λ b. cond b (Some (Err IncarnationLimit)) (Some (Ok (counted one_execution w (after_record w i answers receipt s))))) (not_le 65535 (call_at s i).incarnation low)
 
-  pub record_full : (receipt : Receipt) → task_at s w ≡ Running i answers None → block.borne_out i (replies_of answers) ≡ Some receipt → 1048576 < s.placed + len receipt.writes
+  pub record_full : (receipt : Receipt) → task_at s w ≡ Running i answers None → block.borne_out i (replies_of answers) ≡ Some receipt → 1048576 < s.record_count + len receipt.writes
       → worker_step block w Record s ≡ Some (Err ArenaFull)
   record_full receipt runs bears full =
       ap (λ t. step_with block w t Record s) runs
       ∙ ap (λ o. record_within i answers w o s) bears
-      ∙ ap (λ b. cond b (Some (Err ArenaFull)) (cond (nat_le 65535 (call_at s i).incarnation) (Some (Err IncarnationLimit)) (Some (Ok (counted one_execution w (recorded w i answers receipt s)))))) (is_lt 1048576 (s.placed + len receipt.writes) full)
+      ∙ ap (λ b. cond b (Some (Err ArenaFull)) (cond (nat_le 65535 (call_at s i).incarnation) (Some (Err IncarnationLimit)) (Some (Ok (counted one_execution w (after_record w i answers receipt s)))))) (is_lt 1048576 (s.record_count + len receipt.writes) full)
 
-  pub record_limit : (receipt : Receipt) → task_at s w ≡ Running i answers None → block.borne_out i (replies_of answers) ≡ Some receipt → s.placed + len receipt.writes ≤ 1048576 → 65535 ≤ (call_at s i).incarnation
+  pub record_limit : (receipt : Receipt) → task_at s w ≡ Running i answers None → block.borne_out i (replies_of answers) ≡ Some receipt → s.record_count + len receipt.writes ≤ 1048576 → 65535 ≤ (call_at s i).incarnation
       → worker_step block w Record s ≡ Some (Err IncarnationLimit)
   record_limit receipt runs bears room high =
       ap (λ t. step_with block w t Record s) runs
       ∙ ap (λ o. record_within i answers w o s) bears
-      ∙ ap (λ b. cond b (Some (Err ArenaFull)) (cond (nat_le 65535 (call_at s i).incarnation) (Some (Err IncarnationLimit)) (Some (Ok (counted one_execution w (recorded w i answers receipt s)))))) (not_lt 1048576 (s.placed + len receipt.writes) room)
-      ∙ ap (λ b. cond b (Some (Err IncarnationLimit)) (Some (Ok (counted one_execution w (recorded w i answers receipt s))))) (is_le 65535 (call_at s i).incarnation high)
+      ∙ ap (λ b. cond b (Some (Err ArenaFull)) (cond (nat_le 65535 (call_at s i).incarnation) (Some (Err IncarnationLimit)) (Some (Ok (counted one_execution w (after_record w i answers receipt s)))))) (not_lt 1048576 (s.record_count + len receipt.writes) room)
+      ∙ ap (λ b. cond b (Some (Err IncarnationLimit)) (Some (Ok (counted one_execution w (after_record w i answers receipt s))))) (is_le 65535 (call_at s i).incarnation high)
 
 -- a worker's own run that is handed in, within the limits, and refused
 module _ (calls : List Invocation) (store : Storage) (w i : ℕ) (answers : List StorageAnswer) (run : EndedRun) (s : State) (runs : task_at s w ≡ Running i answers None) (handed : IsHanded calls i answers run) where
@@ -266,14 +267,14 @@ module _ (calls : List Invocation) (store : Storage) (w i : ℕ) (answers : List
   bears_own : borne_out_by (slice_get calls i) (replies_of run.answers.items) ≡ Some run.receipt
   bears_own = ap (λ o. borne_out_by o (replies_of run.answers.items)) handed.0 ∙ run.borne_out
 
-  pub own_made : s.placed + len run.receipt.writes ≤ 1048576 → (call_at s i).incarnation < 65535
-      → worker_step (block_of calls store) w Record s ≡ Some (Ok (counted one_execution w (recorded w i run.answers.items run.receipt s)))
+  pub own_made : s.record_count + len run.receipt.writes ≤ 1048576 → (call_at s i).incarnation < 65535
+      → worker_step (block_of calls store) w Record s ≡ Some (Ok (counted one_execution w (after_record w i run.answers.items run.receipt s)))
   own_made room low = record_made (block_of calls store) w i run.answers.items s run.receipt runs_own bears_own room low
 
-  pub own_full : 1048576 < s.placed + len run.receipt.writes → worker_step (block_of calls store) w Record s ≡ Some (Err ArenaFull)
+  pub own_full : 1048576 < s.record_count + len run.receipt.writes → worker_step (block_of calls store) w Record s ≡ Some (Err ArenaFull)
   own_full full = record_full (block_of calls store) w i run.answers.items s run.receipt runs_own bears_own full
 
-  pub own_limit : s.placed + len run.receipt.writes ≤ 1048576 → 65535 ≤ (call_at s i).incarnation → worker_step (block_of calls store) w Record s ≡ Some (Err IncarnationLimit)
+  pub own_limit : s.record_count + len run.receipt.writes ≤ 1048576 → 65535 ≤ (call_at s i).incarnation → worker_step (block_of calls store) w Record s ≡ Some (Err IncarnationLimit)
   own_limit room high = record_limit (block_of calls store) w i run.answers.items s run.receipt runs_own bears_own room high
 
 -- ---- results

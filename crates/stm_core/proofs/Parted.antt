@@ -5,8 +5,8 @@ use Rattle.mvmap.specs.Versions.{Versions, Estimate, changed}
 use Rattle.stm_state.specs.declared.state.Task.{Task}
 use Rattle.stm_state.specs.declared.state.Task.TheVariants.{Idle, Running, Moving, Validating, Marking}
 use Rattle.stm_state.specs.State.{State, call_at, with_task}
-use Rattle.stm_state.specs.Steps.{Ask, Read_key, Record, Move_key, Finish_execution, Check_read, Mark_estimate, Finish_abort, marked, moved, version_of}
-use Rattle.stm_state.specs.Invariant.{named_by}
+use Rattle.stm_state.specs.Steps.{Ask, Read_key, Record, Move_key, Finish_execution, Check_read, Mark_estimate, Finish_abort, after_mark_estimate, after_move_key, version_of}
+use Rattle.stm_state.proofs.Invariant.{named_by}
 use Rattle.scheduler.specs.declared.worker.TaskKind.TheVariants as task_kind
 use Rattle.scheduler.specs.Workers.{HasKeys, IsRunning, task_kind_of}
 use Rattle.stm_core.specs.declared.next_step.NextStep.TheVariants as next_step
@@ -16,162 +16,66 @@ use Rattle.stm_core.specs.CoreState.{IsWithin, next_step_of, is_due}
 
 pub asks_idle : (task : Task) → is_due Ask task ≡ true → task ≡ Idle
 asks_idle Idle h = refl
-asks_idle (Running j answers None) h = cc
-asks_idle (Running j answers (Some b)) h = cc
-asks_idle (Moving j (k ∷ keys) c) h = cc
-asks_idle (Moving j [] c) h = cc
-asks_idle (Validating j m l true) h = cc
-asks_idle (Validating j m zero false) h = cc
-asks_idle (Validating j m (suc l) false) h = cc
-asks_idle (Marking j (k ∷ keys)) h = cc
-asks_idle (Marking j []) h = cc
+asks_idle task h = cc
 
 pub reads_running : (task : Task) (key : List ℕ) (i : ℕ) (blocked : Option ℕ) → is_due (Read_key key) task ≡ true → task_kind.Running i blocked ≡ task_kind_of task → (answers : List StorageAnswer) × (task ≡ Running i answers None)
-reads_running Idle key i blocked h d = cc
 reads_running (Running j answers None) key i blocked h d = (answers, cc)
-reads_running (Running j answers (Some b)) key i blocked h d = cc
-reads_running (Moving j (k ∷ keys) c) key i blocked h d = cc
-reads_running (Moving j [] c) key i blocked h d = cc
-reads_running (Validating j m l true) key i blocked h d = cc
-reads_running (Validating j m zero false) key i blocked h d = cc
-reads_running (Validating j m (suc l) false) key i blocked h d = cc
-reads_running (Marking j (k ∷ keys)) key i blocked h d = cc
-reads_running (Marking j []) key i blocked h d = cc
+reads_running task key i blocked h d = cc
 
 pub records_running : (task : Task) (i : ℕ) (blocked : Option ℕ) → is_due Record task ≡ true → task_kind.Running i blocked ≡ task_kind_of task → (answers : List StorageAnswer) × (task ≡ Running i answers None)
-records_running Idle i blocked h d = cc
 records_running (Running j answers None) i blocked h d = (answers, cc)
-records_running (Running j answers (Some b)) i blocked h d = cc
-records_running (Moving j (k ∷ keys) c) i blocked h d = cc
-records_running (Moving j [] c) i blocked h d = cc
-records_running (Validating j m l true) i blocked h d = cc
-records_running (Validating j m zero false) i blocked h d = cc
-records_running (Validating j m (suc l) false) i blocked h d = cc
-records_running (Marking j (k ∷ keys)) i blocked h d = cc
-records_running (Marking j []) i blocked h d = cc
-
-pub parks_running : (task : Task) (i b : ℕ) → task_kind.Running i (Some b) ≡ task_kind_of task → (answers : List StorageAnswer) × (task ≡ Running i answers (Some b))
-parks_running Idle i x d = cc
-parks_running (Running j answers b) i x d = (answers, cc)
-parks_running (Moving j keys c) i x d = cc
-parks_running (Validating j m l f) i x d = cc
-parks_running (Marking j keys) i x d = cc
+records_running task i blocked h d = cc
 
 pub moves_key : (task : Task) (i : ℕ) (new : Bool) (key : List ℕ) → is_due Move_key task ≡ true → task_kind.Moving i new ≡ task_kind_of task → ((j : ℕ) (keys : List (List ℕ)) (b : Bool) → task ≡ Moving j keys b → Some key ≡ slice_get keys 0) → (keys : List (List ℕ)) × (task ≡ Moving i (key ∷ keys) new)
-moves_key Idle i new key h d next = cc
-moves_key (Running j answers None) i new key h d next = cc
-moves_key (Running j answers (Some b)) i new key h d next = cc
 moves_key (Moving j (k ∷ keys) c) i new key h d next = let same = next j (k ∷ keys) c refl in (keys, cc)
-moves_key (Moving j [] c) i new key h d next = cc
-moves_key (Validating j m l true) i new key h d next = cc
-moves_key (Validating j m zero false) i new key h d next = cc
-moves_key (Validating j m (suc l) false) i new key h d next = cc
-moves_key (Marking j (k ∷ keys)) i new key h d next = cc
-moves_key (Marking j []) i new key h d next = cc
+moves_key task i new key h d next = cc
 
 pub moves_some_key : (task : Task) → is_due Move_key task ≡ true → ((j : ℕ) (keys : List (List ℕ)) (b : Bool) → task ≡ Moving j keys b → None ≡ slice_get keys 0) → ⊥
-moves_some_key Idle h next = cc
-moves_some_key (Running j answers None) h next = cc
-moves_some_key (Running j answers (Some b)) h next = cc
 moves_some_key (Moving j (k ∷ keys) c) h next = let none = next j (k ∷ keys) c refl in cc
-moves_some_key (Moving j [] c) h next = cc
-moves_some_key (Validating j m l true) h next = cc
-moves_some_key (Validating j m zero false) h next = cc
-moves_some_key (Validating j m (suc l) false) h next = cc
-moves_some_key (Marking j (k ∷ keys)) h next = cc
-moves_some_key (Marking j []) h next = cc
+moves_some_key task h next = cc
 
 pub finishes_moving : (task : Task) (i : ℕ) (new : Bool) → is_due Finish_execution task ≡ true → task_kind.Moving i new ≡ task_kind_of task → task ≡ Moving i [] new
-finishes_moving Idle i new h d = cc
-finishes_moving (Running j answers None) i new h d = cc
-finishes_moving (Running j answers (Some b)) i new h d = cc
-finishes_moving (Moving j (k ∷ keys) c) i new h d = cc
 finishes_moving (Moving j [] c) i new h d = cc
-finishes_moving (Validating j m l true) i new h d = cc
-finishes_moving (Validating j m zero false) i new h d = cc
-finishes_moving (Validating j m (suc l) false) i new h d = cc
-finishes_moving (Marking j (k ∷ keys)) i new h d = cc
-finishes_moving (Marking j []) i new h d = cc
+finishes_moving task i new h d = cc
 
 pub marks_key : (task : Task) (i : ℕ) (key : List ℕ) → is_due Mark_estimate task ≡ true → task_kind.Marking i ≡ task_kind_of task → ((j : ℕ) (keys : List (List ℕ)) → task ≡ Marking j keys → Some key ≡ slice_get keys 0) → (keys : List (List ℕ)) × (task ≡ Marking i (key ∷ keys))
-marks_key Idle i key h d next = cc
-marks_key (Running j answers None) i key h d next = cc
-marks_key (Running j answers (Some b)) i key h d next = cc
-marks_key (Moving j (k ∷ keys) c) i key h d next = cc
-marks_key (Moving j [] c) i key h d next = cc
-marks_key (Validating j m l true) i key h d next = cc
-marks_key (Validating j m zero false) i key h d next = cc
-marks_key (Validating j m (suc l) false) i key h d next = cc
 marks_key (Marking j (k ∷ keys)) i key h d next = let same = next j (k ∷ keys) refl in (keys, cc)
-marks_key (Marking j []) i key h d next = cc
+marks_key task i key h d next = cc
 
 pub marks_some_key : (task : Task) → is_due Mark_estimate task ≡ true → ((j : ℕ) (keys : List (List ℕ)) → task ≡ Marking j keys → None ≡ slice_get keys 0) → ⊥
-marks_some_key Idle h next = cc
-marks_some_key (Running j answers None) h next = cc
-marks_some_key (Running j answers (Some b)) h next = cc
-marks_some_key (Moving j (k ∷ keys) c) h next = cc
-marks_some_key (Moving j [] c) h next = cc
-marks_some_key (Validating j m l true) h next = cc
-marks_some_key (Validating j m zero false) h next = cc
-marks_some_key (Validating j m (suc l) false) h next = cc
 marks_some_key (Marking j (k ∷ keys)) h next = let none = next j (k ∷ keys) refl in cc
-marks_some_key (Marking j []) h next = cc
+marks_some_key task h next = cc
 
 pub finishes_marking : (task : Task) (i : ℕ) → is_due Finish_abort task ≡ true → task_kind.Marking i ≡ task_kind_of task → task ≡ Marking i []
-finishes_marking Idle i h d = cc
-finishes_marking (Running j answers None) i h d = cc
-finishes_marking (Running j answers (Some b)) i h d = cc
-finishes_marking (Moving j (k ∷ keys) c) i h d = cc
-finishes_marking (Moving j [] c) i h d = cc
-finishes_marking (Validating j m l true) i h d = cc
-finishes_marking (Validating j m zero false) i h d = cc
-finishes_marking (Validating j m (suc l) false) i h d = cc
-finishes_marking (Marking j (k ∷ keys)) i h d = cc
 finishes_marking (Marking j []) i h d = cc
+finishes_marking task i h d = cc
 
 pub checks_next : (task : Task) (i n left : ℕ) (failed : Bool) → is_due Check_read task ≡ true → task_kind.Validating i n left failed ≡ task_kind_of task → (less : ℕ) × (left ≡ suc less) × (task ≡ Validating i n (suc less) false)
-checks_next Idle i n left failed h d = cc
-checks_next (Running j answers None) i n left failed h d = cc
-checks_next (Running j answers (Some b)) i n left failed h d = cc
-checks_next (Moving j (k ∷ keys) c) i n left failed h d = cc
-checks_next (Moving j [] c) i n left failed h d = cc
-checks_next (Validating j m zero true) i n left failed h d = cc
-checks_next (Validating j m (suc l) true) i n left failed h d = cc
-checks_next (Validating j m zero false) i n left failed h d = cc
 checks_next (Validating j m (suc l) false) i n left failed h d = (l, cc, cc)
-checks_next (Marking j (k ∷ keys)) i n left failed h d = cc
-checks_next (Marking j []) i n left failed h d = cc
+checks_next task i n left failed h d = cc
 
 -- what a validation is of
 pub validates_at : (task : Task) (i n left : ℕ) (failed : Bool) → task_kind.Validating i n left failed ≡ task_kind_of task → task ≡ Validating i n left failed
-validates_at Idle i n left failed d = cc
-validates_at (Running j answers b) i n left failed d = cc
-validates_at (Moving j keys c) i n left failed d = cc
 validates_at (Validating j m l f) i n left failed d = cc
-validates_at (Marking j keys) i n left failed d = cc
+validates_at task i n left failed d = cc
+
+-- the answers that a run was given
+pub running_at : (task : Task) (i : ℕ) (blocked : Option ℕ) → task_kind.Running i blocked ≡ task_kind_of task → (answers : List StorageAnswer) × (task ≡ Running i answers blocked)
+running_at (Running j answers b) i blocked d = (answers, cc)
+running_at task i blocked d = cc
 
 -- the keys that a task moves, and those that it marks
 pub moving_at : (task : Task) (i : ℕ) (new : Bool) → task_kind.Moving i new ≡ task_kind_of task → (keys : List (List ℕ)) × (task ≡ Moving i keys new)
-moving_at Idle i new d = cc
-moving_at (Running j answers b) i new d = cc
 moving_at (Moving j keys c) i new d = (keys, cc)
-moving_at (Validating j m l f) i new d = cc
-moving_at (Marking j keys) i new d = cc
+moving_at task i new d = cc
 
 pub marking_at : (task : Task) (i : ℕ) → task_kind.Marking i ≡ task_kind_of task → (keys : List (List ℕ)) × (task ≡ Marking i keys)
-marking_at Idle i d = cc
-marking_at (Running j answers b) i d = cc
-marking_at (Moving j keys c) i d = cc
-marking_at (Validating j m l f) i d = cc
 marking_at (Marking j keys) i d = (keys, cc)
+marking_at task i d = cc
 
 -- a task names a call as its duty does
 pub names_running : (task : Task) (i : ℕ) (blocked : Option ℕ) → task_kind.Running i blocked ≡ task_kind_of task → named_by task ≡ Some i
-names_running Idle i blocked d = cc
-names_running (Running j answers b) i blocked d = cc
-names_running (Moving j keys c) i blocked d = cc
-names_running (Validating j m l f) i blocked d = cc
-names_running (Marking j keys) i blocked d = cc
+names_running task i blocked d = let at = running_at task i blocked d in ap named_by at.1
 
 pub names_moving : (task : Task) (i : ℕ) (new : Bool) → task_kind.Moving i new ≡ task_kind_of task → named_by task ≡ Some i
 names_moving task i new d = let at = moving_at task i new d in ap named_by at.1
@@ -191,11 +95,7 @@ names_marking task i d = let at = marking_at task i d in ap named_by at.1
 
 -- a task runs a call where its duty does
 pub runs_one : (task : Task) (i : ℕ) (blocked : Option ℕ) → task_kind.Running i blocked ≡ task_kind_of task → IsRunning task
-runs_one Idle i blocked d = cc
-runs_one (Running j answers b) i blocked d = tt
-runs_one (Moving j keys c) i blocked d = cc
-runs_one (Validating j m l f) i blocked d = cc
-runs_one (Marking j keys) i blocked d = cc
+runs_one task i blocked d = let at = running_at task i blocked d in subst IsRunning (sym at.1) tt
 
 -- what a worker is about is within the calls where its task is
 pub within_doing : (count : ℕ) (s : State) (task : Task) → ((i : ℕ) → named_by task ≡ Some i → i < count) → IsWithin count (next_step_of s task)
@@ -229,13 +129,13 @@ marks_none s i [] h = refl
 marks_none s i (k ∷ keys) h = cc
 
 -- a key is moved where its version is set and the worker goes on to the next key
-pub moved_is : (w i : ℕ) (key : List ℕ) (keys : List (List ℕ)) (new : Bool) (s : State) (versions : Versions) (placed : ℕ) → versions ≡ changed s.versions (key, i) (version_of (call_at s i) key) → placed ≡ s.placed
-    → with_task w (Moving i keys new) (record s { versions = versions; placed = placed }) ≡ moved w i key keys new s
+pub moved_is : (w i : ℕ) (key : List ℕ) (keys : List (List ℕ)) (new : Bool) (s : State) (versions : Versions) (placed : ℕ) → versions ≡ changed s.versions (key, i) (version_of (call_at s i) key) → placed ≡ s.record_count
+    → with_task w (Moving i keys new) (record s { versions = versions; record_count = placed }) ≡ after_move_key w i key keys new s
 moved_is w i key keys new s versions placed v p =
-    ap (λ x. with_task w (Moving i keys new) (record s { versions = x; placed = placed })) v
-    ∙ ap (λ x. with_task w (Moving i keys new) (record s { versions = changed s.versions (key, i) (version_of (call_at s i) key); placed = x })) p
+    ap (λ x. with_task w (Moving i keys new) (record s { versions = x; record_count = placed })) v
+    ∙ ap (λ x. with_task w (Moving i keys new) (record s { versions = changed s.versions (key, i) (version_of (call_at s i) key); record_count = x })) p
 
 -- a key is marked where an estimate is set and the worker goes on to the next key
 pub marked_is : (w i : ℕ) (key : List ℕ) (keys : List (List ℕ)) (s : State) (versions : Versions) → versions ≡ changed s.versions (key, i) (Some Estimate)
-    → with_task w (Marking i keys) (record s { versions = versions }) ≡ marked w i key keys s
+    → with_task w (Marking i keys) (record s { versions = versions }) ≡ after_mark_estimate w i key keys s
 marked_is w i key keys s versions v = ap (λ x. with_task w (Marking i keys) (record s { versions = x })) v

@@ -16,16 +16,16 @@ use Rattle.rv_step.specs.declared.answer.StorageAnswer.{StorageAnswer}
 use Rattle.stm_state.specs.declared.state.CallState.{CallState}
 use Rattle.stm_state.specs.declared.state.Recorded.{Recorded}
 use Rattle.stm_state.specs.declared.state.Task.{Task}
-use Rattle.stm_state.specs.declared.state.Task.TheVariants.{Idle, Running, Moving, Validating, Marking}
+use Rattle.stm_state.specs.declared.state.Task.TheVariants.{Idle, Running, Moving}
 use Rattle.stm_state.specs.Limits.{record_limit}
 use Rattle.stm_state.specs.State.{State, fresh, call_at, task_at}
-use Rattle.stm_state.specs.Steps.{Block, Step, Ask, Read_key, Park, Record as Hand_in, Move_key, Finish_execution, Check_read, Decide, Mark_estimate, Finish_abort, counted, one_step, one_execution, recorded, recorded_run, moved, has_new_key, keys_of, keys_to_move, left_over, write_of, written_by}
-use Rattle.stm_state.specs.Invariant.{Invariant, owned_by}
+use Rattle.stm_state.specs.Steps.{Block, Step, Read_key, Record as Hand_in, Move_key, counted, one_step, one_execution, after_record, recorded_run, after_move_key, has_new_key, keys_of, keys_to_move, left_over, write_of, written_by}
+use Rattle.stm_state.proofs.Invariant.{Invariant, owned_by}
 use Rattle.stm_state.proofs.Writes.{entries_found}
 use Rattle.stm_core.specs.CoreState.{is_due}
 use Rattle.stm_core.specs.Inner.{AreOpen, IsGrown, IsPromised, KeepsPromises, unpublished, with_write, writes_at}
 use Rattle.stm_core.proofs.Open.{open_grown}
-use Rattle.stm_core.proofs.Turns.{KeepsLasts, Leaves, Turn, has_moved, has_recorded, moved_by}
+use Rattle.stm_core.proofs.Turns.{KeepsLasts, LeavesTask, Turn, has_moved, has_recorded, moved_by}
 
 -- ---- sums
 
@@ -110,54 +110,27 @@ at_same_keys P i j keys ks new b e h =
 
 -- a step that neither hands a run in nor moves a key
 abbrev pub IsQuiet : Step → Type 0
-IsQuiet Ask = Unit {0}
-IsQuiet (Read_key key) = Unit {0}
-IsQuiet Park = Unit {0}
 IsQuiet Hand_in = ⊥
 IsQuiet Move_key = ⊥
-IsQuiet Finish_execution = Unit {0}
-IsQuiet Check_read = Unit {0}
-IsQuiet Decide = Unit {0}
-IsQuiet Mark_estimate = Unit {0}
-IsQuiet Finish_abort = Unit {0}
+IsQuiet step = Unit {0}
 
 -- it leaves no keys to move
-leaves_none : (step : Step) (task : Task) → IsQuiet step → Leaves step task → moved_by task ≡ None
-leaves_none Ask task q h = h.1
+leaves_none : (step : Step) (task : Task) → IsQuiet step → LeavesTask step task → moved_by task ≡ None
 leaves_none (Read_key key) task q h = h
-leaves_none Park task q h = h.1
 leaves_none Hand_in task q h = absurd q
 leaves_none Move_key task q h = absurd q
-leaves_none Finish_execution task q h = h.1
-leaves_none Check_read task q h = h.1
-leaves_none Decide task q h = h.1
-leaves_none Mark_estimate task q h = h.1
-leaves_none Finish_abort task q h = h.1
+leaves_none step task q h = h.1
 
 none_unpublished : (calls : List CallState) (task : Task) → moved_by task ≡ None → unpublished calls task ≡ []
-none_unpublished calls Idle h = refl
-none_unpublished calls (Running i answers blocked) h = refl
 none_unpublished calls (Moving i keys new) h = cc
-none_unpublished calls (Validating i n left failed) h = refl
-none_unpublished calls (Marking i keys) h = refl
+none_unpublished calls task h = refl
 
 -- nor is there a write to publish before it
 none_before : (calls : List CallState) (step : Step) (task : Task) → IsQuiet step → is_due step task ≡ true → unpublished calls task ≡ []
-none_before calls step Idle q due = refl
-none_before calls step (Running i answers blocked) q due = refl
-none_before calls step (Moving i [] new) q due = refl
-none_before calls Ask (Moving i (key ∷ keys) new) q due = cc
-none_before calls (Read_key k) (Moving i (key ∷ keys) new) q due = cc
-none_before calls Park (Moving i (key ∷ keys) new) q due = cc
 none_before calls Hand_in (Moving i (key ∷ keys) new) q due = absurd q
 none_before calls Move_key (Moving i (key ∷ keys) new) q due = absurd q
-none_before calls Finish_execution (Moving i (key ∷ keys) new) q due = cc
-none_before calls Check_read (Moving i (key ∷ keys) new) q due = cc
-none_before calls Decide (Moving i (key ∷ keys) new) q due = cc
-none_before calls Mark_estimate (Moving i (key ∷ keys) new) q due = cc
-none_before calls Finish_abort (Moving i (key ∷ keys) new) q due = cc
-none_before calls step (Validating i n left failed) q due = refl
-none_before calls step (Marking i keys) q due = refl
+none_before calls step (Moving i (key ∷ keys) new) q due = cc
+none_before calls step task q due = refl
 
 module _ (block : Block) (n w : ℕ) (s : State) (h : Invariant block n s) (within : w < length s.tasks) where
   -- a step that changes the worker's own task, and no last recorded run but that of the worker's own call
@@ -170,11 +143,8 @@ module _ (block : Block) (n w : ℕ) (s : State) (h : Invariant block n s) (with
     same_writes u ne = go (task_at s u) refl
       where
         go : (x : Task) → task_at s u ≡ x → unpublished s.calls x ≡ unpublished t.calls x
-        go Idle at = refl
-        go (Running i answers blocked) at = refl
         go (Moving i keys new) at = ap (λ last. writes_at last keys) (sym (last_same u i keys new ne at))
-        go (Validating i m left failed) at = refl
-        go (Marking i keys) at = refl
+        go x at = refl
 
     count_changed : sum_by (λ x. length (unpublished t.calls x)) t.tasks + length (unpublished s.calls (task_at s w)) ≡ sum_by (λ x. length (unpublished s.calls x)) s.tasks + length (unpublished t.calls task)
     count_changed =
@@ -195,7 +165,7 @@ module _ (block : Block) (n w : ℕ) (s : State) (h : Invariant block n s) (with
 
   module _ (table : Table) (promised : ℕ) (kept : KeepsPromises table promised s) where
     -- a quiet step keeps all
-    pub quiet_kept : (t : State) (step : Step) (after : Table) → IsQuiet step → is_due step (task_at s w) ≡ true → Turn w (Leaves step) s t → after.places ≡ table.places → after.arena ≡ table.arena → KeepsPromises after promised t
+    pub quiet_kept : (t : State) (step : Step) (after : Table) → IsQuiet step → is_due step (task_at s w) ≡ true → Turn w (LeavesTask step) s t → after.places ≡ table.places → after.arena ≡ table.arena → KeepsPromises after promised t
     quiet_kept t step after q due turned places arena =
         let rests : moved_by turned.task ≡ None = leaves_none step turned.task q turned.fits in
         let before = ap length (none_before s.calls step (task_at s w) q due) in
@@ -210,9 +180,9 @@ module _ (block : Block) (n w : ℕ) (s : State) (h : Invariant block n s) (with
 
     -- a run that is handed in is promised room for its writes
     pub recorded_kept : (i more : ℕ) (answers : List StorageAnswer) (receipt : Receipt) (after : Table) → i < length s.calls → task_at s w ≡ Running i answers None → IsGrown table after → IsPromised i receipt.writes after promised more
-        → length table.arena.records + promised + len receipt.writes ≤ record_limit → KeepsPromises after more (counted one_execution w (recorded w i answers receipt s))
+        → length table.arena.records + promised + len receipt.writes ≤ record_limit → KeepsPromises after more (counted one_execution w (after_record w i answers receipt s))
     recorded_kept i more answers receipt after call_in at grown promises limit =
-        let t = counted one_execution w (recorded w i answers receipt s) in
+        let t = counted one_execution w (after_record w i answers receipt s) in
         let run = recorded_run answers receipt in
         let keys = keys_to_move (call_at s i).last receipt.writes in
         let task = Moving i keys (has_new_key (call_at s i).last receipt.writes) in
@@ -237,9 +207,9 @@ module _ (block : Block) (n w : ℕ) (s : State) (h : Invariant block n s) (with
     -- a key that is moved takes its record of the room that was promised
     pub moved_kept : (i rest : ℕ) (key : List ℕ) (keys : List (List ℕ)) (new : Bool) (after : Table) → task_at s w ≡ Moving i (key ∷ keys) new → after.places ≡ table.places
         → length after.arena.records + rest ≡ length table.arena.records + promised → rest + length (writes_at (call_at s i).last (key ∷ [])) ≡ promised → rest ≤ after.arena.room → rest * 256 ≤ after.arena.bytes
-        → KeepsPromises after rest (counted one_step w (moved w i key keys new s))
+        → KeepsPromises after rest (counted one_step w (after_move_key w i key keys new s))
     moved_kept i rest key keys new after at places placed taken room bytes =
-        let t = counted one_step w (moved w i key keys new s) in
+        let t = counted one_step w (after_move_key w i key keys new s) in
         let task = Moving i keys new in
         let lasts : KeepsLasts w s t = (has_moved w s i key keys new).lasts in
         let last = (call_at s i).last in

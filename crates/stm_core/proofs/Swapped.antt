@@ -3,7 +3,7 @@ use Rattle.std.proofs.Common.{◌≡◌, ◌<◌, ◌≤◌, ◌+◌, ◌-◌, �
 use Rattle.std.proofs.lemmas.List.{get_or-set_same, set-get_or, set-set}
 use Rattle.rv_step.specs.declared.answer.StorageAnswer.{StorageAnswer}
 use Rattle.stm_state.specs.declared.state.Task.{Task}
-use Rattle.stm_state.specs.declared.state.Task.TheVariants.{Idle, Running, Moving, Validating, Marking}
+use Rattle.stm_state.specs.declared.state.Task.TheVariants.{Idle, Running}
 use Rattle.scheduler.specs.Schedule.{Schedule}
 use Rattle.scheduler.specs.Workers.{with_answers}
 
@@ -12,11 +12,8 @@ abbrev pub AreAnswersOf : Task → List StorageAnswer → Type 0
 AreAnswersOf t list = (i : ℕ) (answers : List StorageAnswer) (blocked : Option ℕ) → t ≡ Running i answers blocked → list ≡ answers
 
 task_back : (t : Task) (spare own : List StorageAnswer) → AreAnswersOf t own → with_answers own (with_answers spare t) ≡ t
-task_back Idle spare own h = refl
 task_back (Running i answers blocked) spare own h = ap (λ (list : List StorageAnswer). Running i list blocked) (h i answers blocked refl)
-task_back (Moving i keys new) spare own h = refl
-task_back (Validating i n left failed) spare own h = refl
-task_back (Marking i keys) spare own h = refl
+task_back t spare own h = refl
 
 tasks_back : (tasks : List Task) (w : ℕ) (spare own : List StorageAnswer) → w < length tasks → AreAnswersOf (get_or tasks w Idle) own
     → set (set tasks w (with_answers spare (get_or tasks w Idle))) w (with_answers own (get_or (set tasks w (with_answers spare (get_or tasks w Idle))) w Idle)) ≡ tasks

@@ -12,8 +12,8 @@ use Rattle.stm_state.specs.declared.state.Task.{Task}
 use Rattle.stm_state.specs.declared.state.Task.TheVariants.{Idle, Running, Moving, Validating, Marking}
 use Rattle.stm_state.specs.declared.state.CallState.{CallState}
 use Rattle.stm_state.specs.State.{State, fresh, call_at, task_at, with_task, no_counts, is_ready, is_executed, is_done}
-use Rattle.stm_state.specs.Steps.{Block, Step, Ask, Read_key, Park, Record, Move_key, Finish_execution, Check_read, Decide, Mark_estimate, Finish_abort, ArenaFull, IncarnationLimit, counted, one_step, one_asking, one_execution, one_validation, asked, ask_validation, ask_execution, count_done, answered_by, read_at, parked, recorded, moved, executed, next_incarnation, is_parked_on, resume_if_parked, resume_dependents, to_validate, checked, next_stands, decided, marked, aborted, is_executed_at, record_within, step_with, worker_step}
-use Rattle.stm_state.specs.Invariant.{owned_by}
+use Rattle.stm_state.specs.Steps.{Block, Step, Ask, Read_key, Park, Record, Move_key, Finish_execution, Check_read, Decide, Mark_estimate, Finish_abort, ArenaFull, IncarnationLimit, counted, one_step, one_asking, one_execution, one_validation, after_ask, ask_validation, ask_execution, count_done, answered_by, after_read_key, after_park, after_record, after_move_key, after_finish_execution, next_incarnation, is_parked_on, resume_if_parked, resume_dependents, to_validate, after_check_read, next_stands, after_decide, after_mark_estimate, after_finish_abort, is_executed_at, record_within, step_with, worker_step}
+use Rattle.stm_state.proofs.Invariant.{owned_by}
 use Rattle.stm_state.proofs.Whole.{same_state, none_ok, err_ok}
 use Rattle.stm_core.specs.Driving.{HasNoAnswers}
 
@@ -41,28 +41,19 @@ pub record Turn (w : ℕ) (P : Task → Type 0) (s t : State) : Type 0 where
 
 -- the call whose run a task moves
 abbrev pub moved_by : Task → Option ℕ
-moved_by Idle = None
-moved_by (Running i answers blocked) = None
 moved_by (Moving i keys new) = Some i
-moved_by (Validating i n left failed) = None
-moved_by (Marking i keys) = None
+moved_by task = None
 
 -- a task moves no keys, and its run, where it is not blocked, has no answers
 abbrev pub Rests : Task → Type 0
 Rests task = HasNoAnswers task × (moved_by task ≡ None)
 
 -- what a step leaves of a task: keys to move where it is a record or a move, answers where it is a read, and else neither
-abbrev pub Leaves : Step → Task → Type 0
-Leaves Ask task = Rests task
-Leaves (Read_key key) task = moved_by task ≡ None
-Leaves Park task = Rests task
-Leaves Record task = HasNoAnswers task
-Leaves Move_key task = HasNoAnswers task
-Leaves Finish_execution task = Rests task
-Leaves Check_read task = Rests task
-Leaves Decide task = Rests task
-Leaves Mark_estimate task = Rests task
-Leaves Finish_abort task = Rests task
+abbrev pub LeavesTask : Step → Task → Type 0
+LeavesTask (Read_key key) task = moved_by task ≡ None
+LeavesTask Record task = HasNoAnswers task
+LeavesTask Move_key task = HasNoAnswers task
+LeavesTask step task = Rests task
 
 -- ---- last recorded runs
 
@@ -131,12 +122,12 @@ module _ (w : ℕ) (s : State) where
   asked_by_tests false false true at = execution_asked at
   asked_by_tests false false false at = same _ at refl refl (λ i _. refl)
 
-  has_asked : task_at s w ≡ Idle → TaskTurn w Rests s (asked w s)
+  has_asked : task_at s w ≡ Idle → TaskTurn w Rests s (after_ask w s)
   has_asked at = asked_by_tests (is_done s) (nat_lt s.validation s.execution) (nat_lt s.execution (length s.calls)) at
 
   -- ---- read
 
-  has_read : (base : Storage) (key : List ℕ) (i : ℕ) (answers : List StorageAnswer) → TaskTurn w (λ task. moved_by task ≡ None) s (read_at base key w i answers s)
+  has_read : (base : Storage) (key : List ℕ) (i : ℕ) (answers : List StorageAnswer) → TaskTurn w (λ task. moved_by task ≡ None) s (after_read_key base key w i answers s)
   has_read base key i answers = given (λ task. moved_by task ≡ None) _ _ (go (blocker (reading s.versions key i))) refl refl (λ j _. refl)
     where
       go : (o : Option ℕ) → moved_by (answered_by base key i answers (reading s.versions key i) o) ≡ None
@@ -145,23 +136,23 @@ module _ (w : ℕ) (s : State) where
 
   -- ---- park
 
-  has_parked : (i b : ℕ) → TaskTurn w Rests s (parked w i b s)
-  unfolding parked
+  has_parked : (i b : ℕ) → TaskTurn w Rests s (after_park w i b s)
+  unfolding after_park
   has_parked i b = go (is_executed (call_at s b).status) refl
     where
-      go : (d : Bool) → is_executed (call_at s b).status ≡ d → TaskTurn w Rests s (parked w i b s)
+      go : (d : Bool) → is_executed (call_at s b).status ≡ d → TaskTurn w Rests s (after_park w i b s)
       go true e = rw e (given Rests _ _ (refl, refl) refl refl (λ j _. refl))
       go false e = rw e (given Rests _ _ (tt, refl) refl refl (λ j _. set_last s.calls i j _ refl))
 
   -- ---- record
 
-  pub has_recorded : (i : ℕ) (answers : List StorageAnswer) (receipt : Receipt) → task_at s w ≡ Running i answers None → TaskTurn w HasNoAnswers s (recorded w i answers receipt s)
+  pub has_recorded : (i : ℕ) (answers : List StorageAnswer) (receipt : Receipt) → task_at s w ≡ Running i answers None → TaskTurn w HasNoAnswers s (after_record w i answers receipt s)
   has_recorded i answers receipt at = given HasNoAnswers _ _ tt refl refl
       (λ j ne. ap (λ (call : CallState). call.last) (get_or-set_other s.calls i j _ fresh (λ e. ne (ap owned_by at ∙ ap Some (sym e)))))
 
   -- ---- move key
 
-  pub has_moved : (i : ℕ) (key : List ℕ) (keys : List (List ℕ)) (new : Bool) → TaskTurn w HasNoAnswers s (moved w i key keys new s)
+  pub has_moved : (i : ℕ) (key : List ℕ) (keys : List (List ℕ)) (new : Bool) → TaskTurn w HasNoAnswers s (after_move_key w i key keys new s)
   has_moved i key keys new = given HasNoAnswers _ _ tt refl refl (λ j _. refl)
 
   -- ---- finish execution
@@ -189,13 +180,13 @@ module _ (w : ℕ) (s : State) where
       go true false = given Rests (Validating i n left false) _ (tt, refl) (ap (λ l. set l w (Validating i n left false)) e) c l
       go false anew = given Rests Idle _ (tt, refl) (ap (λ l. set l w Idle) e) c l
 
-  has_executed : (i : ℕ) (new : Bool) → TaskTurn w Rests s (executed w i new s)
+  has_executed : (i : ℕ) (new : Bool) → TaskTurn w Rests s (after_finish_execution w i new s)
   has_executed i new = left_to_validate i _ _ new _ (resumed_tasks i _) (resumed_counts i _) (λ j _. resumed_lasts i _ j ∙ set_last s.calls i j _ refl)
 
   -- ---- check read
 
-  has_checked : (i n left : ℕ) → TaskTurn w Rests s (checked w i n left s)
-  unfolding checked
+  has_checked : (i n left : ℕ) → TaskTurn w Rests s (after_check_read w i n left s)
+  unfolding after_check_read
   has_checked i n left = go (is_executed_at n (call_at s i)) (next_stands i (suc left) s)
     where
       go : (at stands : Bool) → TaskTurn w Rests s (cond at (cond stands (with_task w (Validating i n left false) s) (with_task w (Validating i n (suc left) true) s)) (with_task w Idle s))
@@ -205,26 +196,26 @@ module _ (w : ℕ) (s : State) where
 
   -- ---- decide
 
-  has_decided : (i n : ℕ) (failed : Bool) → TaskTurn w Rests s (decided w i n failed s)
-  unfolding decided
+  has_decided : (i n : ℕ) (failed : Bool) → TaskTurn w Rests s (after_decide w i n failed s)
+  unfolding after_decide
   has_decided i n failed = go (failed && is_executed_at n (call_at s i)) refl
     where
-      go : (d : Bool) → (failed && is_executed_at n (call_at s i)) ≡ d → TaskTurn w Rests s (decided w i n failed s)
+      go : (d : Bool) → (failed && is_executed_at n (call_at s i)) ≡ d → TaskTurn w Rests s (after_decide w i n failed s)
       go true e = rw e (given Rests _ _ (tt, refl) refl refl (λ j _. set_last s.calls i j _ refl))
       go false e = rw e (given Rests _ _ (tt, refl) refl refl (λ j _. refl))
 
   -- ---- mark estimate
 
-  has_marked : (i : ℕ) (key : List ℕ) (keys : List (List ℕ)) → TaskTurn w Rests s (marked w i key keys s)
+  has_marked : (i : ℕ) (key : List ℕ) (keys : List (List ℕ)) → TaskTurn w Rests s (after_mark_estimate w i key keys s)
   has_marked i key keys = given Rests _ _ (tt, refl) refl refl (λ j _. refl)
 
   -- ---- finish abort
 
-  has_aborted : (i : ℕ) → TaskTurn w Rests s (aborted w i s)
-  unfolding aborted
+  has_aborted : (i : ℕ) → TaskTurn w Rests s (after_finish_abort w i s)
+  unfolding after_finish_abort
   has_aborted i = go (nat_lt i s.execution) refl
     where
-      go : (d : Bool) → nat_lt i s.execution ≡ d → TaskTurn w Rests s (aborted w i s)
+      go : (d : Bool) → nat_lt i s.execution ≡ d → TaskTurn w Rests s (after_finish_abort w i s)
       go true e = rw e (given Rests _ _ (refl, refl) refl refl (λ j _. set_last s.calls i j _ refl))
       go false e = rw e (given Rests _ _ (tt, refl) refl refl (λ j _. set_last s.calls i j _ refl))
 
@@ -234,23 +225,23 @@ module _ (block : Block) (w : ℕ) (s t : State) where
   -- a record within the limits
   recorded_within : (i : ℕ) (answers : List StorageAnswer) (o : Option Receipt) → task_at s w ≡ Running i answers None → record_within i answers w o s ≡ Some (Ok t) → Turn w HasNoAnswers s t
   recorded_within i answers None at k = absurd (none_ok t k)
-  recorded_within i answers (Some receipt) at k = go (nat_lt 1048576 (s.placed + len receipt.writes)) (nat_le 65535 (call_at s i).incarnation) k
+  recorded_within i answers (Some receipt) at k = go (nat_lt 1048576 (s.record_count + len receipt.writes)) (nat_le 65535 (call_at s i).incarnation) k
     where
-      go : (full spent : Bool) → cond full (Some (Err ArenaFull)) (cond spent (Some (Err IncarnationLimit)) (Some (Ok (counted one_execution w (recorded w i answers receipt s))))) ≡ Some (Ok t) → Turn w HasNoAnswers s t
+      go : (full spent : Bool) → cond full (Some (Err ArenaFull)) (cond spent (Some (Err IncarnationLimit)) (Some (Ok (counted one_execution w (after_record w i answers receipt s))))) ≡ Some (Ok t) → Turn w HasNoAnswers s t
       go true spent k = absurd (err_ok ArenaFull t k)
       go false true k = absurd (err_ok IncarnationLimit t k)
       go false false k = subst (λ x. Turn w HasNoAnswers s x) (same_state _ t k) (counts_one w s HasNoAnswers one_execution _ (λ c. refl) (has_recorded w s i answers receipt at))
 
   -- parking within the limit
-  parked_within : (i b : ℕ) (spent : Bool) → cond spent (Some (Err IncarnationLimit)) (Some (Ok (counted one_step w (parked w i b s)))) ≡ Some (Ok t) → Turn w Rests s t
+  parked_within : (i b : ℕ) (spent : Bool) → cond spent (Some (Err IncarnationLimit)) (Some (Ok (counted one_step w (after_park w i b s)))) ≡ Some (Ok t) → Turn w Rests s t
   parked_within i b true k = absurd (err_ok IncarnationLimit t k)
   parked_within i b false k = subst (λ x. Turn w Rests s x) (same_state _ t k) (counts_one w s Rests one_step _ (λ c. refl) (has_parked w s i b))
 
   -- each step, by the task
-  step_turn : (task : Task) → task_at s w ≡ task → (step : Step) → step_with block w task step s ≡ Some (Ok t) → Turn w (Leaves step) s t
+  step_turn : (task : Task) → task_at s w ≡ task → (step : Step) → step_with block w task step s ≡ Some (Ok t) → Turn w (LeavesTask step) s t
   step_turn Idle at Ask k = subst (λ x. Turn w Rests s x) (same_state _ t k) (counts_one w s Rests one_asking _ (λ c. refl) (has_asked w s at))
   step_turn (Running i answers None) at (Read_key key) k =
-      subst (λ x. Turn w (Leaves (Read_key key)) s x) (same_state _ t k) (counts_one w s (Leaves (Read_key key)) one_step _ (λ c. refl) (has_read w s block.base key i answers))
+      subst (λ x. Turn w (LeavesTask (Read_key key)) s x) (same_state _ t k) (counts_one w s (LeavesTask (Read_key key)) one_step _ (λ c. refl) (has_read w s block.base key i answers))
   step_turn (Running i answers (Some b)) at Park k = parked_within i b (nat_le 65535 (call_at s i).incarnation) k
   step_turn (Running i answers None) at Record k = recorded_within i answers (block.borne_out i (replies_of answers)) at k
   step_turn (Moving i (key ∷ keys) new) at Move_key k = subst (λ x. Turn w HasNoAnswers s x) (same_state _ t k) (counts_one w s HasNoAnswers one_step _ (λ c. refl) (has_moved w s i key keys new))
@@ -263,7 +254,7 @@ module _ (block : Block) (w : ℕ) (s t : State) where
   step_turn task at step k = absurd (none_ok t k)
 
   -- each step
-  pub turn : (step : Step) → worker_step block w step s ≡ Some (Ok t) → Turn w (Leaves step) s t
+  pub turn : (step : Step) → worker_step block w step s ≡ Some (Ok t) → Turn w (LeavesTask step) s t
   turn step k = step_turn (task_at s w) refl step k
 
 -- ---- what a turn says
@@ -286,8 +277,8 @@ module _ (block : Block) (w : ℕ) (step : Step) (s t : State) (k : worker_step 
   turn_others u ne = let h = turn block w s t step k in ap (λ l. get_or l u Idle) h.tasks ∙ get_or-set_other s.tasks w u h.task Idle ne
 
   -- the worker's task is as the step leaves it
-  pub turn_own : w < length s.tasks → Leaves step (task_at t w)
-  turn_own lt = let h = turn block w s t step k in subst (Leaves step) (sym (ap (λ l. get_or l w Idle) h.tasks ∙ get_or-set_same s.tasks w h.task Idle lt)) h.fits
+  pub turn_own : w < length s.tasks → LeavesTask step (task_at t w)
+  turn_own lt = let h = turn block w s t step k in subst (LeavesTask step) (sym (ap (λ l. get_or l w Idle) h.tasks ∙ get_or-set_same s.tasks w h.task Idle lt)) h.fits
 
   -- each worker has made at most one step more
   pub turn_steps : (u : ℕ) → (get_or t.counts u no_counts).steps ≤ (get_or s.counts u no_counts).steps + 1

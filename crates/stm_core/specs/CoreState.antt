@@ -106,10 +106,7 @@ IsWithin count (next_step.FinishAbort i n) = i < count
 abbrev pub ask_result_of : Bool → Task → AskResult
 ask_result_of true task = ask_result.Done
 ask_result_of false Idle = ask_result.Nothing
-ask_result_of false (Running i answers blocked) = ask_result.Task
-ask_result_of false (Moving i keys new) = ask_result.Task
-ask_result_of false (Validating i n left failed) = ask_result.Task
-ask_result_of false (Marking i keys) = ask_result.Task
+ask_result_of false task = ask_result.Task
 
 -- the answer to a read of a key, by what is seen of it: the value and its origin, where no estimate is met
 abbrev pub read_result_by : Storage → List ℕ → Visible → Option ℕ → ReadResult
@@ -121,27 +118,18 @@ read_result_of base key seen = read_result_by base key seen (blocker seen)
 
 -- the answers that a task's run was given; none where the task runs no call
 abbrev pub answers_of : Task → List StorageAnswer
-answers_of Idle = []
 answers_of (Running i answers blocked) = answers
-answers_of (Moving i keys new) = []
-answers_of (Validating i n left failed) = []
-answers_of (Marking i keys) = []
+answers_of task = []
 
 -- whether a task runs the call at an index
 abbrev pub runs : Task → ℕ → Bool
-runs Idle i = false
 runs (Running j answers blocked) i = j == i
-runs (Moving j keys new) i = false
-runs (Validating j n left failed) i = false
-runs (Marking j keys) i = false
+runs task i = false
 
 -- the index of the call that a task runs; 0 where it runs none
 abbrev pub index_run : Task → ℕ
-index_run Idle = 0
 index_run (Running i answers blocked) = i
-index_run (Moving i keys new) = 0
-index_run (Validating i n left failed) = 0
-index_run (Marking i keys) = 0
+index_run task = 0
 
 -- a read of the call that a task runs may pass all calls below it
 pub record IsRoomFor (task : Task) (room : PassedRoom) : Type 0 where

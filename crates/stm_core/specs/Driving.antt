@@ -3,7 +3,7 @@ use Rattle.std.specs.Prelude.{◌≡◌, List, [], Option, None, Some, Result, E
 use Rattle.rv_ledger.specs.Call.{Invocation}
 use Rattle.rv_step.specs.Run.{RunView}
 use Rattle.stm_state.specs.declared.state.Task.{Task}
-use Rattle.stm_state.specs.declared.state.Task.TheVariants.{Idle, Running, Moving, Validating, Marking}
+use Rattle.stm_state.specs.declared.state.Task.TheVariants.{Running}
 use Rattle.stm_state.specs.State.{State}
 use Rattle.stm_state.specs.Steps.{Limit, ArenaFull, IncarnationLimit}
 use Rattle.stm_state.specs.Drive.{Refusal, NotDone, BadWorker, Limited}
@@ -28,21 +28,13 @@ IsStepRefusal fault.Memory r = Unit {0}
 
 -- a task's run has no answers yet, unless it is blocked
 abbrev pub HasNoAnswers : Task → Type 0
-HasNoAnswers Idle = Unit {0}
 HasNoAnswers (Running i answers None) = answers ≡ []
-HasNoAnswers (Running i answers (Some b)) = Unit {0}
-HasNoAnswers (Moving i keys new) = Unit {0}
-HasNoAnswers (Validating i n left failed) = Unit {0}
-HasNoAnswers (Marking i keys) = Unit {0}
+HasNoAnswers task = Unit {0}
 
 -- a run under way is a run of the call that a task runs, and was given exactly that task's answers
 abbrev pub IsRunOf : List Invocation → RunView → Task → Type 0
-IsRunOf calls run Idle = ⊥
 IsRunOf calls run (Running i answers None) = (slice_get calls i ≡ Some run.call) × (run.answers ≡ answers)
-IsRunOf calls run (Running i answers (Some b)) = ⊥
-IsRunOf calls run (Moving i keys new) = ⊥
-IsRunOf calls run (Validating i n left failed) = ⊥
-IsRunOf calls run (Marking i keys) = ⊥
+IsRunOf calls run task = ⊥
 
 -- a worker's run under way is the run of its task; where there is none, the task's run has no answers yet or is blocked
 abbrev pub FitsTask : List Invocation → Option RunView → Task → Type 0

@@ -16,7 +16,7 @@ use Rattle.read_set.specs.declared.Read.{Read}
 use Rattle.stm_state.specs.declared.state.CallState.{CallState}
 use Rattle.stm_state.specs.declared.state.Recorded.{Recorded}
 use Rattle.stm_state.specs.declared.state.Task.{Task}
-use Rattle.stm_state.specs.declared.state.Task.TheVariants.{Idle, Running, Moving, Validating, Marking}
+use Rattle.stm_state.specs.declared.state.Task.TheVariants.{Moving}
 use Rattle.stm_state.specs.Limits.{record_limit}
 use Rattle.stm_state.specs.State.{State, fresh, call_at, task_at}
 use Rattle.stm_state.specs.Steps.{read_of, write_of}
@@ -56,11 +56,8 @@ writes_at last (key ∷ keys) = with_write key (write_of last key) (writes_at la
 
 -- the writes that a task is yet to publish
 abbrev pub unpublished : List CallState → Task → List (List ℕ × ContentChange)
-unpublished calls Idle = []
-unpublished calls (Running i answers blocked) = []
 unpublished calls (Moving i keys new) = writes_at (get_or calls i fresh).last keys
-unpublished calls (Validating i n left failed) = []
-unpublished calls (Marking i keys) = []
+unpublished calls task = []
 
 -- the promises to the tasks are kept: each write that is yet to be published has a place, `promised` is the number of
 -- these writes, and there is room for that number of records, however long their values are

@@ -2,16 +2,16 @@
 //! that makes them along a list of worker numbers.
 #![tactic(auto)]
 
-pub mod engine;
-pub mod fault;
-pub mod next_step;
+mod engine;
+mod fault;
+mod next_step;
 mod outcome;
 mod passed_lists;
 mod reading;
 mod reads;
 mod recording;
 mod same;
-pub mod state;
+mod state;
 mod versions;
 
 pub use engine::{DriveFault, WORKER_LIMIT, drive};

@@ -1,13 +1,12 @@
 //! The step that a worker owes, and a read of its run.
 
-ghost use Rattle.std.specs.Prelude.{◌≡◌, ◌<◌, ◌≤◌, ℕ, [], Bool, List, length, get_or, vec_capacity, None, Ok, OnErr, OnOk};
+ghost use Rattle.std.specs.Prelude.{◌≡◌, ◌<◌, ◌≤◌, ℕ, [], Bool, List, length, get_or, vec_capacity, Option, None, Ok, OnErr, OnOk};
 ghost use Rattle.rv_step.specs.declared.answer.StorageAnswer.{StorageAnswer};
 ghost use Rattle.mvmap.specs.Versions.{Versions};
 ghost use Rattle.mvmap.specs.Reading.{passed_in, reading};
 ghost use Rattle.stm_state.specs.declared.state.Task.TheVariants as task;
 ghost use Rattle.stm_state.specs.State.{State, with_task};
 ghost use Rattle.stm_state.specs.Steps.{answered_with, counted, one_step};
-ghost use Rattle.stm_state.specs.Invariant.{named_by};
 ghost use Rattle.scheduler.specs.Schedule.{KeepsRooms, MayCount, state_of};
 ghost use Rattle.stm_state.specs.declared.state.Task.{Task};
 ghost use Rattle.scheduler.specs.Workers.{HasKeys, IsTaskKindOf, with_answer};
@@ -27,7 +26,9 @@ use std::alloc::AllocError;
 /// The step that a worker owes.
 pub(crate) fn next_step_of(scheduler: &Scheduler, worker: usize) -> NextStep
     requires worker { worker < length scheduler.now.tasks }
-    requires named { (i : ℕ) → named_by (get_or scheduler.now.tasks worker task.Idle) ≡ Some i → i < length scheduler.now.calls }
+    requires running { (i : ℕ) (answers : List StorageAnswer) (blocked : Option ℕ) → get_or scheduler.now.tasks worker task.Idle ≡ task.Running i answers blocked → i < length scheduler.now.calls }
+    requires moving { (i : ℕ) (keys : List (List ℕ)) (new : Bool) → get_or scheduler.now.tasks worker task.Idle ≡ task.Moving i keys new → i < length scheduler.now.calls }
+    requires marking { (i : ℕ) (keys : List (List ℕ)) → get_or scheduler.now.tasks worker task.Idle ≡ task.Marking i keys → i < length scheduler.now.calls }
     ensures { (v : Versions) (p : ℕ) → result ≡ next_step_of (state_of v p scheduler.now) (get_or scheduler.now.tasks worker task.Idle) }
 {
     match scheduler.task_kind(worker) {

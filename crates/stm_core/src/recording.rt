@@ -6,7 +6,7 @@ ghost use Rattle.rv_step.specs.declared.answer.StorageAnswer.{StorageAnswer};
 ghost use Rattle.stm_state.specs.declared.state.Status.TheVariants.{Executing};
 ghost use Rattle.stm_state.specs.declared.state.Task.TheVariants as task;
 ghost use Rattle.stm_state.specs.State.{fresh};
-ghost use Rattle.stm_state.specs.Steps.{counted, keys_to_move, one_execution, recorded};
+ghost use Rattle.stm_state.specs.Steps.{counted, keys_to_move, one_execution, after_record};
 ghost use Rattle.scheduler.specs.Schedule.{KeepsRooms, MayCount};
 ghost use Rattle.scheduler.specs.Workers.{IsRunning, NobodyMoves};
 ghost use Rattle.stm_core.specs.declared.fault.RecordFault.TheVariants as fault;
@@ -18,8 +18,7 @@ use crate::same::same_answers;
 use crate::versions::{keys_to_move, written_count};
 use mvmap::MvMap;
 use read_set::ReadSet;
-use rv_ledger::inline_bytes::VALUE_LIMIT;
-use rv_ledger::{Job, Key, same_call};
+use rv_ledger::{Job, Key, VALUE_LIMIT, same_call};
 use rv_step::EndedRun;
 use scheduler::{INCARNATION_LIMIT, Scheduler};
 use std::alloc::Global;
@@ -63,7 +62,7 @@ pub(crate) fn record_run(
     requires executing { (get_or scheduler.old.calls call fresh).status ≡ Executing }
     requires nobody { NobodyMoves call scheduler.old.tasks }
     requires placed { length map.old.arena.records + promised.old ≤ RECORD_LIMIT }
-    ensures state { OnOk result (state_in map.new promised.new scheduler.new ≡ counted one_execution worker (recorded worker call run.answers.items run.receipt (state_in map.old promised.old scheduler.old))) }
+    ensures state { OnOk result (state_in map.new promised.new scheduler.new ≡ counted one_execution worker (after_record worker call run.answers.items run.receipt (state_in map.old promised.old scheduler.old))) }
     ensures within { OnOk result ((length map.old.arena.records + promised.old + len run.receipt.writes ≤ RECORD_LIMIT) × ((get_or scheduler.old.calls call fresh).incarnation < INCARNATION_LIMIT)) }
     ensures full { IfErr result (λ e. e.fault ≡ fault.ArenaFull → RECORD_LIMIT < length map.old.arena.records + promised.old + len run.receipt.writes) }
     ensures limit { IfErr result (λ e. e.fault ≡ fault.IncarnationLimit → (length map.old.arena.records + promised.old + len run.receipt.writes ≤ RECORD_LIMIT) × (INCARNATION_LIMIT ≤ (get_or scheduler.old.calls call fresh).incarnation)) }
@@ -75,7 +74,7 @@ pub(crate) fn record_run(
     ensures rooms { KeepsRooms worker scheduler.old.rooms scheduler.new.rooms }
 {
     let count = written_count(&run.receipt.writes);
-    if count > RECORD_LIMIT - map.placed() - *promised {
+    if count > RECORD_LIMIT - map.record_count() - *promised {
         return Err(Refused {
             fault: RecordFault::ArenaFull,
             run,

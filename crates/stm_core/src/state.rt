@@ -64,7 +64,7 @@ impl Core {
     ghost use Rattle.stm_state.specs.State.{is_done, no_counts, start, task_at};
     ghost use Rattle.stm_state.specs.Steps as steps;
     ghost use Rattle.stm_state.specs.Done.{Reached};
-    ghost use Rattle.stm_state.specs.Invariant.{Invariant};
+    ghost use Rattle.stm_state.specs.Parts.{CallsAreAttended, IsSized, OthersHaveEstimates, ReadsAreWatched, RunsAreBorneOut};
     ghost use Rattle.scheduler.specs.Schedule.{KeepsRooms};
     ghost use Rattle.stm_core.specs.declared.fault.RecordFault.TheVariants as fault;
     ghost use Rattle.stm_core.specs.CoreState.{ask_result_of, HasReadRoom, IsDue, IsNoLess, IsOwn, IsRefused, IsTaken, IsWithin, Makes, block_in, next_step_of, runs, read_result_of};
@@ -110,11 +110,16 @@ impl Core {
         self.scheduler.done()
     }
 
-    /// For a caller's proof: some list of worker steps leads to the state, and the scheduler's invariant
-    /// holds. Does nothing when it runs.
+    /// For a caller's proof: some list of worker steps leads to the state, its numbers of calls and workers
+    /// are those of the start, and the four parts of the scheduler's invariant hold. Does nothing when it
+    /// runs.
     pub fn holds(&self)
         ensures reached { Reached (block_in self.now) (length self.now.state.tasks) self.now.state }
-        ensures invariant { Invariant (block_in self.now) (length self.now.state.tasks) self.now.state }
+        ensures sized { IsSized (length self.now.job.block) (length self.now.state.tasks) self.now.state }
+        ensures attended { CallsAreAttended (block_in self.now) self.now.state }
+        ensures estimates { OthersHaveEstimates (block_in self.now) self.now.state }
+        ensures watched { ReadsAreWatched (block_in self.now) self.now.state }
+        ensures borne_out { RunsAreBorneOut (block_in self.now) self.now.state }
     {
         let _ = &self.scheduler;
     }

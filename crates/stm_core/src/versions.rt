@@ -12,8 +12,7 @@ ghost use Rattle.stm_state.specs.Steps.{keys_of, keys_to_move, version_of, write
 ghost use Rattle.stm_core.specs.Inner.{AreOpen, writes_at};
 
 use mvmap::MvMap;
-use rv_ledger::inline_bytes::VALUE_LIMIT;
-use rv_ledger::{Change, Key, StoredValue, Value, Writes};
+use rv_ledger::{Change, Key, StoredValue, VALUE_LIMIT, Value, Writes};
 use std::alloc::{AllocError, Global};
 use stm_state::{CallState, Recorded};
 

@@ -10,11 +10,12 @@ use Rattle.stm_state.specs.declared.state.Task.{Task}
 use Rattle.stm_state.specs.declared.state.Task.TheVariants.{Idle, Running, Validating, Marking}
 use Rattle.stm_state.specs.Limits.{incarnation_limit}
 use Rattle.stm_state.specs.State.{State, fresh, call_at, task_at, with_call, with_task, is_executed}
-use Rattle.stm_state.specs.Steps.{Block, written_by, keys_of, next_incarnation, is_executed_at, decided, aborted, write_of}
-use Rattle.stm_state.specs.Invariant.{view_of, ViewInvariant, Invariant, IsMarked, IsSized, IsUnmarkedEntry, entry_by, estimate_of, has_key, lowered_by, named_by, owned_by}
+use Rattle.stm_state.specs.Steps.{Block, written_by, keys_of, next_incarnation, is_executed_at, after_decide, after_finish_abort, write_of}
+use Rattle.stm_state.specs.Parts.{IsSized, has_key}
+use Rattle.stm_state.proofs.Invariant.{view_of, ViewInvariant, Invariant, IsMarked, IsUnmarkedEntry, entry_by, estimate_of, lowered_by, named_by, owned_by}
 use Rattle.stm_state.proofs.Lists.{set_at}
-use Rattle.stm_state.proofs.Frames.{StatusOwes, TaskOwes, entries_stay}
-use Rattle.stm_state.proofs.Safes.{others_kept}
+use Rattle.stm_state.proofs.OneCallChanges.{StatusOwes, TaskOwes, entries_stay}
+use Rattle.stm_state.proofs.SafeReads.{others_kept}
 use Rattle.stm_state.proofs.Asks.{executed_entries}
 use Rattle.stm_state.proofs.Checks.{executed_at_says, ends}
 use Rattle.stm_state.proofs.Targets.{amid_end}
@@ -76,8 +77,8 @@ module _ (block : Block) (s : State) (w i n left : ℕ) (failed : Bool) (f : Vie
   }) f (λ h. cc) (λ j k b ne h. let same : i ≡ j = cc in ne (sym same)) (inl (ap lowered_by checks)) (λ j read k. k)
 
 -- a decision keeps the invariant
-pub decide_kept : (block : Block) (workers w i n left : ℕ) (failed : Bool) (s : State) → Invariant block workers s → w < workers → task_at s w ≡ Validating i n left failed → (failed ≡ false → left ≡ 0) → Invariant block workers (decided w i n failed s)
-unfolding decided
+pub decide_kept : (block : Block) (workers w i n left : ℕ) (failed : Bool) (s : State) → Invariant block workers s → w < workers → task_at s w ≡ Validating i n left failed → (failed ≡ false → left ≡ 0) → Invariant block workers (after_decide w i n failed s)
+unfolding after_decide
 decide_kept block workers w i n left failed s h w_in checks last =
     let w_there : w < length s.tasks = let e = h.sized.tasks in omega (arith, e) in
     let i_there : i < length s.calls = let within = h.facts.named w i (ap named_by checks) in let e = h.sized.calls in omega (arith, within, e) in
@@ -132,21 +133,21 @@ module _ (block : Block) (s : State) (w i : ℕ) (f : ViewInvariant block (view_
   }) f (λ h. let r : is_executed status ≡ true = ap is_executed h in cc) (λ j k b ne h. cc) (inr (omega arith)) (λ j read k. k)
 
   -- finishing an abort keeps the invariant, whether the call is run again at once or readied
-  aborted_facts : ViewInvariant block (view_of (aborted w i s))
-  unfolding aborted
+  aborted_facts : ViewInvariant block (view_of (after_finish_abort w i s))
+  unfolding after_finish_abort
   aborted_facts = cond_both (nat_lt i s.execution) _ _ (λ t. ViewInvariant block (view_of t))
       (λ l. resumes (Running i [] None) Executing refl (refl, refl, λ b h. cc, tt) (refl, below))
       (λ l. resumes Idle Ready refl (λ h. cc) (not_lt_says i s.execution l, refl, below))
 
 -- finishing an abort keeps the sizes
-aborted_sized : (count workers w i : ℕ) (s : State) → IsSized count workers s → IsSized count workers (aborted w i s)
-unfolding aborted
+aborted_sized : (count workers w i : ℕ) (s : State) → IsSized count workers s → IsSized count workers (after_finish_abort w i s)
+unfolding after_finish_abort
 aborted_sized count workers w i s h = cond_both (nat_lt i s.execution) _ _ (λ t. IsSized count workers t)
     (λ _. resized count workers s _ (length-set s.calls i _) (length-set s.tasks w _) refl refl h)
     (λ _. resized count workers s _ (length-set s.calls i _) (length-set s.tasks w _) refl refl h)
 
 -- finishing an abort keeps the invariant
-pub abort_kept : (block : Block) (workers w i : ℕ) (s : State) → Invariant block workers s → w < workers → task_at s w ≡ Marking i [] → Invariant block workers (aborted w i s)
+pub abort_kept : (block : Block) (workers w i : ℕ) (s : State) → Invariant block workers s → w < workers → task_at s w ≡ Marking i [] → Invariant block workers (after_finish_abort w i s)
 abort_kept block workers w i s h w_in marks = record {
   sized = aborted_sized block.count workers w i s h.sized;
   facts = aborted_facts block s w i h.facts marks (let e = h.sized.tasks in omega (arith, e))

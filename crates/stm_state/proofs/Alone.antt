@@ -1,27 +1,40 @@
--- One worker goes through the rounds of all calls, and is then told that all is done.
-use Rattle.std.proofs.Common.{◌≡◌, ◌<◌, ◌≤◌, ◌+◌, ◌-◌, ◌*◌, ℕ, zero, suc, Bool, true, if◌then◌else◌, List, [], ◌∷◌, length, get_or, slice_get, None, Some, Ok, Err, arith, refl, ap, subst, ◌∙◌, inl, inr}
-use Rattle.std.specs.FinMap.{len}
-use Rattle.std.proofs.lemmas.Bool.{cases_lt, cond-true}
-use Rattle.std.proofs.lemmas.Grind.{get_or-set_at}
-use Rattle.std.proofs.lemmas.List.{length-map}
-use Rattle.rv_ledger.specs.Key.{Storage}
+-- One worker on a job, step by step: it goes through the rounds of all calls, and is then told that all is done.
+use Rattle.std.proofs.Common.{◌≡◌, ◌≢◌, ◌<◌, ◌≤◌, ◌+◌, ◌-◌, ◌*◌, nat_lt, nat_le, ℕ, zero, suc, Bool, false, true, option_map, List, [], ◌∷◌, ◌++◌, length, drop, get_or, replicate, slice_get, Option, None, Some, Result, Ok, Err, if◌then◌else◌, arith, refl, sym, ap, subst, ◌∙◌, inl, inr, append_assoc, append-nil, drop_of_length-le}
+use Rattle.std.specs.FinMap.{get, entries, len, len-entries}
+use Rattle.std.proofs.lemmas.Bool.{cases_lt, cond-false}
+use Rattle.std.proofs.lemmas.List.{drop_more, get_or_past, length-append, length-map, map-append}
+use Rattle.rv_ledger.specs.Key.{Storage, WriteMap}
 use Rattle.rv_ledger.specs.Call.{Invocation}
+use Rattle.rv_ledger.specs.declared.outcome.Counts.{Counts}
 use Rattle.rv_ledger.specs.declared.receipt.Receipt.{Receipt}
-use Rattle.rv_step.specs.Chain.{ends}
-use Rattle.rv_step.specs.Fold.{store_after, store_after_call, store_before}
+use Rattle.rv_step.specs.Moment.{Reply}
+use Rattle.rv_step.specs.Chain.{AreFrom, borne_out, ends}
+use Rattle.rv_step.specs.Fold.{apply_writes, store_after, store_after_call, store_before}
+use Rattle.rv_step.specs.Replies.{reply_of, replies_of}
+use Rattle.rv_step.specs.declared.answer.StorageAnswer.{StorageAnswer}
+use Rattle.rv_step.proofs.Askings.{chain_asks}
 use Rattle.rv_step.proofs.Receipts.{one_receipt_lem}
+use Rattle.mvmap.specs.Versions.{Versions, Stands, entry_at}
+use Rattle.mvmap.specs.Reading.{visible_below, value_seen}
+use Rattle.stm_state.specs.declared.state.Status.TheVariants.{Executed}
+use Rattle.stm_state.specs.declared.state.CallState.{CallState}
 use Rattle.stm_state.specs.declared.state.Recorded.{Recorded}
-use Rattle.stm_state.specs.declared.state.Task.TheVariants.{Idle}
-use Rattle.stm_state.specs.State.{State, fresh, no_counts, start, call_at, is_done}
-use Rattle.stm_state.specs.Steps.{counted, one_asking, count_done, keys_to_move, has_new_key, recorded_run, step_with, read_of, reads_of}
-use Rattle.stm_state.specs.Done.{block_of}
-use Rattle.stm_state.specs.Drive.{NotDone, due_step, due_result}
-use Rattle.stm_state.specs.OneWorker.{Work, no_work, IsWork, rounds, MeetsNoEstimate, OneWorkerDid, HasOneWorkerCounts}
-use Rattle.stm_state.proofs.Lists.{replicated, one_element}
-use Rattle.stm_state.proofs.Paths.{alone, Leads, Free, free_now, free_on, used_up, one_step_on, leads_none, leads_next, leads_join}
-use Rattle.stm_state.proofs.Rounds.{Stage, first_stage, all_first, is_over, told_stage}
-use Rattle.stm_state.proofs.Phases.{call_there, did, Now, unblocked, still, one_more, run_begins}
-use Rattle.stm_state.proofs.Turns.{first_keys, read_all, record_one, move_all, finish_one, check_begins, check_all, decide_one}
+use Rattle.stm_state.specs.declared.state.Task.{Task}
+use Rattle.stm_state.specs.declared.state.Task.TheVariants.{Idle, Running, Validating}
+use Rattle.stm_state.specs.Limits.{record_limit, incarnation_limit}
+use Rattle.stm_state.specs.State.{State, start, call_at, with_task, is_done}
+use Rattle.stm_state.specs.Steps.{Block, Limit, read_of, reads_of, counted, one_step, one_asking, one_execution, one_validation, count_done, keys_of, keys_to_move, record_within, step_with, write_of}
+use Rattle.stm_state.specs.Done.{borne_out_by, block_of}
+use Rattle.stm_state.specs.Drive.{Refusal, NotDone, due_step_of_run, asked_at, due_step, due_result, continue_drive, driven}
+use Rattle.stm_state.proofs.Invariant.{view_of, Invariant}
+use Rattle.stm_state.specs.OneWorker.{Work, no_work, IsWork, rounds, MeetsNoEstimate, HoldsAfter, NeverMeetsEstimate, OneWorkerDid, HasOneWorkerCounts}
+use Rattle.stm_state.proofs.Tests.{not_lt_is, not_le_is}
+use Rattle.stm_state.proofs.Asks.{executed_entries}
+use Rattle.stm_state.proofs.Whole.{worker_kept}
+use Rattle.stm_state.proofs.Serials.{seen_after}
+use Rattle.stm_state.proofs.Rooms.{ends_few}
+use Rattle.stm_state.proofs.Rounds.{Stage, not_done, answered_here, clear_below, to_run, run_asked, recorded_state, after_move, moved_seen, finished, done_last, executed_is, to_check, check_asked, check_stands, none_taken}
+use Rattle.stm_state.proofs.Phases.{call_there, Comes, Rests, Runs, Moves, Waits, Checks, within_block, first, begins, told_asked, told_so, over, did_all, reads_on, records_on, moves_on, finishes_on, waits_on, checks_on, decides_on}
 
 -- ---- what each call takes
 
@@ -47,212 +60,234 @@ each_work (c ∷ calls) store zero call h =
     subst (λ x. IsWork x store (work_of c store)) same (record { replies = some.0; size = refl; from = some.1; borne_out = some.2; writes = refl })
 each_work (c ∷ calls) store (suc i) call h = each_work calls (store_after_call c store) i call h
 
--- ---- the rounds
+-- the storage before the next call
+store_next : (calls : List Invocation) (store : Storage) (j : ℕ) (call : Invocation) → slice_get calls j ≡ Some call → store_before calls (suc j) store ≡ apply_writes (store_before calls j store) (ends call (store_before calls j store)).writes
+unfolding store_after
+store_next [] store j call h = cc
+store_next (c ∷ calls) store zero call h = let same : c ≡ call = cc in ap (λ x. store_after_call x store) same
+store_next (c ∷ calls) store (suc j) call h = store_next calls (store_after_call c store) j call h
 
-module _ (calls : List Invocation) (store : Storage) (short : length calls ≤ 1024) where
-  -- the calls below d are through, after so many steps
-  abbrev At : ℕ → ℕ → ℕ → State → Type 0
-  At d steps asks s = Now calls store d fresh d d Idle (did steps asks d d) s
+-- a first run moves just the keys that it wrote
+first_keys : (writes : WriteMap) → length (keys_to_move None writes) ≡ len writes
+first_keys writes = ap length (append-nil (keys_of (entries writes))) ∙ length-map (entries writes) (λ write. write.0) ∙ sym (len-entries writes)
 
-  -- the round of call d
-  round : (d steps asks : ℕ) (work : Work) (s : State) (call : Invocation) → slice_get calls d ≡ Some call → d < length calls → IsWork call (store_before calls d store) work → At d steps asks s
-      → (t : State) × Leads calls store s (5 + 2 * work.reads + work.writes) t × At (d + 1) (steps + (5 + 2 * work.reads + work.writes)) (asks + 2) t
-  round d steps asks work s call there within takes now =
-      let receipt : Receipt = ends call (store_before calls d store) in
-      let keys : List (List ℕ) = keys_to_move None receipt.writes in
-      let new : Bool = has_new_key None receipt.writes in
-      let n : ℕ = length takes.replies in
-      let m : ℕ = length keys in
-      let a = run_begins calls store d s (did steps asks d d) now within in
-      let b = read_all calls store d call there within takes.replies [] (steps + 1) (asks + 1) d d a.0 (record { now = a.2; bears = takes.borne_out; from = takes.from; stand = refl }) in
-      let run : Recorded = recorded_run b.1 receipt in
-      let c = record_one calls store d call there within b.1 (did (steps + 1 + n) (asks + 1) d d) b.0 short b.3 in
-      let e = move_all calls store d call there within run new keys (steps + 1 + n + 1) (asks + 1) (d + 1) d c.0 c.2 in
-      let g = finish_one calls store d call there within run new (did (steps + 1 + n + 1 + m) (asks + 1) (d + 1) d) e.0 e.2 in
-      let h = check_begins calls store d call there within (did (steps + 1 + n + 1 + m + 1) (asks + 1) (d + 1) d) g.0 g.2 g.3 in
-      let r : ℕ = length (reads_of (call_at g.0 d).last) in
-      let i = check_all calls store d call there within r (steps + 1 + n + 1 + m + 1 + 1) (asks + 1 + 1) (d + 1) d h.0 h.2 h.3 in
-      let k = decide_one calls store d call there within (did (steps + 1 + n + 1 + m + 1 + 1 + r) (asks + 1 + 1) (d + 1) d) i.0 i.2 in
-      let last = leads_join calls store h.0 i.0 k.0 r (0 + 1) i.1 (leads_next calls store i.0 k.0 k.0 0 k.1.before k.1.step k.1.free (leads_none calls store k.0)) in
-      let end = leads_next calls store e.0 g.0 k.0 (r + (0 + 1) + 1) g.1.before g.1.step g.1.free (leads_next calls store g.0 h.0 k.0 (r + (0 + 1)) h.1.before h.1.step h.1.free last) in
-      let moved = leads_next calls store b.0 c.0 k.0 (m + (r + (0 + 1) + 1 + 1)) c.1.before c.1.step c.1.free (leads_join calls store c.0 e.0 k.0 m (r + (0 + 1) + 1 + 1) e.1 end) in
-      let all = leads_next calls store s a.0 k.0 (n + (m + (r + (0 + 1) + 1 + 1) + 1)) a.1.before a.1.step a.1.free (leads_join calls store a.0 b.0 k.0 n (m + (r + (0 + 1) + 1 + 1) + 1) b.2 moved) in
-      let size : n ≡ work.reads = takes.size in
-      let keys_are : m ≡ work.writes = first_keys receipt.writes ∙ takes.writes in
-      let reads_are : r ≡ 0 + n = ap (λ o. length (reads_of o)) g.4 ∙ length-map b.1 read_of ∙ b.4 in
-      let length_is : n + (m + (r + (0 + 1) + 1 + 1) + 1) + 1 ≡ 5 + 2 * work.reads + work.writes = omega (arith, size, keys_are, reads_are) in
-      let steps_are : steps + 1 + n + 1 + m + 1 + 1 + r + 1 ≡ steps + (5 + 2 * work.reads + work.writes) = omega (arith, size, keys_are, reads_are) in
-      let asks_are : asks + 1 + 1 ≡ asks + 2 = omega arith in (
-        k.0,
-        subst (λ x. Leads calls store s x k.0) length_is all,
-        subst (λ x. At (d + 1) x (asks + 2) k.0) steps_are (subst (λ x. At (d + 1) (steps + 1 + n + 1 + m + 1 + 1 + r + 1) x k.0) asks_are k.2),
-      )
+-- no run is blocked where the one worker's is not
+unblocked : {block : Block} {m e v : ℕ} {own : CallState} {task : Task} {s : State} → Stage block m own e v task s → ((i b : ℕ) (answers : List StorageAnswer) → task ≢ Running i answers (Some b)) → MeetsNoEstimate s
+unblocked now never zero i b answers h = never i b answers (sym now.does ∙ h)
+unblocked {s = s} now never (suc w) i b answers h = let idle = get_or_past s.tasks (suc w) Idle (let one = now.inv.sized.tasks in omega (arith, one)) in cc
 
-  -- what the call of an index takes
-  abbrev IsWorkAt : ℕ → Work → Type 0
-  IsWorkAt i work = (call : Invocation) → slice_get calls i ≡ Some call → IsWork call (store_before calls i store) work
+-- ---- where it is, and how many steps are left
 
-  -- the rounds from call d on
-  walk : (works : List Work) (d steps asks : ℕ) (s : State) → d + length works ≡ length calls → ((i : ℕ) → i < length works → IsWorkAt (d + i) (get_or works i no_work)) → At d steps asks s
-      → (t : State) × Leads calls store s (rounds works) t × At (length calls) (steps + rounds works) (asks + 2 * length works) t
-  walk [] d steps asks s size each now =
-      let d_is : d ≡ length calls = omega (arith, size) in
-      let steps_are : steps ≡ steps + 0 = omega arith in
-      let asks_are : asks ≡ asks + 2 * 0 = omega arith in
-      (s, leads_none calls store s, subst (λ n. At (length calls) n (asks + 2 * 0) s) steps_are (subst (λ n. At (length calls) steps n s) asks_are (subst (λ n. At n steps asks s) d_is now)))
-  walk (work ∷ works) d steps asks s size each now =
-      let within : d < length calls = omega (arith, size) in
-      let there = call_there calls d within in
-      let d_is : d + 0 ≡ d = omega arith in
-      let one = round d steps asks work s there.0 there.1 within (subst (λ n. IsWorkAt n work) d_is (each 0 (omega arith)) there.0 there.1) now in
-      let more = walk works (d + 1) (steps + (5 + 2 * work.reads + work.writes)) (asks + 2) one.0 (omega (arith, size))
-      (λ i l. let next : d + suc i ≡ d + 1 + i = omega arith in subst (λ n. IsWorkAt n (get_or works i no_work)) next (each (suc i) (omega (arith, l)))) one.2 in
-      let steps_are : steps + (5 + 2 * work.reads + work.writes) + rounds works ≡ steps + (5 + 2 * work.reads + work.writes + rounds works) = omega arith in
-      let asks_are : asks + 2 + 2 * length works ≡ asks + 2 * suc (length works) = omega arith in (
-        more.0,
-        leads_join calls store s one.0 more.0 (5 + 2 * work.reads + work.writes) (rounds works) one.1 more.1,
-        subst (λ n. At (length calls) n (asks + 2 * suc (length works)) more.0) steps_are (subst (λ n. At (length calls) (steps + (5 + 2 * work.reads + work.writes) + rounds works) n more.0) asks_are more.2),
-      )
+module _ (calls : List Invocation) (store : Storage) where
+  abbrev block : Block
+  block = block_of calls store
 
-  -- ---- the end
+  -- the storage before call d, and what the call ends in on it
+  abbrev before_call : ℕ → Storage
+  before_call d = store_before calls d store
 
-  -- all calls are through, after so many steps, of which so many were askings that were told so
-  record Ended (steps asks told : ℕ) (s : State) : Type 0 where
-    stage : Stage (block_of calls store) (length calls) fresh (length calls) (length calls) Idle s
-    worked : get_or s.counts 0 no_counts ≡ did steps asks (length calls) (length calls)
-    told_so : get_or s.dones 0 0 ≡ told
+  abbrev in_order : ℕ → Invocation → Receipt
+  in_order d call = ends call (before_call d)
 
-  -- so it is after all rounds
-  at_end : (steps asks : ℕ) (s : State) → At (length calls) steps asks s → Ended steps asks 0 s
-  at_end steps asks s now = record {
-    stage = now.stage;
-    worked = now.worked;
-    told_so = now.untold;
-  }
+  -- what call d sees is the storage before it
+  abbrev Sees : ℕ → Versions → Type 0
+  Sees d versions = (key : List ℕ) → value_seen (get store key) (visible_below (entry_at versions key) d) ≡ get (before_call d) key
 
-  -- workers are done
-  over_now : (steps asks told : ℕ) (s : State) → Ended steps asks told s → is_done s ≡ true
-  over_now steps asks told s now = is_over (block_of calls store) s now.stage.inv now.stage.runs_from now.stage.checks_from now.stage.does
+  -- the steps for call d and those after it
+  abbrev rounds_from : ℕ → ℕ
+  rounds_from d = rounds (drop d (works_in_order calls store))
 
-  module _ (steps asks told : ℕ) (s : State) (now : Ended steps asks told s) where
-    -- one more asking
-    abbrev asked_again : State
-    asked_again = counted one_asking 0 (count_done 0 s)
+  -- n steps are left: what the worker does at call d, and the rounds of the later calls
+  data Left (n steps told : ℕ) (s : State) : Type 0 where
+    rests : {d : ℕ} → Rests block d steps told s → Sees d s.versions → s.record_count ≤ 256 * d → n ≡ rounds_from d → Left n steps told s
+    -- the rest of its replies bear the call out
+    runs : {d : ℕ} {answers : List StorageAnswer} (call : Invocation) (rest : List Reply) → Runs block d steps told answers s → Sees d s.versions → s.record_count ≤ 256 * d
+        → slice_get calls d ≡ Some call → AreFrom (before_call d) rest → borne_out call (replies_of answers ++ rest) ≡ Some (in_order d call) → n ≡ 4 + 2 * length rest + length answers + len (in_order d call).writes + rounds_from (d + 1) → Left n steps told s
+    moves : {d : ℕ} {run : Recorded} {keys : List (List ℕ)} {new : Bool} (call : Invocation) → Moves block d steps told run keys new s → Sees d s.versions → s.record_count ≤ 256 * (d + 1)
+        → slice_get calls d ≡ Some call → run.receipt ≡ in_order d call → n ≡ 3 + length keys + length run.reads + rounds_from (d + 1) → Left n steps told s
+    waits : {d : ℕ} → Waits block d steps told s → Sees (d + 1) s.versions → s.record_count ≤ 256 * (d + 1) → n ≡ 2 + length (reads_of (call_at s d).last) + rounds_from (d + 1) → Left n steps told s
+    checks : {d left : ℕ} → Checks block d steps told left s → Sees (d + 1) s.versions → s.record_count ≤ 256 * (d + 1) → n ≡ 1 + left + rounds_from (d + 1) → Left n steps told s
 
-    again_due : due_result calls store 0 s ≡ Some (Ok asked_again)
-    again_due =
-        ap (λ task. step_with (block_of calls store) 0 task (due_step calls task) s) now.stage.does
-        ∙ ap (λ u. Some (Ok (counted one_asking 0 u))) (cond-true (is_done s) _ _ (over_now steps asks told s now))
+  -- what the next call sees where call d is EXECUTED and its run was borne out
+  sees_next : (d : ℕ) (call : Invocation) (run : Recorded) (t : State) → Invariant block 1 t → (call_at t d).status ≡ Executed → (call_at t d).last ≡ Some run → slice_get calls d ≡ Some call → run.receipt ≡ in_order d call
+      → Sees d t.versions → Sees (d + 1) t.versions
+  sees_next d call run t inv done last there ends_so sees = subst (λ n. Sees n t.versions) (let e : suc d ≡ d + 1 = omega arith in e) (λ key.
+      let n = (call_at t d).incarnation in
+      let own : entry_at t.versions key d ≡ option_map (λ c. Stands n c) (get (in_order d call).writes key) =
+      executed_entries block (view_of t) inv.facts d done key ∙ ap (λ x. option_map (λ c. Stands n c) (write_of x key)) last ∙ ap (λ (r : Receipt). option_map (λ c. Stands n c) (get r.writes key)) ends_so in
+      seen_after (get store key) t.versions key d n (before_call d) (in_order d call).writes own (sees key) ∙ ap (λ b. get b key) (sym (store_next calls store d call there)))
 
-    -- is told so too
-    again : Ended (steps + 1) (asks + 1) (told + 1) asked_again
-    again = record {
-      stage = told_stage (block_of calls store) s (length calls) fresh (length calls) (length calls) Idle now.stage (still calls store (length calls) s asked_again now.stage.inv again_due);
-      worked = one_more calls store (length calls) s now.stage.inv one_asking (did steps asks (length calls) (length calls)) now.worked;
-      told_so = get_or-set_at s.dones 0 0 (get_or s.dones 0 0 + 1) 0 refl (let one = now.stage.inv.sized.dones in omega (arith, one)) ∙ ap (λ n. n + 1) now.told_so;
-    }
+  -- what is left from a call of the job on, and past the last one
+  rounds_here : (d : ℕ) → d < length calls → rounds_from d ≡ 5 + 2 * (get_or (works_in_order calls store) d no_work).reads + (get_or (works_in_order calls store) d no_work).writes + rounds_from (d + 1)
+  rounds_here d within = ap rounds (drop_more (works_in_order calls store) d no_work (let size = sized_works calls store in omega (arith, within, size)))
+
+  rounds_past : (d : ℕ) → length calls ≤ d → rounds_from d ≡ 0
+  rounds_past d past = ap rounds (drop_of_length-le (works_in_order calls store) (let size = sized_works calls store in omega (arith, past, size)))
+
+  -- ---- the step that is due
+
+  -- it is made, and one step less is left; where none is left it is told so
+  record Next (n steps told : ℕ) (s : State) : Type 0 where
+    t : State
+    due : due_result calls store 0 s ≡ Some (Ok t)
+    more : ℕ
+    left : Left (n - 1) (steps + 1) more t
+    told_is : more + n ≡ told + 1 + (n - 1)
+
+  -- a state that is the same
+  same : (add : Counts → Counts) {u v : State} → u ≡ v → ◌≡◌ {A = Option (Result State Limit)} (Some (Ok (counted add 0 u))) (Some (Ok (counted add 0 v)))
+  same add e = ap (λ u. Some (Ok (counted add 0 u))) e
+
+  module _ {n steps told : ℕ} {s : State} where
+    -- a step of the task that the worker has
+    goes : {m e v : ℕ} {own : CallState} {task : Task} → Stage block m own e v task s → (more : ℕ) (add : Counts → Counts) (u : State) → step_with block 0 task (due_step calls task) s ≡ Some (Ok (counted add 0 u))
+        → Comes block (Left (n - 1) (steps + 1) more) add u → more + n ≡ told + 1 + (n - 1) → Next n steps told s
+    goes now more add u k h told_is =
+        let due : due_result calls store 0 s ≡ Some (Ok (counted add 0 u)) = ap (λ x. step_with block 0 x (due_step calls x) s) now.does ∙ k in
+        record { t = counted add 0 u; due = due; more = more; left = h (worker_kept block 1 0 s _ now.inv (omega arith) _ due); told_is = told_is }
+
+    -- the step that is due at each place
+    next : length calls ≤ 1024 → Left n steps told s → Next n steps told s
+    next short (rests {d = d} h sees room e) = elim (cases_lt d (length calls)) [
+      | inl low ↦
+          let there = call_there calls d low in
+          let takes = each_work calls store d there.0 there.1 in
+          let here = rounds_here d low in let size = takes.size in let writes = takes.writes in
+          goes h.now told one_asking (to_run block s) (same one_asking (run_asked block s d h.now low))
+          (λ inv. runs there.0 takes.replies (begins h low inv) sees room there.1 takes.from takes.borne_out (omega (arith, e, size, writes, here))) (omega (arith, e, here))
+      | inr high ↦
+          let none = rounds_past d high in
+          goes h.now (told + 1) one_asking (count_done 0 s) (same one_asking (told_asked h high)) (λ inv. rests (told_so h high inv) sees room (omega (arith, e, none))) (omega (arith, e, none))
+    ]
+    next short (runs {d = d} {answers = answers} call (reply ∷ rest) h sees room there from bears e) =
+        let a = answered_here store reply.0 d answers (visible_below (entry_at s.versions reply.0) d) (clear_below block s h.now.inv.facts d h.now.calls.below reply.0) in
+        let all = answers ++ a.answer ∷ [] in
+        let asks : asked_at (slice_get calls d) (replies_of answers) ≡ Some reply.0 = ap (λ o. asked_at o (replies_of answers)) there ∙ chain_asks call (replies_of answers) (reply ∷ rest) _ bears in
+        let is_reply : reply_of a.answer ≡ reply = ap (λ k. (k, a.answer.value)) a.at ∙ ap (λ v. (reply.0, v)) (a.value ∙ sees reply.0 ∙ sym from.0) in
+        let replies : replies_of all ++ rest ≡ replies_of answers ++ reply ∷ rest =
+        ap (λ xs. xs ++ rest) (map-append reply_of answers (a.answer ∷ [])) ∙ append_assoc (replies_of answers) (reply_of a.answer ∷ []) rest ∙ ap (λ x. replies_of answers ++ x ∷ rest) is_reply in
+        let longer = length-append answers (a.answer ∷ []) in
+        goes h.now told one_step (with_task 0 (Running d all None) s)
+        (ap (λ o. step_with block 0 (Running d answers None) (due_step_of_run o) s) asks ∙ same one_step (ap (λ (task : Task). with_task 0 task s) a.task))
+        (λ inv. runs call rest (reads_on reply.0 h a inv) sees room there from.1 (ap (borne_out call) replies ∙ bears) (omega (arith, e, longer))) (omega (arith, e))
+    next short (runs {d = d} {answers = answers} call [] h sees room there from bears e) =
+        let within = within_block h.now in
+        let receipt : Receipt = in_order d call in
+        let borne : borne_out call (replies_of answers) ≡ Some receipt = ap (borne_out call) (sym (append-nil (replies_of answers))) ∙ bears in
+        let ended : asked_at (slice_get calls d) (replies_of answers) ≡ None = ap (λ o. asked_at o (replies_of answers)) there ∙ chain_asks call (replies_of answers) [] receipt bears in
+        let few = ends_few call (before_call d) in
+        let new = ap (λ (x : CallState). x.incarnation) h.now.calls.here in
+        let keys = first_keys receipt.writes in let reads = length-map answers read_of in
+        goes h.now told one_execution (recorded_state block s d answers receipt h.now within)
+        (ap (λ o. step_with block 0 (Running d answers None) (due_step_of_run o) s) ended
+        ∙ ap (λ o. record_within d answers 0 o s) (ap (λ o. borne_out_by o (replies_of answers)) there ∙ borne)
+        ∙ cond-false (nat_lt record_limit (s.record_count + len receipt.writes)) _ _ (not_lt_is record_limit (s.record_count + len receipt.writes) (omega (arith, few, room, within, short)))
+        ∙ cond-false (nat_le incarnation_limit (call_at s d).incarnation) _ _ (not_le_is incarnation_limit (call_at s d).incarnation (omega (arith, new))))
+        (λ inv. moves call (records_on receipt h within inv) sees (omega (arith, few, room)) there refl (omega (arith, e, keys, reads))) (omega (arith, e))
+    next short (moves {d = d} {run = run} {keys = key ∷ keys} {new = new} call h sees room there ends_so e) =
+        goes h.now told one_step (after_move block s d run key keys new h.now) refl
+        (λ inv. moves call (moves_on h inv) (λ k. ap (value_seen (get store k)) (moved_seen block s d run key keys new h.now k) ∙ sees k) room there ends_so (omega (arith, e))) (omega (arith, e))
+    next short (moves {d = d} {run = run} {keys = []} {new = new} call h sees room there ends_so e) =
+        let within = within_block h.now in
+        let last = done_last block s d run new h.now within in
+        let reads = ap (λ o. length (reads_of o)) last in
+        goes h.now told one_step (with_task 0 Idle (finished block s d run new h.now within)) (same one_step (executed_is block s d run new h.now within))
+        (λ inv. let w = finishes_on h within inv in waits w (sees_next d call run _ inv (w.now.calls.below d (omega arith)).status last there ends_so sees) room (omega (arith, e, reads))) (omega (arith, e))
+    next short (waits {d = d} h sees room e) =
+        let within = within_block h.now in
+        goes h.now told one_asking (to_check block s) (same one_asking (check_asked block s d h.now within)) (λ inv. checks (waits_on h within inv) sees room (omega (arith, e))) (omega (arith, e))
+    next short (checks {d = d} {left = suc left} h sees room e) =
+        goes h.now told one_step (with_task 0 (Validating d 0 left false) s) (same one_step (check_stands block s d left h.now h.stand)) (λ inv. checks (checks_on h inv) sees room (omega (arith, e))) (omega (arith, e))
+    next short (checks {d = d} {left = zero} h sees room e) = goes h.now told one_validation (with_task 0 Idle s) (same one_validation (none_taken d 0 s)) (λ inv. rests (decides_on h inv) sees room (omega (arith, e))) (omega (arith, e))
+
+    -- ---- whether workers are done
+
+    -- where a step is left they are not
+    not_yet : 0 < n → Left n steps told s → is_done s ≡ false
+    not_yet some (rests {d = d} h sees room e) = not_done block 1 s h.now.inv (λ o. let runs = h.now.runs_from in let all = o.execution in let none = rounds_past d (omega (arith, runs, all)) in omega (arith, some, e, none))
+    not_yet some (runs call rest h sees room there from bears e) = not_done block 1 s h.now.inv (λ o. let idle = o.idle 0 in let does = h.now.does in cc)
+    not_yet some (moves call h sees room there ends_so e) = not_done block 1 s h.now.inv (λ o. let idle = o.idle 0 in let does = h.now.does in cc)
+    not_yet some (waits h sees room e) = not_done block 1 s h.now.inv (λ o. let runs = h.now.runs_from in let checks = h.now.checks_from in let p = o.execution in let q = o.validation in omega (arith, runs, checks, p, q))
+    not_yet some (checks h sees room e) = not_done block 1 s h.now.inv (λ o. let idle = o.idle 0 in let does = h.now.does in cc)
+
+    -- where none is left they are
+    ended : n ≡ 0 → Left n steps told s → (is_done s ≡ true) × OneWorkerDid (length calls) steps (2 * length calls + told) told s
+    ended none (rests {d = d} h sees room e) = elim (cases_lt d (length calls)) [
+      | inl low ↦ let here = rounds_here d low in absurd (omega (arith, none, e, here))
+      | inr high ↦ (over h high, did_all h high)
+    ]
+    ended none (runs call rest h sees room there from bears e) = absurd (omega (arith, none, e))
+    ended none (moves call h sees room there ends_so e) = absurd (omega (arith, none, e))
+    ended none (waits h sees room e) = absurd (omega (arith, none, e))
+    ended none (checks h sees room e) = absurd (omega (arith, none, e))
 
     -- no run is blocked
-    nobody : MeetsNoEstimate s
-    nobody = unblocked s Idle now.stage.inv.sized.tasks now.stage.does (λ i b answers h. cc)
+    free : Left n steps told s → MeetsNoEstimate s
+    free (rests h sees room e) = unblocked h.now (λ i b answers q. cc)
+    free (runs call rest h sees room there from bears e) = unblocked h.now (λ i b others q. cc)
+    free (moves call h sees room there ends_so e) = unblocked h.now (λ i b answers q. cc)
+    free (waits h sees room e) = unblocked h.now (λ i b answers q. cc)
+    free (checks h sees room e) = unblocked h.now (λ i b answers q. cc)
 
-    -- what the worker did
-    did_all : OneWorkerDid (length calls) steps asks told s
-    did_all = record {
-      counts = one_element s.counts no_counts (did steps asks (length calls) (length calls)) now.stage.inv.sized.counts now.worked;
-      dones = one_element s.dones 0 told now.stage.inv.sized.dones now.told_so;
-      incarnations = all_first (block_of calls store) (length calls) (length calls) (length calls) Idle s now.stage;
+  -- ---- lists of steps
+
+  -- so many steps from a state on
+  abbrev alone : ℕ → State → Result State Refusal
+  alone k s = driven calls store 1 (replicate k 0) s
+
+  used_up : (s : State) {b : Bool} → is_done s ≡ b → alone 0 s ≡ (if b then Ok s else Err NotDone)
+  unfolding driven
+  used_up s e = ap (λ b. if b then Ok s else Err NotDone) e
+
+  one_step_on : (k : ℕ) (s t : State) → due_result calls store 0 s ≡ Some (Ok t) → alone (suc k) s ≡ alone k t
+  unfolding driven
+  one_step_on k s t e = ap (continue_drive (λ u. driven calls store 1 (replicate k 0) u)) e
+
+  module _ (short : length calls ≤ 1024) where
+    -- fewer steps than are left
+    early : (k : ℕ) {n steps told : ℕ} {s : State} → k < n → Left n steps told s → alone k s ≡ Err NotDone
+    early zero {s = s} l h = used_up s (not_yet l h)
+    early (suc k) {s = s} l h = let x = next short h in one_step_on k s x.t x.due ∙ early k (omega (arith, l)) x.left
+
+    -- at least as many
+    late : (k : ℕ) {n steps told : ℕ} {s : State} → n ≤ k → Left n steps told s → (t : State) × (more : ℕ) × (alone k s ≡ Ok t) × OneWorkerDid (length calls) (steps + k) (2 * length calls + more) more t × (more + n ≡ told + k)
+    late zero {steps = steps} {told = told} {s = s} l h =
+        let end = ended (omega (arith, l)) h in
+        let all : steps ≡ steps + 0 = omega arith in (s, told, used_up s end.0, subst (λ x. OneWorkerDid (length calls) x (2 * length calls + told) told s) all end.1, omega (arith, l))
+    late (suc k) {steps = steps} {s = s} l h =
+        let x = next short h in
+        let rest = late k (omega (arith, l)) x.left in
+        let all : steps + 1 + k ≡ steps + suc k = omega arith in
+        let told_one = x.told_is in let told_rest = rest.4 in
+        (rest.0, rest.1, one_step_on k s x.t x.due ∙ rest.2, subst (λ y. OneWorkerDid (length calls) y (2 * length calls + rest.1) rest.1 rest.0) all rest.3, omega (arith, told_one, told_rest))
+
+    -- no run is blocked on the way
+    never_blocked : (k : ℕ) {n steps told : ℕ} {s : State} → Left n steps told s → NeverMeetsEstimate calls store (replicate k 0) s
+    unfolding NeverMeetsEstimate
+    never_blocked zero h = free h
+    never_blocked (suc k) h = let x = next short h in (free h, subst (λ o. HoldsAfter (λ u. NeverMeetsEstimate calls store (replicate k 0) u) o) (sym x.due) (never_blocked k x.left))
+
+    -- the start
+    at_start : Left (rounds (works_in_order calls store)) 0 0 (start (length calls) 1)
+    unfolding visible_below store_after
+    at_start = rests (first block) (λ key. refl) (omega arith) refl
+
+    -- one worker's counts
+    pub counts_alone : HasOneWorkerCounts calls store
+    counts_alone = record {
+      works = works_in_order calls store;
+      are_works = record { size = sized_works calls store; each = each_work calls store };
+      before = λ k l. early k l at_start;
+      after = λ k l.
+          let rest = late k l at_start in
+          let told = rest.4 in
+          let told_is : rest.1 ≡ k - rounds (works_in_order calls store) = omega (arith, told) in
+          let asks_are : 2 * length calls + rest.1 ≡ 2 * length calls + k - rounds (works_in_order calls store) = omega (arith, told) in
+          let steps_are : 0 + k ≡ k = omega arith in (
+            rest.0,
+            rest.2,
+            subst (λ x. OneWorkerDid (length calls) k (2 * length calls + k - rounds (works_in_order calls store)) x rest.0) told_is
+                (subst (λ x. OneWorkerDid (length calls) k x rest.1 rest.0) asks_are (subst (λ x. OneWorkerDid (length calls) x (2 * length calls + rest.1) rest.1 rest.0) steps_are rest.3)),
+          );
+      free = λ k. never_blocked k at_start;
     }
-
-  -- each further asking is told so
-  told_all : (k steps asks told : ℕ) (s : State) → Ended steps asks told s → (t : State) × (alone calls store k s ≡ Ok t) × Ended (steps + k) (asks + k) (told + k) t × Free calls store k s
-  told_all zero steps asks told s now =
-      let same : (n : ℕ) → n ≡ n + 0 = λ n. omega arith in (
-        s,
-        used_up calls store s ∙ ap (λ b. if b then Ok s else Err NotDone) (over_now steps asks told s now),
-        subst (λ n. Ended n (asks + 0) (told + 0) s) (same steps) (subst (λ n. Ended steps n (told + 0) s) (same asks) (subst (λ n. Ended steps asks n s) (same told) now)),
-        free_now calls store s (nobody steps asks told s now),
-      )
-  told_all (suc k) steps asks told s now =
-      let next : State = asked_again steps asks told s now in
-      let owed_next = again_due steps asks told s now in
-      let more = told_all k (steps + 1) (asks + 1) (told + 1) next (again steps asks told s now) in
-      let same : (n : ℕ) → n + 1 + k ≡ n + suc k = λ n. omega arith in (
-        more.0,
-        one_step_on calls store s next k owed_next ∙ more.1,
-        subst (λ n. Ended n (asks + suc k) (told + suc k) more.0) (same steps)
-            (subst (λ n. Ended (steps + 1 + k) n (told + suc k) more.0) (same asks) (subst (λ n. Ended (steps + 1 + k) (asks + 1 + k) n more.0) (same told) more.2)),
-        free_on calls store s next k (nobody steps asks told s now) owed_next more.3,
-      )
-
-  -- the start
-  first : At 0 0 0 (start (length calls) 1)
-  first = record {
-    stage = first_stage (block_of calls store);
-    receipts = λ j l. absurd (omega (arith, l));
-    room = omega arith;
-    worked = replicated 1 0 no_counts;
-    untold = replicated 1 0 0;
-  }
-
-  -- what all calls take
-  abbrev all_works : List Work
-  all_works = works_in_order calls store
-
-  -- the steps of all rounds
-  abbrev all_rounds : ℕ
-  all_rounds = rounds all_works
-
-  -- all rounds from the start
-  way : (t : State) × Leads calls store (start (length calls) 1) all_rounds t × At (length calls) all_rounds (2 * length calls) t
-  way =
-      let size = sized_works calls store in
-      let rest = walk all_works 0 0 0 (start (length calls) 1) (omega (arith, size)) (λ i l. let e : i ≡ 0 + i = omega arith in subst (λ n. IsWorkAt n (get_or all_works i no_work)) e (each_work calls store i)) first in
-      let steps_are : 0 + all_rounds ≡ all_rounds = omega arith in
-      let asks_are : 0 + 2 * length all_works ≡ 2 * length calls = omega (arith, size) in
-      (rest.0, rest.1, subst (λ n. At (length calls) n (2 * length calls) rest.0) steps_are (subst (λ n. At (length calls) (0 + all_rounds) n rest.0) asks_are rest.2))
-
-  -- further askings
-  later : (k : ℕ) → (t : State) × (alone calls store k way.0 ≡ Ok t) × Ended (all_rounds + k) (2 * length calls + k) (0 + k) t × Free calls store k way.0
-  later k = told_all k all_rounds (2 * length calls) 0 way.0 (at_end all_rounds (2 * length calls) way.0 way.2)
-
-  -- what so many steps after all rounds come to
-  after_rounds : (k : ℕ) → (t : State) × (alone calls store (all_rounds + k) (start (length calls) 1) ≡ Ok t) × OneWorkerDid (length calls) (all_rounds + k) (2 * length calls + k) k t
-  after_rounds k =
-      let rest = later k in
-      let told_are : 0 + k ≡ k = omega arith in (
-        rest.0,
-        way.1.late k ∙ rest.1,
-        did_all (all_rounds + k) (2 * length calls + k) k rest.0 (subst (λ n. Ended (all_rounds + k) (2 * length calls + k) n rest.0) told_are rest.2),
-      )
-
-  -- what so many steps come to
-  after_all : (k : ℕ) → all_rounds ≤ k → (t : State) × (alone calls store k (start (length calls) 1) ≡ Ok t) × OneWorkerDid (length calls) k (2 * length calls + k - all_rounds) (k - all_rounds) t
-  after_all k l =
-      let rest = after_rounds (k - all_rounds) in
-      let split : all_rounds + (k - all_rounds) ≡ k = omega (arith, l) in
-      let asks_are : 2 * length calls + (k - all_rounds) ≡ 2 * length calls + k - all_rounds = omega (arith, l) in (
-        rest.0,
-        subst (λ n. alone calls store n (start (length calls) 1) ≡ Ok rest.0) split rest.1,
-        subst (λ n. OneWorkerDid (length calls) n (2 * length calls + k - all_rounds) (k - all_rounds) rest.0) split
-            (subst (λ n. OneWorkerDid (length calls) (all_rounds + (k - all_rounds)) n (k - all_rounds) rest.0) asks_are rest.2),
-      )
-
-  -- no run is blocked on the way
-  free_way : (k : ℕ) → Free calls store k (start (length calls) 1)
-  free_way k = elim (cases_lt k all_rounds) [
-    | inl low ↦ way.1.free_early k low
-    | inr high ↦
-        let split : all_rounds + (k - all_rounds) ≡ k = omega (arith, high) in
-        subst (λ n. Free calls store n (start (length calls) 1)) split (way.1.free_late (k - all_rounds) (later (k - all_rounds)).3)
-  ]
-
-  -- one worker's counts
-  pub counts_alone : HasOneWorkerCounts calls store
-  counts_alone = record {
-    works = all_works;
-    are_works = record { size = sized_works calls store; each = each_work calls store };
-    before = way.1.early;
-    after = after_all;
-    free = free_way;
-  }

@@ -6,12 +6,13 @@ use Rattle.stm_state.specs.declared.state.CallState.{CallState}
 use Rattle.stm_state.specs.declared.state.Task.{Task}
 use Rattle.stm_state.specs.declared.state.Task.TheVariants.{Idle, Running, Validating}
 use Rattle.stm_state.specs.State.{State, fresh, call_at, task_at, with_call, with_task, is_ready, is_executed, is_done}
-use Rattle.stm_state.specs.Steps.{Block, reads_of, count_done, ask_validation, ask_execution, asked, version_of, write_of}
-use Rattle.stm_state.specs.Invariant.{View, view_of, ViewInvariant, Invariant, IsSized, IsUnturned, entry_by, lowered_by, owned_by}
+use Rattle.stm_state.specs.Steps.{Block, reads_of, count_done, ask_validation, ask_execution, after_ask, version_of, write_of}
+use Rattle.stm_state.specs.Parts.{IsSized}
+use Rattle.stm_state.proofs.Invariant.{View, view_of, ViewInvariant, Invariant, IsUnturned, entry_by, lowered_by, owned_by}
 use Rattle.stm_state.proofs.Lists.{stays_at, set_at}
-use Rattle.stm_state.proofs.Frames.{Frame, entries_stay, keeps_itself, keeps_unchecked, still_executed, unturned}
-use Rattle.stm_state.proofs.Rests.{rested_facts}
-use Rattle.stm_state.proofs.Safes.{cover_same, others_kept, safe_begun, safe_still}
+use Rattle.stm_state.proofs.OneCallChanges.{Frame, entries_stay, keeps_itself, keeps_unchecked, still_executed, unturned}
+use Rattle.stm_state.proofs.IndexChanges.{rested_facts}
+use Rattle.stm_state.proofs.SafeReads.{cover_same, others_kept, safe_begun, safe_still}
 use Rattle.stm_state.proofs.Tests.{is_ready_says, not_ready_says, is_executed_says, not_executed_says, lt_says, resized}
 
 -- what a call that isn't EXECUTED has as entries, where nobody turns its keys, stays where only its status changes
@@ -128,7 +129,7 @@ told : (block : Block) (workers w : ℕ) (s : State) → Invariant block workers
 told block workers w s h = record { sized = resized block.count workers s _ refl refl refl (length-set s.dones w _) h.sized; facts = h.facts }
 
 -- asking for work keeps the invariant
-pub ask_kept : (block : Block) (workers w : ℕ) (s : State) → Invariant block workers s → w < workers → task_at s w ≡ Idle → Invariant block workers (asked w s)
+pub ask_kept : (block : Block) (workers w : ℕ) (s : State) → Invariant block workers s → w < workers → task_at s w ≡ Idle → Invariant block workers (after_ask w s)
 ask_kept block workers w s h w_in idle =
     let w_there : w < length s.tasks = let e = h.sized.tasks in omega (arith, e) in
     cond_both (is_done s) _ _ (λ t. Invariant block workers t)

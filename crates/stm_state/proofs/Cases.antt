@@ -8,7 +8,7 @@ use Rattle.stm_state.specs.declared.state.Task.{Task}
 use Rattle.stm_state.specs.declared.state.Task.TheVariants.{Idle, Running, Moving, Validating, Marking}
 use Rattle.stm_state.specs.Limits.{record_limit, incarnation_limit}
 use Rattle.stm_state.specs.State.{State, call_at, task_at}
-use Rattle.stm_state.specs.Steps.{Block, Step, Ask, Read_key, Park, Record, Move_key, Finish_execution, Check_read, Decide, Mark_estimate, Finish_abort, Limit, ArenaFull, IncarnationLimit, counted, one_step, one_asking, one_execution, one_validation, asked, read_at, parked, recorded, moved, executed, checked, decided, marked, aborted, record_within, step_with, worker_step}
+use Rattle.stm_state.specs.Steps.{Block, Step, Ask, Read_key, Park, Record, Move_key, Finish_execution, Check_read, Decide, Mark_estimate, Finish_abort, Limit, ArenaFull, IncarnationLimit, counted, one_step, one_asking, one_execution, one_validation, after_ask, after_read_key, after_park, after_record, after_move_key, after_finish_execution, after_check_read, after_decide, after_mark_estimate, after_finish_abort, record_within, step_with, worker_step}
 use Rattle.stm_state.proofs.Tests.{not_le_says}
 
 -- a step has one result
@@ -25,17 +25,17 @@ err_ok e t h = cc
 
 -- a step of a worker is made, and comes to a state
 pub data IsMade (block : Block) (w : ℕ) (s : State) : Step → State → Type 0 where
-  by_ask : task_at s w ≡ Idle → IsMade block w s Ask (counted one_asking w (asked w s))
-  by_read : (i : ℕ) (answers : List StorageAnswer) (key : List ℕ) → task_at s w ≡ Running i answers None → IsMade block w s (Read_key key) (counted one_step w (read_at block.base key w i answers s))
-  by_park : (i b : ℕ) (answers : List StorageAnswer) → task_at s w ≡ Running i answers (Some b) → (call_at s i).incarnation < incarnation_limit → IsMade block w s Park (counted one_step w (parked w i b s))
+  by_ask : task_at s w ≡ Idle → IsMade block w s Ask (counted one_asking w (after_ask w s))
+  by_read : (i : ℕ) (answers : List StorageAnswer) (key : List ℕ) → task_at s w ≡ Running i answers None → IsMade block w s (Read_key key) (counted one_step w (after_read_key block.base key w i answers s))
+  by_park : (i b : ℕ) (answers : List StorageAnswer) → task_at s w ≡ Running i answers (Some b) → (call_at s i).incarnation < incarnation_limit → IsMade block w s Park (counted one_step w (after_park w i b s))
   by_record : (i : ℕ) (answers : List StorageAnswer) (receipt : Receipt) → task_at s w ≡ Running i answers None → block.borne_out i (replies_of answers) ≡ Some receipt → (call_at s i).incarnation < incarnation_limit
-      → IsMade block w s Record (counted one_execution w (recorded w i answers receipt s))
-  by_move : (i : ℕ) (key : List ℕ) (keys : List (List ℕ)) (new : Bool) → task_at s w ≡ Moving i (key ∷ keys) new → IsMade block w s Move_key (counted one_step w (moved w i key keys new s))
-  by_finish : (i : ℕ) (new : Bool) → task_at s w ≡ Moving i [] new → IsMade block w s Finish_execution (counted one_step w (executed w i new s))
-  by_check : (i n left : ℕ) → task_at s w ≡ Validating i n (suc left) false → IsMade block w s Check_read (counted one_step w (checked w i n left s))
-  by_decide : (i n left : ℕ) (failed : Bool) → task_at s w ≡ Validating i n left failed → (failed ≡ false → left ≡ 0) → IsMade block w s Decide (counted one_validation w (decided w i n failed s))
-  by_mark : (i : ℕ) (key : List ℕ) (keys : List (List ℕ)) → task_at s w ≡ Marking i (key ∷ keys) → IsMade block w s Mark_estimate (counted one_step w (marked w i key keys s))
-  by_abort : (i : ℕ) → task_at s w ≡ Marking i [] → IsMade block w s Finish_abort (counted one_step w (aborted w i s))
+      → IsMade block w s Record (counted one_execution w (after_record w i answers receipt s))
+  by_move : (i : ℕ) (key : List ℕ) (keys : List (List ℕ)) (new : Bool) → task_at s w ≡ Moving i (key ∷ keys) new → IsMade block w s Move_key (counted one_step w (after_move_key w i key keys new s))
+  by_finish : (i : ℕ) (new : Bool) → task_at s w ≡ Moving i [] new → IsMade block w s Finish_execution (counted one_step w (after_finish_execution w i new s))
+  by_check : (i n left : ℕ) → task_at s w ≡ Validating i n (suc left) false → IsMade block w s Check_read (counted one_step w (after_check_read w i n left s))
+  by_decide : (i n left : ℕ) (failed : Bool) → task_at s w ≡ Validating i n left failed → (failed ≡ false → left ≡ 0) → IsMade block w s Decide (counted one_validation w (after_decide w i n failed s))
+  by_mark : (i : ℕ) (key : List ℕ) (keys : List (List ℕ)) → task_at s w ≡ Marking i (key ∷ keys) → IsMade block w s Mark_estimate (counted one_step w (after_mark_estimate w i key keys s))
+  by_abort : (i : ℕ) → task_at s w ≡ Marking i [] → IsMade block w s Finish_abort (counted one_step w (after_finish_abort w i s))
 
 module _ (block : Block) (w : ℕ) (s t : State) where
   -- a state that it comes to
@@ -45,16 +45,16 @@ module _ (block : Block) (w : ℕ) (s t : State) where
   -- a record within the limits
   record_made : (i : ℕ) (answers : List StorageAnswer) (o : Option Receipt) → task_at s w ≡ Running i answers None → block.borne_out i (replies_of answers) ≡ o → record_within i answers w o s ≡ Some (Ok t) → IsMade block w s Record t
   record_made i answers None at e k = absurd (none_ok t k)
-  record_made i answers (Some receipt) at e k = go (nat_lt record_limit (s.placed + len receipt.writes)) (nat_le incarnation_limit (call_at s i).incarnation) refl k
+  record_made i answers (Some receipt) at e k = go (nat_lt record_limit (s.record_count + len receipt.writes)) (nat_le incarnation_limit (call_at s i).incarnation) refl k
     where
-      go : (full spent : Bool) → nat_le incarnation_limit (call_at s i).incarnation ≡ spent → cond full (Some (Err ArenaFull)) (cond spent (Some (Err IncarnationLimit)) (Some (Ok (counted one_execution w (recorded w i answers receipt s))))) ≡ Some (Ok t) → IsMade block w s Record t
+      go : (full spent : Bool) → nat_le incarnation_limit (call_at s i).incarnation ≡ spent → cond full (Some (Err ArenaFull)) (cond spent (Some (Err IncarnationLimit)) (Some (Ok (counted one_execution w (after_record w i answers receipt s))))) ≡ Some (Ok t) → IsMade block w s Record t
       go true spent below k = absurd (err_ok ArenaFull t k)
       go false true below k = absurd (err_ok IncarnationLimit t k)
       go false false below k = comes Record _ (by_record i answers receipt at e (not_le_says incarnation_limit (call_at s i).incarnation below)) k
 
   -- parking within the limit
   park_made : (i b : ℕ) (answers : List StorageAnswer) → task_at s w ≡ Running i answers (Some b) → (spent : Bool) → nat_le incarnation_limit (call_at s i).incarnation ≡ spent
-      → cond spent (Some (Err IncarnationLimit)) (Some (Ok (counted one_step w (parked w i b s)))) ≡ Some (Ok t) → IsMade block w s Park t
+      → cond spent (Some (Err IncarnationLimit)) (Some (Ok (counted one_step w (after_park w i b s)))) ≡ Some (Ok t) → IsMade block w s Park t
   park_made i b answers at true below k = absurd (err_ok IncarnationLimit t k)
   park_made i b answers at false below k = comes Park _ (by_park i b answers at (not_le_says incarnation_limit (call_at s i).incarnation below)) k
 

@@ -11,12 +11,12 @@ use Rattle.stm_state.specs.declared.state.CallState.{CallState}
 use Rattle.stm_state.specs.declared.state.Task.{Task}
 use Rattle.stm_state.specs.declared.state.Task.TheVariants.{Idle, Validating}
 use Rattle.stm_state.specs.State.{State, call_at, task_at, with_task, is_executed}
-use Rattle.stm_state.specs.Steps.{Block, reads_of, is_executed_at, read_stands, next_stands, checked}
-use Rattle.stm_state.specs.Invariant.{view_of, ViewInvariant, AreSafe, Invariant, IsChecked, IsCovered, validated, ahead, lowered_by, named_by, owned_by}
+use Rattle.stm_state.specs.Steps.{Block, reads_of, is_executed_at, read_stands, next_stands, after_check_read}
+use Rattle.stm_state.proofs.Invariant.{view_of, ViewInvariant, AreSafe, Invariant, IsChecked, IsCovered, validated, ahead, lowered_by, named_by, owned_by}
 use Rattle.stm_state.proofs.Lists.{stays_at, set_at}
-use Rattle.stm_state.proofs.Frames.{Frame, frame_kept, entries_stay, keeps_itself, still_executed, unturned}
-use Rattle.stm_state.proofs.Rests.{rested_facts}
-use Rattle.stm_state.proofs.Safes.{checked_on, safe_still}
+use Rattle.stm_state.proofs.OneCallChanges.{Frame, frame_kept, entries_stay, keeps_itself, still_executed, unturned}
+use Rattle.stm_state.proofs.IndexChanges.{rested_facts}
+use Rattle.stm_state.proofs.SafeReads.{checked_on, safe_still}
 use Rattle.stm_state.proofs.Tests.{is_executed_says, equal_says, equal_itself, resized}
 
 -- what the test for an incarnation says
@@ -154,8 +154,8 @@ next_met s i left stand place read at late = elim (cases_lt (place + left) (leng
 ]
 
 -- a check of a read keeps the invariant
-pub check_kept : (block : Block) (workers w i n left : ℕ) (s : State) → Invariant block workers s → w < workers → task_at s w ≡ Validating i n (suc left) false → Invariant block workers (checked w i n left s)
-unfolding checked
+pub check_kept : (block : Block) (workers w i n left : ℕ) (s : State) → Invariant block workers s → w < workers → task_at s w ≡ Validating i n (suc left) false → Invariant block workers (after_check_read w i n left s)
+unfolding after_check_read
 check_kept block workers w i n left s h w_in checks =
     let w_there : w < length s.tasks = let e = h.sized.tasks in omega (arith, e) in
     cond_both (is_executed_at n (call_at s i)) _ _ (λ t. Invariant block workers t)

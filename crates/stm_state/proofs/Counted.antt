@@ -5,7 +5,7 @@ use Rattle.std.proofs.lemmas.List.{get_or-set_same, get_or-set_other}
 use Rattle.rv_ledger.specs.declared.outcome.Counts.{Counts}
 use Rattle.stm_state.specs.declared.state.Task.{Task}
 use Rattle.stm_state.specs.State.{State, no_counts, start, call_at, is_executed, is_ready, is_done}
-use Rattle.stm_state.specs.Steps.{Block, Step, counted, one_step, one_asking, one_execution, one_validation, ask_validation, ask_execution, asked, count_done, read_at, parked, resume_dependents, to_validate, recorded, moved, executed, checked, decided, marked, aborted, is_executed_at, next_stands}
+use Rattle.stm_state.specs.Steps.{Block, Step, counted, one_step, one_asking, one_execution, one_validation, ask_validation, ask_execution, after_ask, count_done, after_read_key, after_park, resume_dependents, to_validate, after_record, after_move_key, after_finish_execution, after_check_read, after_decide, after_mark_estimate, after_finish_abort, is_executed_at, next_stands}
 use Rattle.stm_state.specs.Done.{Reached, started, stepped}
 use Rattle.stm_state.proofs.Cases.{IsMade, by_ask, by_read, by_park, by_record, by_move, by_finish, by_check, by_decide, by_mark, by_abort, made}
 use Rattle.stm_state.proofs.Lists.{replicated}
@@ -36,28 +36,28 @@ pub ask_execution_silent : (w : ℕ) (s : State) → IsSilent s (ask_execution w
 unfolding ask_execution
 ask_execution_silent w s = cond_both (is_ready (call_at s s.execution).status) _ _ (λ t. IsSilent s t) (λ _. (refl, refl)) (λ _. (refl, refl))
 
-pub parked_silent : (w i b : ℕ) (s : State) → IsSilent s (parked w i b s)
-unfolding parked
+pub parked_silent : (w i b : ℕ) (s : State) → IsSilent s (after_park w i b s)
+unfolding after_park
 parked_silent w i b s = cond_both (is_executed (call_at s b).status) _ _ (λ t. IsSilent s t) (λ _. (refl, refl)) (λ _. (refl, refl))
 
 to_validate_silent : (w i : ℕ) (new : Bool) (task : Task) (s : State) → IsSilent s (to_validate w i new task s)
 unfolding to_validate
 to_validate_silent w i new task s = cond_both (nat_lt i s.validation) _ _ (λ t. IsSilent s t) (λ _. cond_both new _ _ (λ t. IsSilent s t) (λ _. (refl, refl)) (λ _. (refl, refl))) (λ _. (refl, refl))
 
-pub executed_silent : (w i : ℕ) (new : Bool) (s : State) → IsSilent s (executed w i new s)
+pub executed_silent : (w i : ℕ) (new : Bool) (s : State) → IsSilent s (after_finish_execution w i new s)
 unfolding resume_dependents
 executed_silent w i new s = to_validate_silent w i new _ _
 
-pub checked_silent : (w i n left : ℕ) (s : State) → IsSilent s (checked w i n left s)
-unfolding checked
+pub checked_silent : (w i n left : ℕ) (s : State) → IsSilent s (after_check_read w i n left s)
+unfolding after_check_read
 checked_silent w i n left s = cond_both (is_executed_at n (call_at s i)) _ _ (λ t. IsSilent s t) (λ _. cond_both (next_stands i (suc left) s) _ _ (λ t. IsSilent s t) (λ _. (refl, refl)) (λ _. (refl, refl))) (λ _. (refl, refl))
 
-pub decided_silent : (w i n : ℕ) (failed : Bool) (s : State) → IsSilent s (decided w i n failed s)
-unfolding decided
+pub decided_silent : (w i n : ℕ) (failed : Bool) (s : State) → IsSilent s (after_decide w i n failed s)
+unfolding after_decide
 decided_silent w i n failed s = cond_both (failed && is_executed_at n (call_at s i)) _ _ (λ t. IsSilent s t) (λ _. (refl, refl)) (λ _. (refl, refl))
 
-pub aborted_silent : (w i : ℕ) (s : State) → IsSilent s (aborted w i s)
-unfolding aborted
+pub aborted_silent : (w i : ℕ) (s : State) → IsSilent s (after_finish_abort w i s)
+unfolding after_finish_abort
 aborted_silent w i s = cond_both (nat_lt i s.execution) _ _ (λ t. IsSilent s t) (λ _. (refl, refl)) (λ _. (refl, refl))
 
 -- ---- counting
@@ -100,7 +100,7 @@ module _ (s : State) (w : ℕ) (h : CountsWithin s) (w_in : w < length s.counts)
   ]
 
   -- an asking
-  asked_kept : w < length s.dones → CountsWithin (counted one_asking w (asked w s))
+  asked_kept : w < length s.dones → CountsWithin (counted one_asking w (after_ask w s))
   asked_kept w_told = cond_both (is_done s) _ _ (λ t. CountsWithin (counted one_asking w t))
       (λ _. told_kept w_told)
       (λ _. cond_both (nat_lt s.validation s.execution) _ _ (λ t. CountsWithin (counted one_asking w t))
@@ -115,15 +115,15 @@ module _ (block : Block) (w : ℕ) (s : State) (h : CountsWithin s) (w_in : w < 
   -- each step that is made
   made_keeps : (step : Step) (t : State) → IsMade block w s step t → CountsWithin t
   made_keeps step t (by_ask at) = asked_kept s w h w_in w_told
-  made_keeps step t (by_read i answers key at) = silent_kept s w h w_in one_step (read_at block.base key w i answers s) step_keeps (refl, refl)
-  made_keeps step t (by_park i b answers at below) = silent_kept s w h w_in one_step (parked w i b s) step_keeps (parked_silent w i b s)
-  made_keeps step t (by_record i answers receipt at bears below) = silent_kept s w h w_in one_execution (recorded w i answers receipt s) execution_keeps (refl, refl)
-  made_keeps step t (by_move i key keys new at) = silent_kept s w h w_in one_step (moved w i key keys new s) step_keeps (refl, refl)
-  made_keeps step t (by_finish i new at) = silent_kept s w h w_in one_step (executed w i new s) step_keeps (executed_silent w i new s)
-  made_keeps step t (by_check i n left at) = silent_kept s w h w_in one_step (checked w i n left s) step_keeps (checked_silent w i n left s)
-  made_keeps step t (by_decide i n left failed at last) = silent_kept s w h w_in one_validation (decided w i n failed s) validation_keeps (decided_silent w i n failed s)
-  made_keeps step t (by_mark i key keys at) = silent_kept s w h w_in one_step (marked w i key keys s) step_keeps (refl, refl)
-  made_keeps step t (by_abort i at) = silent_kept s w h w_in one_step (aborted w i s) step_keeps (aborted_silent w i s)
+  made_keeps step t (by_read i answers key at) = silent_kept s w h w_in one_step (after_read_key block.base key w i answers s) step_keeps (refl, refl)
+  made_keeps step t (by_park i b answers at below) = silent_kept s w h w_in one_step (after_park w i b s) step_keeps (parked_silent w i b s)
+  made_keeps step t (by_record i answers receipt at bears below) = silent_kept s w h w_in one_execution (after_record w i answers receipt s) execution_keeps (refl, refl)
+  made_keeps step t (by_move i key keys new at) = silent_kept s w h w_in one_step (after_move_key w i key keys new s) step_keeps (refl, refl)
+  made_keeps step t (by_finish i new at) = silent_kept s w h w_in one_step (after_finish_execution w i new s) step_keeps (executed_silent w i new s)
+  made_keeps step t (by_check i n left at) = silent_kept s w h w_in one_step (after_check_read w i n left s) step_keeps (checked_silent w i n left s)
+  made_keeps step t (by_decide i n left failed at last) = silent_kept s w h w_in one_validation (after_decide w i n failed s) validation_keeps (decided_silent w i n failed s)
+  made_keeps step t (by_mark i key keys at) = silent_kept s w h w_in one_step (after_mark_estimate w i key keys s) step_keeps (refl, refl)
+  made_keeps step t (by_abort i at) = silent_kept s w h w_in one_step (after_finish_abort w i s) step_keeps (aborted_silent w i s)
 
 -- ---- all states
 

@@ -4,7 +4,7 @@ use Rattle.std.specs.List.{AllByRecursion}
 use Rattle.std.proofs.lemmas.Bool.{cases_eq, cases_lt, cond_both, cond-true}
 use Rattle.std.proofs.lemmas.List.{get_or-set_same, get_or-set_other, get_or_past, length-replicate}
 use Rattle.stm_state.specs.State.{State, start, is_done}
-use Rattle.stm_state.specs.Steps.{Block, Step, Ask, ask_validation, ask_execution, asked, count_done, worker_step, counted, one_asking}
+use Rattle.stm_state.specs.Steps.{Block, Step, Ask, ask_validation, ask_execution, after_ask, count_done, worker_step, counted, one_asking}
 use Rattle.stm_state.specs.Done.{Reached}
 use Rattle.stm_state.specs.Walk.{walk}
 use Rattle.stm_state.specs.Dones.{dones_of, DoneIsAsked, DoneStays, OtherDonesStay, DonesAreAsked, DonesGrowAtDone, LastEntryIsDone}
@@ -18,13 +18,13 @@ use Rattle.stm_state.proofs.Walks.{walk_on, walk_first, walk_none, walk_here, re
 -- ---- where workers are done
 
 -- an asking told so leaves it so
-done_again : (w : ℕ) (s : State) → is_done s ≡ true → is_done (asked w s) ≡ true
+done_again : (w : ℕ) (s : State) → is_done s ≡ true → is_done (after_ask w s) ≡ true
 unfolding is_done
 done_again w s done = subst (λ t. is_done t ≡ true) (sym (cond-true (is_done s) (count_done w s) _ done)) done
 
 module _ (block : Block) (w : ℕ) (s : State) (done : is_done s ≡ true) where
   -- only an asking is made
-  only_asked : (step : Step) (t : State) → IsMade block w s step t → (step ≡ Ask) × (t ≡ counted one_asking w (asked w s))
+  only_asked : (step : Step) (t : State) → IsMade block w s step t → (step ≡ Ask) × (t ≡ counted one_asking w (after_ask w s))
   only_asked step t (by_ask at) = (refl, refl)
   only_asked step t (by_read i answers key at) = let idle = idle_at_done s done w in (cc, cc)
   only_asked step t (by_park i b answers at below) = let idle = idle_at_done s done w in (cc, cc)
@@ -37,7 +37,7 @@ module _ (block : Block) (w : ℕ) (s : State) (done : is_done s ≡ true) where
   only_asked step t (by_abort i at) = let idle = idle_at_done s done w in (cc, cc)
 
   -- and workers are done after it
-  still_done : (t : State) → t ≡ counted one_asking w (asked w s) → is_done t ≡ true
+  still_done : (t : State) → t ≡ counted one_asking w (after_ask w s) → is_done t ≡ true
   unfolding is_done
   still_done t h = ap is_done h ∙ done_again w s done
 
@@ -56,7 +56,7 @@ dones_after w Ask s = if is_done s then set s.dones w (get_or s.dones w 0 + 1) e
 dones_after w step s = s.dones
 
 -- what an asking leaves of them
-asked_dones : (w : ℕ) (s : State) → (asked w s).dones ≡ dones_after w Ask s
+asked_dones : (w : ℕ) (s : State) → (after_ask w s).dones ≡ dones_after w Ask s
 asked_dones w s = go (is_done s)
   where
     go : (done : Bool) → (cond done (count_done w s) (cond (nat_lt s.validation s.execution) (ask_validation w s) (cond (nat_lt s.execution (length s.calls)) (ask_execution w s) s))).dones ≡ cond done (set s.dones w (get_or s.dones w 0 + 1)) s.dones

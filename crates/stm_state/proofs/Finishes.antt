@@ -8,13 +8,14 @@ use Rattle.stm_state.specs.declared.state.CallState.{CallState}
 use Rattle.stm_state.specs.declared.state.Task.{Task}
 use Rattle.stm_state.specs.declared.state.Task.TheVariants.{Idle, Moving, Validating}
 use Rattle.stm_state.specs.State.{State, fresh, call_at, task_at, with_call, with_task}
-use Rattle.stm_state.specs.Steps.{Block, reads_of, is_parked_on, resume_if_parked, lowered, resume_dependents, to_validate, executed, version_of}
-use Rattle.stm_state.specs.Invariant.{View, view_of, ViewInvariant, Invariant, IsMoved, IsSized, IsUnmovedEntry, lowered_by, named_by, owned_by, run_by}
+use Rattle.stm_state.specs.Steps.{Block, reads_of, is_parked_on, resume_if_parked, least_parked_call, resume_dependents, to_validate, after_finish_execution, version_of}
+use Rattle.stm_state.specs.Parts.{IsSized}
+use Rattle.stm_state.proofs.Invariant.{View, view_of, ViewInvariant, Invariant, IsMoved, IsUnmovedEntry, lowered_by, named_by, owned_by, run_by}
 use Rattle.stm_state.proofs.Lists.{set_at}
-use Rattle.stm_state.proofs.Frames.{Frame, Keeps, TaskOwes, entries_stay, keeps_unchecked}
-use Rattle.stm_state.proofs.Safes.{others_kept, safe_begun}
+use Rattle.stm_state.proofs.OneCallChanges.{Frame, Keeps, TaskOwes, entries_stay, keeps_unchecked}
+use Rattle.stm_state.proofs.SafeReads.{others_kept, safe_begun}
 use Rattle.stm_state.proofs.Tests.{lt_says, not_lt_says, resized}
-use Rattle.stm_state.proofs.Wakes.{woken_view, woken_facts, parked_aborting, not_parked, none_parked, lowered_low, lowered_at}
+use Rattle.stm_state.proofs.Resumptions.{woken_view, woken_facts, parked_aborting, not_parked, none_parked, lowered_low, lowered_at}
 use Rattle.stm_state.proofs.Targets.{amid_end}
 
 -- a mapped list at an index, also past the end
@@ -50,7 +51,7 @@ module _ (block : Block) (s : State) (w i : ℕ) (new : Bool) (f : ViewInvariant
 
   -- the execution index afterwards
   abbrev lower : ℕ
-  lower = lowered i s.execution 0 (set s.calls i done)
+  lower = least_parked_call i s.execution 0 (set s.calls i done)
 
   -- the state afterwards, with a task and a validation index
   abbrev after : Task → ℕ → State
@@ -118,7 +119,7 @@ module _ (block : Block) (s : State) (w i : ℕ) (new : Bool) (f : ViewInvariant
 
   -- finishing keeps the invariant: with a new key all calls from i on are validated again, without one only call i is, and
   -- above the validation index nothing is
-  pub executed_facts : ViewInvariant block (view_of (executed w i new s))
+  pub executed_facts : ViewInvariant block (view_of (after_finish_execution w i new s))
   unfolding to_validate resume_dependents
   executed_facts = cond_both (nat_lt i s.validation) _ _ (λ t. ViewInvariant block (view_of t))
       (λ l. let below = lt_says i s.validation l in cond_both new _ _ (λ t. ViewInvariant block (view_of t))
@@ -127,7 +128,7 @@ module _ (block : Block) (s : State) (w i : ℕ) (new : Bool) (f : ViewInvariant
       (λ l. let above = not_lt_says i s.validation l in finish_facts Idle s.validation (λ h. cc) (omega arith) (λ l2. absurd (omega (arith, l2, above))) (λ _. above))
 
 -- finishing keeps the sizes
-executed_sized : (count workers w i : ℕ) (new : Bool) (s : State) → IsSized count workers s → IsSized count workers (executed w i new s)
+executed_sized : (count workers w i : ℕ) (new : Bool) (s : State) → IsSized count workers s → IsSized count workers (after_finish_execution w i new s)
 unfolding to_validate resume_dependents
 executed_sized count workers w i new s h =
     let c : CallState = record (call_at s i) { status = Executed } in
@@ -139,7 +140,7 @@ executed_sized count workers w i new s h =
     (λ _. resized count workers s _ calls (length-set s.tasks w _) refl refl h)
 
 -- finishing keeps the invariant
-pub finish_kept : (block : Block) (workers w i : ℕ) (new : Bool) (s : State) → Invariant block workers s → w < workers → task_at s w ≡ Moving i [] new → Invariant block workers (executed w i new s)
+pub finish_kept : (block : Block) (workers w i : ℕ) (new : Bool) (s : State) → Invariant block workers s → w < workers → task_at s w ≡ Moving i [] new → Invariant block workers (after_finish_execution w i new s)
 finish_kept block workers w i new s h w_in moves = record {
   sized = executed_sized block.count workers w i new s h.sized;
   facts = executed_facts block s w i new h.facts moves (let e = h.sized.tasks in omega (arith, e))

@@ -1,5 +1,5 @@
 -- Small facts on lists.
-use Rattle.std.proofs.Common.{◌≡◌, ◌<◌, ◌≢◌, ◌&&◌, ℕ, zero, suc, Bool, List, [], ◌∷◌, ◌++◌, length, replicate, get_or, set, arith, refl, sym, ap, subst, ◌∙◌, inl, inr}
+use Rattle.std.proofs.Common.{◌≡◌, ◌<◌, ◌≢◌, ◌&&◌, ℕ, zero, suc, Bool, List, [], ◌∷◌, ◌++◌, length, replicate, get_or, set, refl, sym, ap, subst, ◌∙◌, inl, inr}
 use Rattle.std.specs.List.{AllByRecursion, list_all}
 use Rattle.std.proofs.lemmas.Bool.{cases_eq}
 use Rattle.std.proofs.lemmas.List.{get_or-set_same, get_or-set_other}
@@ -9,12 +9,6 @@ pub replicated : {X : Type 0} (n i : ℕ) (d : X) → get_or (replicate n d) i d
 replicated zero i d = refl
 replicated (suc n) zero d = refl
 replicated (suc n) (suc i) d = replicated n i d
-
--- the one element of a list
-pub one_element : {X : Type 0} (xs : List X) (d x : X) → length xs ≡ 1 → get_or xs 0 d ≡ x → xs ≡ x ∷ []
-one_element [] d x size h = absurd (omega (arith, size))
-one_element (y ∷ []) d x size h = ap (λ z. z ∷ []) h
-one_element (y ∷ other ∷ xs) d x size h = absurd (omega (arith, size))
 
 -- tests that agree hold of the same lists
 pub all_same : {X : Type 0} (p q : X → Bool) → ((x : X) → p x ≡ q x) → (xs : List X) → list_all p xs ≡ list_all q xs

@@ -9,11 +9,12 @@ use Rattle.mvmap.specs.Versions.{Estimate, changed, entry_at}
 use Rattle.stm_state.specs.declared.state.Status.TheVariants.{Aborting}
 use Rattle.stm_state.specs.declared.state.Task.TheVariants.{Idle, Marking}
 use Rattle.stm_state.specs.State.{State, call_at, task_at}
-use Rattle.stm_state.specs.Steps.{Block, marked}
-use Rattle.stm_state.specs.Invariant.{view_of, ViewInvariant, Invariant, IsAhead, IsAmid, IsMarked, IsUnmarkedEntry, estimate_of, has_key, lowered_by, named_by, owned_by}
+use Rattle.stm_state.specs.Steps.{Block, after_mark_estimate}
+use Rattle.stm_state.specs.Parts.{has_key}
+use Rattle.stm_state.proofs.Invariant.{view_of, ViewInvariant, Invariant, IsToBeLowered, AreUnderWay, IsMarked, IsUnmarkedEntry, estimate_of, lowered_by, named_by, owned_by}
 use Rattle.stm_state.proofs.Lists.{stays_at, set_at}
-use Rattle.stm_state.proofs.Frames.{Frame, StatusOwes, frame_kept, keeps_itself}
-use Rattle.stm_state.proofs.Safes.{on_below, safe_ahead, safe_other}
+use Rattle.stm_state.proofs.OneCallChanges.{Frame, StatusOwes, frame_kept, keeps_itself}
+use Rattle.stm_state.proofs.SafeReads.{on_below, safe_ahead, safe_other}
 use Rattle.stm_state.proofs.Tests.{resized}
 use Rattle.stm_state.proofs.Targets.{amid_step, amid_cases}
 use Rattle.stm_state.proofs.Writes.{changed_at, changed_other, or_true}
@@ -33,7 +34,7 @@ module _ (block : Block) (s : State) (w i : ℕ) (key : List ℕ) (keys : List (
 
   -- the state after the mark
   abbrev after : State
-  after = marked w i key keys s
+  after = after_mark_estimate w i key keys s
 
   -- other calls keep their entries
   entry_other : (k : List ℕ) (j : ℕ) → j ≢ i → entry_at after.versions k j ≡ entry_at s.versions k j
@@ -58,7 +59,7 @@ module _ (block : Block) (s : State) (w i : ℕ) (key : List ℕ) (keys : List (
     aborting = is_aborting;
     unparked = is_marked.unparked;
     written = λ k h. is_marked.written k (or_true (eq_by_cmp key_cmp k key) (has_key k keys) h);
-    amid = subst (λ o. IsAmid (estimate_of (call_at s i)) (λ k entry. IsUnmarkedEntry (call_at s i).incarnation entry) (λ k. entry_at (changed s.versions (key, i) o) k i) keys) is_target
+    amid = subst (λ o. AreUnderWay (estimate_of (call_at s i)) (λ k entry. IsUnmarkedEntry (call_at s i).incarnation entry) (λ k. entry_at (changed s.versions (key, i) o) k i) keys) is_target
         (amid_step (estimate_of (call_at s i)) (λ k entry. IsUnmarkedEntry (call_at s i).incarnation entry) s.versions i key keys is_marked.amid);
   }
 
@@ -84,11 +85,11 @@ module _ (block : Block) (s : State) (w i : ℕ) (key : List ℕ) (keys : List (
   }
 
   -- the calls above are seen to by this very task
-  is_ahead : (j : ℕ) → i < j → IsAhead (task_at after) j
+  is_ahead : (j : ℕ) → i < j → IsToBeLowered (task_at after) j
   is_ahead j l = record { worker = w; call = i; task = ap lowered_by mark_frame.tasks.there; lower = l }
 
   -- marking a key keeps the invariant: calls below see nothing of it, and calls above are validated again
-  pub marked_facts : ViewInvariant block (view_of (marked w i key keys s))
+  pub marked_facts : ViewInvariant block (view_of (after_mark_estimate w i key keys s))
   marked_facts = frame_kept block (view_of s) (view_of after) i w (call_at s i) (Marking i keys) mark_frame f (λ h. let r = is_aborting in cc) (λ j ne h l. elim (cases_lt j i) [
     | inl below ↦ safe_other block (view_of s) (view_of after) i w (call_at s i) (Marking i keys) mark_frame f j ne (λ left failed k. cc) (λ _ above. is_ahead j above)
         (on_below (view_of s) (view_of after) j (λ k x low. entry_other k x (omega (arith, low, below)))) (f.safe j h l)
@@ -96,7 +97,7 @@ module _ (block : Block) (s : State) (w i : ℕ) (key : List ℕ) (keys : List (
   ])
 
 -- marking a key keeps the invariant
-pub mark_kept : (block : Block) (workers w i : ℕ) (key : List ℕ) (keys : List (List ℕ)) (s : State) → Invariant block workers s → w < workers → task_at s w ≡ Marking i (key ∷ keys) → Invariant block workers (marked w i key keys s)
+pub mark_kept : (block : Block) (workers w i : ℕ) (key : List ℕ) (keys : List (List ℕ)) (s : State) → Invariant block workers s → w < workers → task_at s w ≡ Marking i (key ∷ keys) → Invariant block workers (after_mark_estimate w i key keys s)
 mark_kept block workers w i key keys s h w_in marks = record {
   sized = resized block.count workers s _ refl (length-set s.tasks w _) refl refl h.sized;
   facts = marked_facts block s w i key keys h.facts marks (let e = h.sized.tasks in omega (arith, e));

@@ -8,11 +8,12 @@ use Rattle.mvmap.specs.Versions.{Estimate, Stands, entry_at}
 use Rattle.stm_state.specs.declared.state.Status.TheVariants.{Executing, Executed}
 use Rattle.stm_state.specs.declared.state.Task.TheVariants.{Idle, Moving}
 use Rattle.stm_state.specs.State.{State, call_at, task_at}
-use Rattle.stm_state.specs.Steps.{Block, moved, version_of, write_of}
-use Rattle.stm_state.specs.Invariant.{view_of, ViewInvariant, AreSafe, Invariant, IsAhead, IsMoved, IsPast, IsUnmovedEntry, has_key, lowered_by, named_by, owned_by, run_by}
+use Rattle.stm_state.specs.Steps.{Block, after_move_key, version_of, write_of}
+use Rattle.stm_state.specs.Parts.{IsPast, has_key}
+use Rattle.stm_state.proofs.Invariant.{view_of, ViewInvariant, AreSafe, Invariant, IsToBeLowered, IsMoved, IsUnmovedEntry, lowered_by, named_by, owned_by, run_by}
 use Rattle.stm_state.proofs.Lists.{stays_at, set_at}
-use Rattle.stm_state.proofs.Frames.{Frame, frame_kept, keeps_itself, still_executing}
-use Rattle.stm_state.proofs.Safes.{StandsOn, on_below, on_estimates, safe_ahead, safe_other}
+use Rattle.stm_state.proofs.OneCallChanges.{Frame, frame_kept, keeps_itself, still_executing}
+use Rattle.stm_state.proofs.SafeReads.{StandsOn, on_below, on_estimates, safe_ahead, safe_other}
 use Rattle.stm_state.proofs.Tests.{resized}
 use Rattle.stm_state.proofs.Writes.{changed_other, or_true, version_is}
 use Rattle.stm_state.proofs.Targets.{amid_step, amid_cases, left_stays}
@@ -28,7 +29,7 @@ module _ (block : Block) (s : State) (w i : ℕ) (key : List ℕ) (keys : List (
 
   -- the state after the move
   abbrev after : State
-  after = moved w i key keys new s
+  after = after_move_key w i key keys new s
 
   -- other calls keep their entries
   entry_other : (k : List ℕ) (j : ℕ) → j ≢ i → entry_at after.versions k j ≡ entry_at s.versions k j
@@ -85,7 +86,7 @@ module _ (block : Block) (s : State) (w i : ℕ) (key : List ℕ) (keys : List (
   }
 
   -- with a new key the calls above are seen to by this very task
-  is_ahead : new ≡ true → (j : ℕ) → i < j → IsAhead (task_at after) j
+  is_ahead : new ≡ true → (j : ℕ) → i < j → IsToBeLowered (task_at after) j
   is_ahead new_key j l = record { worker = w; call = i; task = ap lowered_by (move_frame.tasks.there ∙ ap (Moving i keys) new_key); lower = l }
 
   -- what stands of calls below stays so
@@ -122,11 +123,11 @@ module _ (block : Block) (s : State) (w i : ℕ) (key : List ℕ) (keys : List (
       ]
 
   -- moving a key keeps the invariant
-  pub moved_facts : ViewInvariant block (view_of (moved w i key keys new s))
+  pub moved_facts : ViewInvariant block (view_of (after_move_key w i key keys new s))
   moved_facts = frame_kept block (view_of s) (view_of after) i w (call_at s i) (Moving i keys new) move_frame f (λ h. let r = is_executing in cc) others_safe
 
 -- moving a key keeps the invariant
-pub move_kept : (block : Block) (workers w i : ℕ) (key : List ℕ) (keys : List (List ℕ)) (new : Bool) (s : State) → Invariant block workers s → w < workers → task_at s w ≡ Moving i (key ∷ keys) new → Invariant block workers (moved w i key keys new s)
+pub move_kept : (block : Block) (workers w i : ℕ) (key : List ℕ) (keys : List (List ℕ)) (new : Bool) (s : State) → Invariant block workers s → w < workers → task_at s w ≡ Moving i (key ∷ keys) new → Invariant block workers (after_move_key w i key keys new s)
 move_kept block workers w i key keys new s h w_in moves = record {
   sized = resized block.count workers s _ refl (length-set s.tasks w _) refl refl h.sized;
   facts = moved_facts block s w i key keys new h.facts moves (let e = h.sized.tasks in omega (arith, e));

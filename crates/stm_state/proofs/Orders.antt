@@ -5,7 +5,8 @@ use Rattle.std.proofs.lemmas.List.{length-map, get_or-map}
 use Rattle.rv_ledger.specs.Key.{Storage}
 use Rattle.rv_ledger.specs.Call.{Invocation}
 use Rattle.rv_ledger.specs.declared.receipt.Receipt.{Receipt}
-use Rattle.rv_step.specs.Chain.{Reply, AreFrom, ends}
+use Rattle.rv_step.specs.Moment.{Reply}
+use Rattle.rv_step.specs.Chain.{AreFrom, ends}
 use Rattle.rv_step.specs.Fold.{apply_writes, receipts_of, store_after, store_after_call}
 use Rattle.rv_step.proofs.Receipts.{one_receipt_lem}
 use Rattle.stm_state.specs.State.{fresh}

@@ -1,15 +1,13 @@
 -- What the versions that an origin names say of what is seen.
-use Rattle.std.proofs.Common.{◌≡◌, ◌<◌, ◌&&◌, ℕ, true, List, [], ◌∷◌, Option, None, Some, refl, sym, ap, ◌∙◌, inl}
+use Rattle.std.proofs.Common.{◌≡◌, ℕ, true, List, [], ◌∷◌, Option, None, Some, refl, sym, ap, ◌∙◌}
 use Rattle.std.specs.Cmp.Derive.{both_true}
-use Rattle.std.specs.List.{AllByRecursion}
 use Rattle.rv_ledger.specs.Change.{Content, ContentChange, add, apply_change}
 use Rattle.rv_ledger.specs.declared.change.Change.TheVariants as change
 use Rattle.read_set.specs.Origin.{named}
-use Rattle.read_set.specs.declared.origin.Version.{Version}
 use Rattle.mvmap.specs.Versions.{Entry, Stands}
-use Rattle.mvmap.specs.Reading.{Visible, Base, Found, Blocked, Passed, blocker, bottom_in, is_origin, origin_in, passed_in, value_seen, visible_below}
-use Rattle.mvmap.proofs.Readings.{IsThere, StandsAmong, named_stand, seen_there}
-use Rattle.stm_state.specs.Invariant.{StandWith, apply_all}
+use Rattle.mvmap.specs.Reading.{Visible, Base, Found, Blocked, Passed, blocker, is_origin, origin_in, value_seen, visible_below}
+use Rattle.mvmap.proofs.Readings.{IsThere, seen_there}
+use Rattle.stm_state.specs.Parts.{StandWith, apply_all}
 use Rattle.stm_state.proofs.Tests.{equal_itself}
 
 -- the versions that are seen stand, each with its change

@@ -11,9 +11,9 @@ use Rattle.stm_state.specs.declared.state.Task.{Task}
 use Rattle.stm_state.specs.declared.state.Task.TheVariants.{Running, Moving, Marking}
 use Rattle.stm_state.specs.State.{State, call_at, task_at}
 use Rattle.stm_state.specs.Steps.{Block, write_of}
-use Rattle.stm_state.specs.Invariant.{view_of, ViewInvariant, IsCovered, IsRightAnswer, IsUnturned, IsWaiting, has_key, validated, ahead, lowered_by, marked_by, owned_by, run_by, turned_by}
-use Rattle.stm_state.specs.Parts.{HoldsWhereReached, IsRun, runs, moves, CallsAreAttended, IsOfUnfinishedRecord, OthersHaveEstimates, IsOfUnfinishedAbort, IsTakenBack, IsBehindNewKey, IsBehindAbort, IsToBeMet, ReadsAreWatched, IsTrueAnswer, RunsAreBorneOut}
-use Rattle.stm_state.proofs.Frames.{owned_status, turned_owned, unturned, unturned_run}
+use Rattle.stm_state.specs.Parts.{HoldsWhereReached, SizesStay, IsRun, runs, moves, CallsAreAttended, IsOfUnfinishedRecord, OthersHaveEstimates, IsOfUnfinishedAbort, IsTakenBack, IsBehindNewKey, IsBehindAbort, IsToBeMet, ReadsAreWatched, IsTrueAnswer, RunsAreBorneOut, has_key}
+use Rattle.stm_state.proofs.Invariant.{view_of, ViewInvariant, IsCovered, IsRightAnswer, IsUnturned, IsWaiting, validated, ahead, lowered_by, marked_by, owned_by, run_by, turned_by}
+use Rattle.stm_state.proofs.OneCallChanges.{owned_status, turned_owned, unturned, unturned_run}
 use Rattle.stm_state.proofs.Asks.{same_entries, executed_entries}
 use Rattle.stm_state.proofs.Writes.{no_version, version_is}
 use Rattle.stm_state.proofs.Whole.{invariant_kept}
@@ -124,7 +124,10 @@ module _ (block : Block) (s : State) (f : ViewInvariant block (view_of s)) where
     };
   }
 
--- the four parts hold of each state that is reached
+-- in each state that is reached the sizes are those of the start, and the four parts hold
+pub sizes_kept : SizesStay
+sizes_kept block workers s reached = (invariant_kept block workers s reached).sized
+
 pub attended_kept : HoldsWhereReached CallsAreAttended
 attended_kept block workers s reached = attended block s (invariant_kept block workers s reached).facts
 

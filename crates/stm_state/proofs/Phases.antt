@@ -1,140 +1,156 @@
--- One worker on a job: what call d sees where the calls below it are recorded in order, and the asking for its execution.
-use Rattle.std.proofs.Common.{◌≡◌, ◌<◌, ◌≤◌, ◌≢◌, ◌+◌, ◌*◌, ℕ, zero, suc, false, is_some, if◌then◌else◌, option_map, List, [], ◌∷◌, length, get_or, set, slice_get, Option, None, Some, Ok, arith, refl, sym, ap, subst, ◌∙◌, inl, inr}
-use Rattle.std.specs.FinMap.{get}
-use Rattle.std.proofs.lemmas.Grind.{get_or-set_at}
-use Rattle.std.proofs.lemmas.List.{get_or_past}
+-- One worker on a block: which call it is at, what it does there and what it did so far, and where its next step leads.
+use Rattle.std.proofs.Common.{◌≡◌, ◌<◌, ◌≤◌, ◌+◌, ◌*◌, ℕ, suc, Bool, true, false, List, [], ◌∷◌, ◌++◌, length, map, get_or, set, slice_get, None, Some, arith, refl, ap, ◌∙◌, inl, inr}
+use Rattle.std.specs.List.{list_all}
+use Rattle.std.proofs.lemmas.Bool.{cond-true}
 use Rattle.std.proofs.lemmas.Option.{slice_get_cases}
-use Rattle.rv_ledger.specs.Change.{ContentChange}
-use Rattle.rv_ledger.specs.Key.{Storage}
 use Rattle.rv_ledger.specs.Call.{Invocation}
 use Rattle.rv_ledger.specs.declared.outcome.Counts.{Counts}
 use Rattle.rv_ledger.specs.declared.receipt.Receipt.{Receipt}
-use Rattle.rv_step.specs.Chain.{ends}
-use Rattle.rv_step.specs.Fold.{apply_writes, store_after, store_after_call, store_before}
 use Rattle.rv_step.specs.declared.answer.StorageAnswer.{StorageAnswer}
-use Rattle.mvmap.specs.Versions.{Stands, entry_at}
-use Rattle.mvmap.specs.Reading.{Visible, visible_over, visible_below, value_seen}
+use Rattle.mvmap.specs.Versions.{entry_at}
+use Rattle.mvmap.specs.Reading.{stands, visible_below}
 use Rattle.stm_state.specs.declared.state.CallState.{CallState}
 use Rattle.stm_state.specs.declared.state.Recorded.{Recorded}
 use Rattle.stm_state.specs.declared.state.Task.{Task}
-use Rattle.stm_state.specs.declared.state.Task.TheVariants.{Idle, Running}
-use Rattle.stm_state.specs.State.{State, fresh, no_counts, call_at, task_at, is_done}
-use Rattle.stm_state.specs.Steps.{Block, counted, one_asking, step_with, write_of}
-use Rattle.stm_state.specs.Invariant.{view_of, ViewInvariant, Invariant}
-use Rattle.stm_state.specs.Done.{last_receipt, block_of}
-use Rattle.stm_state.specs.Drive.{due_step, due_result}
-use Rattle.stm_state.specs.OneWorker.{MeetsNoEstimate}
-use Rattle.stm_state.proofs.Asks.{executed_entries}
-use Rattle.stm_state.proofs.Writes.{over, applied_get}
-use Rattle.stm_state.proofs.Whole.{worker_kept}
-use Rattle.stm_state.proofs.Serials.{held_see}
-use Rattle.stm_state.proofs.Rounds.{IsRunOnce, Stage, begun, to_run, run_over, other_call, run_asked, run_stage}
-
--- ---- what a call sees where the calls below it are recorded in order
-
--- a call has its receipt in order
-abbrev pub HasReceipt : List Invocation → Storage → ℕ → CallState → Type 0
-HasReceipt calls store j c = (call : Invocation) → slice_get calls j ≡ Some call → last_receipt c ≡ Some (ends call (store_before calls j store))
-
--- the storage before the next call
-store_next : (calls : List Invocation) (store : Storage) (j : ℕ) (call : Invocation) → slice_get calls j ≡ Some call → store_before calls (suc j) store ≡ apply_writes (store_before calls j store) (ends call (store_before calls j store)).writes
-unfolding store_after
-store_next [] store j call h = cc
-store_next (c ∷ calls) store zero call h = let same : c ≡ call = cc in ap (λ x. store_after_call x store) same
-store_next (c ∷ calls) store (suc j) call h = store_next calls (store_after_call c store) j call h
+use Rattle.stm_state.specs.declared.state.Task.TheVariants.{Idle, Running, Moving, Validating}
+use Rattle.stm_state.specs.State.{State, fresh, no_counts, start, call_at, with_task, is_done}
+use Rattle.stm_state.specs.Steps.{Block, read_of, reads_of, counted, one_step, one_asking, one_execution, one_validation, after_ask, count_done, keys_to_move, has_new_key, recorded_run}
+use Rattle.stm_state.proofs.Invariant.{Invariant}
+use Rattle.stm_state.specs.OneWorker.{OneWorkerDid}
+use Rattle.stm_state.proofs.Rounds.{Stage, first_stage, begun, all_first, is_over, told_stage, Answered, task_stage, to_run, run_stage, answer_stands, kept, all_stand, recorded_state, record_stage, after_move, moved_stands, moved_stage, finished, finished_stands, finish_stage, to_check, check_stage}
 
 -- there is a call at each index below their number
 pub call_there : (calls : List Invocation) (i : ℕ) → i < length calls → (call : Invocation) × (slice_get calls i ≡ Some call)
 call_there calls i l = elim (slice_get_cases calls i).1 [ inl there ↦ (there.0, there.2) | inr past ↦ let high = past.0 in absurd (omega (arith, l, high)) ]
 
--- the writes of a recorded run are those of its receipt
-written : (o : Option Recorded) (r : Receipt) (key : List ℕ) → option_map (λ run. run.receipt) o ≡ Some r → write_of o key ≡ get r.writes key
-written None r key h = cc
-written (Some run) r key h = let same : run.receipt ≡ r = cc in ap (λ (x : Receipt). get x.writes key) same
+-- ---- what the worker did
 
-module _ (calls : List Invocation) (store : Storage) (d : ℕ) (s : State) (f : ViewInvariant (block_of calls store) (view_of s)) (below : (j : ℕ) → j < d → IsRunOnce (call_at s j)) (receipts : (j : ℕ) → j < d → HasReceipt calls store j (call_at s j)) (within : d ≤ length calls) where
-  -- the entries of a recorded call
-  own_entry : (j : ℕ) (l : j < d) (call : Invocation) → slice_get calls j ≡ Some call → (key : List ℕ) → entry_at s.versions key j ≡ option_map (λ c. Stands 0 c) (get (ends call (store_before calls j store)).writes key)
-  own_entry j l call at key =
-      let once = below j l in
-      executed_entries (block_of calls store) (view_of s) f j once.status key
-      ∙ ap (λ n. option_map (λ c. Stands n c) (write_of (call_at s j).last key)) once.incarnation
-      ∙ ap (option_map (λ c. Stands 0 c)) (written (call_at s j).last _ key (receipts j l call at))
-
-  -- what is seen is the storage in order
-  pub sees : (key : List ℕ) (j : ℕ) → j ≤ d → value_seen (get store key) (visible_below (entry_at s.versions key) j) ≡ get (store_before calls j store) key
-  unfolding visible_below store_after
-  sees key zero l = refl
-  sees key (suc j) l =
-      let there = call_there calls j (omega (arith, l, within)) in
-      let o : Option ContentChange = get (ends there.0 (store_before calls j store)).writes key in
-      let own = own_entry j (omega (arith, l)) there.0 there.1 key in
-      let seen : Visible = visible_below (entry_at s.versions key) j in
-      ap (λ e. value_seen (get store key) (visible_over j e seen)) own
-      ∙ held_see (get store key) j 0 o seen
-      ∙ ap (over o) (sees key j (omega (arith, l)))
-      ∙ sym (applied_get (store_before calls j store) (ends there.0 (store_before calls j store)).writes key)
-      ∙ ap (λ before. get before key) (sym (store_next calls store j there.0 there.1))
-
--- ---- the round of a call
-
--- what the worker did
 abbrev pub did : ℕ → ℕ → ℕ → ℕ → Counts
 did steps asks executions validations = record { steps = steps; asks = asks; executions = executions; validations = validations }
 
--- one for a call that has a recorded run
-abbrev pub runs_recorded : CallState → ℕ
-runs_recorded c = if is_some c.last then 1 else 0
+-- these are its counts, and so many of its askings were answered Done
+abbrev pub Did : Counts → ℕ → List Counts → List ℕ → Type 0
+Did c told counts dones = (counts ≡ c ∷ []) × (dones ≡ told ∷ [])
 
--- the calls below d are recorded in order, call d is as told, and those above are as at the start
-pub record Now (calls : List Invocation) (store : Storage) (d : ℕ) (own : CallState) (execution validation : ℕ) (task : Task) (counts : Counts) (s : State) : Type 0 where
-  pub stage : Stage (block_of calls store) d own execution validation task s
-  pub receipts : (j : ℕ) → j < d → HasReceipt calls store j (call_at s j)
-  pub room : s.placed ≤ 256 * (d + runs_recorded own)
-  pub worked : get_or s.counts 0 no_counts ≡ counts
-  pub untold : get_or s.dones 0 0 ≡ 0
+-- a step is counted
+also : {c : Counts} {told : ℕ} {counts : List Counts} {dones : List ℕ} (add : Counts → Counts) → Did c told counts dones → Did (add c) told (set counts 0 (add (get_or counts 0 no_counts))) dones
+also add h = (ap (λ l. set l 0 (add (get_or l 0 no_counts))) h.0, h.1)
 
--- the worker's next step: it is owed before all is done, and no run is blocked
-pub record Takes (calls : List Invocation) (store : Storage) (s t : State) : Type 0 where
-  pub before : is_done s ≡ false
-  pub step : due_result calls store 0 s ≡ Some (Ok t)
-  pub free : MeetsNoEstimate s
+-- what is to be shown of a state that a counted step comes to
+abbrev pub Comes : Block → (State → Type 0) → (Counts → Counts) → State → Type 0
+Comes block P add u = Invariant block 1 (counted add 0 u) → P (counted add 0 u)
 
--- no run is blocked where the one worker's is not
-pub unblocked : (s : State) (task : Task) → length s.tasks ≡ 1 → task_at s 0 ≡ task → ((i b : ℕ) (answers : List StorageAnswer) → task ≢ Running i answers (Some b)) → MeetsNoEstimate s
-unblocked s task size does never zero i b answers h = never i b answers (sym does ∙ h)
-unblocked s task size does never (suc w) i b answers h = let idle = get_or_past s.tasks (suc w) Idle (omega (arith, size)) in cc
+-- ---- where it is, after so many steps
 
-module _ (calls : List Invocation) (store : Storage) (d : ℕ) (s : State) where
-  abbrev pub block : Block
-  block = block_of calls store
+-- the calls below d are through, and it asks for call d
+pub record Rests (block : Block) (d steps told : ℕ) (s : State) : Type 0 where
+  pub now : Stage block d fresh d d Idle s
+  pub worked : Did (did steps (2 * d + told) d d) told s.counts s.dones
 
-  -- what holds after any step
-  pub still : (t : State) → Invariant block 1 s → due_result calls store 0 s ≡ Some (Ok t) → Invariant block 1 t
-  still t inv e = worker_kept block 1 0 s t inv (omega arith) (due_step calls (task_at s 0)) e
+-- it runs call d, whose reads stand
+pub record Runs (block : Block) (d steps told : ℕ) (answers : List StorageAnswer) (s : State) : Type 0 where
+  pub now : Stage block d begun (d + 1) d (Running d answers None) s
+  pub worked : Did (did steps (2 * d + told + 1) d d) told s.counts s.dones
+  pub stand : list_all (stands s.versions d) (map read_of answers) ≡ true
 
-  -- a step that is counted
-  pub one_more : (inv : Invariant block 1 s) (add : Counts → Counts) (c : Counts) → get_or s.counts 0 no_counts ≡ c → get_or (set s.counts 0 (add (get_or s.counts 0 no_counts))) 0 no_counts ≡ add c
-  one_more inv add c e = get_or-set_at s.counts 0 0 (add (get_or s.counts 0 no_counts)) no_counts refl (let one = inv.sized.counts in omega (arith, one)) ∙ ap add e
+-- it moves the keys of call d's run, whose reads stand
+pub record Moves (block : Block) (d steps told : ℕ) (run : Recorded) (keys : List (List ℕ)) (new : Bool) (s : State) : Type 0 where
+  pub now : Stage block d (kept run) (d + 1) d (Moving d keys new) s
+  pub worked : Did (did steps (2 * d + told + 1) (d + 1) d) told s.counts s.dones
+  pub stand : list_all (stands s.versions d) run.reads ≡ true
 
-  -- ---- asking for call d's execution
+-- call d is EXECUTED, and it asks for its validation
+pub record Waits (block : Block) (d steps told : ℕ) (s : State) : Type 0 where
+  pub now : Stage block (d + 1) fresh (d + 1) d Idle s
+  pub worked : Did (did steps (2 * d + told + 1) (d + 1) d) told s.counts s.dones
+  pub stand : all_stand d s ≡ true
 
-  module _ (c : Counts) (now : Now calls store d fresh d d Idle c s) (within : d < length calls) where
-    abbrev asked_run : State
-    asked_run = counted one_asking 0 (to_run block s)
+-- it validates call d
+pub record Checks (block : Block) (d steps told left : ℕ) (s : State) : Type 0 where
+  pub now : Stage block (d + 1) fresh (d + 1) (d + 1) (Validating d 0 left false) s
+  pub worked : Did (did steps (2 * d + told + 1 + 1) (d + 1) d) told s.counts s.dones
+  pub stand : all_stand d s ≡ true
 
-    run_due : due_result calls store 0 s ≡ Some (Ok asked_run)
-    run_due = ap (λ task. step_with block 0 task (due_step calls task) s) now.stage.does ∙ ap (λ u. Some (Ok (counted one_asking 0 u))) (run_asked block s d now.stage within)
+-- so it is at the start
+pub first : (block : Block) → Rests block 0 0 0 (start block.count 1)
+first block = record { now = first_stage block; worked = (refl, refl) }
 
-    pub run_begins : (t : State) × Takes calls store s t × Now calls store d begun (d + 1) d (Running d [] None) (one_asking c) t
-    run_begins = (
-      asked_run,
-      record { before = run_over block s d now.stage within; step = run_due; free = unblocked s Idle now.stage.inv.sized.tasks now.stage.does (λ i b answers h. cc) },
-      record {
-        stage = run_stage block s d now.stage within (still asked_run now.stage.inv run_due);
-        receipts = λ j l. subst (λ x. HasReceipt calls store j x) (sym (other_call block s d now.stage within j (λ q. omega (arith, l, q)))) (now.receipts j l);
-        room = now.room;
-        worked = one_more now.stage.inv one_asking c now.worked;
-        untold = now.untold;
-      },
-    )
+-- a call that was begun is one of the block's
+pub within_block : {block : Block} {m d v : ℕ} {own : CallState} {task : Task} {s : State} → Stage block m own (d + 1) v task s → d < block.count
+within_block now = let all = now.inv.facts.execution_within in let from = now.runs_from in omega (arith, all, from)
+
+module _ {block : Block} {s : State} {d steps told : ℕ} where
+  -- ---- where the calls below d are through
+
+  module _ (h : Rests block d steps told s) where
+    -- call d is left, and is run
+    pub begins : (within : d < block.count) → Comes block (Runs block d (steps + 1) told []) one_asking (to_run block s)
+    begins within inv = record { now = run_stage block s d h.now within inv; worked = also one_asking h.worked; stand = refl }
+
+    -- no call is left
+    module _ (past : block.count ≤ d) where
+      last : d ≡ block.count
+      last = let all = h.now.inv.facts.execution_within in let from = h.now.runs_from in omega (arith, all, from, past)
+
+      pub over : is_done s ≡ true
+      over = is_over block s h.now.inv (h.now.runs_from ∙ last) (h.now.checks_from ∙ last) h.now.does
+
+      pub told_asked : after_ask 0 s ≡ count_done 0 s
+      told_asked = cond-true (is_done s) (count_done 0 s) _ over
+
+      -- the asking is told so
+      pub told_so : Comes block (Rests block d (steps + 1) (told + 1)) one_asking (count_done 0 s)
+      told_so inv =
+          let asks : 2 * d + told + 1 ≡ 2 * d + (told + 1) = omega arith in
+          record {
+            now = told_stage block s d fresh d d Idle h.now inv;
+            worked = ((also one_asking h.worked).0 ∙ ap (λ n. did (steps + 1) n d d ∷ []) asks, ap (λ l. set l 0 (get_or l 0 0 + 1)) h.worked.1);
+          }
+
+      -- what the worker did
+      pub did_all : OneWorkerDid block.count steps (2 * block.count + told) told s
+      did_all = record {
+        counts = h.worked.0 ∙ ap (λ n. did steps (2 * n + told) n n ∷ []) last;
+        dones = h.worked.1;
+        incarnations = all_first block d d d Idle s h.now;
+      }
+
+  -- ---- where call d is run
+
+  -- a read
+  pub reads_on : {answers : List StorageAnswer} (key : List ℕ) → Runs block d steps told answers s → (a : Answered block.base key d answers (visible_below (entry_at s.versions key) d))
+      → Comes block (Runs block d (steps + 1) told (answers ++ a.answer ∷ [])) one_step (with_task 0 (Running d (answers ++ a.answer ∷ []) None) s)
+  reads_on key h a inv = record { now = task_stage block s _ _ _ _ _ _ one_step h.now inv; worked = also one_step h.worked; stand = answer_stands block s block.base key d _ h.stand a }
+
+  -- the record
+  pub records_on : {answers : List StorageAnswer} (receipt : Receipt) (h : Runs block d steps told answers s) (within : d < block.count)
+      → Comes block (Moves block d (steps + 1) told (recorded_run answers receipt) (keys_to_move None receipt.writes) (has_new_key None receipt.writes)) one_execution (recorded_state block s d answers receipt h.now within)
+  records_on receipt h within inv = record { now = record_stage block s d _ receipt h.now within inv; worked = also one_execution h.worked; stand = h.stand }
+
+  -- ---- where the keys of its run are moved
+
+  module _ {run : Recorded} {new : Bool} where
+    -- a key
+    pub moves_on : {key : List ℕ} {keys : List (List ℕ)} (h : Moves block d steps told run (key ∷ keys) new s) → Comes block (Moves block d (steps + 1) told run keys new) one_step (after_move block s d run key keys new h.now)
+    moves_on h inv = record { now = moved_stage block s d run _ _ new h.now inv; worked = also one_step h.worked; stand = moved_stands block s d run _ _ new h.now run.reads h.stand }
+
+    -- the finish
+    pub finishes_on : (h : Moves block d steps told run [] new s) (within : d < block.count) → Comes block (Waits block d (steps + 1) told) one_step (with_task 0 Idle (finished block s d run new h.now within))
+    finishes_on h within inv = record { now = finish_stage block s d run new h.now within inv; worked = also one_step h.worked; stand = finished_stands block s d run new h.now within h.stand }
+
+  -- ---- where it is EXECUTED
+
+  -- it is to be validated
+  pub waits_on : Waits block d steps told s → d < block.count → Comes block (Checks block d (steps + 1) told (length (reads_of (call_at s d).last))) one_asking (to_check block s)
+  waits_on h within inv = record { now = check_stage block s d h.now within inv; worked = also one_asking h.worked; stand = h.stand }
+
+  -- a check of a read
+  pub checks_on : {left : ℕ} → Checks block d steps told (suc left) s → Comes block (Checks block d (steps + 1) told left) one_step (with_task 0 (Validating d 0 left false) s)
+  checks_on h inv = record { now = task_stage block s _ _ _ _ _ _ one_step h.now inv; worked = also one_step h.worked; stand = h.stand }
+
+  -- the decision
+  pub decides_on : {left : ℕ} → Checks block d steps told left s → Comes block (Rests block (d + 1) (steps + 1) told) one_validation (with_task 0 Idle s)
+  decides_on h inv =
+      let counts = also one_validation h.worked in
+      let asks : 2 * d + told + 1 + 1 ≡ 2 * (d + 1) + told = omega arith in
+      record { now = task_stage block s _ _ _ _ _ _ one_validation h.now inv; worked = (counts.0 ∙ ap (λ n. did (steps + 1) n (d + 1) (d + 1) ∷ []) asks, counts.1) }

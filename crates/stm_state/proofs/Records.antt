@@ -12,11 +12,12 @@ use Rattle.stm_state.specs.declared.state.Task.{Task}
 use Rattle.stm_state.specs.declared.state.Task.TheVariants.{Idle, Running, Moving}
 use Rattle.stm_state.specs.Limits.{incarnation_limit}
 use Rattle.stm_state.specs.State.{State, fresh, call_at, task_at}
-use Rattle.stm_state.specs.Steps.{Block, has_new_key, keys_to_move, recorded, recorded_run, write_of}
-use Rattle.stm_state.specs.Invariant.{view_of, ViewInvariant, IsBorneOut, Invariant, IsMoved, IsUnmovedEntry, has_key, lowered_by, named_by, owned_by, run_by, turned_by}
+use Rattle.stm_state.specs.Steps.{Block, has_new_key, keys_to_move, after_record, recorded_run, write_of}
+use Rattle.stm_state.specs.Parts.{has_key}
+use Rattle.stm_state.proofs.Invariant.{view_of, ViewInvariant, IsBorneOut, Invariant, IsMoved, IsUnmovedEntry, lowered_by, named_by, owned_by, run_by, turned_by}
 use Rattle.stm_state.proofs.Lists.{set_at}
-use Rattle.stm_state.proofs.Frames.{StatusOwes, entries_stay, keeps_unchecked, unturned_run}
-use Rattle.stm_state.proofs.Safes.{others_kept}
+use Rattle.stm_state.proofs.OneCallChanges.{StatusOwes, entries_stay, keeps_unchecked, unturned_run}
+use Rattle.stm_state.proofs.SafeReads.{others_kept}
 use Rattle.stm_state.proofs.Tests.{resized}
 use Rattle.stm_state.proofs.Asks.{same_entries}
 use Rattle.stm_state.proofs.Writes.{distinct_to_move, to_move, no_new_key}
@@ -64,7 +65,7 @@ module _ (block : Block) (s : State) (w i : ℕ) (answers : List StorageAnswer) 
 
   -- the state after the record
   abbrev after : State
-  after = recorded w i answers receipt s
+  after = after_record w i answers receipt s
 
   -- call i has estimates at the keys of its last run
   old_entries : (key : List ℕ) → entry_at s.versions key i ≡ option_map (λ c. Estimate) (write_of (call_at s i).last key)
@@ -81,7 +82,7 @@ module _ (block : Block) (s : State) (w i : ℕ) (answers : List StorageAnswer) 
   }
 
   -- a record keeps the invariant
-  pub recorded_facts : ViewInvariant block (view_of (recorded w i answers receipt s))
+  pub recorded_facts : ViewInvariant block (view_of (after_record w i answers receipt s))
   recorded_facts = others_kept block (view_of s) (view_of after) i w kept task (record {
     calls = set_at s.calls i kept fresh i_in;
     tasks = set_at s.tasks w task Idle w_in;
@@ -104,7 +105,7 @@ module _ (block : Block) (s : State) (w i : ℕ) (answers : List StorageAnswer) 
 
 -- recording keeps the invariant
 pub record_kept : (block : Block) (workers w i : ℕ) (answers : List StorageAnswer) (receipt : Receipt) (s : State) → Invariant block workers s → w < workers → task_at s w ≡ Running i answers None → (call_at s i).incarnation < incarnation_limit → block.borne_out i (replies_of answers) ≡ Some receipt
-    → Invariant block workers (recorded w i answers receipt s)
+    → Invariant block workers (after_record w i answers receipt s)
 record_kept block workers w i answers receipt s h w_in runs less borne_out = record {
   sized = resized block.count workers s _ (length-set s.calls i _) (length-set s.tasks w _) refl refl h.sized;
   facts = recorded_facts block s w i answers receipt h.facts runs (let e = h.sized.tasks in omega (arith, e))

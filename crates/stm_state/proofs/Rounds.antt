@@ -22,8 +22,8 @@ use Rattle.stm_state.specs.declared.state.Recorded.{Recorded}
 use Rattle.stm_state.specs.declared.state.Task.{Task}
 use Rattle.stm_state.specs.declared.state.Task.TheVariants.{Idle, Running, Moving, Validating}
 use Rattle.stm_state.specs.State.{State, fresh, start, call_at, task_at, with_call, with_task, is_ready, is_executed, is_aborting, is_idle, is_done}
-use Rattle.stm_state.specs.Steps.{Block, read_of, reads_of, counted, one_step, one_asking, one_execution, ask_validation, ask_execution, asked, count_done, answered_by, answered_with, given, is_some_of, is_parked_on, resume_if_parked, lowered, resume_dependents, to_validate, recorded_run, has_new_key, keys_to_move, recorded, moved, executed, is_executed_at, read_stands, next_stands, checked, decided, version_of, write_of}
-use Rattle.stm_state.specs.Invariant.{view_of, ViewInvariant, Invariant}
+use Rattle.stm_state.specs.Steps.{Block, read_of, reads_of, counted, one_step, one_asking, one_execution, ask_validation, ask_execution, after_ask, count_done, answered_by, answered_with, given, is_some_of, is_parked_on, resume_if_parked, least_parked_call, resume_dependents, to_validate, recorded_run, has_new_key, keys_to_move, after_record, after_move_key, after_finish_execution, is_executed_at, read_stands, next_stands, after_check_read, after_decide, version_of, write_of}
+use Rattle.stm_state.proofs.Invariant.{view_of, ViewInvariant, Invariant}
 use Rattle.stm_state.proofs.Tests.{equal_itself, lt_is, not_lt_is}
 use Rattle.stm_state.proofs.Origins.{own_origin}
 use Rattle.stm_state.proofs.Asks.{executed_entries}
@@ -51,14 +51,44 @@ abbrev pub first_move : ℕ → Receipt → Task
 first_move d receipt = Moving d (keys_to_move None receipt.writes) (has_new_key None receipt.writes)
 
 -- the calls below m were run once, call m is as told, and those above are as at the start
+pub record Order (m : ℕ) (own : CallState) (calls : List CallState) : Type 0 where
+  pub below : (j : ℕ) → j < m → IsRunOnce (get_or calls j fresh)
+  pub here : get_or calls m fresh ≡ own
+  pub above : (j : ℕ) → m < j → get_or calls j fresh ≡ fresh
+
+-- and this is what the indices and the worker's task are
 pub record Stage (block : Block) (m : ℕ) (own : CallState) (execution validation : ℕ) (task : Task) (s : State) : Type 0 where
   pub inv : Invariant block 1 s
   pub runs_from : s.execution ≡ execution
   pub checks_from : s.validation ≡ validation
   pub does : task_at s 0 ≡ task
-  pub below : (j : ℕ) → j < m → IsRunOnce (call_at s j)
-  pub here : call_at s m ≡ own
-  pub above : (j : ℕ) → m < j → call_at s j ≡ fresh
+  pub calls : Order m own s.calls
+
+module _ {m i : ℕ} {own after set_to : CallState} {calls : List CallState} (h : Order m own calls) (at : i ≡ m) (within : m < length calls) (is : set_to ≡ after) where
+  same_else : (j : ℕ) → j ≢ m → get_or (set calls i set_to) j fresh ≡ get_or calls j fresh
+  same_else j ne = get_or-set_other calls i j set_to fresh (λ e. ne (e ∙ at))
+
+  same_here : get_or (set calls i set_to) m fresh ≡ after
+  same_here = get_or-set_at calls i m set_to fresh (sym at) (omega (arith, at, within)) ∙ is
+
+  -- call m is as told now
+  set_here : Order m after (set calls i set_to)
+  set_here = record {
+    below = λ j l. subst (λ x. IsRunOnce x) (sym (same_else j (λ e. omega (arith, l, e)))) (h.below j l);
+    here = same_here;
+    above = λ j l. same_else j (λ e. omega (arith, l, e)) ∙ h.above j l;
+  }
+
+  -- call m was run once now
+  set_done : IsRunOnce after → Order (m + 1) fresh (set calls i set_to)
+  set_done once = record {
+    below = λ j l. elim (cases_eq j m) [
+      | inl e ↦ subst (λ x. IsRunOnce (get_or (set calls i set_to) x fresh)) (sym e) (subst (λ x. IsRunOnce x) (sym same_here) once)
+      | inr ne ↦ subst (λ x. IsRunOnce x) (sym (same_else j ne)) (h.below j (omega (arith, l, ne)))
+    ];
+    here = same_else (m + 1) (λ e. omega (arith, e)) ∙ h.above (m + 1) (omega arith);
+    above = λ j l. same_else j (λ e. omega (arith, l, e)) ∙ h.above j (omega (arith, l));
+  }
 
 -- so it is at the start
 pub first_stage : (block : Block) → Stage block 0 fresh 0 0 Idle (start block.count 1)
@@ -67,18 +97,16 @@ first_stage block = record {
   runs_from = refl;
   checks_from = refl;
   does = replicated 1 0 Idle;
-  below = λ j l. absurd (omega (arith, l));
-  here = replicated block.count 0 fresh;
-  above = λ j l. replicated block.count j fresh;
+  calls = record { below = λ j l. absurd (omega (arith, l)); here = replicated block.count 0 fresh; above = λ j l. replicated block.count j fresh };
 }
 
 -- where call m is yet to be run each call is at its incarnation 0
 pub all_first : (block : Block) (m e v : ℕ) (task : Task) (s : State) → Stage block m fresh e v task s → (i : ℕ) → (call_at s i).incarnation ≡ 0
 all_first block m e v task s now i = elim (cases_lt i m) [
-  | inl low ↦ (now.below i low).incarnation
+  | inl low ↦ (now.calls.below i low).incarnation
   | inr high ↦ elim (cases_eq i m) [
-    | inl is ↦ ap (λ (x : CallState). x.incarnation) (ap (call_at s) is ∙ now.here)
-    | inr ne ↦ ap (λ (x : CallState). x.incarnation) (now.above i (omega (arith, high, ne)))
+    | inl is ↦ ap (λ (x : CallState). x.incarnation) (ap (call_at s) is ∙ now.calls.here)
+    | inr ne ↦ ap (λ (x : CallState). x.incarnation) (now.calls.above i (omega (arith, high, ne)))
   ]
 ]
 
@@ -116,14 +144,14 @@ none_readied i [] h = refl
 none_readied i (c ∷ calls) h =
     ap (λ x. x ∷ map (resume_if_parked i) calls) (cond-false (is_parked_on i c) _ _ (h 0)) ∙ ap (λ xs. c ∷ xs) (none_readied i calls (λ j. h (suc j)))
 
-none_lowered : (i x p : ℕ) (calls : List CallState) → ((j : ℕ) → is_parked_on i (get_or calls j fresh) ≡ false) → lowered i x p calls ≡ x
+none_lowered : (i x p : ℕ) (calls : List CallState) → ((j : ℕ) → is_parked_on i (get_or calls j fresh) ≡ false) → least_parked_call i x p calls ≡ x
 none_lowered i x p [] h = refl
 none_lowered i x p (c ∷ calls) h = none_lowered i (cond (is_parked_on i c) (min x p) x) (p + 1) calls (λ j. h (suc j)) ∙ cond-false (is_parked_on i c) (min x p) x (h 0)
 
 none_resumed : (i : ℕ) (s : State) → ((j : ℕ) → is_parked_on i (call_at s j) ≡ false) → resume_dependents i s ≡ s
 unfolding resume_dependents
 none_resumed i s h =
-    ap (λ calls. record s { calls = calls; execution = lowered i s.execution 0 s.calls }) (none_readied i s.calls h)
+    ap (λ calls. record s { calls = calls; execution = least_parked_call i s.execution 0 s.calls }) (none_readied i s.calls h)
     ∙ ap (λ e. record s { execution = e }) (none_lowered i s.execution 0 s.calls h)
 
 -- ---- reads that stand
@@ -174,27 +202,11 @@ module _ (block : Block) (s : State) where
 
   -- a step that changes the worker's task alone
   pub task_stage : (m : ℕ) (own : CallState) (e v : ℕ) (old task : Task) (add : Counts → Counts) → Stage block m own e v old s → Invariant block 1 (counted add 0 (with_task 0 task s)) → Stage block m own e v task (counted add 0 (with_task 0 task s))
-  task_stage m own e v old task add now inv = record {
-    inv = inv;
-    runs_from = now.runs_from;
-    checks_from = now.checks_from;
-    does = new_task now.inv task;
-    below = now.below;
-    here = now.here;
-    above = now.above;
-  }
+  task_stage m own e v old task add now inv = record { inv = inv; runs_from = now.runs_from; checks_from = now.checks_from; does = new_task now.inv task; calls = now.calls }
 
   -- an asking that is told that all is done
   pub told_stage : (m : ℕ) (own : CallState) (e v : ℕ) (task : Task) → Stage block m own e v task s → Invariant block 1 (counted one_asking 0 (count_done 0 s)) → Stage block m own e v task (counted one_asking 0 (count_done 0 s))
-  told_stage m own e v task now inv = record {
-    inv = inv;
-    runs_from = now.runs_from;
-    checks_from = now.checks_from;
-    does = now.does;
-    below = now.below;
-    here = now.here;
-    above = now.above;
-  }
+  told_stage m own e v task now inv = record { inv = inv; runs_from = now.runs_from; checks_from = now.checks_from; does = now.does; calls = now.calls }
 
   -- ---- asking for the execution of call d
 
@@ -203,13 +215,13 @@ module _ (block : Block) (s : State) where
   to_run = with_task 0 (Running s.execution [] None) (with_call s.execution (record (call_at s s.execution) { status = Executing }) (record s { execution = s.execution + 1 }))
 
   module _ (d : ℕ) (now : Stage block d fresh d d Idle s) (within : d < block.count) where
-    pub run_over : is_done s ≡ false
+    run_over : is_done s ≡ false
     run_over = not_done block 1 s now.inv (λ o. let e = o.execution in let r = now.runs_from in omega (arith, e, r, within))
 
     call_is : call_at s s.execution ≡ fresh
-    call_is = ap (call_at s) now.runs_from ∙ now.here
+    call_is = ap (call_at s) now.runs_from ∙ now.calls.here
 
-    pub run_asked : asked 0 s ≡ to_run
+    pub run_asked : after_ask 0 s ≡ to_run
     unfolding ask_execution
     run_asked =
         let e = now.runs_from in let v = now.checks_from in let n = now.inv.sized.calls in
@@ -218,19 +230,13 @@ module _ (block : Block) (s : State) where
         ∙ cond-true (nat_lt s.execution (length s.calls)) _ _ (lt_is s.execution (length s.calls) (omega (arith, e, n, within)))
         ∙ cond-true (is_ready (call_at s s.execution).status) _ _ (ap (λ (x : CallState). is_ready x.status) call_is)
 
-    pub other_call : (j : ℕ) → j ≢ d → call_at to_run j ≡ call_at s j
-    other_call j ne = get_or-set_other s.calls s.execution j _ fresh (λ q. ne (q ∙ now.runs_from))
-
     pub run_stage : Invariant block 1 (counted one_asking 0 to_run) → Stage block d begun (d + 1) d (Running d [] None) (counted one_asking 0 to_run)
     run_stage inv = record {
       inv = inv;
       runs_from = ap (λ x. x + 1) now.runs_from;
       checks_from = now.checks_from;
       does = new_task now.inv (Running s.execution [] None) ∙ ap (λ i. Running i [] None) now.runs_from;
-      below = λ j l. subst (λ x. IsRunOnce x) (sym (other_call j (λ q. omega (arith, l, q)))) (now.below j l);
-      here = get_or-set_at s.calls s.execution d (record (call_at s s.execution) { status = Executing }) fresh (sym now.runs_from) (let e = now.runs_from in let n = now.inv.sized.calls in omega (arith, e, n, within))
-          ∙ ap (λ (x : CallState). record x { status = Executing }) call_is;
-      above = λ j l. other_call j (λ q. omega (arith, l, q)) ∙ now.above j l;
+      calls = set_here now.calls now.runs_from (let n = now.inv.sized.calls in omega (arith, n, within)) (ap (λ (x : CallState). record x { status = Executing }) call_is);
     }
 
   -- ---- a read
@@ -246,54 +252,35 @@ module _ (block : Block) (s : State) where
   -- ---- the record of call d
 
   module _ (d : ℕ) (answers : List StorageAnswer) (receipt : Receipt) (now : Stage block d begun (d + 1) d (Running d answers None) s) (within : d < block.count) where
-    abbrev kept_call : CallState
-    kept_call = record (call_at s d) { last = Some (recorded_run answers receipt) }
-
-    abbrev pub after_record : State
-    after_record = recorded 0 d answers receipt s
-
-    -- the other calls stay
-    pub kept_else : (j : ℕ) → j ≢ d → call_at after_record j ≡ call_at s j
-    kept_else j ne = get_or-set_other s.calls d j kept_call fresh ne
+    abbrev pub recorded_state : State
+    recorded_state = after_record 0 d answers receipt s
 
     -- the run is kept, and its keys are to move
-    pub record_stage : Invariant block 1 (counted one_execution 0 after_record) → Stage block d (kept (recorded_run answers receipt)) (d + 1) d (first_move d receipt) (counted one_execution 0 after_record)
+    pub record_stage : Invariant block 1 (counted one_execution 0 recorded_state) → Stage block d (kept (recorded_run answers receipt)) (d + 1) d (first_move d receipt) (counted one_execution 0 recorded_state)
     record_stage inv = record {
       inv = inv;
       runs_from = now.runs_from;
       checks_from = now.checks_from;
-      does = new_task now.inv (Moving d (keys_to_move (call_at s d).last receipt.writes) (has_new_key (call_at s d).last receipt.writes))
-          ∙ ap (λ (x : CallState). Moving d (keys_to_move x.last receipt.writes) (has_new_key x.last receipt.writes)) now.here;
-      below = λ j l. subst (λ x. IsRunOnce x) (sym (kept_else j (λ e. omega (arith, l, e)))) (now.below j l);
-      here = get_or-set_at s.calls d d kept_call fresh refl (let n = now.inv.sized.calls in omega (arith, n, within))
-          ∙ ap (λ (x : CallState). record x { last = Some (recorded_run answers receipt) }) now.here;
-      above = λ j l. kept_else j (λ e. omega (arith, l, e)) ∙ now.above j l;
+      does = new_task now.inv (Moving d (keys_to_move (call_at s d).last receipt.writes) (has_new_key (call_at s d).last receipt.writes)) ∙ ap (λ (x : CallState). Moving d (keys_to_move x.last receipt.writes) (has_new_key x.last receipt.writes)) now.calls.here;
+      calls = set_here now.calls refl (let n = now.inv.sized.calls in omega (arith, n, within)) (ap (λ (x : CallState). record x { last = Some (recorded_run answers receipt) }) now.calls.here);
     }
 
   -- ---- a key of call d is moved
 
   module _ (d : ℕ) (run : Recorded) (key : List ℕ) (keys : List (List ℕ)) (new : Bool) (now : Stage block d (kept run) (d + 1) d (Moving d (key ∷ keys) new) s) where
     abbrev pub after_move : State
-    after_move = moved 0 d key keys new s
+    after_move = after_move_key 0 d key keys new s
 
     -- what call d sees is as before
-    seen_still : (read : Read) → stands after_move.versions d read ≡ stands s.versions d read
-    seen_still read = ap (is_origin read.origin) (seen_same (entry_at after_move.versions read.key) (entry_at s.versions read.key) d (λ j l. changed_other s.versions key d (version_of (call_at s d) key) read.key j (λ e. omega (arith, l, e))))
+    pub moved_seen : (other : List ℕ) → visible_below (entry_at after_move.versions other) d ≡ visible_below (entry_at s.versions other) d
+    moved_seen other = seen_same (entry_at after_move.versions other) (entry_at s.versions other) d (λ j l. changed_other s.versions key d (version_of (call_at s d) key) other j (λ e. omega (arith, l, e)))
 
     -- so its reads stand
     pub moved_stands : (reads : List Read) → list_all (stands s.versions d) reads ≡ true → list_all (stands after_move.versions d) reads ≡ true
-    moved_stands reads stand = all_same (stands after_move.versions d) (stands s.versions d) seen_still reads ∙ stand
+    moved_stands reads stand = all_same (stands after_move.versions d) (stands s.versions d) (λ read. ap (is_origin read.origin) (moved_seen read.key)) reads ∙ stand
 
     pub moved_stage : Invariant block 1 (counted one_step 0 after_move) → Stage block d (kept run) (d + 1) d (Moving d keys new) (counted one_step 0 after_move)
-    moved_stage inv = record {
-      inv = inv;
-      runs_from = now.runs_from;
-      checks_from = now.checks_from;
-      does = new_task now.inv (Moving d keys new);
-      below = now.below;
-      here = now.here;
-      above = now.above;
-    }
+    moved_stage inv = record { inv = inv; runs_from = now.runs_from; checks_from = now.checks_from; does = new_task now.inv (Moving d keys new); calls = now.calls }
 
   -- ---- the execution of call d is finished
 
@@ -304,26 +291,27 @@ module _ (block : Block) (s : State) where
     abbrev pub finished : State
     finished = with_call d done_call s
 
-    done_here : call_at finished d ≡ done_call
-    done_here = get_or-set_at s.calls d d done_call fresh refl (let n = now.inv.sized.calls in omega (arith, n, within))
+    -- so it was run once
+    done_is : done_call ≡ record { status = Executed; incarnation = 0; parked = None; last = Some run }
+    done_is = ap (λ (x : CallState). record x { status = Executed }) now.calls.here
+
+    done_calls : Order (d + 1) fresh finished.calls
+    done_calls = set_done now.calls refl (let n = now.inv.sized.calls in omega (arith, n, within)) done_is (record { status = refl; incarnation = refl })
 
     -- the run is still kept
     pub done_last : (call_at finished d).last ≡ Some run
-    done_last = ap (λ (x : CallState). x.last) done_here ∙ ap (λ (x : CallState). x.last) now.here
-
-    pub done_else : (j : ℕ) → j ≢ d → call_at finished j ≡ call_at s j
-    done_else j ne = get_or-set_other s.calls d j done_call fresh ne
+    done_last = ap (λ (x : CallState). x.last) (same_here now.calls refl (let n = now.inv.sized.calls in omega (arith, n, within)) done_is)
 
     none_on : (j : ℕ) → is_parked_on d (call_at finished j) ≡ false
-    none_on j = elim (cases_eq j d) [
-      | inl e ↦ calm d (call_at finished j) Executed (ap (λ (x : CallState). x.status) (ap (call_at finished) e ∙ done_here)) refl
-      | inr ne ↦ elim (cases_lt j d) [
-        | inl low ↦ calm d (call_at finished j) Executed (ap (λ (x : CallState). x.status) (done_else j ne) ∙ (now.below j low).status) refl
-        | inr high ↦ calm d (call_at finished j) Ready (ap (λ (x : CallState). x.status) (done_else j ne ∙ now.above j (omega (arith, ne, high)))) refl
+    none_on j = elim (cases_lt d j) [
+      | inl high ↦ elim (cases_eq j (d + 1)) [
+        | inl e ↦ calm d (call_at finished j) Ready (ap (λ (x : CallState). x.status) (ap (call_at finished) e ∙ done_calls.here)) refl
+        | inr ne ↦ calm d (call_at finished j) Ready (ap (λ (x : CallState). x.status) (done_calls.above j (omega (arith, high, ne)))) refl
       ]
+      | inr low ↦ calm d (call_at finished j) Executed (done_calls.below j (omega (arith, low))).status refl
     ]
 
-    pub executed_is : executed 0 d new s ≡ with_task 0 Idle finished
+    pub executed_is : after_finish_execution 0 d new s ≡ with_task 0 Idle finished
     unfolding to_validate
     executed_is =
         ap (to_validate 0 d new (Validating d (call_at s d).incarnation (length (reads_of (call_at s d).last)) false)) (none_resumed d finished none_on)
@@ -334,21 +322,7 @@ module _ (block : Block) (s : State) where
     finished_stands stand = ap (λ last. list_all (stands s.versions d) (reads_of last)) done_last ∙ stand
 
     pub finish_stage : Invariant block 1 (counted one_step 0 (with_task 0 Idle finished)) → Stage block (d + 1) fresh (d + 1) d Idle (counted one_step 0 (with_task 0 Idle finished))
-    finish_stage inv = record {
-      inv = inv;
-      runs_from = now.runs_from;
-      checks_from = now.checks_from;
-      does = new_task now.inv Idle;
-      below = λ j l. elim (cases_eq j d) [
-        | inl e ↦ subst (λ x. IsRunOnce (call_at finished x)) (sym e) (record {
-          status = ap (λ (x : CallState). x.status) done_here;
-          incarnation = ap (λ (x : CallState). x.incarnation) done_here ∙ ap (λ (x : CallState). x.incarnation) now.here;
-        })
-        | inr ne ↦ subst (λ x. IsRunOnce x) (sym (done_else j ne)) (now.below j (omega (arith, l, ne)))
-      ];
-      here = done_else (d + 1) (λ e. omega (arith, e)) ∙ now.above (d + 1) (omega arith);
-      above = λ j l. done_else j (λ e. omega (arith, l, e)) ∙ now.above j (omega (arith, l));
-    }
+    finish_stage inv = record { inv = inv; runs_from = now.runs_from; checks_from = now.checks_from; does = new_task now.inv Idle; calls = done_calls }
 
   -- ---- asking for the validation of call d
 
@@ -360,28 +334,24 @@ module _ (block : Block) (s : State) where
     is_there : call_at s s.validation ≡ call_at s d
     is_there = ap (call_at s) now.checks_from
 
-    pub check_over : is_done s ≡ false
+    check_over : is_done s ≡ false
     check_over = not_done block 1 s now.inv (λ o. let v = o.validation in let r = now.checks_from in omega (arith, v, r, within))
 
-    pub check_asked : asked 0 s ≡ to_check
+    pub check_asked : after_ask 0 s ≡ to_check
     unfolding ask_validation
     check_asked =
         let e = now.runs_from in let v = now.checks_from in
         cond-false (is_done s) _ _ check_over
         ∙ cond-true (nat_lt s.validation s.execution) _ _ (lt_is s.validation s.execution (omega (arith, e, v)))
-        ∙ cond-true (is_executed (call_at s s.validation).status) _ _ (ap (λ (x : CallState). is_executed x.status) is_there ∙ ap is_executed (now.below d (omega arith)).status)
+        ∙ cond-true (is_executed (call_at s s.validation).status) _ _ (ap (λ (x : CallState). is_executed x.status) is_there ∙ ap is_executed (now.calls.below d (omega arith)).status)
 
     pub check_stage : Invariant block 1 (counted one_asking 0 to_check) → Stage block (d + 1) fresh (d + 1) (d + 1) (Validating d 0 (length (reads_of (call_at s d).last)) false) (counted one_asking 0 to_check)
     check_stage inv = record {
       inv = inv;
       runs_from = now.runs_from;
       checks_from = ap (λ x. x + 1) now.checks_from;
-      does = new_task now.inv (Validating s.validation (call_at s s.validation).incarnation (length (reads_of (call_at s s.validation).last)) false)
-          ∙ ap (λ i. Validating i (call_at s i).incarnation (length (reads_of (call_at s i).last)) false) now.checks_from
-          ∙ ap (λ n. Validating d n (length (reads_of (call_at s d).last)) false) (now.below d (omega arith)).incarnation;
-      below = now.below;
-      here = now.here;
-      above = now.above;
+      does = new_task now.inv (Validating s.validation (call_at s s.validation).incarnation (length (reads_of (call_at s s.validation).last)) false) ∙ ap (λ i. Validating i (call_at s i).incarnation (length (reads_of (call_at s i).last)) false) now.checks_from ∙ ap (λ n. Validating d n (length (reads_of (call_at s d).last)) false) (now.calls.below d (omega arith)).incarnation;
+      calls = now.calls;
     }
 
   -- ---- the validation of call d
@@ -389,16 +359,16 @@ module _ (block : Block) (s : State) where
   module _ (d left : ℕ) (now : Stage block (d + 1) fresh (d + 1) (d + 1) (Validating d 0 (suc left) false) s) (stand : all_stand d s ≡ true) where
     -- the call is EXECUTED at its incarnation 0
     at_zero : is_executed_at 0 (call_at s d) ≡ true
-    at_zero = let done = now.below d (omega arith) in both_true (ap is_executed done.status) (ap (λ n. n == 0) done.incarnation)
+    at_zero = let done = now.calls.below d (omega arith) in both_true (ap is_executed done.status) (ap (λ n. n == 0) done.incarnation)
 
     -- a check of a read stands
-    pub check_stands : checked 0 d 0 left s ≡ with_task 0 (Validating d 0 left false) s
-    unfolding checked
+    pub check_stands : after_check_read 0 d 0 left s ≡ with_task 0 (Validating d 0 left false) s
+    unfolding after_check_read
     check_stands =
         cond-true (is_executed_at 0 (call_at s d)) _ _ at_zero
         ∙ cond-true (next_stands d (suc left) s) _ _ (each_stands s.versions d (reads_of (call_at s d).last) (length (reads_of (call_at s d).last) - suc left) stand)
 
 -- where every check stood nothing is taken back
-pub none_taken : (d n : ℕ) (s : State) → decided 0 d n false s ≡ with_task 0 Idle s
-unfolding decided
+pub none_taken : (d n : ℕ) (s : State) → after_decide 0 d n false s ≡ with_task 0 Idle s
+unfolding after_decide
 none_taken d n s = refl

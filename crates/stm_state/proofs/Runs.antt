@@ -14,12 +14,12 @@ use Rattle.stm_state.specs.declared.state.CallState.{CallState}
 use Rattle.stm_state.specs.declared.state.Task.TheVariants.{Idle, Running}
 use Rattle.stm_state.specs.Limits.{incarnation_limit}
 use Rattle.stm_state.specs.State.{State, fresh, call_at, task_at, with_call, with_task, is_executed}
-use Rattle.stm_state.specs.Steps.{Block, answered_by, given, read_at, parked}
-use Rattle.stm_state.specs.Invariant.{view_of, ViewInvariant, IsKnown, IsRightAnswer, Invariant, IsUnturned, lowered_by, named_by, owned_by, run_by, turned_by}
+use Rattle.stm_state.specs.Steps.{Block, answered_by, given, after_read_key, after_park}
+use Rattle.stm_state.proofs.Invariant.{view_of, ViewInvariant, IsKnown, IsRightAnswer, Invariant, IsUnturned, lowered_by, named_by, owned_by, run_by, turned_by}
 use Rattle.stm_state.proofs.Lists.{all_append, stays_at, set_at}
-use Rattle.stm_state.proofs.Frames.{entries_stay, keeps_itself, keeps_unchecked, still_executing, unturned_run}
+use Rattle.stm_state.proofs.OneCallChanges.{entries_stay, keeps_itself, keeps_unchecked, still_executing, unturned_run}
 use Rattle.stm_state.proofs.Origins.{made_of_changes}
-use Rattle.stm_state.proofs.Safes.{others_kept}
+use Rattle.stm_state.proofs.SafeReads.{others_kept}
 use Rattle.stm_state.proofs.Tests.{not_executed_says, resized}
 use Rattle.stm_state.proofs.Asks.{same_entries}
 
@@ -79,12 +79,12 @@ module _ (block : Block) (s : State) (w i : ℕ) (answers : List StorageAnswer) 
   waiting b = record (call_at s i) { status = Aborting; parked = Some b }
 
   -- the state after parking
-  abbrev after_park : ℕ → State
-  after_park b = with_task w Idle (with_call i (waiting b) s)
+  abbrev parked_state : ℕ → State
+  parked_state b = with_task w Idle (with_call i (waiting b) s)
 
   -- a call may be parked on a lower call that is not EXECUTED
-  parks : (b : ℕ) → b < i → (call_at s b).status ≢ Executed → (call_at s i).incarnation < incarnation_limit → i < length s.calls → ViewInvariant block (view_of (after_park b))
-  parks b low not_done less i_in = others_kept block (view_of s) (view_of (after_park b)) i w (waiting b) Idle (record {
+  parks : (b : ℕ) → b < i → (call_at s b).status ≢ Executed → (call_at s i).incarnation < incarnation_limit → i < length s.calls → ViewInvariant block (view_of (parked_state b))
+  parks b low not_done less i_in = others_kept block (view_of s) (view_of (parked_state b)) i w (waiting b) Idle (record {
     calls = set_at s.calls i (waiting b) fresh i_in;
     tasks = set_at s.tasks w Idle Idle w_in;
     entries = entries_stay (view_of s) i (waiting b);
@@ -100,15 +100,15 @@ module _ (block : Block) (s : State) (w i : ℕ) (answers : List StorageAnswer) 
   }) f (λ h. cc) (λ j left failed ne h. cc) (inl (ap lowered_by runs)) (λ j read k. k)
 
 -- a read keeps the invariant
-pub read_kept : (block : Block) (workers w i : ℕ) (answers : List StorageAnswer) (key : List ℕ) (s : State) → Invariant block workers s → w < workers → task_at s w ≡ Running i answers None → Invariant block workers (read_at block.base key w i answers s)
+pub read_kept : (block : Block) (workers w i : ℕ) (answers : List StorageAnswer) (key : List ℕ) (s : State) → Invariant block workers s → w < workers → task_at s w ≡ Running i answers None → Invariant block workers (after_read_key block.base key w i answers s)
 read_kept block workers w i answers key s h w_in runs = record {
   sized = resized block.count workers s _ refl (length-set s.tasks w _) refl refl h.sized;
   facts = seen_kept_by block s w i answers None h.facts runs (let e = h.sized.tasks in omega (arith, e)) key (blocker (reading s.versions key i)) refl;
 }
 
 -- parking keeps the invariant, whether the call is parked or its run starts again
-pub park_kept : (block : Block) (workers w i b : ℕ) (answers : List StorageAnswer) (s : State) → Invariant block workers s → w < workers → task_at s w ≡ Running i answers (Some b) → (call_at s i).incarnation < incarnation_limit → Invariant block workers (parked w i b s)
-unfolding parked
+pub park_kept : (block : Block) (workers w i b : ℕ) (answers : List StorageAnswer) (s : State) → Invariant block workers s → w < workers → task_at s w ≡ Running i answers (Some b) → (call_at s i).incarnation < incarnation_limit → Invariant block workers (after_park w i b s)
+unfolding after_park
 park_kept block workers w i b answers s h w_in runs less =
     let w_there : w < length s.tasks = let e = h.sized.tasks in omega (arith, e) in
     let i_there : i < length s.calls = let within = h.facts.named w i (ap named_by runs) in let e = h.sized.calls in omega (arith, within, e) in

@@ -6,15 +6,16 @@ use Rattle.std.proofs.lemmas.Bool.{and_parts, cases_lt}
 use Rattle.std.proofs.lemmas.List.{get_or_past}
 use Rattle.rv_ledger.specs.Change.{Content, ContentChange}
 use Rattle.rv_ledger.specs.declared.change.Change.TheVariants as change
-use Rattle.rv_ledger.specs.Key.{Storage, key_cmp}
+use Rattle.rv_ledger.specs.Key.{Storage, WriteMap, key_cmp}
 use Rattle.rv_ledger.specs.declared.end.End.TheVariants.{Returned}
 use Rattle.rv_ledger.specs.declared.receipt.Receipt.{Receipt}
 use Rattle.read_set.specs.Origin.{Origin, named}
-use Rattle.rv_step.specs.Chain.{Reply, AreFrom}
+use Rattle.rv_step.specs.Moment.{Reply}
+use Rattle.rv_step.specs.Chain.{AreFrom}
 use Rattle.rv_step.specs.Fold.{apply_writes}
 use Rattle.rv_step.specs.Replies.{replies_of}
 use Rattle.rv_step.specs.declared.answer.StorageAnswer.{StorageAnswer}
-use Rattle.mvmap.specs.Versions.{Estimate, Stands, entry_at}
+use Rattle.mvmap.specs.Versions.{Versions, Estimate, Stands, entry_at}
 use Rattle.mvmap.specs.Reading.{Visible, visible_over, visible_below, reading, is_origin, origin_in, stands_among, value_seen}
 use Rattle.mvmap.proofs.Readings.{origin_seen}
 use Rattle.stm_state.specs.declared.state.Status.{Status}
@@ -23,11 +24,12 @@ use Rattle.stm_state.specs.declared.state.Recorded.{Recorded}
 use Rattle.stm_state.specs.declared.state.Task.TheVariants.{Idle}
 use Rattle.stm_state.specs.State.{State, fresh, call_at, task_at, is_idle, is_done}
 use Rattle.stm_state.specs.Steps.{Block, read_of, reads_of, write_of}
-use Rattle.stm_state.specs.Invariant.{view_of, ViewInvariant, AreSafe, Invariant, IsCovered, IsRight, IsRightAnswer, StandWith, validated, ahead, entry_of, lowered_by}
+use Rattle.stm_state.specs.Parts.{StandWith}
 use Rattle.stm_state.specs.Done.{HasVersionsAlone, Reached, IsSerial}
+use Rattle.stm_state.proofs.Invariant.{view_of, ViewInvariant, AreSafe, Invariant, IsCovered, IsRight, IsRightAnswer, validated, ahead, entry_of, lowered_by}
 use Rattle.stm_state.proofs.Origins.{made_of_changes, seen_changes}
 use Rattle.stm_state.proofs.Tests.{equal_says, idle_at_done}
-use Rattle.stm_state.proofs.Writes.{over, applied_get}
+use Rattle.stm_state.proofs.Writes.{content_after, applied_get}
 use Rattle.stm_state.proofs.Asks.{executed_entries}
 use Rattle.stm_state.proofs.Whole.{invariant_kept}
 
@@ -68,11 +70,19 @@ store_after_receipts base receipt zero = base
 store_after_receipts base receipt (suc i) = apply_writes (store_after_receipts base receipt i) (receipt i).writes
 
 -- what is seen of an EXECUTED call lies over what is seen below it
-pub held_see : (base : Content) (i n : ℕ) (o : Option ContentChange) (below : Visible) → value_seen base (visible_over i (option_map (λ c. Stands n c) o) below) ≡ over o (value_seen base below)
+held_see : (base : Content) (i n : ℕ) (o : Option ContentChange) (below : Visible) → value_seen base (visible_over i (option_map (λ c. Stands n c) o) below) ≡ content_after o (value_seen base below)
 held_see base i n None below = refl
 held_see base i n (Some (change.Value value)) below = refl
 held_see base i n (Some change.Gone) below = refl
 held_see base i n (Some (change.Sum amount)) below = refl
+
+-- so where a call sees the storage before it, the next one sees that storage with the call's writes
+pub seen_after : (base : Content) (versions : Versions) (key : List ℕ) (i n : ℕ) (before : Storage) (writes : WriteMap) → entry_at versions key i ≡ option_map (λ c. Stands n c) (get writes key)
+    → value_seen base (visible_below (entry_at versions key) i) ≡ get before key → value_seen base (visible_below (entry_at versions key) (suc i)) ≡ get (apply_writes before writes) key
+unfolding visible_below
+seen_after base versions key i n before writes own seen =
+    let below : Visible = visible_below (entry_at versions key) i in
+    ap (λ e. value_seen base (visible_over i e below)) own ∙ held_see base i n (get writes key) below ∙ ap (content_after (get writes key)) seen ∙ sym (applied_get before writes key)
 
 -- a version is no estimate
 pub no_estimate : (o : Option ContentChange) (n : ℕ) → option_map (λ c. Stands n c) o ≢ Some Estimate
@@ -140,13 +150,9 @@ module _ (block : Block) (s : State) (f : ViewInvariant block (view_of s)) (over
   unfolding visible_below
   seen_is_store zero l key = refl
   seen_is_store (suc i) l key =
-      let o : Option ContentChange = get (receipt_at i).writes key in
-      let below : Visible = visible_below (entry_at s.versions key) i in
-      let own : entry_at s.versions key i ≡ option_map (λ c. Stands (call_at s i).incarnation c) o = entry_is i (omega arith) key ∙ ap (option_map (λ c. Stands (call_at s i).incarnation c)) (write_is (call_at s i).last key) in
-      ap (λ e. value_seen (get block.base key) (visible_over i e below)) own
-      ∙ held_see (get block.base key) i (call_at s i).incarnation o below
-      ∙ ap (over o) (seen_is_store i (omega arith) key)
-      ∙ sym (applied_get (before i) (receipt_at i).writes key)
+      let n = (call_at s i).incarnation in
+      seen_after (get block.base key) s.versions key i n (before i) (receipt_at i).writes
+      (entry_is i (omega arith) key ∙ ap (option_map (λ c. Stands n c)) (write_is (call_at s i).last key)) (seen_is_store i (omega arith) key)
 
   -- an answer whose read stands is that of the storage before the call
   answer_is : (i : ℕ) → i ≤ block.count → (key : List ℕ) (value : Content) (o : Origin) → is_origin o (reading s.versions key i) ≡ true → IsRight block (view_of s) i key value o → value ≡ get (before i) key
@@ -195,12 +201,12 @@ module _ (block : Block) (s : State) (f : ViewInvariant block (view_of s)) (over
     past,
     λ place h. elim (cases_lt place.1 block.count) [
       | inl within ↦ no_estimate (write_of (call_at s place.1).last place.0) (call_at s place.1).incarnation (sym (entry_is place.1 within place.0) ∙ h)
-      | inr over ↦ let none : entry_at s.versions place.0 place.1 ≡ None = past place.0 place.1 over in cc
+      | inr content_after ↦ let none : entry_at s.versions place.0 place.1 ≡ None = past place.0 place.1 content_after in cc
     ],
   )
     where
       past : (key : List ℕ) (w : ℕ) → block.count ≤ w → entry_at s.versions key w ≡ None
-      past key w over = f.entries w key (λ x h. let none = over_now.idle x in cc) ∙ ap (λ call. entry_of call key) (get_or_past s.calls w fresh (omega (arith, size, over)))
+      past key w content_after = f.entries w key (λ x h. let none = over_now.idle x in cc) ∙ ap (λ call. entry_of call key) (get_or_past s.calls w fresh (omega (arith, size, content_after)))
 
 -- where workers are done, the result is that of the calls one after another
 pub serial_at_done : (block : Block) (workers : ℕ) (s : State) → Reached block workers s → is_done s ≡ true → IsSerial block s

@@ -3,16 +3,17 @@ use Rattle.std.proofs.Common.{◌≡◌, ◌⊎◌, ◌||◌, cond, ℕ, Bool, t
 use Rattle.std.specs.Ordering.{eq_by_cmp}
 use Rattle.rv_ledger.specs.Key.{key_cmp}
 use Rattle.mvmap.specs.Versions.{Entry, Versions, changed, entry_at}
-use Rattle.stm_state.specs.Invariant.{IsAmid, has_key}
+use Rattle.stm_state.specs.Parts.{has_key}
+use Rattle.stm_state.proofs.Invariant.{AreUnderWay}
 use Rattle.stm_state.proofs.Writes.{changed_at, same_key}
 
-module _ (target : List ℕ → Option Entry) (before : List ℕ → Option Entry → Type 0) (v : Versions) (i : ℕ) (key : List ℕ) (keys : List (List ℕ)) (amid : IsAmid target before (λ k. entry_at v k i) (key ∷ keys)) where
+module _ (target : List ℕ → Option Entry) (before : List ℕ → Option Entry → Type 0) (v : Versions) (i : ℕ) (key : List ℕ) (keys : List (List ℕ)) (amid : AreUnderWay target before (λ k. entry_at v k i) (key ∷ keys)) where
   -- the versions with the first key turned
   abbrev turned : Versions
   turned = changed v (key, i) (target key)
 
   -- one key is turned, and is no more among those that are yet to be
-  pub amid_step : IsAmid target before (λ k. entry_at (changed v (key, i) (target key)) k i) keys
+  pub amid_step : AreUnderWay target before (λ k. entry_at (changed v (key, i) (target key)) k i) keys
   amid_step k = go (eq_by_cmp key_cmp k key) refl (amid k)
     where
       go : (b : Bool) → eq_by_cmp key_cmp k key ≡ b → (entry_at v k i ≡ target k) ⊎ ((has_key k (key ∷ keys) ≡ true) × before k (entry_at v k i)) → (entry_at turned k i ≡ target k) ⊎ ((has_key k keys ≡ true) × before k (entry_at turned k i))
@@ -42,5 +43,5 @@ left_stays v i key keys o gone k left = go (eq_by_cmp key_cmp k key) refl
     go false h = changed_at v key i o k ∙ ap (λ b. cond b o (entry_at v k i)) h
 
 -- where no key is left, all are turned
-pub amid_end : (target : List ℕ → Option Entry) (before : List ℕ → Option Entry → Type 0) (entries : List ℕ → Option Entry) → IsAmid target before entries [] → (key : List ℕ) → entries key ≡ target key
+pub amid_end : (target : List ℕ → Option Entry) (before : List ℕ → Option Entry → Type 0) (entries : List ℕ → Option Entry) → AreUnderWay target before entries [] → (key : List ℕ) → entries key ≡ target key
 amid_end target before entries amid key = elim (amid key) [ inl there ↦ there | inr q ↦ let none = q.0 in cc ]

@@ -8,7 +8,7 @@ use Rattle.stm_state.specs.declared.state.Status.TheVariants.{Ready, Executed, A
 use Rattle.stm_state.specs.declared.state.Task.{Task}
 use Rattle.stm_state.specs.declared.state.Task.TheVariants.{Idle}
 use Rattle.stm_state.specs.State.{State, is_ready, is_executed, is_aborting, is_idle, is_done}
-use Rattle.stm_state.specs.Invariant.{IsSized}
+use Rattle.stm_state.specs.Parts.{IsSized}
 
 -- what tests of a status say
 pub is_ready_says : (s : Status) → is_ready s ≡ true → s ≡ Ready

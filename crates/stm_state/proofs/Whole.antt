@@ -9,8 +9,8 @@ use Rattle.stm_state.specs.declared.state.CallState.{CallState}
 use Rattle.stm_state.specs.declared.state.Task.TheVariants.{Idle}
 use Rattle.stm_state.specs.State.{State, fresh, no_counts, start, call_at, task_at}
 use Rattle.stm_state.specs.Steps.{Block, Step, counted, one_step, one_asking, one_execution, one_validation, worker_step}
-use Rattle.stm_state.specs.Invariant.{entry_of, Invariant}
 use Rattle.stm_state.specs.Done.{Reached, started, stepped}
+use Rattle.stm_state.proofs.Invariant.{entry_of, Invariant}
 use Rattle.stm_state.proofs.Lists.{replicated}
 use Rattle.stm_state.proofs.Tests.{resized}
 pub use Rattle.stm_state.proofs.Cases.{same_state, none_ok, err_ok}

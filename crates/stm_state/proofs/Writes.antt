@@ -20,7 +20,8 @@ use Rattle.mvmap.specs.Versions.{Entry, Stands, Estimate, Place, Versions, chang
 use Rattle.mvmap.proofs.Places.{get_changed, get_other}
 use Rattle.stm_state.specs.declared.state.Recorded.{Recorded}
 use Rattle.stm_state.specs.Steps.{written_by, left_over, wrote, has_new_key, keys_of, keys_to_move, write_of}
-use Rattle.stm_state.specs.Invariant.{AreDistinct, has_key}
+use Rattle.stm_state.specs.Parts.{has_key}
+use Rattle.stm_state.proofs.Invariant.{AreDistinct}
 
 -- ---- each entry of a map is what the map has at its key
 
@@ -219,9 +220,9 @@ no_version (Some c) n x h = cc
 -- ---- writes applied to a storage
 
 -- what a key has after a change, if there is one
-abbrev pub over : Option ContentChange → Content → Content
-over None old = old
-over (Some c) old = apply_change c old
+abbrev pub content_after : Option ContentChange → Content → Content
+content_after None old = old
+content_after (Some c) old = apply_change c old
 
 chosen : (k key : List ℕ) (store : Storage) (amount : ℕ) (b : Bool) → (b ≡ true → key ≡ k) → cond b (Some (add (get store k) amount)) (get store key) ≡ cond b (Some (add (get store key) amount)) (get store key)
 chosen k key store amount true same = ap (λ q. Some (add (get store q) amount)) (sym (same refl))
@@ -244,15 +245,15 @@ none_at key [] h = refl
 none_at key (e ∷ es) h = let both = or_parts (eq_by_cmp key_cmp key e.0) (at_key key es) h in ap (λ b. cond b (Some e.1) (change_at key es)) both.0 ∙ none_at key es both.1
 
 -- a storage after writes with distinct keys
-applied_all : (es : List (List ℕ × ContentChange)) (store : Storage) (key : List ℕ) → AreDistinct (map (λ e. e.0) es) → get (fold (λ before write. apply_write before write.0 write.1) store es) key ≡ over (change_at key es) (get store key)
+applied_all : (es : List (List ℕ × ContentChange)) (store : Storage) (key : List ℕ) → AreDistinct (map (λ e. e.0) es) → get (fold (λ before write. apply_write before write.0 write.1) store es) key ≡ content_after (change_at key es) (get store key)
 applied_all [] store key distinct = refl
 applied_all (e ∷ es) store key distinct =
     applied_all es (apply_write store e.0 e.1) key distinct.1
-    ∙ ap (over (change_at key es)) (get_applied store e.0 e.1 key)
+    ∙ ap (content_after (change_at key es)) (get_applied store e.0 e.1 key)
     ∙ go (eq_by_cmp key_cmp key e.0) refl
   where
-    go : (b : Bool) → eq_by_cmp key_cmp key e.0 ≡ b → over (change_at key es) (cond b (apply_change e.1 (get store key)) (get store key)) ≡ over (cond b (Some e.1) (change_at key es)) (get store key)
-    go true h = ap (λ o. over o (apply_change e.1 (get store key))) (ap (λ k. change_at k es) (same_key key e.0 h) ∙ none_at e.0 es distinct.0)
+    go : (b : Bool) → eq_by_cmp key_cmp key e.0 ≡ b → content_after (change_at key es) (cond b (apply_change e.1 (get store key)) (get store key)) ≡ content_after (cond b (Some e.1) (change_at key es)) (get store key)
+    go true h = ap (λ o. content_after o (apply_change e.1 (get store key))) (ap (λ k. change_at k es) (same_key key e.0 h) ∙ none_at e.0 es distinct.0)
     go false h = refl
 
 found_change : (key : List ℕ) (es : List (List ℕ × ContentChange)) → change_at key es ≡ find key_cmp key es
@@ -260,8 +261,8 @@ found_change key [] = refl
 found_change key (e ∷ es) = ap (cond (eq_by_cmp key_cmp key e.0) (Some e.1)) (found_change key es)
 
 -- a storage after writes has at a key what the change of it makes of what it had
-pub applied_get : (store : Storage) (writes : WriteMap) (key : List ℕ) → get (apply_writes store writes) key ≡ over (get writes key) (get store key)
+pub applied_get : (store : Storage) (writes : WriteMap) (key : List ℕ) → get (apply_writes store writes) key ≡ content_after (get writes key) (get store key)
 unfolding apply_writes
 applied_get store writes key =
     applied_all (entries writes) store key (distinct_in_order (entries writes) (entries_sorted writes))
-    ∙ ap (λ o. over o (get store key)) (found_change key (entries writes) ∙ sym (get-entries writes key))
+    ∙ ap (λ o. content_after o (get store key)) (found_change key (entries writes) ∙ sym (get-entries writes key))

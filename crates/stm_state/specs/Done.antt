@@ -5,7 +5,8 @@ use Rattle.std.specs.FinMap.{get}
 use Rattle.rv_ledger.specs.Key.{Storage}
 use Rattle.rv_ledger.specs.Call.{Invocation}
 use Rattle.rv_ledger.specs.declared.receipt.Receipt.{Receipt}
-use Rattle.rv_step.specs.Chain.{Reply, AreFrom, borne_out}
+use Rattle.rv_step.specs.Moment.{Reply}
+use Rattle.rv_step.specs.Chain.{AreFrom, borne_out}
 use Rattle.rv_step.specs.Fold.{apply_writes, receipts_of, store_after}
 use Rattle.mvmap.specs.Versions.{HasNoEstimate, entry_at}
 use Rattle.mvmap.specs.Reading.{value_seen, reading}

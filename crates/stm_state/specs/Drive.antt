@@ -4,7 +4,7 @@ use Rattle.std.specs.Prelude.{◌≡◌, ◌<◌, ℕ, zero, suc, true, false, n
 use Rattle.rv_ledger.specs.Key.{Storage}
 use Rattle.rv_ledger.specs.Call.{Invocation}
 use Rattle.rv_step.specs.Asked.{asked_by}
-use Rattle.rv_step.specs.Chain.{Reply}
+use Rattle.rv_step.specs.Moment.{Reply}
 use Rattle.rv_step.specs.Replies.{replies_of}
 use Rattle.rv_step.specs.declared.answer.StorageAnswer.{StorageAnswer}
 use Rattle.stm_state.specs.declared.state.Task.{Task}

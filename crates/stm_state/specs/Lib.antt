@@ -1,7 +1,6 @@
 pub mod State
 pub mod Limits
 pub mod Steps
-pub mod Invariant
 pub mod Done
 pub mod Walk
 pub mod Dones

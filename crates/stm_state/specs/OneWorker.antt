@@ -3,7 +3,8 @@ use Rattle.std.specs.Prelude.{◌≡◌, ◌≢◌, ◌<◌, ◌≤◌, ◌+◌,
 use Rattle.std.specs.FinMap.{len}
 use Rattle.rv_ledger.specs.Key.{Storage}
 use Rattle.rv_ledger.specs.Call.{Invocation}
-use Rattle.rv_step.specs.Chain.{Reply, AreFrom, borne_out, ends}
+use Rattle.rv_step.specs.Moment.{Reply}
+use Rattle.rv_step.specs.Chain.{AreFrom, borne_out, ends}
 use Rattle.rv_step.specs.Fold.{store_before}
 use Rattle.rv_step.specs.declared.answer.StorageAnswer.{StorageAnswer}
 use Rattle.stm_state.specs.declared.state.Task.TheVariants.{Running}

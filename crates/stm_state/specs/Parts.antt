@@ -1,28 +1,41 @@
 -- The four parts of the scheduler's invariant (Block-STM), in the words of states: what holds of each state that worker
 -- steps lead to. A call past the last one is as at the start, and a worker past the last one has no task.
-use Rattle.std.specs.Prelude.{◌≡◌, ◌<◌, ◌≤◌, ◌≢◌, ◌⊎◌, ◌+◌, ℕ, Bool, true, false, List, length, map, slice_get, Option, Some}
-use Rattle.std.specs.List.{AllByRecursion}
+use Rattle.std.specs.Prelude.{◌≡◌, ◌<◌, ◌≤◌, ◌≢◌, ◌⊎◌, ◌+◌, ℕ, Bool, true, false, List, [], ◌∷◌, length, map, slice_get, Option, Some}
+use Rattle.std.specs.List.{AllByRecursion, list_any}
+use Rattle.std.specs.Ordering.{eq_by_cmp}
 use Rattle.std.specs.Option.{option_map}
 use Rattle.std.specs.FinMap.{get}
-use Rattle.rv_ledger.specs.Change.{Content, ContentChange}
+use Rattle.rv_ledger.specs.Key.{key_cmp}
+use Rattle.rv_ledger.specs.Change.{Content, ContentChange, apply_change}
 use Rattle.read_set.specs.Origin.{Origin, named}
 use Rattle.read_set.specs.declared.origin.Version.{Version}
 use Rattle.read_set.specs.declared.Read.{Read}
 use Rattle.rv_step.specs.Replies.{replies_of}
 use Rattle.rv_step.specs.declared.answer.StorageAnswer.{StorageAnswer}
-use Rattle.mvmap.specs.Versions.{Stands, entry_at}
+use Rattle.mvmap.specs.Versions.{Entry, Stands, entry_at}
 use Rattle.mvmap.specs.Reading.{stands}
 use Rattle.stm_state.specs.declared.state.Status.TheVariants.{Ready, Executing, Executed, Aborting}
+use Rattle.stm_state.specs.declared.state.CallState.{CallState}
 use Rattle.stm_state.specs.declared.state.Recorded.{Recorded}
 use Rattle.stm_state.specs.declared.state.Task.TheVariants.{Running, Moving, Validating, Marking}
 use Rattle.stm_state.specs.State.{State, call_at, task_at}
 use Rattle.stm_state.specs.Steps.{Block, read_of, reads_of, write_of}
-use Rattle.stm_state.specs.Invariant.{IsPast, StandWith, apply_all, has_key}
 use Rattle.stm_state.specs.Done.{Reached}
 
 -- it holds of each state that some list of worker steps leads to
 abbrev pub HoldsWhereReached : (Block → State → Type 0) → Type 0
 HoldsWhereReached P = (block : Block) (workers : ℕ) (s : State) → Reached block workers s → P block s
+
+-- the number of calls and the number of workers stay the same
+pub record IsSized (count workers : ℕ) (s : State) : Type 0 where
+  pub calls : length s.calls ≡ count
+  pub tasks : length s.tasks ≡ workers
+  pub counts : length s.counts ≡ workers
+  pub dones : length s.dones ≡ workers
+
+-- so they do in each state that is reached
+abbrev pub SizesStay : Type 0
+SizesStay = (block : Block) (workers : ℕ) (s : State) → Reached block workers s → IsSized block.count workers s
 
 -- some worker runs a call, or moves the keys of its run
 pub data IsRun (s : State) (i : ℕ) : Type 0 where
@@ -48,6 +61,10 @@ pub record CallsAreAttended (block : Block) (s : State) : Type 0 where
   pub ready : (i : ℕ) → (call_at s i).status ≡ Ready → s.execution ≤ i
   pub executing : (i : ℕ) → (call_at s i).status ≡ Executing → IsRun s i
   pub aborting : (i : ℕ) → (call_at s i).status ≡ Aborting → IsTakenBack s i ⊎ IsParked s i
+
+-- whether a key is among some keys
+abbrev pub has_key : List ℕ → List (List ℕ) → Bool
+has_key key keys = list_any (eq_by_cmp key_cmp key) keys
 
 -- a version that the unfinished record of a call has published: some worker moves the keys of its run, the run wrote it, and
 -- its key is not among those that are left
@@ -108,10 +125,26 @@ abbrev pub ReadsAreWatched : Block → State → Type 0
 ReadsAreWatched block s = (i : ℕ) → (call_at s i).status ≡ Executed
     → (s.validation ≤ i) ⊎ ((place : ℕ) (read : Read) → slice_get (reads_of (call_at s i).last) place ≡ Some read → (stands s.versions i read ≡ true) ⊎ IsToBeMet s i place)
 
+-- versions of a key all stand, each with the change beside it
+abbrev pub StandWith : (ℕ → Option Entry) → List Version → List ContentChange → Type 0
+StandWith entries [] [] = Unit {0}
+StandWith entries (version ∷ versions) (c ∷ changes) = (entries version.writer ≡ Some (Stands version.incarnation c)) × StandWith entries versions changes
+StandWith entries [] (c ∷ changes) = ⊥
+StandWith entries (version ∷ versions) [] = ⊥
+
+-- a content after some changes, the last of which is made first
+abbrev pub apply_all : List ContentChange → Content → Content
+apply_all [] content = content
+apply_all (c ∷ changes) content = apply_change c (apply_all changes content)
+
 -- a value is what the changes of the versions that an origin names make of the starting storage, if all of them stand
 abbrev pub IsContent : Block → State → List ℕ → Content → Origin → Type 0
 IsContent block s key value origin =
     (changes : List ContentChange) → StandWith (entry_at s.versions key) (named origin) changes → value ≡ apply_all changes (get block.base key)
+
+-- a version of a call may be gone: it is older than the call's incarnation, or the call is ABORTING at that incarnation
+abbrev pub IsPast : CallState → ℕ → Type 0
+IsPast call n = (n < call.incarnation) ⊎ ((n ≡ call.incarnation) × (call.status ≡ Aborting))
 
 -- a version that call i was answered with is of a lower call. It stands, or its incarnation is below its writer's, or its
 -- writer is ABORTING at that incarnation

@@ -20,7 +20,7 @@ pub record State : Type 0 where
   pub tasks : List Task
   pub counts : List Counts
   pub dones : List ℕ
-  pub placed : ℕ
+  pub record_count : ℕ
 
 -- a call at the start
 abbrev pub fresh : CallState
@@ -40,7 +40,7 @@ start n workers = record {
   tasks = replicate workers Idle;
   counts = replicate workers no_counts;
   dones = replicate workers 0;
-  placed = 0;
+  record_count = 0;
 }
 
 -- the call of an index, and the task of a worker

@@ -7,7 +7,7 @@ use Rattle.rv_ledger.specs.Key.{Storage, WriteMap}
 use Rattle.rv_ledger.specs.declared.receipt.Receipt.{Receipt}
 use Rattle.rv_ledger.specs.declared.outcome.Counts.{Counts}
 use Rattle.read_set.specs.declared.Read.{Read}
-use Rattle.rv_step.specs.Chain.{Reply}
+use Rattle.rv_step.specs.Moment.{Reply}
 use Rattle.rv_step.specs.Replies.{replies_of}
 use Rattle.rv_step.specs.declared.answer.StorageAnswer.{StorageAnswer}
 use Rattle.rv_ledger.specs.Change.{ContentChange}
@@ -79,8 +79,8 @@ ask_execution w s =
 
 -- ask: it is answered Done where all is done; else the validation index goes up if it is behind the execution index; else the
 -- execution index goes up if a call is left; else nothing happens
-abbrev pub asked : ℕ → State → State
-asked w s =
+abbrev pub after_ask : ℕ → State → State
+after_ask w s =
     if is_done s then count_done w s
     else if nat_lt s.validation s.execution then ask_validation w s
     else if nat_lt s.execution (length s.calls) then ask_execution w s
@@ -98,13 +98,13 @@ answered_by base key i answers seen (Some writer) = Running i answers (Some writ
 abbrev pub answered_with : Storage → List ℕ → ℕ → List StorageAnswer → Visible → Task
 answered_with base key i answers seen = answered_by base key i answers seen (blocker seen)
 
-abbrev pub read_at : Storage → List ℕ → ℕ → ℕ → List StorageAnswer → State → State
-read_at base key w i answers s = with_task w (answered_with base key i answers (reading s.versions key i)) s
+abbrev pub after_read_key : Storage → List ℕ → ℕ → ℕ → List StorageAnswer → State → State
+after_read_key base key w i answers s = with_task w (answered_with base key i answers (reading s.versions key i)) s
 
 -- park: if the call whose estimate blocked the run is EXECUTED by now, the run starts again; else its call is parked on that
 -- call
-unfoldable pub parked : ℕ → ℕ → ℕ → State → State
-parked w i b s =
+unfoldable pub after_park : ℕ → ℕ → ℕ → State → State
+after_park w i b s =
     if is_executed (call_at s b).status then with_task w (Running i [] None) s
     else with_task w Idle (with_call i (record (call_at s i) { status = Aborting; parked = Some b }) s)
 
@@ -155,13 +155,13 @@ abbrev pub resume_if_parked : ℕ → CallState → CallState
 resume_if_parked i call = if is_parked_on i call then next_incarnation call else call
 
 -- an index lowered to the least of the calls that are parked on call i; the first call of the list has number p
-abbrev pub lowered : ℕ → ℕ → ℕ → List CallState → ℕ
-lowered i x p [] = x
-lowered i x p (call ∷ calls) = lowered i (if is_parked_on i call then min x p else x) (p + 1) calls
+abbrev pub least_parked_call : ℕ → ℕ → ℕ → List CallState → ℕ
+least_parked_call i x p [] = x
+least_parked_call i x p (call ∷ calls) = least_parked_call i (if is_parked_on i call then min x p else x) (p + 1) calls
 
 -- finish execution: all calls that are parked on call i are readied, and the execution index is lowered to the least of them
 unfoldable pub resume_dependents : ℕ → State → State
-resume_dependents i s = record s { calls = map (resume_if_parked i) s.calls; execution = lowered i s.execution 0 s.calls }
+resume_dependents i s = record s { calls = map (resume_if_parked i) s.calls; execution = least_parked_call i s.execution 0 s.calls }
 
 -- finish execution: what is validated again. Where the validation index is past call i: all calls from i on if the run wrote a
 -- new key, else call i, by this worker. Where it is not past call i: nothing, since the index still comes to it
@@ -175,19 +175,19 @@ abbrev pub recorded_run : List StorageAnswer → Receipt → Recorded
 recorded_run answers receipt = record { receipt = receipt; reads = map read_of answers }
 
 -- record: the run is kept, and its keys are to move
-abbrev pub recorded : ℕ → ℕ → List StorageAnswer → Receipt → State → State
-recorded w i answers receipt s =
+abbrev pub after_record : ℕ → ℕ → List StorageAnswer → Receipt → State → State
+after_record w i answers receipt s =
     let call = call_at s i in
     with_task w (Moving i (keys_to_move call.last receipt.writes) (has_new_key call.last receipt.writes))
-    (with_call i (record call { last = Some (recorded_run answers receipt) }) (record s { placed = s.placed + len receipt.writes }))
+    (with_call i (record call { last = Some (recorded_run answers receipt) }) (record s { record_count = s.record_count + len receipt.writes }))
 
 -- move key: the next key is published or withdrawn
-abbrev pub moved : ℕ → ℕ → List ℕ → List (List ℕ) → Bool → State → State
-moved w i key keys new s = with_task w (Moving i keys new) (record s { versions = changed s.versions (key, i) (version_of (call_at s i) key) })
+abbrev pub after_move_key : ℕ → ℕ → List ℕ → List (List ℕ) → Bool → State → State
+after_move_key w i key keys new s = with_task w (Moving i keys new) (record s { versions = changed s.versions (key, i) (version_of (call_at s i) key) })
 
 -- finish execution: the call is EXECUTED
-abbrev pub executed : ℕ → ℕ → Bool → State → State
-executed w i new s =
+abbrev pub after_finish_execution : ℕ → ℕ → Bool → State → State
+after_finish_execution w i new s =
     let call = call_at s i in
     to_validate w i new (Validating i call.incarnation (length (reads_of call.last)) false)
     (resume_dependents i (with_call i (record call { status = Executed }) s))
@@ -206,27 +206,27 @@ next_stands i left s = let reads = reads_of (call_at s i).last in read_stands s.
 
 -- check read: if the call is no longer EXECUTED at the incarnation, the task ends; else the next read is checked, and it fails
 -- the validation if it does not stand
-unfoldable pub checked : ℕ → ℕ → ℕ → ℕ → State → State
-checked w i n left s =
+unfoldable pub after_check_read : ℕ → ℕ → ℕ → ℕ → State → State
+after_check_read w i n left s =
     if is_executed_at n (call_at s i) then (if next_stands i (suc left) s then with_task w (Validating i n left false) s else with_task w (Validating i n (suc left) true) s)
     else with_task w Idle s
 
 -- decide: if a read did not stand and the call is EXECUTED at the incarnation, the call is ABORTING now, and the keys that it
 -- wrote are to become estimates; else the task ends
-unfoldable pub decided : ℕ → ℕ → ℕ → Bool → State → State
-decided w i n failed s =
+unfoldable pub after_decide : ℕ → ℕ → ℕ → Bool → State → State
+after_decide w i n failed s =
     let call = call_at s i in
     if failed && is_executed_at n call then with_task w (Marking i (keys_of (written_by call.last))) (with_call i (record call { status = Aborting }) s)
     else with_task w Idle s
 
 -- mark estimate: the next key becomes an estimate
-abbrev pub marked : ℕ → ℕ → List ℕ → List (List ℕ) → State → State
-marked w i key keys s = with_task w (Marking i keys) (record s { versions = changed s.versions (key, i) (Some Estimate) })
+abbrev pub after_mark_estimate : ℕ → ℕ → List ℕ → List (List ℕ) → State → State
+after_mark_estimate w i key keys s = with_task w (Marking i keys) (record s { versions = changed s.versions (key, i) (Some Estimate) })
 
 -- finish abort: the call is readied, and the validation index is lowered to the next call; if the execution index is past the
 -- call, the worker runs it
-unfoldable pub aborted : ℕ → ℕ → State → State
-aborted w i s =
+unfoldable pub after_finish_abort : ℕ → ℕ → State → State
+after_finish_abort w i s =
     let call = call_at s i in
     let t = record s { validation = min s.validation (i + 1) } in
     if nat_lt i s.execution then with_task w (Running i [] None) (with_call i (record (next_incarnation call) { status = Executing }) t)
@@ -255,24 +255,24 @@ pub data Limit : Type 0 where
 abbrev pub record_within : ℕ → List StorageAnswer → ℕ → Option Receipt → State → Option (Result State Limit)
 record_within i answers w None s = None
 record_within i answers w (Some receipt) s =
-    if nat_lt record_limit (s.placed + len receipt.writes) then Some (Err ArenaFull)
+    if nat_lt record_limit (s.record_count + len receipt.writes) then Some (Err ArenaFull)
     else if nat_le incarnation_limit (call_at s i).incarnation then Some (Err IncarnationLimit)
-    else Some (Ok (counted one_execution w (recorded w i answers receipt s)))
+    else Some (Ok (counted one_execution w (after_record w i answers receipt s)))
 
 -- the result of a worker's step, by its task; None where the step is not due
 abbrev pub step_with : Block → ℕ → Task → Step → State → Option (Result State Limit)
-step_with block w Idle Ask s = Some (Ok (counted one_asking w (asked w s)))
-step_with block w (Running i answers None) (Read_key key) s = Some (Ok (counted one_step w (read_at block.base key w i answers s)))
+step_with block w Idle Ask s = Some (Ok (counted one_asking w (after_ask w s)))
+step_with block w (Running i answers None) (Read_key key) s = Some (Ok (counted one_step w (after_read_key block.base key w i answers s)))
 step_with block w (Running i answers (Some b)) Park s =
-    if nat_le incarnation_limit (call_at s i).incarnation then Some (Err IncarnationLimit) else Some (Ok (counted one_step w (parked w i b s)))
+    if nat_le incarnation_limit (call_at s i).incarnation then Some (Err IncarnationLimit) else Some (Ok (counted one_step w (after_park w i b s)))
 step_with block w (Running i answers None) Record s = record_within i answers w (block.borne_out i (replies_of answers)) s
-step_with block w (Moving i (key ∷ keys) new) Move_key s = Some (Ok (counted one_step w (moved w i key keys new s)))
-step_with block w (Moving i [] new) Finish_execution s = Some (Ok (counted one_step w (executed w i new s)))
-step_with block w (Validating i n left true) Decide s = Some (Ok (counted one_validation w (decided w i n true s)))
-step_with block w (Validating i n (suc left) false) Check_read s = Some (Ok (counted one_step w (checked w i n left s)))
-step_with block w (Validating i n zero false) Decide s = Some (Ok (counted one_validation w (decided w i n false s)))
-step_with block w (Marking i (key ∷ keys)) Mark_estimate s = Some (Ok (counted one_step w (marked w i key keys s)))
-step_with block w (Marking i []) Finish_abort s = Some (Ok (counted one_step w (aborted w i s)))
+step_with block w (Moving i (key ∷ keys) new) Move_key s = Some (Ok (counted one_step w (after_move_key w i key keys new s)))
+step_with block w (Moving i [] new) Finish_execution s = Some (Ok (counted one_step w (after_finish_execution w i new s)))
+step_with block w (Validating i n left true) Decide s = Some (Ok (counted one_validation w (after_decide w i n true s)))
+step_with block w (Validating i n (suc left) false) Check_read s = Some (Ok (counted one_step w (after_check_read w i n left s)))
+step_with block w (Validating i n zero false) Decide s = Some (Ok (counted one_validation w (after_decide w i n false s)))
+step_with block w (Marking i (key ∷ keys)) Mark_estimate s = Some (Ok (counted one_step w (after_mark_estimate w i key keys s)))
+step_with block w (Marking i []) Finish_abort s = Some (Ok (counted one_step w (after_finish_abort w i s)))
 step_with block w task step s = None
 
 -- a step of a worker in a state; None where it is not due

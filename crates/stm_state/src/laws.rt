@@ -3,17 +3,11 @@
 ghost use Rattle.stm_state.specs.Done.{DoneHasVersionsAlone, DoneIsInOrder, DoneIsSerial};
 ghost use Rattle.stm_state.specs.Dones.{DoneIsAsked, DoneStays, DonesAreAsked, DonesGrowAtDone, LastEntryIsDone, OtherDonesStay};
 ghost use Rattle.stm_state.specs.Drive.{DueStepHasResult, RefusedListMeetsLimit};
-ghost use Rattle.stm_state.specs.Invariant.{InvariantHolds};
 ghost use Rattle.stm_state.specs.OneWorker.{HasOneWorkerCounts, OneWorkerCountsWhereReached};
-ghost use Rattle.stm_state.specs.Parts.{CallsAreAttended, HoldsWhereReached, OthersHaveEstimates, ReadsAreWatched, RunsAreBorneOut};
+ghost use Rattle.stm_state.specs.Parts.{CallsAreAttended, HoldsWhereReached, OthersHaveEstimates, ReadsAreWatched, RunsAreBorneOut, SizesStay};
 ghost use Rattle.stm_state.specs.Walk.{ReachedByList};
 
 use rv_ledger::Job;
-
-/// The invariant holds in each state of a block's run, whatever list of steps leads there.
-pub fn invariant_holds()
-    ensures { InvariantHolds }
-{}
 
 /// Where workers are done with a block, whatever list of steps led there, the versions have no estimate
 /// and no entry of a call past the last one.
@@ -37,8 +31,10 @@ pub fn done_is_in_order()
 /// leads there. First, READY calls are at or above the execution index, EXECUTING calls are some worker's
 /// task, and ABORTING calls are parked or are taken back. Second, only EXECUTED calls, unfinished records
 /// and unfinished aborts have versions. Third, where a read of an EXECUTED call does not stand, a
-/// validation of that call is still to come or to end. Fourth, runs are borne out by true answers.
+/// validation of that call is still to come or to end. Fourth, runs are borne out by true answers. Beside
+/// them, the numbers of calls and workers stay the same.
 pub fn the_parts_hold()
+    ensures sized { SizesStay }
     ensures part_1 { HoldsWhereReached CallsAreAttended }
     ensures part_2 { HoldsWhereReached OthersHaveEstimates }
     ensures part_3 { HoldsWhereReached ReadsAreWatched }

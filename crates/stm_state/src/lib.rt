@@ -7,7 +7,7 @@ mod state;
 
 pub use laws::{
     done_has_versions_alone, done_is_in_order, done_is_serial, done_stays, dones_grow_at_done,
-    due_step_has_result, invariant_holds, last_entry_is_done, one_worker_counts,
-    one_worker_counts_where_reached, reached_by_list, refused_list_meets_limit, the_parts_hold,
+    due_step_has_result, last_entry_is_done, one_worker_counts, one_worker_counts_where_reached,
+    reached_by_list, refused_list_meets_limit, the_parts_hold,
 };
 pub use state::{Answers, CallState, Keys, Recorded, Status, Task};

@@ -23,8 +23,8 @@ bytes_of change.Gone = 0
 bytes_of (change.Sum amount) = 0
 
 -- an arena after one more record, which takes its room
-abbrev pub placed : ℕ → ℕ → ContentChange → ArenaState → ArenaState
-placed writer incarnation written arena =
+abbrev pub with_record : ℕ → ℕ → ContentChange → ArenaState → ArenaState
+with_record writer incarnation written arena =
     record {
       records = arena.records ++ (record { writer = writer; incarnation = incarnation; change = written }) ∷ [];
       room = arena.room - 1;

@@ -3,7 +3,7 @@
 ghost use Rattle.std.specs.Prelude.{◌≡◌, ◌+◌, ◌<◌, ◌≤◌, ◌↔◌, [], Err, IfSome, Ok, OnErr, OnOk, length, max, nat_lt, slice_get, take};
 ghost use Rattle.std.specs.Option.{option_map};
 ghost use Rattle.rv_ledger.specs.Change.{IfValue, change_copied};
-ghost use Rattle.version_arena.specs.ArenaState.{bytes_of, emptied, placed};
+ghost use Rattle.version_arena.specs.ArenaState.{bytes_of, emptied, with_record};
 ghost use Rattle.version_arena.specs.Lent.{lent};
 ghost use Rattle.version_arena.specs.declared.fault.ReserveFault.TheVariants.{ArenaFull};
 
@@ -91,7 +91,7 @@ impl Arena {
         requires room { 1 ≤ self.old.room }
         requires bytes { bytes_of (change_copied change) ≤ self.old.bytes }
         ensures id { result ≡ length self.old.records }
-        ensures placed { self.new ≡ placed writer incarnation (change_copied change.entry) self.old }
+        ensures placed { self.new ≡ with_record writer incarnation (change_copied change.entry) self.old }
     {
         let place = self.len;
         let bytes = len_of(&change);

@@ -2,12 +2,12 @@
 //! reserved in advance, so that writing a version takes no memory.
 #![tactic(auto)]
 
-pub mod arena;
+mod arena;
 mod chunk;
-pub mod fault;
+mod fault;
 mod pool;
 mod raw;
-pub mod record;
+mod record;
 mod slot;
 
 pub use arena::{Arena, RECORD_LIMIT};

@@ -1,11 +1,11 @@
 -- What an asking adds to a share.
 use Rattle.std.proofs.Common.{◌≡◌, ◌+◌, Bool, true, false, if◌then◌else◌, length, get_or, arith, sym, ap, ◌∙◌, refl}
 use Rattle.stm_state.specs.declared.state.Task.{Task}
-use Rattle.stm_state.specs.declared.state.Task.TheVariants.{Idle, Running, Moving, Validating, Marking}
+use Rattle.stm_state.specs.declared.state.Task.TheVariants.{Idle}
 use Rattle.stm_state.specs.State.{is_done}
 use Rattle.stm_state.specs.Steps.{Ask}
-use Rattle.stm_state.specs.Invariant.{Invariant}
 use Rattle.stm_state.specs.Dones.{DonesGrowAtDone}
+use Rattle.stm_state.specs.Parts.{IsSized}
 use Rattle.stm_core.specs.CoreState.{CoreState, Makes, ask_result_of, block_in}
 use Rattle.stm_core.specs.declared.next_step.AskResult.{AskResult}
 use Rattle.stm_core.specs.declared.next_step.AskResult.TheVariants as ask_result
@@ -16,20 +16,17 @@ use Rattle.workers.specs.Book.{AgreesWith}
 pub done_where_answered : (done : Bool) (task : Task) → ask_result.Done ≡ ask_result_of done task → done ≡ true
 done_where_answered true task e = refl
 done_where_answered false Idle e = cc
-done_where_answered false (Running i answers blocked) e = cc
-done_where_answered false (Moving i keys new) e = cc
-done_where_answered false (Validating i n left failed) e = cc
-done_where_answered false (Marking i keys) e = cc
+done_where_answered false task e = cc
 
 pub not_done_where_answered : (done : Bool) (task : Task) (answer : AskResult) → answer ≡ ask_result_of done task → (answer ≡ ask_result.Done → ⊥) → done ≡ false
 not_done_where_answered true task answer e other = absurd (other e)
 not_done_where_answered false task answer e other = refl
 
 module _ (law : DonesGrowAtDone) (old new : CoreState) (share counted : Share) (made : Makes share.worker Ask old new)
-    (inv : Invariant (block_in old) (length old.state.tasks) old.state) (before : AgreesWith share old) (agrees : AgreesWith counted new) (same : counted.worker ≡ share.worker) where
+    (sized : IsSized (length old.job.block) (length old.state.tasks) old.state) (before : AgreesWith share old) (agrees : AgreesWith counted new) (same : counted.worker ≡ share.worker) where
   grown : counted.dones ≡ (if is_done old.state then share.dones + 1 else share.dones)
   grown =
-      let size = inv.sized.dones in
+      let size = sized.dones in
       let within = before.within in
       agrees.dones ∙ ap (λ w. get_or new.state.dones w 0) same
       ∙ law (block_in old) share.worker old.state new.state made.0 (omega (arith, size, within))

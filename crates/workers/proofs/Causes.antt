@@ -11,7 +11,7 @@ use Rattle.stm_core.specs.declared.next_step.NextStep.{NextStep}
 use Rattle.workers.specs.declared.book.share.Share.{Share}
 use Rattle.workers.specs.declared.fault.RunFault.{RunFault}
 use Rattle.workers.specs.declared.fault.RunFault.TheVariants as faults
-use Rattle.workers.specs.Book.{BookState, Owes, IsUnready, IsCause, IsCauseAfter, MayCount, MayWrite, fault_of}
+use Rattle.workers.specs.Book.{BookState, Owes, IsUnready, IsCause, IsCauseAfter, MayCount, MayWrite, run_fault}
 
 cause_after : (first : Option RunFault) (next : NextStep) (share : Share) (b : CoreState) (Own : Type 0) (Wants : Type 0) (step : Step) (fault : RunFault)
     → IsUnready first next share b fault → IsCauseAfter first (Owes next share b) Own Wants step share.worker b fault
@@ -35,24 +35,24 @@ module _ (w : ℕ) (run : EndedRun) (b : CoreState) (f : RecordFault)
     (own : (f ≢ record_faults.Foreign) ↔ IsOwn w run b) (full : f ≡ record_faults.ArenaFull → IsRefused w Record steps.ArenaFull b)
     (limit : f ≡ record_faults.IncarnationLimit → IsRefused w Record steps.IncarnationLimit b) (memory : f ≡ record_faults.Memory → IsTaken w Record b) where
   module _ (Owed : Type 0) (owed : Owed) (may : MayCount w b) where
-    cause_by : (g : RecordFault) → f ≡ g → IsCauseAfter None Owed (IsOwn w run b) (IsTaken w Record b) Record w b (fault_of g)
+    cause_by : (g : RecordFault) → f ≡ g → IsCauseAfter None Owed (IsOwn w run b) (IsTaken w Record b) Record w b (run_fault g)
     cause_by record_faults.Foreign e = inr (owed, may, λ fits. own.1 fits e)
     cause_by record_faults.ArenaFull e = (owed, may, own.0 (λ k. cc), full e)
     cause_by record_faults.IncarnationLimit e = (owed, may, own.0 (λ k. cc), limit e)
     cause_by record_faults.Memory e = (owed, may, own.0 (λ k. cc), memory e)
 
     -- it is a cause
-    pub record_cause : IsCauseAfter None Owed (IsOwn w run b) (IsTaken w Record b) Record w b (fault_of f)
+    pub record_cause : IsCauseAfter None Owed (IsOwn w run b) (IsTaken w Record b) Record w b (run_fault f)
     record_cause = cause_by f refl
 
-  may_write_by : (g : RecordFault) → f ≡ g → w < length b.state.tasks → MayWrite (fault_of g) b
+  may_write_by : (g : RecordFault) → f ≡ g → w < length b.state.tasks → MayWrite (run_fault g) b
   may_write_by record_faults.Foreign e within = tt
   may_write_by record_faults.ArenaFull e within = record { worker = w; within = within; step = Record; refused = full e }
   may_write_by record_faults.IncarnationLimit e within = record { worker = w; within = within; step = Record; refused = limit e }
   may_write_by record_faults.Memory e within = tt
 
   -- it may be written
-  pub record_may_write : w < length b.state.tasks → MayWrite (fault_of f) b
+  pub record_may_write : w < length b.state.tasks → MayWrite (run_fault f) b
   record_may_write within = may_write_by f refl within
 
 -- ---- a run that is handed in to a core
@@ -74,9 +74,9 @@ module _ (w : ℕ) (run : EndedRun) (b after : CoreState) (answer : Result Unit 
   said = subst (IsHandedIn w run b after) is h
 
   -- its refusal is a cause
-  pub refusal_cause : (Owed : Type 0) → Owed → MayCount w b → IsCauseAfter None Owed (IsOwn w run b) (IsTaken w Record b) Record w b (fault_of refused.fault)
+  pub refusal_cause : (Owed : Type 0) → Owed → MayCount w b → IsCauseAfter None Owed (IsOwn w run b) (IsTaken w Record b) Record w b (run_fault refused.fault)
   refusal_cause Owed owed may = record_cause w run b refused.fault said.own said.full said.limit said.memory Owed owed may
 
   -- it may be written
-  pub refusal_may_write : w < length b.state.tasks → MayWrite (fault_of refused.fault) after
-  refusal_may_write within = subst (MayWrite (fault_of refused.fault)) (sym said.back.1) (record_may_write w run b refused.fault said.own said.full said.limit said.memory within)
+  pub refusal_may_write : w < length b.state.tasks → MayWrite (run_fault refused.fault) after
+  refusal_may_write within = subst (MayWrite (run_fault refused.fault)) (sym said.back.1) (record_may_write w run b refused.fault said.own said.full said.limit said.memory within)

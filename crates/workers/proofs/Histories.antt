@@ -10,10 +10,10 @@ use Rattle.stm_state.specs.State.{no_counts}
 use Rattle.stm_state.specs.Steps.{Limit}
 use Rattle.stm_state.specs.Steps as steps
 use Rattle.stm_state.specs.Done.{Reached}
-use Rattle.stm_state.specs.Invariant.{Invariant}
 use Rattle.stm_state.specs.Walk.{ReachedByList}
 use Rattle.stm_state.specs.Dones.{LastEntryIsDone, dones_of}
 use Rattle.stm_state.specs.OneWorker.{OneWorkerCountsWhereReached}
+use Rattle.stm_state.specs.Parts.{IsSized}
 use Rattle.stm_core.specs.CoreState.{CoreState, block_in}
 use Rattle.workers.specs.declared.book.share.Share.{Share}
 use Rattle.workers.specs.declared.fault.RunFault.{RunFault}
@@ -97,9 +97,9 @@ settled_share : (b : CoreState) (shares : List Share) (w : ℕ) (share : Share) 
     → counts_of_share share ≡ record { worker = w; counts = get_or b.state.counts w no_counts; dones = 1 }
 settled_share b shares w share h = λ k. record { worker = h.worker k; counts = (h.agrees.counts ∙ ap (λ v. get_or b.state.counts v no_counts) h.worker) k; dones = h.once k }
 
-settled_shares : (b : CoreState) (shares : List Share) → AreSettled b shares → Invariant (block_in b) (length b.state.tasks) b.state → AreSharesOf b.state.counts shares
-settled_shares b shares h inv = record {
-  count = h.count ∙ sym inv.sized.counts;
+settled_shares : (b : CoreState) (shares : List Share) → AreSettled b shares → IsSized (length b.job.block) (length b.state.tasks) b.state → AreSharesOf b.state.counts shares
+settled_shares b shares h sized = record {
+  count = h.count ∙ sym sized.counts;
   each = λ w share at. settled_share b shares w share (h.each w share at);
 }
 
@@ -110,7 +110,7 @@ size_is core b found same is = is ∙ ap (λ (x : CoreState). length x.state.tas
 -- ---- what is answered for a job and a number of workers
 
 module _ (job : Job) (workers : ℕ) (shares : List Share) (b : BookState) (settled_answer : Result Outcome RunFault) (settled : IsSettled job shares b settled_answer)
-    (reached : Reached (block_in b.core) (length b.core.state.tasks) b.core.state) (inv : Invariant (block_in b.core) (length b.core.state.tasks) b.core.state)
+    (reached : Reached (block_in b.core) (length b.core.state.tasks) b.core.state) (sized : IsSized (length b.core.job.block) (length b.core.state.tasks) b.core.state)
     (fits : FaultFits b.core b.fault) (found : ℕ) (size : found ≡ length b.core.state.tasks) where
   module _ (answer : Result Outcome RunFault) (ok : IfOk answer (λ o. (settled_answer ≡ Ok o) × (found ≡ workers))) where
     pub job_is : IfOk answer (λ o. o.job ≡ job)
@@ -125,7 +125,7 @@ module _ (job : Job) (workers : ℕ) (shares : List Share) (b : BookState) (sett
     pub shares_are : IfOk answer (λ o. AreSharesOf o.counts.items shares)
     shares_are = IfOk-weaker answer _ _ (λ o h.
         let k = ok_settled job shares b settled_answer settled o h.0 in
-        subst (λ (counts : List Counts). AreSharesOf counts shares) (sym k.1.1.counts) (settled_shares b.core shares k.1.0 inv)) ok
+        subst (λ (counts : List Counts). AreSharesOf counts shares) (sym k.1.1.counts) (settled_shares b.core shares k.1.0 sized)) ok
 
     pub history_is : ReachedByList → LastEntryIsDone → IfOk answer (λ o. HasHistory job workers o.counts.items)
     history_is by_list last = IfOk-weaker answer _ _ (λ o h.

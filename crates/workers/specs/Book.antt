@@ -55,11 +55,11 @@ abbrev pub HasKnownCalls : List Invocation → Bool → CoreState → Type 0
 HasKnownCalls calls known b = known ≡ true → b.job.block ≡ calls
 
 -- the fault of a record that was refused
-abbrev pub fault_of : RecordFault → RunFault
-fault_of record_faults.Foreign = faults.Foreign
-fault_of record_faults.ArenaFull = faults.ArenaFull
-fault_of record_faults.Memory = faults.Memory
-fault_of record_faults.IncarnationLimit = faults.IncarnationLimit
+abbrev pub run_fault : RecordFault → RunFault
+run_fault record_faults.Foreign = faults.Foreign
+run_fault record_faults.ArenaFull = faults.ArenaFull
+run_fault record_faults.Memory = faults.Memory
+run_fault record_faults.IncarnationLimit = faults.IncarnationLimit
 
 -- the fault that is written for one that was met outside the lock
 abbrev pub outside_fault : OutsideFault → RunFault

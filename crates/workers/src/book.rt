@@ -5,7 +5,7 @@ pub mod written;
 
 ghost use Rattle.std.specs.Prelude.{◌≡◌, List, []};
 ghost use Rattle.rv_ledger.specs.Call.{Invocation};
-ghost use Rattle.workers.specs.Book.{fault_of};
+ghost use Rattle.workers.specs.Book.{run_fault};
 
 use crate::fault::{OutsideFault, RunFault};
 use rv_ledger::Key;
@@ -67,7 +67,7 @@ impl<B: BlockName> Book<B> {
     ghost use Rattle.std.specs.Prelude.{◌≡◌, ◌<◌, ◌↔◌, ⊤, None, Some, true, length, get_or, slice_get, IfErr, IfOk, OnOk};
     ghost use Rattle.mvmap.specs.Reading.{reading};
     ghost use Rattle.stm_state.specs.Done.{Reached};
-    ghost use Rattle.stm_state.specs.Invariant.{Invariant};
+    ghost use Rattle.stm_state.specs.Parts.{CallsAreAttended, IsSized, OthersHaveEstimates, ReadsAreWatched, RunsAreBorneOut};
     ghost use Rattle.stm_state.specs.State.{task_at};
     ghost use Rattle.stm_state.specs.Steps as steps;
     ghost use Rattle.scheduler.specs.Schedule.{count_limit};
@@ -122,11 +122,16 @@ impl<B: BlockName> Book<B> {
         self.fault
     }
 
-    /// For a caller's proof: some list of worker steps leads to the core's state, the scheduler's invariant
-    /// holds, and the written fault is true of the core. Does nothing when it runs.
+    /// For a caller's proof: some list of worker steps leads to the core's state, its numbers of calls and
+    /// workers are those of the start, the four parts of the scheduler's invariant hold, and the written fault
+    /// is true of the core. Does nothing when it runs.
     pub fn holds(&self)
         ensures reached { Reached (block_in self.now.core) (length self.now.core.state.tasks) self.now.core.state }
-        ensures invariant { Invariant (block_in self.now.core) (length self.now.core.state.tasks) self.now.core.state }
+        ensures sized { IsSized (length self.now.core.job.block) (length self.now.core.state.tasks) self.now.core.state }
+        ensures attended { CallsAreAttended (block_in self.now.core) self.now.core.state }
+        ensures estimates { OthersHaveEstimates (block_in self.now.core) self.now.core.state }
+        ensures watched { ReadsAreWatched (block_in self.now.core) self.now.core.state }
+        ensures borne_out { RunsAreBorneOut (block_in self.now.core) self.now.core.state }
         ensures fits { FaultFits self.now.core self.now.fault }
     {
         self.core.holds();
@@ -297,7 +302,7 @@ impl<B: BlockName> Book<B> {
                 self.update(share);
                 Ok(self.core.doing(share.worker))
             }
-            Err(refused) => Err(self.write(fault_of(refused.fault))),
+            Err(refused) => Err(self.write(run_fault(refused.fault))),
         }
     }
 
@@ -474,8 +479,8 @@ impl<B: BlockName> Book<B> {
 }
 
 /// The fault of a record that was refused.
-fn fault_of(fault: RecordFault) -> RunFault
-    ensures { result ≡ fault_of fault }
+fn run_fault(fault: RecordFault) -> RunFault
+    ensures { result ≡ run_fault fault }
 {
     match fault {
         RecordFault::Foreign => RunFault::Foreign,

@@ -3,8 +3,7 @@
 use crate::executor::{Executor, run_over};
 use crate::fault::RunFault;
 use crate::gate::Open;
-use rv_ledger::job::CALL_LIMIT;
-use rv_ledger::{Call, Job, Outcome, Receipt, Store};
+use rv_ledger::{CALL_LIMIT, Call, Job, Outcome, Receipt, Store};
 use std::alloc::{AllocError, Global};
 use std::marker::Brand;
 use std::sync::Wait;

@@ -2,20 +2,20 @@
 //! core under it.
 #![tactic(auto)]
 
-pub mod answer;
-pub mod book;
-pub mod chain;
-pub mod done_cell;
-pub mod executor;
-pub mod fault;
-pub mod gate;
-pub mod shared;
-pub mod worker;
+mod answer;
+mod book;
+mod chain;
+mod done_cell;
+mod executor;
+mod fault;
+mod gate;
+mod shared;
+mod worker;
 
 pub use answer::settle;
-pub use book::{Book, Share, WrittenFault};
+pub use book::{BlockName, Book, Share, WrittenFault};
 pub use chain::{Chain, ChainFault};
-pub use done_cell::{DoneCell, DonePass};
+pub use done_cell::{DoneCell, DonePass, LOOK_LIMIT, OneWay};
 pub use executor::Executor;
 pub use fault::RunFault;
 pub use gate::{Gate, Open, ProcessorHint, Spin};

@@ -2,7 +2,7 @@ use Rattle.std.proofs.Common.{rules, ◌≡◌, ◌∙◌, ap, List, Option, Som
 use Rattle.clap.specs.Words.{HasMatchesOf, Text, kind_of, subcommand_of, subcommand_rows_of, takes}
 use Rattle.clap.specs.declared.error.ErrorKind.TheVariants as kind
 use Rattle.clap.specs.declared.parser.matches.ArgMatches.{ArgMatches}
-use Rattle.cmdline.specs.Line.{Asked, asked, asked_by, asked_in, rvstm_app}
+use Rattle.cmdline.specs.Line.{Asked, requested, asked_by, asked_in, rvstm_app}
 use Rattle.cmdline.specs.declared.Request.{Request}
 use Rattle.cmdline.proofs.DriveLine.{drive_counts_is_asked, drive_counts_is_taken, drive_is_asked, drive_is_taken}
 use Rattle.cmdline.proofs.Lines.{asm_is_asked, asm_is_taken, debug_is_asked, debug_is_taken, dis_is_asked, dis_is_taken, is_plain, migrate_is_asked, migrate_is_taken, run_counts_is_asked, run_counts_is_taken, run_is_asked, run_is_taken, seq_is_asked, seq_is_taken}
@@ -13,7 +13,7 @@ returns-clause-refused c = c.in_ok-matches.ensures.refused
 
 -- what was asked, from what clap found
 is_asked : (words line : List Text) → words ≡ line → (m : ArgMatches) (request : Option Request) (what : Asked) → HasMatchesOf rvstm_app words m
-    → option_map asked_by request ≡ option_and_then asked_in (subcommand_rows_of m) → asked line ≡ Some what → option_map asked_by request ≡ Some what
+    → option_map asked_by request ≡ option_and_then asked_in (subcommand_rows_of m) → requested line ≡ Some what → option_map asked_by request ≡ Some what
 is_asked words line line_is m request what found read asks =
     read ∙ ap (option_and_then asked_in) ((found is_plain).1 ∙ ap (subcommand_of rvstm_app) line_is) ∙ asks
 

@@ -3,7 +3,7 @@ use Rattle.std.proofs.KnownBytes.{Consumes-nil, Consumes-trans}
 use Rattle.std.proofs.lemmas.List.Elements.{All-nil}
 use Rattle.debugger.specs.Hearing.{IsInLine}
 use Rattle.debugger.proofs.Cuts.{cut_at, cut_between_reads, cut_inside, cut_over, read_none}
-use Rattle.debugger.proofs.Hearings.{ended_at, ended_over, last_heard, part_heard, start_heard}
+use Rattle.debugger.proofs.SessionInputs.{ended_at, ended_over, last_heard, part_heard, start_heard}
 use Rattle.debugger.proofs.session.debug_to.Goals as goal
 
 pub loop-init : goal.loop-init

@@ -1,6 +1,6 @@
 use Rattle.std.proofs.Common.{sym, ◌∙◌}
 use Rattle.debugger.proofs.Cuts.{hear_cut, hear_line_cut}
-use Rattle.debugger.proofs.Hearings.{hear_byte, hear_line, hear_quit, start_heard}
+use Rattle.debugger.proofs.SessionInputs.{hear_byte, hear_line, hear_quit, start_heard}
 use Rattle.debugger.proofs.session.hear.Goals as goal
 
 pub loop-byte-init : goal.loop-byte-init

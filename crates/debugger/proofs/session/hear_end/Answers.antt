@@ -1,6 +1,6 @@
 use Rattle.std.proofs.Common.{sym}
 use Rattle.debugger.proofs.Cuts.{last_cut}
-use Rattle.debugger.proofs.Hearings.{none_left, one_left}
+use Rattle.debugger.proofs.SessionInputs.{none_left, one_left}
 use Rattle.debugger.proofs.session.hear_end.Goals as goal
 
 pub returns-then-is_empty-clause-ok : goal.returns-then-is_empty-clause-ok

@@ -5,7 +5,7 @@ use Rattle.engines.specs.declared.fault.Refusal.{Refusal}
 use Rattle.engines.specs.declared.fault.Refusal.TheVariants.{Seq}
 use Rattle.engines.specs.declared.fault.SeqFault.TheVariants.{Memory}
 use Rattle.engines.specs.Debugging.{IsFaultOfDebug}
-use Rattle.engines.specs.Parts.{IsLoadFault}
+use Rattle.engines.specs.StageFaults.{IsLoadFault}
 use Rattle.engines.proofs.JobFaults.{no_fault}
 use Rattle.engines.proofs.LaterFaults.{before_replay}
 use Rattle.engines.proofs.debugging.debug_block_to.Goals as goal

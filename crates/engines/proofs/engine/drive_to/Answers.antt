@@ -10,7 +10,7 @@ use Rattle.engines.specs.declared.fault.Refusal.{Refusal}
 use Rattle.engines.specs.declared.fault.Refusal.TheVariants.{Drive}
 use Rattle.engines.specs.Driving.{IsFaultOfDrive, text_along}
 use Rattle.engines.specs.Engine.{loaded_job}
-use Rattle.engines.specs.Parts.{IsDriveFault, IsLoadFault}
+use Rattle.engines.specs.StageFaults.{IsDriveFault, IsLoadFault}
 use Rattle.engines.proofs.DriveFaults.{along_drive, before_drive}
 use Rattle.engines.proofs.engine.drive_to.Goals as goal
 

@@ -5,7 +5,7 @@ use Rattle.engines.specs.declared.fault.Refusal.{Refusal}
 use Rattle.engines.specs.declared.fault.Refusal.TheVariants.{Seq}
 use Rattle.engines.specs.declared.fault.SeqFault.TheVariants.{Memory}
 use Rattle.engines.specs.Engine.{IsFaultOf}
-use Rattle.engines.specs.Parts.{IsLoadFault}
+use Rattle.engines.specs.StageFaults.{IsLoadFault}
 use Rattle.engines.proofs.JobFaults.{job_fault, no_fault}
 use Rattle.engines.proofs.engine.seq_to.Goals as goal
 

@@ -6,7 +6,7 @@ use Rattle.workers.specs.declared.fault.RunFault.TheVariants.{Memory}
 use Rattle.engines.specs.declared.fault.Refusal.{Refusal}
 use Rattle.engines.specs.declared.fault.Refusal.TheVariants.{Run}
 use Rattle.engines.specs.Engine.{loaded_job}
-use Rattle.engines.specs.Parts.{IsLoadFault}
+use Rattle.engines.specs.StageFaults.{IsLoadFault}
 use Rattle.engines.specs.Running.{IsFaultOfRun, IsRefusalOf}
 use Rattle.engines.proofs.LaterFaults.{before_run}
 use Rattle.engines.proofs.running.run_to.Goals as goal

@@ -1,10 +1,10 @@
-use Rattle.std.proofs.Common.{◌∙◌, refl}
+use Rattle.std.proofs.Common.{◌∙◌, ◌^◌, refl}
 use Rattle.rv_mem.proofs.Calls.{bytes_none, paged_none}
 use Rattle.rv_mem.proofs.pages.program_pages.Goals as goal
 
 pub returns-clause-bytes : goal.returns-clause-bytes
 returns-clause-bytes c =
-    bytes_none (record { base = c.in_ok-base.base; index = c.in_ok-index.index; own = c.new.result; held = record { first = 65536; len = 0; place = 0 } }) c.args.image.now.segments (rw c.in_ok-base.ensures c.base.ensures) c.new.ensures.items (c.in_ok-index.ensures.items ∙ rw c.deref.ensures refl)
+    bytes_none (record { base = c.in_ok-base.base; index = c.in_ok-index.index; own = c.new.result; held = record { first = 2 ^ 32; place = 0 } }) c.args.image.now.segments (rw c.in_ok-base.ensures c.base.ensures) c.new.ensures.items (c.in_ok-index.ensures.items ∙ rw c.deref.ensures refl)
 
 pub returns-clause-paged : goal.returns-clause-paged
 returns-clause-paged c =

@@ -1,10 +1,10 @@
 use Rattle.std.proofs.Common.{arith, sym, ◌∙◌, refl}
-use Rattle.rv_mem.specs.Space.{each}
+use Rattle.rv_mem.specs.Space.{allows_range}
 use Rattle.rv_mem.proofs.Each.{each_below, each_past, each_pages, each_page_without}
 use Rattle.rv_mem.proofs.rights.range_has.Goals as goal
 
 pub returns-then-len-eq0-clause-value : goal.returns-then-len-eq0-clause-value
-unfolding each
+unfolding allows_range
 returns-then-len-eq0-clause-value c = rw c.if-len-eq0.true refl
 
 pub returns-then-address-lt-FIRST_ADDRESS-clause-value : goal.returns-then-address-lt-FIRST_ADDRESS-clause-value

@@ -5,8 +5,8 @@ use Rattle.stm_state.specs.declared.state.CallState.{CallState}
 use Rattle.scheduler.specs.Schedule.{state_of}
 use Rattle.stm_core.proofs.recording.record_run.Goals as goal
 
-pub returns-then-count-placed-clause-full : goal.returns-then-count-placed-clause-full
-returns-then-count-placed-clause-full c = λ _. omega (arith, len-entries c.args.run.receipt.writes)
+pub returns-then-count-record_count-clause-full : goal.returns-then-count-record_count-clause-full
+returns-then-count-record_count-clause-full c = λ _. omega (arith, len-entries c.args.run.receipt.writes)
 
 pub returns-then-call-clause-limit : goal.returns-then-call-clause-limit
 returns-then-call-clause-limit c = λ _.

@@ -1,4 +1,4 @@
-use Rattle.stm_state.proofs.Dues.{due_where_led}
+use Rattle.stm_state.proofs.DueSteps.{due_where_led}
 use Rattle.stm_state.proofs.laws.due_step_has_result.Goals as goal
 
 pub returns : goal.returns

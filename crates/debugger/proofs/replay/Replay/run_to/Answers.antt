@@ -1,4 +1,4 @@
-use Rattle.debugger.proofs.Standings.{fewer_left}
+use Rattle.debugger.proofs.ReplayMoments.{fewer_left}
 use Rattle.debugger.proofs.replay.Replay.run_to.Goals as goal
 
 pub loop-self-smaller : goal.loop-self-smaller

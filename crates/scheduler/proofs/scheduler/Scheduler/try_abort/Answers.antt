@@ -3,7 +3,7 @@ use Rattle.mvmap.specs.Versions.{Versions}
 use Rattle.stm_state.specs.declared.state.Status.TheVariants.{Aborting}
 use Rattle.stm_state.specs.declared.state.Task.TheVariants.{Idle, Marking}
 use Rattle.stm_state.specs.State.{fresh, with_call, with_task}
-use Rattle.stm_state.specs.Steps.{counted, decided, is_executed_at, keys_of, one_validation, written_by}
+use Rattle.stm_state.specs.Steps.{counted, after_decide, is_executed_at, keys_of, one_validation, written_by}
 use Rattle.scheduler.specs.Schedule.{Schedule, state_of}
 use Rattle.scheduler.proofs.Cases.{decided_late, decided_none, decided_abort}
 use Rattle.scheduler.proofs.scheduler.Scheduler.try_abort.Goals as goal
@@ -26,7 +26,7 @@ returns-else-failed-clause-state c =
     let w = c.args.worker in
     let i = c.args.call in
     let n = c.args.incarnation in
-    let rests : (v : Versions) (p : ℕ) → with_task w Idle (state_of v p c.args.self.now) ≡ decided w i n c.args.failed (state_of v p c.args.self.now) =
+    let rests : (v : Versions) (p : ℕ) → with_task w Idle (state_of v p c.args.self.now) ≡ after_decide w i n c.args.failed (state_of v p c.args.self.now) =
     elim c.else-failed.branch [
       | else-failed-via-then-failed+else-is_executed_at b ↦ λ v p.
           decided_late w (state_of v p c.args.self.now) i n c.args.failed b.if-failed.true

@@ -1,7 +1,7 @@
 use Rattle.std.proofs.Common.{◌≡◌, ◌-◌, ◌+◌, ◌∙◌, length, get_or, slice_get, false, Some, Ok, ap, arith, refl, sym}
 use Rattle.stm_state.specs.declared.state.CallState.{CallState}
 use Rattle.stm_state.specs.declared.state.Task.TheVariants.{Idle, Validating}
-use Rattle.stm_state.specs.Steps.{Check_read, checked, counted, next_stands, one_step, read_stands, reads_of}
+use Rattle.stm_state.specs.Steps.{Check_read, after_check_read, counted, next_stands, one_step, read_stands, reads_of}
 use Rattle.stm_state.specs.Done.{block_of}
 use Rattle.stm_core.specs.Inner.{state_in}
 use Rattle.stm_core.proofs.Made.{check_made, due_at, goes_on_quietly, may_count, named_in}
@@ -38,6 +38,6 @@ invariant_of-self c =
     ∙ sym c.next_stands-stands.ensures in
     goes_on_quietly c.self.inside.job c.self.inside.map c.self.inside.promised c.self.inside.scheduler c.self.invariant c.args.self.now c.self.view_is c.args.worker Check_read c.requires c.self.inside.map c.finish_validation.new.self tt
     (check_made (block_of c.self.inside.job.block c.self.inside.job.store) c.args.worker s c.in-Validating.call c.in-Validating.incarnation next.0 next.2
-    ∙ ap (λ x. Some (Ok (counted one_step c.args.worker (checked c.args.worker c.in-Validating.call c.in-Validating.incarnation x s)))) less
+    ∙ ap (λ x. Some (Ok (counted one_step c.args.worker (after_check_read c.args.worker c.in-Validating.call c.in-Validating.incarnation x s)))) less
     ∙ ap (λ t. Some (Ok t)) (sym (c.finish_validation.ensures.state c.self.inside.map.versions (length c.self.inside.map.arena.records + c.self.inside.promised) stands)))
     c.self.invariant.places refl refl

@@ -1,13 +1,20 @@
-use Rattle.std.proofs.Common.{◌+◌, length, get_or, sym, subst}
+use Rattle.std.proofs.Common.{◌+◌, length, get_or, ap, sym, subst}
 use Rattle.stm_state.specs.declared.state.Task.TheVariants.{Idle}
+use Rattle.stm_state.proofs.Invariant.{named_by}
 use Rattle.stm_core.specs.CoreState.{CoreState, IsWithin}
 use Rattle.stm_core.specs.Inner.{state_in}
 use Rattle.stm_core.proofs.Parted.{within_doing}
 use Rattle.stm_core.proofs.Made.{invariant_at, named_in}
 use Rattle.stm_core.proofs.state.Core.doing.Goals as goal
 
-pub next_step_of-requires-clause-named : goal.next_step_of-requires-clause-named
-next_step_of-requires-clause-named c = λ i named. named_in c.self.inside.job c.self.inside.map c.self.inside.promised c.self.inside.scheduler c.self.invariant c.args.worker i named
+pub next_step_of-requires-clause-running : goal.next_step_of-requires-clause-running
+next_step_of-requires-clause-running c = λ i answers blocked at. named_in c.self.inside.job c.self.inside.map c.self.inside.promised c.self.inside.scheduler c.self.invariant c.args.worker i (ap named_by at)
+
+pub next_step_of-requires-clause-moving : goal.next_step_of-requires-clause-moving
+next_step_of-requires-clause-moving c = λ i keys new at. named_in c.self.inside.job c.self.inside.map c.self.inside.promised c.self.inside.scheduler c.self.invariant c.args.worker i (ap named_by at)
+
+pub next_step_of-requires-clause-marking : goal.next_step_of-requires-clause-marking
+next_step_of-requires-clause-marking c = λ i keys at. named_in c.self.inside.job c.self.inside.map c.self.inside.promised c.self.inside.scheduler c.self.invariant c.args.worker i (ap named_by at)
 
 pub returns-clause-within : goal.returns-clause-within
 returns-clause-within c =

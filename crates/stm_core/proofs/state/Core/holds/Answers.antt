@@ -1,8 +1,34 @@
-use Rattle.std.proofs.Common.{length, subst}
-use Rattle.stm_state.specs.Invariant.{Invariant}
-use Rattle.stm_core.specs.CoreState.{CoreState, block_in}
+use Rattle.std.proofs.Common.{◌≡◌, ℕ, length, subst}
+use Rattle.rv_ledger.specs.declared.job.Job.{Job}
+use Rattle.mvmap.specs.Table.{Table}
+use Rattle.stm_state.specs.State.{State}
+use Rattle.stm_state.specs.Steps.{Block}
+use Rattle.stm_state.specs.Parts.{HoldsWhereReached, IsSized}
+use Rattle.stm_state.proofs.Parted.{attended_kept, borne_out_kept, estimates_kept, watched_kept}
+use Rattle.scheduler.specs.Schedule.{Schedule}
+use Rattle.stm_core.specs.CoreState.{CoreState, PassedRoom, block_in}
+use Rattle.stm_core.specs.Inner.{IsReached, core_state_of}
 use Rattle.stm_core.proofs.Made.{invariant_at}
 use Rattle.stm_core.proofs.state.Core.holds.Goals as goal
 
-pub returns-clause-invariant : goal.returns-clause-invariant
-returns-clause-invariant c = subst (λ (b : CoreState). Invariant (block_in b) (length b.state.tasks) b.state) c.self.view_is (invariant_at c.self.inside.job c.self.inside.map c.self.inside.promised c.self.inside.scheduler c.self.invariant)
+-- what holds of each state that is reached holds of a core's
+part_at : {job : Job} {table : Table} {promised : ℕ} {schedule : Schedule} {passed : PassedRoom} (b : CoreState) (P : Block → State → Type 0) → HoldsWhereReached P
+    → core_state_of job table promised schedule passed ≡ b → IsReached job table promised schedule → P (block_in b) b.state
+part_at b P kept is h = subst (λ (x : CoreState). P (block_in x) x.state) is (kept _ _ _ h.reached)
+
+pub returns-clause-sized : goal.returns-clause-sized
+returns-clause-sized c =
+    subst (λ (b : CoreState). IsSized (length b.job.block) (length b.state.tasks) b.state) c.self.view_is
+    (invariant_at c.self.inside.job c.self.inside.map c.self.inside.promised c.self.inside.scheduler c.self.invariant).sized
+
+pub returns-clause-attended : goal.returns-clause-attended
+returns-clause-attended c = part_at c.args.self.now _ attended_kept c.self.view_is c.self.invariant
+
+pub returns-clause-estimates : goal.returns-clause-estimates
+returns-clause-estimates c = part_at c.args.self.now _ estimates_kept c.self.view_is c.self.invariant
+
+pub returns-clause-watched : goal.returns-clause-watched
+returns-clause-watched c = part_at c.args.self.now _ watched_kept c.self.view_is c.self.invariant
+
+pub returns-clause-borne_out : goal.returns-clause-borne_out
+returns-clause-borne_out c = part_at c.args.self.now _ borne_out_kept c.self.view_is c.self.invariant

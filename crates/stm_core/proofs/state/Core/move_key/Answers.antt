@@ -3,7 +3,7 @@ use Rattle.mvmap.specs.Versions.{changed}
 use Rattle.stm_state.specs.declared.state.CallState.{CallState}
 use Rattle.stm_state.specs.declared.state.Task.TheVariants.{Idle}
 use Rattle.stm_state.specs.State.{call_at}
-use Rattle.stm_state.specs.Steps.{Move_key, counted, moved, one_step, version_of}
+use Rattle.stm_state.specs.Steps.{Move_key, counted, after_move_key, one_step, version_of}
 use Rattle.stm_core.specs.Inner.{AreOpen, state_in, writes_at}
 use Rattle.stm_core.proofs.Handed.{key_has_place, key_is_promised, move_makes, move_reached}
 use Rattle.stm_core.proofs.Made.{due_at, may_count, named_in}
@@ -45,7 +45,7 @@ invariant_of-self c =
     let s = state_in c.self.inside.map c.self.inside.promised c.self.inside.scheduler in
     let versions : c.move_key.new.map.versions ≡ changed s.versions (c.in-Some.key.now, c.in-Moving.call) (version_of (call_at s c.in-Moving.call) c.in-Some.key.now) =
     c.move_key.ensures.versions ∙ ap (λ (x : CallState). changed s.versions (c.in-Some.key.now, c.in-Moving.call) (version_of x c.in-Some.key.now)) c.call.ensures in
-    let same : state_in c.move_key.new.map c.move_key.new.promised c.drop_key.new.self ≡ counted one_step c.args.worker (moved c.args.worker c.in-Moving.call c.in-Some.key.now moves.0 c.in-Moving.new_key s) =
+    let same : state_in c.move_key.new.map c.move_key.new.promised c.drop_key.new.self ≡ counted one_step c.args.worker (after_move_key c.args.worker c.in-Moving.call c.in-Some.key.now moves.0 c.in-Moving.new_key s) =
     c.drop_key.ensures.moving c.in-Moving.call c.in-Some.key.now moves.0 c.in-Moving.new_key moves.1 c.move_key.new.map.versions (length c.move_key.new.map.arena.records + c.move_key.new.promised)
     ∙ ap (counted one_step c.args.worker) (moved_is c.args.worker c.in-Moving.call c.in-Some.key.now moves.0 c.in-Moving.new_key s c.move_key.new.map.versions (length c.move_key.new.map.arena.records + c.move_key.new.promised) versions c.move_key.ensures.placed) in
     move_reached c.self.inside.job c.self.inside.map c.self.inside.promised c.self.inside.scheduler c.self.invariant c.args.self.now c.self.view_is c.args.worker c.in-Moving.call c.requires c.in-Some.key.now moves.0 c.in-Moving.new_key moves.1 c.move_key.new.map c.move_key.new.promised c.drop_key.new.self same
@@ -60,7 +60,7 @@ returns c =
     let s = state_in c.self.inside.map c.self.inside.promised c.self.inside.scheduler in
     let versions : c.move_key.new.map.versions ≡ changed s.versions (c.in-Some.key.now, c.in-Moving.call) (version_of (call_at s c.in-Moving.call) c.in-Some.key.now) =
     c.move_key.ensures.versions ∙ ap (λ (x : CallState). changed s.versions (c.in-Some.key.now, c.in-Moving.call) (version_of x c.in-Some.key.now)) c.call.ensures in
-    let same : state_in c.move_key.new.map c.move_key.new.promised c.drop_key.new.self ≡ counted one_step c.args.worker (moved c.args.worker c.in-Moving.call c.in-Some.key.now moves.0 c.in-Moving.new_key s) =
+    let same : state_in c.move_key.new.map c.move_key.new.promised c.drop_key.new.self ≡ counted one_step c.args.worker (after_move_key c.args.worker c.in-Moving.call c.in-Some.key.now moves.0 c.in-Moving.new_key s) =
     c.drop_key.ensures.moving c.in-Moving.call c.in-Some.key.now moves.0 c.in-Moving.new_key moves.1 c.move_key.new.map.versions (length c.move_key.new.map.arena.records + c.move_key.new.promised)
     ∙ ap (counted one_step c.args.worker) (moved_is c.args.worker c.in-Moving.call c.in-Some.key.now moves.0 c.in-Moving.new_key s c.move_key.new.map.versions (length c.move_key.new.map.arena.records + c.move_key.new.promised) versions c.move_key.ensures.placed) in
     move_makes c.self.inside.job c.self.inside.map c.self.inside.promised c.self.inside.scheduler c.self.invariant c.args.self.now c.self.view_is c.args.worker c.in-Moving.call c.requires c.in-Some.key.now moves.0 c.in-Moving.new_key moves.1 c.move_key.new.map c.move_key.new.promised c.drop_key.new.self same c.drop_key.ensures.rooms

@@ -3,17 +3,17 @@ use Rattle.stm_state.specs.declared.state.Task.TheVariants.{Idle}
 use Rattle.stm_state.specs.State.{fresh}
 use Rattle.stm_state.specs.Steps.{Park}
 use Rattle.stm_state.specs.Done.{block_of}
-use Rattle.stm_state.specs.Invariant.{named_by}
 use Rattle.stm_state.specs.declared.state.CallState.{CallState}
+use Rattle.stm_state.proofs.Invariant.{named_by}
 use Rattle.scheduler.specs.declared.worker.TaskKind.TheVariants as task_kind
 use Rattle.stm_core.specs.Inner.{state_in}
-use Rattle.stm_core.proofs.Parted.{parks_running}
+use Rattle.stm_core.proofs.Parted.{running_at}
 use Rattle.stm_core.proofs.Made.{blocked_in, goes_on_quietly, limit_at, may_count, named_in, park_made}
 use Rattle.stm_core.proofs.state.Core.park.Goals as goal
 
 pub call-requires : goal.call-requires
 call-requires c =
-    let runs = parks_running (get_or c.self.inside.scheduler.tasks c.args.worker Idle) c.in-Running-default-Some.call c.in-Running-default-Some.on (ap (λ b. task_kind.Running c.in-Running-default-Some.call b) (sym c.in-Running-default-Some.blocked-is) ∙ c.in-Running-default-Some.ensures) in
+    let runs = running_at (get_or c.self.inside.scheduler.tasks c.args.worker Idle) c.in-Running-default-Some.call (Some c.in-Running-default-Some.on) (ap (λ b. task_kind.Running c.in-Running-default-Some.call b) (sym c.in-Running-default-Some.blocked-is) ∙ c.in-Running-default-Some.ensures) in
     named_in c.self.inside.job c.self.inside.map c.self.inside.promised c.self.inside.scheduler c.self.invariant c.args.worker c.in-Running-default-Some.call (ap named_by runs.1)
 
 pub add_dependency-requires-clause-counts : goal.add_dependency-requires-clause-counts
@@ -21,12 +21,12 @@ add_dependency-requires-clause-counts c = may_count c.self.inside.job c.self.ins
 
 pub add_dependency-requires-clause-within : goal.add_dependency-requires-clause-within
 add_dependency-requires-clause-within c =
-    let runs = parks_running (get_or c.self.inside.scheduler.tasks c.args.worker Idle) c.in-Running-default-Some.call c.in-Running-default-Some.on (ap (λ b. task_kind.Running c.in-Running-default-Some.call b) (sym c.in-Running-default-Some.blocked-is) ∙ c.in-Running-default-Some.ensures) in
+    let runs = running_at (get_or c.self.inside.scheduler.tasks c.args.worker Idle) c.in-Running-default-Some.call (Some c.in-Running-default-Some.on) (ap (λ b. task_kind.Running c.in-Running-default-Some.call b) (sym c.in-Running-default-Some.blocked-is) ∙ c.in-Running-default-Some.ensures) in
     (named_in c.self.inside.job c.self.inside.map c.self.inside.promised c.self.inside.scheduler c.self.invariant c.args.worker c.in-Running-default-Some.call (ap named_by runs.1), blocked_in c.self.inside.job c.self.inside.map c.self.inside.promised c.self.inside.scheduler c.self.invariant c.args.worker c.in-Running-default-Some.call c.in-Running-default-Some.on runs.0 runs.1)
 
 pub invariant_of-self : goal.invariant_of-self
 invariant_of-self c =
-    let runs = parks_running (get_or c.self.inside.scheduler.tasks c.args.worker Idle) c.in-Running-default-Some.call c.in-Running-default-Some.on (ap (λ b. task_kind.Running c.in-Running-default-Some.call b) (sym c.in-Running-default-Some.blocked-is) ∙ c.in-Running-default-Some.ensures) in
+    let runs = running_at (get_or c.self.inside.scheduler.tasks c.args.worker Idle) c.in-Running-default-Some.call (Some c.in-Running-default-Some.on) (ap (λ b. task_kind.Running c.in-Running-default-Some.call b) (sym c.in-Running-default-Some.blocked-is) ∙ c.in-Running-default-Some.ensures) in
     let most = limit_at c.self.inside.job c.self.inside.map c.self.inside.promised c.self.inside.scheduler c.self.invariant c.in-Running-default-Some.call in
     let low : (get_or c.self.inside.scheduler.calls c.in-Running-default-Some.call fresh).incarnation < 65535 = let same = ap (λ (call : CallState). call.incarnation) c.call.ensures in omega (arith, most, same) in
     goes_on_quietly c.self.inside.job c.self.inside.map c.self.inside.promised c.self.inside.scheduler c.self.invariant c.args.self.now c.self.view_is c.args.worker Park c.requires c.self.inside.map c.add_dependency.new.self tt

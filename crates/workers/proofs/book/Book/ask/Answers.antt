@@ -22,12 +22,12 @@ returns-clause-asked g c =
       | in-Done x ↦ (
           let done = done_where_answered (is_done old.state) task (sym x.in-Done.is ∙ made.answer) in
           subst (λ r. IsAsked r b.core new c.args.share.now c.update.new.share) (sym x.result-is)
-          (sym before ∙ done, one_done_more c.dones_grow_at_done.ensures.askings old new c.args.share.now c.update.new.share made.makes c.holds.ensures.invariant counted c.update.ensures.agrees c.update.ensures.worker done))
+          (sym before ∙ done, one_done_more c.dones_grow_at_done.ensures.askings old new c.args.share.now c.update.new.share made.makes c.holds.ensures.sized counted c.update.ensures.agrees c.update.ensures.worker done))
       | in-Nothing x ↦ (
           let not = not_done_where_answered (is_done old.state) task c.ask-answer.result made.answer (λ e. elim x.in-Nothing.is [ inl n ↦ cc | inr n ↦ cc ]) in
           subst (λ r. IsAsked r b.core new c.args.share.now c.update.new.share) (sym x.result-is) (
             sym before ∙ not,
-            no_done_more c.dones_grow_at_done.ensures.askings old new c.args.share.now c.update.new.share made.makes c.holds.ensures.invariant counted c.update.ensures.agrees c.update.ensures.worker not,
+            no_done_more c.dones_grow_at_done.ensures.askings old new c.args.share.now c.update.new.share made.makes c.holds.ensures.sized counted c.update.ensures.agrees c.update.ensures.worker not,
             subst (λ v. x.doing.result ≡ next_step_of new.state (task_at new.state v)) c.update.ensures.worker x.doing.ensures.doing,
           ))
     ]

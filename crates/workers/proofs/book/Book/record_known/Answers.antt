@@ -5,7 +5,7 @@ use Rattle.scheduler.specs.declared.counting.TheConstants.{COUNT_LIMIT}
 use Rattle.stm_core.specs.CoreState.{CoreState, IsOwn, IsTaken}
 use Rattle.stm_core.specs.declared.next_step.NextStep.TheVariants as next_step
 use Rattle.workers.specs.declared.fault.RunFault.{RunFault}
-use Rattle.workers.specs.Book.{BookState, IsCauseAfter, MayCount, MayWrite, Owes, fault_of, first_fault}
+use Rattle.workers.specs.Book.{BookState, IsCauseAfter, MayCount, MayWrite, Owes, run_fault, first_fault}
 use Rattle.workers.proofs.Causes.{IsHandedIn, handed_in, refusal_cause, refusal_may_write}
 use Rattle.workers.proofs.book.Book.record_known.Goals as goal
 use Rattle.workers.proofs.book.Book.record_known.Goals.{then-known+then-self, else-known}
@@ -23,7 +23,7 @@ write-requires g c =
       | else-known x ↦ (let said = x.record-recorded.ensures in handed_in w c.args.run b x.record-recorded.new.self c.if-known.self-inside.core x.record-recorded.result c.if-known.recorded x.recorded-is (ap (λ s. s.core) x.self-inside-is)
           (record { own = said.own; full = said.full; limit = said.limit; memory = said.memory; back = said.back }))
     ] in
-    subst (λ (f : RunFault). MayWrite f c.if-known.self-inside.core) (sym c.fault_of.ensures)
+    subst (λ (f : RunFault). MayWrite f c.if-known.self-inside.core) (sym c.run_fault.ensures)
     (refusal_may_write w c.args.run b c.if-known.self-inside.core c.if-known.recorded handed c.in-Err.refused c.in-Err.is within)
 
 pub returns-in-Err-clause-cause : goal.returns-in-Err-clause-cause
@@ -43,13 +43,13 @@ returns-in-Err-clause-cause g c =
     let may : MayCount w c.self.inside.core =
     subst (λ (x : CoreState). MayCount w x) (sym same) (subst (λ (n : Counts). n.steps < COUNT_LIMIT) ready.0.agrees.counts ready.2) in
     let Owed = Owes (next_step.Run c.args.call c.args.incarnation) c.args.share.now b.core in
-    let cause : IsCauseAfter None Owed (IsOwn w run b.core) (IsTaken w Record b.core) Record w b.core (fault_of c.in-Err.refused.fault) =
-    subst (λ (x : CoreState). IsCauseAfter None Owed (IsOwn w run x) (IsTaken w Record x) Record w x (fault_of c.in-Err.refused.fault)) same
+    let cause : IsCauseAfter None Owed (IsOwn w run b.core) (IsTaken w Record b.core) Record w b.core (run_fault c.in-Err.refused.fault) =
+    subst (λ (x : CoreState). IsCauseAfter None Owed (IsOwn w run x) (IsTaken w Record x) Record w x (run_fault c.in-Err.refused.fault)) same
     (refusal_cause w run c.self.inside.core c.if-known.self-inside.core c.if-known.recorded handed c.in-Err.refused c.in-Err.is Owed ready.0 may) in
     let fault : c.if-known.self-inside.fault ≡ None = elim c.if-known.branch [
       | then-known+then-self x ↦ ap (λ s. s.fault) x.self-inside-is ∙ none
       | else-known x ↦ ap (λ s. s.fault) x.self-inside-is ∙ none
     ] in
-    let written : c.write.result ≡ fault_of c.in-Err.refused.fault = c.write.ensures.first ∙ ap (λ f. first_fault f c.fault_of.result) fault ∙ c.fault_of.ensures in
+    let written : c.write.result ≡ run_fault c.in-Err.refused.fault = c.write.ensures.first ∙ ap (λ f. first_fault f c.run_fault.result) fault ∙ c.run_fault.ensures in
     subst (λ first. IsCauseAfter first Owed (IsOwn w run b.core) (IsTaken w Record b.core) Record w b.core c.write.result) (sym ready.1)
     (subst (λ (f : RunFault). IsCauseAfter None Owed (IsOwn w run b.core) (IsTaken w Record b.core) Record w b.core f) (sym written) cause)

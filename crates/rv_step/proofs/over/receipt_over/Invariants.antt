@@ -1,0 +1,9 @@
+use Rattle.rv_step.specs.Over.{IsBeginningOver}
+use Rattle.rv_step.specs.Run.{left_for}
+use Rattle.rv_step.proofs.over.receipt_over.Given as goal
+
+abbrev pub invariant-loop-machine : goal.invariant-loop-machine
+invariant-loop-machine l = IsBeginningOver l.call l.store l.machine l.stage
+
+abbrev pub decreases-loop-machine : goal.decreases-loop-machine
+decreases-loop-machine l = left_for l.machine.gas l.stage

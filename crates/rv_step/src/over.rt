@@ -1,0 +1,48 @@
+//! The run of one call over a storage, without a list of the storage's answers.
+
+ghost use Rattle.std.specs.Prelude.{◌≡◌, ◌<◌, IfOk, OnOk, false};
+ghost use Rattle.rv_ledger.specs.Call.{Invocation};
+ghost use Rattle.rv_step.specs.Chain.{ends};
+ghost use Rattle.rv_step.specs.Over.{IsBeginningOver, is_ended};
+ghost use Rattle.rv_step.specs.Run.{left_for};
+
+use crate::machine::Machine;
+use crate::run::{receipt, run_until_stop};
+use crate::stage::{Stage, is_ended};
+use rv_ledger::{Call, Receipt, Store, StoredValue};
+use std::alloc::{AllocError, Global};
+
+/// The receipt of a call that is run over a storage. It takes no room for the storage's answers. Refused
+/// where memory ran out.
+pub fn receipt_over(alloc: Global, call: &Call, store: &Store) -> Result<Receipt, AllocError>
+    ensures { IfOk result (λ r. r ≡ ends call.now store.now) }
+{
+    let mut machine = Machine::start(alloc, call)?;
+    let mut stage = Stage::Running;
+    while !is_ended(&stage) {
+        go_on_over(&mut machine, &mut stage, store)?;
+    }
+    match stage {
+        Stage::Ended(end, out) => Ok(receipt(call.gas(), end, out, machine)),
+        _ => unreachable!(),
+    }
+}
+
+/// Goes on with a call that has not ended: gives it what the storage has at the key that it asks for, or else
+/// makes steps up to the next ECALL or the end. Refused where memory ran out.
+fn go_on_over(machine: &mut Machine, stage: &mut Stage, store: &Store) -> Result<(), AllocError>
+    requires { is_ended stage.old ≡ false }
+    ensures over { OnOk result ((call : Invocation) → IsBeginningOver call store.now machine.old stage.old → IsBeginningOver call store.now machine.new stage.new) }
+    ensures fewer { OnOk result (left_for machine.new.gas stage.new < left_for machine.old.gas stage.old) }
+{
+    match stage {
+        Stage::Running => run_until_stop(machine, stage),
+        Stage::Asked(key) => {
+            let key = *key;
+            let content = StoredValue::value_of(store.get(&key));
+            *stage = Stage::Running;
+            machine.answer(&key, content.as_ref(), stage)
+        }
+        Stage::Ended(_, _) => unreachable!(),
+    }
+}
