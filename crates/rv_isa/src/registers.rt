@@ -37,13 +37,14 @@ impl Regs {
         self.numbers[usize::from(register.number)]
     }
 
-    /// Writes `value` to `register`; a write to x0 is lost. x0 is cleared in any case, which is sooner done than
-    /// a test of the number.
+    /// Writes `value` to `register`; a write to x0 is lost.
     pub fn set(&mut self, register: Reg, value: u32)
         ensures { self.new ≡ written self.old register.number value }
     {
-        self.numbers[usize::from(register.number)] = value;
-        self.numbers[0] = 0;
+        if register.number != 0 {
+            let index = usize::from(register.number);
+            self.numbers[index] = value;
+        }
     }
 
     /// The 32 registers in order, x0 first.
