@@ -19,7 +19,7 @@ use crate::reading::read_text;
 use block_file::{BlockFault, Cause, parse_schedule};
 use receipts::write_outcome;
 use rv_ledger::{Job, Outcome};
-use seq_exec::run_in_order;
+use seq_exec::into_outcome;
 use std::alloc::Global;
 use std::io::{Read, Write};
 use stm_core::{DriveFault, drive};
@@ -44,7 +44,7 @@ pub fn seq_to<R: Read, P: Programs, W: Write>(
         Ok(job) => job,
         Err(refusal) => return Err(refusal),
     };
-    seq_job(alloc, &job, out)
+    seq_job(alloc, job, out)
 }
 
 /// Reads a block file to its end and parses it. Opens, reads and loads its programs in the order of their
@@ -102,12 +102,12 @@ fn read_schedule<S: Read>(alloc: Global, schedule: &mut S) -> Result<Vec<u16>, R
 }
 
 /// Runs a job in order and writes the result.
-fn seq_job<W: Write>(alloc: Global, job: &Job, out: &mut W) -> Result<(), Refusal>
-    ensures written { OnOk result (Appends (W.contents out.old) (W.contents out.new) (text_of job.now)) }
-    ensures refused { IfErr result (λ e. IsRunFault (text_of job.now) (W.contents out.old) (W.contents out.new) e) }
+fn seq_job<W: Write>(alloc: Global, job: Job, out: &mut W) -> Result<(), Refusal>
+    ensures written { OnOk result (Appends (W.contents out.old) (W.contents out.new) (text_of job)) }
+    ensures refused { IfErr result (λ e. IsRunFault (text_of job) (W.contents out.old) (W.contents out.new) e) }
     ensures unwritten { IfErr result (λ e. IsUnwritten (W.contents out.old) (W.contents out.new) e) }
 {
-    let Ok(outcome) = run_in_order(alloc, job) else {
+    let Ok(outcome) = into_outcome(alloc, job) else {
         return Err(Refusal::Seq(SeqFault::Memory));
     };
     write_result(alloc, &outcome, out)

@@ -95,7 +95,8 @@ first_or_later rs p s es key w b h = picked (entry_of rs) (eq_by_cmp place_cmp (
 later_none : (rs : List Record) (p : Place) (es : Slots) (key : List ℕ) (w : ℕ) → AllByRecursion (λ y. place_cmp p y ≡ Less) (keys_of es) → (place_cmp p (key, w) ≡ Less → ⊥) → entries_of rs es key w ≡ None
 later_none rs p es key w all h = ap (option_and_then (entry_of rs)) (none_if (slot_at es (key, w)) (λ there. h (above_first p es (key, w) all there)))
 
-not_below_itself : (p q : Place) → q ≡ p → place_cmp p q ≡ Less → ⊥
+-- no place is below itself
+pub not_below_itself : (p q : Place) → q ≡ p → place_cmp p q ≡ Less → ⊥
 not_below_itself p q e h = let tied : place_cmp p p ≡ Equal = tied_itself place_total p in let less : place_cmp p p ≡ Less = ap (place_cmp p) (sym e) ∙ h in cc
 
 -- what the later slots say at a key is what all do, or nothing
@@ -117,10 +118,10 @@ other_key key k w v h = false_if (eq_by_cmp place_cmp (key, w) (k, v)) (λ t.
     let tied : eq_by_cmp key_cmp key k ≡ true = ap (eq_by_cmp key_cmp key) (sym one) ∙ ap is_eq (tied_itself nat_list_cmp_total key) in
     cc)
 
-pub other_writer : (key : List ℕ) (w v : ℕ) → w ≢ v → eq_by_cmp place_cmp (key, w) (key, v) ≡ false
+other_writer : (key : List ℕ) (w v : ℕ) → w ≢ v → eq_by_cmp place_cmp (key, w) (key, v) ≡ false
 other_writer key w v ne = false_if (eq_by_cmp place_cmp (key, w) (key, v)) (λ t. ne (ap (λ (p : Place). p.1) (same_place (key, w) (key, v) t)))
 
-pub not_above : (key : List ℕ) (v w : ℕ) → w ≤ v → place_cmp (key, v) (key, w) ≡ Less → ⊥
+not_above : (key : List ℕ) (v w : ℕ) → w ≤ v → place_cmp (key, v) (key, w) ≡ Less → ⊥
 not_above key v w l h = let less : v < w = is_less v w (sym (by_writer key v w) ∙ h) in omega arith
 
 -- a version of the first slot at the key, applied to a base

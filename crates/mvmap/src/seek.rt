@@ -30,8 +30,11 @@ pub(crate) fn seek<'a>(slots: &'a Slots, arena: &'a Arena, key: &Key, i: u16) ->
     ensures nearest { IsNearest result (λ w. reading (versions_of arena.now.records slots.now.entries) key.now w) i }
     ensures short { IsShort result }
 {
-    let mut below = slots.range((*key, 0)..(*key, i));
+    let mut below = slots.range(..(*key, i));
     while let Some((place, slot)) = below.next_back() {
+        if place.0 != *key {
+            return Nearest::Nothing;
+        }
         match slot {
             Slot::Vacant => {}
             Slot::Estimate => return Nearest::Waiting(place.1),

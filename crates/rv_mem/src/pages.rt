@@ -17,6 +17,9 @@ use std::sync::Arc;
 /// The place of the first page of a call's own.
 const FIRST_OWN: usize = 512;
 
+/// How many pages of its own a call has room for at its start: that of its input, and that of its stack or data.
+const OWN_ROOM: usize = 2;
+
 /// A page of the program that may be executed, which is held so that its words are found sooner.
 #[derive(Clone, Copy)]
 pub struct Held {
@@ -53,10 +56,11 @@ pub fn program_pages(alloc: Global, image: &Image) -> Result<Pages, AllocError>
 {
     let base = Arc::try_clone(image.base())?;
     let index = Vec::from_slice(alloc, &base.index)?;
+    let own = Vec::with_capacity(alloc, OWN_ROOM)?;
     Ok(Pages {
         base,
         index,
-        own: Vec::new(alloc),
+        own,
         held: NOTHING,
     })
 }

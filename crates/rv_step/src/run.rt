@@ -15,6 +15,10 @@ use rv_ledger::{Call, End, Key, Output, Receipt, Value};
 use std::alloc::{AllocError, Global};
 use std::marker::Model;
 
+/// How many answers a run has room for once it has the first one. Most calls ask for no more, and the allocator is
+/// slower with a list of more than a kibibyte.
+const FIRST_ROOM: usize = 2;
+
 /// A run of one call that is under way.
 #[derive(Drop)]
 pub struct Run {
@@ -166,6 +170,7 @@ impl Run {
             Stage::Asked(key) => *key,
             _ => unreachable!(),
         };
+        make_room(&mut self.answers)?;
         self.answers.push(StorageAnswer {
             key,
             value: Value::copied(content),
@@ -207,6 +212,16 @@ impl Run {
             _ => unreachable!(),
         }
     }
+}
+
+/// Makes room for the first answers; refused where memory ran out.
+fn make_room(answers: &mut Vec<StorageAnswer>) -> Result<(), AllocError>
+    ensures { answers.new.items ≡ answers.old.items }
+{
+    if answers.is_empty() {
+        answers.reserve_exact(FIRST_ROOM)?;
+    }
+    Ok(())
 }
 
 /// Makes steps of a machine that is running, up to and including the first ECALL, or up to the end of the

@@ -16,10 +16,20 @@ pub fn run_in_order(alloc: Global, job: &Job) -> Result<Outcome, AllocError>
     ensures store { IfOk result (λ o. o.store ≡ store_after job.now.block job.now.store) }
     ensures counts { IfOk result (λ o. o.counts.items ≡ []) }
 {
+    into_outcome(alloc, job.copy()?)
+}
+
+/// The same, but the job is moved into the outcome.
+pub fn into_outcome(alloc: Global, job: Job) -> Result<Outcome, AllocError>
+    ensures job { IfOk result (λ o. o.job ≡ job) }
+    ensures receipts { IfOk result (λ o. o.receipts.items ≡ receipts_of job.block job.store) }
+    ensures store { IfOk result (λ o. o.store ≡ store_after job.block job.store) }
+    ensures counts { IfOk result (λ o. o.counts.items ≡ []) }
+{
     let mut store = job.store.copy()?;
     let receipts = run_all(alloc, job.block.calls(), &mut store)?;
     Ok(Outcome {
-        job: job.copy()?,
+        job,
         receipts,
         store,
         counts: Vec::new(alloc),
@@ -35,7 +45,9 @@ fn run_all(alloc: Global, calls: &[Call], store: &mut Store) -> Result<Vec<Recei
 {
     let mut receipts = Vec::with_capacity(alloc, calls.len())?;
     for call in calls {
-        let receipt = receipt_over(alloc, call, store)?;
+        let Ok(receipt) = receipt_over(alloc, call, store) else {
+            return Err(AllocError);
+        };
         apply_writes(store, &receipt.writes)?;
         receipts.push(receipt)?;
     }

@@ -2,6 +2,17 @@
 
 use std::hint::spin_loop;
 
+/// How often a thread spins in a pause. A shorter one disturbs the threads that work, by tries of the lock and by
+/// asks for work that is not there yet.
+const SPINS: u32 = 64;
+
+/// Spins for a while.
+pub(crate) fn pause() {
+    for _ in 0..SPINS {
+        spin_loop();
+    }
+}
+
 /// What a thread does between the end of a run and its record, outside the lock. Tests hold a worker there.
 pub trait Gate {
     /// A worker has come to the end of a run. Promises nothing.
@@ -23,13 +34,13 @@ pub trait Spin {
     fn spin(&self);
 }
 
-/// Tells the processor that the thread spins.
+/// Spins for a while, with the processor's hint for a thread that spins.
 #[derive(Clone, Copy, Debug)]
 pub struct ProcessorHint;
 
 impl Spin for ProcessorHint {
-    /// Returns at once.
+    /// Returns after less than a microsecond on most processors.
     fn spin(&self) {
-        spin_loop();
+        pause();
     }
 }

@@ -7,16 +7,16 @@ ghost use Rattle.workers.specs.DoneCell.{IsPassOf};
 use crate::book::{BlockName, Book, Share, WrittenFault};
 use crate::done_cell::DoneCell;
 use crate::fault::OutsideFault;
+use crate::gate::pause;
 use rv_ledger::Block;
 use std::alloc::{AllocError, Global};
-use std::hint::spin_loop;
 use std::marker::Brand;
 use std::sync::{Mutex, MutexGuard, Wait};
 use stm_core::Core;
 use version_arena::Arena;
 
 /// How often a thread tries the lock before it waits for it.
-const TRIES: u32 = 2000;
+const TRIES: u32 = 200;
 
 /// What the threads of a block share: the lock with the book, the calls, which they run outside the lock, and
 /// the cell, which they look at outside the lock. Where `known` is true the calls are those that `B` names.
@@ -98,13 +98,14 @@ impl<B: BlockName> Shared<B> {
     }
 
     /// Takes the lock. It is tried for a while before the thread waits for it, since a thread that waits
-    /// sleeps, and waking it takes longer than a step under the lock.
+    /// sleeps, and waking it takes longer than a step under the lock. Between two tries the thread spins,
+    /// since each try takes the lock's cache line away from the thread that has the lock.
     pub(crate) fn hold<R: Wait>(&self, rt: &R) -> MutexGuard<'_, Book<B>> {
         for _ in 0..TRIES {
             if let Some(guard) = self.lock.try_lock() {
                 return guard;
             }
-            spin_loop();
+            pause();
         }
         self.lock.lock(rt)
     }

@@ -1,6 +1,6 @@
 //! What one thread does: it asks for work, runs calls outside the lock, and makes their steps under it.
 
-ghost use Rattle.std.specs.Prelude.{◌≡◌, ◌+◌, None, Some, true, IfOk, MatchOption, OnOk, slice_get};
+ghost use Rattle.std.specs.Prelude.{◌≡◌, ◌+◌, None, true, IfOk, MatchOption, OnOk};
 ghost use Rattle.crossbeam_utils.specs.Seq.{cell_view};
 ghost use Rattle.rv_step.specs.Run.{IsEnded};
 ghost use Rattle.rv_step.specs.declared.stage.Stage.TheVariants.{Asked};
@@ -138,8 +138,8 @@ fn ask<B: BlockName, R: Wait>(
     Ok(asked)
 }
 
-/// Runs a call outside the lock up to its record, or up to a read that meets an estimate. Returns the step
-/// that the worker owes then.
+/// Runs a call outside the lock up to a read that meets an estimate, or up to its end; then it passes the gate, and
+/// hands the run in. Returns the step that the worker owes then. A run is large, so no function passes it on.
 fn run_call<B: BlockName, R: Wait, G: Gate>(
     rt: &R,
     alloc: Global,
@@ -153,31 +153,15 @@ fn run_call<B: BlockName, R: Wait, G: Gate>(
     ensures pass { share.new.pass ≡ share.old.pass }
     ensures dones { OnOk result (share.new.dones ≡ share.old.dones) }
 {
-    let mut run = start(rt, alloc, shared, call)?;
-    match run_to_end(rt, shared, share, call, incarnation, &mut run) {
-        Ok(true) => record(rt, alloc, shared, share, call, incarnation, gate, run),
-        Ok(false) => Ok(NextStep::Park { call, incarnation }),
-        Err(fault) => Err(fault),
+    let Some(own) = shared.block.calls().get(usize::from(call)) else {
+        return Err(shared.refuse(rt, OutsideFault::Foreign));
+    };
+    let Ok(mut run) = Run::start(alloc, own) else {
+        return Err(shared.refuse(rt, OutsideFault::Memory));
+    };
+    if !run_to_end(rt, shared, share, call, incarnation, &mut run)? {
+        return Ok(NextStep::Park { call, incarnation });
     }
-}
-
-/// Passes the gate, and hands in a call's ended run. Returns the step that the worker owes then.
-fn record<B: BlockName, R: Wait, G: Gate>(
-    rt: &R,
-    alloc: Global,
-    shared: &Shared<B>,
-    share: &mut Share,
-    call: u16,
-    incarnation: u16,
-    gate: &G,
-    run: Run,
-) -> Result<NextStep, WrittenFault>
-    requires ended { IsEnded run.stage }
-    requires call { slice_get shared.now.block call ≡ Some run.call }
-    ensures worker { share.new.worker ≡ share.old.worker }
-    ensures pass { share.new.pass ≡ share.old.pass }
-    ensures dones { OnOk result (share.new.dones ≡ share.old.dones) }
-{
     gate.held(share.worker());
     let ended = run.finish();
     shared
@@ -230,30 +214,13 @@ fn read<B: BlockName, R: Wait>(
     ensures pass { share.new.pass ≡ share.old.pass }
     ensures dones { OnOk result (share.new.dones ≡ share.old.dones) }
 {
-    let answer = shared.hold(rt).read(share, call, incarnation, key)?;
-    let ReadResult::Given(value, origin) = answer else {
-        return Ok(false);
-    };
-    match run.answer(value.as_ref(), origin) {
-        Ok(()) => Ok(true),
-        Err(_) => Err(shared.refuse(rt, OutsideFault::Memory)),
-    }
-}
-
-/// A run of a call of the block, before its first instruction.
-fn start<B: BlockName, R: Wait>(
-    rt: &R,
-    alloc: Global,
-    shared: &Shared<B>,
-    call: u16,
-) -> Result<Run, WrittenFault>
-    ensures { IfOk result (λ run. slice_get shared.now.block call ≡ Some run.call) }
-{
-    match shared.block.calls().get(usize::from(call)) {
-        Some(own) => match Run::start(alloc, own) {
-            Ok(run) => Ok(run),
+    let answer = shared.hold(rt).read(share, call, incarnation, key);
+    match answer {
+        Ok(ReadResult::Given(value, origin)) => match run.answer(value.as_ref(), origin) {
+            Ok(()) => Ok(true),
             Err(_) => Err(shared.refuse(rt, OutsideFault::Memory)),
         },
-        None => Err(shared.refuse(rt, OutsideFault::Foreign)),
+        Ok(ReadResult::Blocked) => Ok(false),
+        Err(fault) => Err(fault),
     }
 }
