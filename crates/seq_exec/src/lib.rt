@@ -45,6 +45,7 @@ fn run_all(alloc: Global, calls: &[Call], store: &mut Store) -> Result<Vec<Recei
 {
     let mut receipts = Vec::with_capacity(alloc, calls.len())?;
     for call in calls {
+        // A `?` would copy the receipt, which is large, once more.
         let Ok(receipt) = receipt_over(alloc, call, store) else {
             return Err(AllocError);
         };

@@ -39,7 +39,7 @@ pub trait Spin {
 pub struct ProcessorHint;
 
 impl Spin for ProcessorHint {
-    /// Returns after less than a microsecond on most processors.
+    /// Returns after a few microseconds at most.
     fn spin(&self) {
         pause();
     }

@@ -139,7 +139,7 @@ fn ask<B: BlockName, R: Wait>(
 }
 
 /// Runs a call outside the lock up to a read that meets an estimate, or up to its end; then it passes the gate, and
-/// hands the run in. Returns the step that the worker owes then. A run is large, so no function passes it on.
+/// hands the run in. Returns the step that the worker owes then. A run is large, so it stays here until it is finished.
 fn run_call<B: BlockName, R: Wait, G: Gate>(
     rt: &R,
     alloc: Global,
