@@ -1,5 +1,5 @@
 -- What the versions and the places are when slots are made and written into.
-use Rattle.std.proofs.Common.{◌≡◌, ◌≢◌, ◌<◌, ◌≤◌, ◌⊎◌, ◌++◌, ℕ, suc, zero, Bool, true, false, cond, List, [], ◌∷◌, length, Option, None, Some, is_some, IsSome, arith, refl, sym, ap, subst, ◌∙◌, inl, inr, slice_get, get_or, Result, Ok, Err, OnErr}
+use Rattle.std.proofs.Common.{◌≡◌, ◌<◌, ◌≤◌, ◌⊎◌, ◌++◌, ℕ, suc, zero, Bool, true, false, cond, List, [], ◌∷◌, length, Option, None, Some, is_some, IsSome, arith, refl, sym, ap, subst, ◌∙◌, inl, inr, slice_get, get_or, Result, Ok, Err, OnErr}
 use Rattle.std.specs.List.{All}
 use Rattle.std.specs.BTreeMap.{is_at}
 use Rattle.std.specs.FinMap.{get, same_map}
@@ -15,22 +15,6 @@ use Rattle.mvmap.specs.declared.slot.Slot.TheVariants as slot
 use Rattle.mvmap.proofs.Places.{place_total, exact_places, same_place, get_changed, get_versions, has_place, same_versions, same_places}
 
 -- ---- slots that were made
-
-opened_at : (es fs : Slots) (p q : Place) (b : Bool) → (b ≡ true → p ≡ q) → slot_at es p ≡ None → slot_at fs q ≡ cond b (Some slot.Vacant) (slot_at es q) → (slot_at fs q ≡ slot_at es q) ⊎ ((slot_at es q ≡ None) × (slot_at fs q ≡ Some slot.Vacant))
-opened_at es fs p q true same none h = inr (ap (slot_at es) (sym (same refl)) ∙ none, h)
-opened_at es fs p q false same none h = inl h
-
--- a vacant slot at a place without one
-pub opened_one : (es fs : Slots) (p : Place) → slot_at es p ≡ None → ((q : Place) → slot_at fs q ≡ cond (is_at (place_cmp p) q) (Some slot.Vacant) (slot_at es q)) → IsOpened es fs
-opened_one es fs p none h = λ q. opened_at es fs p q (is_at (place_cmp p) q) (same_place p q) none (h q)
-
-opened_apart_at : (es fs : Slots) (q : Place) (b : Bool) → (b ≡ true → ⊥) → slot_at fs q ≡ cond b (Some slot.Vacant) (slot_at es q) → slot_at fs q ≡ slot_at es q
-opened_apart_at es fs q true ne h = absurd (ne refl)
-opened_apart_at es fs q false ne h = h
-
--- at another place there is what was there
-pub opened_apart : (es fs : Slots) (p : Place) → ((q : Place) → slot_at fs q ≡ cond (is_at (place_cmp p) q) (Some slot.Vacant) (slot_at es q)) → (q : Place) → p ≢ q → slot_at fs q ≡ slot_at es q
-opened_apart es fs p h q ne = opened_apart_at es fs q (is_at (place_cmp p) q) (λ t. ne (same_place p q t)) (h q)
 
 -- what holds of all keys holds of one of them
 pub all_at : (P : List ℕ → Type 0) (keys : List (List ℕ)) (k : ℕ) (key : List ℕ) → All P keys → k < length keys → key ≡ get_or keys k key → P key
@@ -84,15 +68,6 @@ there_at_place es q h = sym (has_place es q) ∙ h
 
 -- ---- slots that are written into
 
-put_at : (es fs : Slots) (p q : Place) (old new : Slot) (b : Bool) → (b ≡ true → p ≡ q) → slot_at es p ≡ Some old → slot_at fs q ≡ cond b (Some new) (slot_at es q) → slot_at fs q ≡ cond b (option_map (λ _. new) (slot_at es q)) (slot_at es q)
-put_at es fs p q old new true same there h = h ∙ sym (ap (option_map (λ (_ : Slot). new)) (ap (slot_at es) (sym (same refl)) ∙ there))
-put_at es fs p q old new false same there h = h
-
--- a slot that was there and is written into
-pub put_there : (es fs : Slots) (p : Place) (old new : Slot) → slot_at es p ≡ Some old → ((q : Place) → slot_at fs q ≡ cond (is_at (place_cmp p) q) (Some new) (slot_at es q))
-    → (q : Place) → slot_at fs q ≡ cond (is_at (place_cmp p) q) (option_map (λ _. new) (slot_at es q)) (slot_at es q)
-put_there es fs p old new there h q = put_at es fs p q old new (is_at (place_cmp p) q) (same_place p q) there (h q)
-
 put_nowhere_at : (es : Slots) (p q : Place) (new : Slot) (b : Bool) → (b ≡ true → p ≡ q) → slot_at es p ≡ None → slot_at es q ≡ cond b (option_map (λ _. new) (slot_at es q)) (slot_at es q)
 put_nowhere_at es p q new true same none = let here : slot_at es q ≡ None = ap (slot_at es) (sym (same refl)) ∙ none in here ∙ sym (ap (option_map (λ (_ : Slot). new)) here)
 put_nowhere_at es p q new false same none = refl
@@ -101,16 +76,6 @@ put_nowhere_at es p q new false same none = refl
 pub put_nowhere : (es fs : Slots) (p : Place) (new : Slot) → slot_at es p ≡ None → fs ≡ es
     → (q : Place) → slot_at fs q ≡ cond (is_at (place_cmp p) q) (option_map (λ _. new) (slot_at es q)) (slot_at es q)
 put_nowhere es fs p new none same q = ap (λ (xs : Slots). slot_at xs q) same ∙ put_nowhere_at es p q new (is_at (place_cmp p) q) (same_place p q) none
-
-put_back_at : (es fs gs : Slots) (p q : Place) (old : Slot) (b : Bool) → (b ≡ true → p ≡ q) → slot_at es p ≡ Some old → slot_at fs q ≡ cond b (Some slot.Vacant) (slot_at es q)
-    → slot_at gs q ≡ cond b (option_map (λ _. old) (slot_at fs q)) (slot_at fs q) → slot_at gs q ≡ slot_at es q
-put_back_at es fs gs p q old true same there vacant back = back ∙ ap (option_map (λ (_ : Slot). old)) vacant ∙ sym there ∙ ap (slot_at es) (same refl)
-put_back_at es fs gs p q old false same there vacant back = back ∙ vacant
-
--- a slot that was there and is put back over a vacant one
-pub put_back : (es fs gs : Slots) (p : Place) (old : Slot) → slot_at es p ≡ Some old → ((q : Place) → slot_at fs q ≡ cond (is_at (place_cmp p) q) (Some slot.Vacant) (slot_at es q))
-    → ((q : Place) → slot_at gs q ≡ cond (is_at (place_cmp p) q) (option_map (λ _. old) (slot_at fs q)) (slot_at fs q)) → (q : Place) → slot_at gs q ≡ slot_at es q
-put_back es fs gs p old there vacant back q = put_back_at es fs gs p q old (is_at (place_cmp p) q) (same_place p q) there (vacant q) (back q)
 
 -- an entry that none is written over stays none, and one that is written over is the new one
 written_entry : (rs ss : List Record) (es fs : Slots) (p q : Place) (s : Slot) (x : Option Entry) (b : Bool) → (b ≡ true → p ≡ q)

@@ -1,8 +1,9 @@
 pub mod Readings
 pub mod Places
+pub mod Searches
+pub mod Nests
 pub mod Changes
 pub mod Fills
-pub mod Seeks
 pub mod Storages
 pub mod Snapshots
 pub mod Walks

@@ -1,14 +1,15 @@
 -- The order of places, and the slots at them.
-use Rattle.std.proofs.Common.{◌≡◌, ◌⊎◌, ◌||◌, ℕ, Bool, true, false, cond, List, [], ◌∷◌, Option, None, Some, is_some, refl, sym, ap, ◌∙◌, inl, inr}
+use Rattle.std.proofs.Common.{◌≡◌, ◌<◌, ◌⊎◌, ◌||◌, ℕ, arith, Bool, true, false, cond, List, [], ◌∷◌, Option, None, Some, is_some, refl, sym, ap, ◌∙◌, inl, inr}
 use Rattle.std.specs.Ordering.{nat_cmp, ordering_then, is_eq, eq_by_cmp}
-use Rattle.std.specs.Cmp.{IsTotalOrder, nat_cmp_total, tied_itself}
+use Rattle.std.specs.declared.cmp.Ordering.TheVariants.{Less}
+use Rattle.std.specs.Cmp.{IsTotalOrder, nat_cmp_total, ranked, tied_itself}
 use Rattle.std.specs.Cmp.Lexicographic.{nat_list_cmp_total}
 use Rattle.std.specs.Map.{keys_of}
 use Rattle.std.specs.List.{list_any}
 use Rattle.std.specs.FinMap.{get, get-empty, get-insert, get-remove, same_map}
 use Rattle.std.specs.FinSet.{contains, contains-from_list, same_set}
 use Rattle.std.specs.Option.{option_and_then}
-use Rattle.std.proofs.lemmas.Cmp.{on_total, then_total}
+use Rattle.std.proofs.lemmas.Cmp.{by_ranked, on_total, then_total}
 use Rattle.std.proofs.lemmas.Map.Lookups.{CmpEqualImpliesEq, exact_pairs, exact_bytes, exact_unsigned}
 use Rattle.std.proofs.lemmas.Map.Views.{tells_apart}
 use Rattle.rv_ledger.specs.Key.{key_cmp}
@@ -35,6 +36,13 @@ place_itself p = ap is_eq (tied_itself place_total p)
 -- at one key places are in the order of their writers
 pub by_writer : (key : List ℕ) (a b : ℕ) → place_cmp (key, a) (key, b) ≡ nat_cmp a b
 by_writer key a b = ap (λ r. ordering_then r (nat_cmp a b)) (tied_itself nat_list_cmp_total key)
+
+-- how two numbers compare
+pub less_is : (a b : ℕ) → a < b → nat_cmp a b ≡ Less
+less_is a b l = by_ranked (a < b) (a ≡ b) (b < a) (nat_cmp a b) (ranked a b (nat_cmp a b) refl) (λ e _. e) (λ _ p. absurd (omega arith)) (λ _ p. absurd (omega arith))
+
+pub is_less : (a b : ℕ) → nat_cmp a b ≡ Less → a < b
+is_less a b h = by_ranked (a < b) (a ≡ b) (b < a) (nat_cmp a b) (ranked a b (nat_cmp a b) refl) (λ _ p. p) (λ e _. cc) (λ e _. cc)
 
 -- what a changed map has at a place
 pub get_changed : (v : Versions) (p : Place) (x : Option Entry) (q : Place) → get (changed v p x) q ≡ cond (eq_by_cmp place_cmp q p) x (get v q)

@@ -20,8 +20,7 @@ use Rattle.mvmap.specs.Versions.{Entry, Stands, Estimate, Place, Versions, HasNo
 use Rattle.mvmap.specs.Reading.{Visible, Base, visible_over, visible_below, reading, value_seen}
 use Rattle.mvmap.specs.Slots.{Slots, slot_at, entry_of, value_over, value_over_slots, versions_of}
 use Rattle.mvmap.proofs.Readings.{seen_same, seen_none}
-use Rattle.mvmap.proofs.Places.{by_writer, same_place, place_itself, place_total, get_versions}
-use Rattle.mvmap.proofs.Seeks.{is_less}
+use Rattle.mvmap.proofs.Places.{by_writer, is_less, same_place, place_itself, place_total, get_versions}
 
 -- ---- one more entry below all others
 

@@ -3,4 +3,5 @@ pub mod Reading
 pub mod Laws
 pub mod Table
 pub mod Answers
+pub mod Writers
 pub mod Slots

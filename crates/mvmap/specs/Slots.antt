@@ -1,6 +1,6 @@
 -- The versions that a map of slots stands for; only `MvMap`'s view and private functions use this.
-use Rattle.std.specs.Prelude.{◌≡◌, ◌<◌, ◌⊎◌, ℕ, Bool, false, List, [], ◌∷◌, length, Option, None, Some, slice_get, if◌then◌else◌}
-use Rattle.std.specs.Option.{option_map}
+use Rattle.std.specs.Prelude.{◌≡◌, ◌<◌, ◌⊎◌, ℕ, Bool, false, List, [], ◌∷◌, ◌++◌, length, map, Option, None, Some, slice_get, if◌then◌else◌}
+use Rattle.std.specs.Option.{option_and_then, option_map}
 use Rattle.std.specs.Map.{lookup, keys_of}
 use Rattle.std.specs.BTreeMap.{is_at}
 use Rattle.std.specs.FinMap.{empty}
@@ -10,14 +10,28 @@ use Rattle.rv_ledger.specs.Key.{key_cmp}
 use Rattle.std.specs.FinSet.{FinSet, from_list}
 use Rattle.version_arena.specs.ArenaState.{Record}
 use Rattle.read_set.specs.declared.origin.Version.{Version}
-use Rattle.mvmap.specs.Reading.{Visible, is_walk}
+use Rattle.mvmap.specs.Reading.{Visible, is_walk, visible_below}
 use Rattle.mvmap.specs.Versions.{Entry, Stands, Estimate, Place, Versions, changed, place_cmp}
+use Rattle.mvmap.specs.Writers.{ByWriter, slot_of}
 use Rattle.mvmap.specs.declared.slot.Slot.{Slot}
 use Rattle.mvmap.specs.declared.slot.Slot.TheVariants as slot
 
 -- slots, by their places in order
 abbrev pub Slots : Type 0
 Slots = List (Place × Slot)
+
+-- slots by key, and then by writer
+abbrev pub ByKey : Type 0
+ByKey = List (List ℕ × ByWriter)
+
+-- the slots at a key, by their places
+abbrev pub at_places : List ℕ → ByWriter → Slots
+at_places key ws = map (λ s. ((key, s.0), s.1)) ws
+
+-- the slots at all keys, by their places
+abbrev pub flat : ByKey → Slots
+flat [] = []
+flat (e ∷ es) = at_places e.0 e.1 ++ flat es
 
 -- the slot at a place
 abbrev pub slot_at : Slots → Place → Option Slot
@@ -28,6 +42,14 @@ abbrev pub entry_of : List Record → Slot → Option Entry
 entry_of records slot.Vacant = None
 entry_of records slot.Estimate = Some Estimate
 entry_of records (slot.Placed id) = option_map (λ r. Stands r.incarnation r.change) (slice_get records id)
+
+-- the entries that the slots at a key stand for, by their writers
+abbrev pub entries_in : List Record → ByWriter → ℕ → Option Entry
+entries_in records ws writer = option_and_then (entry_of records) (slot_of ws writer)
+
+-- what call i sees of a key with these slots
+abbrev pub seen_in : List Record → ByWriter → ℕ → Visible
+seen_in records ws i = visible_below (entries_in records ws) i
 
 -- the versions that slots stand for
 abbrev pub versions_of : List Record → Slots → Versions
@@ -41,6 +63,10 @@ places_of slots = from_list (keys_of slots)
 -- each slot that names a record names one of these records
 abbrev pub ArePlaced : List Record → Slots → Type 0
 ArePlaced records slots = (place : Place) (id : ℕ) → slot_at slots place ≡ Some (slot.Placed id) → id < length records
+
+-- the same of the slots at one key
+abbrev pub ArePlacedIn : List Record → ByWriter → Type 0
+ArePlacedIn records ws = (writer id : ℕ) → slot_of ws writer ≡ Some (slot.Placed id) → id < length records
 
 -- each slot that was there is unchanged; elsewhere there is still none, or now a vacant one
 abbrev pub IsOpened : Slots → Slots → Type 0

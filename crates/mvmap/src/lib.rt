@@ -7,8 +7,10 @@ mod laws;
 mod map;
 mod seek;
 mod slot;
+mod slots;
 mod snapshot;
 mod walk;
+mod writers;
 
 pub use answer::Answer;
 pub use laws::{

@@ -1,13 +1,13 @@
 //! The map of a block's versions.
 
 use crate::answer::Answer;
-use crate::slot::{Slot, open_all, put};
+use crate::slot::Slot;
+use crate::slots::Slots;
 use crate::snapshot::apply_slots;
 use crate::walk::{has_walk, walk};
 use read_set::{Origin, Version};
 use rv_ledger::{Change, Key, Store, Value};
 use std::alloc::{AllocError, Global};
-use std::collections::BTreeMap;
 use std::marker::Model;
 use version_arena::{Arena, ReserveFault};
 
@@ -15,7 +15,7 @@ use version_arena::{Arena, ReserveFault};
 /// and estimates.
 #[derive(Drop)]
 pub struct MvMap {
-    slots: BTreeMap<(Key, u16), Slot>,
+    slots: Slots,
     arena: Arena,
 }
 
@@ -31,9 +31,9 @@ impl Model for MvMap {
 
     ghost coded = { Prim.hlevel (codes, map.code {R = place_cmp} coded_place coded_entry, set.code {R = place_cmp} coded_place) };
 
-    ghost view = { λ m. record { versions = versions_of m.arena.records m.slots.entries; places = places_of m.slots.entries; arena = m.arena } };
+    ghost view = { λ m. record { versions = versions_of m.arena.records m.slots; places = places_of m.slots; arena = m.arena } };
 
-    ghost invariant = { λ m. ArePlaced m.arena.records m.slots.entries };
+    ghost invariant = { λ m. ArePlaced m.arena.records m.slots };
 }
 
 impl MvMap {
@@ -59,7 +59,7 @@ impl MvMap {
         let mut empty = arena;
         empty.reset();
         MvMap {
-            slots: BTreeMap::new(alloc),
+            slots: Slots::new(alloc),
             arena: empty,
         }
     }
@@ -85,7 +85,7 @@ impl MvMap {
         ensures count { length passed.new.items ≤ i }
         ensures room { vec_capacity passed.new ≡ vec_capacity passed.old }
     {
-        walk(&self.slots, &self.arena, key, i, passed)
+        walk(self.slots.at(key), &self.arena, i, passed)
     }
 
     /// Whether what the call of index `i` sees of a key has this origin: it passes these very versions, and
@@ -94,7 +94,7 @@ impl MvMap {
     pub fn still_has(&self, key: &Key, i: u16, origin: &Origin) -> bool
         ensures { result ≡ is_origin origin.now (reading self.now.versions key.now i) }
     {
-        has_walk(&self.slots, &self.arena, key, i, origin)
+        has_walk(self.slots.at(key), &self.arena, i, origin)
     }
 
     /// Makes room for an entry of call `i` at each of these keys, beside the room that was made before,
@@ -123,7 +123,7 @@ impl MvMap {
         if self.arena.is_full_for(records) {
             return Err(ReserveFault::ArenaFull);
         }
-        open_all(&mut self.slots, keys, i)?;
+        self.slots.open_all(keys, i)?;
         self.arena.reserve(records, bytes)
     }
 
@@ -138,14 +138,14 @@ impl MvMap {
         ensures arena { self.new.arena ≡ with_record writer incarnation (change_copied change.entry) self.old.arena }
     {
         let id = self.arena.place(writer, incarnation, change);
-        put(&mut self.slots, key, writer, Slot::Placed(id));
+        self.slots.put(key, writer, Slot::Placed(id));
     }
 
     /// Removes the entry of a call at a key; nothing changes where there is none. Takes no memory.
     pub fn withdraw(&mut self, key: &Key, writer: u16)
         ensures { self.new ≡ record self.old { versions = map.remove self.old.versions (key.now, writer) } }
     {
-        put(&mut self.slots, key, writer, Slot::Vacant);
+        self.slots.put(key, writer, Slot::Vacant);
     }
 
     /// Makes the entry of a call at a key an estimate. Room for the entry must have been made. Takes no
@@ -154,7 +154,7 @@ impl MvMap {
         requires { IsTrue (set.contains self.old.places (key.now, writer)) }
         ensures { self.new ≡ record self.old { versions = map.insert self.old.versions (key.now, writer) Estimate } }
     {
-        put(&mut self.slots, key, writer, Slot::Estimate);
+        self.slots.put(key, writer, Slot::Estimate);
     }
 
     /// How many records the arena has, at most 1,048,576.

@@ -3,13 +3,13 @@
 ghost use Rattle.std.specs.Prelude.{◌≡◌, ◌≤◌, length};
 ghost use Rattle.rv_ledger.specs.Change.{IfValue};
 ghost use Rattle.mvmap.specs.Answers.{IsNearest, IsShort};
-ghost use Rattle.mvmap.specs.Reading.{reading};
-ghost use Rattle.mvmap.specs.Slots.{ArePlaced, versions_of};
+ghost use Rattle.mvmap.specs.Slots.{ArePlacedIn, seen_in};
+ghost use Rattle.mvmap.specs.Writers.{AreAscending};
 ghost use Rattle.mvmap.specs.declared.seek.Nearest.TheVariants.{Standing};
 
-use crate::slot::{Slot, Slots};
+use crate::slot::Slot;
 use read_set::Version;
-use rv_ledger::{Change, Key};
+use rv_ledger::Change;
 use version_arena::{Arena, Record};
 
 /// The nearest entry below a call at a key.
@@ -23,22 +23,22 @@ pub(crate) enum Nearest<'a> {
     Waiting(u16),
 }
 
-/// The nearest entry below the call of index `i` at a key: what is in the highest slot of a lower call that
-/// is not vacant. It searches the map once, and walks down from there.
-pub(crate) fn seek<'a>(slots: &'a Slots, arena: &'a Arena, key: &Key, i: u16) -> Nearest<'a>
-    requires { ArePlaced arena.now.records slots.now.entries }
-    ensures nearest { IsNearest result (λ w. reading (versions_of arena.now.records slots.now.entries) key.now w) i }
+/// The nearest entry below the call of index `i` among the slots at a key: what is in the highest slot of a
+/// lower call that is not vacant. It searches for the lower calls once, and walks down from there.
+pub(crate) fn seek<'a>(at_key: &[(u16, Slot)], arena: &'a Arena, i: u16) -> Nearest<'a>
+    requires ascending { AreAscending at_key.now }
+    requires placed { ArePlacedIn arena.now.records at_key.now }
+    ensures nearest { IsNearest result (seen_in arena.now.records at_key.now) i }
     ensures short { IsShort result }
 {
-    let mut below = slots.range(..(*key, i));
-    while let Some((place, slot)) = below.next_back() {
-        if place.0 != *key {
-            return Nearest::Nothing;
-        }
+    let mut place = at_key.partition_point(|slot| slot.0 < i);
+    while place > 0 {
+        place -= 1;
+        let (writer, slot) = &at_key[place];
         match slot {
             Slot::Vacant => {}
-            Slot::Estimate => return Nearest::Waiting(place.1),
-            Slot::Placed(id) => return standing(place.1, arena.get(*id).unwrap()),
+            Slot::Estimate => return Nearest::Waiting(*writer),
+            Slot::Placed(id) => return standing(*writer, arena.get(*id).unwrap()),
         }
     }
     Nearest::Nothing

@@ -8,9 +8,10 @@ ghost use Rattle.std.specs.Map.{keys_of};
 ghost use Rattle.std.specs.Ordering.{eq_by_cmp};
 ghost use Rattle.rv_ledger.specs.Key.{key_cmp};
 ghost use Rattle.mvmap.specs.Versions.{place_cmp};
-ghost use Rattle.mvmap.specs.Slots.{entry_of, value_over, value_over_slots};
+ghost use Rattle.mvmap.specs.Slots.{at_places, entry_of, value_over, value_over_slots};
 
-use crate::slot::{Slot, Slots};
+use crate::slot::Slot;
+use crate::slots::Slots;
 use rv_ledger::{Change, Key, Store, Value};
 use std::alloc::AllocError;
 use version_arena::Arena;
@@ -18,10 +19,26 @@ use version_arena::Arena;
 /// Applies the versions to a storage, by key and then by writer. Refused where memory ran out, and then
 /// the storage is to be dropped.
 pub(crate) fn apply_slots(slots: &Slots, arena: &Arena, store: &mut Store) -> Result<(), AllocError>
-    ensures values { OnOk result ((key : List ℕ) → map.get store.new key ≡ value_over_slots arena.now.records slots.now.entries key (map.get store.old key)) }
-    ensures ordered { OnOk result (IsStrictlySortedBy place_cmp (keys_of slots.now.entries)) }
+    ensures values { OnOk result ((key : List ℕ) → map.get store.new key ≡ value_over_slots arena.now.records slots.now key (map.get store.old key)) }
+    ensures ordered { OnOk result (IsStrictlySortedBy place_cmp (keys_of slots.now)) }
 {
-    for ((key, _), slot) in slots {
+    for (key, writers) in &slots.by_key {
+        apply_at_key(writers.as_slice(), arena, key, store)?;
+    }
+    Ok(())
+}
+
+/// Applies the versions of the slots at a key to a storage. Refused where memory ran out, and then the storage
+/// is to be dropped.
+fn apply_at_key(
+    at_key: &[(u16, Slot)],
+    arena: &Arena,
+    key: &Key,
+    store: &mut Store,
+) -> Result<(), AllocError>
+    ensures { OnOk result ((k : List ℕ) → map.get store.new k ≡ value_over_slots arena.now.records (at_places key.now at_key.now) k (map.get store.old k)) }
+{
+    for (_, slot) in at_key {
         apply_slot(slot, arena, key, store)?;
     }
     Ok(())

@@ -5,27 +5,29 @@ ghost use Rattle.std.specs.Option.{option_copied};
 ghost use Rattle.read_set.specs.declared.origin.Version.{Version};
 ghost use Rattle.mvmap.specs.Answers.{Tells, with_amount};
 ghost use Rattle.mvmap.specs.Laws.{amount_with};
-ghost use Rattle.mvmap.specs.Reading.{Found, Passed, Visible, is_origin, is_walk, reading};
-ghost use Rattle.mvmap.specs.Slots.{ArePlaced, versions_of, walk_after};
+ghost use Rattle.mvmap.specs.Reading.{Found, Passed, Visible, is_origin, is_walk};
+ghost use Rattle.mvmap.specs.Slots.{ArePlacedIn, seen_in, walk_after};
+ghost use Rattle.mvmap.specs.Writers.{AreAscending};
 
 use crate::answer::Answer;
 use crate::seek::{Nearest, seek};
-use crate::slot::Slots;
+use crate::slot::Slot;
 use read_set::{Origin, Version};
-use rv_ledger::{Change, Key, Value, add, wrapping_sum};
+use rv_ledger::{Change, Value, add, wrapping_sum};
 use version_arena::Arena;
 
-/// What the call of index `i` sees of a key, with the versions that it passes, the nearest first.
+/// What the call of index `i` sees of a key with these slots, with the versions that it passes, the nearest
+/// first.
 pub(crate) fn walk(
-    slots: &Slots,
+    at_key: &[(u16, Slot)],
     arena: &Arena,
-    key: &Key,
     i: u16,
     passed: &mut Vec<Version>,
 ) -> Answer
-    requires placed { ArePlaced arena.now.records slots.now.entries }
+    requires ascending { AreAscending at_key.now }
+    requires placed { ArePlacedIn arena.now.records at_key.now }
     requires room { i ≤ vec_capacity passed.old }
-    ensures tells { Tells result passed.new.items (reading (versions_of arena.now.records slots.now.entries) key.now i) }
+    ensures tells { Tells result passed.new.items (seen_in arena.now.records at_key.now i) }
     ensures count { length passed.new.items ≤ i }
     ensures room { vec_capacity passed.new ≡ vec_capacity passed.old }
 {
@@ -33,7 +35,7 @@ pub(crate) fn walk(
     let mut sum = None;
     let mut below = i;
     loop {
-        match seek(slots, arena, key, below) {
+        match seek(at_key, arena, below) {
             Nearest::Nothing => return Answer::Base(sum),
             Nearest::Waiting(writer) => return Answer::Estimate(writer),
             Nearest::Standing(version, Change::Sum(amount)) => {
@@ -51,16 +53,18 @@ pub(crate) fn walk(
     }
 }
 
-/// Whether what the call of index `i` sees of a key has this origin. It compares while it walks.
-pub(crate) fn has_walk(slots: &Slots, arena: &Arena, key: &Key, i: u16, origin: &Origin) -> bool
-    requires { ArePlaced arena.now.records slots.now.entries }
-    ensures { result ≡ is_origin origin.now (reading (versions_of arena.now.records slots.now.entries) key.now i) }
+/// Whether what the call of index `i` sees of a key with these slots has this origin. It compares while it
+/// walks.
+pub(crate) fn has_walk(at_key: &[(u16, Slot)], arena: &Arena, i: u16, origin: &Origin) -> bool
+    requires ascending { AreAscending at_key.now }
+    requires placed { ArePlacedIn arena.now.records at_key.now }
+    ensures { result ≡ is_origin origin.now (seen_in arena.now.records at_key.now i) }
 {
     let bottom = origin.bottom();
     let mut left = origin.passed();
     let mut below = i;
     loop {
-        match seek(slots, arena, key, below) {
+        match seek(at_key, arena, below) {
             Nearest::Nothing => return left.is_empty() && bottom.is_none(),
             Nearest::Waiting(_) => return false,
             Nearest::Standing(version, Change::Sum(_)) => match after(left, version) {

@@ -1,7 +1,6 @@
 use Rattle.std.proofs.Common.{◌∙◌, ap}
 use Rattle.std.specs.FinMap as map
 use Rattle.rv_ledger.specs.Change.{change_copied}
-use Rattle.rv_ledger.specs.declared.change.Change.TheVariants.{Value}
 use Rattle.mvmap.proofs.Storages.{amount_added, key_removed, value_written}
 use Rattle.mvmap.proofs.snapshot.write.Goals as goal
 

@@ -1,14 +1,14 @@
-use Rattle.std.proofs.Common.{◌≡◌, ◌∙◌, ℕ, None, Some, ap, sym}
+use Rattle.std.proofs.Common.{◌∙◌, ℕ, None, Some, ap, sym}
 use Rattle.std.specs.Option.{option_copied}
 use Rattle.rv_ledger.specs.Change.{change_copied}
-use Rattle.mvmap.specs.Reading.{Visible, Found, is_walk, reading, visible_over}
-use Rattle.mvmap.specs.Slots.{versions_of, walk_after}
+use Rattle.mvmap.specs.Reading.{Visible, Found, is_walk, visible_over}
+use Rattle.mvmap.specs.Slots.{seen_in, walk_after}
 use Rattle.mvmap.specs.Versions.{Stands}
 use Rattle.mvmap.proofs.walk.has_walk.Goals as goal
 
 pub loop-bottom-preserved : goal.loop-bottom-preserved
 loop-bottom-preserved c =
-    let seen : ℕ → Visible = λ w. reading (versions_of c.args.arena.now.records c.args.slots.now.entries) c.args.key.now w in
+    let seen : ℕ → Visible = seen_in c.args.arena.now.records c.args.at_key.now in
     let found = c.in-Standing-default-Sum in let left = c.loop-bottom.left.now in let bottom = c.args.origin.now.bottom in
     let nearest = found.ensures.nearest.1 ∙ ap (λ d. visible_over found.version.writer (Some (Stands found.version.incarnation (change_copied d))) (seen found.version.writer)) found.field-1-is in
     c.loop-bottom.invariant ∙ ap (is_walk left bottom) nearest
@@ -16,7 +16,7 @@ loop-bottom-preserved c =
 
 pub returns-in-None : goal.returns-in-None
 returns-in-None c =
-    let seen : ℕ → Visible = λ w. reading (versions_of c.args.arena.now.records c.args.slots.now.entries) c.args.key.now w in
+    let seen : ℕ → Visible = seen_in c.args.arena.now.records c.args.at_key.now in
     let found = c.in-Standing-default-Sum in let left = c.loop-bottom.left.now in let bottom = c.args.origin.now.bottom in
     let nearest = found.ensures.nearest.1 ∙ ap (λ d. visible_over found.version.writer (Some (Stands found.version.incarnation (change_copied d))) (seen found.version.writer)) found.field-1-is in
     sym (c.loop-bottom.invariant ∙ ap (is_walk left bottom) nearest
@@ -24,14 +24,14 @@ returns-in-None c =
 
 pub returns-in-Standing-default-Value : goal.returns-in-Standing-default-Value
 returns-in-Standing-default-Value c =
-    let seen : ℕ → Visible = λ w. reading (versions_of c.args.arena.now.records c.args.slots.now.entries) c.args.key.now w in
+    let seen : ℕ → Visible = seen_in c.args.arena.now.records c.args.at_key.now in
     let found = c.in-Standing-default-Value in let left = c.loop-bottom.left.now in let bottom = c.args.origin.now.bottom in
     let nearest = found.ensures.nearest.1 ∙ ap (λ d. visible_over found.version.writer (Some (Stands found.version.incarnation (change_copied d))) (seen found.version.writer)) found.field-1-is in
     c.is_end.ensures (Some found.field-1-0.now) ∙ ap (λ b. is_walk left b (Found found.version.writer found.version.incarnation (Some found.field-1-0.now))) c.bottom-bottom.ensures ∙ sym (c.loop-bottom.invariant ∙ ap (is_walk left bottom) nearest)
 
 pub returns-in-Standing-default-Gone : goal.returns-in-Standing-default-Gone
 returns-in-Standing-default-Gone c =
-    let seen : ℕ → Visible = λ w. reading (versions_of c.args.arena.now.records c.args.slots.now.entries) c.args.key.now w in
+    let seen : ℕ → Visible = seen_in c.args.arena.now.records c.args.at_key.now in
     let found = c.in-Standing-default-Gone in let left = c.loop-bottom.left.now in let bottom = c.args.origin.now.bottom in
     let nearest = found.ensures.nearest.1 ∙ ap (λ d. visible_over found.version.writer (Some (Stands found.version.incarnation (change_copied d))) (seen found.version.writer)) found.field-1-is in
     c.is_end-in-Standing-default-Gone.ensures None ∙ ap (λ b. is_walk left b (Found found.version.writer found.version.incarnation None)) c.bottom-bottom.ensures ∙ sym (c.loop-bottom.invariant ∙ ap (is_walk left bottom) nearest)

@@ -1,14 +1,14 @@
 use Rattle.std.proofs.Common.{◌∙◌, ℕ, Some, ap}
 use Rattle.rv_ledger.specs.Change.{change_copied}
 use Rattle.mvmap.specs.Versions.{Stands}
-use Rattle.mvmap.specs.Reading.{Visible, reading, visible_over}
-use Rattle.mvmap.specs.Slots.{versions_of}
+use Rattle.mvmap.specs.Reading.{Visible, visible_over}
+use Rattle.mvmap.specs.Slots.{seen_in}
 use Rattle.mvmap.proofs.Sums.{walk_passes}
 use Rattle.mvmap.proofs.walk.walk.Goals as goal
 
 pub loop-writer-preserved : goal.loop-writer-preserved
 loop-writer-preserved c =
-    let seen : ℕ → Visible = λ w. reading (versions_of c.args.arena.now.records c.args.slots.now.entries) c.args.key.now w in
+    let seen : ℕ → Visible = seen_in c.args.arena.now.records c.args.at_key.now in
     let found = c.in-Standing-default-Sum in
     let nearest = found.ensures.nearest.1 ∙ ap (λ d. visible_over found.version.writer (Some (Stands found.version.incarnation (change_copied d))) (seen found.version.writer)) found.field-1-is in record {
       passed = rw (c.push_reserved.ensures.items, c.amount_with.ensures)

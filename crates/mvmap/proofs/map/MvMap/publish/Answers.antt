@@ -12,18 +12,18 @@ use Rattle.mvmap.proofs.map.MvMap.publish.Goals as goal
 
 pub returns-clause-versions : goal.returns-clause-versions
 returns-clause-versions c =
-    let es = c.self.inside.slots.entries in
+    let es = c.self.inside.slots in
     let rs = c.self.inside.arena.records in
     let change = change_copied c.args.change in
     let r : Record = record { writer = c.args.writer; incarnation = c.args.incarnation; change = change } in
     let there = there_at_place es (c.args.key.now, c.args.writer) (ap (λ (t : Table). set.contains t.places (c.args.key.now, c.args.writer)) c.self.view_is ∙ c.requires.place) in
-    ap (λ (s : ArenaState). versions_of s.records c.put.new.slots.entries) c.place-id.ensures.placed
-    ∙ written_versions rs (rs ++ r ∷ []) es c.put.new.slots.entries (c.args.key.now, c.args.writer) (slot.Placed c.place-id.result) (Some (Stands c.args.incarnation change))
+    ap (λ (s : ArenaState). versions_of s.records c.put.new.self) c.place-id.ensures.placed
+    ∙ written_versions rs (rs ++ r ∷ []) es c.put.new.self (c.args.key.now, c.args.writer) (slot.Placed c.place-id.result) (Some (Stands c.args.incarnation change))
     c.put.ensures (kept_entries rs r es c.self.invariant) (entry_of_last rs r c.place-id.result c.place-id.ensures.id)
     (there_not_none (slot_at es (c.args.key.now, c.args.writer)) (Some (Stands c.args.incarnation change)) there)
     ∙ ap (λ (t : Table). map.insert t.versions (c.args.key.now, c.args.writer) (Stands c.args.incarnation change)) c.self.view_is
 
 pub returns-clause-places : goal.returns-clause-places
 returns-clause-places c =
-    written_places c.self.inside.slots.entries c.put.new.slots.entries (c.args.key.now, c.args.writer) (slot.Placed c.place-id.result) c.put.ensures
+    written_places c.self.inside.slots c.put.new.self (c.args.key.now, c.args.writer) (slot.Placed c.place-id.result) c.put.ensures
     ∙ ap (λ (t : Table). t.places) c.self.view_is

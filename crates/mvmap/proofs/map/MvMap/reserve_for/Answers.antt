@@ -11,17 +11,17 @@ use Rattle.mvmap.proofs.map.MvMap.reserve_for.Goals as goal
 -- where room for entries is refused
 pub returns-in_err-open_all-clause-versions : goal.returns-in_err-open_all-clause-versions
 returns-in_err-open_all-clause-versions c =
-    opened_versions c.self.inside.arena.records c.self.inside.slots.entries c.open_all.new.slots.entries c.open_all.ensures.opened
+    opened_versions c.self.inside.arena.records c.self.inside.slots c.open_all.new.self c.open_all.ensures.opened
     ∙ ap (λ (t : Table). t.versions) c.self.view_is
 
 pub returns-in_err-open_all-clause-places : goal.returns-in_err-open_all-clause-places
 returns-in_err-open_all-clause-places c = λ q h.
-    place_there c.open_all.new.slots.entries q (opened_stays c.self.inside.slots.entries c.open_all.new.slots.entries c.open_all.ensures.opened q
-    (there_at_place c.self.inside.slots.entries q (ap (λ (t : Table). set.contains t.places q) c.self.view_is ∙ h)))
+    place_there c.open_all.new.self q (opened_stays c.self.inside.slots c.open_all.new.self c.open_all.ensures.opened q
+    (there_at_place c.self.inside.slots q (ap (λ (t : Table). set.contains t.places q) c.self.view_is ∙ h)))
 
 pub returns-in_err-open_all-clause-elsewhere : goal.returns-in_err-open_all-clause-elsewhere
 returns-in_err-open_all-clause-elsewhere c = λ q apart.
-    opened_places c.self.inside.slots.entries c.open_all.new.slots.entries q (c.open_all.ensures.elsewhere q apart)
+    opened_places c.self.inside.slots c.open_all.new.self q (c.open_all.ensures.elsewhere q apart)
     ∙ ap (λ (t : Table). set.contains t.places q) c.self.view_is
 
 pub returns-in_err-open_all-clause-refused : goal.returns-in_err-open_all-clause-refused
@@ -32,29 +32,29 @@ pub returns-in_err-open_all-clause-succeeds : goal.returns-in_err-open_all-claus
 returns-in_err-open_all-clause-succeeds c = λ there fits.
     let ok : c.open_all.result ≡ Ok tt = c.open_all.ensures.succeeds (λ k d l.
     let place : Place = (get_or c.args.keys.now k d, c.args.i) in
-    there_at_place c.self.inside.slots.entries place (ap (λ (t : Table). set.contains t.places place) c.self.view_is ∙ there k d l)) in
+    there_at_place c.self.inside.slots place (ap (λ (t : Table). set.contains t.places place) c.self.view_is ∙ there k d l)) in
     let err : c.open_all.result ≡ Err c.in_err-open_all.field-0.0 = c.in_err-open_all.was in
     cc
 
 -- where there is room for entries
 pub returns-clause-ok : goal.returns-clause-ok
 returns-clause-ok c =
-    on_ok_weaker c.reserve.result (λ room. (λ k d l. place_there c.open_all.new.slots.entries _ (c.in_ok-open_all.ensures.ok k d l), room.0, room.1)) c.reserve.ensures.ok
+    on_ok_weaker c.reserve.result (λ room. (λ k d l. place_there c.open_all.new.self _ (c.in_ok-open_all.ensures.ok k d l), room.0, room.1)) c.reserve.ensures.ok
 
 pub returns-clause-versions : goal.returns-clause-versions
 returns-clause-versions c =
-    ap (λ (rs : List Record). versions_of rs c.open_all.new.slots.entries) c.reserve.ensures.records
-    ∙ opened_versions c.self.inside.arena.records c.self.inside.slots.entries c.open_all.new.slots.entries c.open_all.ensures.opened
+    ap (λ (rs : List Record). versions_of rs c.open_all.new.self) c.reserve.ensures.records
+    ∙ opened_versions c.self.inside.arena.records c.self.inside.slots c.open_all.new.self c.open_all.ensures.opened
     ∙ ap (λ (t : Table). t.versions) c.self.view_is
 
 pub returns-clause-places : goal.returns-clause-places
 returns-clause-places c = λ q h.
-    place_there c.open_all.new.slots.entries q (opened_stays c.self.inside.slots.entries c.open_all.new.slots.entries c.open_all.ensures.opened q
-    (there_at_place c.self.inside.slots.entries q (ap (λ (t : Table). set.contains t.places q) c.self.view_is ∙ h)))
+    place_there c.open_all.new.self q (opened_stays c.self.inside.slots c.open_all.new.self c.open_all.ensures.opened q
+    (there_at_place c.self.inside.slots q (ap (λ (t : Table). set.contains t.places q) c.self.view_is ∙ h)))
 
 pub returns-clause-elsewhere : goal.returns-clause-elsewhere
 returns-clause-elsewhere c = λ q apart.
-    opened_places c.self.inside.slots.entries c.open_all.new.slots.entries q (c.open_all.ensures.elsewhere q apart)
+    opened_places c.self.inside.slots c.open_all.new.self q (c.open_all.ensures.elsewhere q apart)
     ∙ ap (λ (t : Table). set.contains t.places q) c.self.view_is
 
 pub returns-clause-refused : goal.returns-clause-refused

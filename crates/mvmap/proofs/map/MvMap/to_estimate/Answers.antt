@@ -10,12 +10,12 @@ use Rattle.mvmap.proofs.map.MvMap.to_estimate.Goals as goal
 
 pub returns : goal.returns
 returns c =
-    let es = c.self.inside.slots.entries in
+    let es = c.self.inside.slots in
     let rs = c.self.inside.arena.records in
     let there = there_at_place es (c.args.key.now, c.args.writer) (ap (λ (t : Table). set.contains t.places (c.args.key.now, c.args.writer)) c.self.view_is ∙ c.requires) in
     table_is _ _
-    (written_versions rs rs es c.put.new.slots.entries (c.args.key.now, c.args.writer) slot.Estimate (Some Estimate) c.put.ensures (λ q. refl) refl
+    (written_versions rs rs es c.put.new.self (c.args.key.now, c.args.writer) slot.Estimate (Some Estimate) c.put.ensures (λ q. refl) refl
     (there_not_none (slot_at es (c.args.key.now, c.args.writer)) (Some Estimate) there)
     ∙ ap (λ (t : Table). map.insert t.versions (c.args.key.now, c.args.writer) Estimate) c.self.view_is)
-    (written_places es c.put.new.slots.entries (c.args.key.now, c.args.writer) slot.Estimate c.put.ensures ∙ ap (λ (t : Table). t.places) c.self.view_is)
+    (written_places es c.put.new.self (c.args.key.now, c.args.writer) slot.Estimate c.put.ensures ∙ ap (λ (t : Table). t.places) c.self.view_is)
     (ap (λ (t : Table). t.arena) c.self.view_is)

@@ -7,10 +7,10 @@ use Rattle.mvmap.proofs.map.MvMap.withdraw.Goals as goal
 
 pub returns : goal.returns
 returns c =
-    let es = c.self.inside.slots.entries in
+    let es = c.self.inside.slots in
     let rs = c.self.inside.arena.records in
     table_is _ _
-    (written_versions rs rs es c.put.new.slots.entries (c.args.key.now, c.args.writer) slot.Vacant None c.put.ensures (λ q. refl) refl (λ _. refl)
+    (written_versions rs rs es c.put.new.self (c.args.key.now, c.args.writer) slot.Vacant None c.put.ensures (λ q. refl) refl (λ _. refl)
     ∙ ap (λ (t : Table). map.remove t.versions (c.args.key.now, c.args.writer)) c.self.view_is)
-    (written_places es c.put.new.slots.entries (c.args.key.now, c.args.writer) slot.Vacant c.put.ensures ∙ ap (λ (t : Table). t.places) c.self.view_is)
+    (written_places es c.put.new.self (c.args.key.now, c.args.writer) slot.Vacant c.put.ensures ∙ ap (λ (t : Table). t.places) c.self.view_is)
     (ap (λ (t : Table). t.arena) c.self.view_is)

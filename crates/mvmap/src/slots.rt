@@ -1,0 +1,103 @@
+//! The slots of a map. They are made in advance, so that writing into one takes no memory.
+
+ghost use Rattle.std.specs.Prelude.{◌≡◌, ◌≢◌, ℕ, [], IsSome, Ok, OnOk, cond};
+ghost use Rattle.std.specs.Option.{option_map};
+ghost use Rattle.std.specs.List.{All};
+ghost use Rattle.std.specs.BTreeMap.{is_at};
+ghost use Rattle.mvmap.specs.Versions.{Place, place_cmp};
+ghost use Rattle.mvmap.specs.Slots.{IsOpened, slot_at};
+ghost use Rattle.mvmap.specs.Writers.{AreAscending, slot_of};
+
+use crate::slot::Slot;
+use crate::writers::WriterSlots;
+use rv_ledger::Key;
+use std::alloc::{AllocError, Global};
+use std::collections::BTreeMap;
+use std::marker::Model;
+
+/// The slots by key, and then by the index of the call.
+#[derive(Drop)]
+pub(crate) struct Slots {
+    pub(crate) by_key: BTreeMap<Key, WriterSlots>,
+    alloc: Global,
+}
+
+impl Model for Slots {
+    ghost use Rattle.std.specs.List.Sorted.{IsStrictlySortedBy};
+    ghost use Rattle.std.specs.Map.{keys_of};
+    ghost use Rattle.rv_ledger.specs.Key.{key_cmp};
+    ghost use Rattle.mvmap.specs.Slots.{Slots as ByPlace, flat};
+
+    ghost Value = { ByPlace };
+
+    ghost view = { λ s. flat s.by_key.entries };
+
+    ghost invariant = { λ s. IsStrictlySortedBy key_cmp (keys_of s.by_key.entries) };
+}
+
+impl Slots {
+    /// No slots. Takes no memory.
+    pub(crate) fn new(alloc: Global) -> Slots
+        ensures { result ≡ [] }
+    {
+        Slots {
+            by_key: BTreeMap::new(alloc),
+            alloc,
+        }
+    }
+
+    /// The slots at a key, each after the index of its call, and ascending by it.
+    pub(crate) fn at(&self, key: &Key) -> &[(u16, Slot)]
+        ensures slots { (w : ℕ) → slot_at self.now (key.now, w) ≡ slot_of result.now w }
+        ensures ascending { AreAscending result.now }
+    {
+        match self.by_key.get(key) {
+            Some(writers) => writers.as_slice(),
+            None => &[],
+        }
+    }
+
+    /// Makes a slot of a call at each of these keys that has none. Refused where memory ran out, and then
+    /// some of the slots may have been made.
+    pub(crate) fn open_all(&mut self, keys: &[Key], writer: u16) -> Result<(), AllocError>
+        ensures opened { IsOpened self.old self.new }
+        ensures ok { OnOk result (All (λ key. IsSome (slot_at self.new (key, writer))) keys.now) }
+        ensures elsewhere { (place : Place) → All (λ key. (key, writer) ≢ place) keys.now → slot_at self.new place ≡ slot_at self.old place }
+        ensures succeeds { All (λ key. IsSome (slot_at self.old (key, writer))) keys.now → result ≡ Ok tt }
+    {
+        for key in keys {
+            self.open(*key, writer)?;
+        }
+        Ok(())
+    }
+
+    /// Makes a vacant slot of a call at a key, if none is there; refused where memory ran out.
+    fn open(&mut self, key: Key, writer: u16) -> Result<(), AllocError>
+        ensures opened { IsOpened self.old self.new }
+        ensures ok { OnOk result (IsSome (slot_at self.new (key, writer))) }
+        ensures elsewhere { (place : Place) → (key, writer) ≢ place → slot_at self.new place ≡ slot_at self.old place }
+        ensures succeeds { IsSome (slot_at self.old (key, writer)) → result ≡ Ok tt }
+    {
+        let alloc = self.alloc;
+        let entry = self.by_key.entry(key)?;
+        let writers = entry.or_insert_with(|| WriterSlots::new(alloc));
+        writers.open(writer)
+    }
+
+    /// Writes into the slot of a call at a key; nothing changes where there is none.
+    pub(crate) fn put(&mut self, key: &Key, writer: u16, slot: Slot)
+        ensures { (place : Place) → slot_at self.new place ≡ cond (is_at (place_cmp (key.now, writer)) place) (option_map (λ _. slot) (slot_at self.old place)) (slot_at self.old place) }
+    {
+        match self.by_key.get_mut(key) {
+            Some(writers) => writers.put(writer, slot),
+            None => {}
+        }
+    }
+
+    /// Removes all slots. Takes no memory.
+    pub(crate) fn clear(&mut self)
+        ensures { self.new ≡ [] }
+    {
+        self.by_key.clear();
+    }
+}

@@ -1,0 +1,79 @@
+//! The slots at one key.
+
+ghost use Rattle.std.specs.Prelude.{◌≡◌, ◌==◌, ℕ, [], IfErr, IfOk, IsSome, Ok, OnErr, OnOk, Some, if◌then◌else◌};
+ghost use Rattle.std.specs.Option.{option_map, unwrap_or};
+ghost use Rattle.mvmap.specs.Writers.{AreAscending, IsAt, IsGapFor, slot_of};
+ghost use Rattle.mvmap.specs.declared.slot.Slot.TheVariants.{Vacant};
+
+use crate::slot::Slot;
+use smallvec::SmallVec;
+use std::alloc::{AllocError, Global};
+use std::marker::Model;
+
+/// The slots at one key, ascending by the index of the call. A single one takes no memory.
+#[derive(Drop)]
+pub(crate) struct WriterSlots {
+    slots: SmallVec<(u16, Slot), 1>,
+}
+
+impl Model for WriterSlots {
+    ghost use Rattle.mvmap.specs.Writers.{AreAscending, ByWriter};
+
+    ghost Value = { ByWriter };
+
+    ghost view = { λ w. w.slots.items };
+
+    ghost invariant = { λ w. AreAscending w.slots.items };
+}
+
+impl WriterSlots {
+    /// No slots. Takes no memory.
+    pub(crate) fn new(alloc: Global) -> WriterSlots
+        ensures { result ≡ [] }
+    {
+        WriterSlots {
+            slots: SmallVec::new(alloc),
+        }
+    }
+
+    /// The slots, each after the index of its call.
+    pub(crate) fn as_slice(&self) -> &[(u16, Slot)]
+        ensures all { result.now ≡ self.now }
+        ensures ascending { AreAscending self.now }
+    {
+        self.slots.as_slice()
+    }
+
+    /// Makes a vacant slot of a call, if it has none. Refused where memory ran out, and then nothing
+    /// changes.
+    pub(crate) fn open(&mut self, writer: u16) -> Result<(), AllocError>
+        ensures ok { OnOk result ((w : ℕ) → slot_of self.new w ≡ (if writer == w then Some (unwrap_or (slot_of self.old w) Vacant) else slot_of self.old w)) }
+        ensures err { OnErr result (self.new ≡ self.old) }
+        ensures succeeds { IsSome (slot_of self.old writer) → result ≡ Ok tt }
+    {
+        match self.search(writer) {
+            Ok(_) => Ok(()),
+            Err(at) => Ok(self.slots.insert(at, (writer, Slot::Vacant))?),
+        }
+    }
+
+    /// Writes into the slot of a call; nothing changes where it has none.
+    pub(crate) fn put(&mut self, writer: u16, slot: Slot)
+        ensures { (w : ℕ) → slot_of self.new w ≡ (if writer == w then option_map (λ _. slot) (slot_of self.old w) else slot_of self.old w) }
+    {
+        match self.search(writer) {
+            Ok(at) => self.slots.as_mut_slice()[at] = (writer, slot),
+            Err(_) => {}
+        }
+    }
+
+    /// Where the slot of a call is, or where it would go.
+    fn search(&self, writer: u16) -> Result<usize, usize>
+        ensures found { IfOk result (IsAt self.now writer) }
+        ensures absent { IfErr result (IsGapFor self.now writer) }
+    {
+        self.slots
+            .as_slice()
+            .binary_search_by_key(&writer, |slot| slot.0)
+    }
+}
