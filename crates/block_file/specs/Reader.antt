@@ -4,4 +4,4 @@ use Rattle.block_file.specs.Block.{Parsed, block_value}
 
 -- what a `Reader` has seen
 abbrev pub parsed : Reader → Parsed
-parsed reader = record { block = block_value reader.text; last = reader.last }
+parsed reader = record { block = record (block_value reader.text) { store = reader.stored }; last = reader.last }

@@ -86,12 +86,14 @@ fn behind(
     }
 }
 
-/// What a body says, the first line of which is line `first`.
+/// What a body says, the first line of which is line `first`. Where memory for the storage's tree runs out, that
+/// line is refused as Memory.
 fn body(alloc: Global, first: usize, rules: Rules, text: &[u8]) -> Result<BlockText, BlockFault>
     requires { first ≤ 3 }
     ensures { Reads block_value result (result_map_both (λ s. s.block) (λ fault. fault) (body_of first rules (cut 10 text.now))) }
 {
-    Ok(body_of(alloc, first, rules, text)?.text)
+    let reader = body_of(alloc, first, rules, text)?;
+    reader.finish().map_err(|_| fault(first, Cause::Memory))
 }
 
 /// What the lines of a text say, the first of which is line `first`.

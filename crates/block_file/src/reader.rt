@@ -3,20 +3,22 @@
 ghost use Rattle.std.specs.Prelude.{◌≡◌, ◌<◌, [], ◌∷◌, IfOk};
 ghost use Rattle.std.specs.String.{string_bytes};
 ghost use Rattle.block_file.specs.Answer.{Gives};
-ghost use Rattle.block_file.specs.Block.{call_value, program_path, stored_of, line_call, is_above, with_program, with_stored, with_call, with_fields, with_line, start};
+ghost use Rattle.block_file.specs.Block.{block_value, call_value, program_path, stored_of, line_call, is_above, with_program, with_stored, with_call, with_fields, with_line, start};
 ghost use Rattle.block_file.specs.Reader.{parsed};
 
 use crate::block_text::{BlockText, CallLine, PROGRAM_LIMIT};
 use crate::fault::Cause;
 use crate::fields;
-use rv_ledger::{CALL_LIMIT, GAS_LIMIT, INPUT_LIMIT, Key, Rules, Store, Value};
-use std::alloc::Global;
+use rv_ledger::{CALL_LIMIT, GAS_LIMIT, INPUT_LIMIT, Key, Rules, Store, StoreBuilder, Value};
+use std::alloc::{AllocError, Global};
 
 /// What the lines so far say.
 #[derive(Drop)]
 pub struct Reader {
-    /// What they say of the block.
+    /// What they say of the block, but for its storage, which is empty here.
     pub text: BlockText,
+    /// What they say of its storage.
+    pub stored: StoreBuilder,
     /// The key of the last `store` line.
     pub last: Option<Key>,
 }
@@ -33,6 +35,7 @@ impl Reader {
                 store: Store::new(alloc),
                 calls: Vec::new(alloc),
             },
+            stored: StoreBuilder::new(alloc),
             last: None,
         }
     }
@@ -113,7 +116,7 @@ impl Reader {
         ensures { Gives (λ _. parsed self.new) result (with_stored (parsed self.old) key.now value.now) }
     {
         let (key, value) = stored_of(self.text.rules, self.last, key, value)?;
-        self.text.store.insert(key, value)?;
+        self.stored.insert(key, &value)?;
         self.last = Some(key);
         Ok(())
     }
@@ -127,6 +130,19 @@ impl Reader {
         let call = line_call(alloc, programs, calls, program, gas, input)?;
         self.text.calls.push(call)?;
         Ok(())
+    }
+
+    /// What the lines say of the block; refused where memory ran out.
+    pub fn finish(self) -> Result<BlockText, AllocError>
+        ensures { IfOk result (λ text. block_value text ≡ (parsed self).block) }
+    {
+        let Reader {
+            mut text,
+            stored,
+            ..
+        } = self;
+        text.store = stored.finish()?;
+        Ok(text)
     }
 }
 

@@ -1,18 +1,19 @@
 -- A map of entries as a finite map: its values, one entry set, one gone, and its entries in order.
 use Rattle.std.proofs.Common.{◌≡◌, ◌+◌, ◌≤◌, arith, length, nat_lt, is_some, if◌then◌else◌, ◌||◌, ℕ, List, [], ◌∷◌, Option, Some, None, Bool, true, false, ◌&&◌, cond, refl, sym, ap, subst, ◌∙◌, T}
 use Rattle.std.specs.declared.cmp.Ordering.TheVariants.{Less}
-use Rattle.std.specs.List.{AllByRecursion}
+use Rattle.std.specs.List.{AllByRecursion, fold}
 use Rattle.std.specs.List.Sorted.{IsStrictlySortedBy}
-use Rattle.std.specs.Ordering.{is_lt}
+use Rattle.std.specs.Ordering.{eq_by_cmp, is_lt}
 use Rattle.std.specs.Cmp.{eq_by_cmp_equiv}
 use Rattle.std.specs.Cmp.Lexicographic.{nat_list_cmp_total}
-use Rattle.std.specs.FinMap.{find, get, insert, remove, from_entries, from_sorted, entries, len, len-entries, entries-from_sorted, get-from_sorted, is_sorted, get-from_entries, get-insert, get-remove, same_map, slice_cmp-IsAntisymmetric, nat_cmp-IsAntisymmetric, IsAntisymmetric}
+use Rattle.std.specs.FinMap.{find, empty, get, get-empty, insert, remove, from_entries, from_sorted, entries, len, len-entries, entries-from_sorted, get-from_sorted, is_sorted, get-from_entries, get-insert, get-remove, same_map, slice_cmp-IsAntisymmetric, nat_cmp-IsAntisymmetric, IsAntisymmetric}
 use Rattle.std.specs.FinMap.Entries.{below_all}
-use Rattle.std.specs.Map.{lookup, keys_of}
+use Rattle.std.specs.Map.{lookup, keys_of, update, update_all}
 use Rattle.std.proofs.lemmas.Bool.Decides.{nat_tests}
 use Rattle.std.specs.BTreeMap.{is_at}
 use Rattle.rv_ledger.specs.Change.{ContentChange}
-use Rattle.rv_ledger.specs.Key.{key_cmp, has_room, WriteMap}
+use Rattle.rv_ledger.specs.Key.{key_cmp, has_room, Storage, WriteMap}
+use Rattle.rv_ledger.specs.Inserted.{inserted}
 
 -- keys that compare alike are one
 pub key_cmp-IsAntisymmetric : IsAntisymmetric key_cmp
@@ -39,6 +40,18 @@ one_gone es fs k h = same_map nat_list_cmp_total key_cmp-IsAntisymmetric _ _ (λ
     get_value fs q ∙ h q ∙ ap (λ b. cond b None (lookup (is_at (key_cmp q)) es)) ((eq_by_cmp_equiv nat_list_cmp_total).symm k q)
     ∙ sym (get-remove nat_list_cmp_total (from_entries es) k q ∙ ap (cond (is_at (key_cmp q) k) None) (get_value es q)))
 
+-- what inserting the entries in turn leaves at a key
+get_inserted : (es : List (List ℕ × List ℕ)) (s : Storage) (f : List ℕ → Option (List ℕ)) → ((q : List ℕ) → get s q ≡ f q)
+    → (q : List ℕ) → get (fold (λ s e. insert s e.0 e.1) s es) q ≡ update_all (eq_by_cmp key_cmp) f es q
+get_inserted [] s f h q = h q
+get_inserted (e ∷ es) s f h q = get_inserted es (insert s e.0 e.1) (update (eq_by_cmp key_cmp) f e.0 (Some e.1)) (λ p.
+    get-insert nat_list_cmp_total s e.0 e.1 p ∙ ap (λ b. cond b (Some e.1) (get s p)) ((eq_by_cmp_equiv nat_list_cmp_total).symm p e.0) ∙ ap (cond (eq_by_cmp key_cmp e.0 p) (Some e.1)) (h p)) q
+
+-- a map that is made of entries in one pass is the storage that inserting them in turn gives
+pub all_inserted : (es fs : List (List ℕ × List ℕ)) → ((q : List ℕ) → lookup (is_at (key_cmp q)) fs ≡ update_all (eq_by_cmp key_cmp) (λ _. None) es q) → from_entries fs ≡ inserted es
+all_inserted es fs h = same_map nat_list_cmp_total key_cmp-IsAntisymmetric (from_entries fs) (inserted es) (λ q.
+    get_value fs q ∙ h q ∙ sym (get_inserted es empty (λ _. None) (get-empty key_cmp) q))
+
 both_true : (a b : Bool) → T a → T b → T (a && b)
 both_true true b p q = q
 both_true false b p q = p
@@ -60,7 +73,7 @@ entries_in_order es h =
     ∙ entries-from_sorted key_cmp es test
 
 -- how many entries the map that ascending entries make has
-len_in_order : {X : Type 0} (es : List (List ℕ × X)) → IsStrictlySortedBy key_cmp (keys_of es) → len (from_entries {R = key_cmp} es) ≡ length es
+pub len_in_order : {X : Type 0} (es : List (List ℕ × X)) → IsStrictlySortedBy key_cmp (keys_of es) → len (from_entries {R = key_cmp} es) ≡ length es
 len_in_order es h = len-entries (from_entries es) ∙ ap length (entries_in_order es h)
 
 -- room for one more write, read off the entries

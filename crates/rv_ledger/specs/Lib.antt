@@ -3,3 +3,4 @@ pub mod Key
 pub mod Rules
 pub mod Call
 pub mod Job
+pub mod Inserted

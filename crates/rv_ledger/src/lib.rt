@@ -13,6 +13,7 @@ mod receipt;
 mod rules;
 mod same;
 mod store;
+mod store_builder;
 mod stored_value;
 mod writes;
 
@@ -27,5 +28,6 @@ pub use receipt::Receipt;
 pub use rules::{Rules, SHORT_VALUE_LIMIT};
 pub use same::{same_call, same_content, same_job, same_store};
 pub use store::Store;
+pub use store_builder::StoreBuilder;
 pub use stored_value::StoredValue;
 pub use writes::{WRITE_LIMIT, Write, Writes};

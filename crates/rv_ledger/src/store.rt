@@ -33,6 +33,7 @@ impl Store {
     ghost use Rattle.std.specs.Option.{option_copied};
     ghost use Rattle.std.specs.FinMap as map;
     ghost use Rattle.rv_ledger.specs.Change.{add};
+    ghost use Rattle.rv_ledger.specs.Inserted.{inserted};
 
     /// An empty storage.
     pub fn new(alloc: Global) -> Store
@@ -42,6 +43,17 @@ impl Store {
             alloc,
             entries: BTreeMap::new(alloc),
         }
+    }
+
+    /// The storage that inserting the entries in turn gives; refused where memory ran out.
+    pub(crate) fn of_entries(
+        alloc: Global,
+        entries: Vec<(Key, StoredValue)>,
+    ) -> Result<Store, AllocError>
+        ensures { IfOk result (λ s. s ≡ inserted entries.items) }
+    {
+        let entries = entries.into_iter().collect(alloc)?;
+        Ok(Store { alloc, entries })
     }
 
     /// The value at a key, or None where it is absent.

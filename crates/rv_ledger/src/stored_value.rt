@@ -8,8 +8,10 @@ use smallvec::SmallVec;
 use std::alloc::{AllocError, Global};
 use std::marker::Model;
 
-/// The greatest length of a value that is kept in place, in bytes.
-const SHORT_LIMIT: usize = 32;
+/// The greatest length of a value that is kept in place, in bytes. A `StoredValue` then takes 32 bytes, as with
+/// any lower limit. So a leaf of a storage's tree, of 15 keys and 15 values, takes 968 bytes: glibc's allocator
+/// serves up to 1,032 from its fast list.
+const SHORT_LIMIT: usize = 16;
 
 /// A value as a map keeps it, of at most 256 bytes: a short one in place, a longer one in memory of its own.
 /// So a map of short values takes no room for the longest.

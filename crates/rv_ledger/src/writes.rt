@@ -72,6 +72,13 @@ impl Writes {
         self.entries.get(key)
     }
 
+    /// The number of written keys, at most 256.
+    pub fn len(&self) -> usize
+        ensures { result ≡ map.len self.now }
+    {
+        self.entries.len()
+    }
+
     /// Whether a key may be written: it was written already, or fewer than 256 other keys were.
     pub fn has_room(&self, key: &Key) -> bool
         ensures { result ≡ has_room self.now key.now }

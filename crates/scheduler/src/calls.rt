@@ -160,7 +160,7 @@ pub(crate) fn write_count(last: &Option<Recorded>) -> usize
     ensures { result ≡ length (written_by last.now) }
 {
     match last {
-        Some(run) => run.receipt.writes.iter().len(),
+        Some(run) => run.receipt.writes.len(),
         None => 0,
     }
 }

@@ -20,7 +20,7 @@ use stm_state::{CallState, Recorded};
 pub(crate) fn written_count(writes: &Writes) -> usize
     ensures { result ≡ length (entries writes.now) }
 {
-    writes.iter().len()
+    writes.len()
 }
 
 /// The keys that a run is to move: those that it wrote, then those that only the call's last recorded
