@@ -169,7 +169,7 @@ fn hand_in(
     assert!(rt; fault == RecordFault::Memory, "{fault}");
     assert!(rt; answers_of_all(core) == before);
     match core.record(alloc, worker, run) {
-        Ok(()) => Ok(()),
+        Ok(_) => Ok(()),
         Err(refused) => Err(Fail::from(refused.fault)),
     }
 }

@@ -303,7 +303,7 @@ fn hand_in(alloc: Global, core: &mut Core, worker: usize, run: Run) -> Result<()
     ensures refused { IfErr result (λ e. IsStepRefusal e (worker_step (block_in core.old) worker Record core.old.state)) }
 {
     match core.record_known(alloc, worker, run.finish()) {
-        Ok(()) => Ok(()),
+        Ok(_) => Ok(()),
         Err(refused) => Err(match refused.fault {
             RecordFault::ArenaFull => DriveFault::ArenaFull,
             RecordFault::IncarnationLimit => DriveFault::IncarnationLimit,

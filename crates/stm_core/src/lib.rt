@@ -17,4 +17,5 @@ mod versions;
 pub use engine::{DriveFault, WORKER_LIMIT, drive};
 pub use fault::{IncarnationLimit, RecordFault, Refused};
 pub use next_step::{AskResult, NextStep, ReadResult};
+pub use recording::Leftovers;
 pub use state::Core;

@@ -18,12 +18,19 @@ use crate::same::same_answers;
 use crate::versions::{keys_to_move, written_count};
 use mvmap::MvMap;
 use read_set::ReadSet;
-use rv_ledger::{Job, Key, VALUE_LIMIT, same_call};
-use rv_step::EndedRun;
+use rv_ledger::{Call, Job, Key, VALUE_LIMIT, same_call};
+use rv_step::{EndedRun, StorageAnswer};
 use scheduler::{INCARNATION_LIMIT, Scheduler};
 use std::alloc::Global;
 use stm_state::Recorded;
 use version_arena::{RECORD_LIMIT, ReserveFault};
+
+/// What a record leaves over of the run that was handed in: its call and its answers.
+#[derive(Drop)]
+pub struct Leftovers {
+    call: Call,
+    answers: Vec<StorageAnswer>,
+}
 
 /// Whether a run is a run of the job's call at an index. Takes no memory.
 pub(crate) fn is_run_of(job: &Job, call: u16, run: &EndedRun) -> bool
@@ -45,9 +52,10 @@ pub(crate) fn has_own_answers(scheduler: &Scheduler, worker: usize, run: &EndedR
 }
 
 /// Records a worker's own run of a call: the run is kept, its keys are to be moved, and room for what it
-/// wrote is promised. `promised` is the number of records that are promised. Refused as ArenaFull,
-/// IncarnationLimit or Memory, tested in this order. All that takes memory comes before any change. A
-/// refusal hands the run back; then nothing has changed, except that the map may have more room.
+/// wrote is promised. `promised` is the number of records that are promised. What nobody needs any more is
+/// handed out. Refused as ArenaFull, IncarnationLimit or Memory, tested in this order. All that takes memory
+/// comes before any change. A refusal hands the run back; then nothing has changed, except that the map may
+/// have more room.
 pub(crate) fn record_run(
     alloc: Global,
     map: &mut MvMap,
@@ -56,7 +64,7 @@ pub(crate) fn record_run(
     worker: usize,
     call: u16,
     run: EndedRun,
-) -> Result<(), Refused>
+) -> Result<Leftovers, Refused>
     requires counts { MayCount worker scheduler.old }
     requires within { call < length scheduler.old.calls }
     requires executing { (get_or scheduler.old.calls call fresh).status ≡ Executing }
@@ -96,9 +104,14 @@ pub(crate) fn record_run(
     ) {
         Ok((reads, keys)) => {
             *promised += count;
-            let EndedRun { receipt, .. } = run;
+            let EndedRun {
+                call: own,
+                answers,
+                receipt,
+                ..
+            } = run;
             scheduler.keep_run(worker, call, Recorded { receipt, reads }, keys);
-            Ok(())
+            Ok(Leftovers { call: own, answers })
         }
         Err(_) => Err(Refused {
             fault: RecordFault::Memory,

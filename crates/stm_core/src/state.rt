@@ -11,10 +11,10 @@ use crate::outcome::{moved_outcome, outcome_of};
 use crate::passed_lists::PassedLists;
 use crate::reading::{make_read_room, next_step_of, read_at};
 use crate::reads::next_stands;
-use crate::recording::{has_own_answers, is_run_of, record_run};
+use crate::recording::{Leftovers, has_own_answers, is_run_of, record_run};
 use crate::versions::{mark_key, move_key};
 use mvmap::MvMap;
-use rv_ledger::{Counts, Job, Key, Outcome};
+use rv_ledger::{Counts, Job, Key, Outcome, StoredValue};
 use rv_step::{EndedRun, StorageAnswer};
 use scheduler::{Scheduler, TaskKind};
 use std::alloc::{AllocError, Global};
@@ -58,6 +58,8 @@ impl Model for Core {
 
 impl Core {
     ghost use Rattle.std.specs.Prelude.{◌≡◌, ◌≢◌, ◌<◌, ◌≤◌, ◌↔◌, ℕ, Some, true, length, get_or, slice_get, [], IfOk, IfErr, OnOk, OnErr, Ok};
+    ghost use Rattle.std.specs.Option.{option_copied};
+    ghost use Rattle.std.specs.FinMap as finite;
     ghost use Rattle.version_arena.specs.ArenaState.{emptied};
     ghost use Rattle.mvmap.specs.Reading.{passed_in, reading};
     ghost use Rattle.rv_step.specs.Fold.{receipts_of, store_after};
@@ -208,7 +210,30 @@ impl Core {
             unreachable!();
         };
         read_at(
-            &self.job.store,
+            self.job.store.get(key),
+            &self.map,
+            &mut self.scheduler,
+            &mut self.passed,
+            worker,
+            call,
+            key,
+        )
+    }
+
+    /// The same, where the caller has looked up what the storage before the block has at the key.
+    pub fn read_over(&mut self, worker: usize, key: &Key, base: Option<&StoredValue>) -> ReadResult
+        requires due { IsDue worker (steps.Read_key key.now) self.old }
+        requires room { HasReadRoom worker self.old }
+        requires base { option_copied base ≡ finite.get self.old.job.store key.now }
+        ensures makes { Makes worker (steps.Read_key key.now) self.old self.new }
+        ensures answers { (i : ℕ) → runs (task_at self.old.state worker) i ≡ true → result ≡ read_result_of self.old.job.store key.now (reading self.old.state.versions key.now i) }
+        ensures passed { (i : ℕ) → runs (task_at self.old.state worker) i ≡ true → passed_in (reading self.old.state.versions key.now i) ≡ [] → self.new.passed ≡ self.old.passed }
+    {
+        let TaskKind::Running { call, .. } = self.scheduler.task_kind(worker) else {
+            unreachable!();
+        };
+        read_at(
+            base,
             &self.map,
             &mut self.scheduler,
             &mut self.passed,
@@ -242,8 +267,14 @@ impl Core {
     /// A worker hands in its ended run, and next moves its keys. Refused as Foreign exactly where the
     /// run's call is not the job's call at that index or its answers are not those that were given.
     /// Otherwise refused as ArenaFull, IncarnationLimit or Memory, tested in this order. A refusal hands
-    /// the run back and changes nothing.
-    pub fn record(&mut self, alloc: Global, worker: usize, run: EndedRun) -> Result<(), Refused>
+    /// the run back and changes nothing. What the record leaves over is handed out, so that it can be dropped
+    /// after a lock.
+    pub fn record(
+        &mut self,
+        alloc: Global,
+        worker: usize,
+        run: EndedRun,
+    ) -> Result<Leftovers, Refused>
         requires { IsDue worker steps.Record self.old }
         ensures makes { OnOk result (Makes worker steps.Record self.old self.new) }
         ensures own { (IfErr result (λ e. e.fault ≢ fault.Foreign)) ↔ IsOwn worker run self.old }
@@ -271,7 +302,7 @@ impl Core {
         alloc: Global,
         worker: usize,
         run: EndedRun,
-    ) -> Result<(), Refused>
+    ) -> Result<Leftovers, Refused>
         requires due { IsDue worker steps.Record self.old }
         requires call { (i : ℕ) → runs (task_at self.old.state worker) i ≡ true → slice_get self.old.job.block i ≡ Some run.call }
         ensures makes { OnOk result (Makes worker steps.Record self.old self.new) }

@@ -1,11 +1,12 @@
 -- Why a step call is refused before its step is tried.
-use Rattle.std.proofs.Common.{◌≡◌, ◌≢◌, ◌<◌, ◌↔◌, ℕ, Option, None, Some, Result, Err, IfErr, length, refl, sym, subst, inl, inr}
+use Rattle.std.proofs.Common.{◌≡◌, ◌≢◌, ◌<◌, ◌↔◌, ℕ, Option, None, Some, Result, Ok, Err, IfErr, length, refl, sym, subst, inl, inr}
 use Rattle.stm_state.specs.Steps.{Step, Record}
 use Rattle.stm_state.specs.Steps as steps
 use Rattle.rv_step.specs.declared.ended_run.EndedRun.{EndedRun}
 use Rattle.stm_core.specs.CoreState.{CoreState, IsOwn, IsRefused, IsTaken}
 use Rattle.stm_core.specs.declared.fault.RecordFault.{RecordFault}
 use Rattle.stm_core.specs.declared.fault.Refused.{Refused}
+use Rattle.stm_core.specs.declared.recording.Leftovers.{Leftovers}
 use Rattle.stm_core.specs.declared.fault.RecordFault.TheVariants as record_faults
 use Rattle.stm_core.specs.declared.next_step.NextStep.{NextStep}
 use Rattle.workers.specs.declared.book.share.Share.{Share}
@@ -58,7 +59,7 @@ module _ (w : ℕ) (run : EndedRun) (b : CoreState) (f : RecordFault)
 -- ---- a run that is handed in to a core
 
 -- what the core says of a run that is handed in, by its answer
-pub record IsHandedIn (w : ℕ) (run : EndedRun) (b after : CoreState) (answer : Result Unit Refused) : Type 0 where
+pub record IsHandedIn (w : ℕ) (run : EndedRun) (b after : CoreState) (answer : Result Leftovers Refused) : Type 0 where
   pub own : IfErr answer (λ e. e.fault ≢ record_faults.Foreign) ↔ IsOwn w run b
   pub full : IfErr answer (λ e. e.fault ≡ record_faults.ArenaFull → IsRefused w Record steps.ArenaFull b)
   pub limit : IfErr answer (λ e. e.fault ≡ record_faults.IncarnationLimit → IsRefused w Record steps.IncarnationLimit b)
@@ -66,10 +67,14 @@ pub record IsHandedIn (w : ℕ) (run : EndedRun) (b after : CoreState) (answer :
   pub back : IfErr answer (λ e. (e.run ≡ run) × (after ≡ b))
 
 -- however it was handed in
-pub handed_in : (w : ℕ) (run : EndedRun) (b after now : CoreState) (answer told : Result Unit Refused) → told ≡ answer → now ≡ after → IsHandedIn w run b after answer → IsHandedIn w run b now told
+pub handed_in : (w : ℕ) (run : EndedRun) (b after now : CoreState) (answer told : Result Leftovers Refused) → told ≡ answer → now ≡ after → IsHandedIn w run b after answer → IsHandedIn w run b now told
 handed_in w run b after now answer told same kept h = subst (λ (x : CoreState). IsHandedIn w run b x told) (sym kept) (subst (IsHandedIn w run b after) (sym same) h)
 
-module _ (w : ℕ) (run : EndedRun) (b after : CoreState) (answer : Result Unit Refused) (h : IsHandedIn w run b after answer) (refused : Refused) (is : answer ≡ Err refused) where
+-- a run that is taken is the task's own
+pub taken_own : (w : ℕ) (run : EndedRun) (b after : CoreState) (answer : Result Leftovers Refused) → IsHandedIn w run b after answer → (left : Leftovers) → answer ≡ Ok left → IsOwn w run b
+taken_own w run b after answer h left is = (subst (IsHandedIn w run b after) is h).own.0 tt
+
+module _ (w : ℕ) (run : EndedRun) (b after : CoreState) (answer : Result Leftovers Refused) (h : IsHandedIn w run b after answer) (refused : Refused) (is : answer ≡ Err refused) where
   said : IsHandedIn w run b after (Err refused)
   said = subst (IsHandedIn w run b after) is h
 

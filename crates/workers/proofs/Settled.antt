@@ -1,5 +1,5 @@
 -- The answer to a job, by whether the core has that job.
-use Rattle.std.proofs.Common.{◌≡◌, ◌≢◌, Bool, true, false, List, Option, Result, Err, refl, subst, inl, inr}
+use Rattle.std.proofs.Common.{◌≡◌, Bool, true, false, List, Option, Result, Err, refl, subst, inl, inr}
 use Rattle.rv_ledger.specs.declared.job.Job.{Job}
 use Rattle.rv_ledger.specs.declared.outcome.Outcome.{Outcome}
 use Rattle.stm_core.specs.CoreState.{CoreState}

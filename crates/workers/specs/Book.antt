@@ -1,6 +1,7 @@
 -- A core with the first fault that was written, the share of a worker, and what the step calls owe.
 use Rattle.std.specs.Prelude.{◌≡◌, ◌<◌, ◌+◌, ◌⊎◌, ℕ, zero, suc, Bool, true, false, List, [], ◌∷◌, ◌++◌, length, get_or, Option, None, Some}
 use Rattle.rv_ledger.specs.Call.{Invocation}
+use Rattle.rv_ledger.specs.Key.{Storage}
 use Rattle.rv_ledger.specs.declared.outcome.Counts.{Counts}
 use Rattle.stm_state.specs.State.{task_at, no_counts, is_done}
 use Rattle.stm_state.specs.Steps.{Step, Ask, Read_key, Park, Record}
@@ -50,9 +51,9 @@ abbrev pub FaultFits : CoreState → Option RunFault → Type 0
 FaultFits b None = Unit {0}
 FaultFits b (Some fault) = MayWrite fault b
 
--- where a core's calls are known, they are these
-abbrev pub HasKnownCalls : List Invocation → Bool → CoreState → Type 0
-HasKnownCalls calls known b = known ≡ true → b.job.block ≡ calls
+-- where a core's job is known, it has these calls and this storage
+abbrev pub HasKnownJob : List Invocation → Storage → Bool → CoreState → Type 0
+HasKnownJob calls store known b = known ≡ true → (b.job.block ≡ calls) × (b.job.store ≡ store)
 
 -- the fault of a record that was refused
 abbrev pub run_fault : RecordFault → RunFault

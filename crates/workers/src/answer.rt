@@ -6,9 +6,9 @@ ghost use Rattle.stm_state.specs.State.{is_done};
 ghost use Rattle.workers.specs.Settle.{AreSettled, IsOutcomeOrMemory, IsSettled, IsSettledAfter, IsShareOf};
 ghost use Rattle.workers.specs.declared.fault.RunFault.TheVariants as faults;
 
-use crate::book::{BlockName, Book, Share};
+use crate::book::{Book, JobName, Share};
 use crate::fault::RunFault;
-use rv_ledger::{Job, Outcome, Store, same_job, same_store};
+use rv_ledger::{Job, Outcome, same_job};
 use std::alloc::Global;
 use stm_core::Core;
 use version_arena::Arena;
@@ -32,20 +32,17 @@ pub fn settle(
     settle_core(alloc, book.into_core(), fault, shares.as_slice(), is_same)
 }
 
-/// The same with the shares of their owner, for a book whose core has the job's calls. Only the storage is
-/// compared.
-pub(crate) fn settle_calls<B: BlockName>(
+/// The same with the shares of their owner, for a book whose core has the job. No job is compared.
+pub(crate) fn settle_known<J: JobName>(
     alloc: Global,
-    book: Book<B>,
+    book: Book<J>,
     shares: &[Share],
-    store: &Store,
 ) -> (Result<Outcome, RunFault>, Arena)
-    ensures answer { (job : Job) → book.core.job.block ≡ job.block → store.now ≡ job.store → IsSettled job shares.now book result.0 }
+    ensures answer { (job : Job) → book.core.job.block ≡ job.block → book.core.job.store ≡ job.store → IsSettled job shares.now book result.0 }
     ensures arena { result.1.records ≡ [] }
 {
-    let is_same = same_store(&book.core().job().store, store);
     let fault = book.fault();
-    settle_core(alloc, book.into_core(), fault, shares, is_same)
+    settle_core(alloc, book.into_core(), fault, shares, true)
 }
 
 /// The answer of a core with the fault that was written beside it: Foreign where it has not the same job.

@@ -4,44 +4,51 @@ pub mod share;
 pub mod written;
 
 ghost use Rattle.std.specs.Prelude.{◌≡◌, List, []};
+ghost use Rattle.std.specs.FinMap as finite;
+ghost use Rattle.rv_ledger.specs.Key.{Storage};
 ghost use Rattle.rv_ledger.specs.Call.{Invocation};
 ghost use Rattle.workers.specs.Book.{run_fault};
 
 use crate::fault::{OutsideFault, RunFault};
-use rv_ledger::Key;
+use rv_ledger::{Key, StoredValue};
 use rv_step::EndedRun;
 use scheduler::COUNT_LIMIT;
 pub use share::Share;
 use std::alloc::Global;
 use std::marker::{Brand, Model, PhantomData};
-use stm_core::{AskResult, Core, NextStep, ReadResult, RecordFault};
+use stm_core::{AskResult, Core, Leftovers, NextStep, ReadResult, RecordFault};
 pub use written::WrittenFault;
 
-/// A name of a block's calls, for contracts alone. Who starts the block's threads picks the calls.
-pub trait BlockName {
+/// A name of a job, for contracts alone: of its calls and of the storage before them. Who starts the job's
+/// threads picks them.
+pub trait JobName {
     ghost block: { List Invocation };
+
+    ghost store: { Storage };
 }
 
-impl BlockName for Brand {
+impl JobName for Brand {
     ghost block = { [] };
+
+    ghost store = { finite.empty };
 }
 
 /// A core, and the first fault that was written beside it. A written ArenaFull or IncarnationLimit is true of
 /// the core: some worker's due step is refused for this limit. So is a written StepLimit: some worker has
-/// made 2^64 - 1 steps. A written fault is never BadCount. Where `known` is true the core has the calls that
-/// `B` names.
+/// made 2^64 - 1 steps. A written fault is never BadCount. Where `known` is true the core has the job that
+/// `J` names.
 #[derive(Drop)]
-pub struct Book<B: BlockName = Brand> {
+pub struct Book<J: JobName = Brand> {
     core: Core,
     fault: Option<RunFault>,
     known: bool,
-    of: PhantomData<B>,
+    of: PhantomData<J>,
 }
 
-impl<B: BlockName> Model for Book<B> {
+impl<J: JobName> Model for Book<J> {
     ghost use Rattle.std.specs.Coded.{codes};
     ghost use Rattle.stm_core.specs.contracts.state.Core.{the_row as core_row};
-    ghost use Rattle.workers.specs.Book.{BookState, FaultFits, HasKnownCalls};
+    ghost use Rattle.workers.specs.Book.{BookState, FaultFits, HasKnownJob};
 
     ghost Value = { BookState };
 
@@ -49,13 +56,13 @@ impl<B: BlockName> Model for Book<B> {
 
     ghost view = { λ b. record { core = b.core; fault = b.fault } };
 
-    ghost invariant = { λ b. FaultFits b.core b.fault × HasKnownCalls B.block b.known b.core };
+    ghost invariant = { λ b. FaultFits b.core b.fault × HasKnownJob J.block J.store b.known b.core };
 }
 
 impl Book {
     ghost use Rattle.std.specs.Prelude.{◌≡◌, None};
 
-    /// A core, and no fault. Nothing is known of its calls.
+    /// A core, and no fault. Nothing is known of its job.
     pub fn new(core: Core) -> Book
         ensures { result ≡ record { core = core; fault = None } }
     {
@@ -63,8 +70,9 @@ impl Book {
     }
 }
 
-impl<B: BlockName> Book<B> {
+impl<J: JobName> Book<J> {
     ghost use Rattle.std.specs.Prelude.{◌≡◌, ◌<◌, ◌↔◌, ⊤, None, Some, true, length, get_or, slice_get, IfErr, IfOk, OnOk};
+    ghost use Rattle.std.specs.Option.{option_copied};
     ghost use Rattle.mvmap.specs.Reading.{reading};
     ghost use Rattle.stm_state.specs.Done.{Reached};
     ghost use Rattle.stm_state.specs.Parts.{CallsAreAttended, IsSized, OthersHaveEstimates, ReadsAreWatched, RunsAreBorneOut};
@@ -73,11 +81,11 @@ impl<B: BlockName> Book<B> {
     ghost use Rattle.scheduler.specs.Schedule.{count_limit};
     ghost use Rattle.stm_core.specs.CoreState.{HasReadRoom, IsOwn, IsTaken, block_in, next_step_of, read_result_of};
     ghost use Rattle.stm_core.specs.declared.next_step.NextStep.TheVariants as next_step;
-    ghost use Rattle.workers.specs.Book.{FaultFits, HasKnownCalls, IsAsked, IsCause, IsMade, IsUnready, LeavesWritten, MayWrite, Owes, AgreesWith, first_fault, outside_fault};
+    ghost use Rattle.workers.specs.Book.{FaultFits, HasKnownJob, IsAsked, IsCause, IsMade, IsUnready, LeavesWritten, MayWrite, Owes, AgreesWith, first_fault, outside_fault};
 
-    /// A core, and no fault. `known` says that the core has the calls that `B` names.
-    pub(crate) fn over(core: Core, known: bool) -> Book<B>
-        requires { HasKnownCalls B.block known core }
+    /// A core, and no fault. `known` says that the core has the job that `J` names.
+    pub(crate) fn over(core: Core, known: bool) -> Book<J>
+        requires { HasKnownJob J.block J.store known core }
         ensures { result ≡ record { core = core; fault = None } }
     {
         Book {
@@ -88,7 +96,7 @@ impl<B: BlockName> Book<B> {
         }
     }
 
-    /// The same book. Nothing is known of its calls.
+    /// The same book. Nothing is known of its job.
     pub(crate) fn without_name(self) -> Book
         ensures { result ≡ self }
     {
@@ -101,9 +109,9 @@ impl<B: BlockName> Book<B> {
         }
     }
 
-    /// Whether the core is known to have the calls that `B` names.
+    /// Whether the core is known to have the job that `J` names.
     pub(crate) fn is_known(&self) -> bool
-        ensures { result ≡ true → self.now.core.job.block ≡ B.block }
+        ensures { result ≡ true → (self.now.core.job.block ≡ J.block) × (self.now.core.job.store ≡ J.store) }
     {
         self.known
     }
@@ -197,7 +205,6 @@ impl<B: BlockName> Book<B> {
 
     /// The run of a call at an incarnation reads the key that it asks for. Refused as `ask` is, and as Memory
     /// where memory ran out.
-    #[tactic(auto, using(crate::proofs::Stays::stays, crate::proofs::Causes::unready_cause))]
     pub fn read(
         &mut self,
         share: &mut Share,
@@ -211,12 +218,38 @@ impl<B: BlockName> Book<B> {
         ensures refused { IfErr result (λ e. LeavesWritten e self.old self.new share.old share.new) }
         ensures cause { IfErr result (λ e. IsCause (Owes (next_step.Run call incarnation) share.old self.old.core) ⊤ (HasReadRoom share.old.worker self.old.core → ⊥) (steps.Read_key key.now) share.old.worker self.old e) }
     {
+        self.read_known(share, call, incarnation, key, None, false)
+    }
+
+    /// The same. `known` says that the storage that `J` names has `base` at the key. Where the core is known to
+    /// have that storage, it is not searched.
+    #[tactic(auto, using(crate::proofs::Stays::stays, crate::proofs::Causes::unready_cause))]
+    pub(crate) fn read_known(
+        &mut self,
+        share: &mut Share,
+        call: u16,
+        incarnation: u16,
+        key: &Key,
+        base: Option<&StoredValue>,
+        known: bool,
+    ) -> Result<ReadResult, WrittenFault>
+        requires known { known ≡ true → option_copied base ≡ finite.get J.store key.now }
+        ensures made { OnOk result (IsMade (next_step.Run call incarnation) (steps.Read_key key.now) self.old self.new share.old share.new) }
+        ensures answer { IfOk result (λ answer. answer ≡ read_result_of self.old.core.job.store key.now (reading self.old.core.state.versions key.now call)) }
+        ensures dones { OnOk result (share.new.dones ≡ share.old.dones) }
+        ensures refused { IfErr result (λ e. LeavesWritten e self.old self.new share.old share.new) }
+        ensures cause { IfErr result (λ e. IsCause (Owes (next_step.Run call incarnation) share.old self.old.core) ⊤ (HasReadRoom share.old.worker self.old.core → ⊥) (steps.Read_key key.now) share.old.worker self.old e) }
+    {
         self.ready(share, NextStep::Run { call, incarnation })?;
         stm_state::dones_grow_at_done();
         if self.core.room_for_read(share.worker).is_err() {
             return Err(self.write(RunFault::Memory));
         }
-        let answer = self.core.read(share.worker, key);
+        let answer = if known && self.known {
+            self.core.read_over(share.worker, key, base)
+        } else {
+            self.core.read(share.worker, key)
+        };
         self.update(share);
         Ok(answer)
     }
@@ -267,11 +300,13 @@ impl<B: BlockName> Book<B> {
         ensures refused { IfErr result (λ e. LeavesWritten e self.old self.new share.old share.new) }
         ensures cause { IfErr result (λ e. IsCause (Owes (next_step.Run call incarnation) share.old self.old.core) (IsOwn share.old.worker run self.old.core) (IsTaken share.old.worker steps.Record self.old.core) steps.Record share.old.worker self.old e) }
     {
-        self.record_known(alloc, share, call, incarnation, run, false)
+        let (next, _) = self.record_known(alloc, share, call, incarnation, run, false)?;
+        Ok(next)
     }
 
-    /// The same. `known` says that the run is of that call among those that `B` names. Where the core is known
-    /// to have these calls, the run's call is not compared with the core's.
+    /// The same. `known` says that the run is of that call among those that `J` names. Where the core is known
+    /// to have these calls, the run's call is not compared with the core's. What the record leaves over is handed
+    /// out, so that it is dropped after the lock.
     #[tactic(auto, using(crate::proofs::Stays::stays, crate::proofs::Causes::unready_cause))]
     pub(crate) fn record_known(
         &mut self,
@@ -281,10 +316,10 @@ impl<B: BlockName> Book<B> {
         incarnation: u16,
         run: EndedRun,
         known: bool,
-    ) -> Result<NextStep, WrittenFault>
-        requires known { known ≡ true → slice_get B.block call ≡ Some run.call }
+    ) -> Result<(NextStep, Leftovers), WrittenFault>
+        requires known { known ≡ true → slice_get J.block call ≡ Some run.call }
         ensures made { OnOk result (IsMade (next_step.Run call incarnation) steps.Record self.old self.new share.old share.new) }
-        ensures next { IfOk result (λ next. next ≡ next_step_of self.new.core.state (task_at self.new.core.state share.new.worker)) }
+        ensures next { IfOk result (λ made. made.0 ≡ next_step_of self.new.core.state (task_at self.new.core.state share.new.worker)) }
         ensures own { OnOk result (IsOwn share.old.worker run self.old.core) }
         ensures dones { OnOk result (share.new.dones ≡ share.old.dones) }
         ensures refused { IfErr result (λ e. LeavesWritten e self.old self.new share.old share.new) }
@@ -298,9 +333,9 @@ impl<B: BlockName> Book<B> {
             self.core.record(alloc, share.worker, run)
         };
         match recorded {
-            Ok(()) => {
+            Ok(left) => {
                 self.update(share);
-                Ok(self.core.doing(share.worker))
+                Ok((self.core.doing(share.worker), left))
             }
             Err(refused) => Err(self.write(run_fault(refused.fault))),
         }

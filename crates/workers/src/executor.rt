@@ -1,6 +1,6 @@
 //! Runs the calls of blocks on several threads, over one arena.
 
-ghost use Rattle.std.specs.Prelude.{◌≡◌, ◌≢◌, ◌≤◌, ◌⊎◌, [], All, Err, IfErr, IfOk, Ok, length};
+ghost use Rattle.std.specs.Prelude.{◌≡◌, ◌≢◌, ◌≤◌, ◌⊎◌, [], All, Err, IfErr, IfOk, Ok, length, true};
 ghost use Rattle.std.specs.Vec.{vec_capacity};
 ghost use Rattle.rv_step.specs.Fold.{receipts_of, store_after};
 ghost use Rattle.stm_state.specs.Steps as steps;
@@ -9,8 +9,8 @@ ghost use Rattle.workers.specs.History.{HasHistory, HasLimit, AreOneWorkerCounts
 ghost use Rattle.workers.specs.Settle.{AreSharesOf};
 ghost use Rattle.workers.specs.declared.fault.RunFault.TheVariants as faults;
 
-use crate::answer::settle_calls;
-use crate::book::{BlockName, Share, WrittenFault};
+use crate::answer::settle_known;
+use crate::book::{JobName, Share, WrittenFault};
 use crate::fault::{OutsideFault, RunFault};
 use crate::gate::{Gate, Open};
 use crate::shared::Shared;
@@ -117,7 +117,7 @@ impl Executor {
 
 /// Runs a job on threads over an arena. The arena comes back without records. Refused as `run_block` is, but
 /// never as BadCount. Beside it the shares that the threads gave back, and the storage before the block.
-pub(crate) fn run_over<B: BlockName + Send + Sync, R: Threads + Wait + Sync, G: Gate + Sync>(
+pub(crate) fn run_over<J: JobName + Send + Sync, R: Threads + Wait + Sync, G: Gate + Sync>(
     rt: &R,
     alloc: Global,
     arena: Arena,
@@ -126,7 +126,8 @@ pub(crate) fn run_over<B: BlockName + Send + Sync, R: Threads + Wait + Sync, G: 
     gate: &G,
 ) -> (Result<Outcome, RunFault>, Arena, Vec<Share>, Store)
     requires count { (1 ≤ workers) × (workers ≤ 32) }
-    requires block { job.block ≡ B.block }
+    requires block { job.block ≡ J.block }
+    requires store { job.store ≡ J.store }
     ensures bad_count { IfErr result.0 (λ e. e ≢ faults.BadCount) }
     ensures job { IfOk result.0 (λ o. o.job ≡ job) }
     ensures receipts { IfOk result.0 (λ o. o.receipts.items ≡ receipts_of job.block job.store) }
@@ -147,15 +148,15 @@ pub(crate) fn run_over<B: BlockName + Send + Sync, R: Threads + Wait + Sync, G: 
             job.store,
         );
     };
-    let (shared, shares) = match share_out::<B>(alloc, arena, job, workers) {
+    let (shared, shares) = match share_out::<J>(alloc, arena, job, store, workers) {
         Ok(shared) => shared,
-        Err(arena) => return (Err(RunFault::Memory), arena, Vec::new(alloc), store),
+        Err((arena, store)) => return (Err(RunFault::Memory), arena, Vec::new(alloc), store),
     };
     let back = match run_threads(rt, alloc, &shared, shares, gate) {
         Ok(back) => back,
         Err(_) => Vec::new(alloc),
     };
-    let book = shared.into_named_book();
+    let (book, store) = shared.into_parts();
     if !book.is_known() {
         return (
             Err(RunFault::Foreign),
@@ -169,7 +170,7 @@ pub(crate) fn run_over<B: BlockName + Send + Sync, R: Threads + Wait + Sync, G: 
     stm_state::last_entry_is_done();
     stm_state::one_worker_counts_where_reached();
     let found = book.core().workers();
-    let (answer, arena) = settle_calls(alloc, book, back.as_slice(), &store);
+    let (answer, arena) = settle_known(alloc, book, back.as_slice());
     (answer_by(answer, found, workers), arena, back, store)
 }
 
@@ -197,21 +198,27 @@ fn answer_by(
     answer
 }
 
-/// The lock and the cell over a job's core at its start, and its workers' shares. Where memory ran out the
-/// arena is handed back, without records.
-fn share_out<B: BlockName>(
+/// The lock and the cell over a job's core at its start with a copy of its storage, and its workers' shares.
+/// Where memory ran out the arena is handed back, without records, and the copy.
+fn share_out<J: JobName>(
     alloc: Global,
     arena: Arena,
     job: Job,
+    store: Store,
     workers: usize,
-) -> Result<(Shared<B>, Vec<Share>), Arena>
+) -> Result<(Shared<J>, Vec<Share>), (Arena, Store)>
     requires count { (1 ≤ workers) × (workers ≤ 32) }
-    requires block { job.block ≡ B.block }
+    requires block { job.block ≡ J.block }
+    requires store { job.store ≡ J.store }
+    requires copy { store ≡ J.store }
+    ensures known { IfOk result (λ made. made.0.known ≡ true) }
     ensures passes { IfOk result (λ made. All (λ share. IsPassOf made.0.cell share.pass) made.1.items) }
-    ensures back { IfErr result (λ arena. arena.records ≡ []) }
+    ensures back { IfErr result (λ left. (left.0.records ≡ []) × (left.1 ≡ store)) }
 {
-    let core = Core::over(alloc, arena, job, workers)?;
-    Shared::over(alloc, core, true)
+    match Core::over(alloc, arena, job, workers) {
+        Ok(core) => Shared::over(alloc, core, store, true),
+        Err(arena) => Err((arena, store)),
+    }
 }
 
 /// The handle of a thread that runs for a share.
@@ -219,10 +226,10 @@ type Thread = JoinHandle<Result<Share, WrittenFault>>;
 
 /// Runs a thread for each share, and waits for all of them. Returns all their shares, or a fault that stands
 /// written: that of a thread, Spawn where the system refuses a thread, and Memory where memory ran out.
-fn run_threads<B: BlockName + Send + Sync, R: Threads + Wait + Sync, G: Gate + Sync>(
+fn run_threads<J: JobName + Send + Sync, R: Threads + Wait + Sync, G: Gate + Sync>(
     rt: &R,
     alloc: Global,
-    shared: &Shared<B>,
+    shared: &Shared<J>,
     shares: Vec<Share>,
     gate: &G,
 ) -> Result<Vec<Share>, WrittenFault>
@@ -247,11 +254,11 @@ fn run_threads<B: BlockName + Send + Sync, R: Threads + Wait + Sync, G: Gate + S
 
 /// Starts a thread for each share. Where the system refuses one, Spawn stands written in its place. Refused as
 /// Memory where memory ran out before the first.
-fn start_threads<'s, E, B: BlockName + Send + Sync, R: Threads + Wait + Sync, G: Gate + Sync>(
+fn start_threads<'s, E, J: JobName + Send + Sync, R: Threads + Wait + Sync, G: Gate + Sync>(
     scope: &Scope<'s, E>,
     rt: &'s R,
     alloc: Global,
-    shared: &'s Shared<B>,
+    shared: &'s Shared<J>,
     shares: Vec<Share>,
     gate: &'s G,
 ) -> Result<Vec<Result<Thread, WrittenFault>>, WrittenFault>

@@ -13,7 +13,7 @@ mod shared;
 mod worker;
 
 pub use answer::settle;
-pub use book::{BlockName, Book, Share, WrittenFault};
+pub use book::{Book, JobName, Share, WrittenFault};
 pub use chain::{Chain, ChainFault};
 pub use done_cell::{DoneCell, DonePass, LOOK_LIMIT, OneWay};
 pub use executor::Executor;

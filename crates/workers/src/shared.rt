@@ -4,11 +4,11 @@ ghost use Rattle.std.specs.Prelude.{◌≡◌, true, All, IfOk, map};
 ghost use Rattle.workers.specs.Book.{zero_counts_of_all, counts_of_share};
 ghost use Rattle.workers.specs.DoneCell.{IsPassOf};
 
-use crate::book::{BlockName, Book, Share, WrittenFault};
+use crate::book::{Book, JobName, Share, WrittenFault};
 use crate::done_cell::DoneCell;
 use crate::fault::OutsideFault;
 use crate::gate::pause;
-use rv_ledger::Block;
+use rv_ledger::{Block, Store};
 use std::alloc::{AllocError, Global};
 use std::marker::Brand;
 use std::sync::{Mutex, MutexGuard, Wait};
@@ -18,15 +18,17 @@ use version_arena::Arena;
 /// How often a thread tries the lock before it waits for it.
 const TRIES: u32 = 200;
 
-/// What the threads of a block share: the lock with the book, the calls, which they run outside the lock, and
-/// the cell, which they look at outside the lock. Where `known` is true the calls are those that `B` names.
+/// What the threads of a block share: the lock with the book, the calls, which they run outside the lock, the
+/// storage before them, which they search outside the lock, and the cell, which they look at outside the lock.
+/// Where `known` is true calls and storage are those that `J` names.
 #[derive(Drop)]
-pub struct Shared<B: BlockName = Brand> {
-    pub(crate) lock: Mutex<Book<B>>,
+pub struct Shared<J: JobName = Brand> {
+    pub(crate) lock: Mutex<Book<J>>,
     pub(crate) block: Block,
+    pub(crate) store: Store,
     pub(crate) cell: DoneCell,
     pub(crate) known: bool,
-    ghost is: { known ≡ true → block ≡ B.block },
+    ghost is: { known ≡ true → (block ≡ J.block) × (store ≡ J.store) },
 }
 
 impl Shared {
@@ -42,34 +44,41 @@ impl Shared {
         ensures passes { IfOk result (λ made. All (λ share. IsPassOf made.0.cell share.pass) made.1.items) }
         ensures back { IfErr result (λ arena. arena.records ≡ []) }
     {
-        Shared::over(alloc, core, false)
+        let Ok(store) = core.job().store.copy() else {
+            return Err(core.into_arena());
+        };
+        match Shared::over(alloc, core, store, false) {
+            Ok(made) => Ok(made),
+            Err((arena, _)) => Err(arena),
+        }
     }
 }
 
-impl<B: BlockName> Shared<B> {
+impl<J: JobName> Shared<J> {
     ghost use Rattle.std.specs.Prelude.{◌≡◌, [], length, map, All, IfErr, IfOk};
-    ghost use Rattle.workers.specs.Book.{HasKnownCalls, zero_counts_of_all, counts_of_share};
+    ghost use Rattle.workers.specs.Book.{HasKnownJob, zero_counts_of_all, counts_of_share};
     ghost use Rattle.workers.specs.DoneCell.{IsPassOf};
 
-    /// The lock over a core at its start, with a cell that shows running. Beside it one share per worker, in
-    /// their order, each with counts of zero and a pass of the cell. Where memory ran out the core's arena is
-    /// handed back, without records. `known` says that the core has the calls
-    /// that `B` names.
+    /// The same with a storage that the threads search. Where memory ran out it is handed back with the arena.
+    /// `known` says that the core has the job that `J` names, and that the storage is that job's.
     pub(crate) fn over(
         alloc: Global,
         core: Core,
+        store: Store,
         known: bool,
-    ) -> Result<(Shared<B>, Vec<Share>), Arena>
-        requires { HasKnownCalls B.block known core }
+    ) -> Result<(Shared<J>, Vec<Share>), (Arena, Store)>
+        requires core { HasKnownJob J.block J.store known core }
+        requires store { known ≡ true → store ≡ J.store }
+        ensures known { IfOk result (λ made. made.0.known ≡ known) }
         ensures shares { IfOk result (λ made. map counts_of_share made.1.items ≡ zero_counts_of_all (length core.state.tasks)) }
         ensures passes { IfOk result (λ made. All (λ share. IsPassOf made.0.cell share.pass) made.1.items) }
-        ensures back { IfErr result (λ arena. arena.records ≡ []) }
+        ensures back { IfErr result (λ left. (left.0.records ≡ []) × (left.1 ≡ store)) }
     {
         let Ok(block) = core.job().block.copy() else {
-            return Err(core.into_arena());
+            return Err((core.into_arena(), store));
         };
         let Ok(cell) = DoneCell::new(alloc) else {
-            return Err(core.into_arena());
+            return Err((core.into_arena(), store));
         };
         match new_shares(alloc, core.workers(), &cell) {
             Ok(shares) => {
@@ -77,30 +86,34 @@ impl<B: BlockName> Shared<B> {
                 let shared = Shared {
                     lock,
                     block,
+                    store,
                     cell,
                     known,
                 };
                 Ok((shared, shares))
             }
-            Err(_) => Err(core.into_arena()),
+            Err(_) => Err((core.into_arena(), store)),
         }
     }
 
     /// The book that was under the lock, once no thread has the lock any more.
     pub fn into_book(self) -> Book {
-        self.into_named_book().without_name()
+        let (book, _) = self.into_parts();
+        book.without_name()
     }
 
-    /// The same, with the name of its calls.
-    pub(crate) fn into_named_book(self) -> Book<B> {
-        let Shared { lock, .. } = self;
-        lock.into_inner()
+    /// The same, with the name of its job; and the storage before the block.
+    pub(crate) fn into_parts(self) -> (Book<J>, Store)
+        ensures { self.known ≡ true → result.1 ≡ J.store }
+    {
+        let Shared { lock, store, .. } = self;
+        (lock.into_inner(), store)
     }
 
     /// Takes the lock. It is tried for a while before the thread waits for it, since a thread that waits
     /// sleeps, and waking it takes longer than a step under the lock. Between two tries the thread spins,
     /// since each try takes the lock's cache line away from the thread that has the lock.
-    pub(crate) fn hold<R: Wait>(&self, rt: &R) -> MutexGuard<'_, Book<B>> {
+    pub(crate) fn hold<R: Wait>(&self, rt: &R) -> MutexGuard<'_, Book<J>> {
         for _ in 0..TRIES {
             if let Some(guard) = self.lock.try_lock() {
                 return guard;

@@ -6,7 +6,7 @@ ghost use Rattle.rv_step.specs.Run.{IsEnded};
 ghost use Rattle.rv_step.specs.declared.stage.Stage.TheVariants.{Asked};
 ghost use Rattle.workers.specs.DoneCell.{IsPassOf};
 
-use crate::book::{BlockName, Book, Share, WrittenFault};
+use crate::book::{Book, JobName, Share, WrittenFault};
 use crate::fault::OutsideFault;
 use crate::gate::{Gate, ProcessorHint};
 use crate::shared::Shared;
@@ -20,10 +20,10 @@ use stm_core::{NextStep, ReadResult};
 /// hands the share back; the cell shows done then. Refused as the step call that was refused, as Memory where
 /// memory ran out, and as Foreign where the block has no such call. The fault is written, and the steps that
 /// were made stand.
-pub fn work<B: BlockName, R: Wait, G: Gate>(
+pub fn work<J: JobName, R: Wait, G: Gate>(
     rt: &R,
     alloc: Global,
-    shared: &Shared<B>,
+    shared: &Shared<J>,
     share: Share,
     gate: &G,
 ) -> Result<Share, WrittenFault>
@@ -38,10 +38,10 @@ pub fn work<B: BlockName, R: Wait, G: Gate>(
 }
 
 /// Makes the steps of a share's worker until an ask is answered Done. Refused as `work` is.
-fn make_steps<B: BlockName, R: Wait, G: Gate>(
+fn make_steps<J: JobName, R: Wait, G: Gate>(
     rt: &R,
     alloc: Global,
-    shared: &Shared<B>,
+    shared: &Shared<J>,
     share: &mut Share,
     gate: &G,
 ) -> Result<(), WrittenFault>
@@ -62,10 +62,10 @@ fn make_steps<B: BlockName, R: Wait, G: Gate>(
 
 /// Makes a step that the worker owes, and returns the step that it owes then. Returns None where an ask is
 /// answered Done, and then the cell shows it.
-fn make_step<B: BlockName, R: Wait, G: Gate>(
+fn make_step<J: JobName, R: Wait, G: Gate>(
     rt: &R,
     alloc: Global,
-    shared: &Shared<B>,
+    shared: &Shared<J>,
     share: &mut Share,
     step: NextStep,
     gate: &G,
@@ -91,8 +91,8 @@ fn make_step<B: BlockName, R: Wait, G: Gate>(
 
 /// Makes a step of a worker's task under the lock, and returns the step that the worker owes then. Refused as the
 /// step call is, and as Foreign for `ask` and the steps of a run, which are not made here.
-fn make_task_step<B: BlockName>(
-    book: &mut Book<B>,
+fn make_task_step<J: JobName>(
+    book: &mut Book<J>,
     share: &mut Share,
     step: NextStep,
 ) -> Result<NextStep, WrittenFault>
@@ -118,9 +118,9 @@ fn make_task_step<B: BlockName>(
 
 /// Asks for work, and returns the step that the worker owes then. Returns None where all is done, and then
 /// the cell shows it. A worker that gets no task looks at the cell before it asks again.
-fn ask<B: BlockName, R: Wait>(
+fn ask<J: JobName, R: Wait>(
     rt: &R,
-    shared: &Shared<B>,
+    shared: &Shared<J>,
     share: &mut Share,
 ) -> Result<Option<NextStep>, WrittenFault>
     requires cell { IsPassOf shared.now.cell share.old.pass }
@@ -140,10 +140,10 @@ fn ask<B: BlockName, R: Wait>(
 
 /// Runs a call outside the lock up to a read that meets an estimate, or up to its end; then it passes the gate, and
 /// hands the run in. Returns the step that the worker owes then. A run is large, so it stays here until it is finished.
-fn run_call<B: BlockName, R: Wait, G: Gate>(
+fn run_call<J: JobName, R: Wait, G: Gate>(
     rt: &R,
     alloc: Global,
-    shared: &Shared<B>,
+    shared: &Shared<J>,
     share: &mut Share,
     call: u16,
     incarnation: u16,
@@ -164,15 +164,18 @@ fn run_call<B: BlockName, R: Wait, G: Gate>(
     }
     gate.held(share.worker());
     let ended = run.finish();
-    shared
+    let recorded = shared
         .hold(rt)
-        .record_known(alloc, share, call, incarnation, ended, shared.known)
+        .record_known(alloc, share, call, incarnation, ended, shared.known);
+    // What is left over is dropped here, after the lock.
+    let (next, _left) = recorded?;
+    Ok(next)
 }
 
 /// Takes a call's run on to its end. Returns false where it meets an estimate before that.
-fn run_to_end<B: BlockName, R: Wait>(
+fn run_to_end<J: JobName, R: Wait>(
     rt: &R,
-    shared: &Shared<B>,
+    shared: &Shared<J>,
     share: &mut Share,
     call: u16,
     incarnation: u16,
@@ -198,10 +201,11 @@ fn run_to_end<B: BlockName, R: Wait>(
     unreachable!()
 }
 
-/// Reads the key that a call's run asks for, and answers the run. Returns false where the read meets an estimate.
-fn read<B: BlockName, R: Wait>(
+/// Reads the key that a call's run asks for, and answers the run. Returns false where the read meets an estimate. The
+/// storage before the block is searched before the lock is taken.
+fn read<J: JobName, R: Wait>(
     rt: &R,
-    shared: &Shared<B>,
+    shared: &Shared<J>,
     share: &mut Share,
     call: u16,
     incarnation: u16,
@@ -214,7 +218,10 @@ fn read<B: BlockName, R: Wait>(
     ensures pass { share.new.pass ≡ share.old.pass }
     ensures dones { OnOk result (share.new.dones ≡ share.old.dones) }
 {
-    let answer = shared.hold(rt).read(share, call, incarnation, key);
+    let base = shared.store.get(key);
+    let answer = shared
+        .hold(rt)
+        .read_known(share, call, incarnation, key, base, shared.known);
     match answer {
         Ok(ReadResult::Given(value, origin)) => match run.answer(value.as_ref(), origin) {
             Ok(()) => Ok(true),

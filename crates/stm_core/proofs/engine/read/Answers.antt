@@ -1,5 +1,4 @@
-use Rattle.std.proofs.Common.{◌≡◌, rules, sym, subst}
-use Rattle.std.specs.Option.{option_copied}
+use Rattle.std.proofs.Common.{rules, sym, subst}
 use Rattle.stm_state.specs.State.{State, task_at}
 use Rattle.stm_core.specs.CoreState.{block_in}
 use Rattle.stm_core.specs.Driving.{IsRunOf}

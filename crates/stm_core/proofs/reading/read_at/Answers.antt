@@ -12,28 +12,28 @@ use Rattle.stm_core.proofs.Answered.{blocked_task, given_task}
 use Rattle.stm_core.proofs.reading.read_at.Goals as goal
 
 pub returns-in-Base-clause-state : goal.returns-in-Base-clause-state
-returns-in-Base-clause-state c = λ answers runs v p.
+returns-in-Base-clause-state c = λ store is answers runs v p.
     let seen = reading c.args.map.now.versions c.args.key.now c.args.call in
     let tells = c.in-Base.ensures.tells in
     let from : Origin = record { passed = c.read.new.passed.items; bottom = None } in
-    let value_is : value_seen (map.get c.args.store.now c.args.key.now) seen ≡ c.with_amount-value.result =
-    tells.2 (map.get c.args.store.now c.args.key.now) ∙ ap (λ x. with_amount x c.in-Base.sum) (sym (c.bytes_of.ensures.value ∙ c.get.ensures)) ∙ sym c.with_amount-value.ensures in
+    let value_is : value_seen (map.get store c.args.key.now) seen ≡ c.with_amount-value.result =
+    tells.2 (map.get store c.args.key.now) ∙ ap (λ x. with_amount x c.in-Base.sum) (sym (c.bytes_of.ensures.value ∙ is)) ∙ sym c.with_amount-value.ensures in
     c.give.ensures.state v p
     ∙ ap (λ (t : Task). counted one_step c.args.worker (with_task c.args.worker (with_answer (record { key = c.args.key.now; value = c.with_amount-value.result; origin = from }) t) (state_of v p c.args.scheduler.now))) runs
-    ∙ ap (λ (t : Task). counted one_step c.args.worker (with_task c.args.worker t (state_of v p c.args.scheduler.now))) (given_task c.args.store.now c.args.key.now c.args.call answers seen tells.0 c.with_amount-value.result from value_is tells.1)
+    ∙ ap (λ (t : Task). counted one_step c.args.worker (with_task c.args.worker t (state_of v p c.args.scheduler.now))) (given_task store c.args.key.now c.args.call answers seen tells.0 c.with_amount-value.result from value_is tells.1)
 
 pub returns-in-Found-clause-state : goal.returns-in-Found-clause-state
-returns-in-Found-clause-state c = λ answers runs v p.
+returns-in-Found-clause-state c = λ store is answers runs v p.
     let seen = reading c.args.map.now.versions c.args.key.now c.args.call in
     let tells = c.in-Found.ensures.tells in
     let from : Origin = record { passed = c.read.new.passed.items; bottom = Some c.in-Found.version } in
     c.give-in-Found.ensures.state v p
     ∙ ap (λ (t : Task). counted one_step c.args.worker (with_task c.args.worker (with_answer (record { key = c.args.key.now; value = c.in-Found.value; origin = from }) t) (state_of v p c.args.scheduler.now))) runs
-    ∙ ap (λ (t : Task). counted one_step c.args.worker (with_task c.args.worker t (state_of v p c.args.scheduler.now))) (given_task c.args.store.now c.args.key.now c.args.call answers seen tells.0 c.in-Found.value from (tells.2 (map.get c.args.store.now c.args.key.now)) tells.1)
+    ∙ ap (λ (t : Task). counted one_step c.args.worker (with_task c.args.worker t (state_of v p c.args.scheduler.now))) (given_task store c.args.key.now c.args.call answers seen tells.0 c.in-Found.value from (tells.2 (map.get store c.args.key.now)) tells.1)
 
 pub returns-in-Estimate-clause-state : goal.returns-in-Estimate-clause-state
-returns-in-Estimate-clause-state c = λ answers runs v p.
+returns-in-Estimate-clause-state c = λ store is answers runs v p.
     c.block.ensures.state v p
     ∙ ap (λ (t : Task). counted one_step c.args.worker (with_task c.args.worker (blocked_on c.in-Estimate.writer t) (state_of v p c.args.scheduler.now))) runs
     ∙ ap (λ (t : Task). counted one_step c.args.worker (with_task c.args.worker t (state_of v p c.args.scheduler.now)))
-    (blocked_task c.args.store.now c.args.key.now c.args.call answers (reading c.args.map.now.versions c.args.key.now c.args.call) c.in-Estimate.writer c.in-Estimate.ensures.tells)
+    (blocked_task store c.args.key.now c.args.call answers (reading c.args.map.now.versions c.args.key.now c.args.call) c.in-Estimate.writer c.in-Estimate.ensures.tells)

@@ -16,7 +16,7 @@ invariant_of-self c =
     let runs = reads_running (get_or c.self.inside.scheduler.tasks c.args.worker Idle) c.args.key.now c.in-Running.call c.in-Running.blocked due.due_step c.in-Running.ensures in
     goes_on_quietly c.self.inside.job c.self.inside.map c.self.inside.promised c.self.inside.scheduler c.self.invariant c.args.self.now c.self.view_is c.args.worker (Read_key c.args.key.now) c.requires.due c.self.inside.map c.read_at.new.scheduler tt
     (read_made (block_of c.self.inside.job.block c.self.inside.job.store) c.args.worker (state_in c.self.inside.map c.self.inside.promised c.self.inside.scheduler) c.args.key.now c.in-Running.call runs.0 runs.1
-    ∙ ap (λ s. Some (Ok s)) (sym (c.read_at.ensures.state runs.0 runs.1 c.self.inside.map.versions (length c.self.inside.map.arena.records + c.self.inside.promised))))
+    ∙ ap (λ s. Some (Ok s)) (sym (c.read_at.ensures.state c.self.inside.job.store c.get.ensures runs.0 runs.1 c.self.inside.map.versions (length c.self.inside.map.arena.records + c.self.inside.promised))))
     c.self.invariant.places refl refl
 
 pub returns-clause-makes : goal.returns-clause-makes
@@ -25,5 +25,5 @@ returns-clause-makes c =
     let runs = reads_running (get_or c.self.inside.scheduler.tasks c.args.worker Idle) c.args.key.now c.in-Running.call c.in-Running.blocked due.due_step c.in-Running.ensures in
     makes_read c.self.inside.job c.self.inside.map c.self.inside.promised c.self.inside.scheduler c.self.invariant c.args.self.now c.self.view_is c.args.worker (Read_key c.args.key.now) c.requires.due c.self.inside.map c.self.inside.promised c.read_at.new.scheduler
     (read_made (block_of c.self.inside.job.block c.self.inside.job.store) c.args.worker (state_in c.self.inside.map c.self.inside.promised c.self.inside.scheduler) c.args.key.now c.in-Running.call runs.0 runs.1
-    ∙ ap (λ s. Some (Ok s)) (sym (c.read_at.ensures.state runs.0 runs.1 c.self.inside.map.versions (length c.self.inside.map.arena.records + c.self.inside.promised))))
+    ∙ ap (λ s. Some (Ok s)) (sym (c.read_at.ensures.state c.self.inside.job.store c.get.ensures runs.0 runs.1 c.self.inside.map.versions (length c.self.inside.map.arena.records + c.self.inside.promised))))
     (room_of c.read_at.new.lists) refl c.read_at.ensures.rooms

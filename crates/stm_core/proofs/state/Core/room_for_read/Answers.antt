@@ -1,9 +1,8 @@
-use Rattle.std.proofs.Common.{◌≡◌, ◌+◌, ◌∙◌, Result, Ok, Err, OnOk, length, get_or, ap, sym, subst}
+use Rattle.std.proofs.Common.{◌+◌, ◌∙◌, Result, Ok, Err, OnOk, length, ap, sym, subst}
 use Rattle.stm_state.specs.declared.state.Task.{Task}
-use Rattle.stm_state.specs.declared.state.Task.TheVariants.{Idle}
 use Rattle.stm_state.specs.State.{State, task_at}
 use Rattle.stm_core.specs.CoreState.{CoreState, IsRoomFor}
-use Rattle.stm_core.specs.Inner.{room_of, state_in}
+use Rattle.stm_core.specs.Inner.{room_of}
 use Rattle.stm_core.proofs.Made.{same_reached}
 use Rattle.stm_core.proofs.state.Core.room_for_read.Goals as goal
 

@@ -6,7 +6,7 @@ use Rattle.stm_core.specs.CoreState.{CoreState, IsOwn, IsTaken}
 use Rattle.stm_core.specs.declared.next_step.NextStep.TheVariants as next_step
 use Rattle.workers.specs.declared.fault.RunFault.{RunFault}
 use Rattle.workers.specs.Book.{BookState, IsCauseAfter, MayCount, MayWrite, Owes, run_fault, first_fault}
-use Rattle.workers.proofs.Causes.{IsHandedIn, handed_in, refusal_cause, refusal_may_write}
+use Rattle.workers.proofs.Causes.{IsHandedIn, handed_in, refusal_cause, refusal_may_write, taken_own}
 use Rattle.workers.proofs.book.Book.record_known.Goals as goal
 use Rattle.workers.proofs.book.Book.record_known.Goals.{then-known+then-self, else-known}
 
@@ -53,3 +53,16 @@ returns-in-Err-clause-cause g c =
     let written : c.write.result ≡ run_fault c.in-Err.refused.fault = c.write.ensures.first ∙ ap (λ f. first_fault f c.run_fault.result) fault ∙ c.run_fault.ensures in
     subst (λ first. IsCauseAfter first Owed (IsOwn w run b.core) (IsTaken w Record b.core) Record w b.core c.write.result) (sym ready.1)
     (subst (λ (f : RunFault). IsCauseAfter None Owed (IsOwn w run b.core) (IsTaken w Record b.core) Record w b.core f) (sym written) cause)
+
+pub returns-in-Ok-clause-own : goal.returns-in-Ok-clause-own
+returns-in-Ok-clause-own g c =
+    let b = c.self.inside.core in
+    let w = c.args.share.now.worker in
+    let same : b ≡ c.args.self.now.core = ap (λ (x : BookState). x.core) (c.self.view_is ∙ c.in_ok-ready.ensures.ready.3) in
+    let handed : IsHandedIn w c.args.run b c.if-known.self-inside.core c.if-known.recorded = elim c.if-known.branch [
+      | then-known+then-self x ↦ (let said = x.record_known-recorded.ensures in handed_in w c.args.run b x.record_known-recorded.new.self c.if-known.self-inside.core x.record_known-recorded.result c.if-known.recorded x.recorded-is (ap (λ s. s.core) x.self-inside-is)
+          (record { own = said.own; full = said.full; limit = said.limit; memory = said.memory; back = said.back }))
+      | else-known x ↦ (let said = x.record-recorded.ensures in handed_in w c.args.run b x.record-recorded.new.self c.if-known.self-inside.core x.record-recorded.result c.if-known.recorded x.recorded-is (ap (λ s. s.core) x.self-inside-is)
+          (record { own = said.own; full = said.full; limit = said.limit; memory = said.memory; back = said.back }))
+    ] in
+    subst (IsOwn w c.args.run) same (taken_own w c.args.run b c.if-known.self-inside.core c.if-known.recorded handed c.in-Ok.left c.in-Ok.is)

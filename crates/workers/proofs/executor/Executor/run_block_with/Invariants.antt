@@ -1,5 +1,5 @@
--- The block is the job's.
+-- Block and storage are the job's.
 use Rattle.workers.proofs.executor.Executor.run_block_with.Given as goal
 
 abbrev pub ghosts-run_over : goal.ghosts-run_over
-ghosts-run_over g a = record { block = a.job.block }
+ghosts-run_over g a = record { block = a.job.block; store = a.job.store }
