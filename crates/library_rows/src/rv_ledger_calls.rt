@@ -208,7 +208,7 @@ fn are_full(rt: &impl Abort, writes: &Writes) {
 
 // Writes to 256 keys have room for another once they are cleared.
 fn clears(rt: &impl Abort, writes: &mut Writes) {
-    assert!(rt; writes.iter().count() == 256);
+    assert!(rt; writes.as_slice().len() == 256);
     writes.clear();
     assert!(rt; writes.has_room(&key(9, 1)));
 }

@@ -1,8 +1,10 @@
 -- A map of entries as a finite map: its values, one entry set, one gone, and its entries in order.
-use Rattle.std.proofs.Common.{◌≡◌, ◌+◌, ◌≤◌, arith, length, nat_lt, is_some, if◌then◌else◌, ◌||◌, ℕ, List, [], ◌∷◌, Option, Some, None, Bool, true, false, ◌&&◌, cond, refl, sym, ap, subst, ◌∙◌, T}
+use Rattle.std.proofs.Common.{◌≡◌, ◌+◌, ◌<◌, ◌≤◌, arith, length, nat_lt, is_some, if◌then◌else◌, ◌||◌, ℕ, List, [], ◌∷◌, Option, Some, None, Bool, true, false, ◌&&◌, cond, refl, sym, ap, subst, ◌∙◌, T}
 use Rattle.std.specs.declared.cmp.Ordering.TheVariants.{Less}
 use Rattle.std.specs.List.{AllByRecursion, fold}
 use Rattle.std.specs.List.Sorted.{IsStrictlySortedBy}
+use Rattle.std.specs.Borrow.{Bor}
+use Rattle.std.specs.Option.{option_copied}
 use Rattle.std.specs.Ordering.{eq_by_cmp, is_lt}
 use Rattle.std.specs.Cmp.{eq_by_cmp_equiv}
 use Rattle.std.specs.Cmp.Lexicographic.{nat_list_cmp_total}
@@ -12,6 +14,7 @@ use Rattle.std.specs.Map.{lookup, keys_of, update, update_all}
 use Rattle.std.proofs.lemmas.Bool.Decides.{nat_tests}
 use Rattle.std.specs.BTreeMap.{is_at}
 use Rattle.rv_ledger.specs.Change.{ContentChange}
+use Rattle.rv_ledger.specs.Entries.{AreAscending, IsWriteList}
 use Rattle.rv_ledger.specs.Key.{key_cmp, has_room, Storage, WriteMap}
 use Rattle.rv_ledger.specs.Inserted.{inserted}
 
@@ -85,17 +88,39 @@ grows_within true n h k = omega arith
 grows_within false n h k = grind (arith, nat_tests)
 
 -- a write that has room keeps the limit
-pub insert_fits : (es : List (List ℕ × ContentChange)) (q : List ℕ) (m : WriteMap) (o : Option ContentChange) (n : ℕ) → IsStrictlySortedBy key_cmp (keys_of es) → from_entries es ≡ m → has_room m q ≡ true → length es ≤ 256 → o ≡ lookup (is_at (key_cmp q)) es → n ≡ length es + (if (is_some o) then 0 else 1) → n ≤ 256
-insert_fits es q m o n h is room short found grown =
-    let old_room : (is_some (lookup (is_at (key_cmp q)) es) || nat_lt (length es) 256) ≡ true = sym (ap (λ (w : WriteMap). has_room w q) (sym is) ∙ has_room_entries es q h) ∙ room in
-    let fits : length es + (if (is_some (lookup (is_at (key_cmp q)) es)) then 0 else 1) ≤ 256 = grows_within _ _ old_room short in
-    subst (λ (k : ℕ). k ≤ 256) (sym (grown ∙ ap (λ (x : Option ContentChange). length es + (if (is_some x) then 0 else 1)) found)) fits
+pub write_fits : (es fs : List (List ℕ × ContentChange)) (key : List ℕ) (m : WriteMap) → IsWriteList es → from_entries es ≡ m → has_room m key ≡ true → AreAscending fs
+    → length fs ≡ length es + (if (is_some (lookup (is_at (key_cmp key)) es)) then 0 else 1) → IsWriteList fs
+write_fits es fs key m list is room up grown =
+    let fits : length es + (if (is_some (lookup (is_at (key_cmp key)) es)) then 0 else 1) ≤ 256 =
+    grows_within _ _ (sym (ap (λ (w : WriteMap). has_room w key) (sym is) ∙ has_room_entries es key list.ascending) ∙ room) list.few in
+    record { ascending = up; few = subst (λ (k : ℕ). k ≤ 256) (sym grown) fits }
 
--- the answer of `||` where its first part holds, and where it doesn't
-pub or_first : (a b r : Bool) → r ≡ a → r ≡ true → r ≡ (a || b)
-or_first true b r e h = e
-or_first false b r e h = cc
+-- no entries
+pub no_writes : IsWriteList []
+unfolding IsStrictlySortedBy
+no_writes = record { ascending = tt; few = omega arith }
 
-pub or_second : (a b r s : Bool) → r ≡ a → r ≡ false → s ≡ b → s ≡ (a || b)
-or_second true b r s e h k = cc
-or_second false b r s e h k = k
+or_true : (a b : Bool) → b ≡ true → b ≡ (a || b)
+or_true true b h = h
+or_true false b h = refl
+
+or_false : (a b : Bool) → b ≡ false → a ≡ (a || b)
+or_false true b h = refl
+or_false false b h = sym h
+
+-- a lent value is there where the value is
+pub copied_is_some : {X : Type 0} (o : Option (Bor X)) → is_some (option_copied o) ≡ is_some o
+copied_is_some None = refl
+copied_is_some (Some x) = refl
+
+-- there is room where few keys are written
+pub room_by_count : (es : List (List ℕ × ContentChange)) (key : List ℕ) (n : ℕ) (m : WriteMap) → AreAscending es → from_entries es ≡ m → n ≡ length es → n < 256 → nat_lt n 256 ≡ has_room m key
+room_by_count es key n m up is count few =
+    let test : nat_lt (length es) 256 ≡ true = grind (arith, nat_tests) in
+    ap (λ k. nat_lt k 256) count ∙ or_true (is_some (lookup (is_at (key_cmp key)) es)) (nat_lt (length es) 256) test ∙ sym (has_room_entries es key up) ∙ ap (λ (w : WriteMap). has_room w key) is
+
+-- and else where the key is written already
+pub room_by_key : (es : List (List ℕ × ContentChange)) (key : List ℕ) (n : ℕ) (m : WriteMap) → AreAscending es → from_entries es ≡ m → n ≡ length es → 256 ≤ n → is_some (get m key) ≡ has_room m key
+room_by_key es key n m up is count many =
+    let test : nat_lt (length es) 256 ≡ false = grind (arith, nat_tests) in
+    or_false (is_some (get m key)) (nat_lt (len m) 256) (ap (λ (w : WriteMap). nat_lt (len w) 256) (sym is) ∙ ap (λ k. nat_lt k 256) (len_in_order es up) ∙ test)

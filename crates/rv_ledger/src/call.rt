@@ -1,7 +1,10 @@
 //! A call of a contract.
 
+ghost use Rattle.std.specs.Prelude.{◌≡◌};
+
 use crate::rules::Rules;
 use elf32::Image;
+use smallvec::SmallVec;
 use std::alloc::{AllocError, Global};
 use std::marker::Model;
 use std::sync::Arc;
@@ -12,6 +15,9 @@ pub const GAS_LIMIT: u32 = 10_000_000;
 
 /// The greatest length of an input, in bytes.
 pub const INPUT_LIMIT: usize = 4096;
+
+/// The greatest length of an input that is kept in place, in bytes: two keys.
+const SHORT_INPUT: usize = 64;
 
 /// Why a call is refused.
 #[derive(Clone, Copy, Debug, PartialEq, Eq, Error)]
@@ -25,13 +31,13 @@ pub enum CallFault {
 }
 
 /// A call: the rules that it runs under, a program, a gas limit of 1 to 10,000,000 and an input of at most
-/// 4,096 bytes.
+/// 4,096 bytes. A copy of a call with a short input takes no memory.
 #[derive(Drop)]
 pub struct Call {
     rules: Rules,
     image: Arc<Image>,
     gas: u32,
-    input: Vec<u8>,
+    input: SmallVec<u8, SHORT_INPUT>,
 }
 
 impl Model for Call {
@@ -79,7 +85,7 @@ impl Call {
             rules,
             image,
             gas,
-            input,
+            input: kept(input),
         })
     }
 
@@ -117,11 +123,24 @@ impl Call {
     pub fn copy(&self) -> Result<Call, AllocError>
         ensures { IfOk result (λ c. c ≡ self.now) }
     {
+        let input = SmallVec::from_slice(*self.input.allocator(), self.input())?;
         Ok(Call {
             rules: self.rules,
             image: Arc::try_clone(&self.image)?,
             gas: self.gas,
-            input: self.input.clone()?,
+            input,
         })
     }
+}
+
+/// The bytes of an input as a call keeps them: a short one in place. Takes no memory.
+fn kept(input: Vec<u8>) -> SmallVec<u8, SHORT_INPUT>
+    ensures { result.items ≡ input.items }
+{
+    if input.len() <= SHORT_INPUT {
+        if let Ok(short) = SmallVec::from_slice(*input.allocator(), input.as_slice()) {
+            return short;
+        }
+    }
+    SmallVec::from_vec(input)
 }

@@ -1,19 +1,25 @@
 //! What a call has written: the last write to each key, for at most 256 keys.
 
-ghost use Rattle.std.specs.Prelude.{◌≡◌, IfOk};
+ghost use Rattle.std.specs.Prelude.{◌≡◌, ◌+◌, ℕ, IfErr, IfOk, List, OnErr, OnOk, Some, if◌then◌else◌, is_some, length};
+ghost use Rattle.std.specs.BTreeMap.{is_at};
+ghost use Rattle.std.specs.Map.{lookup};
+ghost use Rattle.std.specs.Option.{option_copied};
 ghost use Rattle.rv_ledger.specs.Change.{change_copied};
+ghost use Rattle.rv_ledger.specs.Entries.{AreAscending, IsAt, IsGapFor};
+ghost use Rattle.rv_ledger.specs.Key.{key_cmp};
 
 use crate::change::Change;
 use crate::inline_bytes::Value;
 use crate::key::Key;
 use crate::stored_value::StoredValue;
 use std::alloc::{AllocError, Global};
-use std::collections::BTreeMap;
-use std::collections::btree_map::Iter;
 use std::marker::Model;
 
 /// The greatest number of keys that one call may write.
 pub const WRITE_LIMIT: usize = 256;
+
+/// How many writes there is room for once there is one. Most calls write no more keys.
+const FIRST_ROOM: usize = 2;
 
 /// A write to one key: its new value, its removal, or an amount that is added.
 #[derive(Debug, Drop)]
@@ -24,28 +30,27 @@ pub struct Write {
     pub change: Change<Value>,
 }
 
-/// The writes of one call, the last to each key, for at most 256 keys.
+/// The writes of one call, the last to each key, for at most 256 keys. They stand in a list, in the order of their
+/// keys. So a call that writes a few keys takes room for these alone, where a tree's leaf has room for fifteen.
 #[derive(Drop)]
 pub struct Writes {
-    alloc: Global,
-    entries: BTreeMap<Key, Change<StoredValue>>,
+    entries: Vec<(Key, Change<StoredValue>)>,
 }
 
 impl Model for Writes {
-    ghost use Rattle.std.specs.Prelude.{◌≤◌};
     ghost use Rattle.std.specs.FinMap as map;
-    ghost use Rattle.std.specs.BTreeMap.{btree_map_len};
     ghost use Rattle.std.specs.Coded.{coded_list, coded_ℕ};
     ghost use Rattle.rv_ledger.specs.Change.{coded_change};
     ghost use Rattle.rv_ledger.specs.Key.{WriteMap};
+    ghost use Rattle.rv_ledger.specs.Entries.{IsWriteList};
 
     ghost Value = { WriteMap };
 
     ghost coded = { map.code (coded_list coded_ℕ) coded_change };
 
-    ghost view = { λ w. map.from_entries w.entries.entries };
+    ghost view = { λ w. map.from_entries w.entries.items };
 
-    ghost invariant = { λ w. btree_map_len w.entries ≤ 256 };
+    ghost invariant = { λ w. IsWriteList w.entries.items };
 }
 
 impl Writes {
@@ -60,8 +65,7 @@ impl Writes {
         ensures { result ≡ map.empty }
     {
         Writes {
-            alloc,
-            entries: BTreeMap::new(alloc),
+            entries: Vec::new(alloc),
         }
     }
 
@@ -69,7 +73,7 @@ impl Writes {
     pub fn get(&self, key: &Key) -> Option<&Change<StoredValue>>
         ensures { option_copied result ≡ map.get self.now key.now }
     {
-        self.entries.get(key)
+        get(self.entries.as_slice(), key)
     }
 
     /// The number of written keys, at most 256.
@@ -83,8 +87,7 @@ impl Writes {
     pub fn has_room(&self, key: &Key) -> bool
         ensures { result ≡ has_room self.now key.now }
     {
-        let len = self.entries.len();
-        self.entries.contains_key(key) || len < WRITE_LIMIT
+        self.entries.len() < WRITE_LIMIT || self.get(key).is_some()
     }
 
     /// Records a write, in place of an earlier one to the same key. `has_room` must allow the key.
@@ -103,8 +106,8 @@ impl Writes {
         ensures ok { OnOk result (self.new ≡ map.insert self.old key (change_copied change.entry)) }
         ensures err { OnErr result (self.new ≡ self.old) }
     {
-        let change = stored(self.alloc, change)?;
-        self.entries.insert(key, change)?;
+        let change = stored(*self.entries.allocator(), change)?;
+        put(&mut self.entries, key, change)?;
         Ok(())
     }
 
@@ -116,10 +119,10 @@ impl Writes {
     }
 
     /// The written keys, ascending, each with what was last done to it.
-    pub fn iter(&self) -> Iter<'_, Key, Change<StoredValue>>
-        ensures { result ≡ map.entries self.now }
+    pub fn as_slice(&self) -> &[(Key, Change<StoredValue>)]
+        ensures { result.now ≡ map.entries self.now }
     {
-        self.entries.iter()
+        self.entries.as_slice()
     }
 
     /// Equal writes; refused where memory ran out.
@@ -127,11 +130,63 @@ impl Writes {
         ensures { IfOk result (λ w. w ≡ self.now) }
     {
         let entries = self.entries.clone()?;
-        Ok(Writes {
-            alloc: self.alloc,
-            entries,
-        })
+        Ok(Writes { entries })
     }
+}
+
+/// Where the entry of a key is among entries in the order of their keys, or where it would go.
+fn search(entries: &[(Key, Change<StoredValue>)], key: &Key) -> Result<usize, usize>
+    requires { AreAscending entries.now }
+    ensures found { IfOk result (IsAt entries.now key.now) }
+    ensures absent { IfErr result (IsGapFor entries.now key.now) }
+{
+    entries.binary_search_by(|entry| entry.0.cmp(key))
+}
+
+/// The change of a key among entries in the order of their keys, or None where it has none.
+fn get<'a>(entries: &'a [(Key, Change<StoredValue>)], key: &Key) -> Option<&'a Change<StoredValue>>
+    requires { AreAscending entries.now }
+    ensures { option_copied result ≡ lookup (is_at (key_cmp key.now)) entries.now }
+{
+    match search(entries, key) {
+        Ok(at) => Some(&entries[at].1),
+        Err(_) => None,
+    }
+}
+
+/// Puts the change of a key among entries in the order of their keys, in place of an earlier one. Refused where memory
+/// ran out, and then nothing changes.
+fn put(
+    entries: &mut Vec<(Key, Change<StoredValue>)>,
+    key: Key,
+    change: Change<StoredValue>,
+) -> Result<(), AllocError>
+    requires { AreAscending entries.old.items }
+    ensures ascending { AreAscending entries.new.items }
+    ensures ok { OnOk result ((q : List ℕ) → lookup (is_at (key_cmp q)) entries.new.items ≡ (if is_at (key_cmp key) q then Some change else lookup (is_at (key_cmp q)) entries.old.items)) }
+    ensures len { OnOk result (length entries.new.items ≡ length entries.old.items + (if is_some (lookup (is_at (key_cmp key)) entries.old.items) then 0 else 1)) }
+    ensures err { OnErr result (entries.new.items ≡ entries.old.items) }
+{
+    match search(entries.as_slice(), &key) {
+        Ok(at) => {
+            entries[at] = (key, change);
+            Ok(())
+        }
+        Err(at) => {
+            reserve_first(entries)?;
+            Ok(entries.insert(at, (key, change))?)
+        }
+    }
+}
+
+/// Makes room for the first entries; refused where memory ran out.
+fn reserve_first(entries: &mut Vec<(Key, Change<StoredValue>)>) -> Result<(), AllocError>
+    ensures { entries.new.items ≡ entries.old.items }
+{
+    if entries.is_empty() {
+        entries.reserve_exact(FIRST_ROOM)?;
+    }
+    Ok(())
 }
 
 /// Keeps the value of a change; refused where memory ran out.

@@ -14,7 +14,7 @@ pub fn apply_writes(store: &mut Store, writes: &Writes) -> Result<(), AllocError
     ensures ok { OnOk result (store.new ≡ apply_writes store.old writes.now) }
     ensures err { OnErr result (ArePartlyApplied store.old writes.now store.new) }
 {
-    for (key, change) in writes.iter() {
+    for (key, change) in writes.as_slice() {
         match change {
             Change::Value(value) => store.insert_copy(*key, value)?,
             Change::Gone => store.remove(key),

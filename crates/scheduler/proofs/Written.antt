@@ -8,7 +8,7 @@ use Rattle.stm_state.specs.declared.state.CallState.{CallState}
 use Rattle.stm_state.specs.declared.state.Recorded.{Recorded}
 use Rattle.stm_state.specs.declared.state.Status.TheVariants.{Executed}
 use Rattle.stm_state.specs.declared.state.Task.{Task}
-use Rattle.stm_state.specs.declared.state.Task.TheVariants.{Idle, Running, Moving, Marking}
+use Rattle.stm_state.specs.declared.state.Task.TheVariants.{Running, Moving, Marking}
 use Rattle.stm_state.specs.State.{fresh}
 use Rattle.stm_state.specs.Steps.{keys_of, next_incarnation, resume_if_parked, is_parked_on, written_by}
 use Rattle.scheduler.specs.declared.worker.TaskKind.{TaskKind}

@@ -169,7 +169,7 @@ pub(crate) fn write_count(last: &Option<Recorded>) -> usize
 pub(crate) fn has_new_key(last: &Option<Recorded>, writes: &Writes) -> bool
     ensures { result ≡ has_new_key last.now writes.now }
 {
-    for (key, _) in writes.iter() {
+    for (key, _) in writes.as_slice() {
         if !wrote(last, key) {
             return true;
         }

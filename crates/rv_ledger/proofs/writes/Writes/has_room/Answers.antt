@@ -1,14 +1,12 @@
-use Rattle.std.proofs.Common.{sym, ap, ◌∙◌, nat_lt}
-use Rattle.rv_ledger.specs.Key.{has_room}
-use Rattle.rv_ledger.proofs.Entries.{has_room_entries, or_first, or_second}
+use Rattle.std.proofs.Common.{sym, ap, ◌∙◌}
+use Rattle.std.specs.Option.{is_some}
+use Rattle.rv_ledger.proofs.Entries.{copied_is_some, room_by_count, room_by_key}
 use Rattle.rv_ledger.proofs.writes.Writes.has_room.Goals as goal
 
-pub returns-then-contains_key : goal.returns-then-contains_key
-returns-then-contains_key c =
-    or_first _ _ _ c.contains_key.ensures c.if-contains_key.true
-    ∙ sym (has_room_entries c.self.inside.entries.entries c.args.key.now c.len-len.ensures.ordered) ∙ ap (λ m. has_room m c.args.key.now) c.self.view_is
+pub returns-then-len-lt-WRITE_LIMIT : goal.returns-then-len-lt-WRITE_LIMIT
+returns-then-len-lt-WRITE_LIMIT c = room_by_count c.self.inside.entries.items c.args.key.now c.len.result c.args.self.now c.self.invariant.ascending c.self.view_is (c.len.ensures ∙ c.self.inside.entries.ok.0) c.if-len-lt-WRITE_LIMIT.true
 
-pub returns-else-contains_key : goal.returns-else-contains_key
-returns-else-contains_key c =
-    or_second _ _ _ _ c.contains_key.ensures c.if-contains_key.false (ap (λ n. nat_lt n 256) c.len-len.ensures.len)
-    ∙ sym (has_room_entries c.self.inside.entries.entries c.args.key.now c.len-len.ensures.ordered) ∙ ap (λ m. has_room m c.args.key.now) c.self.view_is
+pub returns-else-len-lt-WRITE_LIMIT : goal.returns-else-len-lt-WRITE_LIMIT
+returns-else-len-lt-WRITE_LIMIT c =
+    c.is_some.ensures ∙ sym (copied_is_some c.get.result) ∙ ap is_some c.get.ensures
+    ∙ room_by_key c.self.inside.entries.items c.args.key.now c.len.result c.args.self.now c.self.invariant.ascending c.self.view_is (c.len.ensures ∙ c.self.inside.entries.ok.0) c.if-len-lt-WRITE_LIMIT.false
