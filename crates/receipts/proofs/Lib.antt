@@ -1,3 +1,4 @@
+pub mod Buffers
 pub mod Taken
 pub mod Cuts
 pub mod Fields

@@ -6,7 +6,7 @@ use Rattle.std.specs.Io.KnownBytes.{Appends, Keeps, WriteAppends}
 use Rattle.std.proofs.KnownBytes.{Appends-trans, Appends-kept}
 use Rattle.std.proofs.Math.Seq.{take-append_seam}
 use Rattle.std.proofs.lemmas.Bool.Decides.{nat_tests}
-use Rattle.receipts.specs.Written.{taken_by, AppendsPart}
+use Rattle.receipts.specs.Written.{taken_by, AppendsPart, IsWrittenBefore}
 
 above_zero : (n : ℕ) → (suc n == 0) ≡ false
 above_zero n = grind (arith, nat_tests)
@@ -28,12 +28,8 @@ none_taken (Ok zero) a b bs writes = nothing_appended a b writes
 none_taken (Ok (suc n)) a b bs writes = rw above_zero tt
 none_taken (Err e) a b bs writes = writes
 
--- some first bytes are written, and the rest follows them
-abbrev pub WrittenBefore : Option (List ℕ) → Option (List ℕ) → List ℕ → List ℕ → Type 0
-WrittenBefore old new rest bytes = (done : List ℕ) × (done ++ rest ≡ bytes) × Appends old new done
-
--- and then n more
-pub written_more : (a b c : Option (List ℕ)) (rest bytes : List ℕ) (n : ℕ) → WrittenBefore a b rest bytes → Appends b c (take n rest) → WrittenBefore a c (drop n rest) bytes
+-- some first bytes are written, and then n more
+pub written_more : (a b c : Option (List ℕ)) (rest bytes : List ℕ) (n : ℕ) → IsWrittenBefore a b rest bytes → Appends b c (take n rest) → IsWrittenBefore a c (drop n rest) bytes
 written_more a b c rest bytes n before writes = (
   before.0 ++ take n rest,
   append_assoc before.0 _ _ ∙ ap (λ l. before.0 ++ l) (take-append-drop n rest) ∙ before.1,
@@ -41,7 +37,7 @@ written_more a b c rest bytes n before writes = (
 )
 
 -- and then no more, while something is left
-pub written_part : (a b c : Option (List ℕ)) (rest bytes : List ℕ) → 0 < length rest → WrittenBefore a b rest bytes → Keeps b c → AppendsPart a c bytes
+pub written_part : (a b c : Option (List ℕ)) (rest bytes : List ℕ) → 0 < length rest → IsWrittenBefore a b rest bytes → Keeps b c → AppendsPart a c bytes
 written_part a b c rest bytes left before keeps =
     let whole = ap length before.1 in
     let front : take (length before.0) bytes ≡ before.0 =

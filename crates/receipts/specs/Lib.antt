@@ -1,4 +1,5 @@
 pub mod Text
 pub mod Written
+pub mod Buffer
 pub mod Ranges
 pub mod Faults

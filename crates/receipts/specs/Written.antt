@@ -1,5 +1,5 @@
 -- Writing bytes to a writer.
-use Rattle.std.specs.Prelude.{ℕ, List, ◌<◌, Option, Result, Ok, Err, take, length, ◌==◌, if◌then◌else◌}
+use Rattle.std.specs.Prelude.{◌≡◌, ℕ, List, ◌<◌, ◌++◌, Option, Result, Ok, Err, take, length, ◌==◌, if◌then◌else◌}
 use Rattle.std.specs.Io.KnownBytes.{Appends}
 use Rattle.receipts.specs.declared.write.WriteFault.{WriteFault}
 use Rattle.receipts.specs.declared.write.WriteFault.TheVariants.{Io, WroteNothing}
@@ -12,3 +12,7 @@ AppendsPart old new bs = (n : ℕ) × (n < length bs) × Appends old new (take n
 abbrev pub taken_by : {E : Type 0} → Result ℕ E → Result ℕ WriteFault
 taken_by (Ok n) = if n == 0 then Err WroteNothing else Ok n
 taken_by (Err e) = Err Io
+
+-- the known bytes grew by some bytes, which the rest follows
+abbrev pub IsWrittenBefore : Option (List ℕ) → Option (List ℕ) → List ℕ → List ℕ → Type 0
+IsWrittenBefore old new rest bytes = (done : List ℕ) × (done ++ rest ≡ bytes) × Appends old new done

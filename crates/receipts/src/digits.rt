@@ -1,11 +1,13 @@
 //! Numbers and bytes in digits, at the end of a text.
 
-ghost use Rattle.std.specs.Prelude.{◌≡◌, ◌/◌, ◌%◌, ◌∷◌, ◌++◌, [], OnOk, drop, length, map, replicate, slice_index, take};
+ghost use Rattle.std.specs.Prelude.{◌≡◌, ◌/◌, ◌%◌, ◌∷◌, [], drop, length, map, replicate, slice_index, take};
 ghost use Rattle.std.specs.Fmt.{decimal};
 ghost use Rattle.hex.specs.Hex.{encode_lower, lower_digits};
+ghost use Rattle.receipts.specs.Buffer.{Appended};
 ghost use Rattle.receipts.specs.Text.{bytes_text, word_text};
 
-use std::alloc::AllocError;
+use crate::buffer::TextBuffer;
+use std::io::Write;
 use std::simd::prelude::*;
 
 /// The hex digits, by their values.
@@ -54,15 +56,15 @@ fn digits_of(bytes: u8x16) -> (u8x16, u8x16)
     high_digits(bytes).interleave(low_digits(bytes))
 }
 
-/// Appends sixteen bytes in 32 hex digits; refused where memory ran out.
+/// Appends sixteen bytes in 32 hex digits.
 #[inline(always)]
-fn push_sixteen(text: &mut Vec<u8>, bytes: &[u8]) -> Result<(), AllocError>
+fn push_sixteen<W: Write>(text: &mut TextBuffer, bytes: &[u8], out: &mut W)
     requires { length bytes.now ≡ 16 }
-    ensures { OnOk result (text.new.items ≡ text.old.items ++ encode_lower bytes.now) }
+    ensures { Appended text.old (W.contents out.old) text.new (W.contents out.new) (encode_lower bytes.now) }
 {
     let (front, back) = digits_of(u8x16::from_slice(bytes));
-    text.extend_from_slice(front.to_array().as_slice())?;
-    text.extend_from_slice(back.to_array().as_slice())
+    text.push(front.to_array().as_slice(), out);
+    text.push(back.to_array().as_slice(), out);
 }
 
 /// Four bytes in eight hex digits; what follows them has no meaning.
@@ -85,84 +87,72 @@ fn word_field(word: u32) -> [u8; 16]
     spaced.to_array()
 }
 
-/// Appends a space and a word in eight hex digits; refused where memory ran out.
-pub(crate) fn push_word_field(text: &mut Vec<u8>, word: u32) -> Result<(), AllocError>
-    ensures { OnOk result (text.new.items ≡ text.old.items ++ (32 ∷ word_text word)) }
+/// Appends a space and a word in eight hex digits.
+pub(crate) fn push_word_field<W: Write>(text: &mut TextBuffer, word: u32, out: &mut W)
+    ensures { Appended text.old (W.contents out.old) text.new (W.contents out.new) (32 ∷ word_text word) }
 {
-    text.extend_from_slice(&word_field(word)[..9])
+    text.push(&word_field(word)[..9], out);
 }
 
-/// Appends the 32 bytes of a key in 64 hex digits; refused where memory ran out.
-pub(crate) fn push_key(text: &mut Vec<u8>, bytes: &[u8; 32]) -> Result<(), AllocError>
-    ensures { OnOk result (text.new.items ≡ text.old.items ++ encode_lower bytes.now) }
+/// Appends the 32 bytes of a key in 64 hex digits.
+pub(crate) fn push_key<W: Write>(text: &mut TextBuffer, bytes: &[u8; 32], out: &mut W)
+    ensures { Appended text.old (W.contents out.old) text.new (W.contents out.new) (encode_lower bytes.now) }
 {
     let (front, back) = bytes.as_slice().split_at(16);
-    push_sixteen(text, front)?;
-    push_sixteen(text, back)
+    push_sixteen(text, front, out);
+    push_sixteen(text, back, out);
 }
 
-/// Appends bytes in hex, two digits each; refused where memory ran out.
-fn push_hex(text: &mut Vec<u8>, bytes: &[u8]) -> Result<(), AllocError>
-    ensures { OnOk result (text.new.items ≡ text.old.items ++ encode_lower bytes.now) }
+/// Appends bytes in hex, two digits each.
+fn push_hex<W: Write>(text: &mut TextBuffer, bytes: &[u8], out: &mut W)
+    ensures { Appended text.old (W.contents out.old) text.new (W.contents out.new) (encode_lower bytes.now) }
 {
     let mut rest = bytes;
     while rest.len() >= 16 {
         let (front, more) = rest.split_at(16);
-        push_sixteen(text, front)?;
+        push_sixteen(text, front, out);
         rest = more;
     }
-    push_fours(text, rest)
+    push_fours(text, rest, out);
 }
 
 /// Appends bytes in hex, as `push_hex` does, but four at a time.
-fn push_fours(text: &mut Vec<u8>, bytes: &[u8]) -> Result<(), AllocError>
-    ensures { OnOk result (text.new.items ≡ text.old.items ++ encode_lower bytes.now) }
+fn push_fours<W: Write>(text: &mut TextBuffer, bytes: &[u8], out: &mut W)
+    ensures { Appended text.old (W.contents out.old) text.new (W.contents out.new) (encode_lower bytes.now) }
 {
     let mut rest = bytes;
     while let [a, b, c, d, more @ ..] = rest {
-        push_four(text, *a, *b, *c, *d)?;
+        text.push(&four_digits(*a, *b, *c, *d).to_array()[..8], out);
         rest = more;
     }
-    push_pairs(text, rest)
-}
-
-/// Appends four bytes in hex.
-fn push_four(text: &mut Vec<u8>, a: u8, b: u8, c: u8, d: u8) -> Result<(), AllocError>
-    ensures { OnOk result (text.new.items
-        ≡ text.old.items ++ encode_lower (a ∷ b ∷ c ∷ d ∷ [])) }
-{
-    text.extend_from_slice(&four_digits(a, b, c, d).to_array()[..8])
+    push_pairs(text, rest, out);
 }
 
 /// Appends bytes in hex, as `push_hex` does, but one at a time.
-fn push_pairs(text: &mut Vec<u8>, bytes: &[u8]) -> Result<(), AllocError>
-    ensures { OnOk result (text.new.items ≡ text.old.items ++ encode_lower bytes.now) }
+fn push_pairs<W: Write>(text: &mut TextBuffer, bytes: &[u8], out: &mut W)
+    ensures { Appended text.old (W.contents out.old) text.new (W.contents out.new) (encode_lower bytes.now) }
 {
     let mut rest = bytes;
     while let [byte, more @ ..] = rest {
-        text.extend_from_slice(two_digits(*byte).as_slice())?;
+        text.push(two_digits(*byte).as_slice(), out);
         rest = more;
     }
-    Ok(())
 }
 
-/// Appends bytes in hex, or a dash where there are none; refused where memory ran out.
-pub(crate) fn push_bytes(text: &mut Vec<u8>, bytes: &[u8]) -> Result<(), AllocError>
-    ensures { OnOk result (text.new.items ≡ text.old.items ++ bytes_text bytes.now) }
+/// Appends bytes in hex, or a dash where there are none.
+pub(crate) fn push_bytes<W: Write>(text: &mut TextBuffer, bytes: &[u8], out: &mut W)
+    ensures { Appended text.old (W.contents out.old) text.new (W.contents out.new) (bytes_text bytes.now) }
 {
     if bytes.is_empty() {
-        return text.extend_from_slice(b"-");
+        text.push(b"-", out);
+    } else {
+        push_hex(text, bytes, out);
     }
-    push_hex(text, bytes)
 }
 
-/// Appends a number in decimal; refused where memory ran out.
-pub(crate) fn push_decimal(text: &mut Vec<u8>, number: usize) -> Result<(), AllocError>
-    ensures { OnOk result (text.new.items ≡ text.old.items ++ decimal number) }
+/// Appends a number in decimal.
+pub(crate) fn push_decimal<W: Write>(text: &mut TextBuffer, number: u64, out: &mut W)
+    ensures { Appended text.old (W.contents out.old) text.new (W.contents out.new) (decimal number) }
 {
-    if number < 10 {
-        return text.extend_from_slice(&[b'0' + number as u8]);
-    }
-    push_decimal(text, number / 10)?;
-    text.extend_from_slice(&[b'0' + (number % 10) as u8])
+    text.push(itoa::Buffer::new().format(number).as_bytes(), out);
 }

@@ -1,6 +1,7 @@
 //! The text of a block's result, and how it is written.
 #![tactic(auto)]
 
+mod buffer;
 mod digits;
 mod laws;
 mod lines;

@@ -41,7 +41,7 @@ fn is_write_in_range(key: &Key, change: &Change<StoredValue>)
 fn are_writes_in_range(writes: &Writes)
     ensures { All IsWriteInRange (entries writes.now) }
 {
-    for (key, change) in writes.iter() {
+    for (key, change) in writes.as_slice() {
         is_write_in_range(key, change);
     }
 }

@@ -1,17 +1,20 @@
 //! The whole text.
 
-ghost use Rattle.std.specs.Prelude.{◌≡◌, IfOk, OnOk, ◌++◌, ◌∷◌, map, codes};
+ghost use Rattle.std.specs.Prelude.{◌≡◌, IfOk, ◌++◌, ◌∷◌, map, codes};
 ghost use Rattle.std.specs.Fmt.{decimal};
 ghost use Rattle.std.specs.FinMap.{entries};
 ghost use Rattle.std.specs.List.{enumerate_from, flat_map};
 ghost use Rattle.hex.specs.Hex.{encode_lower};
+ghost use Rattle.receipts.specs.Buffer.{Appended};
 ghost use Rattle.receipts.specs.Text.{end_name, more_fields, word_text, call_line, regs_line, write_line, store_line, call_lines, result_text};
 
+use crate::buffer::TextBuffer;
 use crate::digits::{push_bytes, push_decimal, push_key, push_word_field};
 use crate::lines::end_name;
 use rv_isa::Regs;
 use rv_ledger::{Change, End, Key, Receipt, Store, StoredValue, Writes};
 use std::alloc::{AllocError, Global};
+use std::io::Write;
 
 /// The text of a result: what each call did, in block order, and the storage after the last one.
 /// Refused where memory ran out.
@@ -22,156 +25,159 @@ pub fn result_text(
 ) -> Result<Vec<u8>, AllocError>
     ensures { IfOk result (λ t. t.items ≡ result_text receipts.now store.now) }
 {
+    let mut waiting = TextBuffer::new(alloc)?;
     let mut text = Vec::new(alloc);
-    push_calls(&mut text, receipts)?;
-    push_store(&mut text, store)?;
-    text.extend_from_slice(b"end\n")?;
-    Ok(text)
+    push_result(&mut waiting, receipts, store, &mut text);
+    match waiting.finish(&mut text) {
+        Ok(()) => Ok(text),
+        Err(_) => Err(AllocError),
+    }
+}
+
+/// Appends the text of a result: what each call did, in block order, and the storage after the last one.
+pub(crate) fn push_result<W: Write>(
+    text: &mut TextBuffer,
+    receipts: &[Receipt],
+    store: &Store,
+    out: &mut W,
+)
+    ensures { Appended text.old (W.contents out.old) text.new (W.contents out.new) (result_text receipts.now store.now) }
+{
+    push_calls(text, receipts, out);
+    push_store(text, store, out);
+    text.push(b"end\n", out);
 }
 
 /// Appends the lines of all calls.
-fn push_calls(text: &mut Vec<u8>, receipts: &[Receipt]) -> Result<(), AllocError>
-    ensures { OnOk result (text.new.items
-        ≡ text.old.items ++ flat_map call_lines (enumerate_from 0 receipts.now)) }
+fn push_calls<W: Write>(text: &mut TextBuffer, receipts: &[Receipt], out: &mut W)
+    ensures { Appended text.old (W.contents out.old) text.new (W.contents out.new) (flat_map call_lines (enumerate_from 0 receipts.now)) }
 {
     for (index, receipt) in receipts.iter().enumerate() {
-        push_call(text, index, receipt)?;
+        push_call(text, index, receipt, out);
     }
-    Ok(())
 }
 
 /// Appends the lines of the call at an index.
-fn push_call(text: &mut Vec<u8>, index: usize, receipt: &Receipt) -> Result<(), AllocError>
-    ensures { OnOk result (text.new.items
-        ≡ text.old.items ++ call_lines (index, receipt.now)) }
+fn push_call<W: Write>(text: &mut TextBuffer, index: usize, receipt: &Receipt, out: &mut W)
+    ensures { Appended text.old (W.contents out.old) text.new (W.contents out.new) (call_lines (index, receipt.now)) }
 {
-    push_call_line(text, index, receipt)?;
-    push_regs(text, &receipt.regs)?;
-    push_writes(text, index, &receipt.writes)
+    push_call_line(text, index, receipt, out);
+    push_regs(text, &receipt.regs, out);
+    push_writes(text, index, &receipt.writes, out);
 }
 
 /// Appends the line that says how the call at an index ended.
-fn push_call_line(text: &mut Vec<u8>, index: usize, receipt: &Receipt) -> Result<(), AllocError>
-    ensures { OnOk result (text.new.items
-        ≡ text.old.items ++ call_line index receipt.now) }
+fn push_call_line<W: Write>(text: &mut TextBuffer, index: usize, receipt: &Receipt, out: &mut W)
+    ensures { Appended text.old (W.contents out.old) text.new (W.contents out.new) (call_line index receipt.now) }
 {
-    push_end(text, index, receipt.end)?;
-    push_stop(text, receipt.gas, receipt.pc)?;
-    text.extend_from_slice(b" out ")?;
-    push_bytes(text, receipt.out.bytes())?;
-    text.extend_from_slice(b"\n")
+    push_end(text, index, receipt.end, out);
+    push_stop(text, receipt.gas, receipt.pc, out);
+    text.push(b" out ", out);
+    push_bytes(text, receipt.out.bytes(), out);
+    text.push(b"\n", out);
 }
 
 /// Appends the index of a call, and the name of its end.
-fn push_end(text: &mut Vec<u8>, index: usize, end: End) -> Result<(), AllocError>
-    ensures { OnOk result (text.new.items
-        ≡ text.old.items ++ (codes "call " ++ (decimal index ++ (32 ∷ end_name end)))) }
+fn push_end<W: Write>(text: &mut TextBuffer, index: usize, end: End, out: &mut W)
+    ensures { Appended text.old (W.contents out.old) text.new (W.contents out.new) (codes "call " ++ (decimal index ++ (32 ∷ end_name end))) }
 {
-    text.extend_from_slice(b"call ")?;
-    push_decimal(text, index)?;
-    text.extend_from_slice(b" ")?;
-    text.extend_from_slice(end_name(end).as_bytes())
+    text.push(b"call ", out);
+    push_decimal(text, index as u64, out);
+    text.push(b" ", out);
+    text.push(end_name(end).as_bytes(), out);
 }
 
 /// Appends the gas of a call, and the pc where it ended.
-fn push_stop(text: &mut Vec<u8>, gas: u32, pc: u32) -> Result<(), AllocError>
-    ensures { OnOk result (text.new.items
-        ≡ text.old.items ++ (codes " gas " ++ (decimal gas ++ (codes " pc " ++ word_text pc)))) }
+fn push_stop<W: Write>(text: &mut TextBuffer, gas: u32, pc: u32, out: &mut W)
+    ensures { Appended text.old (W.contents out.old) text.new (W.contents out.new) (codes " gas " ++ (decimal gas ++ (codes " pc " ++ word_text pc))) }
 {
-    text.extend_from_slice(b" gas ")?;
-    push_decimal(text, gas as usize)?;
-    text.extend_from_slice(b" pc")?;
-    push_word_field(text, pc)
+    text.push(b" gas ", out);
+    push_decimal(text, u64::from(gas), out);
+    text.push(b" pc", out);
+    push_word_field(text, pc, out);
 }
 
 /// Appends the line of the 32 registers, x0 first.
-fn push_regs(text: &mut Vec<u8>, regs: &Regs) -> Result<(), AllocError>
-    ensures { OnOk result (text.new.items ≡ text.old.items ++ regs_line regs.now) }
+fn push_regs<W: Write>(text: &mut TextBuffer, regs: &Regs, out: &mut W)
+    ensures { Appended text.old (W.contents out.old) text.new (W.contents out.new) (regs_line regs.now) }
 {
-    text.extend_from_slice(b"regs")?;
-    push_words(text, regs.values())
+    text.push(b"regs", out);
+    push_words(text, regs.values(), out);
 }
 
 /// Appends words, each after a space, and ends the line.
-fn push_words(text: &mut Vec<u8>, words: &[u32; 32]) -> Result<(), AllocError>
-    ensures { OnOk result (text.new.items
-        ≡ text.old.items ++ more_fields (map word_text words.now)) }
+fn push_words<W: Write>(text: &mut TextBuffer, words: &[u32; 32], out: &mut W)
+    ensures { Appended text.old (W.contents out.old) text.new (W.contents out.new) (more_fields (map word_text words.now)) }
 {
     for word in words {
-        push_word_field(text, *word)?;
+        push_word_field(text, *word, out);
     }
-    text.extend_from_slice(b"\n")
+    text.push(b"\n", out);
 }
 
 /// Appends the lines of the writes of the call at an index.
-fn push_writes(text: &mut Vec<u8>, index: usize, writes: &Writes) -> Result<(), AllocError>
-    ensures { OnOk result (text.new.items
-        ≡ text.old.items ++ flat_map (write_line index) (entries writes.now)) }
+fn push_writes<W: Write>(text: &mut TextBuffer, index: usize, writes: &Writes, out: &mut W)
+    ensures { Appended text.old (W.contents out.old) text.new (W.contents out.new) (flat_map (write_line index) (entries writes.now)) }
 {
-    for (key, change) in writes.iter() {
-        push_write(text, index, key, change)?;
+    for (key, change) in writes.as_slice() {
+        push_write(text, index, key, change, out);
     }
-    Ok(())
 }
 
 /// Appends the line of one write of the call at an index.
-fn push_write(
-    text: &mut Vec<u8>,
+fn push_write<W: Write>(
+    text: &mut TextBuffer,
     index: usize,
     key: &Key,
     change: &Change<StoredValue>,
-) -> Result<(), AllocError>
-    ensures { OnOk result (text.new.items
-        ≡ text.old.items ++ write_line index (key.now, change.now)) }
+    out: &mut W,
+)
+    ensures { Appended text.old (W.contents out.old) text.new (W.contents out.new) (write_line index (key.now, change.now)) }
 {
-    push_write_key(text, index, key)?;
+    push_write_key(text, index, key, out);
     match change {
-        Change::Value(value) => push_bytes(text, value.bytes())?,
-        Change::Gone => text.extend_from_slice(b"gone")?,
-        Change::Sum(amount) => push_sum(text, *amount)?,
+        Change::Value(value) => push_bytes(text, value.bytes(), out),
+        Change::Gone => text.push(b"gone", out),
+        Change::Sum(amount) => push_sum(text, *amount, out),
     }
-    text.extend_from_slice(b"\n")
+    text.push(b"\n", out);
 }
 
 /// Appends the index of a call and a key that it wrote, up to the space after them.
-fn push_write_key(text: &mut Vec<u8>, index: usize, key: &Key) -> Result<(), AllocError>
-    ensures { OnOk result (text.new.items
-        ≡ text.old.items ++ (codes "write " ++ (decimal index ++ (32 ∷ (encode_lower key.now ++ codes " "))))) }
+fn push_write_key<W: Write>(text: &mut TextBuffer, index: usize, key: &Key, out: &mut W)
+    ensures { Appended text.old (W.contents out.old) text.new (W.contents out.new) (codes "write " ++ (decimal index ++ (32 ∷ (encode_lower key.now ++ codes " ")))) }
 {
-    text.extend_from_slice(b"write ")?;
-    push_decimal(text, index)?;
-    text.extend_from_slice(b" ")?;
-    push_key(text, key.bytes())?;
-    text.extend_from_slice(b" ")
+    text.push(b"write ", out);
+    push_decimal(text, index as u64, out);
+    text.push(b" ", out);
+    push_key(text, key.bytes(), out);
+    text.push(b" ", out);
 }
 
 /// Appends the word `add` and an amount.
-fn push_sum(text: &mut Vec<u8>, amount: u64) -> Result<(), AllocError>
-    ensures { OnOk result (text.new.items ≡ text.old.items ++ (codes "add " ++ decimal amount)) }
+fn push_sum<W: Write>(text: &mut TextBuffer, amount: u64, out: &mut W)
+    ensures { Appended text.old (W.contents out.old) text.new (W.contents out.new) (codes "add " ++ decimal amount) }
 {
-    text.extend_from_slice(b"add ")?;
-    push_decimal(text, amount as usize)
+    text.push(b"add ", out);
+    push_decimal(text, amount, out);
 }
 
 /// Appends the lines of the storage.
-fn push_store(text: &mut Vec<u8>, store: &Store) -> Result<(), AllocError>
-    ensures { OnOk result (text.new.items
-        ≡ text.old.items ++ flat_map store_line (entries store.now)) }
+fn push_store<W: Write>(text: &mut TextBuffer, store: &Store, out: &mut W)
+    ensures { Appended text.old (W.contents out.old) text.new (W.contents out.new) (flat_map store_line (entries store.now)) }
 {
     for (key, value) in store.iter() {
-        push_entry(text, key, value.bytes())?;
+        push_entry(text, key, value, out);
     }
-    Ok(())
 }
 
 /// Appends the line of one key of the storage.
-fn push_entry(text: &mut Vec<u8>, key: &Key, value: &[u8]) -> Result<(), AllocError>
-    ensures { OnOk result (text.new.items
-        ≡ text.old.items ++ store_line (key.now, value.now)) }
+fn push_entry<W: Write>(text: &mut TextBuffer, key: &Key, value: &StoredValue, out: &mut W)
+    ensures { Appended text.old (W.contents out.old) text.new (W.contents out.new) (store_line (key.now, value.now)) }
 {
-    text.extend_from_slice(b"store ")?;
-    push_key(text, key.bytes())?;
-    text.extend_from_slice(b" ")?;
-    push_bytes(text, value)?;
-    text.extend_from_slice(b"\n")
+    text.push(b"store ", out);
+    push_key(text, key.bytes(), out);
+    text.push(b" ", out);
+    push_bytes(text, value.bytes(), out);
+    text.push(b"\n", out);
 }

@@ -5,7 +5,8 @@ ghost use Rattle.receipts.specs.Text.{result_text};
 ghost use Rattle.receipts.specs.Written.{AppendsPart, taken_by};
 ghost use Rattle.std.specs.Io.KnownBytes.{Appends, Keeps};
 
-use crate::text::result_text;
+use crate::buffer::TextBuffer;
+use crate::text::push_result;
 use rv_ledger::Outcome;
 use std::alloc::Global;
 use std::io::Write;
@@ -39,7 +40,7 @@ impl fmt::Display for WriteFault {
     }
 }
 
-/// Writes the text of an outcome's receipts and storage. Refused as Memory before anything is
+/// Writes the text of an outcome's receipts and storage, in pieces of 64 KiB. Refused as Memory before anything is
 /// written, or as `write_whole` is; then a beginning of the text was written, and not all of it.
 pub fn write_outcome<W: Write>(
     alloc: Global,
@@ -52,10 +53,11 @@ pub fn write_outcome<W: Write>(
         (result_text outcome.now.receipts.items outcome.now.store)) }
     ensures memory { IfErr result (λ e. e ≡ WriteFault.Memory → out.new ≡ out.old) }
 {
-    let Ok(text) = result_text(alloc, outcome.receipts.as_slice(), &outcome.store) else {
+    let Ok(mut text) = TextBuffer::new(alloc) else {
         return Err(WriteFault::Memory);
     };
-    write_whole(text.as_slice(), out)
+    push_result(&mut text, outcome.receipts.as_slice(), &outcome.store, out);
+    text.finish(out)
 }
 
 /// Writes all the bytes. Refused as Io where a write failed, and as WroteNothing where a write took

@@ -1,10 +1,10 @@
-use Rattle.std.proofs.Common.{◌≡◌, ◌++◌, length}
+use Rattle.std.proofs.Common.{length}
 use Rattle.hex.specs.Hex.{encode_lower}
+use Rattle.receipts.proofs.Buffers.{IsAppendedBefore}
 use Rattle.receipts.proofs.digits.push_pairs.Given as goal
 
--- the text so far, and the bytes that are left, make the text
 abbrev pub invariant-loop-rest : goal.invariant-loop-rest
-invariant-loop-rest l = l.text.items ++ encode_lower l.rest ≡ l.fn.text.items ++ encode_lower l.bytes
+invariant-loop-rest g l = IsAppendedBefore l.fn.text (g.W.Write.contents l.fn.out) l.text (g.W.Write.contents l.out) (encode_lower l.rest) (encode_lower l.bytes)
 
 abbrev pub decreases-loop-rest : goal.decreases-loop-rest
-decreases-loop-rest l = length l.rest
+decreases-loop-rest g l = length l.rest

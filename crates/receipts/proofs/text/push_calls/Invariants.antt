@@ -1,10 +1,8 @@
-use Rattle.std.proofs.Common.{◌≡◌, ◌++◌, drop}
+use Rattle.std.proofs.Common.{drop}
 use Rattle.std.specs.List.{enumerate_from, flat_map}
+use Rattle.receipts.proofs.Buffers.{IsAppendedBefore}
 use Rattle.receipts.specs.Text.{call_lines}
 use Rattle.receipts.proofs.text.push_calls.Given as goal
 
--- the text so far, and the lines of the calls that are left, make the text
 abbrev pub invariant-loop-index : goal.invariant-loop-index
-invariant-loop-index l =
-    l.text.items ++ flat_map call_lines (enumerate_from l.index (drop l.index l.receipts))
-    ≡ l.fn.text.items ++ flat_map call_lines (enumerate_from 0 l.receipts)
+invariant-loop-index g l = IsAppendedBefore l.fn.text (g.W.Write.contents l.fn.out) l.text (g.W.Write.contents l.out) (flat_map call_lines (enumerate_from l.index (drop l.index l.receipts))) (flat_map call_lines (enumerate_from 0 l.receipts))

@@ -1,11 +1,8 @@
-use Rattle.std.proofs.Common.{◌≡◌, ◌++◌}
 use Rattle.std.specs.FinMap.{entries}
 use Rattle.std.specs.List.{flat_map}
+use Rattle.receipts.proofs.Buffers.{IsAppendedBefore}
 use Rattle.receipts.specs.Text.{store_line}
 use Rattle.receipts.proofs.text.push_store.Given as goal
 
--- the text so far, and the lines of the keys that are left, make the text
 abbrev pub invariant-loop-key : goal.invariant-loop-key
-invariant-loop-key l =
-    l.text.items ++ flat_map store_line l.key-iterator
-    ≡ l.fn.text.items ++ flat_map store_line (entries l.fn.store)
+invariant-loop-key g l = IsAppendedBefore l.fn.text (g.W.Write.contents l.fn.out) l.text (g.W.Write.contents l.out) (flat_map store_line l.key-iterator) (flat_map store_line (entries l.fn.store))

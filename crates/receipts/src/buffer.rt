@@ -1,0 +1,110 @@
+//! Text on its way to a writer.
+
+ghost use Rattle.std.specs.Prelude.{◌≡◌, ◌≢◌, ◌≤◌, IfSome, MatchOption, None, Some};
+ghost use Rattle.std.specs.Io.KnownBytes.{Appends};
+ghost use Rattle.std.specs.Option.{ForSome};
+ghost use Rattle.std.specs.Vec.{vec_capacity, vec_len};
+ghost use Rattle.receipts.specs.Written.{AppendsPart};
+ghost use Rattle.receipts.specs.declared.write.WriteFault.TheVariants.{Memory};
+
+use crate::write::{WriteFault, write_whole};
+use std::alloc::{AllocError, Global};
+use std::io::Write;
+
+/// How many bytes of text are written at once.
+const PIECE: usize = 65_536;
+
+/// Text on its way to a writer. What is appended waits until there is no room for more, and is then written. So the text
+/// of a result takes no more memory than that. After a write that was refused nothing more is written.
+#[derive(Drop)]
+pub(crate) struct TextBuffer {
+    waiting: Vec<u8>,
+    refused: Option<WriteFault>,
+    ghost room: { 65536 ≤ vec_capacity waiting },
+    ghost written: { vec_len waiting ≤ 65536 },
+    ghost fault: { ForSome refused (λ fault. fault ≢ Memory) },
+}
+
+impl TextBuffer {
+    ghost use Rattle.std.specs.Prelude.{◌≡◌, ◌≢◌, ◌≤◌, ◌+◌, ℕ, List, [], IfErr, IfOk, OnErr, OnOk, Option, length};
+    ghost use Rattle.receipts.specs.Buffer.{Appended, Holds};
+    ghost use Rattle.receipts.specs.Written.{AppendsPart};
+    ghost use Rattle.std.specs.Io.KnownBytes.{Appends};
+
+    /// No text; refused where memory ran out. Nothing that is appended takes memory.
+    pub(crate) fn new(alloc: Global) -> Result<TextBuffer, AllocError>
+        ensures { IfOk result (λ text. (start : Option (List ℕ)) → Holds text start start []) }
+    {
+        let waiting = Vec::with_capacity(alloc, PIECE)?;
+        Ok(TextBuffer {
+            waiting,
+            refused: None,
+        })
+    }
+
+    /// Appends at most 65,536 bytes. What waits is written first where there is no room for them.
+    #[inline(always)]
+    pub(crate) fn push<W: Write>(&mut self, bytes: &[u8], out: &mut W)
+        requires { length bytes.now ≤ PIECE }
+        ensures { Appended self.old (W.contents out.old) self.new (W.contents out.new) bytes.now }
+    {
+        self.make_room(bytes.len(), out);
+        match self.waiting.extend_from_slice(bytes) {
+            Ok(()) => {}
+            Err(_) => unreachable!(),
+        }
+    }
+
+    /// Writes what waits where there is no room for so many bytes more.
+    #[inline(always)]
+    fn make_room<W: Write>(&mut self, count: usize, out: &mut W)
+        requires { count ≤ PIECE }
+        ensures appended { Appended self.old (W.contents out.old) self.new (W.contents out.new) [] }
+        ensures room { vec_len self.new.waiting + count ≤ PIECE }
+    {
+        if count > PIECE - self.waiting.len() {
+            self.write_waiting(out);
+        }
+    }
+
+    /// Writes what waits, unless a write was refused before.
+    #[cold]
+    #[inline(never)]
+    fn write_waiting<W: Write>(&mut self, out: &mut W)
+        ensures appended { Appended self.old (W.contents out.old) self.new (W.contents out.new) [] }
+        ensures empty { self.new.waiting.items ≡ [] }
+    {
+        self.refused = first_refusal(self.refused, self.waiting.as_slice(), out);
+        self.waiting.clear();
+    }
+
+    /// Writes what waits. Refused as the first write that was refused.
+    pub(crate) fn finish<W: Write>(self, out: &mut W) -> Result<(), WriteFault>
+        ensures ok { OnOk result ((start : Option (List ℕ)) (text : List ℕ) → Holds self start (W.contents out.old) text → Appends start (W.contents out.new) text) }
+        ensures err { OnErr result ((start : Option (List ℕ)) (text : List ℕ) → Holds self start (W.contents out.old) text → AppendsPart start (W.contents out.new) text) }
+        ensures fault { IfErr result (λ e. e ≢ WriteFault.Memory) }
+    {
+        let mut text = self;
+        text.write_waiting(out);
+        match text.refused {
+            None => Ok(()),
+            Some(fault) => Err(fault),
+        }
+    }
+}
+
+/// Writes bytes, unless a write was refused before. Returns the first refusal.
+fn first_refusal<W: Write>(
+    refused: Option<WriteFault>,
+    bytes: &[u8],
+    out: &mut W,
+) -> Option<WriteFault>
+    ensures none { refused ≡ None → MatchOption result (Appends (W.contents out.old) (W.contents out.new) bytes.now) (λ _. AppendsPart (W.contents out.old) (W.contents out.new) bytes.now) }
+    ensures before { IfSome refused (λ fault. (result ≡ Some fault) × (W.contents out.new ≡ W.contents out.old)) }
+    ensures fault { IfSome result (λ fault. refused ≡ None → fault ≢ Memory) }
+{
+    match refused {
+        None => write_whole(bytes, out).err(),
+        Some(fault) => Some(fault),
+    }
+}
