@@ -11,3 +11,4 @@ mod rights;
 pub use access::Access;
 pub use fault::Fault;
 pub use memory::Memory;
+pub use pages::PageRoom;

@@ -12,7 +12,7 @@ ghost use Rattle.rv_mem.specs.declared.fault.Fault.TheVariants.{MemoryFault};
 use crate::access::Access;
 use crate::fault::Fault;
 use crate::pages::{
-    Pages, byte_at, halfword_at, held_word_at, hold, program_pages, read, word_at, write,
+    PageRoom, Pages, byte_at, halfword_at, held_word_at, hold, program_pages, read, word_at, write,
     write_in_page,
 };
 use crate::rights::{place, range_has};
@@ -68,9 +68,22 @@ impl Memory {
         requires { length input.now ≤ 4096 }
         ensures { IfOk result (λ m. m ≡ start_space image.now input.now) }
     {
-        let mut pages = program_pages(alloc, image)?;
+        Memory::in_room(PageRoom::new(alloc), image, input)
+    }
+
+    /// The same in the room of an earlier call's memory, so that the allocator has less to do.
+    pub fn in_room(room: PageRoom, image: &Image, input: &[u8]) -> Result<Memory, AllocError>
+        requires { length input.now ≤ 4096 }
+        ensures { IfOk result (λ m. m ≡ start_space image.now input.now) }
+    {
+        let mut pages = program_pages(room, image)?;
         put_input(&mut pages, input)?;
         Ok(Memory { pages })
+    }
+
+    /// The room of a memory that nobody needs any more. Takes no memory.
+    pub fn into_room(self) -> PageRoom {
+        PageRoom::of(self.pages)
     }
 
     /// The instruction word at the address, or Misaligned where the address is not a multiple of 4, or

@@ -38,31 +38,64 @@ const NOTHING: Held = Held {
 /// The pages of one call.
 #[derive(Drop)]
 pub struct Pages {
+    /// The page that instructions are fetched from.
+    pub held: Held,
     /// The pages of the program.
     pub base: Arc<BasePages>,
     /// For each of the 256 pages of memory its place: in `base`, or `FIRST_OWN` and its place in `own`.
     pub index: Vec<u16>,
     /// The pages that the call has written. Each is one page of memory.
     pub own: Vec<Page>,
-    /// The page that instructions are fetched from.
-    pub held: Held,
 }
 
-/// The pages of a program before its first instruction; refused where memory ran out.
-pub fn program_pages(alloc: Global, image: &Image) -> Result<Pages, AllocError>
+/// The lists of a call's pages, whose room the next call's pages can use.
+#[derive(Drop)]
+pub struct PageRoom {
+    index: Vec<u16>,
+    own: Vec<Page>,
+}
+
+impl PageRoom {
+    /// No room yet. Takes no memory.
+    pub fn new(alloc: Global) -> PageRoom {
+        PageRoom {
+            index: Vec::new(alloc),
+            own: Vec::new(alloc),
+        }
+    }
+
+    /// The room of a call's pages.
+    pub(crate) fn of(pages: Pages) -> PageRoom {
+        let Pages { index, own, .. } = pages;
+        PageRoom { index, own }
+    }
+}
+
+/// The pages of a program before its first instruction, in the room of other pages; refused where memory ran out.
+pub fn program_pages(room: PageRoom, image: &Image) -> Result<Pages, AllocError>
     ensures bytes { IfOk result (λ p. memory_bytes p ≡ segment_bytes image.now.segments) }
     ensures rights { IfOk result (λ p. (base_of p).rights ≡ page_rights page_count image.now.segments) }
     ensures paged { IfOk result IsPaged }
 {
     let base = Arc::try_clone(image.base())?;
-    let index = Vec::from_slice(alloc, &base.index)?;
-    let own = Vec::with_capacity(alloc, OWN_ROOM)?;
+    let PageRoom { mut index, mut own } = room;
+    refill(&mut index, &base.index)?;
+    own.clear();
+    own.reserve(OWN_ROOM)?;
     Ok(Pages {
+        held: NOTHING,
         base,
         index,
         own,
-        held: NOTHING,
     })
+}
+
+/// Makes a list of these numbers in the room of another; refused where memory ran out.
+fn refill(list: &mut Vec<u16>, numbers: &[u16]) -> Result<(), AllocError>
+    ensures { OnOk result (list.new.items ≡ numbers.now) }
+{
+    list.clear();
+    list.extend_from_slice(numbers)
 }
 
 /// The page at a place: the program's where the place is below `FIRST_OWN`, else the call's own.

@@ -6,7 +6,6 @@ pub mod Beginnings
 pub mod Receipts
 pub mod Askings
 pub mod Steps
-pub mod PartlyApplied
 pub mod Reached
 pub mod Stops
 pub mod StorageRuns

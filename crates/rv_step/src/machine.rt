@@ -22,7 +22,7 @@ use rv_isa::{
     decode_lui, decode_store, decode_system, funct3, opcode,
 };
 use rv_ledger::{Call, End, Rules, Writes};
-use rv_mem::{Fault, Memory};
+use rv_mem::{Fault, Memory, PageRoom};
 use std::alloc::{AllocError, Global};
 
 /// Returns the value of an expression. The expression is written into a branch for each of the eight
@@ -83,19 +83,19 @@ fn opcode_of(word: u32) -> u32
     word & opcode::MASK
 }
 
-/// The machine of one call between two instructions.
+/// The machine of one call between two instructions. What each instruction needs stands first: its code is shorter then.
 #[derive(Drop)]
 pub struct Machine {
-    /// The registers.
-    pub regs: Regs,
     /// The address of the next instruction.
     pub pc: u32,
-    /// The memory.
-    pub memory: Memory,
-    /// What the call has written.
-    pub own: Writes,
     /// The gas that it has left.
     pub gas: Meter,
+    /// The memory.
+    pub memory: Memory,
+    /// The registers.
+    pub regs: Regs,
+    /// What the call has written.
+    pub own: Writes,
     /// The rules of the call.
     pub rules: Rules,
 }
@@ -106,9 +106,9 @@ impl Machine {
     ghost use Rattle.rv_step.specs.Growth.{instruction_at};
     ghost use Rattle.rv_step.specs.Meets.{MeetsEffect, MeetsInstruction, MeetsInstructions, is_next};
 
-    /// The machine of a call before its first instruction; refused where memory ran out.
+    /// The machine of a call before its first instruction, in the room of other pages; refused where memory ran out.
     #[tactic(auto, unfolding(crate::specs::Moment::start))]
-    pub(crate) fn start(alloc: Global, call: &Call) -> Result<Machine, AllocError>
+    pub(crate) fn start(alloc: Global, room: PageRoom, call: &Call) -> Result<Machine, AllocError>
         ensures { IfOk result (λ s. s ≡ start call.now) }
     {
         let input = call.input();
@@ -117,11 +117,11 @@ impl Machine {
         regs.set(Reg::a0(), INPUT_ADDRESS);
         regs.set(Reg::a1(), input.len() as u32);
         Ok(Machine {
-            regs,
             pc: call.image().entry(),
-            memory: Memory::of(alloc, call.image(), input)?,
-            own: Writes::new(alloc),
             gas: Meter::new(call.gas()),
+            memory: Memory::in_room(room, call.image(), input)?,
+            regs,
+            own: Writes::new(alloc),
             rules: call.rules(),
         })
     }

@@ -10,20 +10,31 @@ use crate::machine::Machine;
 use crate::run::{receipt, run_until_stop};
 use crate::stage::{Stage, is_ended};
 use rv_ledger::{Call, Receipt, Store, StoredValue};
+use rv_mem::PageRoom;
 use std::alloc::{AllocError, Global};
+use std::mem::replace;
 
-/// The receipt of a call that is run over a storage. It takes no room for the storage's answers. Refused
-/// where memory ran out.
-pub fn receipt_over(alloc: Global, call: &Call, store: &Store) -> Result<Receipt, AllocError>
+/// The receipt of a call that is run over a storage. It takes no room for the storage's answers. The call's pages
+/// take the room of an earlier call's, and leave it to the next. Refused where memory ran out.
+pub fn receipt_over(
+    alloc: Global,
+    room: &mut PageRoom,
+    call: &Call,
+    store: &Store,
+) -> Result<Receipt, AllocError>
     ensures { IfOk result (λ r. r ≡ ends call.now store.now) }
 {
-    let mut machine = Machine::start(alloc, call)?;
+    let mut machine = Machine::start(alloc, replace(room, PageRoom::new(alloc)), call)?;
     let mut stage = Stage::Running;
     while !is_ended(&stage) {
         go_on_over(&mut machine, &mut stage, store)?;
     }
     match stage {
-        Stage::Ended(end, out) => Ok(receipt(call.gas(), end, out, machine)),
+        Stage::Ended(end, out) => {
+            let (receipt, left) = receipt(call.gas(), end, out, machine);
+            *room = left;
+            Ok(receipt)
+        }
         _ => unreachable!(),
     }
 }

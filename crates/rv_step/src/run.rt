@@ -12,6 +12,7 @@ use crate::outcome::InstructionOutcome;
 use crate::stage::{Stage, end_with};
 use read_set::Origin;
 use rv_ledger::{Call, End, Key, Output, Receipt, Value};
+use rv_mem::PageRoom;
 use std::alloc::{AllocError, Global};
 use std::marker::Model;
 
@@ -64,7 +65,14 @@ impl Run {
     pub fn start(alloc: Global, call: &Call) -> Result<Run, AllocError>
         ensures { IfOk result (λ r. r ≡ run_at_start call.now) }
     {
-        let machine = Machine::start(alloc, call)?;
+        Run::start_in(alloc, PageRoom::new(alloc), call)
+    }
+
+    /// The same in the room of an earlier run's pages.
+    pub fn start_in(alloc: Global, room: PageRoom, call: &Call) -> Result<Run, AllocError>
+        ensures { IfOk result (λ r. r ≡ run_at_start call.now) }
+    {
+        let machine = Machine::start(alloc, room, call)?;
         Ok(Run {
             call: call.copy()?,
             machine,
@@ -194,6 +202,16 @@ impl Run {
         ensures answers { result.answers.items ≡ self.answers }
         ensures receipt { IsReceiptOf result.receipt self }
     {
+        self.finish_with_room().0
+    }
+
+    /// The same, and the room of its pages beside it.
+    pub fn finish_with_room(self) -> (EndedRun, PageRoom)
+        requires { IsEnded self.stage }
+        ensures call { result.0.call ≡ self.call }
+        ensures answers { result.0.answers.items ≡ self.answers }
+        ensures receipt { IsReceiptOf result.0.receipt self }
+    {
         let Run {
             call,
             machine,
@@ -202,15 +220,22 @@ impl Run {
         } = self;
         match stage {
             Stage::Ended(end, out) => {
-                let receipt = receipt(call.gas(), end, out, machine);
-                EndedRun {
+                let (receipt, room) = receipt(call.gas(), end, out, machine);
+                let ended = EndedRun {
                     call,
                     answers,
                     receipt,
-                }
+                };
+                (ended, room)
             }
             _ => unreachable!(),
         }
+    }
+
+    /// The room of the pages of a run that is given up.
+    pub fn into_room(self) -> PageRoom {
+        let Run { machine, .. } = self;
+        machine.memory.into_room()
     }
 }
 
@@ -238,28 +263,30 @@ pub(crate) fn run_until_stop(machine: &mut Machine, stage: &mut Stage) -> Result
     Ok(())
 }
 
-/// The receipt of a call with this gas limit that ended so; only a call that returned keeps its writes.
-pub(crate) fn receipt(limit: u32, end: End, out: Output, machine: Machine) -> Receipt
+/// The receipt of a call with this gas limit that ended so, and the room of its pages; only a call that returned keeps
+/// its writes.
+pub(crate) fn receipt(limit: u32, end: End, out: Output, machine: Machine) -> (Receipt, PageRoom)
     requires { machine.gas ≤ limit }
-    ensures { result ≡ receipt_of limit end out machine }
+    ensures { result.0 ≡ receipt_of limit end out machine }
 {
     let Machine {
-        regs,
         pc,
-        memory: _,
-        mut own,
         gas,
+        memory,
+        regs,
+        mut own,
         rules: _,
     } = machine;
     if end != End::Returned {
         own.clear();
     }
-    Receipt {
+    let receipt = Receipt {
         end,
         gas: limit - gas.left(),
         pc,
         out,
         regs,
         writes: own,
-    }
+    };
+    (receipt, memory.into_room())
 }

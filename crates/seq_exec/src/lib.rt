@@ -5,6 +5,7 @@ ghost use Rattle.std.specs.Prelude.{◌≡◌, [], IfOk, OnOk};
 ghost use Rattle.rv_step.specs.Fold.{receipts_of, store_after};
 
 use rv_ledger::{Call, Job, Outcome, Receipt, Store};
+use rv_mem::PageRoom;
 use rv_step::{apply_writes, receipt_over};
 use std::alloc::{AllocError, Global};
 
@@ -44,9 +45,10 @@ fn run_all(alloc: Global, calls: &[Call], store: &mut Store) -> Result<Vec<Recei
     ensures store { OnOk result (store.new ≡ store_after calls.now store.old) }
 {
     let mut receipts = Vec::with_capacity(alloc, calls.len())?;
+    let mut room = PageRoom::new(alloc);
     for call in calls {
         // A `?` would copy the receipt, which is large, once more.
-        let Ok(receipt) = receipt_over(alloc, call, store) else {
+        let Ok(receipt) = receipt_over(alloc, &mut room, call, store) else {
             return Err(AllocError);
         };
         apply_writes(store, &receipt.writes)?;

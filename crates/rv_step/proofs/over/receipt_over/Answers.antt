@@ -12,4 +12,4 @@ loop-machine-preserved c = c.in_ok-go_on_over.ensures.over c.args.call.now c.loo
 pub returns : goal.returns
 returns c =
     let over : IsBeginningOver c.args.call.now c.args.store.now c.loop-machine.machine (Ended c.in-Ended.end c.in-Ended.out) = rw c.in-Ended.is at c.loop-machine.invariant in
-    rw (c.receipt.ensures, c.gas.ensures.value) (ended_over c.args.call.now c.args.store.now c.loop-machine.machine c.in-Ended.end c.in-Ended.out over)
+    rw (c.receipt-receipt.ensures, c.gas.ensures.value) (ended_over c.args.call.now c.args.store.now c.loop-machine.machine c.in-Ended.end c.in-Ended.out over)

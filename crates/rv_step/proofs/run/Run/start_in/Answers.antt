@@ -1,5 +1,5 @@
 use Rattle.rv_step.proofs.Beginnings.{begins}
-use Rattle.rv_step.proofs.run.Run.start.Goals as goal
+use Rattle.rv_step.proofs.run.Run.start_in.Goals as goal
 
 pub invariant_of-result : goal.invariant_of-result
 invariant_of-result c = rw (c.in_ok-copy.ensures, c.in_ok-machine.ensures, c.new.ensures.items) (begins c.args.call.now)
