@@ -3,7 +3,7 @@
 
 mod origin;
 
-ghost use Rattle.std.specs.Prelude.{◌≡◌, ◌++◌, ◌∷◌, [], List, OnOk, OnErr};
+ghost use Rattle.std.specs.Prelude.{◌≡◌, ◌++◌, ◌∷◌, [], List, IfOk, OnOk, OnErr};
 ghost use Rattle.read_set.specs.declared.Read.{Read};
 
 pub use origin::{Origin, Version};
@@ -44,6 +44,14 @@ impl ReadSet {
         ReadSet {
             items: Vec::new(alloc),
         }
+    }
+
+    /// No reads, with room for so many; refused where memory ran out.
+    pub fn with_capacity(alloc: Global, count: usize) -> Result<ReadSet, AllocError>
+        ensures { IfOk result (λ s. s ≡ []) }
+    {
+        let items = Vec::with_capacity(alloc, count)?;
+        Ok(ReadSet { items })
     }
 
     /// Adds a read at the end; refused where memory ran out, and then nothing changes.

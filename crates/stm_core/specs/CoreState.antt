@@ -9,7 +9,7 @@ use Rattle.mvmap.specs.Reading.{Visible, blocker, origin_in, value_seen}
 use Rattle.stm_state.specs.declared.state.Task.{Task}
 use Rattle.stm_state.specs.declared.state.Task.TheVariants.{Idle, Running, Moving, Validating, Marking}
 use Rattle.stm_state.specs.State.{State, call_at, task_at, no_counts}
-use Rattle.stm_state.specs.Steps.{Block, Step, Ask, Read_key, Park, Record, Move_key, Finish_execution, Check_read, Decide, Mark_estimate, Finish_abort, Limit, worker_step}
+use Rattle.stm_state.specs.Steps.{Block, Step, Ask, Read_key, Park, Record, Move_key, Finish_execution, Check_read, Decide, Mark_estimate, Finish_abort, Limit, keys_of, recorded_run, worker_step}
 use Rattle.stm_state.specs.Done.{block_of}
 use Rattle.scheduler.specs.Schedule.{KeepsRooms, count_limit}
 use Rattle.stm_core.specs.declared.next_step.AskResult.{AskResult}
@@ -18,6 +18,7 @@ use Rattle.stm_core.specs.declared.next_step.NextStep.{NextStep}
 use Rattle.stm_core.specs.declared.next_step.NextStep.TheVariants as next_step
 use Rattle.stm_core.specs.declared.next_step.ReadResult.{ReadResult}
 use Rattle.stm_core.specs.declared.next_step.ReadResult.TheVariants as read_result
+use Rattle.stm_core.specs.declared.prepared.Prepared.{Prepared}
 
 -- how many versions a read may pass: in the list for the origin that is kept, and in the one for the origin that is handed
 -- out
@@ -152,3 +153,8 @@ pub record IsOwn (w : ℕ) (run : EndedRun) (b : CoreState) : Type 0 where
   pub runs : runs (task_at b.state w) call ≡ true
   pub same_call : slice_get b.job.block call ≡ Some run.call
   pub same_answers : run.answers.items ≡ answers_of (task_at b.state w)
+
+-- what is made for the record of a run: the reads that it keeps, and the keys that the run wrote, in their order
+pub record IsPrepared (run : EndedRun) (prepared : Prepared) : Type 0 where
+  pub reads : prepared.reads ≡ (recorded_run run.answers.items run.receipt).reads
+  pub keys : prepared.keys.items ≡ keys_of (map.entries run.receipt.writes)

@@ -14,6 +14,7 @@ ghost use Rattle.stm_core.specs.declared.engine.DriveFault.TheVariants.{Memory};
 
 use crate::fault::RecordFault;
 use crate::next_step::{NextStep, ReadResult};
+use crate::prepared::Prepared;
 use crate::state::Core;
 use rv_ledger::{Job, Key, Outcome};
 use rv_step::{Pause, Run};
@@ -302,7 +303,9 @@ fn hand_in(alloc: Global, core: &mut Core, worker: usize, run: Run) -> Result<()
     ensures makes { OnOk result (Makes worker Record core.old core.new) }
     ensures refused { IfErr result (λ e. IsStepRefusal e (worker_step (block_in core.old) worker Record core.old.state)) }
 {
-    match core.record_known(alloc, worker, run.finish()) {
+    let run = run.finish();
+    let prepared = Prepared::of(alloc, &run)?;
+    match core.record_known(alloc, worker, run, prepared) {
         Ok(_) => Ok(()),
         Err(refused) => Err(match refused.fault {
             RecordFault::ArenaFull => DriveFault::ArenaFull,

@@ -14,7 +14,7 @@ use validate::next_read;
 pub(crate) fn reads_in(alloc: Global, answers: &[StorageAnswer]) -> Result<ReadSet, AllocError>
     ensures { IfOk result (λ reads. reads ≡ map read_of answers.now) }
 {
-    let mut reads = ReadSet::new(alloc);
+    let mut reads = ReadSet::with_capacity(alloc, answers.len())?;
     for answer in answers {
         reads.push(Read {
             key: answer.key,

@@ -6,28 +6,29 @@ ghost use Rattle.rv_step.specs.declared.answer.StorageAnswer.{StorageAnswer};
 ghost use Rattle.stm_state.specs.declared.state.Status.TheVariants.{Executing};
 ghost use Rattle.stm_state.specs.declared.state.Task.TheVariants as task;
 ghost use Rattle.stm_state.specs.State.{fresh};
-ghost use Rattle.stm_state.specs.Steps.{counted, keys_to_move, one_execution, after_record};
+ghost use Rattle.stm_state.specs.Steps.{counted, keys_of, keys_to_move, one_execution, after_record};
 ghost use Rattle.scheduler.specs.Schedule.{KeepsRooms, MayCount};
 ghost use Rattle.scheduler.specs.Workers.{IsRunning, NobodyMoves};
 ghost use Rattle.stm_core.specs.declared.fault.RecordFault.TheVariants as fault;
-ghost use Rattle.stm_core.specs.Inner.{AreOpen, IsGrown, IsPromised, reads_in, state_in};
+ghost use Rattle.stm_core.specs.CoreState.{IsPrepared};
+ghost use Rattle.stm_core.specs.Inner.{AreOpen, IsGrown, IsPromised, state_in};
 
 use crate::fault::{RecordFault, Refused};
-use crate::reads::reads_in;
+use crate::prepared::Prepared;
 use crate::same::same_answers;
-use crate::versions::{keys_to_move, written_count};
+use crate::versions::{add_left_over, written_count};
 use mvmap::MvMap;
-use read_set::ReadSet;
-use rv_ledger::{Call, Job, Key, VALUE_LIMIT, same_call};
+use rv_ledger::{Call, Job, Key, VALUE_LIMIT, Writes, same_call};
 use rv_step::{EndedRun, StorageAnswer};
 use scheduler::{INCARNATION_LIMIT, Scheduler};
 use std::alloc::Global;
 use stm_state::Recorded;
 use version_arena::{RECORD_LIMIT, ReserveFault};
 
-/// What a record leaves over of the run that was handed in: its call and its answers.
+/// What a record leaves over of the run that was handed in, so that it can be dropped after a lock: its call and its
+/// answers.
 #[derive(Drop)]
-pub struct Leftovers {
+pub struct SpentRun {
     call: Call,
     answers: Vec<StorageAnswer>,
 }
@@ -42,13 +43,17 @@ pub(crate) fn is_run_of(job: &Job, call: u16, run: &EndedRun) -> bool
     }
 }
 
-/// Whether a run was given exactly the answers that a worker's run was given. Takes no memory.
-pub(crate) fn has_own_answers(scheduler: &Scheduler, worker: usize, run: &EndedRun) -> bool
+/// Whether a run's answers are exactly those that a worker's run was given. Takes no memory.
+pub(crate) fn has_own_answers(
+    scheduler: &Scheduler,
+    worker: usize,
+    given: &Vec<StorageAnswer>,
+) -> bool
     requires worker { worker < length scheduler.now.tasks }
     requires running { IsRunning (get_or scheduler.now.tasks worker task.Idle) }
-    ensures { (call : ℕ) (answers : List StorageAnswer) → get_or scheduler.now.tasks worker task.Idle ≡ task.Running call answers None → (result ≡ true) ↔ (run.now.answers.items ≡ answers) }
+    ensures { (call : ℕ) (answers : List StorageAnswer) → get_or scheduler.now.tasks worker task.Idle ≡ task.Running call answers None → (result ≡ true) ↔ (given.now.items ≡ answers) }
 {
-    same_answers(run.answers.as_slice(), scheduler.answers(worker))
+    same_answers(given.as_slice(), scheduler.answers(worker))
 }
 
 /// Records a worker's own run of a call: the run is kept, its keys are to be moved, and room for what it
@@ -64,7 +69,9 @@ pub(crate) fn record_run(
     worker: usize,
     call: u16,
     run: EndedRun,
-) -> Result<Leftovers, Refused>
+    prepared: Prepared,
+) -> Result<SpentRun, Refused>
+    requires prepared { IsPrepared run prepared }
     requires counts { MayCount worker scheduler.old }
     requires within { call < length scheduler.old.calls }
     requires executing { (get_or scheduler.old.calls call fresh).status ≡ Executing }
@@ -81,66 +88,73 @@ pub(crate) fn record_run(
     ensures grown { IsGrown map.old map.new }
     ensures rooms { KeepsRooms worker scheduler.old.rooms scheduler.new.rooms }
 {
-    let count = written_count(&run.receipt.writes);
-    if count > RECORD_LIMIT - map.record_count() - *promised {
-        return Err(Refused {
-            fault: RecordFault::ArenaFull,
-            run,
-        });
+    let writes = &run.receipt.writes;
+    let state = scheduler.call(call);
+    if let Err(fault) = check_limits(map, *promised, state.incarnation, writes) {
+        return Err(Refused { fault, run });
     }
-    if scheduler.call(call).incarnation == u16::MAX {
-        return Err(Refused {
-            fault: RecordFault::IncarnationLimit,
-            run,
-        });
-    }
-    match make_room(
-        alloc,
-        map,
-        *promised + count,
-        call,
-        &scheduler.call(call).last,
-        &run,
-    ) {
-        Ok((reads, keys)) => {
-            *promised += count;
-            let EndedRun {
-                call: own,
-                answers,
-                receipt,
-                ..
-            } = run;
-            scheduler.keep_run(worker, call, Recorded { receipt, reads }, keys);
-            Ok(Leftovers { call: own, answers })
-        }
-        Err(_) => Err(Refused {
-            fault: RecordFault::Memory,
-            run,
-        }),
-    }
+    let Prepared { reads, mut keys } = prepared;
+    let count = keys.len();
+    let records = *promised + count;
+    let last = &state.last;
+    let Ok(()) = make_record_room(alloc, map, records, call, last, writes, &mut keys) else {
+        let fault = RecordFault::Memory;
+        return Err(Refused { fault, run });
+    };
+    *promised += count;
+    let EndedRun {
+        call: own,
+        answers,
+        receipt,
+        ..
+    } = run;
+    scheduler.keep_run(worker, call, Recorded { receipt, reads }, keys);
+    Ok(SpentRun { call: own, answers })
 }
 
-/// Makes room for `records` records and places for what a run wrote. Returns the reads that the run made
-/// and the keys that it is to move. Refused where memory ran out. The versions stay.
-fn make_room(
+/// Whether the record of a run keeps within the limits. Refused as ArenaFull, which is tested first, or as
+/// IncarnationLimit. Takes no memory.
+pub(crate) fn check_limits(
+    map: &MvMap,
+    promised: usize,
+    incarnation: u16,
+    writes: &Writes,
+) -> Result<(), RecordFault>
+    requires { length map.now.arena.records + promised ≤ RECORD_LIMIT }
+    ensures within { OnOk result ((length map.now.arena.records + promised + len writes.now ≤ RECORD_LIMIT) × (incarnation < INCARNATION_LIMIT)) }
+    ensures full { IfErr result (λ e. e ≡ fault.ArenaFull → RECORD_LIMIT < length map.now.arena.records + promised + len writes.now) }
+    ensures limit { IfErr result (λ e. e ≡ fault.IncarnationLimit → (length map.now.arena.records + promised + len writes.now ≤ RECORD_LIMIT) × (INCARNATION_LIMIT ≤ incarnation)) }
+    ensures other { IfErr result (λ e. (e ≢ fault.Foreign) × (e ≢ fault.Memory)) }
+{
+    if written_count(writes) > RECORD_LIMIT - map.record_count() - promised {
+        return Err(RecordFault::ArenaFull);
+    }
+    if incarnation == INCARNATION_LIMIT {
+        return Err(RecordFault::IncarnationLimit);
+    }
+    Ok(())
+}
+
+/// Makes room for `records` records and places for what a run wrote, and adds to its keys those that only the
+/// call's last recorded run wrote. Refused where memory ran out. The versions stay.
+fn make_record_room(
     alloc: Global,
     map: &mut MvMap,
     records: usize,
     call: u16,
     last: &Option<Recorded>,
-    run: &EndedRun,
-) -> Result<(ReadSet, Vec<Key>), ReserveFault>
-    requires { length map.old.arena.records + records ≤ RECORD_LIMIT }
-    ensures reads { IfOk result (λ made. made.0 ≡ reads_in run.now.answers.items) }
-    ensures keys { IfOk result (λ made. made.1.items ≡ keys_to_move last.now run.now.receipt.writes) }
-    ensures open_ { OnOk result (AreOpen map.new.places call (entries run.now.receipt.writes)) }
+    writes: &Writes,
+    keys: &mut Vec<Key>,
+) -> Result<(), ReserveFault>
+    requires limit { length map.old.arena.records + records ≤ RECORD_LIMIT }
+    requires written { keys.old.items ≡ keys_of (entries writes.now) }
+    ensures keys { OnOk result (keys.new.items ≡ keys_to_move last.now writes.now) }
+    ensures open_ { OnOk result (AreOpen map.new.places call (entries writes.now)) }
     ensures room { OnOk result (records ≤ map.new.arena.room) }
     ensures bytes { OnOk result (records * VALUE_LIMIT ≤ map.new.arena.bytes) }
     ensures grown { IsGrown map.old map.new }
 {
-    let reads = reads_in(alloc, run.answers.as_slice())?;
-    let keys = keys_to_move(alloc, last, &run.receipt.writes)?;
-    let written = &keys.as_slice()[..written_count(&run.receipt.writes)];
-    map.reserve_for(written, call, records, records * VALUE_LIMIT)?;
-    Ok((reads, keys))
+    map.reserve_for(keys.as_slice(), call, records, records * VALUE_LIMIT)?;
+    add_left_over(keys, last, writes)?;
+    Ok(())
 }

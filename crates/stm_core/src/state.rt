@@ -9,9 +9,10 @@ use crate::fault::{IncarnationLimit, RecordFault, Refused};
 use crate::next_step::{AskResult, NextStep, ReadResult};
 use crate::outcome::{moved_outcome, outcome_of};
 use crate::passed_lists::PassedLists;
+use crate::prepared::Prepared;
 use crate::reading::{make_read_room, next_step_of, read_at};
 use crate::reads::next_stands;
-use crate::recording::{Leftovers, has_own_answers, is_run_of, record_run};
+use crate::recording::{SpentRun, check_limits, has_own_answers, is_run_of, record_run};
 use crate::versions::{mark_key, move_key};
 use mvmap::MvMap;
 use rv_ledger::{Counts, Job, Key, Outcome, StoredValue};
@@ -69,7 +70,7 @@ impl Core {
     ghost use Rattle.stm_state.specs.Parts.{CallsAreAttended, IsSized, OthersHaveEstimates, ReadsAreWatched, RunsAreBorneOut};
     ghost use Rattle.scheduler.specs.Schedule.{KeepsRooms};
     ghost use Rattle.stm_core.specs.declared.fault.RecordFault.TheVariants as fault;
-    ghost use Rattle.stm_core.specs.CoreState.{ask_result_of, HasReadRoom, IsDue, IsNoLess, IsOwn, IsRefused, IsTaken, IsWithin, Makes, block_in, next_step_of, runs, read_result_of};
+    ghost use Rattle.stm_core.specs.CoreState.{ask_result_of, HasReadRoom, IsDue, IsNoLess, IsOwn, IsPrepared, IsRefused, IsTaken, IsWithin, Makes, block_in, next_step_of, runs, read_result_of};
 
     /// The state at the start of a job; refused where memory ran out.
     pub fn new(alloc: Global, job: Job, workers: usize) -> Result<Core, AllocError>
@@ -274,7 +275,7 @@ impl Core {
         alloc: Global,
         worker: usize,
         run: EndedRun,
-    ) -> Result<Leftovers, Refused>
+    ) -> Result<SpentRun, Refused>
         requires { IsDue worker steps.Record self.old }
         ensures makes { OnOk result (Makes worker steps.Record self.old self.new) }
         ensures own { (IfErr result (λ e. e.fault ≢ fault.Foreign)) ↔ IsOwn worker run self.old }
@@ -286,24 +287,39 @@ impl Core {
         let TaskKind::Running { call, .. } = self.scheduler.task_kind(worker) else {
             unreachable!();
         };
-        if !is_run_of(&self.job, call, &run) {
+        if !is_run_of(&self.job, call, &run)
+            || !has_own_answers(&self.scheduler, worker, &run.answers)
+        {
             return Err(Refused {
                 fault: RecordFault::Foreign,
                 run,
             });
         }
-        self.record_known(alloc, worker, run)
+        let incarnation = self.scheduler.call(call).incarnation;
+        let writes = &run.receipt.writes;
+        if let Err(fault) = check_limits(&self.map, self.promised, incarnation, writes) {
+            return Err(Refused { fault, run });
+        }
+        match Prepared::of(alloc, &run) {
+            Ok(prepared) => self.record_known(alloc, worker, run, prepared),
+            Err(_) => Err(Refused {
+                fault: RecordFault::Memory,
+                run,
+            }),
+        }
     }
 
-    /// A worker hands in its ended run, which is known to be a run of the job's call at that index. Refused
-    /// as `record` is, but the calls are not compared.
+    /// The same, where the run is known to be a run of the job's call at that index, and where what its record takes is
+    /// made. Refused as `record` is, but the calls are not compared.
     pub fn record_known(
         &mut self,
         alloc: Global,
         worker: usize,
         run: EndedRun,
-    ) -> Result<Leftovers, Refused>
+        prepared: Prepared,
+    ) -> Result<SpentRun, Refused>
         requires due { IsDue worker steps.Record self.old }
+        requires prepared { IsPrepared run prepared }
         requires call { (i : ℕ) → runs (task_at self.old.state worker) i ≡ true → slice_get self.old.job.block i ≡ Some run.call }
         ensures makes { OnOk result (Makes worker steps.Record self.old self.new) }
         ensures own { (IfErr result (λ e. e.fault ≢ fault.Foreign)) ↔ IsOwn worker run self.old }
@@ -315,7 +331,7 @@ impl Core {
         let TaskKind::Running { call, .. } = self.scheduler.task_kind(worker) else {
             unreachable!();
         };
-        if !has_own_answers(&self.scheduler, worker, &run) {
+        if !has_own_answers(&self.scheduler, worker, &run.answers) {
             return Err(Refused {
                 fault: RecordFault::Foreign,
                 run,
@@ -329,6 +345,7 @@ impl Core {
             worker,
             call,
             run,
+            prepared,
         )
     }
 

@@ -23,30 +23,38 @@ pub(crate) fn written_count(writes: &Writes) -> usize
     writes.len()
 }
 
-/// The keys that a run is to move: those that it wrote, then those that only the call's last recorded
-/// run wrote; refused where memory ran out.
-pub(crate) fn keys_to_move(
-    alloc: Global,
-    last: &Option<Recorded>,
-    writes: &Writes,
-) -> Result<Vec<Key>, AllocError>
-    ensures { IfOk result (λ keys. keys.items ≡ keys_to_move last.now writes.now) }
+/// The keys that are written; refused where memory ran out.
+pub(crate) fn written_keys(alloc: Global, writes: &Writes) -> Result<Vec<Key>, AllocError>
+    ensures { IfOk result (λ keys. keys.items ≡ keys_of (entries writes.now)) }
 {
     let mut keys = Vec::with_capacity(alloc, written_count(writes))?;
-    for (key, _) in writes.iter() {
+    for (key, _) in writes.as_slice() {
         keys.push(*key)?;
     }
-    if let Some(run) = last {
-        push_left_over(&mut keys, &run.receipt.writes, writes)?;
-    }
     Ok(keys)
+}
+
+/// Adds to the keys that a run wrote those that only the call's last recorded run wrote: these are the keys that the run
+/// is to move. Refused where memory ran out.
+pub(crate) fn add_left_over(
+    keys: &mut Vec<Key>,
+    last: &Option<Recorded>,
+    writes: &Writes,
+) -> Result<(), AllocError>
+    requires { keys.old.items ≡ keys_of (entries writes.now) }
+    ensures { OnOk result (keys.new.items ≡ keys_to_move last.now writes.now) }
+{
+    match last {
+        Some(run) => push_left_over(keys, &run.receipt.writes, writes),
+        None => Ok(()),
+    }
 }
 
 /// Adds the keys of `before` that `writes` does not have; refused where memory ran out.
 fn push_left_over(keys: &mut Vec<Key>, before: &Writes, writes: &Writes) -> Result<(), AllocError>
     ensures { OnOk result (keys.new.items ≡ keys.old.items ++ keys_of (filter (λ write. not (contains_key writes.now write.0)) (entries before.now))) }
 {
-    for (key, _) in before.iter() {
+    for (key, _) in before.as_slice() {
         if writes.get(key).is_none() {
             keys.push(*key)?;
         }
