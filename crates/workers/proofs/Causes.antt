@@ -1,18 +1,18 @@
 -- Why a step call is refused before its step is tried.
-use Rattle.std.proofs.Common.{◌≡◌, ◌≢◌, ◌<◌, ◌↔◌, ℕ, Option, None, Some, Result, Ok, Err, IfErr, length, refl, sym, subst, inl, inr}
+use Rattle.std.proofs.Common.{◌≡◌, ◌≢◌, ◌<◌, ◌↔◌, ◌∙◌, ℕ, Option, None, Some, ap, refl, sym, subst, inl, inr}
 use Rattle.stm_state.specs.Steps.{Step, Record}
 use Rattle.stm_state.specs.Steps as steps
+use Rattle.rv_ledger.specs.declared.outcome.Counts.{Counts}
+use Rattle.scheduler.specs.Schedule.{count_limit}
 use Rattle.rv_step.specs.declared.ended_run.EndedRun.{EndedRun}
 use Rattle.stm_core.specs.CoreState.{CoreState, IsOwn, IsRefused, IsTaken}
 use Rattle.stm_core.specs.declared.fault.RecordFault.{RecordFault}
-use Rattle.stm_core.specs.declared.fault.Refused.{Refused}
-use Rattle.stm_core.specs.declared.recording.Leftovers.{Leftovers}
 use Rattle.stm_core.specs.declared.fault.RecordFault.TheVariants as record_faults
 use Rattle.stm_core.specs.declared.next_step.NextStep.{NextStep}
 use Rattle.workers.specs.declared.book.share.Share.{Share}
 use Rattle.workers.specs.declared.fault.RunFault.{RunFault}
 use Rattle.workers.specs.declared.fault.RunFault.TheVariants as faults
-use Rattle.workers.specs.Book.{BookState, Owes, IsUnready, IsCause, IsCauseAfter, MayCount, MayWrite, run_fault}
+use Rattle.workers.specs.Book.{BookState, Owes, IsUnready, IsCause, IsCauseAfter, MayCount, first_fault, run_fault}
 
 cause_after : (first : Option RunFault) (next : NextStep) (share : Share) (b : CoreState) (Own : Type 0) (Wants : Type 0) (step : Step) (fault : RunFault)
     → IsUnready first next share b fault → IsCauseAfter first (Owes next share b) Own Wants step share.worker b fault
@@ -46,42 +46,18 @@ module _ (w : ℕ) (run : EndedRun) (b : CoreState) (f : RecordFault)
     pub record_cause : IsCauseAfter None Owed (IsOwn w run b) (IsTaken w Record b) Record w b (run_fault f)
     record_cause = cause_by f refl
 
-  may_write_by : (g : RecordFault) → f ≡ g → w < length b.state.tasks → MayWrite (run_fault g) b
-  may_write_by record_faults.Foreign e within = tt
-  may_write_by record_faults.ArenaFull e within = record { worker = w; within = within; step = Record; refused = full e }
-  may_write_by record_faults.IncarnationLimit e within = record { worker = w; within = within; step = Record; refused = limit e }
-  may_write_by record_faults.Memory e within = tt
-
-  -- it may be written
-  pub record_may_write : w < length b.state.tasks → MayWrite (run_fault f) b
-  record_may_write within = may_write_by f refl within
-
--- ---- a run that is handed in to a core
-
--- what the core says of a run that is handed in, by its answer
-pub record IsHandedIn (w : ℕ) (run : EndedRun) (b after : CoreState) (answer : Result Leftovers Refused) : Type 0 where
-  pub own : IfErr answer (λ e. e.fault ≢ record_faults.Foreign) ↔ IsOwn w run b
-  pub full : IfErr answer (λ e. e.fault ≡ record_faults.ArenaFull → IsRefused w Record steps.ArenaFull b)
-  pub limit : IfErr answer (λ e. e.fault ≡ record_faults.IncarnationLimit → IsRefused w Record steps.IncarnationLimit b)
-  pub memory : IfErr answer (λ e. e.fault ≡ record_faults.Memory → IsTaken w Record b)
-  pub back : IfErr answer (λ e. (e.run ≡ run) × (after ≡ b))
-
--- however it was handed in
-pub handed_in : (w : ℕ) (run : EndedRun) (b after now : CoreState) (answer told : Result Leftovers Refused) → told ≡ answer → now ≡ after → IsHandedIn w run b after answer → IsHandedIn w run b now told
-handed_in w run b after now answer told same kept h = subst (λ (x : CoreState). IsHandedIn w run b x told) (sym kept) (subst (IsHandedIn w run b after) (sym same) h)
-
--- a run that is taken is the task's own
-pub taken_own : (w : ℕ) (run : EndedRun) (b after : CoreState) (answer : Result Leftovers Refused) → IsHandedIn w run b after answer → (left : Leftovers) → answer ≡ Ok left → IsOwn w run b
-taken_own w run b after answer h left is = (subst (IsHandedIn w run b after) is h).own.0 tt
-
-module _ (w : ℕ) (run : EndedRun) (b after : CoreState) (answer : Result Leftovers Refused) (h : IsHandedIn w run b after answer) (refused : Refused) (is : answer ≡ Err refused) where
-  said : IsHandedIn w run b after (Err refused)
-  said = subst (IsHandedIn w run b after) is h
-
-  -- its refusal is a cause
-  pub refusal_cause : (Owed : Type 0) → Owed → MayCount w b → IsCauseAfter None Owed (IsOwn w run b) (IsTaken w Record b) Record w b (run_fault refused.fault)
-  refusal_cause Owed owed may = record_cause w run b refused.fault said.own said.full said.limit said.memory Owed owed may
-
-  -- it may be written
-  pub refusal_may_write : w < length b.state.tasks → MayWrite (run_fault refused.fault) after
-  refusal_may_write within = subst (MayWrite (run_fault refused.fault)) (sym said.back.1) (record_may_write w run b refused.fault said.own said.full said.limit said.memory within)
+-- a refusal that is written for it is a cause
+pub refused_cause : (next : NextStep) (share : Share) (run : EndedRun) (b now : BookState) → b ≡ now → (f : RecordFault)
+    → ((f ≢ record_faults.Foreign) ↔ IsOwn share.worker run b.core) → (f ≡ record_faults.ArenaFull → IsRefused share.worker Record steps.ArenaFull b.core)
+    → (f ≡ record_faults.IncarnationLimit → IsRefused share.worker Record steps.IncarnationLimit b.core) → (f ≡ record_faults.Memory → IsTaken share.worker Record b.core)
+    → Owes next share now.core → now.fault ≡ None → share.counts.steps < count_limit → (written : RunFault) → written ≡ first_fault b.fault (run_fault f)
+    → IsCause (Owes next share now.core) (IsOwn share.worker run now.core) (IsTaken share.worker Record now.core) Record share.worker now written
+refused_cause next share run b now same f own full limit memory owed none low written is =
+    let w = share.worker in
+    let owes : Owes next share b.core = subst (λ (x : BookState). Owes next share x.core) (sym same) owed in
+    let no_fault : b.fault ≡ None = subst (λ (x : BookState). x.fault ≡ None) (sym same) none in
+    let may : MayCount w b.core = subst (λ (n : Counts). n.steps < count_limit) owes.agrees.counts low in
+    let told : written ≡ run_fault f = is ∙ ap (λ o. first_fault o (run_fault f)) no_fault in
+    let after : Option RunFault → RunFault → Type 0 = λ o x. IsCauseAfter o (Owes next share b.core) (IsOwn w run b.core) (IsTaken w Record b.core) Record w b.core x in
+    subst (λ (x : BookState). IsCause (Owes next share x.core) (IsOwn w run x.core) (IsTaken w Record x.core) Record w x written) same
+    (subst (λ o. after o written) (sym no_fault) (subst (after None) (sym told) (record_cause w run b.core f own full limit memory (Owes next share b.core) owes may)))

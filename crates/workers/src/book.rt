@@ -1,5 +1,6 @@
 //! What stands under the lock: a core, and the first fault that was written.
 
+mod recording;
 pub mod share;
 pub mod written;
 
@@ -7,16 +8,13 @@ ghost use Rattle.std.specs.Prelude.{◌≡◌, List, []};
 ghost use Rattle.std.specs.FinMap as finite;
 ghost use Rattle.rv_ledger.specs.Key.{Storage};
 ghost use Rattle.rv_ledger.specs.Call.{Invocation};
-ghost use Rattle.workers.specs.Book.{run_fault};
 
 use crate::fault::{OutsideFault, RunFault};
 use rv_ledger::{Key, StoredValue};
-use rv_step::EndedRun;
 use scheduler::COUNT_LIMIT;
 pub use share::Share;
-use std::alloc::Global;
 use std::marker::{Brand, Model, PhantomData};
-use stm_core::{AskResult, Core, Leftovers, NextStep, ReadResult, RecordFault};
+use stm_core::{AskResult, Core, NextStep, ReadResult};
 pub use written::WrittenFault;
 
 /// A name of a job, for contracts alone: of its calls and of the storage before them. Who starts the job's
@@ -281,66 +279,6 @@ impl<J: JobName> Book<J> {
         }
     }
 
-    /// A worker hands in the ended run of a call at an incarnation. Returns the step that the worker owes
-    /// now. Refused as `ask` is, and as Foreign where the run is not of that call or its answers are not
-    /// those that were given. Otherwise refused as ArenaFull, IncarnationLimit or Memory, tested in this
-    /// order.
-    pub fn record(
-        &mut self,
-        alloc: Global,
-        share: &mut Share,
-        call: u16,
-        incarnation: u16,
-        run: EndedRun,
-    ) -> Result<NextStep, WrittenFault>
-        ensures made { OnOk result (IsMade (next_step.Run call incarnation) steps.Record self.old self.new share.old share.new) }
-        ensures next { IfOk result (λ next. next ≡ next_step_of self.new.core.state (task_at self.new.core.state share.new.worker)) }
-        ensures own { OnOk result (IsOwn share.old.worker run self.old.core) }
-        ensures dones { OnOk result (share.new.dones ≡ share.old.dones) }
-        ensures refused { IfErr result (λ e. LeavesWritten e self.old self.new share.old share.new) }
-        ensures cause { IfErr result (λ e. IsCause (Owes (next_step.Run call incarnation) share.old self.old.core) (IsOwn share.old.worker run self.old.core) (IsTaken share.old.worker steps.Record self.old.core) steps.Record share.old.worker self.old e) }
-    {
-        let (next, _) = self.record_known(alloc, share, call, incarnation, run, false)?;
-        Ok(next)
-    }
-
-    /// The same. `known` says that the run is of that call among those that `J` names. Where the core is known
-    /// to have these calls, the run's call is not compared with the core's. What the record leaves over is handed
-    /// out, so that it is dropped after the lock.
-    #[tactic(auto, using(crate::proofs::Stays::stays, crate::proofs::Causes::unready_cause))]
-    pub(crate) fn record_known(
-        &mut self,
-        alloc: Global,
-        share: &mut Share,
-        call: u16,
-        incarnation: u16,
-        run: EndedRun,
-        known: bool,
-    ) -> Result<(NextStep, Leftovers), WrittenFault>
-        requires known { known ≡ true → slice_get J.block call ≡ Some run.call }
-        ensures made { OnOk result (IsMade (next_step.Run call incarnation) steps.Record self.old self.new share.old share.new) }
-        ensures next { IfOk result (λ made. made.0 ≡ next_step_of self.new.core.state (task_at self.new.core.state share.new.worker)) }
-        ensures own { OnOk result (IsOwn share.old.worker run self.old.core) }
-        ensures dones { OnOk result (share.new.dones ≡ share.old.dones) }
-        ensures refused { IfErr result (λ e. LeavesWritten e self.old self.new share.old share.new) }
-        ensures cause { IfErr result (λ e. IsCause (Owes (next_step.Run call incarnation) share.old self.old.core) (IsOwn share.old.worker run self.old.core) (IsTaken share.old.worker steps.Record self.old.core) steps.Record share.old.worker self.old e) }
-    {
-        self.ready(share, NextStep::Run { call, incarnation })?;
-        stm_state::dones_grow_at_done();
-        let recorded = if known && self.known {
-            self.core.record_known(alloc, share.worker, run)
-        } else {
-            self.core.record(alloc, share.worker, run)
-        };
-        match recorded {
-            Ok(left) => {
-                self.update(share);
-                Ok((self.core.doing(share.worker), left))
-            }
-            Err(refused) => Err(self.write(run_fault(refused.fault))),
-        }
-    }
-
     /// A worker moves the next key of the run that it handed in, of a call at an incarnation. Returns the
     /// step that the worker owes now. Refused as `ask` is. Takes no memory.
     #[tactic(auto, using(crate::proofs::Stays::stays, crate::proofs::Causes::unready_cause))]
@@ -510,17 +448,5 @@ impl<J: JobName> Book<J> {
     {
         share.counts = self.core.counts(share.worker);
         share.dones = self.core.dones(share.worker);
-    }
-}
-
-/// The fault of a record that was refused.
-fn run_fault(fault: RecordFault) -> RunFault
-    ensures { result ≡ run_fault fault }
-{
-    match fault {
-        RecordFault::Foreign => RunFault::Foreign,
-        RecordFault::ArenaFull => RunFault::ArenaFull,
-        RecordFault::IncarnationLimit => RunFault::IncarnationLimit,
-        RecordFault::Memory => RunFault::Memory,
     }
 }

@@ -2,13 +2,9 @@
 
 use std::hint::spin_loop;
 
-/// How often a thread spins in a pause. A shorter one disturbs the threads that work, by tries of the lock and by
-/// asks for work that is not there yet.
-const SPINS: u32 = 64;
-
-/// Spins for a while.
-pub(crate) fn pause() {
-    for _ in 0..SPINS {
+/// Spins so many times, with the processor's hint for a thread that spins.
+pub(crate) fn spin_for(times: u32) {
+    for _ in 0..times {
         spin_loop();
     }
 }
@@ -32,15 +28,4 @@ impl Gate for Open {
 pub trait Spin {
     /// The cell did not show done. Promises nothing.
     fn spin(&self);
-}
-
-/// Spins for a while, with the processor's hint for a thread that spins.
-#[derive(Clone, Copy, Debug)]
-pub struct ProcessorHint;
-
-impl Spin for ProcessorHint {
-    /// Returns after a few microseconds at most.
-    fn spin(&self) {
-        pause();
-    }
 }

@@ -9,6 +9,7 @@ mod done_cell;
 mod executor;
 mod fault;
 mod gate;
+mod patience;
 mod shared;
 mod worker;
 
@@ -18,6 +19,6 @@ pub use chain::{Chain, ChainFault};
 pub use done_cell::{DoneCell, DonePass, LOOK_LIMIT, OneWay};
 pub use executor::Executor;
 pub use fault::RunFault;
-pub use gate::{Gate, Open, ProcessorHint, Spin};
+pub use gate::{Gate, Open, Spin};
 pub use shared::Shared;
 pub use worker::work;

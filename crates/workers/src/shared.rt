@@ -7,7 +7,7 @@ ghost use Rattle.workers.specs.DoneCell.{IsPassOf};
 use crate::book::{Book, JobName, Share, WrittenFault};
 use crate::done_cell::DoneCell;
 use crate::fault::OutsideFault;
-use crate::gate::pause;
+use crate::gate::spin_for;
 use rv_ledger::{Block, Store};
 use std::alloc::{AllocError, Global};
 use std::marker::Brand;
@@ -17,6 +17,9 @@ use version_arena::Arena;
 
 /// How often a thread tries the lock before it waits for it.
 const TRIES: u32 = 200;
+
+/// How often a thread spins between two tries. Fewer spins disturb the thread that has the lock.
+const SPINS: u32 = 64;
 
 /// What the threads of a block share: the lock with the book, the calls, which they run outside the lock, the
 /// storage before them, which they search outside the lock, and the cell, which they look at outside the lock.
@@ -118,7 +121,7 @@ impl<J: JobName> Shared<J> {
             if let Some(guard) = self.lock.try_lock() {
                 return guard;
             }
-            pause();
+            spin_for(SPINS);
         }
         self.lock.lock(rt)
     }

@@ -8,13 +8,24 @@ ghost use Rattle.workers.specs.DoneCell.{IsPassOf};
 
 use crate::book::{Book, JobName, Share, WrittenFault};
 use crate::fault::OutsideFault;
-use crate::gate::{Gate, ProcessorHint};
+use crate::gate::Gate;
+use crate::patience::Patience;
 use crate::shared::Shared;
 use rv_ledger::Key;
+use rv_mem::PageRoom;
 use rv_step::{Pause, Run};
 use std::alloc::Global;
+use std::mem::replace;
 use std::sync::Wait;
-use stm_core::{NextStep, ReadResult};
+use stm_core::{NextStep, Prepared, ReadResult};
+
+/// What a worker keeps from one step to the next: the room that the pages of one run leave to the next one, and its
+/// patience.
+#[derive(Drop)]
+struct Kept {
+    room: PageRoom,
+    patience: Patience,
+}
 
 /// The work of one thread. It makes the steps of its share's worker until an ask is answered Done, and then
 /// hands the share back; the cell shows done then. Refused as the step call that was refused, as Memory where
@@ -51,8 +62,12 @@ fn make_steps<J: JobName, R: Wait, G: Gate>(
     ensures shown { OnOk result (cell_view share.new.pass ≡ 1) }
 {
     let mut next = NextStep::Ask;
+    let mut kept = Kept {
+        room: PageRoom::new(alloc),
+        patience: Patience::new(),
+    };
     for _ in rt.forever() {
-        let Some(owed) = make_step(rt, alloc, shared, share, next, gate)? else {
+        let Some(owed) = make_step(rt, alloc, shared, share, &mut kept, next, gate)? else {
             return Ok(());
         };
         next = owed;
@@ -67,6 +82,7 @@ fn make_step<J: JobName, R: Wait, G: Gate>(
     alloc: Global,
     shared: &Shared<J>,
     share: &mut Share,
+    kept: &mut Kept,
     step: NextStep,
     gate: &G,
 ) -> Result<Option<NextStep>, WrittenFault>
@@ -77,13 +93,16 @@ fn make_step<J: JobName, R: Wait, G: Gate>(
     ensures shown { IfOk result (λ next. next ≡ None → cell_view share.new.pass ≡ 1) }
 {
     match step {
-        NextStep::Ask => ask(rt, shared, share),
+        NextStep::Ask => ask(rt, shared, share, &kept.patience),
         NextStep::Run { call, incarnation } => {
-            let next = run_call(rt, alloc, shared, share, call, incarnation, gate)?;
+            let room = &mut kept.room;
+            let next = run_call(rt, alloc, shared, share, room, call, incarnation, gate)?;
+            kept.patience.learn(next);
             Ok(Some(next))
         }
         _ => {
             let next = make_task_step(&mut shared.hold(rt), share, step)?;
+            kept.patience.learn(next);
             Ok(Some(next))
         }
     }
@@ -122,6 +141,7 @@ fn ask<J: JobName, R: Wait>(
     rt: &R,
     shared: &Shared<J>,
     share: &mut Share,
+    patience: &Patience,
 ) -> Result<Option<NextStep>, WrittenFault>
     requires cell { IsPassOf shared.now.cell share.old.pass }
     ensures cell { IsPassOf shared.now.cell share.new.pass }
@@ -132,7 +152,7 @@ fn ask<J: JobName, R: Wait>(
     let asked = shared.hold(rt).ask(share)?;
     match asked {
         None => shared.cell.set_done(rt, &mut share.pass),
-        Some(NextStep::Ask) => shared.cell.look(rt, &mut share.pass, &ProcessorHint),
+        Some(NextStep::Ask) => shared.cell.look(rt, &mut share.pass, patience),
         Some(_) => {}
     }
     Ok(asked)
@@ -145,6 +165,7 @@ fn run_call<J: JobName, R: Wait, G: Gate>(
     alloc: Global,
     shared: &Shared<J>,
     share: &mut Share,
+    room: &mut PageRoom,
     call: u16,
     incarnation: u16,
     gate: &G,
@@ -156,19 +177,25 @@ fn run_call<J: JobName, R: Wait, G: Gate>(
     let Some(own) = shared.block.calls().get(usize::from(call)) else {
         return Err(shared.refuse(rt, OutsideFault::Foreign));
     };
-    let Ok(mut run) = Run::start(alloc, own) else {
+    let Ok(mut run) = Run::start_in(alloc, replace(room, PageRoom::new(alloc)), own) else {
         return Err(shared.refuse(rt, OutsideFault::Memory));
     };
     if !run_to_end(rt, shared, share, call, incarnation, &mut run)? {
+        *room = run.into_room();
         return Ok(NextStep::Park { call, incarnation });
     }
     gate.held(share.worker());
-    let ended = run.finish();
+    let (ended, left) = run.finish_with_room();
+    *room = left;
+    let Ok(prepared) = Prepared::of(alloc, &ended) else {
+        return Err(shared.refuse(rt, OutsideFault::Memory));
+    };
+    let known = shared.known;
     let recorded = shared
         .hold(rt)
-        .record_known(alloc, share, call, incarnation, ended, shared.known);
-    // What is left over is dropped here, after the lock.
-    let (next, _left) = recorded?;
+        .record_known(alloc, share, call, incarnation, ended, prepared, known);
+    // The spent run is dropped here, after the lock.
+    let (next, _spent) = recorded?;
     Ok(next)
 }
 
