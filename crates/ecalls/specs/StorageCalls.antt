@@ -33,15 +33,24 @@ add_under rules.One = None
 add_under rules.Two = None
 add_under rules.Three = Some call.Add
 
+-- the number of a call
+abbrev pub number_of : StorageCall → ℕ
+number_of call.Read = 0
+number_of call.Write = 1
+number_of call.Remove = 2
+number_of call.Return = 3
+number_of call.Revert = 4
+number_of call.Add = 5
+
 -- the call that has a number under some rules
 abbrev pub numbered_call : Rules → ℕ → Option StorageCall
 numbered_call rules number =
-    if number == 0 then Some call.Read
-    else if number == 1 then Some call.Write
-    else if number == 2 then Some call.Remove
-    else if number == 3 then Some call.Return
-    else if number == 4 then Some call.Revert
-    else if number == 5 then add_under rules
+    if number == number_of call.Read then Some call.Read
+    else if number == number_of call.Write then Some call.Write
+    else if number == number_of call.Remove then Some call.Remove
+    else if number == number_of call.Return then Some call.Return
+    else if number == number_of call.Revert then Some call.Revert
+    else if number == number_of call.Add then add_under rules
     else None
 
 -- the length that the registers give for a call: that of its buffer, its value or its output

@@ -1,12 +1,12 @@
 //! The storage calls, their lengths and their charges.
 
 ghost use Rattle.std.specs.Prelude.{◌≡◌, ◌≤◌, IfOk};
-ghost use Rattle.ecalls.specs.StorageCalls.{add_under, added_amount, requested_call, numbered_call, charge_of, ecall_charge, late_charge, length_of, longest};
+ghost use Rattle.ecalls.specs.StorageCalls.{add_under, added_amount, requested_call, numbered_call, number_of, charge_of, ecall_charge, late_charge, length_of, longest};
 
 use rv_isa::{Reg, Regs};
 use rv_ledger::{OUTPUT_LIMIT, Rules, Trap};
 
-/// The gas of a READ before it asks.
+/// The gas of a READ, apart from the gas of the bytes that it copies.
 pub const READ_CHARGE: u32 = 200;
 
 /// A storage call, by its number in a7.
@@ -26,18 +26,38 @@ pub enum StorageCall {
     Add = 5,
 }
 
+// The number of each call, as a pattern.
+const READ: u32 = StorageCall::Read as u32;
+
+const WRITE: u32 = StorageCall::Write as u32;
+
+const REMOVE: u32 = StorageCall::Remove as u32;
+
+const RETURN: u32 = StorageCall::Return as u32;
+
+const REVERT: u32 = StorageCall::Revert as u32;
+
+const ADD: u32 = StorageCall::Add as u32;
+
 impl StorageCall {
+    /// The number in a7.
+    pub fn number(self) -> u32
+        ensures { result ≡ number_of self }
+    {
+        self as u32
+    }
+
     /// The storage call that has a number under some rules, or None where none has it.
     fn of(rules: Rules, number: u32) -> Option<StorageCall>
         ensures { result ≡ numbered_call rules number }
     {
         match number {
-            0 => Some(StorageCall::Read),
-            1 => Some(StorageCall::Write),
-            2 => Some(StorageCall::Remove),
-            3 => Some(StorageCall::Return),
-            4 => Some(StorageCall::Revert),
-            5 => StorageCall::add_under(rules),
+            READ => Some(StorageCall::Read),
+            WRITE => Some(StorageCall::Write),
+            REMOVE => Some(StorageCall::Remove),
+            RETURN => Some(StorageCall::Return),
+            REVERT => Some(StorageCall::Revert),
+            ADD => StorageCall::add_under(rules),
             _ => None,
         }
     }

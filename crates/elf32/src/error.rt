@@ -1,5 +1,8 @@
 //! Why a file or a program is refused.
 
+ghost use Rattle.std.specs.Prelude.{◌≡◌};
+ghost use Rattle.elf32.specs.Refusals.{name_of, number_of};
+
 use std::fmt;
 use thiserror::Error;
 
@@ -42,6 +45,39 @@ pub enum ElfError {
     Memory = 16,
 }
 
+impl ElfError {
+    /// The number in the refusal's line, 1 to 16.
+    pub fn number(self) -> u8
+        ensures { result ≡ number_of self }
+    {
+        self as u8
+    }
+
+    /// The name in the refusal's line.
+    pub fn name(self) -> &'static str
+        ensures { result.now ≡ name_of self }
+    {
+        match self {
+            ElfError::Truncated => "Truncated",
+            ElfError::BadMagic => "BadMagic",
+            ElfError::BadClassOrData => "BadClassOrData",
+            ElfError::BadVersion => "BadVersion",
+            ElfError::NotExec => "NotExec",
+            ElfError::NotRiscv => "NotRiscv",
+            ElfError::BadFlags => "BadFlags",
+            ElfError::BadHeaderSize => "BadHeaderSize",
+            ElfError::BadCount => "BadCount",
+            ElfError::BadType => "BadType",
+            ElfError::SegmentRange => "SegmentRange",
+            ElfError::SegmentOrder => "SegmentOrder",
+            ElfError::PageShared => "PageShared",
+            ElfError::WriteExecute => "WriteExecute",
+            ElfError::BadEntry => "BadEntry",
+            ElfError::Memory => "Memory",
+        }
+    }
+}
+
 impl fmt::Display for ElfError {
     ghost use Rattle.std.specs.Prelude.{Some};
     ghost use Rattle.elf32.specs.Refusals.{error_text};
@@ -49,24 +85,8 @@ impl fmt::Display for ElfError {
     ghost output = { λ fault. Some (error_text fault) };
 
     /// The name and the number.
+    #[tactic(auto, unfolding(crate::specs::Refusals::error_text))]
     fn fmt<W: fmt::Write>(&self, f: &mut fmt::Formatter<W>) -> fmt::Result {
-        match self {
-            ElfError::Truncated => f.write_str("Truncated 1"),
-            ElfError::BadMagic => f.write_str("BadMagic 2"),
-            ElfError::BadClassOrData => f.write_str("BadClassOrData 3"),
-            ElfError::BadVersion => f.write_str("BadVersion 4"),
-            ElfError::NotExec => f.write_str("NotExec 5"),
-            ElfError::NotRiscv => f.write_str("NotRiscv 6"),
-            ElfError::BadFlags => f.write_str("BadFlags 7"),
-            ElfError::BadHeaderSize => f.write_str("BadHeaderSize 8"),
-            ElfError::BadCount => f.write_str("BadCount 9"),
-            ElfError::BadType => f.write_str("BadType 10"),
-            ElfError::SegmentRange => f.write_str("SegmentRange 11"),
-            ElfError::SegmentOrder => f.write_str("SegmentOrder 12"),
-            ElfError::PageShared => f.write_str("PageShared 13"),
-            ElfError::WriteExecute => f.write_str("WriteExecute 14"),
-            ElfError::BadEntry => f.write_str("BadEntry 15"),
-            ElfError::Memory => f.write_str("Memory 16"),
-        }
+        write!(f, "{} {}", self.name(), self.number())
     }
 }

@@ -9,9 +9,6 @@ pub const END_ADDRESS: u32 = 0x0011_0000;
 /// The address of the input; segments end before it.
 pub const INPUT_ADDRESS: u32 = 0x0010_0000;
 
-/// The number of bytes of memory.
-pub const MEMORY_SIZE: usize = 0x0010_0000;
-
 /// The number of bytes of a page.
 pub const PAGE_SIZE: usize = 4096;
 

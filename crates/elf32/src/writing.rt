@@ -11,6 +11,7 @@ use crate::header::{HEADER_SIZE, PROGRAM_HEADER_SIZE, ProgramHeader};
 use crate::header_faults::{ELFCLASS32, ELFDATA2LSB, EM_RISCV, ET_EXEC, EV_CURRENT, MAGIC};
 use crate::segment_faults::{PF_R, PF_W, PF_X};
 use crate::table::PT_LOAD;
+use byteorder::{ByteOrder, LittleEndian};
 use rv_program::{DATA_START, Program, TEXT_START};
 use std::alloc::{AllocError, Global};
 
@@ -22,7 +23,9 @@ const P_ALIGN: u32 = 4;
 fn put_half(file: &mut Vec<u8>, half: u16) -> Result<(), AllocError>
     ensures { OnOk result (file.new.items ≡ file.old.items ++ half_bytes half) }
 {
-    file.extend_from_slice(&half.to_le_bytes())
+    let mut bytes = [0; 2];
+    LittleEndian::write_u16(&mut bytes, half);
+    file.extend_from_slice(&bytes)
 }
 
 /// Appends a number of four bytes.
@@ -30,7 +33,9 @@ fn put_half(file: &mut Vec<u8>, half: u16) -> Result<(), AllocError>
 fn put_word(file: &mut Vec<u8>, word: u32) -> Result<(), AllocError>
     ensures { OnOk result (file.new.items ≡ file.old.items ++ word_bytes word) }
 {
-    file.extend_from_slice(&word.to_le_bytes())
+    let mut bytes = [0; 4];
+    LittleEndian::write_u32(&mut bytes, word);
+    file.extend_from_slice(&bytes)
 }
 
 /// Appends magic, class, data, version and padding.

@@ -11,17 +11,17 @@ use crate::write::{WriteFault, write_whole};
 use std::alloc::{AllocError, Global};
 use std::io::Write;
 
-/// How many bytes of text are written at once.
+/// The most bytes of text that wait, and so the most that are written at once.
 const PIECE: usize = 65_536;
 
-/// Text on its way to a writer. What is appended waits until there is no room for more, and is then written. So the text
-/// of a result takes no more memory than that. After a write that was refused nothing more is written.
+/// Text on its way to a writer. What is appended waits until there is no room for more, and is then written. So no more
+/// than 65,536 bytes of a text are in memory at once. After a write that was refused nothing more is written.
 #[derive(Drop)]
 pub(crate) struct TextBuffer {
     waiting: Vec<u8>,
     refused: Option<WriteFault>,
     ghost room: { 65536 ≤ vec_capacity waiting },
-    ghost written: { vec_len waiting ≤ 65536 },
+    ghost waiting_fits: { vec_len waiting ≤ 65536 },
     ghost fault: { ForSome refused (λ fault. fault ≢ Memory) },
 }
 

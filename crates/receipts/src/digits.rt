@@ -67,7 +67,7 @@ fn push_sixteen<W: Write>(text: &mut TextBuffer, bytes: &[u8], out: &mut W)
     text.push(back.to_array().as_slice(), out);
 }
 
-/// Four bytes in eight hex digits; what follows them has no meaning.
+/// Four bytes in eight hex digits, and eight zeros behind them.
 fn four_digits(a: u8, b: u8, c: u8, d: u8) -> u8x16
     ensures { result ≡ take 16 (encode_lower (a ∷ b ∷ c ∷ d ∷ replicate 12 0)) }
 {

@@ -1,6 +1,7 @@
 //! How the text is written.
 
 ghost use Rattle.std.specs.Prelude.{◌≡◌, ◌≢◌, ◌<◌, ◌≤◌, length, take, IfOk, IfErr, OnErr, OnOk};
+ghost use Rattle.receipts.specs.Faults.{name_of, number_of};
 ghost use Rattle.receipts.specs.Text.{result_text};
 ghost use Rattle.receipts.specs.Written.{AppendsPart, taken_by};
 ghost use Rattle.std.specs.Io.KnownBytes.{Appends, Keeps};
@@ -24,6 +25,26 @@ pub enum WriteFault {
     Memory = 3,
 }
 
+impl WriteFault {
+    /// The number in the refusal's line, 1 to 3.
+    pub fn number(self) -> u8
+        ensures { result ≡ number_of self }
+    {
+        self as u8
+    }
+
+    /// The name in the refusal's line.
+    pub fn name(self) -> &'static str
+        ensures { result.now ≡ name_of self }
+    {
+        match self {
+            WriteFault::Io => "Io",
+            WriteFault::WroteNothing => "WroteNothing",
+            WriteFault::Memory => "Memory",
+        }
+    }
+}
+
 impl fmt::Display for WriteFault {
     ghost use Rattle.std.specs.Prelude.{Some};
     ghost use Rattle.receipts.specs.Faults.{fault_text};
@@ -31,12 +52,9 @@ impl fmt::Display for WriteFault {
     ghost output = { λ fault. Some (fault_text fault) };
 
     /// The name and the number.
+    #[tactic(auto, unfolding(crate::specs::Faults::fault_text))]
     fn fmt<W: fmt::Write>(&self, f: &mut fmt::Formatter<W>) -> fmt::Result {
-        match self {
-            WriteFault::Io => f.write_str("Io 1"),
-            WriteFault::WroteNothing => f.write_str("WroteNothing 2"),
-            WriteFault::Memory => f.write_str("Memory 3"),
-        }
+        write!(f, "{} {}", self.name(), self.number())
     }
 }
 

@@ -1,5 +1,6 @@
 //! What a block is made of, and what running it leaves: keys, values, calls, jobs, receipts and
-//! outcomes. Each type keeps its own limits, so that a value of it is always within them.
+//! outcomes. Each type but `Receipt` and `Outcome` keeps its own limits, so that a value of it is always within
+//! them.
 #![tactic(auto)]
 
 mod call;

@@ -27,6 +27,7 @@ use Rattle.ecalls.specs.declared.storage_call.StorageCall.TheVariants as call
 use Rattle.ecalls.specs.declared.request_kind.Request.{Request}
 use Rattle.ecalls.specs.declared.request_kind.Request.TheVariants as request
 use Rattle.rv_step.specs.declared.machine.Machine.{Machine}
+use Rattle.rv_step.specs.Charged.{gas_left}
 use Rattle.rv_step.specs.Step.{Progress, Going, Over, StepResult, Leads, Asks, TakesGas, charged_call_result, out_of_gas, instruction_result, answered, ecall_result, charged, compute_result, delivery_result, fetch_result, next_instruction, is_ecall, memory_result, decode_result, read_result, storage_call_result, step, load_result, trapped, value_result, write_result}
 
 -- a step leaves less gas where the call goes on, and no more where it ends
@@ -231,6 +232,38 @@ less_gas gas t h = h
 pub end_gas : (gas : ℕ) (end : End) (out : List ℕ) (t : Machine) → IsFalling gas (Over end out t) → t.gas ≤ gas
 unfolding IsFalling
 end_gas gas end out t h = h
+
+-- what is left after a charge that is there
+left_within : (gas : ℕ) (progress : Progress) → IsWithin gas progress → gas_left progress ≤ gas
+unfolding IsWithin
+left_within gas (Going t) h = h
+left_within gas (Over end out t) h = h
+
+charge_taken : (cost : ℕ) (s : Machine) (act : Machine → Progress) → 1 ≤ cost → cost ≤ s.gas → ((t : Machine) → IsWithin t.gas (act t)) → gas_left (charged cost s act) < s.gas
+charge_taken cost s act costs fits k =
+    let t : Machine = record s { gas = s.gas - cost } in
+    let there : nat_le cost s.gas ≡ true = grind (arith, nat_tests) in
+    let left : gas_left (act t) ≤ s.gas - cost = left_within (s.gas - cost) (act t) (k t) in
+    rw there (omega (arith, left))
+
+pub charged_instruction_takes : (s : Machine) (instr : Instr) → is_ecall instr ≡ false → cost_of instr ≤ s.gas → gas_left (charged (cost_of instr) s (λ t. instruction_result instr t)) < s.gas
+charged_instruction_takes s instr other fits = charge_taken (cost_of instr) s (λ t. instruction_result instr t) (instr_costs instr other) fits (λ t. acted_within instr t)
+
+pub charged_answer_takes : (s : Machine) (content : Option (List ℕ)) → charge_of call.Read s.regs ≤ s.gas → gas_left (answered s content) < s.gas
+unfolding answered
+charged_answer_takes s content fits = charge_taken (charge_of call.Read s.regs) s (λ t. delivery_result t content) (lit≤ tt) fits (λ t. delivered_within t content)
+
+led_within : (gas : ℕ) (o : StepResult) (progress : Progress) → IsStepWithin gas o → o ≡ Leads progress → gas_left progress ≤ gas
+unfolding IsStepWithin
+led_within gas o progress within led = left_within gas progress (subst (λ o. IsStepWithin gas o) led within)
+
+pub charged_call_takes : (s : Machine) (c : StorageCall) (progress : Progress) → charge_of c s.regs ≤ s.gas → ecall_result s (Ok (charge_of c s.regs)) ≡ Leads progress → gas_left progress < s.gas
+charged_call_takes s c progress fits led =
+    let t : Machine = record s { gas = s.gas - charge_of c s.regs } in
+    let there : nat_le (charge_of c s.regs) s.gas ≡ true = grind (arith, nat_tests) in
+    let costs = call_costs c s.regs in
+    let left = led_within t.gas (charged_call_result t) progress (served_within t (request_of t.regs t.memory t.rules)) (rw there at led) in
+    omega (arith, costs, left)
 
 takes_gas : (s : Machine) (progress : Progress) → IsFalling s.gas progress → TakesGas s progress
 unfolding IsFalling

@@ -5,6 +5,7 @@ pub mod Moments
 pub mod Beginnings
 pub mod Receipts
 pub mod Askings
+pub mod Charged
 pub mod Steps
 pub mod Reached
 pub mod Stops

@@ -1,6 +1,7 @@
 pub mod Step
 pub mod Moment
 pub mod Chain
+pub mod Charged
 pub mod Fold
 pub mod Replies
 pub mod Run

@@ -17,7 +17,7 @@ mod storage_calls;
 
 pub use answer::StorageAnswer;
 pub use ended_run::EndedRun;
-pub use laws::{call_ends, each_step_takes_gas, one_receipt};
+pub use laws::{call_ends, charged_steps_within_gas, each_step_takes_gas, one_receipt};
 pub use machine::Machine;
 pub use over::receipt_over;
 pub use run::{Pause, Run};

@@ -5,16 +5,31 @@ use Rattle.rv_text.specs.declared.fault.AsmError.{AsmError}
 use Rattle.rv_text.specs.declared.fault.AsmCause.{AsmCause}
 use Rattle.rv_text.specs.declared.fault.AsmCause.TheVariants.{UnknownMnemonic, BadOperand, ImmediateRange, UnknownLabel, DuplicateLabel, LabelRange, TooLarge, Memory}
 
--- the name and the number of a refusal
-abbrev pub cause_text : AsmCause → List ℕ
-cause_text UnknownMnemonic = codes "UnknownMnemonic 1"
-cause_text BadOperand = codes "BadOperand 2"
-cause_text ImmediateRange = codes "ImmediateRange 3"
-cause_text UnknownLabel = codes "UnknownLabel 4"
-cause_text DuplicateLabel = codes "DuplicateLabel 5"
-cause_text LabelRange = codes "LabelRange 6"
-cause_text TooLarge = codes "TooLarge 7"
-cause_text Memory = codes "Memory 8"
+-- the number of a refusal
+abbrev pub number_of : AsmCause → ℕ
+number_of UnknownMnemonic = 1
+number_of BadOperand = 2
+number_of ImmediateRange = 3
+number_of UnknownLabel = 4
+number_of DuplicateLabel = 5
+number_of LabelRange = 6
+number_of TooLarge = 7
+number_of Memory = 8
+
+-- its name
+abbrev pub name_of : AsmCause → List ℕ
+name_of UnknownMnemonic = codes "UnknownMnemonic"
+name_of BadOperand = codes "BadOperand"
+name_of ImmediateRange = codes "ImmediateRange"
+name_of UnknownLabel = codes "UnknownLabel"
+name_of DuplicateLabel = codes "DuplicateLabel"
+name_of LabelRange = codes "LabelRange"
+name_of TooLarge = codes "TooLarge"
+name_of Memory = codes "Memory"
+
+-- both, as they are printed
+unfoldable pub cause_text : AsmCause → List ℕ
+cause_text cause = name_of cause ++ codes " " ++ decimal (number_of cause)
 
 -- before them the number of the line; Memory has none
 abbrev pub line_text : ℕ → AsmCause → List ℕ

@@ -1,6 +1,7 @@
 //! Why a source is refused.
 
 ghost use Rattle.std.specs.Prelude.{◌≡◌};
+ghost use Rattle.rv_text.specs.Faults.{name_of, number_of};
 ghost use Rattle.rv_text.specs.declared.fault.AsmCause.TheVariants.{Memory};
 
 use rv_names::Cause;
@@ -30,6 +31,31 @@ pub enum AsmCause {
     Memory = 8,
 }
 
+impl AsmCause {
+    /// The number in the refusal's line, 1 to 8.
+    pub fn number(self) -> u8
+        ensures { result ≡ number_of self }
+    {
+        self as u8
+    }
+
+    /// The name in the refusal's line.
+    pub fn name(self) -> &'static str
+        ensures { result.now ≡ name_of self }
+    {
+        match self {
+            AsmCause::UnknownMnemonic => "UnknownMnemonic",
+            AsmCause::BadOperand => "BadOperand",
+            AsmCause::ImmediateRange => "ImmediateRange",
+            AsmCause::UnknownLabel => "UnknownLabel",
+            AsmCause::DuplicateLabel => "DuplicateLabel",
+            AsmCause::LabelRange => "LabelRange",
+            AsmCause::TooLarge => "TooLarge",
+            AsmCause::Memory => "Memory",
+        }
+    }
+}
+
 impl fmt::Display for AsmCause {
     ghost use Rattle.std.specs.Prelude.{Some};
     ghost use Rattle.rv_text.specs.Faults.{cause_text};
@@ -37,17 +63,9 @@ impl fmt::Display for AsmCause {
     ghost output = { λ cause. Some (cause_text cause) };
 
     /// The name and the number.
+    #[tactic(auto, unfolding(crate::specs::Faults::cause_text))]
     fn fmt<W: fmt::Write>(&self, f: &mut fmt::Formatter<W>) -> fmt::Result {
-        match self {
-            AsmCause::UnknownMnemonic => f.write_str("UnknownMnemonic 1"),
-            AsmCause::BadOperand => f.write_str("BadOperand 2"),
-            AsmCause::ImmediateRange => f.write_str("ImmediateRange 3"),
-            AsmCause::UnknownLabel => f.write_str("UnknownLabel 4"),
-            AsmCause::DuplicateLabel => f.write_str("DuplicateLabel 5"),
-            AsmCause::LabelRange => f.write_str("LabelRange 6"),
-            AsmCause::TooLarge => f.write_str("TooLarge 7"),
-            AsmCause::Memory => f.write_str("Memory 8"),
-        }
+        write!(f, "{} {}", self.name(), self.number())
     }
 }
 

@@ -3,8 +3,8 @@
 use rv_ledger::Change;
 use std::marker::Model;
 
-/// The name of a record: its place in the arena's list.
-#[derive(Clone, Copy, Debug, PartialEq, Eq)]
+/// The name of a record: its place in the arena's list. A record that was placed later has a greater one.
+#[derive(Clone, Copy, Debug, PartialEq, Eq, PartialOrd, Ord)]
 pub struct VersionId {
     pub(crate) place: usize,
 }
