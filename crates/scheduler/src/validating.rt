@@ -14,8 +14,9 @@ impl Scheduler {
     ghost use Rattle.scheduler.specs.Schedule.{KeepsRooms, MayCount, state_of};
 
     /// Ends a worker's check of the next read of a call that it validates. `stands` says whether the read
-    /// stood, and `left` is the number of reads after it. A read that did not stand fails the validation.
-    /// Where the call is no longer EXECUTED at the incarnation, the worker's task ends. Takes no memory.
+    /// stood, and `left` is the number of reads after it. Where the call is no longer EXECUTED at the
+    /// incarnation, the worker's task ends. Otherwise a read that did not stand fails the validation. Takes no
+    /// memory.
     pub fn finish_validation(
         &mut self,
         worker: usize,

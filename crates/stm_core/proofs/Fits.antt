@@ -10,9 +10,12 @@ use Rattle.stm_state.specs.declared.state.Task.TheVariants.{Running}
 use Rattle.stm_state.specs.State.{State, task_at}
 use Rattle.stm_state.specs.Steps.{Record}
 use Rattle.stm_state.proofs.Tests.{equal_itself}
-use Rattle.stm_core.specs.CoreState.{CoreState, IsOwn, answers_of, next_step_of, is_due, runs}
+use Rattle.stm_core.specs.CoreState.{CoreState, IsOwn, answers_of, next_step_of, is_due, runs, step_of}
 use Rattle.stm_core.specs.declared.next_step.NextStep.{NextStep}
 use Rattle.stm_core.specs.declared.next_step.NextStep.TheVariants as next_step
+use Rattle.stm_core.specs.declared.next_step.StepKind.{StepKind}
+use Rattle.stm_core.specs.declared.next_step.StepKind.TheVariants as kinds
+use Rattle.stm_core.proofs.Turns.{LeavesTask}
 use Rattle.stm_core.specs.Driving.{FitsTask, HasNoAnswers, IsRunOf}
 
 -- a worker's step is to let a run go on, which may end
@@ -34,6 +37,16 @@ no_run calls run task e h = h
 pub next_fits : (calls : List Invocation) (run : Option RunView) (old new : Task) → is_due Record old ≡ false → FitsTask calls run old → HasNoAnswers new → FitsTask calls run new
 next_fits calls None old new e h k = k
 next_fits calls (Some run) old new e h k = absurd (no_run calls run old e h)
+
+-- a step by its kind leaves no answers
+pub rests_after : (kind : StepKind) (task : Task) → LeavesTask (step_of kind) task → HasNoAnswers task
+rests_after kinds.Park task h = h.0
+rests_after kinds.MoveKey task h = h
+rests_after kinds.FinishExecution task h = h.0
+rests_after kinds.CheckRead task h = h.0
+rests_after kinds.Decide task h = h.0
+rests_after kinds.MarkEstimate task h = h.0
+rests_after kinds.FinishAbort task h = h.0
 
 -- all workers' runs fit their tasks still, where one of them has changed
 pub all_fit : (calls : List Invocation) (runs : List (Option RunView)) (s t : State) (w : ℕ) (run : Option RunView) → w < length runs → ((u : ℕ) → u ≢ w → task_at t u ≡ task_at s u)

@@ -1,8 +1,6 @@
 -- Each entry of the versions keeps a place.
-use Rattle.std.proofs.Common.{◌≡◌, ℕ, Bool, true, false, cond, is_some, List, [], ◌∷◌, ◌++◌, length, take, Option, None, Some, IsSome, IsTrue, refl, sym, ap, subst, ◌∙◌}
+use Rattle.std.proofs.Common.{◌≡◌, ℕ, Bool, true, false, cond, is_some, List, [], ◌∷◌, Option, None, Some, IsSome, IsTrue, refl, sym, ap, subst, ◌∙◌}
 use Rattle.std.specs.List.{All}
-use Rattle.std.proofs.Math.Seq.{take-append_seam}
-use Rattle.std.proofs.lemmas.List.{length-map}
 use Rattle.std.proofs.lemmas.List.Elements.{All-head, All-tail}
 use Rattle.std.specs.Option.{option_map}
 use Rattle.std.specs.Ordering.{eq_by_cmp}
@@ -54,10 +52,3 @@ module _ (places : FinSet place_cmp) where
     All-head (λ key. IsTrue (contains places (key, i))) e.0 (keys_of es) h,
     open_keys i es (All-tail (λ key. IsTrue (contains places (key, i))) e.0 (keys_of es) h),
   )
-
-  -- so are places at keys that begin with those of the writes
-  pub open_first : (i n : ℕ) (es : List (List ℕ × ContentChange)) (keys more : List (List ℕ)) → n ≡ length es → keys ≡ keys_of es ++ more → All (λ key. IsTrue (contains places (key, i))) (take n keys) → AreOpen places i es
-  open_first i n es keys more size same h =
-      let first : take n keys ≡ keys_of es =
-      ap (λ m. take m keys) (size ∙ sym (length-map es (λ e. e.0))) ∙ ap (take (length (keys_of es))) same ∙ take-append_seam (keys_of es) more in
-      open_keys i es (subst (λ ks. All (λ key. IsTrue (contains places (key, i))) ks) first h)

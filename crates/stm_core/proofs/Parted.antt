@@ -10,6 +10,7 @@ use Rattle.stm_state.proofs.Invariant.{named_by}
 use Rattle.scheduler.specs.declared.worker.TaskKind.TheVariants as task_kind
 use Rattle.scheduler.specs.Workers.{HasKeys, IsRunning, task_kind_of}
 use Rattle.stm_core.specs.declared.next_step.NextStep.TheVariants as next_step
+use Rattle.stm_core.specs.declared.next_step.StepKind.TheVariants as kinds
 use Rattle.stm_core.specs.CoreState.{IsWithin, next_step_of, is_due}
 
 -- ---- what a worker's duty says of its task
@@ -111,20 +112,20 @@ within_doing count s (Marking j (k ∷ keys)) h = h j refl
 within_doing count s (Marking j []) h = h j refl
 
 -- the step of a task that moves keys: the next key, where there is one
-pub moves_next : (s : State) (i : ℕ) (key : List ℕ) (keys : List (List ℕ)) (new : Bool) → Some key ≡ slice_get keys 0 → next_step.MoveKey i (call_at s i).incarnation ≡ next_step_of s (Moving i keys new)
+pub moves_next : (s : State) (i : ℕ) (key : List ℕ) (keys : List (List ℕ)) (new : Bool) → Some key ≡ slice_get keys 0 → next_step.Make kinds.MoveKey i (call_at s i).incarnation ≡ next_step_of s (Moving i keys new)
 moves_next s i key [] new h = cc
 moves_next s i key (k ∷ keys) new h = refl
 
-pub moves_none : (s : State) (i : ℕ) (keys : List (List ℕ)) (new : Bool) → None ≡ slice_get keys 0 → next_step.FinishExecution i (call_at s i).incarnation ≡ next_step_of s (Moving i keys new)
+pub moves_none : (s : State) (i : ℕ) (keys : List (List ℕ)) (new : Bool) → None ≡ slice_get keys 0 → next_step.Make kinds.FinishExecution i (call_at s i).incarnation ≡ next_step_of s (Moving i keys new)
 moves_none s i [] new h = refl
 moves_none s i (k ∷ keys) new h = cc
 
 -- so is that of a task that marks keys
-pub marks_next : (s : State) (i : ℕ) (key : List ℕ) (keys : List (List ℕ)) → Some key ≡ slice_get keys 0 → next_step.MarkEstimate i (call_at s i).incarnation ≡ next_step_of s (Marking i keys)
+pub marks_next : (s : State) (i : ℕ) (key : List ℕ) (keys : List (List ℕ)) → Some key ≡ slice_get keys 0 → next_step.Make kinds.MarkEstimate i (call_at s i).incarnation ≡ next_step_of s (Marking i keys)
 marks_next s i key [] h = cc
 marks_next s i key (k ∷ keys) h = refl
 
-pub marks_none : (s : State) (i : ℕ) (keys : List (List ℕ)) → None ≡ slice_get keys 0 → next_step.FinishAbort i (call_at s i).incarnation ≡ next_step_of s (Marking i keys)
+pub marks_none : (s : State) (i : ℕ) (keys : List (List ℕ)) → None ≡ slice_get keys 0 → next_step.Make kinds.FinishAbort i (call_at s i).incarnation ≡ next_step_of s (Marking i keys)
 marks_none s i [] h = refl
 marks_none s i (k ∷ keys) h = cc
 

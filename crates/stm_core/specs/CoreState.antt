@@ -16,6 +16,8 @@ use Rattle.stm_core.specs.declared.next_step.AskResult.{AskResult}
 use Rattle.stm_core.specs.declared.next_step.AskResult.TheVariants as ask_result
 use Rattle.stm_core.specs.declared.next_step.NextStep.{NextStep}
 use Rattle.stm_core.specs.declared.next_step.NextStep.TheVariants as next_step
+use Rattle.stm_core.specs.declared.next_step.StepKind.{StepKind}
+use Rattle.stm_core.specs.declared.next_step.StepKind.TheVariants as kinds
 use Rattle.stm_core.specs.declared.next_step.ReadResult.{ReadResult}
 use Rattle.stm_core.specs.declared.next_step.ReadResult.TheVariants as read_result
 use Rattle.stm_core.specs.declared.prepared.Prepared.{Prepared}
@@ -78,30 +80,34 @@ IsRefused w step limit b = worker_step (block_in b) w step b.state ≡ Some (Err
 abbrev pub IsTaken : ℕ → Step → CoreState → Type 0
 IsTaken w step b = (s : State) × (worker_step (block_in b) w step b.state ≡ Some (Ok s))
 
+-- the step of a kind
+abbrev pub step_of : StepKind → Step
+step_of kinds.Park = Park
+step_of kinds.MoveKey = Move_key
+step_of kinds.FinishExecution = Finish_execution
+step_of kinds.CheckRead = Check_read
+step_of kinds.Decide = Decide
+step_of kinds.MarkEstimate = Mark_estimate
+step_of kinds.FinishAbort = Finish_abort
+
 -- the step that a worker owes, with the call and its incarnation; in a validation, the one whose reads are checked
 abbrev pub next_step_of : State → Task → NextStep
 next_step_of s Idle = next_step.Ask
 next_step_of s (Running i answers None) = next_step.Run i (call_at s i).incarnation
-next_step_of s (Running i answers (Some b)) = next_step.Park i (call_at s i).incarnation
-next_step_of s (Moving i (key ∷ keys) new) = next_step.MoveKey i (call_at s i).incarnation
-next_step_of s (Moving i [] new) = next_step.FinishExecution i (call_at s i).incarnation
-next_step_of s (Validating i n left true) = next_step.Decide i n
-next_step_of s (Validating i n zero false) = next_step.Decide i n
-next_step_of s (Validating i n (suc left) false) = next_step.CheckRead i n
-next_step_of s (Marking i (key ∷ keys)) = next_step.MarkEstimate i (call_at s i).incarnation
-next_step_of s (Marking i []) = next_step.FinishAbort i (call_at s i).incarnation
+next_step_of s (Running i answers (Some b)) = next_step.Make kinds.Park i (call_at s i).incarnation
+next_step_of s (Moving i (key ∷ keys) new) = next_step.Make kinds.MoveKey i (call_at s i).incarnation
+next_step_of s (Moving i [] new) = next_step.Make kinds.FinishExecution i (call_at s i).incarnation
+next_step_of s (Validating i n left true) = next_step.Make kinds.Decide i n
+next_step_of s (Validating i n zero false) = next_step.Make kinds.Decide i n
+next_step_of s (Validating i n (suc left) false) = next_step.Make kinds.CheckRead i n
+next_step_of s (Marking i (key ∷ keys)) = next_step.Make kinds.MarkEstimate i (call_at s i).incarnation
+next_step_of s (Marking i []) = next_step.Make kinds.FinishAbort i (call_at s i).incarnation
 
 -- the call that a step names has an index below `count`
 abbrev pub IsWithin : ℕ → NextStep → Type 0
 IsWithin count next_step.Ask = Unit {0}
 IsWithin count (next_step.Run i n) = i < count
-IsWithin count (next_step.Park i n) = i < count
-IsWithin count (next_step.MoveKey i n) = i < count
-IsWithin count (next_step.FinishExecution i n) = i < count
-IsWithin count (next_step.CheckRead i n) = i < count
-IsWithin count (next_step.Decide i n) = i < count
-IsWithin count (next_step.MarkEstimate i n) = i < count
-IsWithin count (next_step.FinishAbort i n) = i < count
+IsWithin count (next_step.Make kind i n) = i < count
 
 -- the answer to `ask`, by whether all was done before it and by the task that the worker has after it
 abbrev pub ask_result_of : Bool → Task → AskResult

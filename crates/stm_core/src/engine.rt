@@ -5,15 +5,15 @@ ghost use Rattle.rv_step.specs.Fold.{receipts_of, store_after};
 ghost use Rattle.rv_step.specs.Run.{IsEnded};
 ghost use Rattle.rv_step.specs.declared.stage.Stage.TheVariants.{Asked};
 ghost use Rattle.stm_state.specs.State.{State, no_counts, start, task_at};
-ghost use Rattle.stm_state.specs.Steps.{IncarnationLimit, Park, Read_key, Record, worker_step};
+ghost use Rattle.stm_state.specs.Steps.{IncarnationLimit, Read_key, Record, worker_step};
 ghost use Rattle.stm_state.specs.Drive.{drive_of, driven, due_result};
 ghost use Rattle.stm_state.specs.declared.state.Task.TheVariants.{Running};
-ghost use Rattle.stm_core.specs.CoreState.{IsDue, IsRefused, Makes, answers_of, block_in};
+ghost use Rattle.stm_core.specs.CoreState.{IsDue, IsRefused, Makes, answers_of, block_in, step_of};
 ghost use Rattle.stm_core.specs.Driving.{FitsTask, IsRefusal, IsStepRefusal};
 ghost use Rattle.stm_core.specs.declared.engine.DriveFault.TheVariants.{Memory};
 
 use crate::fault::RecordFault;
-use crate::next_step::{NextStep, ReadResult};
+use crate::next_step::{NextStep, ReadResult, StepKind};
 use crate::prepared::Prepared;
 use crate::state::Core;
 use rv_ledger::{Job, Key, Outcome};
@@ -41,6 +41,31 @@ pub enum DriveFault {
     Memory = 5,
 }
 
+impl DriveFault {
+    ghost use Rattle.std.specs.Prelude.{◌≡◌};
+    ghost use Rattle.stm_core.specs.Faults.{fault_name, fault_number};
+
+    /// The number in what is printed, 1 to 5.
+    pub fn number(self) -> u8
+        ensures { result ≡ fault_number self }
+    {
+        self as u8
+    }
+
+    /// The name in what is printed.
+    pub fn name(self) -> &'static str
+        ensures { result.now ≡ fault_name self }
+    {
+        match self {
+            DriveFault::NotDone => "NotDone",
+            DriveFault::BadWorker => "BadWorker",
+            DriveFault::ArenaFull => "ArenaFull",
+            DriveFault::IncarnationLimit => "IncarnationLimit",
+            DriveFault::Memory => "Memory",
+        }
+    }
+}
+
 impl fmt::Display for DriveFault {
     ghost use Rattle.std.specs.Prelude.{Some};
     ghost use Rattle.stm_core.specs.Faults.{fault_text};
@@ -49,13 +74,7 @@ impl fmt::Display for DriveFault {
 
     /// The name and the number.
     fn fmt<W: fmt::Write>(&self, f: &mut fmt::Formatter<W>) -> fmt::Result {
-        match self {
-            DriveFault::NotDone => f.write_str("NotDone 1"),
-            DriveFault::BadWorker => f.write_str("BadWorker 2"),
-            DriveFault::ArenaFull => f.write_str("ArenaFull 3"),
-            DriveFault::IncarnationLimit => f.write_str("IncarnationLimit 4"),
-            DriveFault::Memory => f.write_str("Memory 5"),
-        }
+        write!(f, "{} {}", self.name(), self.number())
     }
 }
 
@@ -204,24 +223,18 @@ fn step(
             let _ = core.ask(worker);
         }
         NextStep::Run { call, .. } => *run = run_on(alloc, core, worker, call, run.take())?,
-        NextStep::Park { .. } => park(core, worker)?,
-        NextStep::MoveKey { .. } => core.move_key(worker),
-        NextStep::FinishExecution { .. } => core.finish_execution(worker),
-        NextStep::CheckRead { .. } => core.check_read(worker),
-        NextStep::Decide { .. } => core.decide(worker),
-        NextStep::MarkEstimate { .. } => core.mark_estimate(worker),
-        NextStep::FinishAbort { .. } => core.finish_abort(worker),
+        NextStep::Make { kind, .. } => make(core, worker, kind)?,
     }
     Ok(())
 }
 
-/// Parks a worker's call, or starts its run again; refused at incarnation 65,535.
-fn park(core: &mut Core, worker: usize) -> Result<(), DriveFault>
-    requires { IsDue worker Park core.old }
-    ensures makes { OnOk result (Makes worker Park core.old core.new) }
-    ensures refused { IfErr result (λ e. (e ≡ DriveFault.IncarnationLimit) × IsRefused worker Park IncarnationLimit core.old) }
+/// Makes a step of a worker's task that takes nothing else; refused as `Core::make` is.
+fn make(core: &mut Core, worker: usize, kind: StepKind) -> Result<(), DriveFault>
+    requires { IsDue worker (step_of kind) core.old }
+    ensures makes { OnOk result (Makes worker (step_of kind) core.old core.new) }
+    ensures refused { IfErr result (λ e. (e ≡ DriveFault.IncarnationLimit) × IsRefused worker (step_of kind) IncarnationLimit core.old) }
 {
-    match core.park(worker) {
+    match core.make(worker, kind) {
         Ok(()) => Ok(()),
         Err(_) => Err(DriveFault::IncarnationLimit),
     }

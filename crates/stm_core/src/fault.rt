@@ -17,6 +17,30 @@ pub enum RecordFault {
     IncarnationLimit = 4,
 }
 
+impl RecordFault {
+    ghost use Rattle.std.specs.Prelude.{◌≡◌};
+    ghost use Rattle.stm_core.specs.Faults.{record_name, record_number};
+
+    /// The number in what is printed, 1 to 4.
+    pub fn number(self) -> u8
+        ensures { result ≡ record_number self }
+    {
+        self as u8
+    }
+
+    /// The name in what is printed.
+    pub fn name(self) -> &'static str
+        ensures { result.now ≡ record_name self }
+    {
+        match self {
+            RecordFault::Foreign => "Foreign",
+            RecordFault::ArenaFull => "ArenaFull",
+            RecordFault::Memory => "Memory",
+            RecordFault::IncarnationLimit => "IncarnationLimit",
+        }
+    }
+}
+
 impl fmt::Display for RecordFault {
     ghost use Rattle.std.specs.Prelude.{Some};
     ghost use Rattle.stm_core.specs.Faults.{record_text};
@@ -25,12 +49,7 @@ impl fmt::Display for RecordFault {
 
     /// The name and the number.
     fn fmt<W: fmt::Write>(&self, f: &mut fmt::Formatter<W>) -> fmt::Result {
-        match self {
-            RecordFault::Foreign => f.write_str("Foreign 1"),
-            RecordFault::ArenaFull => f.write_str("ArenaFull 2"),
-            RecordFault::Memory => f.write_str("Memory 3"),
-            RecordFault::IncarnationLimit => f.write_str("IncarnationLimit 4"),
-        }
+        write!(f, "{} {}", self.name(), self.number())
     }
 }
 
@@ -45,5 +64,17 @@ pub struct Refused {
 
 /// The call is at incarnation 65,535.
 #[derive(Clone, Copy, Debug, PartialEq, Eq, Error)]
-#[error("IncarnationLimit 4")]
 pub struct IncarnationLimit;
+
+impl fmt::Display for IncarnationLimit {
+    ghost use Rattle.std.specs.Prelude.{Some};
+    ghost use Rattle.stm_core.specs.Faults.{record_text};
+    ghost use Rattle.stm_core.specs.declared.fault.RecordFault.TheVariants as fault;
+
+    ghost output = { λ _. Some (record_text fault.IncarnationLimit) };
+
+    /// The text of the record's fault of that name.
+    fn fmt<W: fmt::Write>(&self, f: &mut fmt::Formatter<W>) -> fmt::Result {
+        RecordFault::IncarnationLimit.fmt(f)
+    }
+}

@@ -17,7 +17,7 @@ mod versions;
 
 pub use engine::{DriveFault, WORKER_LIMIT, drive};
 pub use fault::{IncarnationLimit, RecordFault, Refused};
-pub use next_step::{AskResult, NextStep, ReadResult};
+pub use next_step::{AskResult, NextStep, ReadResult, StepKind};
 pub use prepared::Prepared;
 pub use recording::SpentRun;
 pub use state::Core;

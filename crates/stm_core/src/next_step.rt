@@ -15,55 +15,34 @@ pub enum NextStep {
         /// The call's incarnation.
         incarnation: u16,
     },
+    /// `make`.
+    Make {
+        /// Which step it makes.
+        kind: StepKind,
+        /// The call's index.
+        call: u16,
+        /// The call's incarnation; in a validation, the one whose reads are checked.
+        incarnation: u16,
+    },
+}
+
+/// A step of a worker's task that takes nothing but the worker.
+#[derive(Clone, Copy, Debug, PartialEq, Eq)]
+pub enum StepKind {
     /// `park`.
-    Park {
-        /// The call's index.
-        call: u16,
-        /// The call's incarnation.
-        incarnation: u16,
-    },
+    Park,
     /// `move_key`.
-    MoveKey {
-        /// The call's index.
-        call: u16,
-        /// The call's incarnation.
-        incarnation: u16,
-    },
+    MoveKey,
     /// `finish_execution`.
-    FinishExecution {
-        /// The call's index.
-        call: u16,
-        /// The call's incarnation.
-        incarnation: u16,
-    },
+    FinishExecution,
     /// `check_read`.
-    CheckRead {
-        /// The call's index.
-        call: u16,
-        /// The incarnation whose reads are checked.
-        incarnation: u16,
-    },
+    CheckRead,
     /// `decide`.
-    Decide {
-        /// The call's index.
-        call: u16,
-        /// The incarnation whose reads were checked.
-        incarnation: u16,
-    },
+    Decide,
     /// `mark_estimate`.
-    MarkEstimate {
-        /// The call's index.
-        call: u16,
-        /// The call's incarnation.
-        incarnation: u16,
-    },
+    MarkEstimate,
     /// `finish_abort`.
-    FinishAbort {
-        /// The call's index.
-        call: u16,
-        /// The call's incarnation.
-        incarnation: u16,
-    },
+    FinishAbort,
 }
 
 /// The answer to `ask`.

@@ -1,6 +1,6 @@
 //! The step that a worker owes, and a read of its run.
 
-ghost use Rattle.std.specs.Prelude.{◌≡◌, ◌<◌, ◌≤◌, ℕ, [], Bool, List, length, get_or, vec_capacity, Option, None, Ok, OnErr, OnOk};
+ghost use Rattle.std.specs.Prelude.{◌≡◌, ◌<◌, ◌≤◌, ℕ, [], Bool, List, length, get_or, vec_capacity, Option, None, Ok, IfSome, OnErr, OnOk};
 ghost use Rattle.std.specs.Option.{option_copied};
 ghost use Rattle.std.specs.FinMap as finite;
 ghost use Rattle.rv_ledger.specs.Key.{Storage};
@@ -17,11 +17,11 @@ ghost use Rattle.stm_core.specs.declared.next_step.ReadResult.TheVariants as rea
 ghost use Rattle.stm_core.specs.CoreState.{IsNoLess, IsRoomFor, index_run, next_step_of, read_result_of};
 ghost use Rattle.stm_core.specs.Inner.{room_of};
 
-use crate::next_step::{NextStep, ReadResult};
+use crate::next_step::{NextStep, ReadResult, StepKind};
 use crate::passed_lists::{PassedLists, larger, replace};
 use mvmap::{Answer, MvMap, with_amount};
 use read_set::Version;
-use rv_ledger::{Key, StoredValue, Value};
+use rv_ledger::{Key, Value};
 use rv_step::StorageAnswer;
 use scheduler::{Scheduler, TaskKind};
 use std::alloc::AllocError;
@@ -46,7 +46,8 @@ pub(crate) fn next_step_of(scheduler: &Scheduler, worker: usize) -> NextStep
         TaskKind::Running {
             call,
             blocked: Some(_),
-        } => NextStep::Park {
+        } => NextStep::Make {
+            kind: StepKind::Park,
             call,
             incarnation: scheduler.call(call).incarnation,
         },
@@ -69,9 +70,14 @@ fn moving_step(scheduler: &Scheduler, worker: usize, call: u16) -> NextStep
     ensures { (keys : List (List ℕ)) (new : Bool) → get_or scheduler.now.tasks worker task.Idle ≡ task.Moving call keys new → (v : Versions) (p : ℕ) → result ≡ next_step_of (state_of v p scheduler.now) (task.Moving call keys new) }
 {
     let incarnation = scheduler.call(call).incarnation;
-    match scheduler.next_key(worker) {
-        Some(_) => NextStep::MoveKey { call, incarnation },
-        None => NextStep::FinishExecution { call, incarnation },
+    let kind = match scheduler.next_key(worker) {
+        Some(_) => StepKind::MoveKey,
+        None => StepKind::FinishExecution,
+    };
+    NextStep::Make {
+        kind,
+        call,
+        incarnation,
     }
 }
 
@@ -79,10 +85,15 @@ fn moving_step(scheduler: &Scheduler, worker: usize, call: u16) -> NextStep
 fn validating_step(call: u16, incarnation: u16, left: usize, failed: bool) -> NextStep
     ensures { (s : State) → result ≡ next_step_of s (task.Validating call incarnation left failed) }
 {
-    if failed || left == 0 {
-        NextStep::Decide { call, incarnation }
+    let kind = if failed || left == 0 {
+        StepKind::Decide
     } else {
-        NextStep::CheckRead { call, incarnation }
+        StepKind::CheckRead
+    };
+    NextStep::Make {
+        kind,
+        call,
+        incarnation,
     }
 }
 
@@ -94,9 +105,14 @@ fn marking_step(scheduler: &Scheduler, worker: usize, call: u16) -> NextStep
     ensures { (keys : List (List ℕ)) → get_or scheduler.now.tasks worker task.Idle ≡ task.Marking call keys → (v : Versions) (p : ℕ) → result ≡ next_step_of (state_of v p scheduler.now) (task.Marking call keys) }
 {
     let incarnation = scheduler.call(call).incarnation;
-    match scheduler.next_key(worker) {
-        Some(_) => NextStep::MarkEstimate { call, incarnation },
-        None => NextStep::FinishAbort { call, incarnation },
+    let kind = match scheduler.next_key(worker) {
+        Some(_) => StepKind::MarkEstimate,
+        None => StepKind::FinishAbort,
+    };
+    NextStep::Make {
+        kind,
+        call,
+        incarnation,
     }
 }
 
@@ -163,7 +179,7 @@ fn index_run(kind: TaskKind) -> usize
 /// it then finds decides: the run is given the value that this version or the storage has, with the amounts
 /// added, or is blocked where it is an estimate. Takes no memory.
 pub(crate) fn read_at(
-    base: Option<&StoredValue>,
+    base: Option<&Value>,
     map: &MvMap,
     scheduler: &mut Scheduler,
     lists: &mut PassedLists,
@@ -183,7 +199,7 @@ pub(crate) fn read_at(
 {
     match map.read(key, call, &mut lists.kept) {
         Answer::Base(sum) => {
-            let value = with_amount(StoredValue::bytes_of(base), sum);
+            let value = with_amount(bytes_of(base), sum);
             give(scheduler, lists, worker, key, value, None)
         }
         Answer::Found(version, value) => give(scheduler, lists, worker, key, value, Some(version)),
@@ -191,6 +207,17 @@ pub(crate) fn read_at(
             scheduler.block(worker, writer);
             ReadResult::Blocked
         }
+    }
+}
+
+/// The bytes of a value, at most 256, or None for None.
+fn bytes_of(value: Option<&Value>) -> Option<&[u8]>
+    ensures value { option_copied result ≡ option_copied value.entry }
+    ensures short { IfSome result (λ bytes. length bytes.now ≤ 256) }
+{
+    match value {
+        Some(value) => Some(value.bytes()),
+        None => None,
     }
 }
 

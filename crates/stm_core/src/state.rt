@@ -6,7 +6,7 @@ ghost use Rattle.scheduler.specs.Workers.{IsTaskKindOf};
 ghost use Rattle.stm_core.specs.CoreState.{ask_result_of};
 
 use crate::fault::{IncarnationLimit, RecordFault, Refused};
-use crate::next_step::{AskResult, NextStep, ReadResult};
+use crate::next_step::{AskResult, NextStep, ReadResult, StepKind};
 use crate::outcome::{moved_outcome, outcome_of};
 use crate::passed_lists::PassedLists;
 use crate::prepared::Prepared;
@@ -15,9 +15,9 @@ use crate::reads::next_stands;
 use crate::recording::{SpentRun, check_limits, has_own_answers, is_run_of, record_run};
 use crate::versions::{mark_key, move_key};
 use mvmap::MvMap;
-use rv_ledger::{Counts, Job, Key, Outcome, StoredValue};
+use rv_ledger::{Counts, Job, Key, Outcome, StoredValue, Value};
 use rv_step::{EndedRun, StorageAnswer};
-use scheduler::{Scheduler, TaskKind};
+use scheduler::{INCARNATION_LIMIT, Scheduler, TaskKind};
 use std::alloc::{AllocError, Global};
 use std::marker::Model;
 use version_arena::Arena;
@@ -70,7 +70,7 @@ impl Core {
     ghost use Rattle.stm_state.specs.Parts.{CallsAreAttended, IsSized, OthersHaveEstimates, ReadsAreWatched, RunsAreBorneOut};
     ghost use Rattle.scheduler.specs.Schedule.{KeepsRooms};
     ghost use Rattle.stm_core.specs.declared.fault.RecordFault.TheVariants as fault;
-    ghost use Rattle.stm_core.specs.CoreState.{ask_result_of, HasReadRoom, IsDue, IsNoLess, IsOwn, IsPrepared, IsRefused, IsTaken, IsWithin, Makes, block_in, next_step_of, runs, read_result_of};
+    ghost use Rattle.stm_core.specs.CoreState.{ask_result_of, HasReadRoom, IsDue, IsNoLess, IsOwn, IsPrepared, IsRefused, IsTaken, IsWithin, Makes, block_in, next_step_of, runs, read_result_of, step_of};
 
     /// The state at the start of a job; refused where memory ran out.
     pub fn new(alloc: Global, job: Job, workers: usize) -> Result<Core, AllocError>
@@ -207,22 +207,12 @@ impl Core {
         ensures answers { (i : ℕ) → runs (task_at self.old.state worker) i ≡ true → result ≡ read_result_of self.old.job.store key.now (reading self.old.state.versions key.now i) }
         ensures passed { (i : ℕ) → runs (task_at self.old.state worker) i ≡ true → passed_in (reading self.old.state.versions key.now i) ≡ [] → self.new.passed ≡ self.old.passed }
     {
-        let TaskKind::Running { call, .. } = self.scheduler.task_kind(worker) else {
-            unreachable!();
-        };
-        read_at(
-            self.job.store.get(key),
-            &self.map,
-            &mut self.scheduler,
-            &mut self.passed,
-            worker,
-            call,
-            key,
-        )
+        let base = StoredValue::value_of(self.job.store.get(key));
+        self.read_over(worker, key, base.as_ref())
     }
 
     /// The same, where the caller has looked up what the storage before the block has at the key.
-    pub fn read_over(&mut self, worker: usize, key: &Key, base: Option<&StoredValue>) -> ReadResult
+    pub fn read_over(&mut self, worker: usize, key: &Key, base: Option<&Value>) -> ReadResult
         requires due { IsDue worker (steps.Read_key key.now) self.old }
         requires room { HasReadRoom worker self.old }
         requires base { option_copied base ≡ finite.get self.old.job.store key.now }
@@ -244,6 +234,26 @@ impl Core {
         )
     }
 
+    /// A worker makes a step of its task that takes nothing else: `park`, `move_key`, `finish_execution`,
+    /// `check_read`, `decide`, `mark_estimate` or `finish_abort`. Refused as `park` is, and then nothing
+    /// changes. Takes no memory.
+    pub fn make(&mut self, worker: usize, kind: StepKind) -> Result<(), IncarnationLimit>
+        requires { IsDue worker (step_of kind) self.old }
+        ensures makes { OnOk result (Makes worker (step_of kind) self.old self.new) }
+        ensures refused { OnErr result (IsRefused worker (step_of kind) steps.IncarnationLimit self.old × (self.new ≡ self.old)) }
+    {
+        match kind {
+            StepKind::Park => return self.park(worker),
+            StepKind::MoveKey => self.move_key(worker),
+            StepKind::FinishExecution => self.finish_execution(worker),
+            StepKind::CheckRead => self.check_read(worker),
+            StepKind::Decide => self.decide(worker),
+            StepKind::MarkEstimate => self.mark_estimate(worker),
+            StepKind::FinishAbort => self.finish_abort(worker),
+        }
+        Ok(())
+    }
+
     /// A worker's run that met an estimate is parked, or starts again where the call that it waits for is
     /// EXECUTED by now. Refused at incarnation 65,535, and then nothing changes. Takes no memory.
     pub fn park(&mut self, worker: usize) -> Result<(), IncarnationLimit>
@@ -258,7 +268,7 @@ impl Core {
         else {
             unreachable!();
         };
-        if self.scheduler.call(call).incarnation == u16::MAX {
+        if self.scheduler.call(call).incarnation == INCARNATION_LIMIT {
             return Err(IncarnationLimit);
         }
         self.scheduler.add_dependency(worker, call, on);

@@ -1,5 +1,5 @@
 -- A chain of blocks, and one block more.
-use Rattle.std.proofs.Common.{◌≡◌, ◌≢◌, ◌≤◌, length, IfErr, inl, inr, arith, ℕ, List, [], ◌∷◌, ◌++◌, Result, Ok, Err, sym, subst, refl, ◌∙◌}
+use Rattle.std.proofs.Common.{◌≡◌, ◌≢◌, ◌≤◌, ◌⊎◌, length, IfErr, inl, inr, arith, ℕ, List, [], ◌∷◌, ◌++◌, Result, Ok, Err, sym, subst, refl, ◌∙◌}
 use Rattle.std.specs.Global.{Vec}
 use Rattle.rv_ledger.specs.Key.{Storage}
 use Rattle.rv_ledger.specs.Call.{Invocation}
@@ -8,9 +8,9 @@ use Rattle.rv_step.specs.Fold.{store_after, store_after_call}
 use Rattle.rv_ledger.specs.declared.job.Job.{Job}
 use Rattle.rv_ledger.specs.declared.outcome.Outcome.{Outcome}
 use Rattle.stm_state.specs.Steps as steps
-use Rattle.workers.specs.History.{HasLimit}
+use Rattle.workers.specs.History.{HasLimit, HasStepLimit}
 use Rattle.workers.specs.declared.chain.ChainFault.{ChainFault}
-use Rattle.workers.specs.declared.chain.ChainFault.TheVariants.{Run}
+use Rattle.workers.specs.declared.chain.ChainFault.TheVariants.{Run, TooManyCalls}
 use Rattle.workers.specs.declared.fault.RunFault.{RunFault}
 use Rattle.workers.specs.declared.fault.RunFault.TheVariants as faults
 use Rattle.workers.specs.Chain.{IsBlockAnswer, IsChain, calls_run, store_left}
@@ -26,14 +26,24 @@ run_is a b e = cc
 -- the answer to a block whose run was refused
 pub refused_block : (job : Job) (workers : ℕ) (answer : Result Outcome RunFault) (fault : RunFault) → answer ≡ Err fault → length job.block ≤ 1024 → 1 ≤ workers → workers ≤ 32
     → IfErr answer (λ e. e ≢ faults.BadCount) → IfErr answer (λ e. e ≡ faults.ArenaFull → HasLimit job workers steps.ArenaFull)
-    → IfErr answer (λ e. e ≡ faults.IncarnationLimit → HasLimit job workers steps.IncarnationLimit) → IsBlockAnswer job.store job.block workers (Err (Run fault))
-refused_block job workers answer fault is short some few good full limit =
+    → IfErr answer (λ e. e ≡ faults.IncarnationLimit → HasLimit job workers steps.IncarnationLimit) → IfErr answer (λ e. e ≡ faults.StepLimit → HasStepLimit job workers)
+    → IsBlockAnswer job.store job.block workers (Err (Run fault))
+refused_block job workers answer fault is short some few good full limit step_limit =
     let not_bad = subst (λ (r : Result Outcome RunFault). IfErr r (λ e. e ≢ faults.BadCount)) is good in (
       ((λ e. cc), (λ long. absurd (omega (arith, short, long)))),
       ((λ e. absurd (not_bad (run_is fault faults.BadCount e))), (λ bad. absurd (elim bad.1 [ inl none ↦ omega (arith, none, some) | inr many ↦ omega (arith, many, few) ]))),
       (λ e. subst (λ (r : Result Outcome RunFault). IfErr r (λ f. f ≡ faults.ArenaFull → HasLimit job workers steps.ArenaFull)) is full (run_is fault faults.ArenaFull e)),
       (λ e. subst (λ (r : Result Outcome RunFault). IfErr r (λ f. f ≡ faults.IncarnationLimit → HasLimit job workers steps.IncarnationLimit)) is limit (run_is fault faults.IncarnationLimit e)),
+      (λ e. subst (λ (r : Result Outcome RunFault). IfErr r (λ f. f ≡ faults.StepLimit → HasStepLimit job workers)) is step_limit (run_is fault faults.StepLimit e)),
     )
+
+-- a block whose calls are run is refused neither as TooManyCalls nor as BadCount
+pub not_refused_before : (store : Storage) (calls : List Invocation) (workers : ℕ) (answer : Result (Vec Receipt) ChainFault) → IsBlockAnswer store calls workers answer
+    → length calls ≤ 1024 → 1 ≤ workers → workers ≤ 32 → (answer ≡ Err TooManyCalls) ⊎ (answer ≡ Err (Run faults.BadCount)) → ⊥
+not_refused_before store calls workers answer h short some few (inl e) = let long = (subst (IsBlockAnswer store calls workers) e h).0.0 refl in omega (arith, short, long)
+not_refused_before store calls workers answer h short some few (inr e) =
+    let bad = (subst (IsBlockAnswer store calls workers) e h).1.0 refl in
+    elim bad.1 [ inl none ↦ omega (arith, none, some) | inr many ↦ omega (arith, many, few) ]
 
 -- blocks after blocks
 chain_append : (blocks more : List (Vec Invocation × ℕ)) (answers others : List (Result (Vec Receipt) ChainFault)) (store middle last : Storage)

@@ -18,9 +18,9 @@ use Rattle.stm_core.specs.CoreState.{CoreState, block_in}
 use Rattle.workers.specs.declared.book.share.Share.{Share}
 use Rattle.workers.specs.declared.fault.RunFault.{RunFault}
 use Rattle.workers.specs.declared.fault.RunFault.TheVariants as faults
-use Rattle.workers.specs.Book.{BookState, FaultFits, IsAtLimit, MayWrite, counts_of_share}
-use Rattle.workers.specs.Settle.{AreSettled, AreSharesOf, IsShareOf, IsOutcomeOf, IsOutcomeOrMemory, IsSettledAfter, IsSettled}
-use Rattle.workers.specs.History.{HasHistory, HasLimit, AreOneWorkerCounts}
+use Rattle.workers.specs.Book.{BookState, FaultFits, HasFullCount, IsAtLimit, MayWrite, counts_of_share}
+use Rattle.workers.specs.Settle.{AreSettled, AreSharesOf, IsShareOf, IsOutcomeOf, IsOutcomeOrMemory, IsSettledAfter}
+use Rattle.workers.specs.History.{HasHistory, HasLimit, HasStepLimit, AreOneWorkerCounts}
 
 -- ---- what an answer says of the book
 
@@ -35,21 +35,6 @@ err_after : (first : Option RunFault) (b : CoreState) (shares : List Share) (ans
 err_after (Some g) b shares answer f h e = inl cc
 err_after None b shares answer f (inl h) e = inr (inr (subst (IsOutcomeOrMemory b) e h.1))
 err_after None b shares answer f (inr h) e = let k = h.1 in inr (inl cc)
-
-module _ (job : Job) (shares : List Share) (b : BookState) (answer : Result Outcome RunFault) (settled : IsSettled job shares b answer) where
-  -- an outcome is that of a settled core of this job
-  pub ok_settled : (o : Outcome) → answer ≡ Ok o → (b.core.job ≡ job) × (AreSettled b.core shares × IsOutcomeOf b.core o)
-  ok_settled o e = elim settled [
-    | inl h ↦ (h.0, ok_after b.fault b.core shares answer o h.1 e)
-    | inr h ↦ (let k = h.1 in cc)
-  ]
-
-  -- a fault is the one that was written beside a core of this job, or Foreign or Memory
-  pub err_settled : (f : RunFault) → answer ≡ Err f → ((b.core.job ≡ job) × (b.fault ≡ Some f)) ⊎ ((f ≡ faults.Foreign) ⊎ (f ≡ faults.Memory))
-  err_settled f e = elim settled [
-    | inl h ↦ elim (err_after b.fault b.core shares answer f h.1 e) [ inl k ↦ inl (h.0, k) | inr k ↦ inr k ]
-    | inr h ↦ (let k = h.1 in inr (inl cc))
-  ]
 
 -- ---- the history
 
@@ -109,49 +94,54 @@ size_is core b found same is = is ∙ ap (λ (x : CoreState). length x.state.tas
 
 -- ---- what is answered for a job and a number of workers
 
-module _ (job : Job) (workers : ℕ) (shares : List Share) (b : BookState) (settled_answer : Result Outcome RunFault) (settled : IsSettled job shares b settled_answer)
+module _ (job : Job) (workers : ℕ) (shares : List Share) (b : BookState) (same : b.core.job ≡ job) (settled_answer : Result Outcome RunFault) (settled : IsSettledAfter b.fault b.core shares settled_answer)
     (reached : Reached (block_in b.core) (length b.core.state.tasks) b.core.state) (sized : IsSized (length b.core.job.block) (length b.core.state.tasks) b.core.state)
     (fits : FaultFits b.core b.fault) (found : ℕ) (size : found ≡ length b.core.state.tasks) where
   module _ (answer : Result Outcome RunFault) (ok : IfOk answer (λ o. (settled_answer ≡ Ok o) × (found ≡ workers))) where
     pub job_is : IfOk answer (λ o. o.job ≡ job)
-    job_is = IfOk-weaker answer _ _ (λ o h. let k = ok_settled job shares b settled_answer settled o h.0 in k.1.1.job ∙ k.0) ok
+    job_is = IfOk-weaker answer _ _ (λ o h. let k = ok_after b.fault b.core shares settled_answer o settled h.0 in k.1.job ∙ same) ok
 
     pub receipts_are : IfOk answer (λ o. o.receipts.items ≡ receipts_of job.block job.store)
-    receipts_are = IfOk-weaker answer _ _ (λ o h. let k = ok_settled job shares b settled_answer settled o h.0 in k.1.1.receipts ∙ ap (λ (j : Job). receipts_of j.block j.store) k.0) ok
+    receipts_are = IfOk-weaker answer _ _ (λ o h. let k = ok_after b.fault b.core shares settled_answer o settled h.0 in k.1.receipts ∙ ap (λ (j : Job). receipts_of j.block j.store) same) ok
 
     pub store_is : IfOk answer (λ o. o.store ≡ store_after job.block job.store)
-    store_is = IfOk-weaker answer _ _ (λ o h. let k = ok_settled job shares b settled_answer settled o h.0 in k.1.1.store ∙ ap (λ (j : Job). store_after j.block j.store) k.0) ok
+    store_is = IfOk-weaker answer _ _ (λ o h. let k = ok_after b.fault b.core shares settled_answer o settled h.0 in k.1.store ∙ ap (λ (j : Job). store_after j.block j.store) same) ok
 
     pub shares_are : IfOk answer (λ o. AreSharesOf o.counts.items shares)
     shares_are = IfOk-weaker answer _ _ (λ o h.
-        let k = ok_settled job shares b settled_answer settled o h.0 in
-        subst (λ (counts : List Counts). AreSharesOf counts shares) (sym k.1.1.counts) (settled_shares b.core shares k.1.0 sized)) ok
+        let k = ok_after b.fault b.core shares settled_answer o settled h.0 in
+        subst (λ (counts : List Counts). AreSharesOf counts shares) (sym k.1.counts) (settled_shares b.core shares k.0 sized)) ok
 
     pub history_is : ReachedByList → LastEntryIsDone → IfOk answer (λ o. HasHistory job workers o.counts.items)
     history_is by_list last = IfOk-weaker answer _ _ (λ o h.
-        let k = ok_settled job shares b settled_answer settled o h.0 in
-        let counts = k.1.1.counts in
-        subst (λ (j : Job). HasHistory j workers o.counts.items) k.0
+        let k = ok_after b.fault b.core shares settled_answer o settled h.0 in
+        let counts = k.1.counts in
+        subst (λ (j : Job). HasHistory j workers o.counts.items) same
         (subst (λ n. HasHistory b.core.job n o.counts.items) (sym size ∙ h.1)
-        (subst (HasHistory b.core.job (length b.core.state.tasks)) (sym counts) (has_history b.core shares k.1.0 reached by_list last)))) ok
+        (subst (HasHistory b.core.job (length b.core.state.tasks)) (sym counts) (has_history b.core shares k.0 reached by_list last)))) ok
 
     pub one_worker_is : OneWorkerCountsWhereReached → IfOk answer (λ o. workers ≡ 1 → AreOneWorkerCounts (length job.block) o.counts.items)
     one_worker_is law = IfOk-weaker answer _ _ (λ o h one.
-        let k = ok_settled job shares b settled_answer settled o h.0 in
-        let counts = k.1.1.counts in
-        subst (λ (j : Job). AreOneWorkerCounts (length j.block) o.counts.items) k.0
-        (subst (AreOneWorkerCounts (length b.core.job.block)) (sym counts) (are_one_worker_counts b.core shares k.1.0 reached law (sym size ∙ h.1 ∙ one)))) ok
+        let k = ok_after b.fault b.core shares settled_answer o settled h.0 in
+        let counts = k.1.counts in
+        subst (λ (j : Job). AreOneWorkerCounts (length j.block) o.counts.items) same
+        (subst (AreOneWorkerCounts (length b.core.job.block)) (sym counts) (are_one_worker_counts b.core shares k.0 reached law (sym size ∙ h.1 ∙ one)))) ok
 
   -- a limit that was written is met by some list
-  limit_met : (limit : Limit) → IsAtLimit limit b.core → b.core.job ≡ job → found ≡ workers → HasLimit job workers limit
-  limit_met limit at same asked = subst (λ (j : Job). HasLimit j workers limit) same (subst (λ n. HasLimit b.core.job n limit) (sym size ∙ asked)
+  limit_met : (limit : Limit) → IsAtLimit limit b.core → found ≡ workers → HasLimit job workers limit
+  limit_met limit at asked = subst (λ (j : Job). HasLimit j workers limit) same (subst (λ n. HasLimit b.core.job n limit) (sym size ∙ asked)
       (record { state = b.core.state; reached = reached; worker = at.worker; within = at.within; step = at.step; refused = at.refused }))
+
+  -- a full count beside which StepLimit was written is reached
+  step_limit_met : HasFullCount b.core → found ≡ workers → HasStepLimit job workers
+  step_limit_met at asked = subst (λ (j : Job). HasStepLimit j workers) same (subst (HasStepLimit b.core.job) (sym size ∙ asked)
+      (record { state = b.core.state; reached = reached; worker = at.worker; within = at.within; full = at.steps }))
 
   -- a fault that is neither Foreign nor Memory was written
   written : (f : RunFault) → ((settled_answer ≡ Err f) × (found ≡ workers)) ⊎ ((f ≡ faults.Foreign) × (found ≢ workers)) → f ≢ faults.Foreign → f ≢ faults.Memory
-      → (b.core.job ≡ job) × MayWrite f b.core × (found ≡ workers)
-  written f (inl h) foreign memory = elim (err_settled job shares b settled_answer settled f h.0) [
-    | inl k ↦ (k.0, subst (FaultFits b.core) k.1 fits, h.1)
+      → MayWrite f b.core × (found ≡ workers)
+  written f (inl h) foreign memory = elim (err_after b.fault b.core shares settled_answer f settled h.0) [
+    | inl k ↦ (subst (FaultFits b.core) k fits, h.1)
     | inr (inl k) ↦ absurd (foreign k)
     | inr (inr k) ↦ absurd (memory k)
   ]
@@ -159,10 +149,13 @@ module _ (job : Job) (workers : ℕ) (shares : List Share) (b : BookState) (sett
 
   module _ (answer : Result Outcome RunFault) (err : IfErr answer (λ f. ((settled_answer ≡ Err f) × (found ≡ workers)) ⊎ ((f ≡ faults.Foreign) × (found ≢ workers)))) where
     pub never_bad_count : IfErr answer (λ f. f ≢ faults.BadCount)
-    never_bad_count = IfErr-weaker answer _ _ (λ f h e. (subst (λ (g : RunFault). MayWrite g b.core) e (written f h (λ k. cc) (λ k. cc)).1)) err
+    never_bad_count = IfErr-weaker answer _ _ (λ f h e. (subst (λ (g : RunFault). MayWrite g b.core) e (written f h (λ k. cc) (λ k. cc)).0)) err
 
     pub full_is : IfErr answer (λ f. f ≡ faults.ArenaFull → HasLimit job workers steps.ArenaFull)
-    full_is = IfErr-weaker answer _ _ (λ f h e. let w = written f h (λ k. cc) (λ k. cc) in limit_met steps.ArenaFull (subst (λ (g : RunFault). MayWrite g b.core) e w.1) w.0 w.2) err
+    full_is = IfErr-weaker answer _ _ (λ f h e. let w = written f h (λ k. cc) (λ k. cc) in limit_met steps.ArenaFull (subst (λ (g : RunFault). MayWrite g b.core) e w.0) w.1) err
 
     pub limit_is : IfErr answer (λ f. f ≡ faults.IncarnationLimit → HasLimit job workers steps.IncarnationLimit)
-    limit_is = IfErr-weaker answer _ _ (λ f h e. let w = written f h (λ k. cc) (λ k. cc) in limit_met steps.IncarnationLimit (subst (λ (g : RunFault). MayWrite g b.core) e w.1) w.0 w.2) err
+    limit_is = IfErr-weaker answer _ _ (λ f h e. let w = written f h (λ k. cc) (λ k. cc) in limit_met steps.IncarnationLimit (subst (λ (g : RunFault). MayWrite g b.core) e w.0) w.1) err
+
+    pub step_limit_is : IfErr answer (λ f. f ≡ faults.StepLimit → HasStepLimit job workers)
+    step_limit_is = IfErr-weaker answer _ _ (λ f h e. let w = written f h (λ k. cc) (λ k. cc) in step_limit_met (subst (λ (g : RunFault). MayWrite g b.core) e w.0) w.1) err

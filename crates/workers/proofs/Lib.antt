@@ -1,8 +1,9 @@
 pub mod Stays
+pub mod Askings
 pub mod Zeros
 pub mod Causes
 pub mod AskResults
 pub mod Histories
 pub mod Chains
 pub mod Ways
-pub mod Settled
+pub mod Working

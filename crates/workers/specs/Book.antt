@@ -1,14 +1,16 @@
 -- A core with the first fault that was written, the share of a worker, and what the step calls owe.
-use Rattle.std.specs.Prelude.{◌≡◌, ◌<◌, ◌+◌, ◌⊎◌, ℕ, zero, suc, Bool, true, false, List, [], ◌∷◌, ◌++◌, length, get_or, Option, None, Some}
-use Rattle.rv_ledger.specs.Call.{Invocation}
-use Rattle.rv_ledger.specs.Key.{Storage}
+use Rattle.std.specs.Prelude.{⊤, Result, Ok, Err, ◌≡◌, ◌<◌, ◌+◌, ◌⊎◌, ℕ, zero, suc, Bool, true, false, List, [], ◌∷◌, ◌++◌, length, get_or, Option, None, Some}
 use Rattle.rv_ledger.specs.declared.outcome.Counts.{Counts}
+use Rattle.mvmap.specs.Reading.{reading}
 use Rattle.stm_state.specs.State.{task_at, no_counts, is_done}
 use Rattle.stm_state.specs.Steps.{Step, Ask, Read_key, Park, Record}
 use Rattle.stm_state.specs.Steps as steps
 use Rattle.scheduler.specs.Schedule.{count_limit}
-use Rattle.stm_core.specs.CoreState.{CoreState, IsRefused, Makes, next_step_of}
+use Rattle.stm_core.specs.CoreState.{CoreState, HasReadRoom, IsRefused, Makes, next_step_of, read_result_of, step_of}
 use Rattle.stm_core.specs.declared.next_step.NextStep.{NextStep}
+use Rattle.stm_core.specs.declared.next_step.NextStep.TheVariants as next_step
+use Rattle.stm_core.specs.declared.next_step.ReadResult.{ReadResult}
+use Rattle.stm_core.specs.declared.next_step.StepKind.{StepKind}
 use Rattle.stm_core.specs.declared.fault.RecordFault.{RecordFault}
 use Rattle.stm_core.specs.declared.fault.RecordFault.TheVariants as record_faults
 use Rattle.workers.specs.declared.book.share.Share.{Share}
@@ -50,10 +52,6 @@ MayWrite faults.StepLimit b = HasFullCount b
 abbrev pub FaultFits : CoreState → Option RunFault → Type 0
 FaultFits b None = Unit {0}
 FaultFits b (Some fault) = MayWrite fault b
-
--- where a core's job is known, it has these calls and this storage
-abbrev pub HasKnownJob : List Invocation → Storage → Bool → CoreState → Type 0
-HasKnownJob calls store known b = known ≡ true → (b.job.block ≡ calls) × (b.job.store ≡ store)
 
 -- the fault of a record that was refused
 abbrev pub run_fault : RecordFault → RunFault
@@ -142,6 +140,25 @@ IsCauseAfter None Owed Own Wants step w b faults.StepLimit = Owed × ((get_or b.
 
 abbrev pub IsCause : (Owed : Type 0) → (Own : Type 0) → (Wants : Type 0) → Step → ℕ → BookState → RunFault → Type 0
 IsCause Owed Own Wants step w b fault = IsCauseAfter b.fault Owed Own Wants step w b.core fault
+
+-- what a step call comes to: its step was made and `Tells` holds of what it returns, or its refusal is written for a cause
+abbrev pub IsStepCall : {X : Type 0} → NextStep → Step → (Own : Type 0) → (Wants : Type 0) → (Tells : X → Type 0) → (before after : BookState) → (share counted : Share) → Result X RunFault → Type 0
+IsStepCall owed step Own Wants Tells before after share counted (Ok x) = IsMade owed step before after share counted × Tells x
+IsStepCall owed step Own Wants Tells before after share counted (Err fault) = LeavesWritten fault before after share counted × IsCause (Owes owed share before.core) Own Wants step share.worker before fault
+
+-- what a call returns of the step that its worker owes now; no asking was answered Done
+abbrev pub TellsNext : BookState → Share → Share → NextStep → Type 0
+TellsNext after share counted next = (next ≡ next_step_of after.core.state (task_at after.core.state counted.worker)) × (counted.dones ≡ share.dones)
+
+-- the same where the step is one of a task by its kind
+abbrev pub IsMakeCall : StepKind → ℕ → ℕ → (before after : BookState) → (share counted : Share) → Result NextStep RunFault → Type 0
+IsMakeCall kind call n before after share counted result = IsStepCall (next_step.Make kind call n) (step_of kind) ⊤ ⊥ (TellsNext after share counted) before after share counted result
+
+-- the same for a read of a key by a run
+abbrev pub IsReadCall : List ℕ → ℕ → ℕ → (before after : BookState) → (share counted : Share) → Result ReadResult RunFault → Type 0
+IsReadCall key call n before after share counted result =
+    IsStepCall (next_step.Run call n) (Read_key key) ⊤ (HasReadRoom share.worker before.core → ⊥)
+    (λ answer. (answer ≡ read_result_of before.core.job.store key (reading before.core.state.versions key call)) × (counted.dones ≡ share.dones)) before after share counted result
 
 -- why a worker may not make a step that it should owe, whatever the step
 abbrev pub IsUnready : Option RunFault → NextStep → Share → CoreState → RunFault → Type 0

@@ -9,7 +9,7 @@ use Rattle.stm_state.specs.Steps as steps
 use Rattle.workers.specs.declared.chain.ChainFault.{ChainFault}
 use Rattle.workers.specs.declared.chain.ChainFault.TheVariants.{Run, TooManyCalls}
 use Rattle.workers.specs.declared.fault.RunFault.TheVariants as faults
-use Rattle.workers.specs.History.{HasLimit, IsRunBy}
+use Rattle.workers.specs.History.{HasLimit, HasStepLimit, IsRunBy}
 
 -- the answers that a block may get, by its calls, its number of workers and the storage before it
 abbrev pub IsBlockAnswer : Storage → List Invocation → ℕ → Result (Vec Receipt) ChainFault → Type 0
@@ -20,6 +20,7 @@ IsBlockAnswer store calls workers (Err fault) =
     × ((fault ≡ Run faults.BadCount) ↔ ((length calls ≤ 1024) × ((workers ≡ 0) ⊎ (32 < workers))))
     × (fault ≡ Run faults.ArenaFull → HasLimit (record { block = calls; store = store }) workers steps.ArenaFull)
     × (fault ≡ Run faults.IncarnationLimit → HasLimit (record { block = calls; store = store }) workers steps.IncarnationLimit)
+    × (fault ≡ Run faults.StepLimit → HasStepLimit (record { block = calls; store = store }) workers)
 
 -- the storage that a block leaves: a refused one leaves it as it was
 abbrev pub store_left : Storage → List Invocation → Result (Vec Receipt) ChainFault → Storage

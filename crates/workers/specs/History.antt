@@ -1,10 +1,10 @@
 -- The history of a block's run: one list of worker steps.
-use Rattle.std.specs.Prelude.{◌≡◌, ◌<◌, ◌+◌, ◌*◌, ℕ, true, List, [], ◌∷◌}
+use Rattle.std.specs.Prelude.{◌≡◌, ◌<◌, ◌+◌, ◌*◌, ℕ, true, List, [], ◌∷◌, get_or}
 use Rattle.rv_ledger.specs.declared.job.Job.{Job}
 use Rattle.rv_ledger.specs.declared.outcome.Counts.{Counts}
-use Rattle.stm_state.specs.State.{State, is_done}
+use Rattle.stm_state.specs.State.{State, is_done, no_counts}
 use Rattle.stm_state.specs.Steps.{Step, Limit}
-use Rattle.stm_state.specs.Done.{MeetsLimit, block_of}
+use Rattle.stm_state.specs.Done.{MeetsLimit, Reached, block_of}
 use Rattle.stm_state.specs.Walk.{LeadsTo}
 use Rattle.stm_state.specs.Dones.{EndsAtDone}
 
@@ -26,6 +26,14 @@ pub record IsRunBy (job : Job) (workers : ℕ) : Type 0 where
 -- some list of steps of this number of workers leads from a job's start to a step that is refused for a limit
 abbrev pub HasLimit : Job → ℕ → Limit → Type 0
 HasLimit job workers limit = MeetsLimit (block_of job.block job.store) workers limit
+
+-- some list of steps of this number of workers leads from a job's start to a state where a worker has made 2^64 - 1 steps
+pub record HasStepLimit (job : Job) (workers : ℕ) : Type 0 where
+  pub state : State
+  pub reached : Reached (block_of job.block job.store) workers state
+  pub worker : ℕ
+  pub within : worker < workers
+  pub full : (get_or state.counts worker no_counts).steps ≡ 18446744073709551615
 
 -- what a single worker did: per call one execution, one validation and two asks, and one last ask that is answered Done
 pub record AreOneWorkerCounts (calls : ℕ) (found : List Counts) : Type 0 where

@@ -4,3 +4,4 @@ pub mod Settle
 pub mod History
 pub mod Chain
 pub mod DoneCell
+pub mod Work

@@ -1,7 +1,6 @@
 //! The answer to a job after the join, by its book and the shares that came back.
 
-ghost use Rattle.std.specs.Prelude.{◌≡◌, ◌<◌, ◌↔◌, [], Err, IfSome, None, Some, false, length, true};
-ghost use Rattle.rv_ledger.specs.declared.job.Job.{Job};
+ghost use Rattle.std.specs.Prelude.{◌≡◌, ◌<◌, ◌↔◌, [], Err, IfSome, None, length, true};
 ghost use Rattle.stm_state.specs.State.{is_done};
 ghost use Rattle.workers.specs.Settle.{AreSettled, IsOutcomeOrMemory, IsSettled, IsSettledAfter, IsShareOf};
 ghost use Rattle.workers.specs.declared.fault.RunFault.TheVariants as faults;
@@ -18,69 +17,45 @@ use version_arena::Arena;
 /// another job; the fault that was written; Foreign where workers are not done, where there is not one share
 /// per worker, where a worker has not exactly one ask that was answered Done, or where a share has other
 /// counts than the core; Memory where memory ran out; and else the core's outcome.
-pub fn settle(
+pub fn settle<J: JobName>(
     alloc: Global,
-    book: Book,
+    book: Book<J>,
     shares: Vec<Share>,
     job: &Job,
 ) -> (Result<Outcome, RunFault>, Arena)
     ensures answer { IsSettled job.now shares.items book result.0 }
     ensures arena { result.1.records ≡ [] }
 {
-    let is_same = same_job(book.core().job(), job);
-    let fault = book.fault();
-    settle_core(alloc, book.into_core(), fault, shares.as_slice(), is_same)
+    if !same_job(book.core().job(), job) {
+        return (Err(RunFault::Foreign), book.into_core().into_arena());
+    }
+    settle_shares(alloc, book, shares.as_slice())
 }
 
-/// The same with the shares of their owner, for a book whose core has the job. No job is compared.
-pub(crate) fn settle_known<J: JobName>(
+/// The same with the shares of their owner, where the core has that job.
+pub(crate) fn settle_shares<J: JobName>(
     alloc: Global,
     book: Book<J>,
     shares: &[Share],
 ) -> (Result<Outcome, RunFault>, Arena)
-    ensures answer { (job : Job) → book.core.job.block ≡ job.block → book.core.job.store ≡ job.store → IsSettled job shares.now book result.0 }
+    ensures answer { IsSettledAfter book.fault book.core shares.now result.0 }
     ensures arena { result.1.records ≡ [] }
 {
-    let fault = book.fault();
-    settle_core(alloc, book.into_core(), fault, shares, true)
-}
-
-/// The answer of a core with the fault that was written beside it: Foreign where it has not the same job.
-fn settle_core(
-    alloc: Global,
-    core: Core,
-    fault: Option<RunFault>,
-    shares: &[Share],
-    is_same: bool,
-) -> (Result<Outcome, RunFault>, Arena)
-    ensures same { is_same ≡ true → IsSettledAfter fault core shares.now result.0 }
-    ensures other { is_same ≡ false → result.0 ≡ Err faults.Foreign }
-    ensures arena { result.1.records ≡ [] }
-{
-    match fault_of(&core, fault, shares, is_same) {
-        Some(fault) => (Err(fault), core.into_arena()),
-        None => outcome_of(alloc, core),
+    match fault_of(&book, shares) {
+        Some(fault) => (Err(fault), book.into_core().into_arena()),
+        None => outcome_of(alloc, book.into_core()),
     }
 }
 
 /// The fault that answers a job; None where the core's outcome does, if memory allows.
-fn fault_of(
-    core: &Core,
-    fault: Option<RunFault>,
-    shares: &[Share],
-    is_same: bool,
-) -> Option<RunFault>
-    ensures same { IfSome result (λ found. is_same ≡ true → IsSettledAfter fault core.now shares.now (Err found)) }
-    ensures other { is_same ≡ false → result ≡ Some faults.Foreign }
-    ensures none { result ≡ None → (fault ≡ None) × AreSettled core.now shares.now }
+fn fault_of<J: JobName>(book: &Book<J>, shares: &[Share]) -> Option<RunFault>
+    ensures found { IfSome result (λ found. IsSettledAfter book.now.fault book.now.core shares.now (Err found)) }
+    ensures none { result ≡ None → (book.now.fault ≡ None) × AreSettled book.now.core shares.now }
 {
-    if !is_same {
-        return Some(RunFault::Foreign);
-    }
-    if let Some(found) = fault {
+    if let Some(found) = book.fault() {
         return Some(found);
     }
-    if !are_settled(core, shares) {
+    if !are_settled(book.core(), shares) {
         return Some(RunFault::Foreign);
     }
     None

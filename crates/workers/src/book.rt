@@ -4,49 +4,43 @@ mod recording;
 pub mod share;
 pub mod written;
 
-ghost use Rattle.std.specs.Prelude.{◌≡◌, List, []};
+ghost use Rattle.std.specs.Prelude.{◌≡◌, []};
 ghost use Rattle.std.specs.FinMap as finite;
-ghost use Rattle.rv_ledger.specs.Key.{Storage};
-ghost use Rattle.rv_ledger.specs.Call.{Invocation};
+ghost use Rattle.rv_ledger.specs.declared.job.Job.{Job};
 
 use crate::fault::{OutsideFault, RunFault};
-use rv_ledger::{Key, StoredValue};
+use rv_ledger::{Key, StoredValue, Value};
 use scheduler::COUNT_LIMIT;
 pub use share::Share;
 use std::marker::{Brand, Model, PhantomData};
-use stm_core::{AskResult, Core, NextStep, ReadResult};
+use stm_core::{AskResult, Core, NextStep, ReadResult, StepKind};
+pub(crate) use written::MetFault;
 pub use written::WrittenFault;
 
-/// A name of a job, for contracts alone: of its calls and of the storage before them. Who starts the job's
-/// threads picks them.
+/// A name of a job, for contracts alone. Who starts the job's threads picks it.
 pub trait JobName {
-    ghost block: { List Invocation };
-
-    ghost store: { Storage };
+    ghost job: { Job };
 }
 
 impl JobName for Brand {
-    ghost block = { [] };
-
-    ghost store = { finite.empty };
+    ghost job = { record { block = []; store = finite.empty } };
 }
 
-/// A core, and the first fault that was written beside it. A written ArenaFull or IncarnationLimit is true of
-/// the core: some worker's due step is refused for this limit. So is a written StepLimit: some worker has
-/// made 2^64 - 1 steps. A written fault is never BadCount. Where `known` is true the core has the job that
-/// `J` names.
+/// A core with the job that `J` names, and the first fault that was written beside it. A written ArenaFull or
+/// IncarnationLimit is true of the core: some worker's due step is refused for this limit. So is a written
+/// StepLimit: some worker has made 2^64 - 1 steps. A written fault is never BadCount.
 #[derive(Drop)]
 pub struct Book<J: JobName = Brand> {
     core: Core,
     fault: Option<RunFault>,
-    known: bool,
     of: PhantomData<J>,
 }
 
 impl<J: JobName> Model for Book<J> {
+    ghost use Rattle.std.specs.Prelude.{◌≡◌};
     ghost use Rattle.std.specs.Coded.{codes};
     ghost use Rattle.stm_core.specs.contracts.state.Core.{the_row as core_row};
-    ghost use Rattle.workers.specs.Book.{BookState, FaultFits, HasKnownJob};
+    ghost use Rattle.workers.specs.Book.{BookState, FaultFits};
 
     ghost Value = { BookState };
 
@@ -54,18 +48,7 @@ impl<J: JobName> Model for Book<J> {
 
     ghost view = { λ b. record { core = b.core; fault = b.fault } };
 
-    ghost invariant = { λ b. FaultFits b.core b.fault × HasKnownJob J.block J.store b.known b.core };
-}
-
-impl Book {
-    ghost use Rattle.std.specs.Prelude.{◌≡◌, None};
-
-    /// A core, and no fault. Nothing is known of its job.
-    pub fn new(core: Core) -> Book
-        ensures { result ≡ record { core = core; fault = None } }
-    {
-        Book::over(core, false)
-    }
+    ghost invariant = { λ b. FaultFits b.core b.fault × (b.core.job ≡ J.job) };
 }
 
 impl<J: JobName> Book<J> {
@@ -74,44 +57,22 @@ impl<J: JobName> Book<J> {
     ghost use Rattle.mvmap.specs.Reading.{reading};
     ghost use Rattle.stm_state.specs.Done.{Reached};
     ghost use Rattle.stm_state.specs.Parts.{CallsAreAttended, IsSized, OthersHaveEstimates, ReadsAreWatched, RunsAreBorneOut};
-    ghost use Rattle.stm_state.specs.State.{task_at};
     ghost use Rattle.stm_state.specs.Steps as steps;
     ghost use Rattle.scheduler.specs.Schedule.{count_limit};
-    ghost use Rattle.stm_core.specs.CoreState.{HasReadRoom, IsOwn, IsTaken, block_in, next_step_of, read_result_of};
+    ghost use Rattle.stm_core.specs.CoreState.{HasReadRoom, IsOwn, IsTaken, block_in, read_result_of};
     ghost use Rattle.stm_core.specs.declared.next_step.NextStep.TheVariants as next_step;
-    ghost use Rattle.workers.specs.Book.{FaultFits, HasKnownJob, IsAsked, IsCause, IsMade, IsUnready, LeavesWritten, MayWrite, Owes, AgreesWith, first_fault, outside_fault};
+    ghost use Rattle.workers.specs.Book.{FaultFits, IsAsked, IsCause, IsMade, IsMakeCall, IsReadCall, IsUnready, LeavesWritten, MayWrite, Owes, AgreesWith, first_fault, outside_fault};
 
-    /// A core, and no fault. `known` says that the core has the job that `J` names.
-    pub(crate) fn over(core: Core, known: bool) -> Book<J>
-        requires { HasKnownJob J.block J.store known core }
+    /// A core, and no fault.
+    pub fn new(core: Core) -> Book<J>
+        requires { core.job ≡ J.job }
         ensures { result ≡ record { core = core; fault = None } }
     {
         Book {
             core,
             fault: None,
-            known,
             of: PhantomData,
         }
-    }
-
-    /// The same book. Nothing is known of its job.
-    pub(crate) fn without_name(self) -> Book
-        ensures { result ≡ self }
-    {
-        let Book { core, fault, .. } = self;
-        Book {
-            core,
-            fault,
-            known: false,
-            of: PhantomData,
-        }
-    }
-
-    /// Whether the core is known to have the job that `J` names.
-    pub(crate) fn is_known(&self) -> bool
-        ensures { result ≡ true → (self.now.core.job.block ≡ J.block) × (self.now.core.job.store ≡ J.store) }
-    {
-        self.known
     }
 
     /// The core.
@@ -128,10 +89,11 @@ impl<J: JobName> Book<J> {
         self.fault
     }
 
-    /// For a caller's proof: some list of worker steps leads to the core's state, its numbers of calls and
-    /// workers are those of the start, the four parts of the scheduler's invariant hold, and the written fault
-    /// is true of the core. Does nothing when it runs.
+    /// For a caller's proof: the core has the job that `J` names, some list of worker steps leads to its state,
+    /// its numbers of calls and workers are those of the start, the four parts of the scheduler's invariant
+    /// hold, and the written fault is true of the core. Does nothing when it runs.
     pub fn holds(&self)
+        ensures job { self.now.core.job ≡ J.job }
         ensures reached { Reached (block_in self.now.core) (length self.now.core.state.tasks) self.now.core.state }
         ensures sized { IsSized (length self.now.core.job.block) (length self.now.core.state.tasks) self.now.core.state }
         ensures attended { CallsAreAttended (block_in self.now.core) self.now.core.state }
@@ -158,16 +120,17 @@ impl<J: JobName> Book<J> {
         }
     }
 
-    /// Writes a fault that was met outside the lock, unless one was written before. Returns the first one
+    /// Writes a fault that was met outside the lock, unless one was written before. Returns it with the first one
     /// that was written.
-    pub(crate) fn write_outside(&mut self, fault: OutsideFault) -> WrittenFault
-        ensures first { result ≡ first_fault self.old.fault (outside_fault fault) }
-        ensures written { self.new ≡ record self.old { fault = Some result } }
+    pub(crate) fn write_outside(&mut self, fault: OutsideFault) -> MetFault
+        ensures met { result.met ≡ fault }
+        ensures first { result.written ≡ first_fault self.old.fault (outside_fault fault) }
+        ensures written { self.new ≡ record self.old { fault = Some result.written } }
     {
         match fault {
-            OutsideFault::Memory => self.write(RunFault::Memory),
-            OutsideFault::Spawn => self.write(RunFault::Spawn),
-            OutsideFault::Foreign => self.write(RunFault::Foreign),
+            OutsideFault::Memory => MetFault::of(fault, self.write(RunFault::Memory)),
+            OutsideFault::Spawn => MetFault::of(fault, self.write(RunFault::Spawn)),
+            OutsideFault::Foreign => MetFault::of(fault, self.write(RunFault::Foreign)),
         }
     }
 
@@ -210,67 +173,58 @@ impl<J: JobName> Book<J> {
         incarnation: u16,
         key: &Key,
     ) -> Result<ReadResult, WrittenFault>
-        ensures made { OnOk result (IsMade (next_step.Run call incarnation) (steps.Read_key key.now) self.old self.new share.old share.new) }
-        ensures answer { IfOk result (λ answer. answer ≡ read_result_of self.old.core.job.store key.now (reading self.old.core.state.versions key.now call)) }
-        ensures dones { OnOk result (share.new.dones ≡ share.old.dones) }
-        ensures refused { IfErr result (λ e. LeavesWritten e self.old self.new share.old share.new) }
-        ensures cause { IfErr result (λ e. IsCause (Owes (next_step.Run call incarnation) share.old self.old.core) ⊤ (HasReadRoom share.old.worker self.old.core → ⊥) (steps.Read_key key.now) share.old.worker self.old e) }
+        ensures { IsReadCall key.now call incarnation self.old self.new share.old share.new result }
     {
-        self.read_known(share, call, incarnation, key, None, false)
+        let base = StoredValue::value_of(self.core.job().store.get(key));
+        self.read_over(share, call, incarnation, key, base.as_ref())
     }
 
-    /// The same. `known` says that the storage that `J` names has `base` at the key. Where the core is known to
-    /// have that storage, it is not searched.
+    /// The same, where the caller has looked up what the storage before the block has at the key.
     #[tactic(auto, using(crate::proofs::Stays::stays, crate::proofs::Causes::unready_cause))]
-    pub(crate) fn read_known(
+    pub(crate) fn read_over(
         &mut self,
         share: &mut Share,
         call: u16,
         incarnation: u16,
         key: &Key,
-        base: Option<&StoredValue>,
-        known: bool,
+        base: Option<&Value>,
     ) -> Result<ReadResult, WrittenFault>
-        requires known { known ≡ true → option_copied base ≡ finite.get J.store key.now }
-        ensures made { OnOk result (IsMade (next_step.Run call incarnation) (steps.Read_key key.now) self.old self.new share.old share.new) }
-        ensures answer { IfOk result (λ answer. answer ≡ read_result_of self.old.core.job.store key.now (reading self.old.core.state.versions key.now call)) }
-        ensures dones { OnOk result (share.new.dones ≡ share.old.dones) }
-        ensures refused { IfErr result (λ e. LeavesWritten e self.old self.new share.old share.new) }
-        ensures cause { IfErr result (λ e. IsCause (Owes (next_step.Run call incarnation) share.old self.old.core) ⊤ (HasReadRoom share.old.worker self.old.core → ⊥) (steps.Read_key key.now) share.old.worker self.old e) }
+        requires { option_copied base ≡ finite.get J.job.store key.now }
+        ensures { IsReadCall key.now call incarnation self.old self.new share.old share.new result }
     {
         self.ready(share, NextStep::Run { call, incarnation })?;
         stm_state::dones_grow_at_done();
         if self.core.room_for_read(share.worker).is_err() {
             return Err(self.write(RunFault::Memory));
         }
-        let answer = if known && self.known {
-            self.core.read_over(share.worker, key, base)
-        } else {
-            self.core.read(share.worker, key)
-        };
+        let answer = self.core.read_over(share.worker, key, base);
         self.update(share);
         Ok(answer)
     }
 
-    /// The run of a call at an incarnation met an estimate: it is parked, or starts again. Returns the step
-    /// that the worker owes now. Refused as `ask` is, and as IncarnationLimit at incarnation 65,535. Takes no
+    /// A worker makes a step of its task that takes nothing else, for a call at an incarnation. Returns the step
+    /// that the worker owes now. Refused as `ask` is, and as IncarnationLimit where the core's call is. Takes no
     /// memory.
-    #[tactic(auto, using(crate::proofs::Stays::stays, crate::proofs::Causes::unready_cause))]
-    pub fn park(
+    #[tactic(auto, using(crate::proofs::Stays::stays, crate::proofs::Causes::unready_cause, crate::proofs::Askings::no_asking))]
+    pub fn make(
         &mut self,
         share: &mut Share,
+        kind: StepKind,
         call: u16,
         incarnation: u16,
     ) -> Result<NextStep, WrittenFault>
-        ensures made { OnOk result (IsMade (next_step.Park call incarnation) steps.Park self.old self.new share.old share.new) }
-        ensures next { IfOk result (λ next. next ≡ next_step_of self.new.core.state (task_at self.new.core.state share.new.worker)) }
-        ensures dones { OnOk result (share.new.dones ≡ share.old.dones) }
-        ensures refused { IfErr result (λ e. LeavesWritten e self.old self.new share.old share.new) }
-        ensures cause { IfErr result (λ e. IsCause (Owes (next_step.Park call incarnation) share.old self.old.core) ⊤ ⊥ steps.Park share.old.worker self.old e) }
+        ensures { IsMakeCall kind call incarnation self.old self.new share.old share.new result }
     {
-        self.ready(share, NextStep::Park { call, incarnation })?;
+        self.ready(
+            share,
+            NextStep::Make {
+                kind,
+                call,
+                incarnation,
+            },
+        )?;
         stm_state::dones_grow_at_done();
-        match self.core.park(share.worker) {
+        match self.core.make(share.worker, kind) {
             Ok(()) => {
                 self.update(share);
                 Ok(self.core.doing(share.worker))
@@ -279,136 +233,89 @@ impl<J: JobName> Book<J> {
         }
     }
 
-    /// A worker moves the next key of the run that it handed in, of a call at an incarnation. Returns the
-    /// step that the worker owes now. Refused as `ask` is. Takes no memory.
-    #[tactic(auto, using(crate::proofs::Stays::stays, crate::proofs::Causes::unready_cause))]
+    /// The run of a call at an incarnation met an estimate: it is parked, or starts again. Refused as `ask` is,
+    /// and as IncarnationLimit at incarnation 65,535.
+    pub fn park(
+        &mut self,
+        share: &mut Share,
+        call: u16,
+        incarnation: u16,
+    ) -> Result<NextStep, WrittenFault>
+        ensures { IsMakeCall StepKind.Park call incarnation self.old self.new share.old share.new result }
+    {
+        self.make(share, StepKind::Park, call, incarnation)
+    }
+
+    /// A worker moves the next key of the run that it handed in.
     pub fn move_key(
         &mut self,
         share: &mut Share,
         call: u16,
         incarnation: u16,
     ) -> Result<NextStep, WrittenFault>
-        ensures made { OnOk result (IsMade (next_step.MoveKey call incarnation) steps.Move_key self.old self.new share.old share.new) }
-        ensures next { IfOk result (λ next. next ≡ next_step_of self.new.core.state (task_at self.new.core.state share.new.worker)) }
-        ensures dones { OnOk result (share.new.dones ≡ share.old.dones) }
-        ensures refused { IfErr result (λ e. LeavesWritten e self.old self.new share.old share.new) }
-        ensures cause { IfErr result (λ e. IsCause (Owes (next_step.MoveKey call incarnation) share.old self.old.core) ⊤ ⊥ steps.Move_key share.old.worker self.old e) }
+        ensures { IsMakeCall StepKind.MoveKey call incarnation self.old self.new share.old share.new result }
     {
-        self.ready(share, NextStep::MoveKey { call, incarnation })?;
-        stm_state::dones_grow_at_done();
-        self.core.move_key(share.worker);
-        self.update(share);
-        Ok(self.core.doing(share.worker))
+        self.make(share, StepKind::MoveKey, call, incarnation)
     }
 
-    /// The call at an incarnation whose keys a worker has moved becomes EXECUTED. Returns the step that the
-    /// worker owes now. Refused as `ask` is. Takes no memory.
-    #[tactic(auto, using(crate::proofs::Stays::stays, crate::proofs::Causes::unready_cause))]
+    /// The call whose keys a worker has moved becomes EXECUTED.
     pub fn finish_execution(
         &mut self,
         share: &mut Share,
         call: u16,
         incarnation: u16,
     ) -> Result<NextStep, WrittenFault>
-        ensures made { OnOk result (IsMade (next_step.FinishExecution call incarnation) steps.Finish_execution self.old self.new share.old share.new) }
-        ensures next { IfOk result (λ next. next ≡ next_step_of self.new.core.state (task_at self.new.core.state share.new.worker)) }
-        ensures dones { OnOk result (share.new.dones ≡ share.old.dones) }
-        ensures refused { IfErr result (λ e. LeavesWritten e self.old self.new share.old share.new) }
-        ensures cause { IfErr result (λ e. IsCause (Owes (next_step.FinishExecution call incarnation) share.old self.old.core) ⊤ ⊥ steps.Finish_execution share.old.worker self.old e) }
+        ensures { IsMakeCall StepKind.FinishExecution call incarnation self.old self.new share.old share.new result }
     {
-        self.ready(share, NextStep::FinishExecution { call, incarnation })?;
-        stm_state::dones_grow_at_done();
-        self.core.finish_execution(share.worker);
-        self.update(share);
-        Ok(self.core.doing(share.worker))
+        self.make(share, StepKind::FinishExecution, call, incarnation)
     }
 
-    /// A worker checks the next read of the call that it validates at an incarnation. Returns the step that
-    /// the worker owes now. Refused as `ask` is. Takes no memory.
-    #[tactic(auto, using(crate::proofs::Stays::stays, crate::proofs::Causes::unready_cause))]
+    /// A worker checks the next read of the call that it validates at an incarnation.
     pub fn check_read(
         &mut self,
         share: &mut Share,
         call: u16,
         incarnation: u16,
     ) -> Result<NextStep, WrittenFault>
-        ensures made { OnOk result (IsMade (next_step.CheckRead call incarnation) steps.Check_read self.old self.new share.old share.new) }
-        ensures next { IfOk result (λ next. next ≡ next_step_of self.new.core.state (task_at self.new.core.state share.new.worker)) }
-        ensures dones { OnOk result (share.new.dones ≡ share.old.dones) }
-        ensures refused { IfErr result (λ e. LeavesWritten e self.old self.new share.old share.new) }
-        ensures cause { IfErr result (λ e. IsCause (Owes (next_step.CheckRead call incarnation) share.old self.old.core) ⊤ ⊥ steps.Check_read share.old.worker self.old e) }
+        ensures { IsMakeCall StepKind.CheckRead call incarnation self.old self.new share.old share.new result }
     {
-        self.ready(share, NextStep::CheckRead { call, incarnation })?;
-        stm_state::dones_grow_at_done();
-        self.core.check_read(share.worker);
-        self.update(share);
-        Ok(self.core.doing(share.worker))
+        self.make(share, StepKind::CheckRead, call, incarnation)
     }
 
-    /// A worker decides its validation of a call at an incarnation. Returns the step that the worker owes
-    /// now. Refused as `ask` is. Takes no memory.
-    #[tactic(auto, using(crate::proofs::Stays::stays, crate::proofs::Causes::unready_cause))]
+    /// A worker decides its validation of a call at an incarnation.
     pub fn decide(
         &mut self,
         share: &mut Share,
         call: u16,
         incarnation: u16,
     ) -> Result<NextStep, WrittenFault>
-        ensures made { OnOk result (IsMade (next_step.Decide call incarnation) steps.Decide self.old self.new share.old share.new) }
-        ensures next { IfOk result (λ next. next ≡ next_step_of self.new.core.state (task_at self.new.core.state share.new.worker)) }
-        ensures dones { OnOk result (share.new.dones ≡ share.old.dones) }
-        ensures refused { IfErr result (λ e. LeavesWritten e self.old self.new share.old share.new) }
-        ensures cause { IfErr result (λ e. IsCause (Owes (next_step.Decide call incarnation) share.old self.old.core) ⊤ ⊥ steps.Decide share.old.worker self.old e) }
+        ensures { IsMakeCall StepKind.Decide call incarnation self.old self.new share.old share.new result }
     {
-        self.ready(share, NextStep::Decide { call, incarnation })?;
-        stm_state::dones_grow_at_done();
-        self.core.decide(share.worker);
-        self.update(share);
-        Ok(self.core.doing(share.worker))
+        self.make(share, StepKind::Decide, call, incarnation)
     }
 
-    /// A worker marks the next key of the call that it aborts: the version there becomes an estimate. Returns
-    /// the step that the worker owes now. Refused as `ask` is. Takes no memory.
-    #[tactic(auto, using(crate::proofs::Stays::stays, crate::proofs::Causes::unready_cause))]
+    /// A worker marks the next key of the call that it aborts: the version there becomes an estimate.
     pub fn mark_estimate(
         &mut self,
         share: &mut Share,
         call: u16,
         incarnation: u16,
     ) -> Result<NextStep, WrittenFault>
-        ensures made { OnOk result (IsMade (next_step.MarkEstimate call incarnation) steps.Mark_estimate self.old self.new share.old share.new) }
-        ensures next { IfOk result (λ next. next ≡ next_step_of self.new.core.state (task_at self.new.core.state share.new.worker)) }
-        ensures dones { OnOk result (share.new.dones ≡ share.old.dones) }
-        ensures refused { IfErr result (λ e. LeavesWritten e self.old self.new share.old share.new) }
-        ensures cause { IfErr result (λ e. IsCause (Owes (next_step.MarkEstimate call incarnation) share.old self.old.core) ⊤ ⊥ steps.Mark_estimate share.old.worker self.old e) }
+        ensures { IsMakeCall StepKind.MarkEstimate call incarnation self.old self.new share.old share.new result }
     {
-        self.ready(share, NextStep::MarkEstimate { call, incarnation })?;
-        stm_state::dones_grow_at_done();
-        self.core.mark_estimate(share.worker);
-        self.update(share);
-        Ok(self.core.doing(share.worker))
+        self.make(share, StepKind::MarkEstimate, call, incarnation)
     }
 
-    /// The call that a worker has aborted is readied. Returns the step that the worker owes now. Refused as
-    /// `ask` is. Takes no memory.
-    #[tactic(auto, using(crate::proofs::Stays::stays, crate::proofs::Causes::unready_cause))]
+    /// The call that a worker has aborted is readied.
     pub fn finish_abort(
         &mut self,
         share: &mut Share,
         call: u16,
         incarnation: u16,
     ) -> Result<NextStep, WrittenFault>
-        ensures made { OnOk result (IsMade (next_step.FinishAbort call incarnation) steps.Finish_abort self.old self.new share.old share.new) }
-        ensures next { IfOk result (λ next. next ≡ next_step_of self.new.core.state (task_at self.new.core.state share.new.worker)) }
-        ensures dones { OnOk result (share.new.dones ≡ share.old.dones) }
-        ensures refused { IfErr result (λ e. LeavesWritten e self.old self.new share.old share.new) }
-        ensures cause { IfErr result (λ e. IsCause (Owes (next_step.FinishAbort call incarnation) share.old self.old.core) ⊤ ⊥ steps.Finish_abort share.old.worker self.old e) }
+        ensures { IsMakeCall StepKind.FinishAbort call incarnation self.old self.new share.old share.new result }
     {
-        self.ready(share, NextStep::FinishAbort { call, incarnation })?;
-        stm_state::dones_grow_at_done();
-        self.core.finish_abort(share.worker);
-        self.update(share);
-        Ok(self.core.doing(share.worker))
+        self.make(share, StepKind::FinishAbort, call, incarnation)
     }
 
     /// Checks that the share's worker may make a step now. Refused as `ask` is; the fault is written.

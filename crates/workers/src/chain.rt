@@ -47,15 +47,17 @@ pub struct Chain {
 }
 
 impl Executor {
-    ghost use Rattle.std.specs.Prelude.{◌≡◌, ◌≤◌, IfOk};
+    ghost use Rattle.std.specs.Prelude.{◌≡◌, ◌≤◌, ◌⊎◌, Err, IfOk, OnErr};
     ghost use Rattle.rv_step.specs.Fold.{store_after};
     ghost use Rattle.workers.specs.Chain.{IsBlockAnswer, IsChain, calls_run, store_left};
+    ghost use Rattle.workers.specs.declared.chain.ChainFault.TheVariants.{Run, TooManyCalls};
+    ghost use Rattle.workers.specs.declared.fault.RunFault.TheVariants as faults;
 
     /// Runs blocks in their order, each with its own number of workers. Each block runs over the storage that
     /// the last block answered Ok left. A block of more than 1,024 calls is answered TooManyCalls, whatever
     /// its number of workers. Any other block is answered as by `run_block`. A refused block leaves the
     /// storage as it was, and the chain goes on. Refused where memory ran out before the first block; then no
-    /// block is run.
+    /// block is run, and the executor stays as it was.
     #[tactic(auto, using(crate::proofs::Chains::no_blocks, crate::proofs::Chains::one_block_more, crate::proofs::Chains::chain_store))]
     pub fn run_chain<R: Threads + Wait + Sync>(
         &mut self,
@@ -66,6 +68,7 @@ impl Executor {
     ) -> Result<Chain, AllocError>
         ensures chain { IfOk result (λ chain. IsChain store blocks.items chain.blocks.items chain.store) }
         ensures store { IfOk result (λ chain. chain.store ≡ store_after (calls_run blocks.items chain.blocks.items) store) }
+        ensures kept { OnErr result (self.new ≡ self.old) }
     {
         let mut answers = Vec::with_capacity(alloc, blocks.len())?;
         let mut left = store;
@@ -81,7 +84,8 @@ impl Executor {
         })
     }
 
-    /// Runs one block of a chain over a storage. Returns its answer and the storage that it leaves.
+    /// Runs one block of a chain over a storage. Returns its answer and the storage that it leaves. A block that is
+    /// refused as TooManyCalls or BadCount leaves the executor as it was.
     fn run_next_block<R: Threads + Wait + Sync>(
         &mut self,
         rt: &R,
@@ -92,6 +96,7 @@ impl Executor {
     ) -> (Result<Vec<Receipt>, ChainFault>, Store)
         ensures answer { IsBlockAnswer store calls.items workers result.0 }
         ensures left { result.1 ≡ store_left store calls.items result.0 }
+        ensures kept { (result.0 ≡ Err TooManyCalls) ⊎ (result.0 ≡ Err (Run faults.BadCount)) → self.new ≡ self.old }
     {
         if calls.len() > CALL_LIMIT {
             return (Err(ChainFault::TooManyCalls), store);
@@ -105,7 +110,8 @@ impl Executor {
         self.run_next_job(rt, alloc, job, workers)
     }
 
-    /// Runs the job of a block of a chain. Returns its answer and the storage that it leaves.
+    /// Runs the job of a block of a chain. Returns its answer, which is neither TooManyCalls nor BadCount, and the
+    /// storage that it leaves.
     fn run_next_job<R: Threads + Wait + Sync>(
         &mut self,
         rt: &R,

@@ -5,12 +5,13 @@ ghost use Rattle.std.specs.Vec.{vec_capacity};
 ghost use Rattle.rv_step.specs.Fold.{receipts_of, store_after};
 ghost use Rattle.stm_state.specs.Steps as steps;
 ghost use Rattle.workers.specs.DoneCell.{IsPassOf};
-ghost use Rattle.workers.specs.History.{HasHistory, HasLimit, AreOneWorkerCounts};
+ghost use Rattle.workers.specs.History.{HasHistory, HasLimit, HasStepLimit, AreOneWorkerCounts};
 ghost use Rattle.workers.specs.Settle.{AreSharesOf};
+ghost use Rattle.workers.specs.declared.fault.OutsideFault.TheVariants as outside;
 ghost use Rattle.workers.specs.declared.fault.RunFault.TheVariants as faults;
 
-use crate::answer::settle_known;
-use crate::book::{JobName, Share, WrittenFault};
+use crate::answer::settle_shares;
+use crate::book::{JobName, MetFault, Share, WrittenFault};
 use crate::fault::{OutsideFault, RunFault};
 use crate::gate::{Gate, Open};
 use crate::shared::Shared;
@@ -25,7 +26,7 @@ use stm_core::{Core, WORKER_LIMIT};
 use version_arena::Arena;
 
 /// Runs blocks one after another over one arena. The arena has no records between two blocks. The shares are
-/// those that the threads of the last block gave back.
+/// those that the threads of the last block that was run gave back.
 #[derive(Drop)]
 pub struct Executor {
     pub(crate) arena: Arena,
@@ -34,23 +35,26 @@ pub struct Executor {
 }
 
 impl Executor {
-    ghost use Rattle.std.specs.Prelude.{◌≡◌, ◌<◌, ◌⊎◌, ◌↔◌, Err, IfErr, IfOk, length};
+    ghost use Rattle.std.specs.Prelude.{◌≡◌, ◌<◌, ◌⊎◌, ◌↔◌, [], Err, IfErr, IfOk, length};
     ghost use Rattle.rv_step.specs.Fold.{receipts_of, store_after};
     ghost use Rattle.stm_state.specs.Steps as steps;
     ghost use Rattle.workers.specs.declared.fault.RunFault.TheVariants as faults;
-    ghost use Rattle.workers.specs.History.{HasHistory, HasLimit, AreOneWorkerCounts};
+    ghost use Rattle.workers.specs.History.{HasHistory, HasLimit, HasStepLimit, AreOneWorkerCounts};
     ghost use Rattle.workers.specs.Settle.{AreSharesOf};
 
-    /// An executor whose arena has room for no record yet. Takes no memory.
-    pub fn new(alloc: Global) -> Executor {
+    /// An executor without shares, whose arena has room for no record yet. Takes no memory.
+    pub fn new(alloc: Global) -> Executor
+        ensures { result.shares.items ≡ [] }
+    {
         Executor {
             arena: Arena::new(alloc),
             shares: Vec::new(alloc),
         }
     }
 
-    /// The shares that the threads of the last block gave back, in the order of their workers. None where no
-    /// block was run, or the last one was refused before its threads had ended.
+    /// The shares that the threads of the last block that was run gave back, in the order of their workers. None
+    /// where no block was run, and where a thread of that block gave none back. A block that is refused as BadCount,
+    /// or as TooManyCalls in a chain, is not run: the shares stay.
     pub fn shares(&self) -> &[Share]
         ensures { result.now ≡ self.now.shares.items }
     {
@@ -59,9 +63,9 @@ impl Executor {
 
     /// Runs a job on 1 to 32 threads. Refused as BadCount exactly where the number of workers is another;
     /// this is tested first. Refused as ArenaFull or IncarnationLimit only where some list of worker steps of
-    /// this job meets that limit; as Memory where memory ran out; as Spawn where a thread was refused; as
-    /// StepLimit where a worker has made 2^64 - 1 steps; and as Foreign where a worker or the core is not as
-    /// it was left. After every answer the executor may be used again.
+    /// this job meets that limit, and as StepLimit only where some list leads to 2^64 - 1 steps of a worker; as
+    /// Memory where memory ran out; as Spawn where a thread was refused; and as Foreign where a worker or the
+    /// core is not as it was left. After every answer the executor may be used again.
     pub fn run_block<R: Threads + Wait + Sync>(
         &mut self,
         rt: &R,
@@ -78,6 +82,8 @@ impl Executor {
         ensures shares { IfOk result (λ o. AreSharesOf o.counts.items self.new.shares.items) }
         ensures full { IfErr result (λ e. e ≡ faults.ArenaFull → HasLimit job workers steps.ArenaFull) }
         ensures limit { IfErr result (λ e. e ≡ faults.IncarnationLimit → HasLimit job workers steps.IncarnationLimit) }
+        ensures step_limit { IfErr result (λ e. e ≡ faults.StepLimit → HasStepLimit job workers) }
+        ensures kept { result ≡ Err faults.BadCount → self.new ≡ self.old }
     {
         self.run_block_with(rt, alloc, job, workers, &Open)
     }
@@ -101,6 +107,8 @@ impl Executor {
         ensures shares { IfOk result (λ o. AreSharesOf o.counts.items self.new.shares.items) }
         ensures full { IfErr result (λ e. e ≡ faults.ArenaFull → HasLimit job workers steps.ArenaFull) }
         ensures limit { IfErr result (λ e. e ≡ faults.IncarnationLimit → HasLimit job workers steps.IncarnationLimit) }
+        ensures step_limit { IfErr result (λ e. e ≡ faults.StepLimit → HasStepLimit job workers) }
+        ensures kept { result ≡ Err faults.BadCount → self.new ≡ self.old }
     {
         if workers == 0 || workers > WORKER_LIMIT {
             return Err(RunFault::BadCount);
@@ -126,8 +134,7 @@ pub(crate) fn run_over<J: JobName + Send + Sync, R: Threads + Wait + Sync, G: Ga
     gate: &G,
 ) -> (Result<Outcome, RunFault>, Arena, Vec<Share>, Store)
     requires count { (1 ≤ workers) × (workers ≤ 32) }
-    requires block { job.block ≡ J.block }
-    requires store { job.store ≡ J.store }
+    requires job { job ≡ J.job }
     ensures bad_count { IfErr result.0 (λ e. e ≢ faults.BadCount) }
     ensures job { IfOk result.0 (λ o. o.job ≡ job) }
     ensures receipts { IfOk result.0 (λ o. o.receipts.items ≡ receipts_of job.block job.store) }
@@ -137,6 +144,7 @@ pub(crate) fn run_over<J: JobName + Send + Sync, R: Threads + Wait + Sync, G: Ga
     ensures shares { IfOk result.0 (λ o. AreSharesOf o.counts.items result.2.items) }
     ensures full { IfErr result.0 (λ e. e ≡ faults.ArenaFull → HasLimit job workers steps.ArenaFull) }
     ensures limit { IfErr result.0 (λ e. e ≡ faults.IncarnationLimit → HasLimit job workers steps.IncarnationLimit) }
+    ensures step_limit { IfErr result.0 (λ e. e ≡ faults.StepLimit → HasStepLimit job workers) }
     ensures arena { result.1.records ≡ [] }
     ensures before { result.3 ≡ job.store }
 {
@@ -157,20 +165,12 @@ pub(crate) fn run_over<J: JobName + Send + Sync, R: Threads + Wait + Sync, G: Ga
         Err(_) => Vec::new(alloc),
     };
     let (book, store) = shared.into_parts();
-    if !book.is_known() {
-        return (
-            Err(RunFault::Foreign),
-            book.into_core().into_arena(),
-            back,
-            store,
-        );
-    }
     book.holds();
     stm_state::reached_by_list();
     stm_state::last_entry_is_done();
     stm_state::one_worker_counts_where_reached();
     let found = book.core().workers();
-    let (answer, arena) = settle_known(alloc, book, back.as_slice());
+    let (answer, arena) = settle_shares(alloc, book, back.as_slice());
     (answer_by(answer, found, workers), arena, back, store)
 }
 
@@ -208,15 +208,13 @@ fn share_out<J: JobName>(
     workers: usize,
 ) -> Result<(Shared<J>, Vec<Share>), (Arena, Store)>
     requires count { (1 ≤ workers) × (workers ≤ 32) }
-    requires block { job.block ≡ J.block }
-    requires store { job.store ≡ J.store }
-    requires copy { store ≡ J.store }
-    ensures known { IfOk result (λ made. made.0.known ≡ true) }
+    requires job { job ≡ J.job }
+    requires copy { store ≡ J.job.store }
     ensures passes { IfOk result (λ made. All (λ share. IsPassOf made.0.cell share.pass) made.1.items) }
     ensures back { IfErr result (λ left. (left.0.records ≡ []) × (left.1 ≡ store)) }
 {
     match Core::over(alloc, arena, job, workers) {
-        Ok(core) => Shared::over(alloc, core, store, true),
+        Ok(core) => Shared::over(alloc, core, store),
         Err(arena) => Err((arena, store)),
     }
 }
@@ -243,13 +241,28 @@ fn run_threads<J: JobName + Send + Sync, R: Threads + Wait + Sync, G: Gate + Syn
             requires { All (λ share. IsPassOf shared.now.cell share.pass) shares.items }
             ensures { IfOk result (λ back. length back.items ≡ length shares.items) }
         {
-            let Ok(room) = Vec::with_capacity(alloc, shares.len()) else {
-                return Err(shared.refuse(rt, OutsideFault::Memory));
-            };
+            let room = room_for_shares(rt, alloc, shared, shares.len())?;
             let threads = start_threads(scope, rt, alloc, shared, shares, gate)?;
             join_threads(rt, threads, room)
         },
     )
+}
+
+/// Room for so many shares; refused as Memory where memory ran out.
+fn room_for_shares<J: JobName, R: Wait>(
+    rt: &R,
+    alloc: Global,
+    shared: &Shared<J>,
+    count: usize,
+) -> Result<Vec<Share>, MetFault>
+    ensures empty { IfOk result (λ room. room.items ≡ []) }
+    ensures room { IfOk result (λ room. count ≤ vec_capacity room) }
+    ensures memory { IfErr result (λ e. e.met ≡ outside.Memory) }
+{
+    match Vec::with_capacity(alloc, count) {
+        Ok(room) => Ok(room),
+        Err(_) => Err(shared.refuse(rt, OutsideFault::Memory)),
+    }
 }
 
 /// Starts a thread for each share. Where the system refuses one, Spawn stands written in its place. Refused as
@@ -261,31 +274,46 @@ fn start_threads<'s, E, J: JobName + Send + Sync, R: Threads + Wait + Sync, G: G
     shared: &'s Shared<J>,
     shares: Vec<Share>,
     gate: &'s G,
-) -> Result<Vec<Result<Thread, WrittenFault>>, WrittenFault>
+) -> Result<Vec<Result<Thread, MetFault>>, MetFault>
     requires passes { All (λ share. IsPassOf shared.now.cell share.pass) shares.items }
     ensures all { IfOk result (λ threads. length threads.items ≡ length shares.items) }
+    ensures memory { IfErr result (λ e. e.met ≡ outside.Memory) }
 {
     let Ok(mut threads) = Vec::with_capacity(alloc, shares.len()) else {
         return Err(shared.refuse(rt, OutsideFault::Memory));
     };
     for share in shares {
-        let working = move || -> Result<Share, WrittenFault>
-            requires { IsPassOf shared.now.cell share.pass }
-        { work(rt, alloc, shared, share, gate) };
-        let started = match scope.spawn(working) {
-            Ok(thread) => Ok(thread),
-            Err(_) => Err(shared.refuse(rt, OutsideFault::Spawn)),
-        };
-        threads.push_reserved(started);
+        threads.push_reserved(start_thread(scope, rt, alloc, shared, share, gate));
     }
     Ok(threads)
+}
+
+/// Starts a thread for a share; refused as Spawn where the system refuses it.
+fn start_thread<'s, E, J: JobName + Send + Sync, R: Threads + Wait + Sync, G: Gate + Sync>(
+    scope: &Scope<'s, E>,
+    rt: &'s R,
+    alloc: Global,
+    shared: &'s Shared<J>,
+    share: Share,
+    gate: &'s G,
+) -> Result<Thread, MetFault>
+    requires pass { IsPassOf shared.now.cell share.pass }
+    ensures spawn { IfErr result (λ e. e.met ≡ outside.Spawn) }
+{
+    let working = move || -> Result<Share, WrittenFault>
+        requires { IsPassOf shared.now.cell share.pass }
+    { work(rt, alloc, shared, share, gate) };
+    match scope.spawn(working) {
+        Ok(thread) => Ok(thread),
+        Err(_) => Err(shared.refuse(rt, OutsideFault::Spawn)),
+    }
 }
 
 /// Waits for all threads that were started. Returns all their shares, in room that was made, or the last fault
 /// among them.
 fn join_threads<R: Threads>(
     rt: &R,
-    threads: Vec<Result<Thread, WrittenFault>>,
+    threads: Vec<Result<Thread, MetFault>>,
     room: Vec<Share>,
 ) -> Result<Vec<Share>, WrittenFault>
     requires empty { room.items ≡ [] }
@@ -294,7 +322,7 @@ fn join_threads<R: Threads>(
 {
     let (mut back, mut refused) = (room, None);
     for thread in threads {
-        match thread.and_then(|started| started.join(rt)) {
+        match join_thread(rt, thread) {
             Ok(share) => back.push_reserved(share),
             Err(written) => refused = Some(written),
         }
@@ -302,5 +330,16 @@ fn join_threads<R: Threads>(
     match refused {
         Some(written) => Err(written),
         None => Ok(back),
+    }
+}
+
+/// The share that a thread gives back, or the fault that stands written in its place.
+fn join_thread<R: Threads>(
+    rt: &R,
+    thread: Result<Thread, MetFault>,
+) -> Result<Share, WrittenFault> {
+    match thread {
+        Ok(started) => started.join(rt),
+        Err(met) => Err(met.written()),
     }
 }

@@ -22,6 +22,33 @@ pub enum RunFault {
     StepLimit = 7,
 }
 
+impl RunFault {
+    ghost use Rattle.std.specs.Prelude.{◌≡◌};
+    ghost use Rattle.workers.specs.Faults.{fault_name, fault_number};
+
+    /// The number in what is printed, 1 to 7.
+    pub fn number(self) -> u8
+        ensures { result ≡ fault_number self }
+    {
+        self as u8
+    }
+
+    /// The name in what is printed.
+    pub fn name(self) -> &'static str
+        ensures { result.now ≡ fault_name self }
+    {
+        match self {
+            RunFault::BadCount => "BadCount",
+            RunFault::Foreign => "Foreign",
+            RunFault::ArenaFull => "ArenaFull",
+            RunFault::IncarnationLimit => "IncarnationLimit",
+            RunFault::Memory => "Memory",
+            RunFault::Spawn => "Spawn",
+            RunFault::StepLimit => "StepLimit",
+        }
+    }
+}
+
 impl fmt::Display for RunFault {
     ghost use Rattle.std.specs.Prelude.{Some};
     ghost use Rattle.workers.specs.Faults.{fault_text};
@@ -30,25 +57,17 @@ impl fmt::Display for RunFault {
 
     /// The name and the number.
     fn fmt<W: fmt::Write>(&self, f: &mut fmt::Formatter<W>) -> fmt::Result {
-        match self {
-            RunFault::BadCount => f.write_str("BadCount 1"),
-            RunFault::Foreign => f.write_str("Foreign 2"),
-            RunFault::ArenaFull => f.write_str("ArenaFull 3"),
-            RunFault::IncarnationLimit => f.write_str("IncarnationLimit 4"),
-            RunFault::Memory => f.write_str("Memory 5"),
-            RunFault::Spawn => f.write_str("Spawn 6"),
-            RunFault::StepLimit => f.write_str("StepLimit 7"),
-        }
+        write!(f, "{} {}", self.name(), self.number())
     }
 }
 
-/// A fault that is met outside the lock.
+/// A fault that shows outside the lock, and is then written under it.
 #[derive(Clone, Copy, Debug)]
 pub(crate) enum OutsideFault {
     /// Memory ran out.
     Memory,
-    /// A thread was refused.
+    /// The system refused a thread.
     Spawn,
-    /// The block has no call of that index.
+    /// The calls beside the lock have none of the index that a worker was told.
     Foreign,
 }

@@ -1,13 +1,7 @@
-//! Places where tests hold a thread, and where they count what it does.
+//! What a thread does outside the lock at two places: after a run, and between two looks at the cell. Tests put
+//! something of their own there.
 
-use std::hint::spin_loop;
-
-/// Spins so many times, with the processor's hint for a thread that spins.
-pub(crate) fn spin_for(times: u32) {
-    for _ in 0..times {
-        spin_loop();
-    }
-}
+use stm_core::NextStep;
 
 /// What a thread does between the end of a run and its record, outside the lock. Tests hold a worker there.
 pub trait Gate {
@@ -24,8 +18,11 @@ impl Gate for Open {
     fn held(&self, _worker: usize) {}
 }
 
-/// What an idle worker does after a look at a cell that does not show done. Tests count its looks there.
+/// How an idle worker spins between two looks at a cell that does not show done. Tests count its looks there.
 pub trait Spin {
     /// The cell did not show done. Promises nothing.
     fn spin(&self);
+
+    /// After a step of its task the worker owes this one. Promises nothing.
+    fn learn(&mut self, owed: NextStep);
 }

@@ -21,4 +21,4 @@ pub use executor::Executor;
 pub use fault::RunFault;
 pub use gate::{Gate, Open, Spin};
 pub use shared::Shared;
-pub use worker::work;
+pub use worker::{work, work_spinning};

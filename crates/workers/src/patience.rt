@@ -1,7 +1,15 @@
-//! How long a worker that gets no task stays away from the lock.
+//! How long a worker stays away from the lock: one that gets no task, and one that found it taken.
 
-use crate::gate::{Spin, spin_for};
-use stm_core::NextStep;
+use crate::gate::Spin;
+use std::hint::spin_loop;
+use stm_core::{NextStep, StepKind};
+
+/// Spins so many times, with the processor's hint for a thread that spins.
+pub(crate) fn spin_for(times: u32) {
+    for _ in 0..times {
+        spin_loop();
+    }
+}
 
 /// How often a worker spins between two looks at the least. It is soon back, since many an ask that gives no task only
 /// takes the validation index past a call that still runs.
@@ -22,25 +30,28 @@ impl Patience {
     pub(crate) fn new() -> Patience {
         Patience { spins: LEAST_SPINS }
     }
-
-    /// Learns from the step that the worker owes after a step of a task: it spins four times as often where a run met an
-    /// estimate and where a call is aborted, and a quarter less often where a run was recorded.
-    pub(crate) fn learn(&mut self, owed: NextStep) {
-        match owed {
-            NextStep::Park { .. } | NextStep::FinishAbort { .. } => {
-                self.spins = self.spins.saturating_mul(4).min(MOST_SPINS);
-            }
-            NextStep::FinishExecution { .. } => {
-                self.spins = self.spins.saturating_sub(self.spins / 4).max(LEAST_SPINS);
-            }
-            _ => {}
-        }
-    }
 }
 
 impl Spin for Patience {
     /// Spins as often as its patience says.
     fn spin(&self) {
         spin_for(self.spins);
+    }
+
+    /// It spins four times as often from now on where a run met an estimate and where a call is aborted, and a quarter
+    /// less often where a run was recorded.
+    fn learn(&mut self, owed: NextStep) {
+        let NextStep::Make { kind, .. } = owed else {
+            return;
+        };
+        match kind {
+            StepKind::Park | StepKind::FinishAbort => {
+                self.spins = self.spins.saturating_mul(4).min(MOST_SPINS);
+            }
+            StepKind::FinishExecution => {
+                self.spins = self.spins.saturating_sub(self.spins / 4).max(LEAST_SPINS);
+            }
+            _ => {}
+        }
     }
 }

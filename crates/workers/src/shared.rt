@@ -4,10 +4,10 @@ ghost use Rattle.std.specs.Prelude.{◌≡◌, true, All, IfOk, map};
 ghost use Rattle.workers.specs.Book.{zero_counts_of_all, counts_of_share};
 ghost use Rattle.workers.specs.DoneCell.{IsPassOf};
 
-use crate::book::{Book, JobName, Share, WrittenFault};
+use crate::book::{Book, JobName, MetFault, Share};
 use crate::done_cell::DoneCell;
 use crate::fault::OutsideFault;
-use crate::gate::spin_for;
+use crate::patience::spin_for;
 use rv_ledger::{Block, Store};
 use std::alloc::{AllocError, Global};
 use std::marker::Brand;
@@ -18,23 +18,23 @@ use version_arena::Arena;
 /// How often a thread tries the lock before it waits for it.
 const TRIES: u32 = 200;
 
-/// How often a thread spins between two tries. Fewer spins disturb the thread that has the lock.
+/// How often a thread spins after a try that found the lock taken. With fewer spins its tries slow down the thread that
+/// has the lock.
 const SPINS: u32 = 64;
 
 /// What the threads of a block share: the lock with the book, the calls, which they run outside the lock, the
 /// storage before them, which they search outside the lock, and the cell, which they look at outside the lock.
-/// Where `known` is true calls and storage are those that `J` names.
+/// Calls and storage are those of the job that `J` names.
 #[derive(Drop)]
 pub struct Shared<J: JobName = Brand> {
     pub(crate) lock: Mutex<Book<J>>,
     pub(crate) block: Block,
     pub(crate) store: Store,
     pub(crate) cell: DoneCell,
-    pub(crate) known: bool,
-    ghost is: { known ≡ true → (block ≡ J.block) × (store ≡ J.store) },
+    ghost is: { (block ≡ J.job.block) × (store ≡ J.job.store) },
 }
 
-impl Shared {
+impl<J: JobName> Shared<J> {
     ghost use Rattle.std.specs.Prelude.{◌≡◌, [], length, map, All, IfErr, IfOk};
     ghost use Rattle.workers.specs.Book.{zero_counts_of_all, counts_of_share};
     ghost use Rattle.workers.specs.DoneCell.{IsPassOf};
@@ -42,7 +42,8 @@ impl Shared {
     /// The lock over a core at its start, with a cell that shows running. Beside it one share per worker, in
     /// their order, each with counts of zero and a pass of the cell. Where memory ran out the core's arena is
     /// handed back, without records.
-    pub fn new(alloc: Global, core: Core) -> Result<(Shared, Vec<Share>), Arena>
+    pub fn new(alloc: Global, core: Core) -> Result<(Shared<J>, Vec<Share>), Arena>
+        requires { core.job ≡ J.job }
         ensures shares { IfOk result (λ made. map counts_of_share made.1.items ≡ zero_counts_of_all (length core.state.tasks)) }
         ensures passes { IfOk result (λ made. All (λ share. IsPassOf made.0.cell share.pass) made.1.items) }
         ensures back { IfErr result (λ arena. arena.records ≡ []) }
@@ -50,29 +51,21 @@ impl Shared {
         let Ok(store) = core.job().store.copy() else {
             return Err(core.into_arena());
         };
-        match Shared::over(alloc, core, store, false) {
+        match Shared::over(alloc, core, store) {
             Ok(made) => Ok(made),
             Err((arena, _)) => Err(arena),
         }
     }
-}
 
-impl<J: JobName> Shared<J> {
-    ghost use Rattle.std.specs.Prelude.{◌≡◌, [], length, map, All, IfErr, IfOk};
-    ghost use Rattle.workers.specs.Book.{HasKnownJob, zero_counts_of_all, counts_of_share};
-    ghost use Rattle.workers.specs.DoneCell.{IsPassOf};
-
-    /// The same with a storage that the threads search. Where memory ran out it is handed back with the arena.
-    /// `known` says that the core has the job that `J` names, and that the storage is that job's.
+    /// The same with a copy of the storage that the threads search. Where memory ran out it is handed back with
+    /// the arena.
     pub(crate) fn over(
         alloc: Global,
         core: Core,
         store: Store,
-        known: bool,
     ) -> Result<(Shared<J>, Vec<Share>), (Arena, Store)>
-        requires core { HasKnownJob J.block J.store known core }
-        requires store { known ≡ true → store ≡ J.store }
-        ensures known { IfOk result (λ made. made.0.known ≡ known) }
+        requires core { core.job ≡ J.job }
+        requires store { store ≡ J.job.store }
         ensures shares { IfOk result (λ made. map counts_of_share made.1.items ≡ zero_counts_of_all (length core.state.tasks)) }
         ensures passes { IfOk result (λ made. All (λ share. IsPassOf made.0.cell share.pass) made.1.items) }
         ensures back { IfErr result (λ left. (left.0.records ≡ []) × (left.1 ≡ store)) }
@@ -85,13 +78,12 @@ impl<J: JobName> Shared<J> {
         };
         match new_shares(alloc, core.workers(), &cell) {
             Ok(shares) => {
-                let lock = Mutex::new(Book::over(core, known));
+                let lock = Mutex::new(Book::new(core));
                 let shared = Shared {
                     lock,
                     block,
                     store,
                     cell,
-                    known,
                 };
                 Ok((shared, shares))
             }
@@ -100,14 +92,14 @@ impl<J: JobName> Shared<J> {
     }
 
     /// The book that was under the lock, once no thread has the lock any more.
-    pub fn into_book(self) -> Book {
+    pub fn into_book(self) -> Book<J> {
         let (book, _) = self.into_parts();
-        book.without_name()
+        book
     }
 
-    /// The same, with the name of its job; and the storage before the block.
+    /// The same, and the storage before the block.
     pub(crate) fn into_parts(self) -> (Book<J>, Store)
-        ensures { self.known ≡ true → result.1 ≡ J.store }
+        ensures { result.1 ≡ J.job.store }
     {
         let Shared { lock, store, .. } = self;
         (lock.into_inner(), store)
@@ -126,9 +118,11 @@ impl<J: JobName> Shared<J> {
         self.lock.lock(rt)
     }
 
-    /// Writes a fault that was met outside the lock, unless one was written before. Returns the first one
+    /// Writes a fault that was met outside the lock, unless one was written before. Returns it with the first one
     /// that was written.
-    pub(crate) fn refuse<R: Wait>(&self, rt: &R, fault: OutsideFault) -> WrittenFault {
+    pub(crate) fn refuse<R: Wait>(&self, rt: &R, fault: OutsideFault) -> MetFault
+        ensures { result.met ≡ fault }
+    {
         self.hold(rt).write_outside(fault)
     }
 }

@@ -1,30 +1,62 @@
 //! What one thread does: it asks for work, runs calls outside the lock, and makes their steps under it.
 
-ghost use Rattle.std.specs.Prelude.{◌≡◌, ◌+◌, None, true, IfOk, MatchOption, OnOk};
+ghost use Rattle.std.specs.Prelude.{◌≡◌, ◌+◌, None, Some, true, length, slice_get, IfErr, IfOk, MatchOption, OnOk};
 ghost use Rattle.crossbeam_utils.specs.Seq.{cell_view};
 ghost use Rattle.rv_step.specs.Run.{IsEnded};
 ghost use Rattle.rv_step.specs.declared.stage.Stage.TheVariants.{Asked};
+ghost use Rattle.stm_core.specs.CoreState.{IsPrepared};
 ghost use Rattle.workers.specs.DoneCell.{IsPassOf};
+ghost use Rattle.workers.specs.Work.{IsCallFault, IsMakeAnswer, IsMemoryOrRefused, IsRecordAnswer, IsRunAnswer, IsStepAnswer};
 
-use crate::book::{Book, JobName, Share, WrittenFault};
+use crate::book::{JobName, MetFault, Share, WrittenFault};
 use crate::fault::OutsideFault;
-use crate::gate::Gate;
+use crate::gate::{Gate, Spin};
 use crate::patience::Patience;
 use crate::shared::Shared;
-use rv_ledger::Key;
+use rv_ledger::{Key, StoredValue};
 use rv_mem::PageRoom;
-use rv_step::{Pause, Run};
+use rv_step::{EndedRun, Pause, Run};
 use std::alloc::Global;
 use std::mem::replace;
 use std::sync::Wait;
-use stm_core::{NextStep, Prepared, ReadResult};
+use stm_core::{NextStep, Prepared, ReadResult, SpentRun, StepKind};
 
-/// What a worker keeps from one step to the next: the room that the pages of one run leave to the next one, and its
-/// patience.
+/// What a worker keeps from one step to the next: the room that the pages of one run leave to the next one, and how it
+/// spins between two looks at the cell.
 #[derive(Drop)]
-struct Kept {
+struct Kept<S: Spin + Drop> {
     room: PageRoom,
-    patience: Patience,
+    spin: S,
+}
+
+/// Why a worker makes no further step. The fault is written.
+#[derive(Clone, Copy, Debug)]
+enum WorkFault {
+    /// A step call was refused.
+    Refused(WrittenFault),
+    /// A fault was met outside the lock.
+    Met(MetFault),
+}
+
+impl WorkFault {
+    /// The fault that stands written.
+    fn written(self) -> WrittenFault {
+        match self {
+            WorkFault::Refused(written) => written,
+            WorkFault::Met(fault) => fault.written(),
+        }
+    }
+}
+
+impl From<WrittenFault> for WorkFault {
+    ghost use Rattle.std.specs.Prelude.{◌≡◌};
+    ghost use Rattle.workers.specs.declared.worker.WorkFault.TheVariants.{Refused};
+
+    ghost from_gives = { λ written e. e ≡ Refused written };
+
+    fn from(written: WrittenFault) -> WorkFault {
+        WorkFault::Refused(written)
+    }
 }
 
 /// The work of one thread. It makes the steps of its share's worker until an ask is answered Done, and then
@@ -43,19 +75,39 @@ pub fn work<J: JobName, R: Wait, G: Gate>(
     ensures dones { IfOk result (λ back. back.dones ≡ share.dones + 1) }
     ensures shown { IfOk result (λ back. cell_view back.pass ≡ 1) }
 {
+    work_spinning(rt, alloc, shared, share, gate, Patience::new())
+}
+
+/// `work` with what the worker does between two looks at the cell.
+pub fn work_spinning<J: JobName, R: Wait, G: Gate, S: Spin + Drop>(
+    rt: &R,
+    alloc: Global,
+    shared: &Shared<J>,
+    share: Share,
+    gate: &G,
+    spin: S,
+) -> Result<Share, WrittenFault>
+    requires cell { IsPassOf shared.now.cell share.pass }
+    ensures worker { IfOk result (λ back. back.worker ≡ share.worker) }
+    ensures dones { IfOk result (λ back. back.dones ≡ share.dones + 1) }
+    ensures shown { IfOk result (λ back. cell_view back.pass ≡ 1) }
+{
     let mut share = share;
-    make_steps(rt, alloc, shared, &mut share, gate)?;
-    Ok(share)
+    match make_steps(rt, alloc, shared, &mut share, gate, spin) {
+        Ok(()) => Ok(share),
+        Err(fault) => Err(fault.written()),
+    }
 }
 
 /// Makes the steps of a share's worker until an ask is answered Done. Refused as `work` is.
-fn make_steps<J: JobName, R: Wait, G: Gate>(
+fn make_steps<J: JobName, R: Wait, G: Gate, S: Spin + Drop>(
     rt: &R,
     alloc: Global,
     shared: &Shared<J>,
     share: &mut Share,
     gate: &G,
-) -> Result<(), WrittenFault>
+    spin: S,
+) -> Result<(), WorkFault>
     requires cell { IsPassOf shared.now.cell share.old.pass }
     ensures worker { OnOk result (share.new.worker ≡ share.old.worker) }
     ensures dones { OnOk result (share.new.dones ≡ share.old.dones + 1) }
@@ -64,7 +116,7 @@ fn make_steps<J: JobName, R: Wait, G: Gate>(
     let mut next = NextStep::Ask;
     let mut kept = Kept {
         room: PageRoom::new(alloc),
-        patience: Patience::new(),
+        spin,
     };
     for _ in rt.forever() {
         let Some(owed) = make_step(rt, alloc, shared, share, &mut kept, next, gate)? else {
@@ -77,71 +129,67 @@ fn make_steps<J: JobName, R: Wait, G: Gate>(
 
 /// Makes a step that the worker owes, and returns the step that it owes then. Returns None where an ask is
 /// answered Done, and then the cell shows it.
-fn make_step<J: JobName, R: Wait, G: Gate>(
+fn make_step<J: JobName, R: Wait, G: Gate, S: Spin + Drop>(
     rt: &R,
     alloc: Global,
     shared: &Shared<J>,
     share: &mut Share,
-    kept: &mut Kept,
+    kept: &mut Kept<S>,
     step: NextStep,
     gate: &G,
-) -> Result<Option<NextStep>, WrittenFault>
+) -> Result<Option<NextStep>, WorkFault>
     requires cell { IsPassOf shared.now.cell share.old.pass }
+    ensures answer { IfOk result (λ next. IsStepAnswer step share.old share.new next) }
     ensures cell { IsPassOf shared.now.cell share.new.pass }
     ensures worker { share.new.worker ≡ share.old.worker }
     ensures dones { IfOk result (λ next. MatchOption next (share.new.dones ≡ share.old.dones + 1) (λ _. share.new.dones ≡ share.old.dones)) }
     ensures shown { IfOk result (λ next. next ≡ None → cell_view share.new.pass ≡ 1) }
 {
     match step {
-        NextStep::Ask => ask(rt, shared, share, &kept.patience),
+        NextStep::Ask => Ok(ask(rt, shared, share, &kept.spin)?),
         NextStep::Run { call, incarnation } => {
             let room = &mut kept.room;
             let next = run_call(rt, alloc, shared, share, room, call, incarnation, gate)?;
-            kept.patience.learn(next);
+            kept.spin.learn(next);
             Ok(Some(next))
         }
-        _ => {
-            let next = make_task_step(&mut shared.hold(rt), share, step)?;
-            kept.patience.learn(next);
+        NextStep::Make {
+            kind,
+            call,
+            incarnation,
+        } => {
+            let next = make(rt, shared, share, kind, call, incarnation)?;
+            kept.spin.learn(next);
             Ok(Some(next))
         }
     }
 }
 
-/// Makes a step of a worker's task under the lock, and returns the step that the worker owes then. Refused as the
-/// step call is, and as Foreign for `ask` and the steps of a run, which are not made here.
-fn make_task_step<J: JobName>(
-    book: &mut Book<J>,
+/// Makes a step of a worker's task that takes nothing else. Returns the step that the worker owes then, as the book
+/// under the lock told it.
+fn make<J: JobName, R: Wait>(
+    rt: &R,
+    shared: &Shared<J>,
     share: &mut Share,
-    step: NextStep,
+    kind: StepKind,
+    call: u16,
+    incarnation: u16,
 ) -> Result<NextStep, WrittenFault>
+    ensures answer { IsMakeAnswer kind call incarnation share.old share.new result }
     ensures worker { share.new.worker ≡ share.old.worker }
     ensures pass { share.new.pass ≡ share.old.pass }
     ensures dones { OnOk result (share.new.dones ≡ share.old.dones) }
 {
-    match step {
-        NextStep::Ask | NextStep::Run { .. } => Err(book.write_outside(OutsideFault::Foreign)),
-        NextStep::Park { call, incarnation } => book.park(share, call, incarnation),
-        NextStep::MoveKey { call, incarnation } => book.move_key(share, call, incarnation),
-        NextStep::FinishExecution { call, incarnation } => {
-            book.finish_execution(share, call, incarnation)
-        }
-        NextStep::CheckRead { call, incarnation } => book.check_read(share, call, incarnation),
-        NextStep::Decide { call, incarnation } => book.decide(share, call, incarnation),
-        NextStep::MarkEstimate { call, incarnation } => {
-            book.mark_estimate(share, call, incarnation)
-        }
-        NextStep::FinishAbort { call, incarnation } => book.finish_abort(share, call, incarnation),
-    }
+    shared.hold(rt).make(share, kind, call, incarnation)
 }
 
 /// Asks for work, and returns the step that the worker owes then. Returns None where all is done, and then
 /// the cell shows it. A worker that gets no task looks at the cell before it asks again.
-fn ask<J: JobName, R: Wait>(
+fn ask<J: JobName, R: Wait, S: Spin>(
     rt: &R,
     shared: &Shared<J>,
     share: &mut Share,
-    patience: &Patience,
+    spin: &S,
 ) -> Result<Option<NextStep>, WrittenFault>
     requires cell { IsPassOf shared.now.cell share.old.pass }
     ensures cell { IsPassOf shared.now.cell share.new.pass }
@@ -152,7 +200,7 @@ fn ask<J: JobName, R: Wait>(
     let asked = shared.hold(rt).ask(share)?;
     match asked {
         None => shared.cell.set_done(rt, &mut share.pass),
-        Some(NextStep::Ask) => shared.cell.look(rt, &mut share.pass, patience),
+        Some(NextStep::Ask) => shared.cell.look(rt, &mut share.pass, spin),
         Some(_) => {}
     }
     Ok(asked)
@@ -160,6 +208,7 @@ fn ask<J: JobName, R: Wait>(
 
 /// Runs a call outside the lock up to a read that meets an estimate, or up to its end; then it passes the gate, and
 /// hands the run in. Returns the step that the worker owes then. A run is large, so it stays here until it is finished.
+#[tactic(auto, using(crate::proofs::Working::call_fault_of))]
 fn run_call<J: JobName, R: Wait, G: Gate>(
     rt: &R,
     alloc: Global,
@@ -169,34 +218,60 @@ fn run_call<J: JobName, R: Wait, G: Gate>(
     call: u16,
     incarnation: u16,
     gate: &G,
-) -> Result<NextStep, WrittenFault>
+) -> Result<NextStep, WorkFault>
+    ensures answer { IfOk result (λ next. IsRunAnswer call incarnation share.new next) }
+    ensures fault { IfErr result (λ e. IsCallFault (length J.job.block) call e) }
     ensures worker { share.new.worker ≡ share.old.worker }
     ensures pass { share.new.pass ≡ share.old.pass }
     ensures dones { OnOk result (share.new.dones ≡ share.old.dones) }
 {
     let Some(own) = shared.block.calls().get(usize::from(call)) else {
-        return Err(shared.refuse(rt, OutsideFault::Foreign));
+        return Err(WorkFault::Met(shared.refuse(rt, OutsideFault::Foreign)));
     };
     let Ok(mut run) = Run::start_in(alloc, replace(room, PageRoom::new(alloc)), own) else {
-        return Err(shared.refuse(rt, OutsideFault::Memory));
+        return Err(WorkFault::Met(shared.refuse(rt, OutsideFault::Memory)));
     };
     if !run_to_end(rt, shared, share, call, incarnation, &mut run)? {
         *room = run.into_room();
-        return Ok(NextStep::Park { call, incarnation });
+        return Ok(NextStep::Make {
+            kind: StepKind::Park,
+            call,
+            incarnation,
+        });
     }
     gate.held(share.worker());
     let (ended, left) = run.finish_with_room();
     *room = left;
     let Ok(prepared) = Prepared::of(alloc, &ended) else {
-        return Err(shared.refuse(rt, OutsideFault::Memory));
+        return Err(WorkFault::Met(shared.refuse(rt, OutsideFault::Memory)));
     };
-    let known = shared.known;
-    let recorded = shared
-        .hold(rt)
-        .record_known(alloc, share, call, incarnation, ended, prepared, known);
     // The spent run is dropped here, after the lock.
-    let (next, _spent) = recorded?;
+    let (next, _spent) = record(rt, alloc, shared, share, call, incarnation, ended, prepared)?;
     Ok(next)
+}
+
+/// Hands in the ended run of a call, for which what its record takes is made. Returns the step that the worker owes
+/// then, as the book under the lock told it, and what is left over of the run.
+fn record<J: JobName, R: Wait>(
+    rt: &R,
+    alloc: Global,
+    shared: &Shared<J>,
+    share: &mut Share,
+    call: u16,
+    incarnation: u16,
+    run: EndedRun,
+    prepared: Prepared,
+) -> Result<(NextStep, SpentRun), WrittenFault>
+    requires prepared { IsPrepared run prepared }
+    requires call { slice_get J.job.block call ≡ Some run.call }
+    ensures answer { IfOk result (λ made. IsRecordAnswer call incarnation share.old share.new made.0) }
+    ensures worker { share.new.worker ≡ share.old.worker }
+    ensures pass { share.new.pass ≡ share.old.pass }
+    ensures dones { OnOk result (share.new.dones ≡ share.old.dones) }
+{
+    shared
+        .hold(rt)
+        .record_known(alloc, share, call, incarnation, run, prepared)
 }
 
 /// Takes a call's run on to its end. Returns false where it meets an estimate before that.
@@ -207,7 +282,8 @@ fn run_to_end<J: JobName, R: Wait>(
     call: u16,
     incarnation: u16,
     run: &mut Run,
-) -> Result<bool, WrittenFault>
+) -> Result<bool, WorkFault>
+    ensures fault { IfErr result (λ e. IsMemoryOrRefused e) }
     ensures call { run.new.call ≡ run.old.call }
     ensures ended { IfOk result (λ ended. ended ≡ true → IsEnded run.new.stage) }
     ensures worker { share.new.worker ≡ share.old.worker }
@@ -216,7 +292,7 @@ fn run_to_end<J: JobName, R: Wait>(
 {
     for _ in rt.forever() {
         let Ok(pause) = run.go() else {
-            return Err(shared.refuse(rt, OutsideFault::Memory));
+            return Err(WorkFault::Met(shared.refuse(rt, OutsideFault::Memory)));
         };
         let Pause::Ask(key) = pause else {
             return Ok(true);
@@ -238,23 +314,24 @@ fn read<J: JobName, R: Wait>(
     incarnation: u16,
     run: &mut Run,
     key: &Key,
-) -> Result<bool, WrittenFault>
+) -> Result<bool, WorkFault>
     requires { run.old.stage ≡ Asked key.now }
+    ensures fault { IfErr result (λ e. IsMemoryOrRefused e) }
     ensures call { run.new.call ≡ run.old.call }
     ensures worker { share.new.worker ≡ share.old.worker }
     ensures pass { share.new.pass ≡ share.old.pass }
     ensures dones { OnOk result (share.new.dones ≡ share.old.dones) }
 {
-    let base = shared.store.get(key);
+    let base = StoredValue::value_of(shared.store.get(key));
     let answer = shared
         .hold(rt)
-        .read_known(share, call, incarnation, key, base, shared.known);
+        .read_over(share, call, incarnation, key, base.as_ref());
     match answer {
         Ok(ReadResult::Given(value, origin)) => match run.answer(value.as_ref(), origin) {
             Ok(()) => Ok(true),
-            Err(_) => Err(shared.refuse(rt, OutsideFault::Memory)),
+            Err(_) => Err(WorkFault::Met(shared.refuse(rt, OutsideFault::Memory))),
         },
         Ok(ReadResult::Blocked) => Ok(false),
-        Err(fault) => Err(fault),
+        Err(written) => Err(WorkFault::Refused(written)),
     }
 }

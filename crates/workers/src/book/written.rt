@@ -1,6 +1,8 @@
-//! A fault that stands written in a book.
+//! A fault that stands written in a book, alone and with one that was met outside the lock.
 
-use crate::fault::RunFault;
+ghost use Rattle.std.specs.Prelude.{◌≡◌};
+
+use crate::fault::{OutsideFault, RunFault};
 use std::marker::Model;
 
 /// A fault that stands written in a book: who has one need not write it. Only a book makes one.
@@ -37,5 +39,36 @@ impl WrittenFault {
         ensures { result ≡ self }
     {
         self.fault
+    }
+}
+
+/// A fault that was met outside the lock, and the one that stands written since: its own, or an earlier one. Only a
+/// book makes one, when it is told of the fault.
+#[derive(Clone, Copy, Debug)]
+pub(crate) struct MetFault {
+    met: OutsideFault,
+    written: WrittenFault,
+}
+
+impl MetFault {
+    /// Of the fault that a book was told of, and the one that it has.
+    pub(super) fn of(met: OutsideFault, written: WrittenFault) -> MetFault
+        ensures met { result.met ≡ met }
+        ensures written { result.written ≡ written }
+    {
+        MetFault { met, written }
+    }
+
+    /// The fault that stands written.
+    pub(crate) fn written(self) -> WrittenFault
+        ensures { result ≡ self.written }
+    {
+        self.written
+    }
+}
+
+impl From<MetFault> for WrittenFault {
+    fn from(fault: MetFault) -> WrittenFault {
+        fault.written()
     }
 }

@@ -1,5 +1,4 @@
--- Block and storage are the job's.
 use Rattle.workers.proofs.executor.Executor.run_next_job.Given as goal
 
 abbrev pub ghosts-run_over : goal.ghosts-run_over
-ghosts-run_over g a = record { block = a.job.block; store = a.job.store }
+ghosts-run_over g a = record { job = a.job }
