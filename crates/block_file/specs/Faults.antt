@@ -5,16 +5,31 @@ use Rattle.block_file.specs.declared.fault.BlockFault.{BlockFault}
 use Rattle.block_file.specs.declared.fault.Cause.{Cause}
 use Rattle.block_file.specs.declared.fault.Cause.TheVariants.{BadHeader, BadLine, BadNumber, BadHex, KeyOrder, UnknownProgram, Limit, Memory}
 
--- the name and the number of a refusal
-abbrev pub cause_text : Cause → List ℕ
-cause_text BadHeader = codes "BadHeader 1"
-cause_text BadLine = codes "BadLine 2"
-cause_text BadNumber = codes "BadNumber 3"
-cause_text BadHex = codes "BadHex 4"
-cause_text KeyOrder = codes "KeyOrder 5"
-cause_text UnknownProgram = codes "UnknownProgram 6"
-cause_text Limit = codes "Limit 7"
-cause_text Memory = codes "Memory 8"
+-- the number of a refusal
+abbrev pub number_of : Cause → ℕ
+number_of BadHeader = 1
+number_of BadLine = 2
+number_of BadNumber = 3
+number_of BadHex = 4
+number_of KeyOrder = 5
+number_of UnknownProgram = 6
+number_of Limit = 7
+number_of Memory = 8
+
+-- its name
+abbrev pub name_of : Cause → List ℕ
+name_of BadHeader = codes "BadHeader"
+name_of BadLine = codes "BadLine"
+name_of BadNumber = codes "BadNumber"
+name_of BadHex = codes "BadHex"
+name_of KeyOrder = codes "KeyOrder"
+name_of UnknownProgram = codes "UnknownProgram"
+name_of Limit = codes "Limit"
+name_of Memory = codes "Memory"
+
+-- both, as they are printed
+unfoldable pub cause_text : Cause → List ℕ
+cause_text cause = name_of cause ++ codes " " ++ decimal (number_of cause)
 
 -- the same behind the line's number; running out of memory has no line
 abbrev pub line_text : ℕ → Cause → List ℕ

@@ -1,6 +1,7 @@
 //! Why a text is refused.
 
 ghost use Rattle.std.specs.Prelude.{◌≡◌};
+ghost use Rattle.block_file.specs.Faults.{name_of, number_of};
 ghost use Rattle.block_file.specs.declared.fault.Cause.TheVariants.{Memory};
 
 use std::alloc::{AllocError, AllocFailed};
@@ -32,6 +33,31 @@ pub enum Cause {
     Memory = 8,
 }
 
+impl Cause {
+    /// The number in the refusal's line, 1 to 8.
+    pub fn number(self) -> u8
+        ensures { result ≡ number_of self }
+    {
+        self as u8
+    }
+
+    /// The name in the refusal's line.
+    pub fn name(self) -> &'static str
+        ensures { result.now ≡ name_of self }
+    {
+        match self {
+            Cause::BadHeader => "BadHeader",
+            Cause::BadLine => "BadLine",
+            Cause::BadNumber => "BadNumber",
+            Cause::BadHex => "BadHex",
+            Cause::KeyOrder => "KeyOrder",
+            Cause::UnknownProgram => "UnknownProgram",
+            Cause::Limit => "Limit",
+            Cause::Memory => "Memory",
+        }
+    }
+}
+
 impl fmt::Display for Cause {
     ghost use Rattle.std.specs.Prelude.{Some};
     ghost use Rattle.block_file.specs.Faults.{cause_text};
@@ -39,17 +65,9 @@ impl fmt::Display for Cause {
     ghost output = { λ cause. Some (cause_text cause) };
 
     /// The name and the number.
+    #[tactic(auto, unfolding(crate::specs::Faults::cause_text))]
     fn fmt<W: fmt::Write>(&self, f: &mut fmt::Formatter<W>) -> fmt::Result {
-        match self {
-            Cause::BadHeader => f.write_str("BadHeader 1"),
-            Cause::BadLine => f.write_str("BadLine 2"),
-            Cause::BadNumber => f.write_str("BadNumber 3"),
-            Cause::BadHex => f.write_str("BadHex 4"),
-            Cause::KeyOrder => f.write_str("KeyOrder 5"),
-            Cause::UnknownProgram => f.write_str("UnknownProgram 6"),
-            Cause::Limit => f.write_str("Limit 7"),
-            Cause::Memory => f.write_str("Memory 8"),
-        }
+        write!(f, "{} {}", self.name(), self.number())
     }
 }
 

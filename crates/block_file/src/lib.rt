@@ -11,6 +11,7 @@ mod migration;
 mod reader;
 mod scan;
 mod schedule;
+mod source;
 
 pub use block::parse;
 pub use block_text::{BlockText, CallLine};
@@ -18,3 +19,4 @@ pub use fault::{BlockFault, Cause};
 pub use laws::{migrated_says_the_same, one_reading};
 pub use migration::migrate;
 pub use schedule::parse_schedule;
+pub use source::{FallibleReader, Source};

@@ -5,3 +5,4 @@ pub mod Storages
 pub mod Lines
 pub mod SessionInputs
 pub mod Cuts
+pub mod CutOff

@@ -9,7 +9,7 @@ use Rattle.rv_step.specs.Run.{RunView}
 use Rattle.debugger.specs.Replay.{ReplayState, is_at_end, next_of}
 use Rattle.debugger.proofs.Moments.{within_gas}
 use Rattle.rv_step.specs.Step.{Progress, Going}
-use Rattle.rv_step.specs.Moment.{advance, from_storage, is_over, moment_from, moment_over, start}
+use Rattle.rv_step.specs.Moment.{advance, from_storage, is_over, moment_over, start}
 use Rattle.rv_step.proofs.Moments.{one_more}
 use Rattle.rv_step.proofs.Receipts.{keeps_storage}
 use Rattle.debugger.specs.ReplayMoment.{AreOf, GoesOn, IsRunAt, advance_over}

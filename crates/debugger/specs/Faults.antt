@@ -1,12 +1,25 @@
 -- What a refusal prints.
-use Rattle.std.specs.Prelude.{List, ℕ, codes}
+use Rattle.std.specs.Prelude.{List, ℕ, ◌++◌, codes}
+use Rattle.std.specs.Fmt.{decimal}
 use Rattle.debugger.specs.declared.fault.ReplayFault.{ReplayFault}
 use Rattle.debugger.specs.declared.fault.ReplayFault.TheVariants.{NoSuchCall, AtEnd, AtStart, BadRange, Memory}
 
--- the name and the number of a refusal
-abbrev pub fault_text : ReplayFault → List ℕ
-fault_text NoSuchCall = codes "NoSuchCall 1"
-fault_text AtEnd = codes "AtEnd 2"
-fault_text AtStart = codes "AtStart 3"
-fault_text BadRange = codes "BadRange 4"
-fault_text Memory = codes "Memory 5"
+-- the number of a refusal
+abbrev pub number_of : ReplayFault → ℕ
+number_of NoSuchCall = 1
+number_of AtEnd = 2
+number_of AtStart = 3
+number_of BadRange = 4
+number_of Memory = 5
+
+-- its name
+abbrev pub name_of : ReplayFault → List ℕ
+name_of NoSuchCall = codes "NoSuchCall"
+name_of AtEnd = codes "AtEnd"
+name_of AtStart = codes "AtStart"
+name_of BadRange = codes "BadRange"
+name_of Memory = codes "Memory"
+
+-- both, as they are printed
+unfoldable pub fault_text : ReplayFault → List ℕ
+fault_text fault = name_of fault ++ codes " " ++ decimal (number_of fault)

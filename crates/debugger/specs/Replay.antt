@@ -35,6 +35,10 @@ machine_at r = machine_of (standing r)
 abbrev pub is_at_end : ReplayState → Bool
 is_at_end r = is_over (standing r)
 
+-- where the call is over, it has the pc and the registers of this receipt
+abbrev pub EndsAs : Receipt → ReplayState → Type 0
+EndsAs receipt r = is_at_end r ≡ true → ((machine_at r).pc ≡ receipt.pc) × ((machine_at r).regs ≡ receipt.regs)
+
 -- the call goes on at each moment before one
 abbrev pub GoesOnBefore : ReplayState → Type 0
 GoesOnBefore r = (n : ℕ) → n < r.moment → is_over (moment_over r.call r.store n) ≡ false

@@ -1,5 +1,5 @@
 -- What `debug` prints for its lines, and where it leaves the replay.
-use Rattle.std.specs.Prelude.{◌≡◌, ℕ, zero, suc, ◌+◌, ◌<◌, ◌==◌, ◌⊎◌, Bool, true, false, All, List, [], ◌∷◌, ◌++◌, codes, length, Option, Some, None, if◌then◌else◌}
+use Rattle.std.specs.Prelude.{◌≡◌, ℕ, zero, suc, ◌+◌, ◌-◌, ◌^◌, ◌<◌, ◌≤◌, ◌==◌, ◌⊎◌, Bool, true, false, All, List, [], ◌∷◌, ◌++◌, codes, length, Option, Some, None, IfSome, if◌then◌else◌}
 use Rattle.std.specs.Io.KnownBytes.{Appends}
 use Rattle.rv_ledger.specs.Key.{Storage}
 use Rattle.rv_ledger.specs.Call.{Invocation}
@@ -104,6 +104,10 @@ lines_of text = with_last (cut 10 text)
 -- a session ended like this: its text was written, and the replay stands where the session left it
 abbrev pub EndsAs : Ending → ReplayState → Option (List ℕ) → Option (List ℕ) → Type 0
 EndsAs ending new before after = Appends before after ending.text × (new ≡ ending.replay)
+
+-- an input may be cut off: a read may fail, or it has at least 2^64 - 1 bytes
+abbrev pub MayBeCutOff : Type 0 → Option (List ℕ) → Type 0
+MayBeCutOff may_fail input = may_fail ⊎ IfSome input (λ bytes. 2 ^ 64 - 1 ≤ length bytes)
 
 -- the known bytes grow by a beginning of a text
 abbrev pub AppendsBeginning : Option (List ℕ) → Option (List ℕ) → List ℕ → Type 0

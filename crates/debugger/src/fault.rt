@@ -1,5 +1,8 @@
 //! Why a replay or a session is refused.
 
+ghost use Rattle.std.specs.Prelude.{◌≡◌};
+ghost use Rattle.debugger.specs.Faults.{name_of, number_of};
+
 use receipts::WriteFault;
 use std::fmt;
 use thiserror::Error;
@@ -19,6 +22,28 @@ pub enum ReplayFault {
     Memory = 5,
 }
 
+impl ReplayFault {
+    /// The number in the refusal's line, 1 to 5.
+    pub fn number(self) -> u8
+        ensures { result ≡ number_of self }
+    {
+        self as u8
+    }
+
+    /// The name in the refusal's line.
+    pub fn name(self) -> &'static str
+        ensures { result.now ≡ name_of self }
+    {
+        match self {
+            ReplayFault::NoSuchCall => "NoSuchCall",
+            ReplayFault::AtEnd => "AtEnd",
+            ReplayFault::AtStart => "AtStart",
+            ReplayFault::BadRange => "BadRange",
+            ReplayFault::Memory => "Memory",
+        }
+    }
+}
+
 impl fmt::Display for ReplayFault {
     ghost use Rattle.std.specs.Prelude.{Some};
     ghost use Rattle.debugger.specs.Faults.{fault_text};
@@ -26,14 +51,9 @@ impl fmt::Display for ReplayFault {
     ghost output = { λ fault. Some (fault_text fault) };
 
     /// The name and the number.
+    #[tactic(auto, unfolding(crate::specs::Faults::fault_text))]
     fn fmt<W: fmt::Write>(&self, f: &mut fmt::Formatter<W>) -> fmt::Result {
-        match self {
-            ReplayFault::NoSuchCall => f.write_str("NoSuchCall 1"),
-            ReplayFault::AtEnd => f.write_str("AtEnd 2"),
-            ReplayFault::AtStart => f.write_str("AtStart 3"),
-            ReplayFault::BadRange => f.write_str("BadRange 4"),
-            ReplayFault::Memory => f.write_str("Memory 5"),
-        }
+        write!(f, "{} {}", self.name(), self.number())
     }
 }
 

@@ -1,13 +1,14 @@
 //! Laws about the moments of a call.
 
-ghost use Rattle.std.specs.Prelude.{◌≡◌, ◌+◌, ◌≤◌, ℕ, true, IfSome};
+ghost use Rattle.std.specs.Prelude.{◌≡◌, ◌+◌, ◌≤◌, ℕ, Some, true, IfSome, slice_get};
 ghost use Rattle.rv_ledger.specs.Call.{Invocation};
 ghost use Rattle.rv_ledger.specs.Key.{Storage};
 ghost use Rattle.rv_ledger.specs.declared.outcome.Outcome.{Outcome};
+ghost use Rattle.rv_ledger.specs.declared.receipt.Receipt.{Receipt};
 ghost use Rattle.rv_step.specs.Chain.{ends};
 ghost use Rattle.rv_step.specs.Fold.{receipts_of, store_before};
 ghost use Rattle.rv_step.specs.Moment.{is_over, machine_of, moment_over};
-ghost use Rattle.debugger.specs.Replay.{opened};
+ghost use Rattle.debugger.specs.Replay.{EndsAs, opened};
 
 /// A law, and no code: where an outcome's receipts are those of running its calls in order, a replay of
 /// one of the calls is over the storage that the calls before it left.
@@ -25,4 +26,13 @@ pub fn last_moment_is_the_receipts()
         → (machine_of (moment_over call store n)).pc ≡ (ends call store).pc }
     ensures regs { (call : Invocation) (store : Storage) (n : ℕ) → is_over (moment_over call store n) ≡ true
         → (machine_of (moment_over call store n)).regs ≡ (ends call store).regs }
+{}
+
+/// A law, and no code: where an outcome's receipts are those of running its calls in order, a replay of one
+/// of the calls ends with the pc and the registers of the outcome's receipt of that call.
+pub fn replay_ends_as_its_receipt()
+    ensures { (outcome : Outcome) (index n : ℕ) (receipt : Receipt)
+        → outcome.receipts.items ≡ receipts_of outcome.job.block outcome.job.store
+        → slice_get outcome.receipts.items index ≡ Some receipt
+        → IfSome (opened outcome index) (λ r. EndsAs receipt (record r { moment = n })) }
 {}

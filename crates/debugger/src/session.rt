@@ -1,18 +1,19 @@
 //! A session of `debug`, over any reader of lines and any writer.
 
-ghost use Rattle.std.specs.Prelude.{◌≡◌, ◌++◌, All, not, IfErr, IfOk, IfSome, OnErr, OnOk};
+ghost use Rattle.std.specs.Prelude.{◌≡◌, ◌≢◌, ◌++◌, All, not, IfErr, IfOk, IfSome, OnErr, OnOk};
 ghost use Rattle.std.specs.Io.KnownBytes.{Appends};
 ghost use Rattle.debugger.specs.Command.{command_of};
-ghost use Rattle.debugger.specs.Session.{AppendsBeginning, EndsAs, IsCutShort, after_line, is_quit, line_text, lines_of, session};
+ghost use Rattle.debugger.specs.Session.{AppendsBeginning, EndsAs, IsCutShort, MayBeCutOff, after_line, is_quit, line_text, lines_of, session};
 ghost use Rattle.debugger.specs.Hearing.{Hears, IsCutAnswer, IsCutIn, IsInLine};
 
 use crate::answer::line_text;
 use crate::command::{Command, command_of};
 use crate::fault::DebugFault;
 use crate::replay::Replay;
+use block_file::Source;
 use receipts::{WriteFault, write_whole};
 use std::alloc::Global;
-use std::io::{Read, Write};
+use std::io::Write;
 
 /// The byte that ends a line.
 const LINE_END: u8 = b'\n';
@@ -23,11 +24,11 @@ const READ_SIZE: usize = 256;
 /// Reads lines up to a line `q` or the end of the input. Does the command of each line as soon as the line
 /// is read, and writes what it prints. The last line needs no LF. The first refusal ends the session,
 /// and the lines before it are answered: their moves were made, and their answers written in whole.
-/// Unreadable where a read failed: nothing else was done. Output where a write failed: the move of the
+/// Unreadable where a read failed, or the input is longer than 2^64 - 2 bytes: nothing else was done. Output where a write failed: the move of the
 /// line whose answer was being written was made, and a beginning of that answer was written. Memory where
 /// memory ran out: nothing of the next line's answer was written, and its move was made or not; a run to
 /// a pc may also have gone a part of its way.
-pub fn debug_to<R: Read, W: Write>(
+pub fn debug_to<R: Source, W: Write>(
     alloc: Global,
     replay: &mut Replay,
     lines: &mut R,
@@ -37,11 +38,12 @@ pub fn debug_to<R: Read, W: Write>(
         EndsAs (session replay.old (lines_of input)) replay.new (W.contents out.old) (W.contents out.new))) }
     ensures err { IfErr result (λ fault. IfSome (R.remaining lines.old) (λ input.
         IsCutShort fault replay.old (lines_of input) replay.new (W.contents out.old) (W.contents out.new))) }
+    ensures unreadable { IfErr result (λ fault. fault ≡ DebugFault.Unreadable → MayBeCutOff (R.may_fail lines.old) (R.remaining lines.old)) }
 {
     let mut line = Vec::new(alloc);
     let mut part = [0u8; READ_SIZE];
-    for _ in 0..u64::MAX {
-        let Ok(count) = lines.read(&mut part) else {
+    for _turn in 0..u64::MAX {
+        let Ok(count) = lines.read_part(&mut part) else {
             return Err(DebugFault::Unreadable);
         };
         if count == 0 {
@@ -70,6 +72,7 @@ fn hear_end<W: Write>(
     ensures ok { OnOk result (EndsAs (session replay.old (lines_of line.now)) replay.new (W.contents out.old) (W.contents out.new)) }
     ensures err { IfErr result (λ fault.
         IsCutShort fault replay.old (lines_of line.now) replay.new (W.contents out.old) (W.contents out.new)) }
+    ensures fault { IfErr result (λ fault. fault ≢ DebugFault.Unreadable) }
 {
     if line.is_empty() {
         return Ok(());
@@ -94,6 +97,7 @@ fn hear<W: Write>(
         Hears goes_on replay.old line.old.items part.now replay.new line.new.items (W.contents out.old) (W.contents out.new)) }
     ensures err { IfErr result (λ fault.
         IsCutIn fault replay.old (line.old.items ++ part.now) replay.new (W.contents out.old) (W.contents out.new)) }
+    ensures fault { IfErr result (λ fault. fault ≢ DebugFault.Unreadable) }
 {
     for byte in part {
         if *byte != LINE_END {
@@ -123,6 +127,7 @@ fn answer_line<W: Write>(
     ensures text { OnOk result (Appends (W.contents out.old) (W.contents out.new) (line_text replay.old (command_of line.now))) }
     ensures err { IfErr result (λ fault.
         IsCutAnswer fault replay.old line.now replay.new (W.contents out.old) (W.contents out.new)) }
+    ensures fault { IfErr result (λ fault. fault ≢ DebugFault.Unreadable) }
 {
     let Ok(command) = command_of(alloc, line) else {
         return Err(DebugFault::Memory);

@@ -2,3 +2,5 @@ pub mod JobFaults
 pub mod ProgramFiles
 pub mod LaterFaults
 pub mod DriveFaults
+pub mod Sessions
+pub mod RefusalParts

@@ -1,5 +1,5 @@
 -- What the engine of `rvstm debug` writes, and what it refuses.
-use Rattle.std.specs.Prelude.{ℕ, List, ◌≡◌, ⊤, Option, Some, None, IfSome, Result, Ok, Err, IsOk, IsOkAnd, slice_get}
+use Rattle.std.specs.Prelude.{ℕ, List, ◌≡◌, ◌⊎◌, ⊤, Option, Some, None, IfSome, Result, Ok, Err, IsOk, IsOkAnd, IsSome, slice_get}
 use Rattle.std.specs.Option.{option_map}
 use Rattle.block_file.specs.Block.{BlockValue}
 use Rattle.block_file.specs.declared.fault.BlockFault.{BlockFault}
@@ -8,7 +8,7 @@ use Rattle.debugger.specs.Session.{lines_of, session}
 use Rattle.debugger.specs.declared.fault.ReplayFault.TheVariants as debug
 use Rattle.rv_ledger.specs.declared.job.Job.{Job}
 use Rattle.rv_step.specs.Fold.{store_before}
-use Rattle.engines.specs.Engine.{loaded_job, IsFaultOf}
+use Rattle.engines.specs.Engine.{loaded_job, IsFaultOf, MayBeUnreadable}
 use Rattle.engines.specs.declared.fault.Refusal.{Refusal}
 use Rattle.engines.specs.declared.fault.Refusal.TheVariants.{File, Debug, Output}
 use Rattle.engines.specs.declared.fault.FileFault.TheVariants.{Unreadable}
@@ -27,14 +27,25 @@ abbrev pub replayed_text : Result Job Refusal → ℕ → List ℕ → Result (L
 replayed_text (Err fault) index typed = Err fault
 replayed_text (Ok job) index typed = session_text (first_moment job index) typed
 
+-- nothing in the files has a fault, and their job has a call at an index, where the files are known
+abbrev pub HasCall : (List ℕ → Option (List ℕ)) → Result BlockValue BlockFault → ℕ → Type 0
+HasCall content block index = IfSome (loaded_job content block) (λ wanted. IsOkAnd wanted (λ job. IsSome (slice_get job.block index)))
+
 -- a refusal: NoSuchCall only where the job of the files has no such call; a fault of the files is as in a run in order;
--- a refusal of the session's writes or memory comes only where nothing that was read has a fault, and at any line
-abbrev pub IsFaultOfDebug : (List ℕ → Option (List ℕ)) → Result BlockValue BlockFault → ℕ → Option (List ℕ) → Option (List ℕ) → Refusal → Type 0
-IsFaultOfDebug content block index old new (Debug debug.NoSuchCall) = IfSome (loaded_job content block) (λ wanted. IsOkAnd wanted (λ job. slice_get job.block index ≡ None))
-IsFaultOfDebug content block index old new (Debug debug.Memory) = IfSome (loaded_job content block) (λ wanted. IsOk wanted)
-IsFaultOfDebug content block index old new (Debug fault) = ⊥
-IsFaultOfDebug content block index old new (Output fault) = IfSome (loaded_job content block) (λ wanted. IsOk wanted)
-IsFaultOfDebug content block index old new fault = IsFaultOf content block old new fault
+-- Memory of the session comes only where nothing that was read has a fault, and a refusal of its writes or reads only
+-- where the call is there; all these at any line
+abbrev pub IsFaultOfDebug : Type 0 → Type 0 → (List ℕ → Option (List ℕ)) → Result BlockValue BlockFault → ℕ → Option (List ℕ) → Option (List ℕ) → Refusal → Type 0
+IsFaultOfDebug may_fail lines_may_fail content block index old new (Debug debug.NoSuchCall) = IfSome (loaded_job content block) (λ wanted. IsOkAnd wanted (λ job. slice_get job.block index ≡ None))
+IsFaultOfDebug may_fail lines_may_fail content block index old new (Debug debug.Memory) = IfSome (loaded_job content block) (λ wanted. IsOk wanted)
+IsFaultOfDebug may_fail lines_may_fail content block index old new (Debug fault) = ⊥
+IsFaultOfDebug may_fail lines_may_fail content block index old new (Output fault) = HasCall content block index
+IsFaultOfDebug may_fail lines_may_fail content block index old new (File Unreadable) = MayBeUnreadable may_fail content block ⊎ (lines_may_fail × HasCall content block index)
+IsFaultOfDebug may_fail lines_may_fail content block index old new fault = IsFaultOf may_fail content block old new fault
+
+-- where no session is wanted, the output stays as it was
+abbrev pub StaysWithoutSession : Result Job Refusal → ℕ → Option (List ℕ) → Option (List ℕ) → Type 0
+StaysWithoutSession (Err fault) index old new = new ≡ old
+StaysWithoutSession (Ok job) index old new = slice_get job.block index ≡ None → new ≡ old
 
 -- a refusal that comes before the session leaves the output as it was
 abbrev pub IsUnwrittenBefore : Option (List ℕ) → Option (List ℕ) → Refusal → Type 0

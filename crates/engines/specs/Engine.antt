@@ -68,23 +68,27 @@ answer_of content (Ok block) = option_map (result_map_both (result_of block) (λ
 abbrev pub IsTextFault : {X : Type 0} → Result X BlockFault → BlockFault → Type 0
 IsTextFault text fault = (text ≡ Err fault) ⊎ ((fault.cause ≡ cause.Memory) × IfErr text (λ first. fault.line ≤ first.line))
 
--- a refusal met in a block file: the wanted one, Memory with no fault before it, or Unreadable
-abbrev pub IsBlockFault : {X : Type 0} → Result X BlockFault → Refusal → Type 0
-IsBlockFault text (Block fault) = IsTextFault text fault
-IsBlockFault text (File Unreadable) = ⊤
-IsBlockFault text _ = ⊥
+-- a refusal met in a block file: the wanted one, Memory with no fault before it, or Unreadable where a read may fail
+abbrev pub IsBlockFault : {X : Type 0} → Type 0 → Result X BlockFault → Refusal → Type 0
+IsBlockFault may_fail text (Block fault) = IsTextFault text fault
+IsBlockFault may_fail text (File Unreadable) = may_fail
+IsBlockFault may_fail text _ = ⊥
+
+-- a file of the job may be unreadable: a read of the block file may fail, or a program that is read is not known
+abbrev pub MayBeUnreadable : Type 0 → (List ℕ → Option (List ℕ)) → Result BlockValue BlockFault → Type 0
+MayBeUnreadable may_fail content block = may_fail ⊎ (loaded_job content block ≡ None)
 
 -- a refusal: a fault of the block file or of its programs is the first one. Memory for a program comes only where the
--- block file has no fault, and Memory of the run only where its programs have none either. Where the output was
--- refused, a beginning of the wanted text was written
-abbrev pub IsFaultOf : (List ℕ → Option (List ℕ)) → Result BlockValue BlockFault → Option (List ℕ) → Option (List ℕ) → Refusal → Type 0
-IsFaultOf content block old new (Block fault) = IsTextFault block fault
-IsFaultOf content block old new (Elf fault) = ((fault ≡ elf.Memory) × IsOk block) ⊎ IfSome (answer_of content block) (λ answer. answer ≡ Err (Elf fault))
-IsFaultOf content block old new (File TooLong) = IfSome (answer_of content block) (λ answer. answer ≡ Err (File TooLong))
-IsFaultOf content block old new (Output fault) = IfSome (answer_of content block) (λ answer. IsOkAnd answer (AppendsPart old new))
-IsFaultOf content block old new (File Unreadable) = ⊤
-IsFaultOf content block old new (Seq fault) = IfSome (answer_of content block) (λ answer. IsOk answer)
-IsFaultOf content block old new _ = ⊥
+-- block file has no fault, and Memory of the run only where its programs have none either. Unreadable comes only where a
+-- file of the job may be unreadable. Where the output was refused, a beginning of the wanted text was written
+abbrev pub IsFaultOf : Type 0 → (List ℕ → Option (List ℕ)) → Result BlockValue BlockFault → Option (List ℕ) → Option (List ℕ) → Refusal → Type 0
+IsFaultOf may_fail content block old new (Block fault) = IsTextFault block fault
+IsFaultOf may_fail content block old new (Elf fault) = ((fault ≡ elf.Memory) × IsOk block) ⊎ IfSome (answer_of content block) (λ answer. answer ≡ Err (Elf fault))
+IsFaultOf may_fail content block old new (File TooLong) = IfSome (answer_of content block) (λ answer. answer ≡ Err (File TooLong))
+IsFaultOf may_fail content block old new (Output fault) = IfSome (answer_of content block) (λ answer. IsOkAnd answer (AppendsPart old new))
+IsFaultOf may_fail content block old new (File Unreadable) = MayBeUnreadable may_fail content block
+IsFaultOf may_fail content block old new (Seq fault) = IfSome (answer_of content block) (λ answer. IsOk answer)
+IsFaultOf may_fail content block old new _ = ⊥
 
 -- a refused command wrote nothing, unless a write failed
 abbrev pub IsUnwritten : Option (List ℕ) → Option (List ℕ) → Refusal → Type 0

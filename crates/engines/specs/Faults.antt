@@ -1,5 +1,6 @@
 -- What a refusal prints.
 use Rattle.std.specs.Prelude.{List, ℕ, ◌++◌, codes}
+use Rattle.std.specs.Fmt.{decimal}
 use Rattle.block_file.specs.Faults as block
 use Rattle.debugger.specs.Faults as debug
 use Rattle.elf32.specs.Refusals as elf
@@ -14,15 +15,31 @@ use Rattle.engines.specs.declared.fault.SeqFault.TheVariants.{Memory}
 use Rattle.engines.specs.declared.fault.Refusal.{Refusal}
 use Rattle.engines.specs.declared.fault.Refusal.TheVariants.{File, Block, Elf, Asm, Seq, Schedule, Run, Drive, Debug, Output}
 
--- the name and the number of a refusal of a file
-abbrev pub file_text : FileFault → List ℕ
-file_text Unreadable = codes "Unreadable 1"
-file_text Unwritable = codes "Unwritable 2"
-file_text TooLong = codes "TooLong 3"
+-- the number of a refusal of a file
+abbrev pub file_number : FileFault → ℕ
+file_number Unreadable = 1
+file_number Unwritable = 2
+file_number TooLong = 3
 
--- the name and the number of a refusal of a run in order
-abbrev pub seq_text : SeqFault → List ℕ
-seq_text Memory = codes "Memory 1"
+-- its name
+abbrev pub file_name : FileFault → List ℕ
+file_name Unreadable = codes "Unreadable"
+file_name Unwritable = codes "Unwritable"
+file_name TooLong = codes "TooLong"
+
+-- both, as they are printed
+unfoldable pub file_text : FileFault → List ℕ
+file_text fault = file_name fault ++ codes " " ++ decimal (file_number fault)
+
+-- the same for a refusal of a run in order
+abbrev pub seq_number : SeqFault → ℕ
+seq_number Memory = 1
+
+abbrev pub seq_name : SeqFault → List ℕ
+seq_name Memory = codes "Memory"
+
+unfoldable pub seq_text : SeqFault → List ℕ
+seq_text fault = seq_name fault ++ codes " " ++ decimal (seq_number fault)
 
 -- the area, the line where it has one, the name and the number
 abbrev pub refusal_text : Refusal → List ℕ

@@ -6,3 +6,4 @@ pub mod Faults
 pub mod Running
 pub mod Counts
 pub mod Debugging
+pub mod RefusalParts

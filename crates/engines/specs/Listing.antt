@@ -1,5 +1,5 @@
 -- What `rvstm dis` prints and `rvstm asm` writes, and what they refuse.
-use Rattle.std.specs.Prelude.{◌≡◌, ◌⊎◌, ⊤, ℕ, List, [], ◌∷◌, ◌++◌, flat_map, Option, Result, Ok, Err, IsOk, IsOkAnd, if◌then◌else◌, length, ◌==◌, IsUtf8}
+use Rattle.std.specs.Prelude.{◌≡◌, ◌⊎◌, ℕ, List, [], ◌∷◌, ◌++◌, flat_map, Option, Result, Ok, Err, IsOk, IsOkAnd, if◌then◌else◌, length, ◌==◌, IsUtf8}
 use Rattle.std.specs.Result.{result_map_both}
 use Rattle.elf32.specs.Layout.{Layout}
 use Rattle.elf32.specs.Words.{words_of}
@@ -32,14 +32,14 @@ abbrev pub listing_of_file : List ℕ → Result (List ℕ) Refusal
 listing_of_file bytes = result_map_both listing_of (λ fault. fault) (layout_of_file bytes)
 
 -- a refusal of `dis`: a fault of the file is the wanted one, or Memory; where the output was refused, a beginning of
--- the wanted text was written. Memory of the output does not come
-abbrev pub IsListingFault : Result (List ℕ) Refusal → Option (List ℕ) → Option (List ℕ) → Refusal → Type 0
-IsListingFault answer old new (Elf fault) = (fault ≡ elf.Memory) ⊎ (answer ≡ Err (Elf fault))
-IsListingFault answer old new (File TooLong) = answer ≡ Err (File TooLong)
-IsListingFault answer old new (File Unreadable) = ⊤
-IsListingFault answer old new (Output output.Memory) = ⊥
-IsListingFault answer old new (Output fault) = IsOkAnd answer (AppendsPart old new)
-IsListingFault answer old new _ = ⊥
+-- the wanted text was written. Unreadable comes only where a read may fail, and Memory of the output does not come
+abbrev pub IsListingFault : Type 0 → Result (List ℕ) Refusal → Option (List ℕ) → Option (List ℕ) → Refusal → Type 0
+IsListingFault may_fail answer old new (Elf fault) = (fault ≡ elf.Memory) ⊎ (answer ≡ Err (Elf fault))
+IsListingFault may_fail answer old new (File TooLong) = answer ≡ Err (File TooLong)
+IsListingFault may_fail answer old new (File Unreadable) = may_fail
+IsListingFault may_fail answer old new (Output output.Memory) = ⊥
+IsListingFault may_fail answer old new (Output fault) = IsOkAnd answer (AppendsPart old new)
+IsListingFault may_fail answer old new _ = ⊥
 
 -- the file of an assembled program; one without text words has no entry, and is refused as BadEntry
 abbrev pub file_or_fault : Sections → Result (List ℕ) Refusal
@@ -54,9 +54,10 @@ abbrev pub file_of_source : List ℕ → Result (List ℕ) Refusal
 file_of_source source = file_of_program (assembled source)
 
 -- a refusal of `asm` before anything is written: a fault of a source in UTF-8 is the first one. Memory of the assembler
--- has line 1, and Memory for the file comes only where the source has no fault
-abbrev pub IsSourceFault : List ℕ → Refusal → Type 0
-IsSourceFault source (Asm fault) = ((fault.cause ≡ cause.Memory) × (fault.line ≡ 1)) ⊎ (IsUtf8 source × (file_of_source source ≡ Err (Asm fault)))
-IsSourceFault source (Elf fault) = IsUtf8 source × (((fault ≡ elf.Memory) × IsOk (file_of_source source)) ⊎ (file_of_source source ≡ Err (Elf fault)))
-IsSourceFault source (File Unreadable) = ⊤
-IsSourceFault source _ = ⊥
+-- has line 1, and Memory for the file comes only where the source has no fault. Unreadable comes only where a read may
+-- fail or the source is not in UTF-8
+abbrev pub IsSourceFault : Type 0 → List ℕ → Refusal → Type 0
+IsSourceFault may_fail source (Asm fault) = ((fault.cause ≡ cause.Memory) × (fault.line ≡ 1)) ⊎ (IsUtf8 source × (file_of_source source ≡ Err (Asm fault)))
+IsSourceFault may_fail source (Elf fault) = IsUtf8 source × (((fault ≡ elf.Memory) × IsOk (file_of_source source)) ⊎ (file_of_source source ≡ Err (Elf fault)))
+IsSourceFault may_fail source (File Unreadable) = may_fail ⊎ ¬ (IsUtf8 source)
+IsSourceFault may_fail source _ = ⊥

@@ -4,7 +4,7 @@ use Rattle.block_file.specs.Block.{BlockValue}
 use Rattle.block_file.specs.declared.fault.BlockFault.{BlockFault}
 use Rattle.rv_ledger.specs.declared.job.Job.{Job}
 use Rattle.stm_state.specs.Steps as steps
-use Rattle.workers.specs.History.{HasLimit}
+use Rattle.workers.specs.History.{HasLimit, HasStepLimit}
 use Rattle.workers.specs.declared.fault.RunFault.{RunFault}
 use Rattle.workers.specs.declared.fault.RunFault.TheVariants as run
 use Rattle.engines.specs.Engine.{loaded_job, IsFaultOf}
@@ -12,16 +12,17 @@ use Rattle.engines.specs.declared.fault.Refusal.{Refusal}
 use Rattle.engines.specs.declared.fault.Refusal.TheVariants.{Run, Seq}
 
 -- what a refusal of a job's run by workers says. BadCount: the number of workers is not 1 to 32. A limit: some list of
--- steps of the job meets it. Any other refusal says nothing
+-- steps of the job meets it, or by StepLimit fills the count of a worker. Any other refusal says nothing
 abbrev pub IsRefusalOf : Job → ℕ → RunFault → Type 0
 IsRefusalOf job workers run.BadCount = (workers ≡ 0) ⊎ (32 < workers)
 IsRefusalOf job workers run.ArenaFull = HasLimit job workers steps.ArenaFull
 IsRefusalOf job workers run.IncarnationLimit = HasLimit job workers steps.IncarnationLimit
+IsRefusalOf job workers run.StepLimit = HasStepLimit job workers
 IsRefusalOf job workers fault = ⊤
 
 -- a refusal: one of the run, Memory too, comes only where nothing that was read has a fault, and is one of the job in
 -- the files; a refusal of a run in order does not come; all others are as in a run in order
-abbrev pub IsFaultOfRun : (List ℕ → Option (List ℕ)) → Result BlockValue BlockFault → ℕ → Option (List ℕ) → Option (List ℕ) → Refusal → Type 0
-IsFaultOfRun content block workers old new (Run fault) = IfSome (loaded_job content block) (λ wanted. IsOkAnd wanted (λ job. IsRefusalOf job workers fault))
-IsFaultOfRun content block workers old new (Seq fault) = ⊥
-IsFaultOfRun content block workers old new fault = IsFaultOf content block old new fault
+abbrev pub IsFaultOfRun : Type 0 → (List ℕ → Option (List ℕ)) → Result BlockValue BlockFault → ℕ → Option (List ℕ) → Option (List ℕ) → Refusal → Type 0
+IsFaultOfRun may_fail content block workers old new (Run fault) = IfSome (loaded_job content block) (λ wanted. IsOkAnd wanted (λ job. IsRefusalOf job workers fault))
+IsFaultOfRun may_fail content block workers old new (Seq fault) = ⊥
+IsFaultOfRun may_fail content block workers old new fault = IsFaultOf may_fail content block old new fault

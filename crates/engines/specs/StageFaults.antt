@@ -9,36 +9,36 @@ use Rattle.receipts.specs.Written.{AppendsPart}
 use Rattle.rv_ledger.specs.declared.job.Job.{Job}
 use Rattle.rv_step.specs.Fold.{receipts_of, store_after}
 use Rattle.stm_core.specs.declared.engine.DriveFault.TheVariants as drive
-use Rattle.engines.specs.Engine.{loaded_job, IsTextFault}
+use Rattle.engines.specs.Engine.{loaded_job, IsTextFault, MayBeUnreadable}
 use Rattle.engines.specs.Running.{IsRefusalOf}
 use Rattle.engines.specs.declared.fault.Refusal.{Refusal}
 use Rattle.engines.specs.declared.fault.Refusal.TheVariants.{File, Block, Elf, Seq, Schedule, Run, Drive, Debug, Output}
 use Rattle.engines.specs.declared.fault.FileFault.TheVariants.{Unreadable, TooLong}
 
--- a refusal met in the files of programs: the wanted one, Memory, or Unreadable
-abbrev pub IsProgramFault : {X : Type 0} → Option (Result X Refusal) → Refusal → Type 0
-IsProgramFault wanted (Elf fault) = (fault ≡ elf.Memory) ⊎ IfSome wanted (λ w. w ≡ Err (Elf fault))
-IsProgramFault wanted (File TooLong) = IfSome wanted (λ w. w ≡ Err (File TooLong))
-IsProgramFault wanted (File Unreadable) = ⊤
-IsProgramFault wanted _ = ⊥
+-- a refusal met in the files of programs: the wanted one, Memory, or Unreadable where one may be unreadable
+abbrev pub IsProgramFault : {X : Type 0} → Type 0 → Option (Result X Refusal) → Refusal → Type 0
+IsProgramFault may_fail wanted (Elf fault) = (fault ≡ elf.Memory) ⊎ IfSome wanted (λ w. w ≡ Err (Elf fault))
+IsProgramFault may_fail wanted (File TooLong) = IfSome wanted (λ w. w ≡ Err (File TooLong))
+IsProgramFault may_fail wanted (File Unreadable) = may_fail
+IsProgramFault may_fail wanted _ = ⊥
 
--- a refusal met in the schedule file: the wanted one, Memory with no fault before it, or Unreadable
-abbrev pub IsScheduleFault : Option (Result (List ℕ) BlockFault) → Refusal → Type 0
-IsScheduleFault wanted (Schedule fault) = IfSome wanted (λ w. IsTextFault w fault)
-IsScheduleFault wanted (File Unreadable) = ⊤
-IsScheduleFault wanted _ = ⊥
+-- a refusal met in the schedule file: the wanted one, Memory with no fault before it, or Unreadable where a read may fail
+abbrev pub IsScheduleFault : Type 0 → Option (Result (List ℕ) BlockFault) → Refusal → Type 0
+IsScheduleFault may_fail wanted (Schedule fault) = IfSome wanted (λ w. IsTextFault w fault)
+IsScheduleFault may_fail wanted (File Unreadable) = may_fail
+IsScheduleFault may_fail wanted _ = ⊥
 
--- a refusal met before a job is made: the wanted one, Memory of the file in hand, or Unreadable
-abbrev pub IsJobFault : (List ℕ → Option (List ℕ)) → Result BlockValue BlockFault → Refusal → Type 0
-IsJobFault content block (Block fault) = IsTextFault block fault
-IsJobFault content block (Elf fault) = ((fault ≡ elf.Memory) × IsOk block) ⊎ IfSome (loaded_job content block) (λ wanted. wanted ≡ Err (Elf fault))
-IsJobFault content block (File TooLong) = IfSome (loaded_job content block) (λ wanted. wanted ≡ Err (File TooLong))
-IsJobFault content block (File Unreadable) = ⊤
-IsJobFault content block _ = ⊥
+-- a refusal met before a job is made: the wanted one, Memory of the file in hand, or Unreadable where a file may be so
+abbrev pub IsJobFault : Type 0 → (List ℕ → Option (List ℕ)) → Result BlockValue BlockFault → Refusal → Type 0
+IsJobFault may_fail content block (Block fault) = IsTextFault block fault
+IsJobFault may_fail content block (Elf fault) = ((fault ≡ elf.Memory) × IsOk block) ⊎ IfSome (loaded_job content block) (λ wanted. wanted ≡ Err (Elf fault))
+IsJobFault may_fail content block (File TooLong) = IfSome (loaded_job content block) (λ wanted. wanted ≡ Err (File TooLong))
+IsJobFault may_fail content block (File Unreadable) = MayBeUnreadable may_fail content block
+IsJobFault may_fail content block _ = ⊥
 
 -- the same, or want of memory for the job, which comes only where nothing that was read has a fault
-abbrev pub IsLoadFault : (List ℕ → Option (List ℕ)) → Result BlockValue BlockFault → Refusal → Refusal → Type 0
-IsLoadFault content block memory e = ((e ≡ memory) × IfSome (loaded_job content block) (λ wanted. IsOk wanted)) ⊎ IsJobFault content block e
+abbrev pub IsLoadFault : Type 0 → (List ℕ → Option (List ℕ)) → Result BlockValue BlockFault → Refusal → Refusal → Type 0
+IsLoadFault may_fail content block memory e = ((e ≡ memory) × IfSome (loaded_job content block) (λ wanted. IsOk wanted)) ⊎ IsJobFault may_fail content block e
 
 -- the text of the result of a job whose calls are run in order
 abbrev pub text_of : Job → List ℕ
@@ -74,9 +74,9 @@ IsReplayFault job index (Debug debug.Memory) = ⊤
 IsReplayFault job index (Debug debug.NoSuchCall) = slice_get job.block index ≡ None
 IsReplayFault job index _ = ⊥
 
--- a refusal of a session: a failed read, a failed write, or Memory
-abbrev pub IsSessionFault : Refusal → Type 0
-IsSessionFault (File Unreadable) = ⊤
-IsSessionFault (Output fault) = ⊤
-IsSessionFault (Debug debug.Memory) = ⊤
-IsSessionFault _ = ⊥
+-- a refusal of a session: a failed read where a read may fail, a failed write, or Memory
+abbrev pub IsSessionFault : Type 0 → Refusal → Type 0
+IsSessionFault may_fail (File Unreadable) = may_fail
+IsSessionFault may_fail (Output fault) = ⊤
+IsSessionFault may_fail (Debug debug.Memory) = ⊤
+IsSessionFault may_fail _ = ⊥

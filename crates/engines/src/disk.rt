@@ -3,48 +3,28 @@
 ghost use Rattle.std.specs.Prelude.{None};
 
 use crate::programs::Programs;
-use std::alloc::Global;
-use std::io;
-use std::io::{Read, Write};
+use block_file::FallibleReader;
+use std::fs::File;
+use std::io::Read;
+use std::rt::Files;
+use std::{fs, io};
+use system_files::{OutputDisk, SystemDisk};
 
-/// Files by their paths.
-pub trait Disk {
+/// Files by their paths, which are read, made and replaced.
+pub trait Disk: OutputDisk {
     /// A file that is open to be read.
     type File: Read + Drop;
 
-    /// A file that is open to be written.
-    type NewFile: Write + Drop;
-
     /// Opens a file to read it.
     fn open(&self, path: &str) -> io::Result<Self::File>;
+}
 
-    /// Makes a file to write it, and keeps it for this process as long as it is open; refused as AlreadyExists
-    /// where something is at the path.
-    fn create_new(&self, path: &str) -> io::Result<Self::NewFile>;
+impl<'a, R: Files<File = File>> Disk for SystemDisk<'a, R> {
+    type File = File;
 
-    /// Removes the file at a path, which a process that has ended made by `create_new`; refused where something
-    /// else is there, or the file is still kept.
-    fn remove_left_over(&self, path: &str) -> io::Result<()>;
-
-    /// Whether two paths name one file.
-    fn is_one_file(&self, left: &str, right: &str) -> bool;
-
-    /// Opens what is at a path, to write into it from its start.
-    fn create(&self, path: &str) -> io::Result<Self::NewFile>;
-
-    /// The path of the ordinary file that a path names, with links followed; the path itself where
-    /// nothing is there yet. `None` where something else is there, such as a device. Refused where the
-    /// file may not be written.
-    fn file_path(&self, alloc: Global, path: &str) -> io::Result<Option<String>>;
-
-    /// Makes sure that what was written to a file is on the disk.
-    fn sync(&self, file: &Self::NewFile) -> io::Result<()>;
-
-    /// Renames a file. It replaces the file that has the new name, if any.
-    fn rename(&self, from: &str, to: &str) -> io::Result<()>;
-
-    /// Removes a file.
-    fn remove_file(&self, path: &str) -> io::Result<()>;
+    fn open(&self, path: &str) -> io::Result<File> {
+        fs::open(self.rt, path)
+    }
 }
 
 /// The programs in the files that their paths name.
@@ -55,12 +35,15 @@ pub(crate) struct ProgramFiles<'a, D: Disk> {
 }
 
 impl<'a, D: Disk> Programs for ProgramFiles<'a, D> {
-    type File = D::File;
+    type File = FallibleReader<D::File>;
 
     ghost content = { λ _ _. None };
 
-    fn open(&mut self, path: &str) -> io::Result<D::File> {
-        self.disk.open(path)
+    fn open(&mut self, path: &str) -> io::Result<FallibleReader<D::File>> {
+        match self.disk.open(path) {
+            Ok(reader) => Ok(FallibleReader { reader }),
+            Err(error) => Err(error),
+        }
     }
 }
 

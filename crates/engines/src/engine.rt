@@ -16,18 +16,18 @@ use crate::fault::{Refusal, SeqFault};
 use crate::loading::load_job;
 use crate::programs::Programs;
 use crate::reading::read_text;
-use block_file::{BlockFault, Cause, parse_schedule};
+use block_file::{BlockFault, Cause, Source, parse_schedule};
 use receipts::write_outcome;
 use rv_ledger::{Job, Outcome};
 use seq_exec::into_outcome;
 use std::alloc::Global;
-use std::io::{Read, Write};
+use std::io::Write;
 use stm_core::{DriveFault, drive};
 
 /// Reads a block file to its end and parses it. Opens, reads and loads its programs in the order of their
 /// numbers. Then runs the calls in order and writes the result. The first refusal ends it. Where the
 /// output is refused, a beginning of the result was written; otherwise nothing was written.
-pub fn seq_to<R: Read, P: Programs, W: Write>(
+pub fn seq_to<R: Source, P: Programs, W: Write>(
     alloc: Global,
     block: &mut R,
     programs: &mut P,
@@ -37,9 +37,10 @@ pub fn seq_to<R: Read, P: Programs, W: Write>(
         IfSome (answer_of (P.content programs.old) (block_of input)) (λ answer.
         IsOkAnd answer (Appends (W.contents out.old) (W.contents out.new))))) }
     ensures refused { IfErr result (λ e. IfSome (R.remaining block.old) (λ input.
-        IsFaultOf (P.content programs.old) (block_of input) (W.contents out.old) (W.contents out.new) e)) }
+        IsFaultOf (R.may_fail block.old) (P.content programs.old) (block_of input) (W.contents out.old) (W.contents out.new) e)) }
     ensures unwritten { IfErr result (λ e. IsUnwritten (W.contents out.old) (W.contents out.new) e) }
 {
+    // Not by `?`: the proof answers this arm.
     let job = match load_job(alloc, block, programs, Refusal::Seq(SeqFault::Memory)) {
         Ok(job) => job,
         Err(refusal) => return Err(refusal),
@@ -52,7 +53,7 @@ pub fn seq_to<R: Read, P: Programs, W: Write>(
 /// along the schedule and writes the result, which is that of the calls in order. The first refusal ends
 /// it. Where the output is refused, a beginning of the result was written; otherwise nothing was written.
 /// Where nothing is refused, it returns what the workers did.
-pub fn drive_to<R: Read, P: Programs, S: Read, W: Write>(
+pub fn drive_to<R: Source, P: Programs, S: Source, W: Write>(
     alloc: Global,
     block: &mut R,
     programs: &mut P,
@@ -64,13 +65,14 @@ pub fn drive_to<R: Read, P: Programs, S: Read, W: Write>(
         IfSome (driven_answer (P.content programs.old) (block_of input) workers (option_map schedule_of (S.remaining schedule.old))) (λ answer.
         IsOkAnd answer (Appends (W.contents out.old) (W.contents out.new))))) }
     ensures refused { IfErr result (λ e. IfSome (R.remaining block.old) (λ input.
-        IsFaultOfDrive (P.content programs.old) (block_of input) workers (option_map schedule_of (S.remaining schedule.old))
-        (W.contents out.old) (W.contents out.new) e)) }
+        IsFaultOfDrive (R.may_fail block.old) (S.may_fail schedule.old) (P.content programs.old) (block_of input) workers
+        (option_map schedule_of (S.remaining schedule.old)) (W.contents out.old) (W.contents out.new) e)) }
     ensures unwritten { IfErr result (λ e. IsUnwritten (W.contents out.old) (W.contents out.new) e) }
     ensures counts { IfOk result (λ counts. IfSome (R.remaining block.old) (λ input. IfSome (S.remaining schedule.old) (λ bytes.
         IfSome (loaded_job (P.content programs.old) (block_of input)) (λ wanted. IsOkAnd wanted (λ job.
         IsOkAnd (schedule_of bytes) (λ entries. AreCountsAlong job workers entries counts)))))) }
 {
+    // Not by `?`: the proof answers this arm.
     let job = match load_job(alloc, block, programs, Refusal::Drive(DriveFault::Memory)) {
         Ok(job) => job,
         Err(refusal) => return Err(refusal),
@@ -83,14 +85,15 @@ pub fn drive_to<R: Read, P: Programs, S: Read, W: Write>(
 }
 
 /// Reads and parses a schedule file.
-fn read_schedule<S: Read>(alloc: Global, schedule: &mut S) -> Result<Vec<u16>, Refusal>
+fn read_schedule<S: Source>(alloc: Global, schedule: &mut S) -> Result<Vec<u16>, Refusal>
     ensures ok { IfOk result (λ v. IfSome (S.remaining schedule.old) (λ bytes. schedule_of bytes ≡ Ok v.items)) }
-    ensures err { IfErr result (λ e. IsScheduleFault (option_map schedule_of (S.remaining schedule.old)) e) }
+    ensures err { IfErr result (λ e. IsScheduleFault (S.may_fail schedule.old) (option_map schedule_of (S.remaining schedule.old)) e) }
 {
     let memory = BlockFault {
         line: 1,
         cause: Cause::Memory,
     };
+    // Not by `?`: the proof answers this arm.
     let bytes = match read_text(alloc, schedule, Refusal::Schedule(memory)) {
         Ok(bytes) => bytes,
         Err(refusal) => return Err(refusal),

@@ -1,8 +1,9 @@
 //! Why a command is refused.
 
-ghost use Rattle.std.specs.Prelude.{◌++◌};
+ghost use Rattle.std.specs.Prelude.{◌≡◌, ◌++◌};
 ghost use Rattle.std.specs.Fmt.{DisplaysOnOk};
 ghost use Rattle.std.specs.Option.{option_map};
+ghost use Rattle.engines.specs.Faults.{file_name, file_number, seq_name, seq_number};
 
 use block_file::BlockFault;
 use debugger::ReplayFault;
@@ -25,6 +26,26 @@ pub enum FileFault {
     TooLong = 3,
 }
 
+impl FileFault {
+    /// The number in the refusal's line, 1 to 3.
+    pub fn number(self) -> u8
+        ensures { result ≡ file_number self }
+    {
+        self as u8
+    }
+
+    /// The name in the refusal's line.
+    pub fn name(self) -> &'static str
+        ensures { result.now ≡ file_name self }
+    {
+        match self {
+            FileFault::Unreadable => "Unreadable",
+            FileFault::Unwritable => "Unwritable",
+            FileFault::TooLong => "TooLong",
+        }
+    }
+}
+
 impl fmt::Display for FileFault {
     ghost use Rattle.std.specs.Prelude.{Some};
     ghost use Rattle.engines.specs.Faults.{file_text};
@@ -32,12 +53,9 @@ impl fmt::Display for FileFault {
     ghost output = { λ fault. Some (file_text fault) };
 
     /// The name and the number.
+    #[tactic(auto, unfolding(crate::specs::Faults::file_text))]
     fn fmt<W: fmt::Write>(&self, f: &mut fmt::Formatter<W>) -> fmt::Result {
-        match self {
-            FileFault::Unreadable => f.write_str("Unreadable 1"),
-            FileFault::Unwritable => f.write_str("Unwritable 2"),
-            FileFault::TooLong => f.write_str("TooLong 3"),
-        }
+        write!(f, "{} {}", self.name(), self.number())
     }
 }
 
@@ -48,6 +66,24 @@ pub enum SeqFault {
     Memory = 1,
 }
 
+impl SeqFault {
+    /// The number in the refusal's line, 1.
+    pub fn number(self) -> u8
+        ensures { result ≡ seq_number self }
+    {
+        self as u8
+    }
+
+    /// The name in the refusal's line.
+    pub fn name(self) -> &'static str
+        ensures { result.now ≡ seq_name self }
+    {
+        match self {
+            SeqFault::Memory => "Memory",
+        }
+    }
+}
+
 impl fmt::Display for SeqFault {
     ghost use Rattle.std.specs.Prelude.{Some};
     ghost use Rattle.engines.specs.Faults.{seq_text};
@@ -55,10 +91,9 @@ impl fmt::Display for SeqFault {
     ghost output = { λ fault. Some (seq_text fault) };
 
     /// The name and the number.
+    #[tactic(auto, unfolding(crate::specs::Faults::seq_text))]
     fn fmt<W: fmt::Write>(&self, f: &mut fmt::Formatter<W>) -> fmt::Result {
-        match self {
-            SeqFault::Memory => f.write_str("Memory 1"),
-        }
+        write!(f, "{} {}", self.name(), self.number())
     }
 }
 

@@ -14,7 +14,7 @@ mod migrating;
 mod program;
 mod programs;
 mod reading;
-mod replacing;
+mod refusal_parts;
 mod reporting;
 mod running;
 
@@ -27,8 +27,7 @@ pub use fault::{FileFault, Refusal, SeqFault};
 pub use laws::migrated_runs_alike;
 pub use listing::dis_to;
 pub use migrating::migrated_file;
-pub use program::status;
+pub use program::{exit_code, status};
 pub use programs::Programs;
-pub use replacing::replace;
 pub use reporting::{report, write_refusal};
 pub use running::run_to;

@@ -11,26 +11,24 @@ ghost use Rattle.receipts.specs.Text.{word_text};
 
 use crate::fault::Refusal;
 use crate::reading::read_elf;
+use block_file::Source;
 use elf32::{ElfError, Image, PlacedWord, load};
 use receipts::{word_text, write_whole};
 use rv_text::disassemble;
 use std::alloc::{AllocError, Global};
-use std::io::{Read, Write};
+use std::io::Write;
 
 /// Reads an ELF file of at most 131,072 bytes to its end, loads it and writes a line for each of its
 /// words: the address, the word and its text. The first refusal ends it. Where the output is
 /// refused, a beginning of the lines was written; otherwise nothing was written.
-pub fn dis_to<R: Read, W: Write>(alloc: Global, file: &mut R, out: &mut W) -> Result<(), Refusal>
+pub fn dis_to<R: Source, W: Write>(alloc: Global, file: &mut R, out: &mut W) -> Result<(), Refusal>
     ensures written { OnOk result (IfSome (R.remaining file.old) (λ bytes.
         IsOkAnd (listing_of_file bytes) (Appends (W.contents out.old) (W.contents out.new)))) }
     ensures refused { IfErr result (λ e. IfSome (R.remaining file.old) (λ bytes.
-        IsListingFault (listing_of_file bytes) (W.contents out.old) (W.contents out.new) e)) }
+        IsListingFault (R.may_fail file.old) (listing_of_file bytes) (W.contents out.old) (W.contents out.new) e)) }
     ensures unwritten { IfErr result (λ e. IsUnwritten (W.contents out.old) (W.contents out.new) e) }
 {
-    let listing = match listing(alloc, file) {
-        Ok(listing) => listing,
-        Err(refusal) => return Err(refusal),
-    };
+    let listing = listing(alloc, file)?;
     match write_whole(listing.as_bytes(), out) {
         Ok(()) => Ok(()),
         Err(fault) => Err(Refusal::Output(fault)),
@@ -38,18 +36,12 @@ pub fn dis_to<R: Read, W: Write>(alloc: Global, file: &mut R, out: &mut W) -> Re
 }
 
 /// The lines of an ELF file.
-fn listing<R: Read>(alloc: Global, file: &mut R) -> Result<String, Refusal>
+fn listing<R: Source>(alloc: Global, file: &mut R) -> Result<String, Refusal>
     ensures ok { IfOk result (λ t. IfSome (R.remaining file.old) (λ bytes. listing_of_file bytes ≡ Ok (string_bytes t))) }
-    ensures err { IfErr result (λ e. IsProgramFault (option_map layout_of_file (R.remaining file.old)) e) }
+    ensures err { IfErr result (λ e. IsProgramFault (R.may_fail file.old) (option_map layout_of_file (R.remaining file.old)) e) }
 {
-    let bytes = match read_elf(alloc, file) {
-        Ok(bytes) => bytes,
-        Err(refusal) => return Err(refusal),
-    };
-    let image = match load(alloc, bytes.as_slice()) {
-        Ok(image) => image,
-        Err(fault) => return Err(Refusal::Elf(fault)),
-    };
+    let bytes = read_elf(alloc, file)?;
+    let image = load(alloc, bytes.as_slice()).map_err(Refusal::Elf)?;
     match text_of(alloc, &image) {
         Ok(text) => Ok(text),
         Err(_) => Err(Refusal::Elf(ElfError::Memory)),

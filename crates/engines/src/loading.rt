@@ -1,6 +1,6 @@
 //! The job of a block file and the files of its programs.
 
-ghost use Rattle.std.specs.Prelude.{◌≡◌, ◌⊎◌, ◌<◌, ◌≤◌, length, map, vec_len, All, IfOk, IfErr, IfSome, Ok, Some};
+ghost use Rattle.std.specs.Prelude.{◌≡◌, ◌⊎◌, ◌<◌, ◌≤◌, length, map, vec_len, All, IfOk, IfErr, IfSome, None, Ok, Some};
 ghost use Rattle.std.specs.Arc.{arc_value};
 ghost use Rattle.std.specs.Option.{option_map};
 ghost use Rattle.std.specs.String.{string_bytes};
@@ -11,11 +11,10 @@ ghost use Rattle.engines.specs.StageFaults.{IsLoadFault, IsProgramFault};
 use crate::fault::{FileFault, Refusal};
 use crate::programs::Programs;
 use crate::reading::{read_elf, read_text};
-use block_file::{BlockFault, BlockText, CallLine, Cause, parse};
+use block_file::{BlockFault, BlockText, CallLine, Cause, Source, parse};
 use elf32::{ElfError, Image, load};
 use rv_ledger::{Call, Job, Rules, Store};
 use std::alloc::{AllocError, Global};
-use std::io::Read;
 use std::sync::Arc;
 
 /// Want of memory for the bytes of a block file.
@@ -27,7 +26,7 @@ pub(crate) const BLOCK_MEMORY: BlockFault = BlockFault {
 /// Reads a block file to its end and parses it. Opens, reads and loads its programs in the order of
 /// their numbers. Then makes the job. The first refusal ends it. It is `memory` where memory for
 /// the calls ran out.
-pub(crate) fn load_job<R: Read, P: Programs>(
+pub(crate) fn load_job<R: Source, P: Programs>(
     alloc: Global,
     block: &mut R,
     programs: &mut P,
@@ -36,19 +35,18 @@ pub(crate) fn load_job<R: Read, P: Programs>(
     ensures ok { IfOk result (λ job. IfSome (R.remaining block.old) (λ input.
         IfSome (loaded_job (P.content programs.old) (block_of input)) (λ wanted. wanted ≡ Ok job))) }
     ensures err { IfErr result (λ e. IfSome (R.remaining block.old) (λ input.
-        IsLoadFault (P.content programs.old) (block_of input) memory e)) }
+        IsLoadFault (R.may_fail block.old) (P.content programs.old) (block_of input) memory e)) }
 {
-    match read_block(alloc, block) {
-        Ok(text) => load_text(alloc, text, programs, memory),
-        Err(refusal) => Err(refusal),
-    }
+    let text = read_block(alloc, block)?;
+    load_text(alloc, text, programs, memory)
 }
 
 /// Reads and parses a block file.
-fn read_block<R: Read>(alloc: Global, block: &mut R) -> Result<BlockText, Refusal>
+fn read_block<R: Source>(alloc: Global, block: &mut R) -> Result<BlockText, Refusal>
     ensures ok { IfOk result (λ text. IfSome (R.remaining block.old) (λ input. block_of input ≡ Ok (block_value text))) }
-    ensures err { IfErr result (λ e. IfSome (R.remaining block.old) (λ input. IsBlockFault (block_of input) e)) }
+    ensures err { IfErr result (λ e. IfSome (R.remaining block.old) (λ input. IsBlockFault (R.may_fail block.old) (block_of input) e)) }
 {
+    // Not by `?`: the proof answers this arm.
     let bytes = match read_text(alloc, block, Refusal::Block(BLOCK_MEMORY)) {
         Ok(bytes) => bytes,
         Err(refusal) => return Err(refusal),
@@ -67,7 +65,7 @@ fn load_text<P: Programs>(
     memory: Refusal,
 ) -> Result<Job, Refusal>
     ensures ok { IfOk result (λ job. IfSome (loaded_job (P.content programs.old) (Ok (block_value text))) (λ wanted. wanted ≡ Ok job)) }
-    ensures err { IfErr result (λ e. IsLoadFault (P.content programs.old) (Ok (block_value text)) memory e) }
+    ensures err { IfErr result (λ e. IsLoadFault ⊥ (P.content programs.old) (Ok (block_value text)) memory e) }
 {
     let BlockText {
         rules,
@@ -75,10 +73,7 @@ fn load_text<P: Programs>(
         store,
         calls,
     } = text;
-    let images = match load_all(alloc, programs, paths.as_slice()) {
-        Ok(images) => images,
-        Err(refusal) => return Err(refusal),
-    };
+    let images = load_all(alloc, programs, paths.as_slice())?;
     match job_of(alloc, rules, images.as_slice(), calls, store) {
         Ok(job) => Ok(job),
         Err(_) => Err(memory),
@@ -94,10 +89,12 @@ fn load_all<P: Programs>(
     ensures all { IfOk result (λ v. vec_len v ≡ length paths.now) }
     ensures ok { IfOk result (λ v. IfSome (programs_of (P.content programs.old) (map string_bytes paths.now)) (λ wanted.
         wanted ≡ Ok (map arc_value v.items))) }
-    ensures err { IfErr result (λ e. IsProgramFault (programs_of (P.content programs.old) (map string_bytes paths.now)) e) }
+    ensures err { IfErr result (λ e. let wanted = programs_of (P.content programs.old) (map string_bytes paths.now) in
+        IsProgramFault (wanted ≡ None) wanted e) }
 {
     let mut images = Vec::new(alloc);
     for path in paths {
+        // Not by `?`: the proof answers this arm.
         let image = match load_one(alloc, programs, path.as_str()) {
             Ok(image) => image,
             Err(refusal) => return Err(refusal),
@@ -113,12 +110,10 @@ fn load_all<P: Programs>(
 fn load_one<P: Programs>(alloc: Global, programs: &mut P, path: &str) -> Result<Arc<Image>, Refusal>
     ensures same { P.content programs.new ≡ P.content programs.old }
     ensures ok { IfOk result (λ i. IfSome (P.content programs.old path.now) (λ bytes. layout_of_file bytes ≡ Ok (arc_value i))) }
-    ensures err { IfErr result (λ e. IsProgramFault (option_map layout_of_file (P.content programs.old path.now)) e) }
+    ensures err { IfErr result (λ e. IsProgramFault (P.content programs.old path.now ≡ None) (option_map layout_of_file (P.content programs.old path.now)) e) }
 {
-    match read_program(alloc, programs, path) {
-        Ok(bytes) => load_program(alloc, bytes.as_slice()),
-        Err(refusal) => Err(refusal),
-    }
+    let bytes = read_program(alloc, programs, path)?;
+    load_program(alloc, bytes.as_slice())
 }
 
 /// Opens and reads the file of a program.
@@ -130,7 +125,7 @@ fn read_program<P: Programs>(
     ensures same { P.content programs.new ≡ P.content programs.old }
     ensures ok { IfOk result (λ v. IfSome (P.content programs.old path.now) (λ bytes. v.items ≡ bytes)) }
     ensures short { IfOk result (λ v. vec_len v ≤ 131072) }
-    ensures err { IfErr result (λ e. IsProgramFault (option_map layout_of_file (P.content programs.old path.now)) e) }
+    ensures err { IfErr result (λ e. IsProgramFault (P.content programs.old path.now ≡ None) (option_map layout_of_file (P.content programs.old path.now)) e) }
 {
     let Ok(mut file) = programs.open(path) else {
         return Err(Refusal::File(FileFault::Unreadable));
@@ -142,12 +137,9 @@ fn read_program<P: Programs>(
 fn load_program(alloc: Global, bytes: &[u8]) -> Result<Arc<Image>, Refusal>
     requires { length bytes.now ≤ 131072 }
     ensures ok { IfOk result (λ i. layout_of_file bytes.now ≡ Ok (arc_value i)) }
-    ensures err { IfErr result (λ e. IsProgramFault (Some (layout_of_file bytes.now)) e) }
+    ensures err { IfErr result (λ e. IsProgramFault ⊥ (Some (layout_of_file bytes.now)) e) }
 {
-    let image = match load(alloc, bytes) {
-        Ok(image) => image,
-        Err(fault) => return Err(Refusal::Elf(fault)),
-    };
+    let image = load(alloc, bytes).map_err(Refusal::Elf)?;
     match Arc::new(alloc, image) {
         Ok(image) => Ok(image),
         Err(_) => Err(Refusal::Elf(ElfError::Memory)),

@@ -7,17 +7,17 @@ ghost use Rattle.engines.specs.Engine.{IsBlockFault};
 use crate::fault::Refusal;
 use crate::loading::BLOCK_MEMORY;
 use crate::reading::read_text;
-use block_file::migrate;
+use block_file::{Source, migrate};
 use std::alloc::Global;
-use std::io::Read;
 
 /// Reads a block file of format 1 to its end and returns the file of format 2 that says the same. Refused
 /// with the file's first fault, which is BadHeader for a file of another format, as Unreadable where a
 /// read failed, and as Memory where memory ran out.
-pub fn migrated_file<R: Read>(alloc: Global, block: &mut R) -> Result<Vec<u8>, Refusal>
+pub fn migrated_file<R: Source>(alloc: Global, block: &mut R) -> Result<Vec<u8>, Refusal>
     ensures ok { IfOk result (λ file. IfSome (R.remaining block.old) (λ bytes. migrated bytes ≡ Ok file.items)) }
-    ensures err { IfErr result (λ e. IfSome (R.remaining block.old) (λ bytes. IsBlockFault (migrated bytes) e)) }
+    ensures err { IfErr result (λ e. IfSome (R.remaining block.old) (λ bytes. IsBlockFault (R.may_fail block.old) (migrated bytes) e)) }
 {
+    // Not by `?`: the proof answers this arm.
     let bytes = match read_text(alloc, block, Refusal::Block(BLOCK_MEMORY)) {
         Ok(bytes) => bytes,
         Err(refusal) => return Err(refusal),

@@ -1,5 +1,7 @@
 //! The program, over any command line, files, input and writers.
 
+ghost use Rattle.std.specs.Prelude.{◌≡◌};
+
 use crate::assembling::{SOURCE_MEMORY, file_of_source};
 use crate::counts::{RunCounts, write_counts};
 use crate::debugging::debug_block_to;
@@ -9,20 +11,33 @@ use crate::fault::{FileFault, Refusal};
 use crate::listing::dis_to;
 use crate::loading::BLOCK_MEMORY;
 use crate::migrating::migrated_file;
-use crate::replacing::replace;
 use crate::reporting::report;
 use crate::running::run_to;
+use block_file::FallibleReader;
 use cmdline::{Request, request_of};
 use receipts::{WriteFault, write_whole};
 use std::alloc::Global;
-use std::io::{Read, Write};
-use std::rt::Env;
+use std::fs::File;
+use std::io::{Read, Stderr, Stdin, Stdout, Write};
+use std::process::ExitCode;
+use std::rt::{Env, Files};
 use std::sync::Wait;
 use std::thread::Threads;
 use std::{env, io};
+use system_files::{OutputDisk, ReplaceFault, SystemDisk, replace};
 
 /// The exit status of a wrong command line.
 const WRONG_LINE: u8 = 2;
+
+/// Does what a runtime's command line asks for, over its files and the standard streams, and returns the exit
+/// code, as `status` does.
+pub fn exit_code<R>(rt: &R, mut input: Stdin, mut out: Stdout, mut errors: Stderr) -> ExitCode
+where
+    R: Env + Files<File = File> + AllocGlobal + Threads + Wait + Sync,
+{
+    let mut disk = SystemDisk { rt };
+    ExitCode::from(status(rt, rt, &mut disk, &mut input, &mut out, &mut errors))
+}
 
 /// Does what the command line asks for, and returns the exit status: 0 where it is done, 1 where it is
 /// refused, 2 where the line is wrong. The lines of `debug` are read from `input`. Results, help and the
@@ -30,7 +45,7 @@ const WRONG_LINE: u8 = 2;
 pub fn status<R, T, D, I, W, E>(
     rt: &R,
     threads: &T,
-    disk: &D,
+    disk: &mut D,
     input: &mut I,
     out: &mut W,
     errors: &mut E,
@@ -120,7 +135,7 @@ fn text_of(error: &io::Error) -> &'static str {
 fn answer<T: Threads + Wait + Sync, D: Disk, I: Read, W: Write, E: Write>(
     threads: &T,
     alloc: Global,
-    disk: &D,
+    disk: &mut D,
     request: Request<'_>,
     input: &mut I,
     out: &mut W,
@@ -200,10 +215,12 @@ fn drive<D: Disk, W: Write>(
     out: &mut W,
 ) -> Result<RunCounts, Refusal> {
     let mut block = opened(disk, file)?;
-    let mut schedule = LateFile {
-        disk,
-        path: schedule,
-        file: None,
+    let mut schedule = FallibleReader {
+        reader: LateFile {
+            disk,
+            path: schedule,
+            file: None,
+        },
     };
     drive_to(
         alloc,
@@ -217,23 +234,62 @@ fn drive<D: Disk, W: Write>(
 
 /// Assembles a source and puts its ELF file at a path. Where this is refused, an ordinary file at the path
 /// stays as it was. Refused as Unwritable where both paths name one file, since the source would be lost.
-fn asm<D: Disk>(alloc: Global, disk: &D, file: &str, out: &str) -> Result<(), Refusal> {
-    let mut source = opened(disk, file)?;
-    if disk.is_one_file(file, out) {
-        return Err(Refusal::File(FileFault::Unwritable));
-    }
-    let bytes = file_of_source(alloc, &mut source)?;
+fn asm<D: Disk>(alloc: Global, disk: &mut D, file: &str, out: &str) -> Result<(), Refusal> {
     let memory = Refusal::Asm(SOURCE_MEMORY);
-    replace(alloc, disk, out, bytes.as_slice(), memory)
+    let mut source = opened(disk, file)?;
+    keep_apart(disk, file, out, memory)?;
+    let bytes = file_of_source(alloc, &mut source)?;
+    put(alloc, disk, out, bytes.as_slice(), memory)
 }
 
 /// Rewrites a block file of format 1 as format 2 and puts it at a path. Where this is refused, an ordinary
-/// file at the path stays as it was.
-fn migrate<D: Disk>(alloc: Global, disk: &D, file: &str, out: &str) -> Result<(), Refusal> {
-    let mut block = opened(disk, file)?;
-    let bytes = migrated_file(alloc, &mut block)?;
+/// file at the path stays as it was. Refused as Unwritable where both paths name one file, so that it stays.
+fn migrate<D: Disk>(alloc: Global, disk: &mut D, file: &str, out: &str) -> Result<(), Refusal> {
     let memory = Refusal::Block(BLOCK_MEMORY);
-    replace(alloc, disk, out, bytes.as_slice(), memory)
+    let mut block = opened(disk, file)?;
+    keep_apart(disk, file, out, memory)?;
+    let bytes = migrated_file(alloc, &mut block)?;
+    put(alloc, disk, out, bytes.as_slice(), memory)
+}
+
+/// Refused as Unwritable where two paths name one file or that can't be told, and as `memory` where memory ran out.
+fn keep_apart<D: OutputDisk>(
+    disk: &D,
+    file: &str,
+    out: &str,
+    memory: Refusal,
+) -> Result<(), Refusal> {
+    match disk.is_one_file(file, out) {
+        Ok(false) => Ok(()),
+        Ok(true) => Err(Refusal::File(FileFault::Unwritable)),
+        Err(error) => Err(refusal_of(ReplaceFault::from(error), memory)),
+    }
+}
+
+/// Puts bytes at a path, as `replace` does. Refused as Unwritable where a file can't be made, written or renamed,
+/// and as `memory` where memory ran out.
+fn put<D: OutputDisk>(
+    alloc: Global,
+    disk: &mut D,
+    path: &str,
+    bytes: &[u8],
+    memory: Refusal,
+) -> Result<(), Refusal> {
+    match replace(alloc, disk, path, bytes) {
+        Ok(()) => Ok(()),
+        Err(fault) => Err(refusal_of(fault, memory)),
+    }
+}
+
+/// The refusal of a command whose file is not put at its path: `memory` where memory ran out.
+fn refusal_of(fault: ReplaceFault, memory: Refusal) -> Refusal
+    ensures unwritable { fault ≡ ReplaceFault.Unwritable → result ≡ Refusal.File FileFault.Unwritable }
+    ensures memory { fault ≡ ReplaceFault.Memory → result ≡ memory }
+{
+    match fault {
+        ReplaceFault::Unwritable => Refusal::File(FileFault::Unwritable),
+        ReplaceFault::Memory => memory,
+    }
 }
 
 /// Prints the instructions of an ELF file.
@@ -253,13 +309,14 @@ fn debug<D: Disk, I: Read, W: Write>(
 ) -> Result<(), Refusal> {
     let mut block = opened(disk, file)?;
     let mut programs = ProgramFiles { disk };
-    debug_block_to(alloc, &mut block, &mut programs, call, input, out)
+    let mut lines = FallibleReader { reader: input };
+    debug_block_to(alloc, &mut block, &mut programs, call, &mut lines, out)
 }
 
 /// Opens a file to read it.
-fn opened<D: Disk>(disk: &D, path: &str) -> Result<D::File, Refusal> {
+fn opened<D: Disk>(disk: &D, path: &str) -> Result<FallibleReader<D::File>, Refusal> {
     match disk.open(path) {
-        Ok(file) => Ok(file),
+        Ok(reader) => Ok(FallibleReader { reader }),
         Err(_) => Err(Refusal::File(FileFault::Unreadable)),
     }
 }

@@ -1,14 +1,14 @@
 //! How files are read to their end.
 
-ghost use Rattle.std.specs.Prelude.{◌≡◌, ◌⊎◌, ◌<◌, ◌≤◌, length, vec_len, IfOk, IfErr, IfSome, Option, Some};
+ghost use Rattle.std.specs.Prelude.{◌≡◌, ◌⊎◌, ◌<◌, ◌≤◌, length, vec_len, IfOk, IfErr, IfSome};
 ghost use Rattle.std.specs.Option.{option_map};
 ghost use Rattle.engines.specs.Engine.{layout_of_file};
 ghost use Rattle.engines.specs.StageFaults.{IsProgramFault};
 
 use crate::fault::{FileFault, Refusal};
+use block_file::Source;
 use elf32::ElfError;
 use std::alloc::Global;
-use std::io::Read;
 
 /// The greatest length of a program file, in bytes.
 const PROGRAM_FILE_LIMIT: usize = 131_072;
@@ -29,15 +29,16 @@ enum ReadFault {
 
 /// All the bytes that a reader has left. Refused as TooLong where there are more than `limit`, as
 /// Unreadable where a read failed, and as Memory where memory ran out.
-fn read_whole<R: Read>(alloc: Global, reader: &mut R, limit: usize) -> Result<Vec<u8>, ReadFault>
+fn read_whole<R: Source>(alloc: Global, reader: &mut R, limit: usize) -> Result<Vec<u8>, ReadFault>
     ensures ok { IfOk result (λ v. IfSome (R.remaining reader.old) (λ bytes. v.items ≡ bytes)) }
     ensures short { IfOk result (λ v. vec_len v ≤ limit) }
     ensures long { IfErr result (λ e. e ≡ ReadFault.TooLong → IfSome (R.remaining reader.old) (λ bytes. limit < length bytes)) }
+    ensures unreadable { IfErr result (λ e. e ≡ ReadFault.Unreadable → R.may_fail reader.old) }
 {
     let mut all = Vec::new(alloc);
     let mut part = [0u8; PART_BYTES];
-    for _ in 0..u64::MAX {
-        let Ok(count) = reader.read(&mut part) else {
+    loop {
+        let Ok(count) = reader.read_part(&mut part) else {
             return Err(ReadFault::Unreadable);
         };
         if count == 0 {
@@ -50,18 +51,17 @@ fn read_whole<R: Read>(alloc: Global, reader: &mut R, limit: usize) -> Result<Ve
             return Err(ReadFault::Memory);
         }
     }
-    Err(ReadFault::Unreadable)
 }
 
 /// All the bytes that a reader of a text has left. Refused as Unreadable where a read failed, and as
 /// `memory` where memory ran out.
-pub(crate) fn read_text<R: Read>(
+pub(crate) fn read_text<R: Source>(
     alloc: Global,
     reader: &mut R,
     memory: Refusal,
 ) -> Result<Vec<u8>, Refusal>
     ensures ok { IfOk result (λ v. IfSome (R.remaining reader.old) (λ bytes. v.items ≡ bytes)) }
-    ensures err { IfErr result (λ e. (e ≡ memory) ⊎ (e ≡ Refusal.File FileFault.Unreadable)) }
+    ensures err { IfErr result (λ e. (e ≡ memory) ⊎ ((e ≡ Refusal.File FileFault.Unreadable) × R.may_fail reader.old)) }
 {
     match read_whole(alloc, reader, usize::MAX) {
         Ok(bytes) => Ok(bytes),
@@ -72,10 +72,10 @@ pub(crate) fn read_text<R: Read>(
 
 /// All the bytes that a reader of a program file has left. Refused as TooLong where there are more than
 /// 131,072, as Unreadable where a read failed, and as Memory where memory ran out.
-pub(crate) fn read_elf<R: Read>(alloc: Global, reader: &mut R) -> Result<Vec<u8>, Refusal>
+pub(crate) fn read_elf<R: Source>(alloc: Global, reader: &mut R) -> Result<Vec<u8>, Refusal>
     ensures ok { IfOk result (λ v. IfSome (R.remaining reader.old) (λ bytes. v.items ≡ bytes)) }
     ensures short { IfOk result (λ v. vec_len v ≤ 131072) }
-    ensures err { IfErr result (λ e. IsProgramFault (option_map layout_of_file (R.remaining reader.old)) e) }
+    ensures err { IfErr result (λ e. IsProgramFault (R.may_fail reader.old) (option_map layout_of_file (R.remaining reader.old)) e) }
 {
     match read_whole(alloc, reader, PROGRAM_FILE_LIMIT) {
         Ok(bytes) => Ok(bytes),

@@ -15,9 +15,10 @@ use crate::engine::write_counted;
 use crate::fault::Refusal;
 use crate::loading::load_job;
 use crate::programs::Programs;
+use block_file::Source;
 use rv_ledger::{Job, Outcome};
 use std::alloc::Global;
-use std::io::{Read, Write};
+use std::io::Write;
 use std::sync::Wait;
 use std::thread::Threads;
 use workers::{Executor, RunFault};
@@ -27,7 +28,7 @@ use workers::{Executor, RunFault};
 /// result, which is that of the calls in order. The first refusal ends it. Where the output is refused,
 /// a beginning of the result was written; otherwise nothing was written. Where nothing is refused, it returns
 /// what the workers did.
-pub fn run_to<T: Threads + Wait + Sync, R: Read, P: Programs, W: Write>(
+pub fn run_to<T: Threads + Wait + Sync, R: Source, P: Programs, W: Write>(
     threads: &T,
     alloc: Global,
     block: &mut R,
@@ -39,12 +40,13 @@ pub fn run_to<T: Threads + Wait + Sync, R: Read, P: Programs, W: Write>(
         IfSome (answer_of (P.content programs.old) (block_of input)) (λ answer.
         IsOkAnd answer (Appends (W.contents out.old) (W.contents out.new))))) }
     ensures refused { IfErr result (λ e. IfSome (R.remaining block.old) (λ input.
-        IsFaultOfRun (P.content programs.old) (block_of input) workers (W.contents out.old) (W.contents out.new) e)) }
+        IsFaultOfRun (R.may_fail block.old) (P.content programs.old) (block_of input) workers (W.contents out.old) (W.contents out.new) e)) }
     ensures unwritten { IfErr result (λ e. IsUnwritten (W.contents out.old) (W.contents out.new) e) }
     ensures workers { OnOk result ((1 ≤ workers) × (workers ≤ 32)) }
     ensures history { IfOk result (λ counts. IfSome (R.remaining block.old) (λ input.
         IfSome (loaded_job (P.content programs.old) (block_of input)) (λ wanted. IsOkAnd wanted (λ job. AreCountsOfRun job workers counts)))) }
 {
+    // Not by `?`: the proof answers this arm.
     let job = match load_job(alloc, block, programs, Refusal::Run(RunFault::Memory)) {
         Ok(job) => job,
         Err(refusal) => return Err(refusal),

@@ -1,4 +1,4 @@
-use Rattle.std.proofs.Common.{◌≡◌, ℕ, ◌<◌, false, arith}
+use Rattle.std.proofs.Common.{◌≡◌, false}
 use Rattle.rv_step.specs.Moment.{is_over, moment_over}
 use Rattle.debugger.proofs.ReplayMoments.{stands_next}
 use Rattle.debugger.proofs.running.run_after.Goals as goal

@@ -1,9 +1,11 @@
-use Rattle.std.proofs.Common.{List, ℕ, true}
+use Rattle.std.proofs.Common.{◌≤◌, List, ℕ, true, length}
 use Rattle.std.specs.Io.KnownBytes.{Consumes}
 use Rattle.debugger.specs.Hearing.{HasHeard}
 use Rattle.debugger.proofs.session.debug_to.Given as goal
 
-abbrev pub invariant-loop : goal.invariant-loop
-invariant-loop g l =
+abbrev pub invariant-loop-turn : goal.invariant-loop-turn
+invariant-loop-turn g l =
     (heard : List ℕ) × Consumes (g.R.Read.remaining l.fn.lines) (g.R.Read.remaining l.lines) heard
     × HasHeard true l.fn.replay heard l.replay l.line.items (g.W.Write.contents l.fn.out) (g.W.Write.contents l.out)
+    × (g.R.Source.may_fail l.lines → g.R.Source.may_fail l.fn.lines)
+    × (l._turn ≤ length heard)

@@ -15,23 +15,23 @@ use Rattle.engines.proofs.DriveFaults.{along_drive, before_drive}
 use Rattle.engines.proofs.engine.drive_to.Goals as goal
 
 -- want of memory for the calls, or a fault of what was read
-loading : (input : Option (List ℕ)) (content : List ℕ → Option (List ℕ)) (workers : ℕ) (schedule : Option (Result (List ℕ) BlockFault)) (old new : Option (List ℕ)) (e : Refusal) → IfSome input (λ bytes. IsLoadFault content (block_of bytes) (Drive Memory) e) → IfSome input (λ bytes. IsFaultOfDrive content (block_of bytes) workers schedule old new e)
-loading None content workers schedule old new e h = tt
-loading (Some bytes) content workers schedule old new e (inl memory) = rw memory.0 (inl (refl, memory.1))
-loading (Some bytes) content workers schedule old new e (inr fault) = before_drive workers schedule content (block_of bytes) old new e fault
+loading : (may_fail schedule_may_fail : Type 0) (input : Option (List ℕ)) (content : List ℕ → Option (List ℕ)) (workers : ℕ) (schedule : Option (Result (List ℕ) BlockFault)) (old new : Option (List ℕ)) (e : Refusal) → IfSome input (λ bytes. IsLoadFault may_fail content (block_of bytes) (Drive Memory) e) → IfSome input (λ bytes. IsFaultOfDrive may_fail schedule_may_fail content (block_of bytes) workers schedule old new e)
+loading may_fail schedule_may_fail None content workers schedule old new e h = tt
+loading may_fail schedule_may_fail (Some bytes) content workers schedule old new e (inl memory) = rw memory.0 (inl (refl, memory.1))
+loading may_fail schedule_may_fail (Some bytes) content workers schedule old new e (inr fault) = before_drive workers schedule may_fail schedule_may_fail content (block_of bytes) old new e fault
 
 pub returns-in-Err-clause-refused : goal.returns-in-Err-clause-refused
 returns-in-Err-clause-refused g c =
-    loading (g.R.Read.remaining c.args.block.now) (g.P.Programs.content c.args.programs.now) c.args.workers (option_map schedule_of (g.S.Read.remaining c.args.schedule.now)) (g.W.Write.contents c.args.out.now) (g.W.Write.contents c.args.out.now) c.in-Err.refusal c.in-Err.ensures.err
+    loading (g.R.Source.may_fail c.args.block.now) (g.S.Source.may_fail c.args.schedule.now) (g.R.Read.remaining c.args.block.now) (g.P.Programs.content c.args.programs.now) c.args.workers (option_map schedule_of (g.S.Read.remaining c.args.schedule.now)) (g.W.Write.contents c.args.out.now) (g.W.Write.contents c.args.out.now) c.in-Err.refusal c.in-Err.ensures.err
 
 -- a refusal of the run along the list
-running : {X : Type 0} (input bytes : Option (List ℕ)) (content : List ℕ → Option (List ℕ)) (job : Job) (workers : ℕ) (entries items : List ℕ) (old new : Option (List ℕ)) (r : Result X Refusal) → entries ≡ items
+running : {X : Type 0} (may_fail schedule_may_fail : Type 0) (input bytes : Option (List ℕ)) (content : List ℕ → Option (List ℕ)) (job : Job) (workers : ℕ) (entries items : List ℕ) (old new : Option (List ℕ)) (r : Result X Refusal) → entries ≡ items
     → IfSome input (λ b. IfSome (loaded_job content (block_of b)) (λ wanted. wanted ≡ Ok job)) → IfSome bytes (λ b. schedule_of b ≡ Ok items)
     → IfErr r (λ e. IsDriveFault (text_along job.block job.store workers entries) old new e)
-    → IfErr r (λ e. IfSome input (λ b. IsFaultOfDrive content (block_of b) workers (option_map schedule_of bytes) old new e))
-running input bytes content job workers entries items old new (Ok done) same made parsed h = tt
-running None bytes content job workers entries items old new (Err e) same made parsed h = tt
-running (Some b) bytes content job workers entries items old new (Err e) same made parsed h = along_drive workers (option_map schedule_of bytes) entries job (of_bytes bytes parsed) content (block_of b) old new e made h
+    → IfErr r (λ e. IfSome input (λ b. IsFaultOfDrive may_fail schedule_may_fail content (block_of b) workers (option_map schedule_of bytes) old new e))
+running may_fail schedule_may_fail input bytes content job workers entries items old new (Ok done) same made parsed h = tt
+running may_fail schedule_may_fail None bytes content job workers entries items old new (Err e) same made parsed h = tt
+running may_fail schedule_may_fail (Some b) bytes content job workers entries items old new (Err e) same made parsed h = along_drive workers (option_map schedule_of bytes) entries job (of_bytes bytes parsed) may_fail schedule_may_fail content (block_of b) old new e made h
   where
     of_bytes : (o : Option (List ℕ)) → IfSome o (λ x. schedule_of x ≡ Ok items) → IfSome (option_map schedule_of o) (λ s. s ≡ Ok entries)
     of_bytes None is = tt
@@ -39,5 +39,5 @@ running (Some b) bytes content job workers entries items old new (Err e) same ma
 
 pub returns-clause-refused : goal.returns-clause-refused
 returns-clause-refused g c =
-    running (g.R.Read.remaining c.args.block.now) (g.S.Read.remaining c.args.schedule.now) (g.P.Programs.content c.args.programs.now) c.in-Ok.job c.args.workers c.as_slice.result.now c.in-Ok-read_schedule.entries.items
+    running (g.R.Source.may_fail c.args.block.now) (g.S.Source.may_fail c.args.schedule.now) (g.R.Read.remaining c.args.block.now) (g.S.Read.remaining c.args.schedule.now) (g.P.Programs.content c.args.programs.now) c.in-Ok.job c.args.workers c.as_slice.result.now c.in-Ok-read_schedule.entries.items
     (g.W.Write.contents c.args.out.now) (g.W.Write.contents c.drive_job.new.out) c.drive_job.result c.as_slice.ensures.value c.in-Ok.ensures.ok c.in-Ok-read_schedule.ensures.ok c.drive_job.ensures.refused

@@ -12,10 +12,10 @@ use Rattle.engines.specs.StageFaults.{IsScheduleFault}
 use Rattle.engines.proofs.engine.read_schedule.Goals as goal
 
 -- no fault of a schedule file is before line 1
-reading : (input : Option (List ℕ)) (e : Refusal) → (e ≡ Schedule (record { line = 1; cause = Memory })) ⊎ (e ≡ File Unreadable) → IsScheduleFault (option_map schedule_of input) e
-reading None e (inl memory) = rw memory tt
-reading (Some bytes) e (inl memory) = rw memory (inr (refl, later with_entry BadNumber 1 [] (cut 10 bytes)))
-reading input e (inr unreadable) = rw unreadable tt
+reading : (may_fail : Type 0) (input : Option (List ℕ)) (e : Refusal) → (e ≡ Schedule (record { line = 1; cause = Memory })) ⊎ ((e ≡ File Unreadable) × may_fail) → IsScheduleFault may_fail (option_map schedule_of input) e
+reading may_fail None e (inl memory) = rw memory tt
+reading may_fail (Some bytes) e (inl memory) = rw memory (inr (refl, later with_entry BadNumber 1 [] (cut 10 bytes)))
+reading may_fail input e (inr unreadable) = rw unreadable.0 unreadable.1
 
 pub returns-in-Err-clause-err : goal.returns-in-Err-clause-err
-returns-in-Err-clause-err g c = reading (g.S.Read.remaining c.args.schedule.now) c.in-Err.refusal c.in-Err.ensures.err
+returns-in-Err-clause-err g c = reading (g.S.Source.may_fail c.args.schedule.now) (g.S.Read.remaining c.args.schedule.now) c.in-Err.refusal c.in-Err.ensures.err

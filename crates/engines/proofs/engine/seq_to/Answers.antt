@@ -10,11 +10,11 @@ use Rattle.engines.proofs.JobFaults.{job_fault, no_fault}
 use Rattle.engines.proofs.engine.seq_to.Goals as goal
 
 -- want of memory for the calls, or a fault of what was read
-loading : (input : Option (List ℕ)) (content : List ℕ → Option (List ℕ)) (old new : Option (List ℕ)) (e : Refusal) → IfSome input (λ bytes. IsLoadFault content (block_of bytes) (Seq Memory) e) → IfSome input (λ bytes. IsFaultOf content (block_of bytes) old new e)
-loading None content old new e h = tt
-loading (Some bytes) content old new e (inl memory) = rw memory.0 (no_fault content (block_of bytes) memory.1)
-loading (Some bytes) content old new e (inr fault) = job_fault content (block_of bytes) old new e fault
+loading : (may_fail : Type 0) (input : Option (List ℕ)) (content : List ℕ → Option (List ℕ)) (old new : Option (List ℕ)) (e : Refusal) → IfSome input (λ bytes. IsLoadFault may_fail content (block_of bytes) (Seq Memory) e) → IfSome input (λ bytes. IsFaultOf may_fail content (block_of bytes) old new e)
+loading may_fail None content old new e h = tt
+loading may_fail (Some bytes) content old new e (inl memory) = rw memory.0 (no_fault content (block_of bytes) memory.1)
+loading may_fail (Some bytes) content old new e (inr fault) = job_fault may_fail content (block_of bytes) old new e fault
 
 pub returns-in-Err-clause-refused : goal.returns-in-Err-clause-refused
 returns-in-Err-clause-refused g c =
-    loading (g.R.Read.remaining c.args.block.now) (g.P.Programs.content c.args.programs.now) (g.W.Write.contents c.args.out.now) (g.W.Write.contents c.args.out.now) c.in-Err.refusal c.in-Err.ensures.err
+    loading (g.R.Source.may_fail c.args.block.now) (g.R.Read.remaining c.args.block.now) (g.P.Programs.content c.args.programs.now) (g.W.Write.contents c.args.out.now) (g.W.Write.contents c.args.out.now) c.in-Err.refusal c.in-Err.ensures.err

@@ -11,10 +11,10 @@ use Rattle.engines.specs.Engine.{IsBlockFault}
 use Rattle.engines.proofs.loading.read_block.Goals as goal
 
 -- no fault of a block file is before line 1
-reading : (input : Option (List ℕ)) (e : Refusal) → (e ≡ Block (record { line = 1; cause = Memory })) ⊎ (e ≡ File Unreadable) → IfSome input (λ bytes. IsBlockFault (block_of bytes) e)
-reading None e h = tt
-reading (Some bytes) e (inl memory) = rw memory (inr (refl, from_first (cut 10 bytes)))
-reading (Some bytes) e (inr unreadable) = rw unreadable tt
+reading : (may_fail : Type 0) (input : Option (List ℕ)) (e : Refusal) → (e ≡ Block (record { line = 1; cause = Memory })) ⊎ ((e ≡ File Unreadable) × may_fail) → IfSome input (λ bytes. IsBlockFault may_fail (block_of bytes) e)
+reading may_fail None e h = tt
+reading may_fail (Some bytes) e (inl memory) = rw memory (inr (refl, from_first (cut 10 bytes)))
+reading may_fail (Some bytes) e (inr unreadable) = rw unreadable.0 unreadable.1
 
 pub returns-in-Err-clause-err : goal.returns-in-Err-clause-err
-returns-in-Err-clause-err g c = reading (g.R.Read.remaining c.args.block.now) c.in-Err.refusal c.in-Err.ensures.err
+returns-in-Err-clause-err g c = reading (g.R.Source.may_fail c.args.block.now) (g.R.Read.remaining c.args.block.now) c.in-Err.refusal c.in-Err.ensures.err

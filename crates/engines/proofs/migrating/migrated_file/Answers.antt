@@ -20,13 +20,13 @@ behind_header true (Ok block) text h = tt
 behind_header true (Err fault) text h = h
 behind_header false block text h = lit≤ tt
 
-reading : (input : Option (List ℕ)) (e : Refusal) → (e ≡ Block (record { line = 1; cause = Memory })) ⊎ (e ≡ File Unreadable) → IfSome input (λ bytes. IsBlockFault (migrated bytes) e)
-reading None e h = tt
-reading (Some bytes) e (inl memory) = rw memory (inr (refl, behind_header (is_first_format bytes) (block_of bytes) (in_second_format bytes) (from_first (cut 10 bytes))))
-reading (Some bytes) e (inr unreadable) = rw unreadable tt
+reading : (may_fail : Type 0) (input : Option (List ℕ)) (e : Refusal) → (e ≡ Block (record { line = 1; cause = Memory })) ⊎ ((e ≡ File Unreadable) × may_fail) → IfSome input (λ bytes. IsBlockFault may_fail (migrated bytes) e)
+reading may_fail None e h = tt
+reading may_fail (Some bytes) e (inl memory) = rw memory (inr (refl, behind_header (is_first_format bytes) (block_of bytes) (in_second_format bytes) (from_first (cut 10 bytes))))
+reading may_fail (Some bytes) e (inr unreadable) = rw unreadable.0 unreadable.1
 
 pub returns-in-Err-clause-err : goal.returns-in-Err-clause-err
-returns-in-Err-clause-err g c = reading (g.R.Read.remaining c.args.block.now) c.in-Err.refusal c.in-Err.ensures.err
+returns-in-Err-clause-err g c = reading (g.R.Source.may_fail c.args.block.now) (g.R.Read.remaining c.args.block.now) c.in-Err.refusal c.in-Err.ensures.err
 
 -- the fault of the bytes that were read
 of_read : (input : Option (List ℕ)) (read bytes : List ℕ) (fault : BlockFault) → bytes ≡ read → IfSome input (λ all. read ≡ all) → IsTextFault (migrated bytes) fault → IfSome input (λ all. IsTextFault (migrated all) fault)

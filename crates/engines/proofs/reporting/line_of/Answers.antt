@@ -1,10 +1,10 @@
-use Rattle.std.proofs.Common.{◌≡◌, ◌++◌, ap, ◌∙◌}
-use Rattle.std.proofs.lemmas.Fmt.{contents_after_writes}
-use Rattle.engines.specs.Faults.{refusal_line, refusal_text}
+use Rattle.std.proofs.Common.{◌∙◌, ap, sym}
+use Rattle.engines.specs.Faults.{refusal_line}
+use Rattle.engines.proofs.RefusalParts.{pushed, text_in_parts}
 use Rattle.engines.proofs.reporting.line_of.Goals as goal
 
--- the line is what was written to the empty one
-pub returns-in-Ok : goal.returns-in-Ok
-returns-in-Ok c =
-    contents_after_writes (λ s bytes t. t.bytes ≡ s.bytes ++ bytes) (λ s. s.bytes) (λ w bs v h. h) c.new-line.result (refusal_line (refusal_text c.args.refusal.now)) c.writeln.new.self c.in-Ok.ensures.writes
-    ∙ ap (λ bytes. bytes ++ refusal_line (refusal_text c.args.refusal.now)) c.new-line.ensures
+-- the pushes are the parts of the text
+pub returns : goal.returns
+returns c =
+    pushed _ _ _ _ _ _ _ _ _ _ _ _ c.new-line.ensures c.push_str.ensures.bytes c.push_str-2.ensures.bytes c.push_number.ensures.bytes c.push_str-3.ensures.bytes c.push_str-4.ensures.bytes c.push_str-5.ensures.bytes c.push_str-6.ensures.bytes
+    ∙ rw (c.area.ensures.text, c.line.ensures, c.name.ensures.text, c.format.ensures.text, c.number.ensures) (ap refusal_line (sym (text_in_parts c.args.refusal.now)))

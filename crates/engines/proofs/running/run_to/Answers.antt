@@ -17,11 +17,11 @@ any_job (Some (Ok job)) workers h = tt
 any_job (Some (Err fault)) workers h = cc
 
 -- want of memory for the calls, or a fault of what was read
-loading : (input : Option (List ℕ)) (content : List ℕ → Option (List ℕ)) (workers : ℕ) (old new : Option (List ℕ)) (e : Refusal) → IfSome input (λ bytes. IsLoadFault content (block_of bytes) (Run Memory) e) → IfSome input (λ bytes. IsFaultOfRun content (block_of bytes) workers old new e)
-loading None content workers old new e h = tt
-loading (Some bytes) content workers old new e (inl memory) = rw memory.0 (any_job (loaded_job content (block_of bytes)) workers memory.1)
-loading (Some bytes) content workers old new e (inr fault) = before_run content (block_of bytes) workers old new e fault
+loading : (may_fail : Type 0) (input : Option (List ℕ)) (content : List ℕ → Option (List ℕ)) (workers : ℕ) (old new : Option (List ℕ)) (e : Refusal) → IfSome input (λ bytes. IsLoadFault may_fail content (block_of bytes) (Run Memory) e) → IfSome input (λ bytes. IsFaultOfRun may_fail content (block_of bytes) workers old new e)
+loading may_fail None content workers old new e h = tt
+loading may_fail (Some bytes) content workers old new e (inl memory) = rw memory.0 (any_job (loaded_job content (block_of bytes)) workers memory.1)
+loading may_fail (Some bytes) content workers old new e (inr fault) = before_run may_fail content (block_of bytes) workers old new e fault
 
 pub returns-in-Err-clause-refused : goal.returns-in-Err-clause-refused
 returns-in-Err-clause-refused g c =
-    loading (g.R.Read.remaining c.args.block.now) (g.P.Programs.content c.args.programs.now) c.args.workers (g.W.Write.contents c.args.out.now) (g.W.Write.contents c.args.out.now) c.in-Err.refusal c.in-Err.ensures.err
+    loading (g.R.Source.may_fail c.args.block.now) (g.R.Read.remaining c.args.block.now) (g.P.Programs.content c.args.programs.now) c.args.workers (g.W.Write.contents c.args.out.now) (g.W.Write.contents c.args.out.now) c.in-Err.refusal c.in-Err.ensures.err

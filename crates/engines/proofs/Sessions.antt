@@ -1,0 +1,74 @@
+-- What a refusal of a session over a call says of the job, and what it leaves of the output.
+use Rattle.std.proofs.Common.{◌≡◌, ℕ, List, refl, inr}
+use Rattle.std.specs.Prelude.{Option, Some, None, Result, Ok, Err, IfErr, IfSome, IsOk, IsOkAnd, IsSome, OnErr, slice_get}
+use Rattle.std.specs.Option.{option_map}
+use Rattle.block_file.specs.Block.{block_of}
+use Rattle.debugger.specs.Replay.{ReplayState}
+use Rattle.debugger.specs.declared.fault.ReplayFault.TheVariants as debug
+use Rattle.rv_ledger.specs.declared.job.Job.{Job}
+use Rattle.engines.specs.declared.fault.Refusal.{Refusal}
+use Rattle.engines.specs.declared.fault.Refusal.TheVariants.{File, Block, Elf, Asm, Seq, Schedule, Run, Drive, Debug, Output}
+use Rattle.engines.specs.declared.fault.FileFault.TheVariants.{Unreadable, Unwritable, TooLong}
+use Rattle.engines.specs.Debugging.{first_moment, IsFaultOfDebug, StaysWithoutSession}
+use Rattle.engines.specs.Engine.{loaded_job}
+use Rattle.engines.specs.StageFaults.{IsSessionFault}
+
+job_stays : (wanted : Option (Result Job Refusal)) (call : ℕ) (out : Option (List ℕ)) → IfSome wanted (λ job. StaysWithoutSession job call out out)
+job_stays None call out = tt
+job_stays (Some (Ok job)) call out = λ _. refl
+job_stays (Some (Err fault)) call out = refl
+
+-- an output to which nothing was written
+pub stays : (input : Option (List ℕ)) (content : List ℕ → Option (List ℕ)) (call : ℕ) (out : Option (List ℕ)) → IfSome input (λ bytes. IfSome (loaded_job content (block_of bytes)) (λ job. StaysWithoutSession job call out out))
+stays None content call out = tt
+stays (Some bytes) content call out = job_stays (loaded_job content (block_of bytes)) call out
+
+module _ (job : Job) (call : ℕ) (replay : ReplayState) (first : first_moment job call ≡ Some replay) where
+  some_call : {X : Type 0} (o : Option X) (f : X → ReplayState) → option_map f o ≡ Some replay → IsSome o
+  some_call None f h = cc
+  some_call (Some x) f h = refl
+
+  no_call : {X : Type 0} (o : Option X) (f : X → ReplayState) → option_map f o ≡ Some replay → o ≡ None → ⊥
+  no_call None f h is = cc
+  no_call (Some x) f h is = cc
+
+  has_call : (wanted : Option (Result Job Refusal)) → IfSome wanted (λ w. w ≡ Ok job) → IfSome wanted (λ w. IsOkAnd w (λ job. IsSome (slice_get job.block call)))
+  has_call None made = tt
+  has_call (Some w) made = rw made (some_call (slice_get job.block call) _ first)
+
+  was_made : (wanted : Option (Result Job Refusal)) → IfSome wanted (λ w. w ≡ Ok job) → IfSome wanted (λ w. IsOk w)
+  was_made None made = tt
+  was_made (Some w) made = rw made refl
+
+  no_refusal : (wanted : Option (Result Job Refusal)) (old new : Option (List ℕ)) → IfSome wanted (λ w. w ≡ Ok job) → IfSome wanted (λ w. StaysWithoutSession w call old new)
+  no_refusal None old new made = tt
+  no_refusal (Some w) old new made = rw made (λ none. absurd (no_call (slice_get job.block call) _ first none))
+
+  -- where there is a session, another output is no wonder
+  pub has_session : {X : Type 0} (r : Result X Refusal) (input : Option (List ℕ)) (content : List ℕ → Option (List ℕ)) (old new : Option (List ℕ)) → IfSome input (λ bytes. IfSome (loaded_job content (block_of bytes)) (λ w. w ≡ Ok job))
+      → OnErr r (IfSome input (λ bytes. IfSome (loaded_job content (block_of bytes)) (λ w. StaysWithoutSession w call old new)))
+  has_session (Ok x) input content old new made = tt
+  has_session (Err e) None content old new made = tt
+  has_session (Err e) (Some bytes) content old new made = no_refusal (loaded_job content (block_of bytes)) old new made
+
+  -- a refusal of the session is one of the whole
+  pub in_session : {X : Type 0} (may_fail lines_may_fail : Type 0) (input : Option (List ℕ)) (content : List ℕ → Option (List ℕ)) (old new : Option (List ℕ)) (r : Result X Refusal) → IfSome input (λ bytes. IfSome (loaded_job content (block_of bytes)) (λ w. w ≡ Ok job))
+      → IfErr r (IsSessionFault lines_may_fail) → IfErr r (λ e. IfSome input (λ bytes. IsFaultOfDebug may_fail lines_may_fail content (block_of bytes) call old new e))
+  in_session may_fail lines_may_fail input content old new (Ok x) made h = tt
+  in_session may_fail lines_may_fail None content old new (Err e) made h = tt
+  in_session may_fail lines_may_fail (Some bytes) content old new (Err (File Unreadable)) made h = inr (h, has_call (loaded_job content (block_of bytes)) made)
+  in_session may_fail lines_may_fail (Some bytes) content old new (Err (Output fault)) made h = has_call (loaded_job content (block_of bytes)) made
+  in_session may_fail lines_may_fail (Some bytes) content old new (Err (Debug debug.Memory)) made h = was_made (loaded_job content (block_of bytes)) made
+  in_session may_fail lines_may_fail (Some bytes) content old new (Err (Debug debug.NoSuchCall)) made h = absurd h
+  in_session may_fail lines_may_fail (Some bytes) content old new (Err (Debug debug.AtEnd)) made h = absurd h
+  in_session may_fail lines_may_fail (Some bytes) content old new (Err (Debug debug.AtStart)) made h = absurd h
+  in_session may_fail lines_may_fail (Some bytes) content old new (Err (Debug debug.BadRange)) made h = absurd h
+  in_session may_fail lines_may_fail (Some bytes) content old new (Err (File Unwritable)) made h = absurd h
+  in_session may_fail lines_may_fail (Some bytes) content old new (Err (File TooLong)) made h = absurd h
+  in_session may_fail lines_may_fail (Some bytes) content old new (Err (Block fault)) made h = absurd h
+  in_session may_fail lines_may_fail (Some bytes) content old new (Err (Elf fault)) made h = absurd h
+  in_session may_fail lines_may_fail (Some bytes) content old new (Err (Asm fault)) made h = absurd h
+  in_session may_fail lines_may_fail (Some bytes) content old new (Err (Seq fault)) made h = absurd h
+  in_session may_fail lines_may_fail (Some bytes) content old new (Err (Schedule fault)) made h = absurd h
+  in_session may_fail lines_may_fail (Some bytes) content old new (Err (Run fault)) made h = absurd h
+  in_session may_fail lines_may_fail (Some bytes) content old new (Err (Drive fault)) made h = absurd h

@@ -1,0 +1,43 @@
+-- What stands at the paths of a disk, and how that changes.
+use Rattle.std.specs.Prelude.{◌≡◌, ℕ, ◌<◌, ◌++◌, ◌⊎◌, List, Option, None, Some, ⊤, codes}
+use Rattle.std.specs.Fmt.{decimal}
+
+-- what stands at a path: nothing, an ordinary file with its bytes, or something else, such as a device
+pub data Entry : Type 0 where
+  Nothing : Entry
+  Ordinary : List ℕ → Entry
+  Other : Entry
+
+-- what stands at each path
+abbrev pub Entries : Type 0
+Entries = List ℕ → Entry
+
+-- what was known is known afterwards, and each path that is not touched has what it had
+abbrev pub KeepsBut : (List ℕ → Type 0) → Option Entries → Option Entries → Type 0
+KeepsBut touched None new = ⊤
+KeepsBut touched (Some old) None = ⊥
+KeepsBut touched (Some old) (Some new) = (path : List ℕ) → touched path ⊎ (new path ≡ old path)
+
+-- what is told of a path: the path that it leads to, or None where something else than an ordinary file is there
+abbrev pub IsPathOf : Option Entries → List ℕ → Option (List ℕ) → Type 0
+IsPathOf None real found = ⊤
+IsPathOf (Some entries) real (Some found) = found ≡ real
+IsPathOf (Some entries) real None = entries real ≡ Other
+
+-- a path has a file with these bytes; a device is written as it is, and nothing is said of it
+abbrev pub IsPut : Option Entries → Option Entries → List ℕ → List ℕ → Type 0
+IsPut (Some old) (Some new) path bytes = (old path ≡ Other) ⊎ (new path ≡ Ordinary bytes)
+IsPut old new path bytes = ⊤
+
+-- a path has what it had, unless that is a device
+abbrev pub Stays : Option Entries → Option Entries → List ℕ → Type 0
+Stays (Some old) (Some new) path = (old path ≡ Other) ⊎ (new path ≡ old path)
+Stays old new path = ⊤
+
+-- the path of a new file: a folder, and the name `.rvstm.new0` to `.rvstm.new99`
+abbrev pub IsNewPath : List ℕ → Type 0
+IsNewPath path = (folder : List ℕ) × (n : ℕ) × (n < 100) × (path ≡ folder ++ codes ".rvstm.new" ++ decimal n)
+
+-- the same, and not the path whose file it is to replace
+abbrev pub IsBeside : List ℕ → List ℕ → Type 0
+IsBeside replaced path = IsNewPath path × (path ≡ replaced → ⊥)

@@ -1,0 +1,61 @@
+//! Where files are made and replaced.
+
+ghost use Rattle.std.specs.Prelude.{◌≡◌, ◌⊎◌, ℕ, List, [], Option, Some, IfOk, IfSome, OnErr, OnOk};
+ghost use Rattle.std.specs.Option.{option_map};
+ghost use Rattle.std.specs.String.{string_bytes};
+ghost use Rattle.system_files.specs.Entries.{Entries, IsPathOf, KeepsBut, Ordinary};
+
+use std::alloc::Global;
+use std::io;
+use std::io::Write;
+
+/// Where files are made and replaced, by their paths.
+pub trait OutputDisk {
+    /// A file that is open to be written.
+    type NewFile: Write + Drop;
+
+    /// What stands at each path, links aside, where that is known.
+    ghost entries: { Self → Option Entries };
+
+    /// The path that a path leads to, with links followed.
+    ghost leads: { Self → List ℕ → List ℕ };
+
+    /// Makes a file to write it, and keeps it for this process as long as it is open; refused as AlreadyExists
+    /// where something is at the path.
+    fn create_new(&mut self, path: &str) -> io::Result<Self::NewFile>
+        ensures empty { IfOk result (λ file. IfSome (entries self.old) (λ _. Self.NewFile.contents file ≡ Some [])) }
+        ensures others { KeepsBut (λ p. p ≡ path.now) (entries self.old) (entries self.new) };
+
+    /// Removes the file at a path, which a process that has ended made by `create_new`; refused where something
+    /// else is there, or the file is still kept.
+    fn remove_left_over(&mut self, path: &str) -> io::Result<()>
+        ensures others { KeepsBut (λ p. p ≡ path.now) (entries self.old) (entries self.new) };
+
+    /// Whether two paths name one ordinary file; not where nothing is at one of them. Refused where that
+    /// can't be told.
+    fn is_one_file(&self, left: &str, right: &str) -> io::Result<bool>;
+
+    /// Opens what is at a path, to write into it from its start.
+    fn create(&mut self, path: &str) -> io::Result<Self::NewFile>
+        ensures others { KeepsBut (λ p. p ≡ leads self.old path.now) (entries self.old) (entries self.new) };
+
+    /// The path of the ordinary file that a path names, with links followed; the path itself where
+    /// nothing is there yet. `None` where something else is there, such as a device or a link to nothing.
+    /// Refused where that can't be told, or the file may not be written.
+    fn file_path(&self, alloc: Global, path: &str) -> io::Result<Option<String>>
+        ensures { IfOk result (λ found. IsPathOf (entries self.now) (leads self.now path.now) (option_map string_bytes found)) };
+
+    /// Makes sure that what was written to a file is on the disk.
+    fn sync(&self, file: &Self::NewFile) -> io::Result<()>;
+
+    /// Renames a file that is open. It replaces the file that has the new name, if any. Refused where the old
+    /// name is not this file's.
+    fn rename(&mut self, file: &Self::NewFile, from: &str, to: &str) -> io::Result<()>
+        ensures renamed { OnOk result (IfSome (Self.NewFile.contents file.now) (λ bytes. IfSome (entries self.new) (λ new. new to.now ≡ Ordinary bytes))) }
+        ensures others { KeepsBut (λ p. (p ≡ from.now) ⊎ (p ≡ to.now)) (entries self.old) (entries self.new) }
+        ensures stays { OnErr result (KeepsBut (λ p. p ≡ from.now) (entries self.old) (entries self.new)) };
+
+    /// Removes a file.
+    fn remove_file(&mut self, path: &str) -> io::Result<()>
+        ensures others { KeepsBut (λ p. p ≡ path.now) (entries self.old) (entries self.new) };
+}

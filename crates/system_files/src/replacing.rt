@@ -1,0 +1,137 @@
+//! How a file is put in the place of another.
+
+ghost use Rattle.std.specs.Prelude.{◌≡◌, ◌⊎◌, ◌<◌, [], Some, IfOk, IfSome, OnErr, OnOk};
+ghost use Rattle.std.specs.String.{string_bytes};
+ghost use Rattle.system_files.specs.Entries.{IsBeside, IsNewPath, IsPut, KeepsBut, Ordinary, Stays};
+
+use crate::fault::ReplaceFault;
+use crate::output_disk::OutputDisk;
+use std::alloc::{AllocError, Global};
+use std::io;
+use std::io::Write;
+
+/// The number of names that are tried for a new file.
+const NAME_LIMIT: usize = 100;
+
+/// The beginning of the name of a new file; its number stands behind it.
+const NEW_NAME: &str = ".rvstm.new";
+
+/// Puts bytes at a path. An ordinary file there is replaced in one step, by a file that was written in
+/// full beside it; where this is refused it stays as it was. A device is written directly. Refused as
+/// Memory where memory ran out, and as Unwritable where a file can't be made, written or renamed.
+pub fn replace<D: OutputDisk>(
+    alloc: Global,
+    disk: &mut D,
+    path: &str,
+    bytes: &[u8],
+) -> Result<(), ReplaceFault>
+    ensures put { OnOk result (IsPut (D.entries disk.old) (D.entries disk.new) (D.leads disk.old path.now) bytes.now) }
+    ensures stays { OnErr result (Stays (D.entries disk.old) (D.entries disk.new) (D.leads disk.old path.now)) }
+    ensures others { KeepsBut (λ p. IsNewPath p ⊎ (p ≡ D.leads disk.old path.now)) (D.entries disk.old) (D.entries disk.new) }
+{
+    match disk.file_path(alloc, path)? {
+        Some(path) => replace_file(alloc, disk, path.as_str(), bytes),
+        None => write_into(disk, path, bytes),
+    }
+}
+
+/// Writes bytes to a new file beside a path, and renames it to that path. Where a step is refused, the new file is
+/// removed, and what is at the path stays as it was.
+fn replace_file<D: OutputDisk>(
+    alloc: Global,
+    disk: &mut D,
+    path: &str,
+    bytes: &[u8],
+) -> Result<(), ReplaceFault>
+    ensures put { OnOk result (IfSome (D.entries disk.old) (λ _. IfSome (D.entries disk.new) (λ new. new path.now ≡ Ordinary bytes.now))) }
+    ensures stays { OnErr result (KeepsBut (IsBeside path.now) (D.entries disk.old) (D.entries disk.new)) }
+    ensures others { KeepsBut (λ p. IsNewPath p ⊎ (p ≡ path.now)) (D.entries disk.old) (D.entries disk.new) }
+{
+    let (name, file) = new_beside(alloc, disk, path)?;
+    match put(disk, file, name.as_str(), path, bytes) {
+        Ok(()) => Ok(()),
+        Err(error) => {
+            let _ = disk.remove_file(name.as_str());
+            Err(ReplaceFault::from(error))
+        }
+    }
+}
+
+/// Writes bytes to a new file, and renames it while it is still open, so that nobody takes it for one that was left
+/// over.
+fn put<D: OutputDisk>(
+    disk: &mut D,
+    mut file: D::NewFile,
+    name: &str,
+    path: &str,
+    bytes: &[u8],
+) -> io::Result<()>
+    ensures renamed { OnOk result (D.NewFile.contents file ≡ Some [] → IfSome (D.entries disk.new) (λ new. new path.now ≡ Ordinary bytes.now)) }
+    ensures others { KeepsBut (λ p. (p ≡ name.now) ⊎ (p ≡ path.now)) (D.entries disk.old) (D.entries disk.new) }
+    ensures stays { OnErr result (KeepsBut (λ p. p ≡ name.now) (D.entries disk.old) (D.entries disk.new)) }
+{
+    file.write_all(bytes)?;
+    disk.sync(&file)?;
+    disk.rename(&file, name, path)
+}
+
+/// Makes a file in the folder of a path, and returns its path and the file. Its name is `.rvstm.new0` to
+/// `.rvstm.new99`: the first other than the path itself that is free, or was left over. Refused as Unwritable where
+/// none is or the file can't be made, and as Memory where memory ran out.
+fn new_beside<D: OutputDisk>(
+    alloc: Global,
+    disk: &mut D,
+    path: &str,
+) -> Result<(String, D::NewFile), ReplaceFault>
+    ensures beside { IfOk result (λ made. IsBeside path.now (string_bytes made.0)) }
+    ensures empty { IfOk result (λ made. IfSome (D.entries disk.old) (λ _. D.NewFile.contents made.1 ≡ Some [])) }
+    ensures others { KeepsBut (IsBeside path.now) (D.entries disk.old) (D.entries disk.new) }
+{
+    for number in 0..NAME_LIMIT {
+        let name = new_path(alloc, path, number)?;
+        if name.as_str() != path {
+            match new_file(disk, name.as_str()) {
+                Ok(file) => return Ok((name, file)),
+                Err(error) if error.kind() == io::ErrorKind::AlreadyExists => {}
+                Err(error) => return Err(ReplaceFault::from(error)),
+            }
+        }
+    }
+    Err(ReplaceFault::Unwritable)
+}
+
+/// The path of a new file in the folder of a path; refused where memory ran out.
+fn new_path(alloc: Global, path: &str, number: usize) -> Result<String, AllocError>
+    requires { number < 100 }
+    ensures { IfOk result (λ name. IsNewPath (string_bytes name)) }
+{
+    match path.rsplit_once('/') {
+        Some((folder, _)) => format!(in alloc; "{folder}/{NEW_NAME}{number}"),
+        None => format!(in alloc; "{NEW_NAME}{number}"),
+    }
+}
+
+/// Makes a file. One that was left over at the path is removed first.
+fn new_file<D: OutputDisk>(disk: &mut D, path: &str) -> io::Result<D::NewFile>
+    ensures empty { IfOk result (λ file. IfSome (D.entries disk.old) (λ _. D.NewFile.contents file ≡ Some [])) }
+    ensures others { KeepsBut (λ p. p ≡ path.now) (D.entries disk.old) (D.entries disk.new) }
+{
+    match disk.create_new(path) {
+        Err(error) if error.kind() == io::ErrorKind::AlreadyExists => {
+            if disk.remove_left_over(path).is_err() {
+                return Err(error);
+            }
+            disk.create_new(path)
+        }
+        made => made,
+    }
+}
+
+/// Writes bytes into what is at a path.
+fn write_into<D: OutputDisk>(disk: &mut D, path: &str, bytes: &[u8]) -> Result<(), ReplaceFault>
+    ensures others { KeepsBut (λ p. p ≡ D.leads disk.old path.now) (D.entries disk.old) (D.entries disk.new) }
+{
+    let mut file = disk.create(path)?;
+    file.write_all(bytes)?;
+    Ok(())
+}
