@@ -76,6 +76,18 @@ const NO_ASM_MEMORY: AsmError = AsmError {
     cause: AsmCause::Memory,
 };
 
+/// The greatest number of a line, in the longest lines that are printed of a block file and of a schedule file.
+const LAST_BLOCK_LINE: BlockFault = BlockFault {
+    line: usize::MAX,
+    cause: Cause::UnknownProgram,
+};
+
+/// The same of a source.
+const LAST_ASM_LINE: AsmError = AsmError {
+    line: usize::MAX,
+    cause: AsmCause::UnknownMnemonic,
+};
+
 /// The refusals that `others` gives.
 const OTHERS: &[(Refusal, &str)] = &[
     (
@@ -87,6 +99,18 @@ const OTHERS: &[(Refusal, &str)] = &[
         "rvstm: file Unwritable 2\n",
     ),
     (Refusal::File(FileFault::TooLong), "rvstm: file TooLong 3\n"),
+    (
+        Refusal::Block(LAST_BLOCK_LINE),
+        "rvstm: block 18446744073709551615 UnknownProgram 6\n",
+    ),
+    (
+        Refusal::Schedule(LAST_BLOCK_LINE),
+        "rvstm: schedule 18446744073709551615 UnknownProgram 6\n",
+    ),
+    (
+        Refusal::Asm(LAST_ASM_LINE),
+        "rvstm: asm 18446744073709551615 UnknownMnemonic 1\n",
+    ),
     (Refusal::Block(NO_BLOCK_MEMORY), "rvstm: block Memory 8\n"),
     (
         Refusal::Schedule(NO_BLOCK_MEMORY),

@@ -211,6 +211,30 @@ fn a_source_is_not_written_over(rt: HostRuntime) -> Result<(), Fail> {
     Ok(())
 }
 
+/// Asserts that a command line is refused with a line, where it can't be told what OUT leads to, before anything on
+/// the disk is changed.
+fn assert_lost<R: Threads + Wait + Sync + Abort>(
+    rt: &R,
+    alloc: Global,
+    kind: io::ErrorKind,
+    errors: &str,
+) -> io::Result<()> {
+    let mut stored = disk_of_source(alloc, true, NONE)?;
+    stored.lost_path = Some(kind);
+    let answer = answer_to(rt, alloc, LINE.as_bytes(), &stored);
+    answer.assert_is(rt, 1, "", errors, LINE);
+    assert_asked(rt, alloc, &stored, "open echo.s\nend echo.s\n", LINE)?;
+    assert_old(rt, alloc, &stored, true)
+}
+
+#[test]
+fn a_lost_path_is_refused(rt: HostRuntime) -> Result<(), Fail> {
+    let memory = "rvstm: asm Memory 8\n";
+    assert_lost(&rt, rt.alloc(), io::ErrorKind::OutOfMemory, memory)?;
+    assert_lost(&rt, rt.alloc(), io::ErrorKind::Other, UNWRITABLE)?;
+    Ok(())
+}
+
 /// Asserts to which path a command line writes OUT, and what the disk is asked.
 fn assert_path<R: Threads + Wait + Sync + Abort>(
     rt: &R,

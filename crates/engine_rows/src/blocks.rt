@@ -4,12 +4,13 @@ ghost use Rattle.std.specs.Prelude.{None};
 
 use crate::asserts::assert_pieces;
 use crate::rows::{COUNT, Row, rows};
+use block_file::Source;
 use engines::{Programs, Refusal, seq_to};
 use std::alloc::{AllocError, Global};
-use std::io::{Read, Write};
+use std::io;
+use std::io::Write;
 use std::process::Abort;
 use std::test::Fail;
-use std::{io, str};
 
 /// Programs in memory: the path of each is its number.
 #[derive(Drop)]
@@ -144,7 +145,7 @@ fn block_behind(
 }
 
 /// Runs a block file in order over programs in memory.
-pub fn run_in_memory<R: Read, W: Write>(
+pub fn run_in_memory<R: Source, W: Write>(
     alloc: Global,
     block: &mut R,
     files: &[Vec<u8>],
@@ -187,15 +188,27 @@ fn rows_print_what_they_say(rt: HostRuntime) -> Result<(), Fail> {
     Ok(())
 }
 
+/// A text of so many times these lines.
+pub fn repeated(alloc: Global, lines: &str, times: usize) -> Result<String, AllocError> {
+    let mut text = String::new(alloc);
+    for _ in 0..times {
+        text.push_str(lines)?;
+    }
+    Ok(text)
+}
+
+/// The call lines of so many counts of a key.
+pub fn count_lines(alloc: Global, calls: usize) -> Result<String, AllocError> {
+    repeated(
+        alloc,
+        "call 0 1000 0000000000000000000000000000000000000000000000000000000000000001\n",
+        calls,
+    )
+}
+
 /// The call lines of forty counts of a key.
 pub fn forty_count_lines(alloc: Global) -> Result<String, AllocError> {
-    let mut lines = String::new(alloc);
-    for _ in 0..40 {
-        lines.push_str(
-            "call 0 1000 0000000000000000000000000000000000000000000000000000000000000001\n",
-        )?;
-    }
-    Ok(lines)
+    count_lines(alloc, 40)
 }
 
 /// A block of forty counts of a key.
@@ -204,41 +217,46 @@ pub fn forty_counts_block(alloc: Global) -> Result<BlockInMemory, AllocError> {
     BlockInMemory::new(alloc, &[COUNT], lines.as_str())
 }
 
-/// What stands behind the end of one of forty counts: call i ends with x5 = i + 1.
-fn behind_count(alloc: Global, text: &str, call: u32) -> Result<Option<&str>, AllocError> {
+/// Appends the lines of a call that counts a key up: call i ends with x5 = i + 1, and writes that number.
+fn push_count(alloc: Global, text: &mut String, call: u32) -> Result<(), AllocError> {
     let count = call.wrapping_add(1);
-    let end = format!(in alloc;
+    let [low, high, _, _] = count.to_le_bytes();
+    let lines = format!(in alloc;
         "call {call} returned gas 639 pc 00010034 out -\n\
-        regs 00000000 00000000 00110000 00000000 00000000 {count:08x} "
+        regs 00000000 00000000 00110000 00000000 00000000 {count:08x} 00000000 00000000 \
+        00100000 00000000 00100000 00000000 00000004 00000000 00000000 00000000 \
+        00000000 00000003 00000000 00000000 00000000 00000000 00000000 00000000 \
+        00000000 00000000 00000000 00000000 00000000 00000000 00000000 00000000\n\
+        write {call} 0000000000000000000000000000000000000000000000000000000000000001 \
+        {low:02x}{high:02x}0000\n"
     )?;
-    match text.split_once(end.as_str()) {
-        Some((_, behind)) => Ok(Some(behind)),
-        None => Ok(None),
-    }
+    text.push_str(lines.as_str())
 }
 
-/// Whether a text shows forty counts: those of the calls in their order, and 40 at the key.
-fn is_forty_counts(alloc: Global, text: &str) -> Result<bool, AllocError> {
-    let mut rest = text;
-    for call in 0..40_u32 {
-        match behind_count(alloc, rest, call)? {
-            Some(behind) => rest = behind,
-            None => return Ok(false),
-        }
+/// The result of so many counts of a key, fewer than 65,536.
+pub fn result_of_counts(alloc: Global, calls: u32) -> Result<String, AllocError> {
+    let mut text = String::new(alloc);
+    for call in 0..calls {
+        push_count(alloc, &mut text, call)?;
     }
-    Ok(rest.ends_with(
-        "\nstore 0000000000000000000000000000000000000000000000000000000000000001 28000000\nend\n",
-    ))
+    let [low, high, _, _] = calls.to_le_bytes();
+    let end = format!(in alloc;
+        "store 0000000000000000000000000000000000000000000000000000000000000001 \
+        {low:02x}{high:02x}0000\nend\n"
+    )?;
+    text.push_str(end.as_str())?;
+    Ok(text)
 }
 
-/// Whether a text shows forty counts.
-pub fn shows_forty_counts(alloc: Global, text: &[u8]) -> Result<bool, Fail> {
-    Ok(is_forty_counts(alloc, str::from_utf8(text)?)?)
+/// Whether a text is the result of forty counts.
+pub fn is_forty_counts(alloc: Global, text: &[u8]) -> Result<bool, AllocError> {
+    let wanted = result_of_counts(alloc, 40)?;
+    Ok(text == wanted.as_bytes())
 }
 
 #[test]
 fn forty_counts(rt: HostRuntime) -> Result<(), Fail> {
     let text = printed(rt.alloc(), &forty_counts_block(rt.alloc())?)?;
-    assert!(rt; shows_forty_counts(rt.alloc(), text.as_slice())?);
+    assert!(rt; is_forty_counts(rt.alloc(), text.as_slice())?);
     Ok(())
 }

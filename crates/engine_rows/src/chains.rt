@@ -69,27 +69,31 @@ fn count_up(rt: &impl Abort, receipts: &[Receipt], from: u32) -> u32 {
     count
 }
 
-/// Asserts the answers to the four blocks.
+/// Asserts the answers to the four blocks, of which the second alone is refused.
 fn assert_answers(rt: &impl Abort, answers: &[Answer]) {
     assert_number(rt, answers.len() as u64, 4, "answers");
     let mut count = 0_u32;
     for answer in answers {
         match answer {
-            Ok(receipts) => count = count_up(rt, receipts.as_slice(), count),
+            Ok(receipts) => {
+                assert_number(rt, receipts.len() as u64, 40, "receipts");
+                count = count_up(rt, receipts.as_slice(), count);
+            }
             Err(fault) => {
                 assert_eq!(rt; *fault, ChainFault::Run(RunFault::BadCount));
                 assert_number(rt, count as u64, 40, "the count");
             }
         }
     }
+    assert_number(rt, count as u64, 120, "the count");
 }
 
-/// Asserts that the key holds 120.
-fn assert_counted(rt: &impl Abort, store: &Store) {
+/// Asserts that the key holds this number.
+fn assert_counted(rt: &impl Abort, store: &Store, number: u32) {
     let mut key = [0; 32];
     key[31] = 1;
     match store.get(&Key::new(key)) {
-        Some(value) => assert_bytes(rt, value.bytes(), b"\x78\0\0\0", "the value"),
+        Some(value) => assert_bytes(rt, value.bytes(), &number.to_le_bytes(), "the value"),
         None => panic!(rt; "the key has no value"),
     }
 }
@@ -98,7 +102,39 @@ fn assert_counted(rt: &impl Abort, store: &Store) {
 fn three_chained_blocks(rt: HostRuntime) -> Result<(), Fail> {
     let chain = run(&rt, rt.alloc(), four_blocks(rt.alloc())?)?;
     assert_answers(&rt, chain.blocks.as_slice());
-    assert_counted(&rt, &chain.store);
+    assert_counted(&rt, &chain.store, 120);
+    Ok(())
+}
+
+/// Whether each answer is the receipt of one call of COUNT, which counts up to the block's number from 1.
+fn are_single_counts(answers: &[Answer]) -> bool {
+    let mut count = 0_u32;
+    for answer in answers {
+        count = count.wrapping_add(1);
+        if !is_single_count(answer, count) {
+            return false;
+        }
+    }
+    true
+}
+
+/// Whether an answer is the receipt of one call of COUNT that counts up to this number.
+fn is_single_count(answer: &Answer, count: u32) -> bool {
+    match answer {
+        Ok(receipts) => match receipts.as_slice() {
+            [receipt] => receipt.regs.values()[5] == count,
+            _ => false,
+        },
+        Err(_) => false,
+    }
+}
+
+#[test]
+fn a_chain_of_100_blocks(rt: HostRuntime) -> Result<(), Fail> {
+    let blocks = blocks_of(rt.alloc(), &[(ONE_COUNT, 2); 100])?;
+    let chain = run(&rt, rt.alloc(), blocks)?;
+    assert!(rt; chain.blocks.len() == 100 && are_single_counts(chain.blocks.as_slice()));
+    assert_counted(&rt, &chain.store, 100);
     Ok(())
 }
 

@@ -1,9 +1,12 @@
 //! Tests of the debugger.
 
+ghost use Rattle.std.specs.Prelude.{⊤};
+
 use crate::asserts::{assert_bytes, assert_number};
 use crate::calls::{in_order, job_of_inputs};
 use crate::failing::{FailingReader, FailingWriter, assert_begins, write_fault};
 use crate::rows::{COUNT, ECHO};
+use block_file::Source;
 use debugger::{DebugFault, Replay, ReplayFault, debug_to};
 use receipts::WriteFault;
 use rv_ledger::Outcome;
@@ -37,7 +40,7 @@ fn echo(alloc: Global) -> Result<Replay, Fail> {
 }
 
 /// Debugs a replay along the lines of a reader.
-fn debug<R: Read, W: Write>(
+fn debug<R: Source, W: Write>(
     alloc: Global,
     replay: &mut Replay,
     lines: &mut R,
@@ -367,6 +370,14 @@ impl Read for Typist<'_> {
             }
             _ => Err(io::Error::from(io::ErrorKind::Other)),
         }
+    }
+}
+
+impl Source for Typist<'_> {
+    ghost may_fail = { λ _. ⊤ };
+
+    fn read_part(&mut self, part: &mut [u8]) -> io::Result<usize> {
+        self.read(part)
     }
 }
 

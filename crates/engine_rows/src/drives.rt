@@ -4,9 +4,9 @@ use crate::asserts::{assert_bytes, assert_pieces, assert_reported, assert_unread
 use crate::blocks::{BlockInMemory, InMemory, printed_row};
 use crate::failing::FailingReader;
 use crate::rows::{ECHO, Row, rows};
+use block_file::Source;
 use engines::{Refusal, drive_to};
 use std::alloc::{AllocError, Global};
-use std::io::Read;
 use std::process::Abort;
 use std::test::Fail;
 use stm_core::IncarnationLimit;
@@ -15,7 +15,7 @@ use stm_core::IncarnationLimit;
 const THREE_ECHOES: &str = "call 0 1000 -\ncall 0 1000 01\ncall 0 1000 0102\n";
 
 /// Runs a block by so many workers along the schedule of a reader.
-fn drive<S: Read>(
+fn drive<S: Source>(
     alloc: Global,
     block: &BlockInMemory,
     workers: usize,

@@ -1,8 +1,11 @@
 //! Readers, programs and writers that fail.
 
+ghost use Rattle.std.specs.Prelude.{⊤};
+
 use crate::asserts::{assert_number, assert_reported, assert_unreadable};
 use crate::blocks::{BlockInMemory, printed, run_in_memory};
 use crate::rows::ECHO;
+use block_file::Source;
 use engines::Refusal;
 use receipts::WriteFault;
 use std::alloc::{AllocError, Global};
@@ -34,6 +37,14 @@ impl Read for FailingReader<'_> {
             }
             _ => Ok(0),
         }
+    }
+}
+
+impl Source for FailingReader<'_> {
+    ghost may_fail = { λ _. ⊤ };
+
+    fn read_part(&mut self, part: &mut [u8]) -> io::Result<usize> {
+        self.read(part)
     }
 }
 
@@ -154,7 +165,7 @@ pub fn assert_refused_write(rt: &impl Abort, answer: Result<(), Refusal>, fails:
 fn failing_files(rt: HostRuntime) -> Result<(), Fail> {
     let block = block_of_one_value(rt.alloc())?;
     let text = printed(rt.alloc(), &block)?;
-    for reads in 0..block.text.len() {
+    for reads in 0..block.text.len() + 1 {
         assert_read_fails(&rt, rt.alloc(), &block, reads);
     }
     assert_program_fails(&rt, rt.alloc(), &block);

@@ -1,5 +1,7 @@
 //! A disk in memory, which keeps a record of what it was asked, and of which one request can fail.
 
+ghost use Rattle.std.specs.Prelude.{None};
+
 use crate::asserts::{assert_bytes, assert_number};
 use engines::{Disk, status};
 use std::alloc::{AllocError, Global};
@@ -11,6 +13,7 @@ use std::process::Abort;
 use std::rt::Env;
 use std::sync::Wait;
 use std::thread::Threads;
+use system_files::OutputDisk;
 
 /// The most bytes that a write takes.
 const WRITE_SIZE: usize = 40;
@@ -74,6 +77,8 @@ pub struct Stored {
     pub takes_nothing: bool,
     /// Whether the new files on it were left over by other processes.
     pub left_over: bool,
+    /// The error where it is asked what a path leads to, if that fails.
+    pub lost_path: Option<io::ErrorKind>,
 }
 
 impl Stored {
@@ -86,6 +91,7 @@ impl Stored {
             failing,
             takes_nothing: false,
             left_over: false,
+            lost_path: None,
         }
     }
 
@@ -272,8 +278,6 @@ impl<'a> Write for FakeWriter<'a> {
 impl<'a> Disk for FakeDisk<'a> {
     type File = FakeReader<'a>;
 
-    type NewFile = FakeWriter<'a>;
-
     fn open(&self, path: &str) -> io::Result<FakeReader<'a>> {
         self.stored.note("open", path)?;
         Ok(FakeReader {
@@ -283,26 +287,34 @@ impl<'a> Disk for FakeDisk<'a> {
             done: 0,
         })
     }
+}
 
-    fn create_new(&self, path: &str) -> io::Result<FakeWriter<'a>> {
+impl<'a> OutputDisk for FakeDisk<'a> {
+    type NewFile = FakeWriter<'a>;
+
+    ghost entries = { λ _. None };
+
+    ghost leads = { λ _ path. path };
+
+    fn create_new(&mut self, path: &str) -> io::Result<FakeWriter<'a>> {
         if self.stored.has(path) {
             return Err(io::Error::from(io::ErrorKind::AlreadyExists));
         }
         self.create(path)
     }
 
-    fn remove_left_over(&self, path: &str) -> io::Result<()> {
+    fn remove_left_over(&mut self, path: &str) -> io::Result<()> {
         if !self.stored.left_over {
             return Err(io::Error::from(io::ErrorKind::AlreadyExists));
         }
         self.remove_file(path)
     }
 
-    fn is_one_file(&self, left: &str, right: &str) -> bool {
-        behind_link(left) == behind_link(right)
+    fn is_one_file(&self, left: &str, right: &str) -> io::Result<bool> {
+        Ok(behind_link(left) == behind_link(right))
     }
 
-    fn create(&self, path: &str) -> io::Result<FakeWriter<'a>> {
+    fn create(&mut self, path: &str) -> io::Result<FakeWriter<'a>> {
         self.stored.note("create", path)?;
         self.stored.change()?;
         self.stored.drop_file(self.alloc, path)?;
@@ -314,6 +326,9 @@ impl<'a> Disk for FakeDisk<'a> {
     }
 
     fn file_path(&self, alloc: Global, path: &str) -> io::Result<Option<String>> {
+        if let Some(kind) = self.stored.lost_path {
+            return Err(io::Error::from(kind));
+        }
         if path.starts_with("/dev/") {
             return Ok(None);
         }
@@ -324,13 +339,13 @@ impl<'a> Disk for FakeDisk<'a> {
         self.stored.change()
     }
 
-    fn rename(&self, from: &str, to: &str) -> io::Result<()> {
+    fn rename(&mut self, _file: &FakeWriter<'a>, from: &str, to: &str) -> io::Result<()> {
         self.stored.note("rename", to)?;
         self.stored.change()?;
         self.stored.move_file(self.alloc, from, to)
     }
 
-    fn remove_file(&self, path: &str) -> io::Result<()> {
+    fn remove_file(&mut self, path: &str) -> io::Result<()> {
         self.stored.note("remove", path)?;
         self.stored.drop_file(self.alloc, path)
     }
@@ -432,9 +447,9 @@ pub fn answer_along<T: Threads + Wait + Sync, I: Read, W: Write, E: Write>(
     out: &mut W,
     errors: &mut E,
 ) -> u8 {
-    let disk = FakeDisk { stored, alloc };
+    let mut disk = FakeDisk { stored, alloc };
     let words = Words { line };
-    status(&(words, alloc), threads, &disk, input, out, errors)
+    status(&(words, alloc), threads, &mut disk, input, out, errors)
 }
 
 impl Answer {

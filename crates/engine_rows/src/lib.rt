@@ -25,9 +25,17 @@ mod edge_values;
 #[cfg(test)]
 mod failing;
 #[cfg(test)]
+mod failing_programs;
+#[cfg(test)]
 mod fake_disk;
 #[cfg(test)]
+mod first_faults;
+#[cfg(test)]
 mod idling;
+#[cfg(test)]
+mod large_blocks;
+#[cfg(test)]
+mod large_inputs;
 #[cfg(test)]
 mod migrated;
 #[cfg(test)]

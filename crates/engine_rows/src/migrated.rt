@@ -6,6 +6,7 @@ use crate::fake_disk::{Stored, answer_to, assert_file};
 use crate::rows::{Row, rows};
 use engines::migrated_file;
 use std::alloc::Global;
+use std::io;
 use std::process::Abort;
 use std::sync::Wait;
 use std::test::Fail;
@@ -77,5 +78,27 @@ fn files_are_migrated(rt: HostRuntime) -> Result<(), Fail> {
     for (old, new, status, errors) in FILES {
         assert_migrated(&rt, rt.alloc(), old, new, *status, errors)?;
     }
+    Ok(())
+}
+
+#[test]
+fn an_old_file_is_not_written_over(rt: HostRuntime) -> Result<(), Fail> {
+    let stored = Stored::new(rt.alloc(), usize::MAX);
+    stored.put(rt.alloc(), "old", b"rvblock 1\n")?;
+    let line = "rvstm migrate old --out link/old";
+    let answer = answer_to(&rt, rt.alloc(), line.as_bytes(), &stored);
+    answer.assert_is(&rt, 1, "", "rvstm: file Unwritable 2\n", line);
+    assert_file(&rt, rt.alloc(), &stored, "old", b"rvblock 1\n")?;
+    Ok(())
+}
+
+#[test]
+fn want_of_memory_for_a_path_is_the_blocks(rt: HostRuntime) -> Result<(), Fail> {
+    let mut stored = Stored::new(rt.alloc(), usize::MAX);
+    stored.put(rt.alloc(), "old", b"rvblock 1\n")?;
+    stored.lost_path = Some(io::ErrorKind::OutOfMemory);
+    let answer = answer_to(&rt, rt.alloc(), LINE.as_bytes(), &stored);
+    answer.assert_is(&rt, 1, "", "rvstm: block Memory 8\n", LINE);
+    assert_number(&rt, stored.count() as u64, 1, "files");
     Ok(())
 }

@@ -2,7 +2,7 @@
 //! running the calls in order prints.
 
 use crate::asserts::{assert_bytes, assert_number};
-use crate::blocks::{BlockInMemory, forty_counts_block, printed, shows_forty_counts};
+use crate::blocks::{BlockInMemory, forty_counts_block, is_forty_counts, printed};
 use crate::calls::{job_of, job_of_inputs, text_of};
 use crate::drives::{assert_in_order, driven, push_worker};
 use crate::rows::{
@@ -277,7 +277,7 @@ fn assert_forty_counts(
     let block = forty_counts_block(alloc)?;
     let text = driven_mixed(alloc, &block, workers, entries)?;
     assert_printed(rt, alloc, &block, text.as_slice())?;
-    assert!(rt; shows_forty_counts(alloc, text.as_slice())?);
+    assert!(rt; is_forty_counts(alloc, text.as_slice())?);
     Ok(())
 }
 

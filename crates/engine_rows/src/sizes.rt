@@ -1,7 +1,7 @@
 //! Files of programs at the greatest size, and a result that is longer than one of them.
 
 use crate::asserts::assert_bytes;
-use crate::blocks::{BlockInMemory, elf_of, run_in_memory};
+use crate::blocks::{BlockInMemory, elf_of, repeated, run_in_memory};
 use crate::failing::FailingWriter;
 use crate::fake_disk::{Stored, answer_to};
 use crate::programs::{BLOCK, RESULT};
@@ -82,27 +82,24 @@ const BEHIND_NUMBER: &str = " returned gas 13 pc 00010004 out 0102\n\
     00000000 00000003 00000000 00000000 00000000 00000000 00000000 00000000 \
     00000000 00000000 00000000 00000000 00000000 00000000 00000000 00000000\n";
 
-/// A block of so many calls of the echo.
+/// The block of the long result.
 fn long_block(alloc: Global) -> Result<BlockInMemory, AllocError> {
-    let mut lines = String::new(alloc);
-    for _ in 0..CALLS {
-        lines.push_str("call 0 100 0102\n")?;
-    }
+    let lines = repeated(alloc, "call 0 100 0102\n", CALLS)?;
     BlockInMemory::new(alloc, &[ECHO], lines.as_str())
 }
 
 /// Appends the lines of a call of the echo to a result.
-fn push_call(alloc: Global, text: &mut String, call: usize) -> Result<(), AllocError> {
+pub fn push_echo(alloc: Global, text: &mut String, call: usize) -> Result<(), AllocError> {
     let number = format!(in alloc; "call {call}")?;
     text.push_str(number.as_str())?;
     text.push_str(BEHIND_NUMBER)
 }
 
-/// The result of the block.
-fn long_result(alloc: Global) -> Result<String, AllocError> {
+/// The result of so many calls of the echo.
+pub fn result_of_echoes(alloc: Global, calls: usize) -> Result<String, AllocError> {
     let mut text = String::new(alloc);
-    for call in 0..CALLS {
-        push_call(alloc, &mut text, call)?;
+    for call in 0..calls {
+        push_echo(alloc, &mut text, call)?;
     }
     text.push_str("end\n")?;
     Ok(text)
@@ -119,7 +116,7 @@ fn long_taken(alloc: Global) -> Result<Vec<u8>, Fail> {
 
 #[test]
 fn a_long_result_is_written_whole(rt: HostRuntime) -> Result<(), Fail> {
-    let wanted = long_result(rt.alloc())?;
+    let wanted = result_of_echoes(rt.alloc(), CALLS)?;
     assert!(rt; wanted.len() > 65_536, "{} bytes", wanted.len());
     let taken = long_taken(rt.alloc())?;
     assert_bytes(&rt, taken.as_slice(), wanted.as_bytes(), "a long result");

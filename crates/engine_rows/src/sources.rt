@@ -4,9 +4,10 @@ use crate::asserts::{assert_bytes, assert_reported, assert_unreadable};
 use crate::edge_values::SOURCE;
 use crate::failing::{FailingReader, FailingWriter, assert_begins, assert_refused_write};
 use crate::outside::TORTURE;
+use block_file::Source;
 use engines::{FileFault, Refusal, dis_to, file_of_source};
 use std::alloc::Global;
-use std::io::{Read, Write};
+use std::io::Write;
 use std::process::Abort;
 use std::test::Fail;
 
@@ -23,12 +24,12 @@ pub const ECHO_FILE: &str = "\
 pub const ECHO_LISTING: &str = "00010000 00300893 addi x17,x0,3\n00010004 00000073 ecall\n";
 
 /// The file of a source.
-pub fn assembled<R: Read>(alloc: Global, source: &mut R) -> Result<Vec<u8>, Refusal> {
+pub fn assembled<R: Source>(alloc: Global, source: &mut R) -> Result<Vec<u8>, Refusal> {
     file_of_source(alloc, source)
 }
 
 /// Writes the listing of a file.
-fn list<R: Read, W: Write>(alloc: Global, file: &mut R, out: &mut W) -> Result<(), Refusal> {
+fn list<R: Source, W: Write>(alloc: Global, file: &mut R, out: &mut W) -> Result<(), Refusal> {
     dis_to(alloc, file, out)
 }
 

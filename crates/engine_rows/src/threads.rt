@@ -1,23 +1,25 @@
 //! Blocks run by threads: whatever their number, what is printed is what running the calls in order
 //! prints.
 
-ghost use Rattle.std.specs.Prelude.{◌≤◌, All, IfOk};
+ghost use Rattle.std.specs.Prelude.{◌≡◌, ◌≤◌, All, IfOk};
 ghost use Rattle.workers.specs.DoneCell.{IsPassOf};
 
 use crate::asserts::{assert_bytes, assert_number, assert_pieces, assert_shown};
-use crate::blocks::{forty_count_lines, shows_forty_counts};
+use crate::blocks::{forty_count_lines, is_forty_counts};
 use crate::calls::{image_of, job_of, job_of_image, text_in_order, text_of};
 use crate::rows::{COUNT, ECHO, LATE_WRITER, READ_OF_ABSENCE, Row, WITHDRAWN_WRITE};
+use crate::sizes::result_of_echoes;
 use crate::sources::assembled;
 use rv_ledger::{Counts, Job, Outcome};
 use std::alloc::{AllocError, Global};
+use std::marker::Brand;
 use std::process::Abort;
 use std::sync::Wait;
 use std::sync::atomic::{AtomicBool, Ordering};
 use std::test::Fail;
 use std::thread::Threads;
 use stm_core::Core;
-use workers::{Executor, Gate, Open, RunFault, Share, Shared, settle, work};
+use workers::{Executor, Gate, JobName, Open, RunFault, Share, Shared, settle, work};
 
 /// How often a gate looks for the other worker.
 const LOOKS: usize = 1_000_000;
@@ -105,7 +107,7 @@ fn assert_forty_counts<R: Threads + Wait + Sync + Abort>(
 ) -> Result<(), Fail> {
     let job = forty_counts_job(alloc)?;
     let text = run_text(rt, alloc, executor, job, workers)?;
-    assert!(rt; shows_forty_counts(alloc, text.as_bytes())?, "{workers}");
+    assert!(rt; is_forty_counts(alloc, text.as_bytes())?, "{workers}");
     Ok(())
 }
 
@@ -233,13 +235,14 @@ fn bad_count(rt: HostRuntime) -> Result<(), Fail> {
 }
 
 /// What the workers of a job share, and the share of each.
-fn shares_of(
-    rt: &impl Abort,
+pub fn shares_of<J: JobName, R: Abort>(
+    rt: &R,
     alloc: Global,
     job: &Job,
     workers: usize,
-) -> Result<(Shared, Vec<Share>), Fail>
-    requires { (1 ≤ workers) × (workers ≤ 32) }
+) -> Result<(Shared<J>, Vec<Share>), Fail>
+    requires job { job.now ≡ J.job }
+    requires count { (1 ≤ workers) × (workers ≤ 32) }
     ensures { IfOk result (λ made. All (λ share. IsPassOf made.0.cell share.pass) made.1.items) }
 {
     let core = Core::new(alloc, job.copy()?, workers)?;
@@ -250,10 +253,10 @@ fn shares_of(
 }
 
 /// The share of a worker who works until all is done.
-fn work_alone<R: Wait>(
+fn work_alone<J: JobName, R: Wait>(
     rt: &R,
     alloc: Global,
-    shared: &Shared,
+    shared: &Shared<J>,
     share: Share,
 ) -> Result<Share, RunFault>
     requires { IsPassOf shared.now.cell share.pass }
@@ -265,10 +268,10 @@ fn work_alone<R: Wait>(
 }
 
 /// The shares of workers who work one after another.
-fn work_in_turn<R: Wait>(
+fn work_in_turn<J: JobName, R: Wait>(
     rt: &R,
     alloc: Global,
-    shared: &Shared,
+    shared: &Shared<J>,
     shares: Vec<Share>,
 ) -> Result<Vec<Share>, Fail>
     requires { All (λ share. IsPassOf shared.now.cell share.pass) shares.items }
@@ -281,10 +284,10 @@ fn work_in_turn<R: Wait>(
 }
 
 /// The shares of workers who work one after another, that of the given one first, in the order of the workers.
-fn work_from<R: Wait + Abort>(
+fn work_from<J: JobName, R: Wait + Abort>(
     rt: &R,
     alloc: Global,
-    shared: &Shared,
+    shared: &Shared<J>,
     shares: Vec<Share>,
     first: usize,
 ) -> Result<Vec<Share>, Fail>
@@ -300,9 +303,9 @@ fn work_from<R: Wait + Abort>(
 }
 
 /// The answer to a job from what its workers shared and the shares that they gave back.
-fn settled(
+fn settled<J: JobName>(
     alloc: Global,
-    shared: Shared,
+    shared: Shared<J>,
     back: Vec<Share>,
     job: &Job,
 ) -> Result<Outcome, RunFault> {
@@ -347,13 +350,15 @@ fn assert_shares(rt: &impl Abort, shares: &[Share], first: usize) {
 }
 
 /// The outcome of three workers of which the given one works first.
-fn outcome_from<R: Wait + Abort>(
+fn outcome_from<J: JobName, R: Wait + Abort>(
     rt: &R,
     alloc: Global,
     job: &Job,
     first: usize,
-) -> Result<Outcome, Fail> {
-    let (shared, shares) = shares_of(rt, alloc, job, 3)?;
+) -> Result<Outcome, Fail>
+    requires { job.now ≡ J.job }
+{
+    let (shared, shares) = shares_of::<J, R>(rt, alloc, job, 3)?;
     let back = work_from(rt, alloc, &shared, shares, first)?;
     assert_shares(rt, back.as_slice(), first);
     Ok(settled(alloc, shared, back, job)?)
@@ -366,7 +371,7 @@ fn text_from<R: Wait + Abort>(
     job: &Job,
     first: usize,
 ) -> Result<String, Fail> {
-    let outcome = outcome_from(rt, alloc, job, first)?;
+    let outcome = outcome_from::<Brand, R>(rt, alloc, job, first)?;
     Ok(text_of(alloc, &outcome)?)
 }
 
@@ -399,21 +404,32 @@ fn one_share_alone(rt: HostRuntime) -> Result<(), Fail> {
 }
 
 /// The answer to a job whose second worker's share is not given back.
-fn settled_without_one<R: Wait + Abort>(
+fn settled_without_one<J: JobName, R: Wait + Abort>(
     rt: &R,
     alloc: Global,
     job: &Job,
-) -> Result<Option<RunFault>, Fail> {
-    let (shared, shares) = shares_of(rt, alloc, job, 2)?;
+) -> Result<Option<RunFault>, Fail>
+    requires { job.now ≡ J.job }
+{
+    let (shared, shares) = shares_of::<J, R>(rt, alloc, job, 2)?;
     let mut back = work_in_turn(rt, alloc, &shared, shares)?;
     let _ = back.pop();
     Ok(settled(alloc, shared, back, job).err())
 }
 
+/// The fault that such a job is answered with, if any.
+fn fault_without_one<R: Wait + Abort>(
+    rt: &R,
+    alloc: Global,
+    job: &Job,
+) -> Result<Option<RunFault>, Fail> {
+    settled_without_one::<Brand, R>(rt, alloc, job)
+}
+
 #[test]
 fn settle_misses_a_share(rt: HostRuntime) -> Result<(), Fail> {
     let job = job_of(rt.alloc(), &[ECHO], ONE_ECHO)?;
-    let fault = settled_without_one(&rt, rt.alloc(), &job)?;
+    let fault = fault_without_one(&rt, rt.alloc(), &job)?;
     assert_eq!(rt; fault, Some(RunFault::Foreign));
     Ok(())
 }
@@ -479,7 +495,8 @@ fn is_met<R: Threads + Wait + Sync + Abort>(
 ) -> Result<bool, Fail> {
     let gate = Meeting::new();
     let text = text_at_gate(rt, alloc, executor, &gate)?;
-    assert_pieces(rt, text.as_bytes(), TWO_ENDS, "two echoes")?;
+    let wanted = result_of_echoes(alloc, 2)?;
+    assert_text(rt, text.as_str(), wanted.as_str(), "two echoes");
     Ok(gate.is_met())
 }
 

@@ -24,7 +24,7 @@ const WORKERS: usize = 3;
 
 /// What a core answers about a worker: the step that it owes, its counts, and how often it was told that all is done.
 /// The last is whether all is done.
-type Answers = Option<(NextStep, Counts, u64, bool)>;
+pub type Answers = Option<(NextStep, Counts, u64, bool)>;
 
 /// What a core answers about a worker; None where it has no worker of that number.
 fn answers_of_worker(core: &Core, worker: usize) -> Answers {
@@ -41,7 +41,7 @@ fn answers_of_worker(core: &Core, worker: usize) -> Answers {
 }
 
 /// What a core answers about all its workers.
-fn answers_of_all(core: &Core) -> [Answers; WORKERS] {
+pub fn answers_of_all(core: &Core) -> [Answers; WORKERS] {
     [
         answers_of_worker(core, 0),
         answers_of_worker(core, 1),
@@ -50,7 +50,7 @@ fn answers_of_all(core: &Core) -> [Answers; WORKERS] {
 }
 
 /// A core at the start of a job. A growth that is refused is tried once more.
-fn start(alloc: Global, job: &Job) -> Result<Core, AllocError> {
+pub fn start(alloc: Global, job: &Job) -> Result<Core, AllocError> {
     match Core::new(alloc, copy_of(job)?, WORKERS) {
         Ok(core) => Ok(core),
         Err(_) => Core::new(alloc, copy_of(job)?, WORKERS),
@@ -74,13 +74,7 @@ fn step(
         NextStep::Run { call, .. } => {
             *run = run_on(rt, alloc, core, worker, call, run.take())?;
         }
-        NextStep::Park { .. } => core.park(worker)?,
-        NextStep::MoveKey { .. } => core.move_key(worker),
-        NextStep::FinishExecution { .. } => core.finish_execution(worker),
-        NextStep::CheckRead { .. } => core.check_read(worker),
-        NextStep::Decide { .. } => core.decide(worker),
-        NextStep::MarkEstimate { .. } => core.mark_estimate(worker),
-        NextStep::FinishAbort { .. } => core.finish_abort(worker),
+        NextStep::Make { kind, .. } => core.make(worker, kind)?,
     }
     Ok(())
 }
@@ -175,7 +169,12 @@ fn hand_in(
 }
 
 /// Makes the steps of a list of worker numbers.
-fn follow(rt: &impl Abort, alloc: Global, core: &mut Core, schedule: &[u16]) -> Result<(), Fail> {
+pub fn follow(
+    rt: &impl Abort,
+    alloc: Global,
+    core: &mut Core,
+    schedule: &[u16],
+) -> Result<(), Fail> {
     let mut runs = [None, None, None];
     for worker in schedule {
         let worker = usize::from(*worker);
@@ -186,7 +185,7 @@ fn follow(rt: &impl Abort, alloc: Global, core: &mut Core, schedule: &[u16]) -> 
 }
 
 /// The outcome of a core whose workers are done. A growth that is refused is tried once more.
-fn outcome_of(rt: &impl Abort, alloc: Global, core: &Core) -> Result<Outcome, AllocError> {
+pub fn outcome_of(rt: &impl Abort, alloc: Global, core: &Core) -> Result<Outcome, AllocError> {
     assert!(rt; core.done());
     match core.outcome(alloc) {
         Ok(outcome) => Ok(outcome),

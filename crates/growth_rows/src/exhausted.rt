@@ -1,6 +1,6 @@
 //! Blocks run while memory, or a thread, is refused. The tests take the memory away themselves.
 
-ghost use Rattle.std.specs.Prelude.{◌≤◌, All, IfOk};
+ghost use Rattle.std.specs.Prelude.{◌≡◌, ◌≤◌, All, IfOk};
 ghost use Rattle.workers.specs.DoneCell.{IsPassOf};
 
 use crate::images::{COUNT, ECHO, KEY, assembled_call, copy_of, job_of};
@@ -9,13 +9,18 @@ use crate::rows::{ECHO_TEXT, ECHOED, are_counts, assert_text};
 use crate::taking::Taking;
 use rv_ledger::{Call, Job, Outcome, Store};
 use std::alloc::{AllocError, Global};
+use std::marker::Brand;
 use std::process::Abort;
 use std::rt::Clock;
 use std::sync::Wait;
 use std::test::Fail;
 use std::thread::Threads;
 use stm_core::Core;
-use workers::{Chain, Executor, Open, RunFault, Share, Shared, settle, work};
+use workers::{Chain, Executor, JobName, Open, RunFault, Share, Shared, settle, work};
+
+mod attempts;
+mod files;
+mod steps;
 
 /// The room that is left to a block whose threads are refused.
 const RESERVE: usize = 1 << 20;
@@ -132,7 +137,12 @@ fn chain_growth_refused(rt: HostRuntime) -> Result<(), Fail> {
 }
 
 /// What the two workers of a job share, and the share of each.
-fn shares_of(rt: &impl Abort, alloc: Global, job: &Job) -> Result<(Shared, Vec<Share>), Fail>
+fn shares_of<J: JobName, R: Abort>(
+    rt: &R,
+    alloc: Global,
+    job: &Job,
+) -> Result<(Shared<J>, Vec<Share>), Fail>
+    requires { job.now ≡ J.job }
     ensures { IfOk result (λ made. All (λ share. IsPassOf made.0.cell share.pass) made.1.items) }
 {
     let core = Core::new(alloc, copy_of(job)?, 2)?;
@@ -143,10 +153,10 @@ fn shares_of(rt: &impl Abort, alloc: Global, job: &Job) -> Result<(Shared, Vec<S
 }
 
 /// The share of a worker who works while so many bytes are left to it.
-fn work_on_spare<R: Wait>(
+fn work_on_spare<J: JobName, R: Wait>(
     rt: &R,
     alloc: Global,
-    shared: &Shared,
+    shared: &Shared<J>,
     share: Share,
     spare: usize,
     rest: &mut Vec<Vec<u8>>,
@@ -164,28 +174,45 @@ fn work_on_spare<R: Wait>(
     }
 }
 
+/// The workers of some shares work one after another. Each gives its share back, or is refused as the first one was.
+fn work_after<J: JobName, R: Wait + Abort>(
+    rt: &R,
+    alloc: Global,
+    shared: &Shared<J>,
+    shares: Vec<Share>,
+    back: &mut Vec<Share>,
+    fault: Option<RunFault>,
+) -> Result<(), AllocError>
+    requires { All (λ share. IsPassOf shared.now.cell share.pass) shares.items }
+{
+    for share in shares {
+        match work(rt, alloc, shared, share, &Open) {
+            Ok(share) => back.push(share)?,
+            Err(written) => assert_eq!(rt; Some(written.fault()), fault),
+        }
+    }
+    Ok(())
+}
+
 /// The answer to a job whose first worker has so many bytes, and whose second one works after it. The second one is
 /// refused as the first one was.
-fn answer_on_spare<R: Wait + Abort>(
+fn answer_on_spare<J: JobName, R: Wait + Abort>(
     rt: &R,
     alloc: Global,
     job: &Job,
     first: usize,
     spare: usize,
     rest: &mut Vec<Vec<u8>>,
-) -> Result<Result<Outcome, RunFault>, Fail> {
-    let (shared, mut shares) = shares_of(rt, alloc, job)?;
+) -> Result<Result<Outcome, RunFault>, Fail>
+    requires { job.now ≡ J.job }
+{
+    let (shared, mut shares) = shares_of::<J, R>(rt, alloc, job)?;
     assert!(rt; first < shares.len());
     let share = shares.remove(first);
     let mut back = Vec::with_capacity(alloc, 2)?;
     let alone = work_on_spare(rt, alloc, &shared, share, spare, rest)?;
     let fault = alone.as_ref().err().copied();
-    for share in shares {
-        match work(rt, alloc, &shared, share, &Open) {
-            Ok(share) => back.push(share)?,
-            Err(written) => assert_eq!(rt; Some(written.fault()), fault),
-        }
-    }
+    work_after(rt, alloc, &shared, shares, &mut back, fault)?;
     if let Ok(share) = alone {
         assert!(rt; first <= back.len());
         back.insert(first, share)?;
@@ -207,7 +234,7 @@ fn refusals_of<R: Wait + Abort>(
     take_space(alloc, &mut space);
     drop(reserve);
     for step in 0..STEPS {
-        let answer = answer_on_spare(rt, alloc, job, first, step * STEP, &mut rest)?;
+        let answer = answer_on_spare::<Brand, R>(rt, alloc, job, first, step * STEP, &mut rest)?;
         if !matches!(answer, Err(RunFault::Memory)) {
             return Ok((step, answer));
         }

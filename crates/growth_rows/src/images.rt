@@ -1,5 +1,7 @@
 //! Programs of sources, their calls, and jobs. Each growth that is refused is tried once more.
 
+ghost use Rattle.std.specs.Prelude.{◌≡◌, IfOk};
+
 use elf32::{ElfError, Image, load, write};
 use rv_ledger::{Call, Job, Outcome, Store};
 use rv_program::Program;
@@ -44,11 +46,18 @@ pub const SEEN: &str = "ecall\naddi a7,x0,3\naddi a1,x0,0\naddi t0,x0,-1\nbne a0
 pub const COND: &str = "addi s0,a0,32\necall\naddi t0,x0,-1\nbne a0,t0,16\naddi a0,s0,0\n\
     addi a7,x0,1\necall\naddi a7,x0,3\naddi a1,x0,0\necall\n";
 
+/// It writes the numbers from 60 down to 1, each to a page of its own, and returns the sum of what it loads from there.
+pub const TOUCH_MANY: &str = "li t0,0x30000\nli t1,60\nli t2,4096\n\
+    store: sw t1,0(t0)\nadd t0,t0,t2\naddi t1,t1,-1\nbne t1,x0,store\n\
+    li t0,0x30000\nli t1,60\n\
+    load: lw t3,0(t0)\nadd t4,t4,t3\nadd t0,t0,t2\naddi t1,t1,-1\nbne t1,x0,load\n\
+    sw t4,-4(sp)\naddi a0,sp,-4\naddi a1,x0,4\naddi a7,x0,3\necall\n";
+
 /// A key of 32 bytes.
 pub const KEY: &[u8] = &[0x28; 32];
 
 /// The program of a source. A call that is refused as Memory is made once more.
-fn assembled(alloc: Global, source: &str) -> Result<Program, AsmError> {
+pub fn assembled(alloc: Global, source: &str) -> Result<Program, AsmError> {
     match assemble(alloc, source) {
         Err(
             AsmError {
@@ -61,7 +70,7 @@ fn assembled(alloc: Global, source: &str) -> Result<Program, AsmError> {
 }
 
 /// The file of a program. A call that is refused as Memory is made once more.
-fn file_of(alloc: Global, program: &Program) -> Result<Vec<u8>, ElfError> {
+pub fn file_of(alloc: Global, program: &Program) -> Result<Vec<u8>, ElfError> {
     match write(alloc, program) {
         Err(ElfError::Memory) => write(alloc, program),
         answer => answer,
@@ -99,6 +108,12 @@ pub fn assembled_call(alloc: Global, source: &str, input: &[u8]) -> Result<Call,
     Ok(Call::new(image, GAS, input_of(alloc, input)?)?)
 }
 
+/// The image of TOUCH.
+pub fn touch_image(alloc: Global) -> Result<Image, Fail> {
+    let file = file_of(alloc, &assembled(alloc, TOUCH)?)?;
+    Ok(image_of(alloc, file.as_slice())?)
+}
+
 /// A job of calls, each a source and its input. A growth that is refused is tried once more.
 pub fn job_of(alloc: Global, sources: &[(&str, &[u8])]) -> Result<Job, Fail> {
     let mut calls = match Vec::with_capacity(alloc, sources.len()) {
@@ -112,7 +127,9 @@ pub fn job_of(alloc: Global, sources: &[(&str, &[u8])]) -> Result<Job, Fail> {
 }
 
 /// An equal job. A growth that is refused is tried once more.
-pub fn copy_of(job: &Job) -> Result<Job, AllocError> {
+pub fn copy_of(job: &Job) -> Result<Job, AllocError>
+    ensures { IfOk result (λ copy. copy ≡ job.now) }
+{
     match job.copy() {
         Ok(copy) => Ok(copy),
         Err(_) => job.copy(),
@@ -127,8 +144,13 @@ fn in_order(alloc: Global, job: &Job) -> Result<Outcome, AllocError> {
     }
 }
 
+/// The outcome of a block of one call of a source.
+pub fn outcome_of_source(alloc: Global, source: &str) -> Result<Outcome, Fail> {
+    let job = job_of(alloc, &[(source, KEY)])?;
+    Ok(in_order(alloc, &job)?)
+}
+
 /// The outcome of a block of one call of TOUCH.
 pub fn touch_outcome(alloc: Global) -> Result<Outcome, Fail> {
-    let job = job_of(alloc, &[(TOUCH, KEY)])?;
-    Ok(in_order(alloc, &job)?)
+    outcome_of_source(alloc, TOUCH)
 }

@@ -14,7 +14,8 @@
 //! The tests of `exhausted` need no script, and are not run by it: they take all addresses and the rest of the heap from
 //! their process. A thread must be refused as Spawn, the growths of a worker, of the other one and of both as Memory,
 //! and the growth of a chain before its first block. Where an executor was refused, it must run another block once the
-//! memory is given back.
+//! memory is given back. Other calls get more and more memory, until they are not refused. Each is refused as Memory at
+//! first, leaves what is named above, and for `store32` the word, and comes to the right answer in the end.
 #![tactic(auto)]
 
 #[cfg(test)]

@@ -14,7 +14,7 @@ use std::process::Abort;
 use std::test::Fail;
 
 /// The address of the word of TOUCH.
-const CELL: u32 = 0x0002_0000;
+pub const CELL: u32 = 0x0002_0000;
 
 /// A run of a call at its start. A growth that is refused is tried once more.
 pub fn start_run(alloc: Global, call: &Call) -> Result<Run, AllocError> {
@@ -46,7 +46,7 @@ pub fn answer(run: &mut Run, content: Option<&Value>, origin: Origin) -> Result<
 }
 
 /// The receipt of a run that ends without asking for a key.
-fn receipt_of(mut run: Run) -> Result<Option<Receipt>, AllocError> {
+pub fn receipt_of(mut run: Run) -> Result<Option<Receipt>, AllocError> {
     match go(&mut run)? {
         Pause::Ended => Ok(Some(run.finish().receipt)),
         Pause::Ask(_) => Ok(None),
@@ -54,12 +54,12 @@ fn receipt_of(mut run: Run) -> Result<Option<Receipt>, AllocError> {
 }
 
 /// Whether a call returned at this pc and used this gas.
-fn is_end(receipt: &Receipt, gas: u32, pc: u32) -> bool {
+pub fn is_end(receipt: &Receipt, gas: u32, pc: u32) -> bool {
     receipt.end == End::Returned && receipt.gas == gas && receipt.pc == pc
 }
 
 /// The pc of a machine, its registers, the gas that it has left, and the word of TOUCH.
-fn state_of(machine: &Machine) -> (u32, Regs, u32, Result<u32, Fault>) {
+pub fn state_of(machine: &Machine) -> (u32, Regs, u32, Result<u32, Fault>) {
     let cell = machine.memory.load32(CELL);
     (machine.pc, machine.regs, machine.gas.left(), cell)
 }
@@ -77,7 +77,7 @@ fn step(rt: &impl Abort, run: &mut Run) -> Result<(), AllocError>
 }
 
 /// A run of a source at its start.
-fn run_of(alloc: Global, source: &str, input: &[u8]) -> Result<Run, Fail> {
+pub fn run_of(alloc: Global, source: &str, input: &[u8]) -> Result<Run, Fail> {
     let call = assembled_call(alloc, source, input)?;
     Ok(start_run(alloc, &call)?)
 }

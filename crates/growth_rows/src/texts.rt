@@ -9,7 +9,7 @@ use std::process::Abort;
 use std::test::Fail;
 
 /// The result of a block of one call of TOUCH. Its word lies at 0x00020000.
-const TOUCH_TEXT: &[u8] = b"\
+pub const TOUCH_TEXT: &[u8] = b"\
     call 0 returned gas 24 pc 00010020 out 08000000\n\
     regs 00000000 00000000 00110000 00000000 00000000 00020000 00000008 00000000 \
     00000000 00000000 00020000 00000004 00000000 00000000 00000000 00000000 \
@@ -18,7 +18,7 @@ const TOUCH_TEXT: &[u8] = b"\
     end\n";
 
 /// Room for a text. A growth that is refused is tried once more.
-fn room(alloc: Global) -> Result<Vec<u8>, AllocError> {
+pub fn room(alloc: Global) -> Result<Vec<u8>, AllocError> {
     match Vec::with_capacity(alloc, 1024) {
         Ok(room) => Ok(room),
         Err(_) => Vec::with_capacity(alloc, 1024),

@@ -49,17 +49,29 @@ pub fn assert_refused(rt: &impl Abort, alloc: Global, text: &str, line: usize, c
 
 /// Files whose first line is refused, each with the cause.
 const BAD_FIRST_LINES: &[(&str, Cause)] = &[
-    ("", Cause::BadHeader),
-    ("r", Cause::BadHeader),
-    ("rvblock ", Cause::BadHeader),
     ("rvblock 1", Cause::BadLine),
     ("rvblock 1\r\n", Cause::BadHeader),
     ("rvblock 3\n", Cause::BadHeader),
     ("\n", Cause::BadHeader),
 ];
 
+/// Why a beginning of the first line without its end is refused.
+fn refusal_of_beginning(alloc: Global, len: usize) -> Option<BlockFault> {
+    let bytes = b"rvblock 1".get(..len).unwrap_or(b"");
+    parse(alloc, bytes).err()
+}
+
+/// The fault of a file whose first line is not the header.
+const BAD_HEADER: Option<BlockFault> = Some(BlockFault {
+    line: 1,
+    cause: Cause::BadHeader,
+});
+
 #[test]
 fn malicious_block_files(rt: HostRuntime) {
+    for len in 0..9 {
+        assert_fault(&rt, refusal_of_beginning(rt.alloc(), len), BAD_HEADER);
+    }
     for (text, cause) in BAD_FIRST_LINES {
         assert_refused(&rt, rt.alloc(), text, 1, *cause);
     }

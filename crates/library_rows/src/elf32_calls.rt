@@ -2,6 +2,7 @@
 
 use crate::program_file::ECHO;
 use elf32::*;
+use rv_mem::Memory;
 use rv_program::Program;
 use std::alloc::{AllocError, Global};
 use std::process::Abort;
@@ -135,9 +136,18 @@ fn word_count(alloc: Global, image: &Image) -> Result<usize, AllocError> {
     Ok(image.words(alloc)?.len())
 }
 
+// Whether the 4,096 bytes of the second segment are zeros in the memory of the program.
+fn is_zero(alloc: Global, image: &Image) -> Result<bool, AllocError> {
+    let memory = Memory::of(alloc, image, &[])?;
+    let mut bytes = [1; 4096];
+    let is_copied = memory.copy_out(0x000f_f000, &mut bytes) == Ok(());
+    Ok(is_copied && bytes == [0; 4096])
+}
+
 #[test]
 fn memory_only_segment(rt: HostRuntime) -> Result<(), Fail> {
     let image = load(rt.alloc(), &TWO_SEGMENTS)?;
+    assert!(rt; is_zero(rt.alloc(), &image)?);
     assert!(rt; is_second(image.segments(), 0x000f_f000, 4096, &[]));
     assert!(rt; word_count(rt.alloc(), &image)? == 2);
     let longer = refusal_of_changed(rt.alloc(), &TWO_SEGMENTS, &[(104, 1)])?;

@@ -47,3 +47,5 @@ mod source_lines;
 mod validate_calls;
 #[cfg(test)]
 mod version_arena_calls;
+#[cfg(test)]
+mod weak_validation;

@@ -74,6 +74,22 @@ fn four_lines(rt: HostRuntime) -> Result<(), Fail> {
 }
 
 #[test]
+fn five_words(rt: HostRuntime) -> Result<(), Fail> {
+    let source = "addi x1,x0,5\nadd x3,x1,x2\nbeq x0,x0,-4\nsw x2,-4(x1)\nsrai x1,x1,31\n\
+        .word 0x00000000\n.word 0x02009093\n";
+    let text = &[
+        0x0050_0093,
+        0x0020_81b3,
+        0xfe00_0ee3,
+        0xfe20_ae23,
+        0x41f0_d093,
+        0x0000_0000,
+        0x0200_9093,
+    ];
+    gives(&rt, rt.alloc(), source, text, &[])
+}
+
+#[test]
 fn load_immediate(rt: HostRuntime) -> Result<(), Fail> {
     let source = "li x1,0x12345fff\nli x1,-1";
     let text = &[0x1234_60b7, 0xfff0_8093, 0x0000_00b7, 0xfff0_8093];

@@ -7,17 +7,22 @@ use validate::{next_read, still_read};
 use version_arena::{Arena, ReserveFault};
 
 // The key of the tests.
-fn key() -> Key {
+pub fn key() -> Key {
     Key::new([7; 32])
 }
 
 // A map without versions.
-fn empty(alloc: Global) -> MvMap {
+pub fn empty(alloc: Global) -> MvMap {
     MvMap::over(alloc, Arena::new(alloc))
 }
 
 // Publishes the empty value at a key.
-fn publish(map: &mut MvMap, key: Key, writer: u16, incarnation: u16) -> Result<(), ReserveFault> {
+pub fn publish(
+    map: &mut MvMap,
+    key: Key,
+    writer: u16,
+    incarnation: u16,
+) -> Result<(), ReserveFault> {
     map.reserve_for(&[key], writer, 1, 256)?;
     let value = Value::empty();
     map.publish(&key, writer, incarnation, Change::Value(&value));
@@ -37,7 +42,7 @@ fn read_of(origin: Origin) -> Read {
 }
 
 // A read of the key that found call 0's first version.
-fn first_version(alloc: Global) -> Read {
+pub fn first_version(alloc: Global) -> Read {
     let version = Version {
         writer: 0,
         incarnation: 0,
@@ -46,7 +51,7 @@ fn first_version(alloc: Global) -> Read {
 }
 
 // A read of the key that found the storage before the block.
-fn base(alloc: Global) -> Read {
+pub fn base(alloc: Global) -> Read {
     read_of(Origin::base(alloc))
 }
 
