@@ -1,10 +1,14 @@
-/* What a contract in C needs: the storage calls and the limits. */
+/* What a contract in C or C++ needs: the storage calls and the limits. */
 
 #ifndef CONTRACT_H
 #define CONTRACT_H
 
 /* Of C's headers this one and those that need no library, stdint.h, stddef.h, stdbool.h and limits.h, may be included. */
 #include <string.h>
+
+#ifdef __cplusplus
+extern "C" {
+#endif
 
 /* The same types as uint8_t, uint32_t, uint64_t and size_t. */
 typedef __UINT8_TYPE__ u8;
@@ -21,24 +25,61 @@ enum {
     KEYS_LIMIT = 256        /* the most keys that one call writes, removes or adds to */
 };
 
-/* What a call runs; each contract defines it. Where it comes back, the call returns with an empty
-   output. The input stands at a multiple of 4. */
-void contract(const u8 *input, u32 length);
-
 /* What storage_read answers in place of a length. */
 #define ABSENT 0xffffffffu
 #define LONGER 0xfffffffeu
 
-static inline u32 storage_call(u32 number, const void *key, const void *bytes, u32 length) {
+#define DOES_NOT_RETURN __attribute__((noreturn))
+
+#ifdef __riscv
+#define STORAGE_CALL static inline
+#else
+#define STORAGE_CALL /* sdk/host.c has the bodies */
+#endif
+
+/* What a call runs; each contract defines it. Where it comes back, the call returns with an empty
+   output. The input stands at a multiple of 4. */
+void contract(const u8 *input, u32 length);
+
+/* Copies the key's value into the buffer and answers its length; ABSENT where there is none, LONGER
+   where it is longer than the capacity, and then nothing is copied. The capacity is at most
+   VALUE_LIMIT under rules one, where a read costs 200. Under rules two and three it is at most
+   LONG_VALUE_LIMIT, and a read costs one more for each byte that it copies. */
+STORAGE_CALL u32 storage_read(const void *key, void *buffer, u32 capacity);
+
+/* Gives the key a value of at most VALUE_LIMIT bytes under rules one, and of at most
+   LONG_VALUE_LIMIT under rules two and three. An empty value is not absence. */
+STORAGE_CALL void storage_write(const void *key, const void *value, u32 length);
+
+/* Removes the key, which may be absent. */
+STORAGE_CALL void storage_remove(const void *key);
+
+/* Adds an amount to the number at the key, without reading it: calls that only add to a key do not
+   conflict. The number is a value of 8 bytes, the lowest first; an absent key, and a value of another
+   length, count as 0. The sum wraps at 2^64. Under rules three alone; else the call ends `unknown-call`. */
+STORAGE_CALL void storage_add(const void *key, u64 amount);
+
+/* Ends the call: its writes are kept, its output is these bytes, at most OUTPUT_LIMIT. */
+STORAGE_CALL void return_output(const void *bytes, u32 length) DOES_NOT_RETURN;
+
+/* Ends the call: its writes are dropped, its output is these bytes, at most OUTPUT_LIMIT. */
+STORAGE_CALL void revert(const void *bytes, u32 length) DOES_NOT_RETURN;
+
+/* Reverts with a literal text as the output. */
+#define REVERT(text) revert(text, sizeof(text) - 1)
+
+#ifdef __riscv
+
+static inline u32 call_storage(u32 number, const void *key, u32 second, u32 third) {
     register u32 a0 __asm__("a0") = (u32)key;
-    register u32 a1 __asm__("a1") = (u32)bytes;
-    register u32 a2 __asm__("a2") = length;
+    register u32 a1 __asm__("a1") = second;
+    register u32 a2 __asm__("a2") = third;
     register u32 a7 __asm__("a7") = number;
     __asm__ volatile("ecall" : "+r"(a0) : "r"(a1), "r"(a2), "r"(a7) : "memory");
     return a0;
 }
 
-static inline _Noreturn void end_call(u32 number, const void *bytes, u32 length) {
+DOES_NOT_RETURN static inline void end_call(u32 number, const void *bytes, u32 length) {
     register u32 a0 __asm__("a0") = (u32)bytes;
     register u32 a1 __asm__("a1") = length;
     register u32 a7 __asm__("a7") = number;
@@ -46,47 +87,34 @@ static inline _Noreturn void end_call(u32 number, const void *bytes, u32 length)
     __builtin_unreachable();
 }
 
-/* Copies the key's value into the buffer and answers its length; ABSENT where there is none, LONGER
-   where it is longer than the capacity, and then nothing is copied. The capacity is at most
-   VALUE_LIMIT under rules one, where a read costs 200. Under rules two and three it is at most
-   LONG_VALUE_LIMIT, and a read costs one more for each byte that it copies. */
 static inline u32 storage_read(const void *key, void *buffer, u32 capacity) {
-    return storage_call(0, key, buffer, capacity);
+    return call_storage(0, key, (u32)buffer, capacity);
 }
 
-/* Gives the key a value of at most VALUE_LIMIT bytes under rules one, and of at most
-   LONG_VALUE_LIMIT under rules two and three. An empty value is not absence. */
 static inline void storage_write(const void *key, const void *value, u32 length) {
-    storage_call(1, key, value, length);
+    call_storage(1, key, (u32)value, length);
 }
 
-/* Removes the key, which may be absent. */
 static inline void storage_remove(const void *key) {
-    storage_call(2, key, 0, 0);
+    call_storage(2, key, 0, 0);
 }
 
-/* Adds an amount to the number at the key, without reading it: calls that only add to a key do not
-   conflict. The number is a value of 8 bytes, the lowest first; an absent key, and a value of another
-   length, count as 0. The sum wraps at 2^64. Under rules three alone; else the call ends `unknown-call`. */
 static inline void storage_add(const void *key, u64 amount) {
-    register u32 a0 __asm__("a0") = (u32)key;
-    register u32 a1 __asm__("a1") = (u32)amount;
-    register u32 a2 __asm__("a2") = (u32)(amount >> 32);
-    register u32 a7 __asm__("a7") = 5;
-    __asm__ volatile("ecall" : : "r"(a0), "r"(a1), "r"(a2), "r"(a7) : "memory");
+    call_storage(5, key, (u32)amount, (u32)(amount >> 32));
 }
 
-/* Ends the call: its writes are kept, its output is these bytes, at most OUTPUT_LIMIT. */
-static inline _Noreturn void return_output(const void *bytes, u32 length) {
+static inline void return_output(const void *bytes, u32 length) {
     end_call(3, bytes, length);
 }
 
-/* Ends the call: its writes are dropped, its output is these bytes, at most OUTPUT_LIMIT. */
-static inline _Noreturn void revert(const void *bytes, u32 length) {
+static inline void revert(const void *bytes, u32 length) {
     end_call(4, bytes, length);
 }
 
-/* Reverts with a literal text as the output. */
-#define REVERT(text) revert(text, sizeof(text) - 1)
+#endif
+
+#ifdef __cplusplus
+}
+#endif
 
 #endif

@@ -1,11 +1,17 @@
 /* Where a contract stands in memory, for GNU ld and lld: text and read-only data from 0x00010000 on,
-   data and bss on pages of their own behind. A page has the rights of one segment. */
+   data and bss on pages of their own behind, and a page without rights below the input and the stack.
+   A page has the rights of one segment. */
 ENTRY(start)
 PHDRS {
     text PT_LOAD FLAGS(5); /* readable, executable */
     data PT_LOAD FLAGS(6); /* readable, writable */
+    guard PT_LOAD FLAGS(0);
 }
 SECTIONS {
+    /* It stands first, so that a section without a place here follows the data and not this page. */
+    .guard 0x000ff000 (NOLOAD) : {
+        . += 4096;
+    } :guard
     . = 0x00010000;
     .text : {
         *(.text.start)
@@ -24,6 +30,9 @@ SECTIONS {
         *(.sbss .sbss.*)
         *(.bss .bss.* COMMON)
     } :data
-    ASSERT(. <= 0x00100000, "the contract is too large: the input begins at 0x00100000")
+    /* What is free for a heap, behind the sections above: zeros, readable, writable. */
+    heap_start = ALIGN(16);
+    heap_end = 0x000ff000;
+    ASSERT(. <= heap_end, "the contract is too large: its data reaches the page without rights at 0x000ff000")
     /DISCARD/ : { *(.comment .note .note.* .riscv.attributes .eh_frame .eh_frame_hdr) }
 }

@@ -13,17 +13,11 @@
 
    fees.elf is made by clang, fees-gnu.elf by GCC. */
 
-#include "contract.h"
+#include "numbers.h"
 
 enum { TRANSFER = 0, BALANCE = 1, FEE = 2 };
 
 static const u8 pot[KEY_LENGTH] = "fees";
-
-static u64 amount_at(const u8 *bytes) {
-    u64 amount;
-    memcpy(&amount, bytes, sizeof amount);
-    return amount;
-}
 
 static u64 balance_of(const u8 *account) {
     u64 amount = 0;
@@ -34,7 +28,10 @@ static u64 balance_of(const u8 *account) {
     return amount;
 }
 
-static u64 transfer(const u8 *from, const u8 *to, u64 amount) {
+static u64 transfer(struct cursor *input) {
+    const u8 *from = take_key(input), *to = take_key(input);
+    u64 amount = take_u64(input);
+    take_end(input);
     u64 balance = balance_of(from);
     if (balance < FEE || balance - FEE < amount) {
         REVERT("the balance is too small");
@@ -46,16 +43,24 @@ static u64 transfer(const u8 *from, const u8 *to, u64 amount) {
     return balance_of(from);
 }
 
+static u64 tell_balance(struct cursor *input) {
+    const u8 *account = take_key(input);
+    take_end(input);
+    return balance_of(account);
+}
+
 void contract(const u8 *input, u32 length) {
-    const u8 *account = input + 1;
-    const u8 *second = account + KEY_LENGTH;
-    u64 balance;
-    if (length == 1 + KEY_LENGTH + KEY_LENGTH + 8 && input[0] == TRANSFER) {
-        balance = transfer(account, second, amount_at(second + KEY_LENGTH));
-    } else if (length == 1 + KEY_LENGTH && input[0] == BALANCE) {
-        balance = balance_of(account);
-    } else {
+    struct cursor cursor = cursor_over(input, length);
+    u64 told;
+    switch (take_u8(&cursor)) {
+    case TRANSFER:
+        told = transfer(&cursor);
+        break;
+    case BALANCE:
+        told = tell_balance(&cursor);
+        break;
+    default:
         REVERT("unknown request");
     }
-    return_output(&balance, sizeof balance);
+    return_output(&told, sizeof told);
 }

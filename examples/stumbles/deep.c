@@ -1,13 +1,15 @@
 /* A recursion of 4 KiB a step, as deep as the input's first byte says, whose number it returns; with
-   an empty input one without an end, which meets the text. */
+   an empty input one without an end. */
 
 #include "contract.h"
 
+/* The assembly keeps the room in memory, and the step below from taking the place of this one. */
 static __attribute__((noinline)) u32 depth(u32 step, u32 last) {
-    volatile u8 room[4000];
-    room[0] = step;
+    u8 room[4000];
+    __asm__ volatile("" : : "r"(room) : "memory");
     u32 found = step == last ? last : depth(step + 1, last);
-    return found + (room[0] != (u8)step);
+    __asm__ volatile("" : : "r"(room) : "memory");
+    return found;
 }
 
 void contract(const u8 *input, u32 length) {

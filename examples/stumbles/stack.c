@@ -1,11 +1,11 @@
-/* A local array that reaches from the top of memory down to the input. The input is returned. */
+/* A local array of 62 KiB, which reaches down into a longest input. The input's last four bytes are returned. */
 
 #include "contract.h"
 
 void contract(const u8 *input, u32 length) {
-    volatile u8 room[65536];
+    volatile u8 room[63488];
     for (u32 at = 0; at < sizeof room; at++) {
         room[at] = 0xee;
     }
-    return_output(input, length);
+    return_output(input + length - 4, 4);
 }

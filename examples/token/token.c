@@ -10,15 +10,9 @@
 
    token.elf is made by clang, token-gnu.elf by GCC. */
 
-#include "contract.h"
+#include "numbers.h"
 
 enum { MINT = 0, TRANSFER = 1, BALANCE = 2 };
-
-static u64 amount_at(const u8 *bytes) {
-    u64 amount = 0;
-    __builtin_memcpy(&amount, bytes, sizeof amount);
-    return amount;
-}
 
 static u64 balance_of(const u8 *account) {
     u64 amount = 0;
@@ -48,21 +42,43 @@ static u64 take(const u8 *account, u64 amount) {
     return balance;
 }
 
+static u64 mint(struct cursor *input) {
+    const u8 *account = take_key(input);
+    u64 amount = take_u64(input);
+    take_end(input);
+    return add(account, amount);
+}
+
+static u64 transfer(struct cursor *input) {
+    const u8 *from = take_key(input), *to = take_key(input);
+    u64 amount = take_u64(input);
+    take_end(input);
+    take(from, amount);
+    add(to, amount);
+    return balance_of(from);
+}
+
+static u64 tell_balance(struct cursor *input) {
+    const u8 *account = take_key(input);
+    take_end(input);
+    return balance_of(account);
+}
+
 void contract(const u8 *input, u32 length) {
-    const u8 *account = input + 1;
-    const u8 *second = account + KEY_LENGTH;
-    u64 balance;
-    if (length == 1 + KEY_LENGTH + 8 && input[0] == MINT) {
-        balance = add(account, amount_at(second));
-    } else if (length == 1 + KEY_LENGTH + KEY_LENGTH + 8 && input[0] == TRANSFER) {
-        u64 amount = amount_at(second + KEY_LENGTH);
-        take(account, amount);
-        add(second, amount);
-        balance = balance_of(account);
-    } else if (length == 1 + KEY_LENGTH && input[0] == BALANCE) {
-        balance = balance_of(account);
-    } else {
+    struct cursor cursor = cursor_over(input, length);
+    u64 told;
+    switch (take_u8(&cursor)) {
+    case MINT:
+        told = mint(&cursor);
+        break;
+    case TRANSFER:
+        told = transfer(&cursor);
+        break;
+    case BALANCE:
+        told = tell_balance(&cursor);
+        break;
+    default:
         REVERT("unknown request");
     }
-    return_output(&balance, sizeof balance);
+    return_output(&told, sizeof told);
 }

@@ -1,0 +1,50 @@
+/* Runs a contract on the machine that compiles it, so under a debugger or a sanitizer too. Link sdk/host.c.
+
+   A test calls the contract by call_contract. Before and after a call it may itself read and write the storage
+   by the calls of contract.h. Gas is not counted, memory has no rights, and a static variable keeps between
+   calls what it has, where on the ledger's machine each call starts anew. */
+
+#ifndef HOST_H
+#define HOST_H
+
+#include "contract.h"
+
+#ifdef __cplusplus
+extern "C" {
+#endif
+
+/* How a call ends; docs/contracts.md says when. */
+enum ending { RETURNED, REVERTED, UNKNOWN_CALL, BAD_LENGTH, TOO_MANY_WRITES };
+
+struct result {
+    enum ending ending;
+    u32 length; /* of the output */
+    u8 output[OUTPUT_LIMIT];
+};
+
+/* Chooses rules 1, 2 or 3; at first they are 1. */
+void set_rules(u32 rules);
+
+/* Makes the storage empty. */
+void clear_storage(void);
+
+/* Calls the contract with a copy of the input, behind which a sanitizer sees each read. What the call writes
+   stays where it returned. */
+struct result call_contract(const void *input, u32 length);
+
+/* Whether the call ended so, with this output. */
+int has_returned(struct result result, const void *output, u32 length);
+int has_returned_u64(struct result result, u64 number);
+int has_reverted(struct result result, const char *text);
+
+/* Counts a check, and prints its name where it does not hold. */
+void check(const char *name, int holds);
+
+/* Prints 'N passed, M failed', and answers 1 where one failed, else 0. */
+int report_checks(void);
+
+#ifdef __cplusplus
+}
+#endif
+
+#endif

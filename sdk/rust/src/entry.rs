@@ -1,0 +1,42 @@
+//! How a call starts, and how it ends by a panic.
+
+use core::{arch::global_asm, fmt::Write, panic::PanicInfo};
+
+use crate::{return_output, revert, Output};
+
+global_asm!(include_str!("../../start.S"));
+
+/// Makes a function what a call runs: `entry!(count_vote);`. It takes the input as `&[u8]` and gives
+/// `Result<OUTPUT, TEXT>`: the call returns with the output, or reverts with the text. Both are bytes, as
+/// `[u8; 8]`, `&str`, [`Output`](crate::Output) or, with the feature `alloc`, `String`.
+#[macro_export]
+macro_rules! entry {
+    ($body:path) => {
+        /// What start.S calls.
+        #[no_mangle]
+        extern "C" fn contract(input: *const u8, length: usize) -> ! {
+            // SAFETY: the machine lays the input there, and nothing else writes it.
+            $crate::run($body, unsafe { core::slice::from_raw_parts(input, length) })
+        }
+    };
+}
+
+/// What [`entry!`](crate::entry) expands to.
+#[doc(hidden)]
+pub fn run<O: AsRef<[u8]>, E: AsRef<[u8]>>(
+    body: fn(&'static [u8]) -> Result<O, E>,
+    input: &'static [u8],
+) -> ! {
+    match body(input) {
+        Ok(output) => return_output(output.as_ref()),
+        Err(text) => revert(text.as_ref()),
+    }
+}
+
+/// Reverts with the panic's message and place, as far as an output reaches.
+#[panic_handler]
+fn revert_with_message(info: &PanicInfo) -> ! {
+    let mut output = Output::new();
+    let _ = write!(output, "{info}");
+    revert(output.as_ref())
+}
