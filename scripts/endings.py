@@ -18,6 +18,15 @@ def reason(error):
     return str(error).split("\n")[0]
 
 
+def tell_usage(doc):
+    """Prints the whole help where it was asked for, else how the script is called, and answers the status."""
+    if sys.argv[1:] in (["--help"], ["-h"]):
+        print(doc.rstrip())
+        return 0
+    print(doc.split("\n\n", 1)[1].rstrip(), file=sys.stderr)
+    return 2
+
+
 def need_rt():
     """Ends the script where there is no rt."""
     if not shutil.which("rt"):
