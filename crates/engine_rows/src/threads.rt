@@ -124,7 +124,7 @@ fn assert_forty_counts_twice<R: Threads + Wait + Sync + Abort>(
 
 #[test]
 fn forty_counts_by_threads(rt: HostRuntime) -> Result<(), Fail> {
-    for workers in [1, 2, 8, 32] {
+    for workers in 1..33 {
         assert_forty_counts_twice(&rt, rt.alloc(), workers)?;
     }
     Ok(())
