@@ -14,10 +14,7 @@ const TOO_LONG: usize = 131_073;
 
 /// Files, beside those of `disk_of_echo`.
 const FILES: &[(&str, &[u8])] = &[
-    (
-        "late.block",
-        b"rvblock 1\nprogram 0 echo.elf\ncall 0 0 -\n",
-    ),
+    ("late.block", b"rvblock 1\nprogram 0 echo.elf\ncall 0 0 -\n"),
     ("order.block", b"rvblock 1\nprogram 0 echo.s\nfoo\n"),
     ("truncated.block", b"rvblock 1\nprogram 0 echo.s\n"),
     ("magic.block", b"rvblock 1\nprogram 0 two.block\n"),
@@ -68,7 +65,10 @@ const LINES: &[(&str, &str)] = &[
         "rvstm asm late.s --out new.elf",
         "rvstm: asm 2 UnknownMnemonic 1\n",
     ),
-    ("rvstm asm empty.s --out new.elf", "rvstm: elf BadEntry 15\n"),
+    (
+        "rvstm asm empty.s --out new.elf",
+        "rvstm: elf BadEntry 15\n",
+    ),
     (
         "rvstm asm latin.s --out new.elf",
         "rvstm: file Unreadable 1\n",
