@@ -11,9 +11,7 @@ fn register(number: u32) -> Reg
     requires { number < 2 ^ 5 }
     ensures { result ≡ register_at number }
 {
-    Reg {
-        number: number as u8,
-    }
+    Reg { number }
 }
 
 /// The destination, rd.

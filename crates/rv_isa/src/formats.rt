@@ -10,7 +10,7 @@ fn number(register: Reg) -> u32
     ensures value { result ≡ register.number }
     ensures small { result < 2 ^ 5 }
 {
-    u32::from(register.number)
+    register.number
 }
 
 /// A word of the R format.

@@ -12,12 +12,12 @@ mod register;
 mod registers;
 mod tables;
 
-pub use decoding::{
-    decode, decode_auipc, decode_branch, decode_compute, decode_fence, decode_immediate,
-    decode_jal, decode_jalr, decode_load, decode_lui, decode_store, decode_system,
-};
+pub use decoding::decode;
 pub use encoding::{encode, one_instr};
-pub use fields::funct3;
+pub use fields::{
+    branch_offset, funct3, funct7, immediate_of_i, immediate_of_s, jump_offset, rd, rs1, rs2,
+    shift_amount, upper,
+};
 pub use instruction::{
     Condition, ImmediateOperation, Instr, LoadKind, Operation, Shift, StoreKind,
 };

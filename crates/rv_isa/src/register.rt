@@ -3,10 +3,11 @@
 ghost use Rattle.std.specs.Prelude.{◌≡◌};
 ghost use Rattle.rv_isa.specs.Ranges.{IsRegister};
 
-/// A register by its number, 0 to 31.
+/// A register by its number, 0 to 31. The number has 32 bits since a number of 8 bits costs an instruction more wherever
+/// it is taken from a word.
 #[derive(Clone, Copy, Debug, PartialEq, Eq)]
 pub struct Reg {
-    pub number: u8,
+    pub number: u32,
     pub ghost in_range: { IsRegister number },
 }
 

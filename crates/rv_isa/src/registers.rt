@@ -34,7 +34,7 @@ impl Regs {
     pub fn get(&self, register: Reg) -> u32
         ensures { result ≡ slice_index self.now register.number }
     {
-        self.numbers[usize::from(register.number)]
+        self.numbers[register.number as usize]
     }
 
     /// Writes `value` to `register`; a write to x0 is lost.
@@ -42,7 +42,7 @@ impl Regs {
         ensures { self.new ≡ written self.old register.number value }
     {
         if register.number != 0 {
-            let index = usize::from(register.number);
+            let index = register.number as usize;
             self.numbers[index] = value;
         }
     }

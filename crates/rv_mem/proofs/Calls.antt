@@ -1,5 +1,5 @@
 -- The pages of a call under its steps.
-use Rattle.std.proofs.Common.{◌≡◌, ℕ, ◌+◌, ◌-◌, ◌*◌, ◌/◌, ◌%◌, ◌^◌, ◌<◌, ◌≤◌, List, [], ◌∷◌, ◌++◌, length, get_or, set, replicate, All, refl, sym, ap, ◌∙◌, arith, length-append, append_assoc}
+use Rattle.std.proofs.Common.{◌≡◌, ℕ, ◌+◌, ◌-◌, ◌*◌, ◌/◌, ◌%◌, ◌<◌, ◌≤◌, List, [], ◌∷◌, ◌++◌, length, get_or, set, replicate, All, refl, sym, ap, ◌∙◌, arith, length-append, append_assoc}
 use native.Mathlib.Decide.{dec_lt}
 use Rattle.std.proofs.lemmas.List.{append-nil, get_or_append_left, get_or-append_right, get_or_default, get_or_read, length-replicate, length_push, length-set, set-append_right}
 use Rattle.std.proofs.lemmas.List.Elements.{All-append, All-push, All-replicate, All-set}
@@ -8,7 +8,6 @@ use Rattle.elf32.specs.Pages.{overwritten_at, page_at, segment_bytes, zeros, Are
 use Rattle.rv_mem.specs.declared.pages.Pages.{Pages}
 use Rattle.rv_mem.specs.Paged.{IsPaged, all_pages, base_of, base_pages, memory_bytes}
 use Rattle.rv_mem.proofs.Flat.{length_pages}
-use Rattle.rv_mem.proofs.Held.{held_none}
 use Rattle.rv_mem.proofs.Placed.{placed_none, placed_more}
 use Rattle.rv_mem.proofs.Pools.{copied_bytes, put_bytes, same_flat, sized}
 
@@ -26,14 +25,13 @@ padded_sized pages n h =
     All-append (λ (q : List ℕ). length q ≡ 4096) pages (replicate n (zeros 4096)) h (All-replicate (λ (q : List ℕ). length q ≡ 4096) n (zeros 4096) (length_zeros 4096))
 
 -- the first: each page is the program's
-pub paged_none : (p : Pages) (segments : List Segment) → HoldSegments (base_of p) segments → p.own.items ≡ [] → p.index.items ≡ (base_of p).index → p.held.first ≡ 2 ^ 32 → IsPaged p
-paged_none p segments h none same free =
+pub paged_none : (p : Pages) (segments : List Segment) → HoldSegments (base_of p) segments → p.own.items ≡ [] → p.index.items ≡ (base_of p).index → IsPaged p
+paged_none p segments h none same =
     let count = h.count in
     record {
       sizes = rw (none, append-nil (base_pages p)) (padded_sized (base_of p).pages.items _ h.sizes);
       placed = rw (none, same) (placed_none (length (base_of p).pages.items) 512 (base_of p).index h.count (omega arith) h.index_len h.places);
       rights = h.rights_len;
-      held = held_none (base_of p).rights p.index.items p.held free;
     }
 
 -- its bytes
@@ -101,14 +99,13 @@ module _ (p q : Pages) (page : ℕ) (x : List ℕ) (h : IsPaged p) (below : page
   all_more : all_pages q ≡ all_pages p ++ x ∷ []
   all_more = rw (base, items) (sym (append_assoc (base_pages p) p.own.items (x ∷ [])))
 
-  pub paged_more : q.held.first ≡ 2 ^ 32 → IsPaged q
-  paged_more free =
+  pub paged_more : IsPaged q
+  paged_more =
       let count : length q.own.items ≡ length p.own.items + 1 = ap length items ∙ length_push p.own.items x in
       record {
         sizes = rw all_more (All-push (λ q. length q ≡ 4096) (all_pages p) x h.sizes size);
         placed = rw (base, count, index) (placed_more (length (base_of p).pages.items) 512 (length p.own.items) page p.index.items h.placed below shared);
         rights = rw base h.rights;
-        held = held_none (base_of q).rights q.index.items q.held free;
       }
 
   pub bytes_more : memory_bytes q ≡ memory_bytes p
@@ -126,14 +123,13 @@ module _ (p q : Pages) (place : ℕ) (x : List ℕ) (h : IsPaged p) (inside : pl
       (sym (set-append_right (base_pages p) p.own.items 512 (512 + place) x (base_length p h) (omega arith)
       ∙ ap (λ (k : ℕ). (base_pages p) ++ set p.own.items k x) e))
 
-  pub paged_put : length x ≡ 4096 → q.held ≡ p.held → IsPaged q
-  paged_put size kept =
+  pub paged_put : length x ≡ 4096 → IsPaged q
+  paged_put size =
       let count : length q.own.items ≡ length p.own.items = ap length items ∙ length-set p.own.items place x in
       record {
         sizes = rw all_put (All-set (λ q. length q ≡ 4096) (all_pages p) (512 + place) x size h.sizes);
         placed = rw (base, count, index) h.placed;
         rights = rw base h.rights;
-        held = rw (base, index, kept) h.held;
       }
 
   pub bytes_put : (old new : List ℕ) (at : ℕ) → at < 1048576 → get_or p.index.items (at / 4096) 0 ≡ 512 + place → at % 4096 + length new ≤ 4096 → old ≡ get_or p.own.items place old → x ≡ overwritten_at old (at % 4096) new → memory_bytes q ≡ overwritten_at (memory_bytes p) at new

@@ -1,9 +1,11 @@
 -- When each byte of a range may be used, by its bytes and by its pages.
-use Rattle.std.proofs.Common.{◌≡◌, ℕ, zero, suc, ◌+◌, ◌-◌, ◌*◌, ◌/◌, ◌%◌, ◌<◌, ◌≤◌, ◌⊎◌, Bool, true, false, ◌||◌, ltb, leb, eqb, List, refl, sym, ◌∙◌, arith, IsTrue, max, get_or, inl, inr}
+use Rattle.std.proofs.Common.{◌≡◌, ℕ, zero, suc, ◌+◌, ◌-◌, ◌*◌, ◌/◌, ◌%◌, ◌^◌, ◌<◌, ◌≤◌, ◌⊎◌, Bool, true, false, ◌||◌, ltb, leb, eqb, List, refl, sym, ◌∙◌, arith, IsTrue, max, get_or, inl, inr}
+use native.Mathlib.Decide.{dec_lt}
 use Rattle.std.proofs.lemmas.Bool.{and_left, and_right, and_from}
 use Rattle.std.proofs.lemmas.Bool.Decides.{nat_tests}
 use Rattle.elf32.specs.declared.segment.Rights.{Rights}
 use Rattle.rv_mem.specs.Space.{is_address, allows, no_rights, allows_at, allows_range}
+use Rattle.rv_mem.specs.Paged.{is_open}
 use Rattle.rv_mem.specs.declared.access.Access.{Access}
 
 -- a range of which each byte may be used
@@ -26,7 +28,7 @@ each_false access rights a (suc n) (suc i) l h =
     and_right _ _ (each_false access rights (a + 1) n i (omega arith) (rw e at h))
 
 -- two bytes of one page
-may_same : (access : Access) (rights : List Rights) (a b : ℕ) → a / 4096 ≡ b / 4096 → allows_at access rights a ≡ allows_at access rights b
+pub may_same : (access : Access) (rights : List Rights) (a b : ℕ) → a / 4096 ≡ b / 4096 → allows_at access rights a ≡ allows_at access rights b
 may_same access rights a b h =
     let e : (a - 65536) / 4096 ≡ (b - 65536) / 4096 = omega arith in
     let low : leb 65536 a ≡ leb 65536 b = grind (arith, nat_tests) in
@@ -89,3 +91,25 @@ each_page_without access rights a n k l low first last h =
     let i = max a (65536 + 4096 * k) - a in
     let e : (a + i - 65536) / 4096 ≡ k = omega arith in
     each_false access rights a n i (omega arith) (and_right (is_address (a + i)) _ (rw e h))
+
+-- an aligned number, by its place in memory
+pub by_place : (access : Access) (rights : List Rights) (a n at : ℕ) → IsTrue (is_size n) → a < 2 ^ 32 → at ≡ (a + 4294901760) % 2 ^ 32 → a % n ≡ 0 → allows_range access rights a n ≡ is_open access rights at n
+by_place access rights a n at size small is even = elim (dec_lt at 1048576) [
+  | yes inside ↦
+      let same : at ≡ a - 65536 = omega arith in
+      let low : leb 65536 a ≡ true = grind (arith, nat_tests) in
+      let high : ltb a 1114112 ≡ true = grind (arith, nat_tests) in
+      let fits : ltb at 1048576 ≡ true = grind (arith, nat_tests) in
+      let whole : at % n ≡ 0 = grind (arith, nat_tests) in
+      each_aligned access rights a n size even ∙ rw (low, high, fits, whole, same) refl
+  | no out ↦
+      let past : ltb at 1048576 ≡ false = grind (arith, nat_tests) in
+      each_aligned access rights a n size even ∙ elim (dec_lt a 65536) [
+        | yes below ↦ outside access rights a (inl below) ∙ rw past refl
+        | no above ↦ outside access rights a (inr (omega arith)) ∙ rw past refl
+      ]
+]
+
+-- a place that is a multiple of the size has such an address
+pub place_even : (a n at : ℕ) → IsTrue (is_size n) → a < 2 ^ 32 → at ≡ (a + 4294901760) % 2 ^ 32 → at % n ≡ 0 → a % n ≡ 0
+place_even a n at size small is even = grind (arith, nat_tests)

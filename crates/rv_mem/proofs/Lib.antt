@@ -4,4 +4,4 @@ mod Copied
 mod Placed
 mod Pools
 mod Calls
-mod Held
+pub mod PageOfCode

@@ -1,3 +1,4 @@
 pub mod Space
 pub mod Start
 pub mod Paged
+pub mod Code

@@ -1,14 +1,14 @@
 -- The pages of a call, and the bytes that stand in them. Private help of proofs; no public clause cites it.
-use Rattle.std.specs.Prelude.{◌≡◌, ℕ, ◌+◌, ◌-◌, ◌^◌, ◌≤◌, ◌<◌, ◌%◌, ◌/◌, nat_lt, if◌then◌else◌, List, ◌++◌, length, flat_map, replicate, slice_index, slice_index_or, true, All}
+use Rattle.std.specs.Prelude.{◌≡◌, ℕ, ◌+◌, ◌-◌, ◌≤◌, ◌<◌, ◌%◌, ◌/◌, nat_lt, ◌==◌, Bool, ◌&&◌, if◌then◌else◌, List, ◌++◌, length, flat_map, replicate, slice_index, slice_index_or, All}
 use Rattle.std.specs.List.{sum_by}
 use Rattle.std.specs.Arc.{arc_value}
-use Rattle.elf32.specs.Extent.{end_address, first_address, page_count, page_size}
+use Rattle.elf32.specs.Extent.{memory_size, page_count, page_size}
 use Rattle.elf32.specs.Pages.{ArePages, page_at, zeros}
-use Rattle.elf32.specs.declared.pages.BasePages.{BasePages}
+use Rattle.elf32.specs.declared.base_pages.BasePages.{BasePages}
 use Rattle.elf32.specs.declared.segment.Rights.{Rights}
-use Rattle.rv_mem.specs.declared.pages.Held.{Held}
 use Rattle.rv_mem.specs.declared.pages.Pages.{Pages}
-use Rattle.rv_mem.specs.Space.{no_rights}
+use Rattle.rv_mem.specs.Space.{Space, allows, no_rights}
+use Rattle.rv_mem.specs.declared.access.Access.{Access}
 
 -- the place of the call's first page of its own
 abbrev pub first_own : ℕ
@@ -31,6 +31,10 @@ all_pages p = base_pages p ++ p.own.items
 abbrev pub memory_bytes : Pages → List ℕ
 memory_bytes p = flat_map (page_at (all_pages p)) p.index.items
 
+-- memory as a caller sees it
+abbrev pub space_of : Pages → Space
+space_of p = record { bytes = memory_bytes p; rights = (base_of p).rights }
+
 -- one for a place among the first n pages, else nothing
 abbrev pub is_shared : ℕ → ℕ → ℕ
 is_shared n k = if nat_lt k n then 1 else 0
@@ -45,24 +49,16 @@ pub record ArePlaced (base count own : ℕ) (index : List ℕ) : Type 0 where
   pub each : own + sum_by (is_shared count) index ≡ page_count
   pub alone : (i j : ℕ) → i < page_count → j < page_count → count ≤ slice_index index i → slice_index index i ≡ slice_index index j → i ≡ j
 
--- what holds of the page that is held, where one is: it is the program's and may be executed. Where none is, `first` is
--- 2^32, and so no address of 32 bits is within a page from there on
-pub record IsHeld (rights : List Rights) (index : List ℕ) (held : Held) : Type 0 where
-  pub far : held.first ≤ 2 ^ 32
-  pub low : first_address ≤ held.first
-  pub start : (held.first - first_address) % page_size ≡ 0
-  pub high : held.first < 2 ^ 32 → held.first < end_address
-  pub here : held.first < 2 ^ 32 → slice_index index ((held.first - first_address) / page_size) ≡ held.place
-  pub shared : held.first < 2 ^ 32 → held.place < first_own
-  pub allowed : held.first < 2 ^ 32 → (slice_index_or rights ((held.first - first_address) / page_size) no_rights).executable ≡ true
-
 -- the pages of a call
 pub record IsPaged (p : Pages) : Type 0 where
   pub sizes : ArePages (λ q. q) (all_pages p)
   pub placed : ArePlaced (length (base_of p).pages.items) first_own (length p.own.items) p.index.items
   pub rights : length (base_of p).rights ≡ page_count
-  pub held : IsHeld (base_of p).rights p.index.items p.held
 
 -- the pages from one on and below another are the call's own
 abbrev pub AreOwn : Pages → ℕ → ℕ → Type 0
 AreOwn p first end = (k : ℕ) → first ≤ k → k < end → first_own ≤ slice_index p.index.items k
+
+-- a place in memory is a multiple of n, and its page has the right
+abbrev pub is_open : Access → List Rights → ℕ → ℕ → Bool
+is_open access rights at n = nat_lt at memory_size && (at % n == 0 && allows access (slice_index_or rights (at / page_size) no_rights))

@@ -3,6 +3,7 @@
 ghost use Rattle.std.specs.Prelude.{◌≡◌, ◌<◌, ◌≤◌, ◌+◌, ◌-◌, ◌^◌, ◌↔◌, true, length, Ok, IfOk, OnOk, IsOk, IfErr, IfSome};
 ghost use Rattle.elf32.specs.Extent.{end_address, first_address, input_address};
 ghost use Rattle.elf32.specs.Pages.{overwritten_at};
+ghost use Rattle.rv_mem.specs.Code.{IsCode, page_of};
 ghost use Rattle.rv_mem.specs.Paged.{IsPaged, base_of, memory_bytes};
 ghost use Rattle.rv_mem.specs.Space.{as_answer, bytes_at, allows_range, loaded, stored, copied, LeavesMemory};
 ghost use Rattle.rv_mem.specs.Start.{start_space};
@@ -10,20 +11,18 @@ ghost use Rattle.rv_mem.specs.declared.access.Access.TheVariants.{Read, Write, E
 ghost use Rattle.rv_mem.specs.declared.fault.Fault.TheVariants.{MemoryFault};
 
 use crate::access::Access;
+use crate::code_page::CodePage;
 use crate::fault::Fault;
 use crate::pages::{
-    PageRoom, Pages, byte_at, halfword_at, held_word_at, hold, program_pages, read, word_at, write,
+    PageRoom, Pages, byte_at, code_page, halfword_at, program_pages, read, word_at, write,
     write_in_page,
 };
 use crate::rights::{place, range_has};
 use byteorder::{ByteOrder, LittleEndian};
 use elf32::Image;
-use elf32::extent::{END_ADDRESS, FIRST_ADDRESS, INPUT_ADDRESS, PAGE_SIZE};
+use elf32::extent::{FIRST_ADDRESS, INPUT_ADDRESS};
 use std::alloc::{AllocError, Global};
 use std::marker::Model;
-
-/// The number of bytes of a page.
-const PAGE: u64 = PAGE_SIZE as u64;
 
 /// The place of the input, in bytes from the first address of memory.
 const INPUT: usize = (INPUT_ADDRESS - FIRST_ADDRESS) as usize;
@@ -50,12 +49,12 @@ pub struct Memory {
 }
 
 impl Model for Memory {
-    ghost use Rattle.rv_mem.specs.Paged.{IsPaged, base_of, memory_bytes};
+    ghost use Rattle.rv_mem.specs.Paged.{IsPaged, space_of};
     ghost use Rattle.rv_mem.specs.Space.{Space};
 
     ghost Value = { Space };
 
-    ghost view = { λ m. record { bytes = memory_bytes m.pages; rights = (base_of m.pages).rights } };
+    ghost view = { λ m. space_of m.pages };
 
     ghost invariant = { λ m. IsPaged m.pages };
 }
@@ -96,28 +95,13 @@ impl Memory {
         Ok(word_at(&self.pages, at))
     }
 
-    /// The instruction word at the address where it stands in the page that is held, else None.
-    #[inline(always)]
-    pub fn held_word(&self, address: u32) -> Option<u32>
-        ensures { IfSome result (λ word. loaded 4 Execute self.now address ≡ Ok word) }
+    /// The page of the address, if its instructions can be taken from there as long as the call runs: the page is the
+    /// program's, and may be executed and not stored to. None else, and where the program has as many owners as it
+    /// can have.
+    pub fn code_page(&self, address: u32) -> Option<CodePage>
+        ensures { IfSome result (λ page. IsCode self.now (page_of address) page) }
     {
-        let offset = u64::from(address).wrapping_sub(self.pages.held.first);
-        if offset < PAGE && offset % 4 == 0 {
-            return Some(held_word_at(&self.pages, offset as usize));
-        }
-        None
-    }
-
-    /// Holds the page of the address, for `held_word`, where its instructions can be found sooner. A caller
-    /// sees no change.
-    #[cold]
-    #[inline(never)]
-    pub fn hold(&mut self, address: u32)
-        ensures { self.new ≡ self.old }
-    {
-        if FIRST_ADDRESS <= address && address < END_ADDRESS {
-            hold(&mut self.pages, (address - FIRST_ADDRESS) as usize);
-        }
+        code_page(&self.pages, address)
     }
 
     /// The byte at the address, or MemoryFault where it may not be loaded.

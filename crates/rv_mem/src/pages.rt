@@ -1,11 +1,15 @@
 //! Reads and writes of bytes that stand in pages. A page is shared with the program until it is written.
 
-ghost use Rattle.std.specs.Prelude.{◌≡◌, ◌+◌, ◌/◌, ◌%◌, ◌-◌, ◌^◌, ◌≤◌, ◌<◌, ◌++◌, ℕ, length, take, drop, slice_index, OnOk, OnErr, IfOk};
+ghost use Rattle.std.specs.Prelude.{◌≡◌, ◌+◌, ◌/◌, ◌%◌, ◌-◌, ◌^◌, ◌≤◌, ◌<◌, ◌++◌, ℕ, length, take, drop, slice_index, OnOk, OnErr, IfOk, IfSome};
 ghost use Rattle.byteorder.specs.Endian.{little_number};
 ghost use Rattle.elf32.specs.Extent.{first_address, memory_size, page_count, page_size};
 ghost use Rattle.elf32.specs.Pages.{overwritten_at, page_at, page_rights, segment_bytes};
-ghost use Rattle.rv_mem.specs.Paged.{IsPaged, AreOwn, base_of, first_own, memory_bytes};
+ghost use Rattle.rv_mem.specs.Code.{IsCode, page_of};
+ghost use Rattle.rv_mem.specs.Paged.{IsPaged, AreOwn, base_of, first_own, memory_bytes, space_of};
 
+use crate::access::Access;
+use crate::code_page::CodePage;
+use crate::rights::allows_at;
 use byteorder::{ByteOrder, LittleEndian};
 use elf32::bytes::put;
 use elf32::extent::{FIRST_ADDRESS, PAGE_SIZE};
@@ -20,26 +24,9 @@ const FIRST_OWN: usize = 512;
 /// How many pages of its own a call has room for at its start: that of its input, and that of its stack or data.
 const OWN_ROOM: usize = 2;
 
-/// A page of the program that may be executed, which is held so that its words are found sooner.
-#[derive(Clone, Copy)]
-pub struct Held {
-    /// The page's first address, or 2^32 where no page is held: no word of an address of 32 bits is found there.
-    pub first: u64,
-    /// The page's place among the program's.
-    pub place: usize,
-}
-
-/// What is held where no page is.
-const NOTHING: Held = Held {
-    first: 1 << 32,
-    place: 0,
-};
-
 /// The pages of one call.
 #[derive(Drop)]
 pub struct Pages {
-    /// The page that instructions are fetched from.
-    pub held: Held,
     /// The pages of the program.
     pub base: Arc<BasePages>,
     /// For each of the 256 pages of memory its place: in `base`, or `FIRST_OWN` and its place in `own`.
@@ -82,12 +69,7 @@ pub fn program_pages(room: PageRoom, image: &Image) -> Result<Pages, AllocError>
     refill(&mut index, &base.index)?;
     own.clear();
     own.reserve(OWN_ROOM)?;
-    Ok(Pages {
-        held: NOTHING,
-        base,
-        index,
-        own,
-    })
+    Ok(Pages { base, index, own })
 }
 
 /// Makes a list of these numbers in the room of another; refused where memory ran out.
@@ -107,8 +89,10 @@ fn page_at<'a>(base: &'a [Page], own: &'a [Page], place: usize) -> &'a Page
     ensures shared { place < first_own → result.now ≡ page_at base.now place }
     ensures own { first_own ≤ place → result.now ≡ page_at own.now (place - first_own) }
 {
-    let pages = if place < FIRST_OWN { base } else { own };
-    &pages[place % FIRST_OWN]
+    if place < FIRST_OWN {
+        return &base[place];
+    }
+    &own[place - FIRST_OWN]
 }
 
 /// Makes a page the call's own; refused where memory ran out, and then nothing changes. It answers the
@@ -131,7 +115,6 @@ fn copy_page(pages: &mut Pages, page: usize) -> Result<usize, AllocError>
         .own
         .extend_from_slice(from_ref(&shared[pages.index[page] as usize]))?;
     pages.index[page] = (FIRST_OWN + place) as u16;
-    pages.held = NOTHING;
     Ok(place)
 }
 
@@ -290,45 +273,21 @@ pub fn word_at(pages: &Pages, at: usize) -> u32
     LittleEndian::read_u32(rest_of_page(pages, at))
 }
 
-/// Holds the page of a place in memory where it is the program's and may be executed.
-pub fn hold(pages: &mut Pages, at: usize)
-    requires paged { IsPaged pages.old }
-    requires first { at < memory_size }
-    ensures paged { IsPaged pages.new }
-    ensures base { base_of pages.new ≡ base_of pages.old }
-    ensures bytes { memory_bytes pages.new ≡ memory_bytes pages.old }
+/// The page of the address where it is one of the program's, and may be executed and not stored to. None else, and
+/// where the program has as many owners as it can have.
+pub fn code_page(pages: &Pages, address: u32) -> Option<CodePage>
+    requires { IsPaged pages.now }
+    ensures { IfSome result (λ page. IsCode (space_of pages.now) (page_of address) page) }
 {
-    let page = at / PAGE_SIZE;
-    let place = pages.index[page] as usize;
-    if place < FIRST_OWN && pages.base.rights[page].executable {
-        pages.held = Held {
-            first: u64::from(FIRST_ADDRESS) + (page * PAGE_SIZE) as u64,
-            place,
-        };
+    let rights = &pages.base.rights;
+    if !allows_at(rights, Access::Execute, address) || allows_at(rights, Access::Write, address) {
+        return None;
     }
-}
-
-/// The bytes from a place in the page that is held to its end.
-#[inline(always)]
-fn rest_of_held(pages: &Pages, offset: usize) -> &[u8]
-    requires paged { IsPaged pages.now }
-    requires held { pages.now.held.first < 2 ^ 32 }
-    requires inside { offset < page_size }
-    ensures value { result.now ≡ take (page_size - offset) (drop (pages.now.held.first - first_address + offset) (memory_bytes pages.now)) }
-    ensures len { length result.now ≡ page_size - offset }
-{
-    &pages.base.pages[pages.held.place][offset..]
-}
-
-/// The word at a place in the page that is held.
-#[inline(always)]
-pub fn held_word_at(pages: &Pages, offset: usize) -> u32
-    requires paged { IsPaged pages.now }
-    requires held { pages.now.held.first < 2 ^ 32 }
-    requires room { offset + 4 ≤ page_size }
-    ensures { result ≡ little_number 4 (drop (pages.now.held.first - first_address + offset) (memory_bytes pages.now)) }
-{
-    LittleEndian::read_u32(rest_of_held(pages, offset))
+    let place = pages.index[(address - FIRST_ADDRESS) as usize / PAGE_SIZE] as usize;
+    if place >= FIRST_OWN {
+        return None;
+    }
+    CodePage::of(&pages.base, place)
 }
 
 /// Fills `out` with the bytes from a place in memory on.

@@ -2,6 +2,7 @@
 
 ghost use Rattle.std.specs.Prelude.{◌≡◌, ◌+◌, ◌%◌, ◌≤◌, ◌<◌, ◌==◌, ◌||◌, length, IfOk, IsTrue};
 ghost use Rattle.elf32.specs.Extent.{end_address, first_address, memory_size, page_count, page_size};
+ghost use Rattle.rv_mem.specs.Paged.{is_open};
 ghost use Rattle.rv_mem.specs.Space.{allows_at, allows_range, as_answer, place_of};
 
 use crate::access::Access;
@@ -11,6 +12,9 @@ use elf32::extent::{END_ADDRESS, FIRST_ADDRESS, PAGE_SIZE};
 
 /// The number of bytes of a page, of the type of an address.
 const PAGE: u32 = PAGE_SIZE as u32;
+
+/// The number of bytes of memory.
+const MEMORY_SIZE: u32 = END_ADDRESS - FIRST_ADDRESS;
 
 /// Whether the byte at the address lies in memory and its page allows the access.
 #[inline(always)]
@@ -49,6 +53,17 @@ pub fn range_has(rights: &[Rights], access: Access, address: u32, len: u32) -> b
     true
 }
 
+/// Whether a place in memory is a multiple of `size`, and its page allows the access. The range and the alignment are
+/// tested first, since the compiler makes one test of both.
+#[inline(always)]
+fn is_open(rights: &[Rights], access: Access, at: u32, size: u32) -> bool
+    requires pages { length rights.now ≡ page_count }
+    requires size { 0 < size }
+    ensures { result ≡ is_open access rights.now at size }
+{
+    at < MEMORY_SIZE && at % size == 0 && access.is_allowed_by(rights[(at / PAGE) as usize])
+}
+
 /// The place, from the start of memory, of the number of `size` bytes at the address. Refused with
 /// Misaligned, else with the fault of the access where a byte is outside memory or its page does not allow
 /// the access.
@@ -60,11 +75,12 @@ pub fn place(rights: &[Rights], access: Access, address: u32, size: u32) -> Resu
     ensures room { IfOk result (λ k. k + size ≤ memory_size) }
     ensures page { IfOk result (λ k. k % page_size + size ≤ page_size) }
 {
+    let at = address.wrapping_sub(FIRST_ADDRESS);
+    if is_open(rights, access, at, size) {
+        return Ok(at as usize);
+    }
     if address % size != 0 {
         return Err(Fault::Misaligned);
     }
-    if !allows_at(rights, access, address) {
-        return Err(access.fault());
-    }
-    Ok((address - FIRST_ADDRESS) as usize)
+    Err(access.fault())
 }

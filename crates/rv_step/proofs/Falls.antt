@@ -24,8 +24,8 @@ use Rattle.rv_ledger.specs.declared.writes.Write.{Write}
 use Rattle.ecalls.specs.StorageCalls.{a2, requested_call, charge_of, charge_asked, late_charge, request_of}
 use Rattle.ecalls.specs.declared.storage_call.StorageCall.{StorageCall}
 use Rattle.ecalls.specs.declared.storage_call.StorageCall.TheVariants as call
-use Rattle.ecalls.specs.declared.request_kind.Request.{Request}
-use Rattle.ecalls.specs.declared.request_kind.Request.TheVariants as request
+use Rattle.ecalls.specs.declared.request_kind.StorageRequest.{StorageRequest}
+use Rattle.ecalls.specs.declared.request_kind.StorageRequest.TheVariants as request
 use Rattle.rv_step.specs.declared.machine.Machine.{Machine}
 use Rattle.rv_step.specs.Charged.{gas_left}
 use Rattle.rv_step.specs.Step.{Progress, Going, Over, StepResult, Leads, Asks, TakesGas, charged_call_result, out_of_gas, instruction_result, answered, ecall_result, charged, compute_result, delivery_result, fetch_result, next_instruction, is_ecall, memory_result, decode_result, read_result, storage_call_result, step, load_result, trapped, value_result, write_result}
@@ -116,7 +116,7 @@ wrote_within s write =
     (next_instruction (record s { own = map.insert s.own write.key write.change })) (trapped trap.TooManyWrites s)
     (unfold IsWithin in omega arith) (unfold IsWithin in omega arith)
 
-served_within : (s : Machine) (r : Result Request Trap) → IsStepWithin s.gas (storage_call_result s r)
+served_within : (s : Machine) (r : Result StorageRequest Trap) → IsStepWithin s.gas (storage_call_result s r)
 unfolding storage_call_result IsStepWithin
 served_within s (Err cause) = unfold IsWithin in omega arith
 served_within s (Ok (request.Read key)) = read_own_within s key _

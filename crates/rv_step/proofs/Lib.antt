@@ -1,4 +1,5 @@
-mod Illegal
+mod PageSteps
+mod Named
 mod Refused
 pub mod Falls
 pub mod Moments

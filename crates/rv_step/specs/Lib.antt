@@ -9,3 +9,4 @@ pub mod Growth
 pub mod Meets
 pub mod Asked
 pub mod Over
+pub mod PageSteps

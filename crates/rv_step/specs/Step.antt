@@ -24,8 +24,8 @@ use Rattle.rv_ledger.specs.declared.end.Trap.TheVariants as trap
 use Rattle.rv_ledger.specs.declared.writes.Write.{Write}
 use Rattle.ecalls.specs.StorageCalls.{a1, a2, charge_of, ecall_charge, late_charge, request_of}
 use Rattle.ecalls.specs.declared.storage_call.StorageCall.TheVariants as call
-use Rattle.ecalls.specs.declared.request_kind.Request.{Request}
-use Rattle.ecalls.specs.declared.request_kind.Request.TheVariants as request
+use Rattle.ecalls.specs.declared.request_kind.StorageRequest.{StorageRequest}
+use Rattle.ecalls.specs.declared.request_kind.StorageRequest.TheVariants as request
 use Rattle.rv_step.specs.declared.machine.Machine.{Machine}
 
 -- where a call stands: it goes on from a machine, or it is over, with an output, and its last step left this machine
@@ -128,7 +128,7 @@ unfoldable pub write_result : Machine → Write → Progress
 write_result s write = if has_room s.own write.key then next_instruction (record s { own = map.insert s.own write.key write.change }) else trapped trap.TooManyWrites s
 
 -- what a storage call that was charged does
-unfoldable pub storage_call_result : Machine → Result Request Trap → StepResult
+unfoldable pub storage_call_result : Machine → Result StorageRequest Trap → StepResult
 storage_call_result s (Err cause) = Leads (trapped cause s)
 storage_call_result s (Ok (request.Read key)) = read_result s key (map.get s.own key)
 storage_call_result s (Ok (request.Write write)) = Leads (write_result s write)

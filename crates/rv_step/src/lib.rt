@@ -4,12 +4,15 @@
 
 mod accesses;
 mod answer;
+mod dispatch;
 mod ended_run;
 mod faults;
+mod fields;
 mod laws;
 mod machine;
 mod outcome;
 mod over;
+mod page_loop;
 mod run;
 mod stage;
 mod storage;
@@ -19,7 +22,7 @@ pub use answer::StorageAnswer;
 pub use ended_run::EndedRun;
 pub use laws::{call_ends, charged_steps_within_gas, each_step_takes_gas, one_receipt};
 pub use machine::Machine;
-pub use over::receipt_over;
+pub use over::{Contents, receipt_over};
 pub use run::{Pause, Run};
 pub use stage::Stage;
 pub use storage::apply_writes;

@@ -16,72 +16,10 @@ use ecalls::Trap;
 use elf32::extent::{END_ADDRESS, INPUT_ADDRESS};
 use gas::{Meter, cost};
 use rv_alu::{address, execute, extended};
-use rv_isa::{
-    Immediate, Instr, LoadKind, Reg, Regs, StoreKind, decode, decode_auipc, decode_branch,
-    decode_compute, decode_fence, decode_immediate, decode_jal, decode_jalr, decode_load,
-    decode_lui, decode_store, decode_system, funct3, opcode,
-};
+use rv_isa::{Immediate, Instr, LoadKind, Reg, Regs, StoreKind, decode};
 use rv_ledger::{Call, End, Rules, Writes};
-use rv_mem::{Fault, Memory, PageRoom};
+use rv_mem::{Memory, PageRoom};
 use std::alloc::{AllocError, Global};
-
-/// Returns the value of an expression. The expression is written into a branch for each of the eight
-/// funct3 of a word, so the compiler knows funct3 there and does not look up again which operation it
-/// names. The branch of the given funct3, the most frequent one, comes first. The branches are comparisons,
-/// since a match of eight cases becomes a jump through a table, which may cost more than three branches.
-/// The branch of funct3 101, which both shifts to the right have, is given apart where funct7 tells them.
-macro_rules! return_by_funct3 {
-    ($word:expr, $first:expr, $execution:expr) => {
-        return_by_funct3!($word, $first, $execution, return $execution)
-    };
-    ($word:expr, $first:expr, $execution:expr, $fifth:expr) => {{
-        let field = funct3($word);
-        if field == $first {
-            return $execution;
-        }
-        if field < 4 {
-            if field < 2 {
-                if field == 0 {
-                    return $execution;
-                }
-                return $execution;
-            }
-            if field == 2 {
-                return $execution;
-            }
-            return $execution;
-        }
-        if field < 6 {
-            if field == 4 {
-                return $execution;
-            }
-            $fifth;
-        }
-        if field == 6 {
-            return $execution;
-        }
-        return $execution;
-    }};
-}
-
-/// Returns the value of an expression, which is written into a branch for funct7 0 and into another for all
-/// others.
-macro_rules! return_by_funct7 {
-    ($word:expr, $execution:expr) => {{
-        if $word >> 25 == 0 {
-            return $execution;
-        }
-        return $execution;
-    }};
-}
-
-/// The opcode of a word.
-#[inline(always)]
-fn opcode_of(word: u32) -> u32
-    ensures { result ≡ word % 2 ^ 7 }
-{
-    word & opcode::MASK
-}
 
 /// The machine of one call between two instructions. What each instruction needs stands first: its code is shorter then.
 #[derive(Drop)]
@@ -128,9 +66,7 @@ impl Machine {
 
     /// Executes instructions up to and including the first one after which the machine does not go on. An
     /// ECALL is only found: the machine stops before it. Refused where memory ran out; then the machine
-    /// stands before the instruction that needed memory. The loop is a function of its own, since it runs
-    /// faster without a function call in it.
-    #[inline(never)]
+    /// stands before the instruction that needed memory.
     pub(crate) fn execute_until_stop(&mut self) -> Result<InstructionOutcome, AllocError>
         ensures did { MeetsInstructions result self.old self.new }
         ensures last { IfOk result (λ outcome. is_next outcome ≡ false) }
@@ -159,34 +95,6 @@ impl Machine {
         }
     }
 
-    /// Makes one step like `execute_instruction`, but decodes by branches on the word. Only the loop calls
-    /// it, since the compiler inlines so large a function into a single caller only.
-    #[inline(always)]
-    #[tactic(auto, unfolding(crate::specs::Step::step))]
-    fn execute_next(&mut self) -> Result<InstructionOutcome, AllocError>
-        ensures { MeetsInstruction result (instruction_at self.old) (step self.old) self.old self.new }
-    {
-        match self.fetch() {
-            Ok(word) => self.execute_word(word),
-            Err(fault) => Ok(InstructionOutcome::End(End::Trapped(trap_of(fault)))),
-        }
-    }
-
-    /// The word at the pc. The pc is written after the call since the compiler then knows its value.
-    #[inline(always)]
-    fn fetch(&mut self) -> Result<u32, Fault>
-        ensures value { result ≡ as_answer (loaded 4 access.Execute self.old.memory self.old.pc) }
-        ensures same { self.new ≡ self.old }
-    {
-        let pc = self.pc;
-        if let Some(word) = self.memory.held_word(pc) {
-            return Ok(word);
-        }
-        self.memory.hold(pc);
-        self.pc = pc;
-        self.memory.fetch(pc)
-    }
-
     /// Ends the call out of gas: all that is left is spent.
     pub(crate) fn run_out(&mut self) -> End
         ensures end { result ≡ OutOfGas }
@@ -194,116 +102,6 @@ impl Machine {
     {
         self.gas.spend_all();
         End::OutOfGas
-    }
-
-    /// Charges the instruction of a word and executes it, with the result of `execute_decoded(decode(word))`.
-    /// Each opcode has a branch of its own, so that the compiler knows there which instructions may come.
-    /// Each branch returns, since the compiler then goes on from there to the next instruction.
-    #[inline(always)]
-    fn execute_word(&mut self, word: u32) -> Result<InstructionOutcome, AllocError>
-        ensures { MeetsInstruction result (decoded word) (decode_result self.old (decoded word)) self.old self.new }
-    {
-        let code = opcode_of(word);
-        if code < opcode::STORE {
-            return self.execute_below_store(word);
-        }
-        if code < opcode::BRANCH {
-            return self.execute_store_to_lui(word);
-        }
-        self.execute_from_branch(word)
-    }
-
-    /// Executes a word whose opcode is below STORE: the loads, FENCE, the computations with an immediate
-    /// and AUIPC. A word of any other opcode there is illegal.
-    #[inline(always)]
-    fn execute_below_store(&mut self, word: u32) -> Result<InstructionOutcome, AllocError>
-        requires { word % 2 ^ 7 < 0b0100011 }
-        ensures { MeetsInstruction result (decoded word) (decode_result self.old (decoded word)) self.old self.new }
-    {
-        let code = opcode_of(word);
-        if code == opcode::OP_IMM {
-            return_by_funct3!(
-                word,
-                0,
-                self.execute_decoded(decode_immediate(word)),
-                return_by_funct7!(word, self.execute_decoded(decode_immediate(word)))
-            );
-        }
-        if code < opcode::OP_IMM {
-            if code == opcode::LOAD {
-                return_by_funct3!(word, 2, self.execute_decoded(decode_load(word)));
-            }
-            if code == opcode::MISC_MEM {
-                return self.execute_decoded(decode_fence(word));
-            }
-            return self.execute_illegal(word);
-        }
-        if code == opcode::AUIPC {
-            return self.execute_decoded(decode_auipc(word));
-        }
-        self.execute_illegal(word)
-    }
-
-    /// Executes a word whose opcode is from STORE up to LUI: the stores, the computations of two registers
-    /// and LUI. A word of any other opcode there is illegal.
-    #[inline(always)]
-    fn execute_store_to_lui(&mut self, word: u32) -> Result<InstructionOutcome, AllocError>
-        requires from { 0b0100011 ≤ word % 2 ^ 7 }
-        requires below { word % 2 ^ 7 < 0b1100011 }
-        ensures { MeetsInstruction result (decoded word) (decode_result self.old (decoded word)) self.old self.new }
-    {
-        let code = opcode_of(word);
-        if code == opcode::OP {
-            if word >> 25 == 0 {
-                return_by_funct3!(word, 0, self.execute_decoded(decode_compute(word)));
-            }
-            return_by_funct3!(word, 0, self.execute_decoded(decode_compute(word)));
-        }
-        if code < opcode::OP {
-            if code == opcode::STORE {
-                return_by_funct3!(word, 2, self.execute_decoded(decode_store(word)));
-            }
-            return self.execute_illegal(word);
-        }
-        if code == opcode::LUI {
-            return self.execute_decoded(decode_lui(word));
-        }
-        self.execute_illegal(word)
-    }
-
-    /// Executes a word whose opcode is from BRANCH on: the branches, the jumps, ECALL and EBREAK. A word of
-    /// any other opcode there is illegal.
-    #[inline(always)]
-    fn execute_from_branch(&mut self, word: u32) -> Result<InstructionOutcome, AllocError>
-        requires { 0b1100011 ≤ word % 2 ^ 7 }
-        ensures { MeetsInstruction result (decoded word) (decode_result self.old (decoded word)) self.old self.new }
-    {
-        let code = opcode_of(word);
-        if code == opcode::BRANCH {
-            return_by_funct3!(word, 1, self.execute_decoded(decode_branch(word)));
-        }
-        if code < opcode::JAL {
-            if code == opcode::JALR {
-                return self.execute_decoded(decode_jalr(word));
-            }
-            return self.execute_illegal(word);
-        }
-        if code == opcode::JAL {
-            return self.execute_decoded(decode_jal(word));
-        }
-        if code == opcode::SYSTEM {
-            return self.execute_decoded(decode_system(word));
-        }
-        self.execute_illegal(word)
-    }
-
-    /// Traps at an illegal word, which costs nothing.
-    #[inline(always)]
-    fn execute_illegal(&mut self, word: u32) -> Result<InstructionOutcome, AllocError>
-        requires { decoded word ≡ None }
-        ensures { MeetsInstruction result (decoded word) (decode_result self.old (decoded word)) self.old self.new }
-    {
-        self.execute_decoded(None)
     }
 
     /// Charges an instruction and executes it. The call ends out of gas where less is left than the charge.

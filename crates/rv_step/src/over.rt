@@ -1,6 +1,9 @@
 //! The run of one call over a storage, without a list of the storage's answers.
 
+ghost use Rattle.std.specs.FinMap as map;
+ghost use Rattle.std.specs.Option.{option_copied};
 ghost use Rattle.std.specs.Prelude.{◌≡◌, ◌<◌, IfOk, OnOk, false};
+ghost use Rattle.rv_ledger.specs.Key.{Storage};
 ghost use Rattle.rv_ledger.specs.Call.{Invocation};
 ghost use Rattle.rv_step.specs.Chain.{ends};
 ghost use Rattle.rv_step.specs.Over.{IsBeginningOver, is_ended};
@@ -9,20 +12,37 @@ ghost use Rattle.rv_step.specs.Run.{left_for};
 use crate::machine::Machine;
 use crate::run::{receipt, run_until_stop};
 use crate::stage::{Stage, is_ended};
-use rv_ledger::{Call, Receipt, Store, StoredValue};
+use rv_ledger::{Call, Key, Receipt, Store, StoredValue};
 use rv_mem::PageRoom;
 use std::alloc::{AllocError, Global};
 use std::mem::replace;
 
+/// What a call reads: a storage, or what stands for one.
+pub trait Contents {
+    ghost storage: { Self → Storage };
+
+    /// The value at a key, or None where it is absent.
+    fn get(&self, key: &Key) -> Option<&StoredValue>
+        ensures { option_copied result ≡ map.get (storage self.now) key.now };
+}
+
+impl Contents for Store {
+    ghost storage = { λ s. s };
+
+    fn get(&self, key: &Key) -> Option<&StoredValue> {
+        Store::get(self, key)
+    }
+}
+
 /// The receipt of a call that is run over a storage. It takes no room for the storage's answers. The call's pages
 /// take the room of an earlier call's, and leave it to the next. Refused where memory ran out.
-pub fn receipt_over(
+pub fn receipt_over<S: Contents>(
     alloc: Global,
     room: &mut PageRoom,
     call: &Call,
-    store: &Store,
+    store: &S,
 ) -> Result<Receipt, AllocError>
-    ensures { IfOk result (λ r. r ≡ ends call.now store.now) }
+    ensures { IfOk result (λ r. r ≡ ends call.now (S.storage store.now)) }
 {
     let mut machine = Machine::start(alloc, replace(room, PageRoom::new(alloc)), call)?;
     let mut stage = Stage::Running;
@@ -41,9 +61,13 @@ pub fn receipt_over(
 
 /// Goes on with a call that has not ended: gives it what the storage has at the key that it asks for, or else
 /// makes steps up to the next ECALL or the end. Refused where memory ran out.
-fn go_on_over(machine: &mut Machine, stage: &mut Stage, store: &Store) -> Result<(), AllocError>
+fn go_on_over<S: Contents>(
+    machine: &mut Machine,
+    stage: &mut Stage,
+    store: &S,
+) -> Result<(), AllocError>
     requires { is_ended stage.old ≡ false }
-    ensures over { OnOk result ((call : Invocation) → IsBeginningOver call store.now machine.old stage.old → IsBeginningOver call store.now machine.new stage.new) }
+    ensures over { OnOk result ((call : Invocation) → IsBeginningOver call (S.storage store.now) machine.old stage.old → IsBeginningOver call (S.storage store.now) machine.new stage.new) }
     ensures fewer { OnOk result (left_for machine.new.gas stage.new < left_for machine.old.gas stage.old) }
 {
     match stage {

@@ -1,12 +1,12 @@
-use Rattle.std.proofs.Common.{◌∙◌, ◌^◌, refl}
+use Rattle.std.proofs.Common.{◌∙◌, refl}
 use Rattle.rv_mem.proofs.Calls.{bytes_none, paged_none}
 use Rattle.rv_mem.proofs.pages.program_pages.Goals as goal
 
 pub returns-clause-bytes : goal.returns-clause-bytes
 returns-clause-bytes c =
-    bytes_none (record { held = record { first = 2 ^ 32; place = 0 }; base = c.in_ok-base.base; index = c.refill.new.list; own = c.reserve.new.self }) c.args.image.now.segments (rw c.in_ok-base.ensures c.base.ensures)
+    bytes_none (record { base = c.in_ok-base.base; index = c.refill.new.list; own = c.reserve.new.self }) c.args.image.now.segments (rw c.in_ok-base.ensures c.base.ensures)
     (c.in_ok-reserve.ensures.items ∙ c.clear.ensures.items) (c.in_ok-refill.ensures ∙ rw c.deref.ensures refl)
 
 pub returns-clause-paged : goal.returns-clause-paged
 returns-clause-paged c =
-    paged_none _ c.args.image.now.segments (rw c.in_ok-base.ensures c.base.ensures) (c.in_ok-reserve.ensures.items ∙ c.clear.ensures.items) (c.in_ok-refill.ensures ∙ rw c.deref.ensures refl) refl
+    paged_none _ c.args.image.now.segments (rw c.in_ok-base.ensures c.base.ensures) (c.in_ok-reserve.ensures.items ∙ c.clear.ensures.items) (c.in_ok-refill.ensures ∙ rw c.deref.ensures refl)

@@ -3,7 +3,7 @@ use Rattle.rv_step.specs.Run.{left_for}
 use Rattle.rv_step.proofs.over.receipt_over.Given as goal
 
 abbrev pub invariant-loop-machine : goal.invariant-loop-machine
-invariant-loop-machine l = IsBeginningOver l.call l.store l.machine l.stage
+invariant-loop-machine g l = IsBeginningOver l.call (g.S.Contents.storage l.store) l.machine l.stage
 
 abbrev pub decreases-loop-machine : goal.decreases-loop-machine
-decreases-loop-machine l = left_for l.machine.gas l.stage
+decreases-loop-machine g l = left_for l.machine.gas l.stage

@@ -1,4 +1,0 @@
-use Rattle.growth_rows.proofs.exhausted.refusals_of.Given as goal
-
-abbrev pub ghosts-answer_on_spare : goal.ghosts-answer_on_spare
-ghosts-answer_on_spare g a = record { job = a.job.now }

@@ -1,6 +1,0 @@
-use Rattle.rv_names.specs.Mnemonics.{keyword_of}
-use Rattle.rv_names.proofs.mnemonics.keyword.Goals as goal
-
-pub returns : goal.returns
-unfolding keyword_of
-returns c = rw c.as_slice.ensures at c.found.ensures

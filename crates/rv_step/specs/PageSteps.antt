@@ -1,0 +1,22 @@
+-- Private help of proofs; no public clause cites it. Steps of a machine in a page of code, which changes no byte of the page.
+use Rattle.std.specs.Prelude.{◌≡◌, ℕ, ◌+◌, ◌%◌, ◌^◌, Bool, true, false, List, Option}
+use Rattle.rv_isa.specs.declared.instruction.Instr.{Instr}
+use Rattle.rv_mem.specs.Code.{IsCode}
+use Rattle.rv_step.specs.declared.machine.Machine.{Machine}
+use Rattle.rv_step.specs.declared.page_loop.Position.{Position}
+use Rattle.rv_step.specs.Step.{Leads, Going, decode_result}
+
+-- a machine that has its pc and its gas in a position, in the page from `first` on
+abbrev pub machine_at : Machine → ℕ → Position → Machine
+machine_at s first position = record s { pc = (first + position.offset) % 2 ^ 32; gas = position.gas }
+
+-- an instruction leads on from s to t, and changes no page of code and no alignment of the pc
+pub record GoesOn (instr : Option Instr) (s t : Machine) : Type 0 where
+  pub made : decode_result s instr ≡ Leads (Going t)
+  pub stays : (first : ℕ) (code : List ℕ) → IsCode s.memory first code → IsCode t.memory first code
+  pub even : s.pc % 4 ≡ 0 → t.pc % 4 ≡ 0
+
+-- a method that makes the step of an instruction, or changes nothing
+abbrev pub MeetsTry : Bool → Option Instr → Machine → Machine → Type 0
+MeetsTry true instr s t = GoesOn instr s t
+MeetsTry false instr s t = t ≡ s

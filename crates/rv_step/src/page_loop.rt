@@ -1,0 +1,199 @@
+//! The loop over the instructions of one page of code. It keeps the pc and the gas in locals, and makes the steps that
+//! are frequent. What is rare leaves it: an ECALL, a trap, the end of the gas, memory that ran out.
+
+ghost use Rattle.std.specs.Prelude.{◌≡◌, ◌≤◌, ◌<◌, ◌+◌, ◌-◌, ◌*◌, ◌%◌, ◌^◌, ℕ, IsTrue, Some};
+ghost use Rattle.rv_alu.specs.Effects.{is_plain};
+ghost use Rattle.rv_isa.specs.declared.instruction.Instr.TheVariants.{Load, Store, Ecall};
+ghost use Rattle.rv_mem.specs.Code.{IsCode};
+ghost use Rattle.rv_step.specs.Growth.{instruction_at};
+ghost use Rattle.rv_step.specs.Meets.{MeetsInstructions, Reaches};
+ghost use Rattle.rv_step.specs.PageSteps.{MeetsTry, machine_at};
+ghost use Rattle.std.specs.Bool.{OnTrue};
+
+use crate::accesses::{number_at, store_number};
+use crate::fields::ECALL;
+use crate::machine::Machine;
+use crate::outcome::InstructionOutcome;
+use elf32::Page;
+use elf32::extent::PAGE_SIZE;
+use gas::{Meter, cost};
+use rv_alu::{address, execute, extended};
+use rv_isa::{Immediate, Instr, LoadKind, Reg, StoreKind};
+use rv_mem::word_in;
+use std::alloc::AllocError;
+
+/// The number of bytes of a page.
+const PAGE: u64 = PAGE_SIZE as u64;
+
+/// Where a machine stands in a page of code, and the gas that it has left there.
+#[derive(Clone, Copy)]
+pub struct Position {
+    /// The distance of the pc from the first address of the page, modulo 2^32. It has 64 bits since the compiler
+    /// widens it else at each fetch.
+    pub offset: u64,
+    /// The gas that is left.
+    pub gas: u32,
+}
+
+impl Position {
+    /// The pc, in the page of this first address.
+    #[inline(always)]
+    pub(crate) fn pc(&self, first: u32) -> u32
+        ensures { result ≡ (first + self.now.offset) % 2 ^ 32 }
+    {
+        first.wrapping_add((self.offset & 0xffff_ffff) as u32)
+    }
+}
+
+impl Machine {
+    /// Makes the step of an instruction that changes only registers and the pc. False where its target is misaligned
+    /// or less gas is left than it costs; then nothing changes.
+    #[inline(always)]
+    pub(crate) fn try_plain(&mut self, instr: &Instr, first: u32, position: &mut Position) -> bool
+        requires { IsTrue (is_plain instr.now) }
+        ensures { MeetsTry result (Some instr.now) (machine_at self.old first position.old) (machine_at self.new first position.new) }
+    {
+        let cost = cost(instr);
+        if position.gas < cost {
+            return false;
+        }
+        match execute(instr, &mut self.regs, position.pc(first)) {
+            Some(next) => {
+                position.gas -= cost;
+                position.offset = u64::from(next.wrapping_sub(first));
+                true
+            }
+            None => false,
+        }
+    }
+
+    /// Makes the step of a load. False where memory refuses it or less gas is left than it costs; then nothing changes.
+    #[inline(always)]
+    pub(crate) fn try_load(
+        &mut self,
+        kind: LoadKind,
+        rd: Reg,
+        base: Reg,
+        offset: Immediate,
+        first: u32,
+        position: &mut Position,
+    ) -> bool
+        ensures { MeetsTry result (Some (Load kind rd base offset)) (machine_at self.old first position.old) (machine_at self.new first position.new) }
+    {
+        let cost = cost(&Instr::Load {
+            kind,
+            rd,
+            base,
+            offset,
+        });
+        if position.gas < cost {
+            return false;
+        }
+        match number_at(&self.memory, kind, address(self.regs.get(base), offset)) {
+            Ok(number) => {
+                self.regs.set(rd, extended(kind, number));
+                position.gas -= cost;
+                position.offset = position.offset.wrapping_add(4);
+                true
+            }
+            Err(_) => false,
+        }
+    }
+
+    /// Makes the step of a store. False where memory refuses it or runs out, or less gas is left than it costs; then
+    /// nothing changes.
+    #[inline(always)]
+    pub(crate) fn try_store(
+        &mut self,
+        kind: StoreKind,
+        source: Reg,
+        base: Reg,
+        offset: Immediate,
+        first: u32,
+        position: &mut Position,
+    ) -> bool
+        ensures { MeetsTry result (Some (Store kind source base offset)) (machine_at self.old first position.old) (machine_at self.new first position.new) }
+    {
+        let cost = cost(&Instr::Store {
+            kind,
+            source,
+            base,
+            offset,
+        });
+        if position.gas < cost {
+            return false;
+        }
+        let address = address(self.regs.get(base), offset);
+        let value = self.regs.get(source);
+        match store_number(&mut self.memory, kind, address, value) {
+            Ok(()) => {
+                position.gas -= cost;
+                position.offset = position.offset.wrapping_add(4);
+                true
+            }
+            Err(_) => false,
+        }
+    }
+}
+
+impl Machine {
+    /// Makes steps in a page of code, up to the first that leaves the page or is not made here. It says whether the
+    /// machine stands at an ECALL then. It is a function of its own, since its loop runs faster without the calls of
+    /// the machine's other loop.
+    #[inline(never)]
+    fn execute_in_page(&mut self, code: &Page, first: u32) -> bool
+        requires code { IsCode self.old.memory first code.now }
+        requires even { self.old.pc % 4 ≡ 0 }
+        ensures reached { (n : ℕ) × Reaches n self.old self.new }
+        ensures ecall { OnTrue result (instruction_at self.new ≡ Some Ecall) }
+    {
+        let mut position = Position {
+            offset: u64::from(self.pc.wrapping_sub(first)),
+            gas: self.gas.left(),
+        };
+        while position.offset < PAGE {
+            let word = word_in(code, position.offset as usize);
+            if !self.step_word(word, first, &mut position) {
+                self.stand_at(first, position);
+                return word == ECALL;
+            }
+        }
+        self.stand_at(first, position);
+        false
+    }
+
+    /// Puts the machine where a position is in the page of this first address.
+    #[inline(always)]
+    fn stand_at(&mut self, first: u32, position: Position)
+        ensures { self.new ≡ machine_at self.old first position }
+    {
+        self.pc = position.pc(first);
+        self.gas = Meter::new(position.gas);
+    }
+
+    /// Makes steps in the page of the pc where that is a page of code, as `execute_in_page` does.
+    fn execute_in_code(&mut self) -> bool
+        ensures reached { (n : ℕ) × Reaches n self.old self.new }
+        ensures ecall { OnTrue result (instruction_at self.new ≡ Some Ecall) }
+    {
+        let pc = self.pc;
+        if pc % 4 != 0 {
+            return false;
+        }
+        match self.memory.code_page(pc) {
+            Some(page) => self.execute_in_page(page.bytes(), pc - pc % PAGE as u32),
+            None => false,
+        }
+    }
+
+    /// Makes steps in the page of the pc, and then one more if the machine does not stand at an ECALL. Refused where
+    /// memory ran out; then the machine stands before the instruction that needed memory.
+    pub(crate) fn execute_next(&mut self) -> Result<InstructionOutcome, AllocError>
+        ensures { MeetsInstructions result self.old self.new }
+    {
+        if self.execute_in_code() {
+            return Ok(InstructionOutcome::StorageCall);
+        }
+        self.execute_instruction()
+    }
+}
