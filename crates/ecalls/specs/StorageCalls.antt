@@ -11,8 +11,8 @@ use Rattle.rv_mem.specs.declared.access.Access.TheVariants as access
 use Rattle.rv_mem.specs.Space.{Space, bytes_at, allows_range}
 use Rattle.ecalls.specs.declared.storage_call.StorageCall.{StorageCall}
 use Rattle.ecalls.specs.declared.storage_call.StorageCall.TheVariants as call
-use Rattle.ecalls.specs.declared.request_kind.Request.{Request}
-use Rattle.ecalls.specs.declared.request_kind.Request.TheVariants as request
+use Rattle.ecalls.specs.declared.request_kind.StorageRequest.{StorageRequest}
+use Rattle.ecalls.specs.declared.request_kind.StorageRequest.TheVariants as request
 
 -- the registers that a storage call reads
 abbrev pub a0 : List ℕ → ℕ
@@ -126,7 +126,7 @@ has_rights call.Revert r memory = is_readable memory (a0 r) (a1 r)
 has_rights call.Add r memory = is_readable memory (a0 r) 32
 
 -- what a call asks for, with the bytes that it names
-abbrev pub request_with : StorageCall → List ℕ → Space → Request
+abbrev pub request_with : StorageCall → List ℕ → Space → StorageRequest
 request_with call.Read r memory = request.Read (bytes_at memory (a0 r) 32)
 request_with call.Write r memory = request.Write (record { key = bytes_at memory (a0 r) 32; change = change.Value (bytes_at memory (a1 r) (a2 r)) })
 request_with call.Remove r memory = request.Write (record { key = bytes_at memory (a0 r) 32; change = change.Gone })
@@ -135,14 +135,14 @@ request_with call.Revert r memory = request.Revert (bytes_at memory (a0 r) (a1 r
 request_with call.Add r memory = request.Add (bytes_at memory (a0 r) 32) (added_amount r)
 
 -- what a call asks for, or MemoryFault where it lacks a right
-abbrev pub request_by : StorageCall → List ℕ → Space → Result Request Trap
+abbrev pub request_by : StorageCall → List ℕ → Space → Result StorageRequest Trap
 request_by call registers memory =
     if has_rights call registers memory then Ok (request_with call registers memory) else Err MemoryFault
 
-abbrev pub request_asked : List ℕ → Space → Result StorageCall Trap → Result Request Trap
+abbrev pub request_asked : List ℕ → Space → Result StorageCall Trap → Result StorageRequest Trap
 request_asked registers memory (Err trap) = Err trap
 request_asked registers memory (Ok call) = request_by call registers memory
 
 -- what an ECALL asks for, or its first trap: by number, length and rights
-unfoldable pub request_of : List ℕ → Space → Rules → Result Request Trap
+unfoldable pub request_of : List ℕ → Space → Rules → Result StorageRequest Trap
 request_of registers memory rules = request_asked registers memory (requested_call registers rules)

@@ -7,7 +7,7 @@ mod requests;
 mod storage_call;
 
 pub use copies::{bytes_at, key_at};
-pub use request_kind::Request;
+pub use request_kind::StorageRequest;
 pub use requests::request;
 pub use rv_ledger::{Rules, Trap, Writes};
 pub use storage_call::{

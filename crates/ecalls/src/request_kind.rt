@@ -1,10 +1,10 @@
-//! The kinds of requests.
+//! What the storage calls ask for.
 
 use rv_ledger::{Key, Output, Write};
 
 /// What a storage call asks for, with the bytes that it names in memory.
 #[derive(Debug, Drop)]
-pub enum Request {
+pub enum StorageRequest {
     /// The value of a key.
     Read(Key),
     /// A write or a removal.

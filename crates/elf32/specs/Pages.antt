@@ -4,7 +4,7 @@ use Rattle.std.specs.Prelude.{◌≡◌, ◌≤◌, ◌<◌, ℕ, ◌+◌, ◌-�
 use Rattle.std.specs.List.{range_with_len}
 use Rattle.std.specs.Option.{option_map_or}
 use Rattle.elf32.specs.Extent.{first_address, memory_size, page_count, page_size}
-use Rattle.elf32.specs.declared.pages.BasePages.{BasePages}
+use Rattle.elf32.specs.declared.base_pages.BasePages.{BasePages}
 use Rattle.elf32.specs.declared.segment.Rights.{Rights}
 use Rattle.elf32.specs.declared.segment.Segment.{Segment}
 

@@ -1,6 +1,6 @@
 //! A loaded program.
 
-use crate::pages::{BasePages, base_pages};
+use crate::base_pages::{BasePages, base_pages};
 use crate::segment::Segment;
 use std::alloc::{AllocError, Global};
 use std::marker::Model;

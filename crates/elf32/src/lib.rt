@@ -2,13 +2,13 @@
 //! the file of an assembled program.
 #![tactic(auto)]
 
+mod base_pages;
 pub mod bytes;
 mod error;
 pub mod extent;
 mod header;
 mod header_faults;
 mod image;
-mod pages;
 mod reading;
 mod rights;
 mod segment;
@@ -17,9 +17,9 @@ mod table;
 mod words;
 mod writing;
 
+pub use base_pages::{BasePages, Page};
 pub use error::ElfError;
 pub use image::Image;
-pub use pages::{BasePages, Page};
 pub use reading::load;
 pub use segment::{Content, Rights, Segment};
 pub use words::{PlacedWord, words_ascend, words_stand_in_segments};

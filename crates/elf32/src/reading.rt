@@ -18,11 +18,11 @@ use crate::segment::{Content, Rights, Segment};
 use crate::segment_faults::{
     has_bad_entry, has_bad_range, has_bad_type, is_out_of_order, is_write_execute, shares_page,
 };
-use crate::table::{loads, program_headers};
+use crate::table::program_headers;
 use std::alloc::{AllocError, Global};
 
 /// The least-numbered fault from BadType on, or None where none of them holds.
-#[tactic(auto, unfolding(crate::specs::Faults::has_bad_type, crate::specs::Faults::has_bad_range, crate::specs::Faults::is_out_of_order, crate::specs::Faults::shares_page, crate::specs::Faults::is_write_execute, crate::specs::Faults::has_bad_entry))]
+#[tactic(auto, unfolding(crate::specs::Faults::loads, crate::specs::Faults::has_bad_type, crate::specs::Faults::has_bad_range, crate::specs::Faults::is_out_of_order, crate::specs::Faults::shares_page, crate::specs::Faults::is_write_execute, crate::specs::Faults::has_bad_entry))]
 fn segment_fault(bytes: &[u8]) -> Option<ElfError>
     requires { IsReadable bytes.now }
     ensures value { result ≡ segment_fault bytes.now }
@@ -30,7 +30,7 @@ fn segment_fault(bytes: &[u8]) -> Option<ElfError>
     ensures in_range { IfNone result (has_bad_range bytes.now ≡ false) }
 {
     let headers = program_headers(bytes);
-    let loads = loads(bytes);
+    let loads = headers.loads();
     if has_bad_type(headers.as_slice()) {
         Some(ElfError::BadType)
     } else if has_bad_range(loads.as_slice(), bytes.len()) {
@@ -115,12 +115,13 @@ fn segments(
 }
 
 /// The program that a file without a fault stands for; refused where memory ran out.
+#[tactic(auto, unfolding(crate::specs::Faults::loads))]
 fn image(alloc: Global, bytes: &[u8]) -> Result<Image, AllocError>
     requires readable { IsReadable bytes.now }
     requires in_range { has_bad_range bytes.now ≡ false }
     ensures { IfOk result (λ i. i ≡ layout_of bytes.now) }
 {
-    let loads = loads(bytes);
+    let loads = program_headers(bytes).loads();
     let segments = segments(alloc, bytes, loads.as_slice())?;
     Image::new(alloc, word_at(bytes, E_ENTRY), segments)
 }

@@ -1,8 +1,8 @@
 //! The program headers of one file.
 
-ghost use Rattle.std.specs.Prelude.{◌≡◌, ◌<◌, [], ◌∷◌, ◌++◌, length, filter};
+ghost use Rattle.std.specs.Prelude.{◌≡◌, ◌<◌, ◌≤◌, [], ◌∷◌, ◌++◌, length, filter};
 ghost use Rattle.elf32.specs.Header.{program_headers};
-ghost use Rattle.elf32.specs.Faults.{is_load, loads};
+ghost use Rattle.elf32.specs.Faults.{is_load};
 ghost use Rattle.elf32.specs.Readable.{IsReadable};
 
 use crate::header::{
@@ -63,11 +63,25 @@ impl Table {
         self.count += 1;
     }
 
-    /// The program headers in order.
+    /// The program headers in order, at most eight.
     pub(crate) fn as_slice(&self) -> &[ProgramHeader]
-        ensures { result.now ≡ self.now }
+        ensures value { result.now ≡ self.now }
+        ensures few { length result.now ≤ 8 }
     {
         &self.items[..self.count]
+    }
+
+    /// The PT_LOADs among them, in order.
+    pub(crate) fn loads(&self) -> Table
+        ensures { result ≡ filter is_load self.now }
+    {
+        let mut loads = Table::new();
+        for header in self.as_slice() {
+            if header.p_type == PT_LOAD {
+                loads.push(*header);
+            }
+        }
+        loads
     }
 }
 
@@ -84,19 +98,4 @@ pub(crate) fn program_headers(bytes: &[u8]) -> Table
         table.push(header_from(bytes, start + PROGRAM_HEADER_SIZE * n));
     }
     table
-}
-
-/// The PT_LOADs of the file, in order.
-#[tactic(auto, unfolding(crate::specs::Faults::loads))]
-pub(crate) fn loads(bytes: &[u8]) -> Table
-    requires { IsReadable bytes.now }
-    ensures { result ≡ loads bytes.now }
-{
-    let mut loads = Table::new();
-    for header in program_headers(bytes).as_slice() {
-        if header.p_type == PT_LOAD {
-            loads.push(*header);
-        }
-    }
-    loads
 }

@@ -1,5 +1,5 @@
 -- The slots at all keys, by key and by place.
-use Rattle.std.proofs.Common.{◌≡◌, ◌==◌, ◌<◌, ◌&&◌, ◌++◌, ℕ, suc, length, if◌then◌else◌, Bool, true, false, cond, List, [], ◌∷◌, ◌≢◌, ◌⊎◌, Option, None, Some, is_some, IsSome, Result, Ok, Err, OnOk, OnErr, inl, inr, refl, sym, ap, ◌∙◌, arith}
+use Rattle.std.proofs.Common.{◌≡◌, ◌==◌, ◌&&◌, ◌++◌, ℕ, if◌then◌else◌, Bool, true, false, cond, List, [], ◌∷◌, ◌≢◌, ◌⊎◌, Option, None, Some, is_some, IsSome, Result, Ok, Err, OnOk, OnErr, inl, inr, refl, sym, ap, ◌∙◌, arith}
 use mathlib.Core.Bool.{false≢true}
 use Rattle.std.specs.declared.cmp.Ordering.{Ordering}
 use Rattle.std.specs.declared.cmp.Ordering.TheVariants.{Less, Equal, Greater}
@@ -22,10 +22,10 @@ use Rattle.rv_ledger.specs.Key.{key_cmp}
 use Rattle.version_arena.specs.ArenaState.{Record}
 use Rattle.mvmap.specs.Versions.{Place, place_cmp}
 use Rattle.mvmap.specs.Slots.{Slots, ByKey, IsOpened, at_places, entry_of, flat, slot_at, value_over, value_over_slots}
-use Rattle.mvmap.specs.Writers.{ByWriter, AreAscending, slot_of, writer_at}
+use Rattle.mvmap.specs.Writers.{ByWriter, AreAscending, slot_of}
 use Rattle.mvmap.specs.declared.slot.Slot.{Slot}
 use Rattle.mvmap.specs.declared.slot.Slot.TheVariants as slot
-use Rattle.mvmap.proofs.Places.{by_writer, less_is, place_itself, same_place}
+use Rattle.mvmap.proofs.Places.{by_writer, place_itself, same_place}
 
 -- the slot of a writer at a key, found by key first
 abbrev pub nested_at : ByKey → List ℕ → ℕ → Option Slot
@@ -97,14 +97,11 @@ flat_at (e ∷ es) order key w =
 
 -- ---- the order of places
 
-ascending_tail : (s : ℕ × Slot) (ws : ByWriter) → AreAscending (s ∷ ws) → AreAscending ws
-ascending_tail s ws up i j l in_range = up (suc i) (suc j) (omega arith) (omega arith)
-
 -- below the places of higher writers at the key, and below those after them
-below_writers : (key : List ℕ) (w : ℕ) (ws : ByWriter) (rest : Slots) → ((k : ℕ) → k < length ws → w < writer_at ws k) → AllByRecursion (λ y. place_cmp (key, w) y ≡ Less) (keys_of rest)
+below_writers : (key : List ℕ) (w : ℕ) (ws : ByWriter) (rest : Slots) → AllByRecursion (λ v. nat_cmp w v ≡ Less) (keys_of ws) → AllByRecursion (λ y. place_cmp (key, w) y ≡ Less) (keys_of rest)
     → AllByRecursion (λ y. place_cmp (key, w) y ≡ Less) (keys_of (at_places key ws ++ rest))
 below_writers key w [] rest lower h = h
-below_writers key w (s ∷ ws) rest lower h = (by_writer key w s.0 ∙ less_is w s.0 (lower 0 (omega arith)), below_writers key w ws rest (λ k l. lower (suc k) (omega arith)) h)
+below_writers key w (s ∷ ws) rest lower h = (by_writer key w s.0 ∙ lower.0, below_writers key w ws rest lower.1 h)
 
 -- below all places of a higher key, and below those after them
 below_key : (key : List ℕ) (w : ℕ) (k : List ℕ) (ws : ByWriter) (rest : Slots) → key_cmp key k ≡ Less → AllByRecursion (λ y. place_cmp (key, w) y ≡ Less) (keys_of rest)
@@ -121,7 +118,7 @@ one_key_sorted : (key : List ℕ) (ws : ByWriter) (rest : Slots) → AreAscendin
 unfolding IsStrictlySortedBy
 one_key_sorted key [] rest up above sorted = sorted
 one_key_sorted key (s ∷ ws) rest up above sorted =
-    (below_writers key s.0 ws rest (λ k l. up 0 (suc k) (omega arith) (omega arith)) (above s.0), one_key_sorted key ws rest (ascending_tail s ws up) above sorted)
+    (below_writers key s.0 ws rest up.0 (above s.0), one_key_sorted key ws rest up.1 above sorted)
 
 -- the writers rise at each key
 abbrev pub AreAllAscending : ByKey → Type 0

@@ -38,9 +38,6 @@ pub by_writer : (key : List ℕ) (a b : ℕ) → place_cmp (key, a) (key, b) ≡
 by_writer key a b = ap (λ r. ordering_then r (nat_cmp a b)) (tied_itself nat_list_cmp_total key)
 
 -- how two numbers compare
-pub less_is : (a b : ℕ) → a < b → nat_cmp a b ≡ Less
-less_is a b l = by_ranked (a < b) (a ≡ b) (b < a) (nat_cmp a b) (ranked a b (nat_cmp a b) refl) (λ e _. e) (λ _ p. absurd (omega arith)) (λ _ p. absurd (omega arith))
-
 pub is_less : (a b : ℕ) → nat_cmp a b ≡ Less → a < b
 is_less a b h = by_ranked (a < b) (a ≡ b) (b < a) (nat_cmp a b) (ranked a b (nat_cmp a b) refl) (λ _ p. p) (λ e _. cc) (λ e _. cc)
 

@@ -7,7 +7,7 @@ use Rattle.rv_ledger.specs.Change.{Content, add, number_in, wrapping_sum}
 use Rattle.read_set.specs.declared.origin.Version.{Version}
 use Rattle.mvmap.specs.Answers.{Tells, with_amount}
 use Rattle.mvmap.specs.declared.answer.Answer.TheVariants as answer
-use Rattle.mvmap.specs.Laws.{SumsAddUp, amount_passed, amount_with, content_below}
+use Rattle.mvmap.specs.Laws.{SumsAddUp, amount_passed, total_amount, content_below}
 use Rattle.mvmap.specs.Reading.{Visible, Base, Found, Blocked, Passed, blocker, bottom_in, passed_in, value_seen}
 
 -- the number in a value that a sum made is that sum
@@ -24,11 +24,11 @@ unfolding add
 add_twice content a s = ap (λ n. to_le_bytes w64 (wrapping_sum n s)) (number_of_sum content a) ∙ ap (to_le_bytes w64) (wraps (number_in content) a s)
 
 -- an amount, and those that were passed before it
-pub more_passed : (content : Content) (a : ℕ) (sum : Option ℕ) → with_amount (Some (add content a)) sum ≡ with_amount content (Some (amount_with a sum))
+pub more_passed : (content : Content) (a : ℕ) (sum : Option ℕ) → with_amount (Some (add content a)) sum ≡ with_amount content (Some (total_amount a sum))
 more_passed content a None = refl
 more_passed content a (Some s) = ap Some (add_twice content a s)
 
-before_it : (content : Content) (a : ℕ) (sum : Option ℕ) → Some (add (with_amount content sum) a) ≡ with_amount content (Some (amount_with a sum))
+before_it : (content : Content) (a : ℕ) (sum : Option ℕ) → Some (add (with_amount content sum) a) ≡ with_amount content (Some (total_amount a sum))
 before_it content a None = refl
 before_it content a (Some s) = ap Some (add_twice content s a ∙ ap (add content) (swapped s a))
   where
@@ -63,7 +63,7 @@ walk_begins seen i passed none = record {
 module _ (seen : ℕ → Visible) (i below : ℕ) (passed : List Version) (sum : Option ℕ) (h : HasPassed seen i below passed sum) where
   -- past one more version
   pub walk_passes : (version : Version) (amount : ℕ) → version.writer < below → seen below ≡ Passed version.writer version.incarnation amount (seen version.writer)
-      → HasPassed seen i version.writer (passed ++ version ∷ []) (Some (amount_with amount sum))
+      → HasPassed seen i version.writer (passed ++ version ∷ []) (Some (total_amount amount sum))
   walk_passes version amount lower is = record {
     count = omega (arith, h.count, length-append passed (version ∷ []));
     blocked = h.blocked ∙ ap blocker is;

@@ -16,7 +16,7 @@ use Rattle.mvmap.specs.declared.slot.Slot.{Slot}
 use Rattle.mvmap.specs.declared.slot.Slot.TheVariants as slot
 use Rattle.mvmap.proofs.Places.{get_versions}
 use Rattle.mvmap.proofs.Readings.{seen_at, seen_none, seen_same}
-use Rattle.mvmap.proofs.Searches.{found_at, kept_at}
+use Rattle.mvmap.proofs.Searches.{ascending_at, found_at, kept_at}
 
 -- the slots before a place are of lower calls, and those of lower calls from it on are vacant
 pub record IsWalked (ws : ByWriter) (i place : ℕ) : Type 0 where
@@ -42,7 +42,7 @@ module _ (rs : List Record) where
       let in_range : place - 1 < length ws = omega (arith, h.in_range) in
       let here : e ≡ get_or ws (place - 1) (0, slot.Vacant) = is ∙ get_or_default ws (place - 1) e (0, slot.Vacant) in_range in
       let writer : writer_at ws (place - 1) ≡ e.0 = ap (λ (x : ℕ × Slot). x.0) (sym here) in
-      let found : slot_of ws e.0 ≡ Some e.1 = found_at ws up e.0 (place - 1) (record { in_range = in_range; of_writer = writer }) ∙ ap (λ (x : ℕ × Slot). Some x.1) (sym here) in
+      let found : slot_of ws e.0 ≡ Some e.1 = found_at ws up e.0 (place - 1) (record { in_range = in_range; of_key = λ d. ap (λ (x : ℕ × Slot). x.0) (get_or_default ws (place - 1) d (0, slot.Vacant) in_range) ∙ writer }) ∙ ap (λ (x : ℕ × Slot). Some x.1) (sym here) in
       let below : e.0 < i = let l = h.lower (place - 1) (omega arith) in omega (arith, l, writer) in (
         found,
         seen_at (entries_in rs ws) i e.0 below (λ w above lower. no_entry ws w (λ j l same. elim (cases_lt j place) [
@@ -55,7 +55,7 @@ module _ (rs : List Record) where
     where
       not_above : (ws : ByWriter) → AreAscending ws → (place j : ℕ) → j ≤ place → (w : ℕ) → writer_at ws j ≡ w → writer_at ws place < w → place < length ws → ⊥
       not_above ws up place j l w e above in_range = elim (cases_lt j place) [
-        | inl less ↦ omega (arith, up j place less in_range, e, above)
+        | inl less ↦ omega (arith, ascending_at ws up j place less in_range, e, above)
         | inr same ↦ let p : j ≡ place = omega arith in omega (arith, ap (writer_at ws) p, e, above)
       ]
 
@@ -73,7 +73,7 @@ walk_starts ws i place in_range cut = record {
 
 -- the writers do not fall, as the search for those below a call asks
 pub parted : (ws : ByWriter) (i : ℕ) → AreAscending ws → IsPartitionedBy (λ e. ltb e.0 i) ws
-parted ws i up = IsPartitionedBy-ltb (λ e. e.0) ws i (IsNonDecreasingBy-from_default (λ e. e.0) ws (0, slot.Vacant) (λ i j le in_range. grind (arith, up i j, λ (same : i ≡ j). ap (writer_at ws) same)))
+parted ws i up = IsPartitionedBy-ltb (λ e. e.0) ws i (IsNonDecreasingBy-from_default (λ e. e.0) ws (0, slot.Vacant) (λ i j le in_range. grind (arith, ascending_at ws up i j, λ (same : i ≡ j). ap (writer_at ws) same)))
 
 -- what is seen of a key is seen in its slots
 pub seen_at_key : (rs : List Record) (es : Slots) (key : List ℕ) (ws : ByWriter) → ((w : ℕ) → slot_at es (key, w) ≡ slot_of ws w) → (i : ℕ) → seen_in rs ws i ≡ reading (versions_of rs es) key i

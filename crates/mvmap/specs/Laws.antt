@@ -39,16 +39,16 @@ content_below base (Blocked writer) = base
 content_below base (Passed writer incarnation amount below) = content_below base below
 
 -- an amount, and a sum of amounts if there is one
-abbrev pub amount_with : ℕ → Option ℕ → ℕ
-amount_with amount None = amount
-amount_with amount (Some sum) = wrapping_sum amount sum
+abbrev pub total_amount : ℕ → Option ℕ → ℕ
+total_amount amount None = amount
+total_amount amount (Some sum) = wrapping_sum amount sum
 
 -- the sum of the amounts that were passed, which wraps at 2^64; None where nothing was
 abbrev pub amount_passed : Visible → Option ℕ
 amount_passed Base = None
 amount_passed (Found writer incarnation content) = None
 amount_passed (Blocked writer) = None
-amount_passed (Passed writer incarnation amount below) = Some (amount_with amount (amount_passed below))
+amount_passed (Passed writer incarnation amount below) = Some (total_amount amount (amount_passed below))
 
 -- one addition of that sum gives what adding the amounts in turn gives
 abbrev pub SumsAddUp : Type 0

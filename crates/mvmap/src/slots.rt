@@ -47,6 +47,7 @@ impl Slots {
     }
 
     /// The slots at a key, each after the index of its call, and ascending by it.
+    #[tactic(auto, using(crate::proofs::Searches::no_writers))]
     pub(crate) fn at(&self, key: &Key) -> &[(u16, Slot)]
         ensures slots { (w : ℕ) → slot_at self.now (key.now, w) ≡ slot_of result.now w }
         ensures ascending { AreAscending result.now }

@@ -4,7 +4,7 @@ ghost use Rattle.std.specs.Prelude.{◌≡◌, ◌≤◌, ℕ, IfSome, List, Opt
 ghost use Rattle.std.specs.Option.{option_copied};
 ghost use Rattle.read_set.specs.declared.origin.Version.{Version};
 ghost use Rattle.mvmap.specs.Answers.{Tells, with_amount};
-ghost use Rattle.mvmap.specs.Laws.{amount_with};
+ghost use Rattle.mvmap.specs.Laws.{total_amount};
 ghost use Rattle.mvmap.specs.Reading.{Found, Passed, Visible, is_origin, is_walk};
 ghost use Rattle.mvmap.specs.Slots.{ArePlacedIn, seen_in, walk_after};
 ghost use Rattle.mvmap.specs.Writers.{AreAscending};
@@ -40,7 +40,7 @@ pub(crate) fn walk(
             Nearest::Waiting(writer) => return Answer::Estimate(writer),
             Nearest::Standing(version, Change::Sum(amount)) => {
                 passed.push_reserved(version);
-                sum = Some(amount_with(amount, sum));
+                sum = Some(total_amount(amount, sum));
                 below = version.writer;
             }
             Nearest::Standing(version, Change::Value(bytes)) => {
@@ -98,8 +98,8 @@ fn is_end(left: &[Version], bottom: Option<Version>, version: Version) -> bool
 }
 
 /// The sum of an amount and of those before it, modulo 2^64.
-fn amount_with(amount: u64, sum: Option<u64>) -> u64
-    ensures { result ≡ amount_with amount sum }
+fn total_amount(amount: u64, sum: Option<u64>) -> u64
+    ensures { result ≡ total_amount amount sum }
 {
     match sum {
         Some(sum) => wrapping_sum(amount, sum),

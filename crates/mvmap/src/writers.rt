@@ -2,7 +2,8 @@
 
 ghost use Rattle.std.specs.Prelude.{◌≡◌, ◌==◌, ℕ, [], IfErr, IfOk, IsSome, Ok, OnErr, OnOk, Some, if◌then◌else◌};
 ghost use Rattle.std.specs.Option.{option_map, unwrap_or};
-ghost use Rattle.mvmap.specs.Writers.{AreAscending, IsAt, IsGapFor, slot_of};
+ghost use Rattle.rv_ledger.specs.Entries.{IsAt};
+ghost use Rattle.mvmap.specs.Writers.{AreAscending, IsGapFor, slot_of};
 ghost use Rattle.mvmap.specs.declared.slot.Slot.TheVariants.{Vacant};
 
 use crate::slot::Slot;
@@ -28,6 +29,7 @@ impl Model for WriterSlots {
 
 impl WriterSlots {
     /// No slots. Takes no memory.
+    #[tactic(auto, using(crate::proofs::Searches::no_writers))]
     pub(crate) fn new(alloc: Global) -> WriterSlots
         ensures { result ≡ [] }
     {

@@ -1,5 +1,5 @@
 -- A map of entries as a finite map: its values, one entry set, one gone, and its entries in order.
-use Rattle.std.proofs.Common.{◌≡◌, ◌+◌, ◌<◌, ◌≤◌, arith, length, nat_lt, is_some, if◌then◌else◌, ◌||◌, ℕ, List, [], ◌∷◌, Option, Some, None, Bool, true, false, ◌&&◌, cond, refl, sym, ap, subst, ◌∙◌, T}
+use Rattle.std.proofs.Common.{◌≡◌, ◌+◌, ◌<◌, ◌≤◌, arith, length, nat_lt, is_some, if◌then◌else◌, ◌||◌, ℕ, List, [], ◌∷◌, Option, Some, None, Result, Ok, Err, OnErr, Bool, true, false, ◌&&◌, cond, refl, sym, ap, subst, ◌∙◌, T}
 use Rattle.std.specs.declared.cmp.Ordering.TheVariants.{Less}
 use Rattle.std.specs.List.{AllByRecursion, fold}
 use Rattle.std.specs.List.Sorted.{IsStrictlySortedBy}
@@ -124,3 +124,8 @@ pub room_by_key : (es : List (List ℕ × ContentChange)) (key : List ℕ) (n : 
 room_by_key es key n m up is count many =
     let test : nat_lt (length es) 256 ≡ false = grind (arith, nat_tests) in
     or_false (is_some (get m key)) (nat_lt (len m) 256) (ap (λ (w : WriteMap). nat_lt (len w) 256) (sym is) ∙ ap (λ k. nat_lt k 256) (len_in_order es up) ∙ test)
+
+-- what holds anyway holds where something is refused
+pub on_err : {A E P : Type 0} (r : Result A E) → P → OnErr r P
+on_err (Ok x) p = tt
+on_err (Err e) p = p

@@ -1,5 +1,6 @@
--- Entries in the order of their keys; only private functions and the model of `Writes` use this.
+-- Entries in the order of their keys; only private functions, of mvmap too, and the model of `Writes` use this.
 use Rattle.std.specs.Prelude.{◌≡◌, ◌<◌, ◌≤◌, ℕ, List, length, slice_get, Some}
+use Rattle.std.specs.declared.cmp.Ordering.{Ordering}
 use Rattle.std.specs.declared.cmp.Ordering.TheVariants.{Greater, Less}
 use Rattle.std.specs.List.{HoldsAt}
 use Rattle.std.specs.List.Sorted.{IsStrictlySortedBy}
@@ -17,12 +18,15 @@ pub record IsWriteList (entries : List (List ℕ × ContentChange)) : Type 0 whe
   pub few : length entries ≤ 256
 
 -- the entry at place i is the key's
-pub record IsAt {X : Type 0} (entries : List (List ℕ × X)) (key : List ℕ) (i : ℕ) : Type 0 where
+pub record IsAt {K X : Type 0} (entries : List (K × X)) (key : K) (i : ℕ) : Type 0 where
   pub in_range : i < length entries
   pub of_key : HoldsAt (λ e. e.0 ≡ key) entries i
 
--- the key's entry would go at place i: lower keys before it, and a higher one at it
-pub record IsGapFor {X : Type 0} (entries : List (List ℕ × X)) (key : List ℕ) (i : ℕ) : Type 0 where
+-- by the order cmp of keys, the key's entry would go at place i: lower keys before it, and a higher one at it
+pub record IsGapBy {K X : Type 0} (cmp : K → K → Ordering) (entries : List (K × X)) (key : K) (i : ℕ) : Type 0 where
   pub in_range : i ≤ length entries
-  pub lower_before : (j : ℕ) (e : List ℕ × X) → j < i → slice_get entries j ≡ Some e → key_cmp key e.0 ≡ Greater
-  pub higher_at : (e : List ℕ × X) → slice_get entries i ≡ Some e → key_cmp key e.0 ≡ Less
+  pub lower_before : (j : ℕ) (e : K × X) → j < i → slice_get entries j ≡ Some e → cmp key e.0 ≡ Greater
+  pub higher_at : (e : K × X) → slice_get entries i ≡ Some e → cmp key e.0 ≡ Less
+
+abbrev pub IsGapFor : {X : Type 0} → List (List ℕ × X) → List ℕ → ℕ → Type 0
+IsGapFor entries key i = IsGapBy key_cmp entries key i

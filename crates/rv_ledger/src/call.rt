@@ -85,7 +85,7 @@ impl Call {
             rules,
             image,
             gas,
-            input: kept(input),
+            input: stored_input(input),
         })
     }
 
@@ -134,7 +134,7 @@ impl Call {
 }
 
 /// The bytes of an input as a call keeps them: a short one in place. Takes no memory.
-fn kept(input: Vec<u8>) -> SmallVec<u8, SHORT_INPUT>
+fn stored_input(input: Vec<u8>) -> SmallVec<u8, SHORT_INPUT>
     ensures { result.items ≡ input.items }
 {
     if input.len() <= SHORT_INPUT {

@@ -18,7 +18,7 @@ pub enum Trap {
     UnknownCall,
     /// The length of a storage call is above its limit.
     BadLength,
-    /// A write or a removal of a key, where the call has written 256 other keys.
+    /// A write, a removal or an addition to a key, where the call has written 256 other keys.
     TooManyWrites,
 }
 

@@ -29,7 +29,7 @@ impl Model for Store {
 }
 
 impl Store {
-    ghost use Rattle.std.specs.Prelude.{◌≡◌, OnOk, OnErr, IfOk};
+    ghost use Rattle.std.specs.Prelude.{◌≡◌, None, OnOk, OnErr, IfOk};
     ghost use Rattle.std.specs.Option.{option_copied};
     ghost use Rattle.std.specs.FinMap as map;
     ghost use Rattle.rv_ledger.specs.Change.{add};
@@ -90,10 +90,12 @@ impl Store {
         self.insert(*key, value)
     }
 
-    /// Sets the value at a key; refused where memory ran out, and then nothing changes.
-    fn put(&mut self, key: Key, value: StoredValue) -> Result<(), AllocError>
+    /// Sets the value at a key, which is moved in. Refused where memory ran out, and then nothing changes; only an
+    /// absent key takes memory.
+    pub fn put(&mut self, key: Key, value: StoredValue) -> Result<(), AllocError>
         ensures ok { OnOk result (self.new ≡ map.insert self.old key value) }
         ensures err { OnErr result (self.new ≡ self.old) }
+        ensures absent { OnErr result (map.get self.old key ≡ None) }
     {
         self.entries.insert(key, value)?;
         Ok(())

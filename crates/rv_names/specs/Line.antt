@@ -7,8 +7,8 @@ use Rattle.rv_names.specs.Mnemonics.{keyword_of}
 use Rattle.rv_names.specs.Statements.{TextLine, saying, statement_of}
 use Rattle.rv_names.specs.declared.keywords.Keyword.{Keyword}
 use Rattle.rv_names.specs.declared.lines.Section.{Section}
-use Rattle.rv_names.specs.declared.lines.Cause.{Cause}
-use Rattle.rv_names.specs.declared.lines.Cause.TheVariants.{UnknownMnemonic, BadOperand}
+use Rattle.rv_names.specs.declared.lines.LineCause.{LineCause}
+use Rattle.rv_names.specs.declared.lines.LineCause.TheVariants.{UnknownMnemonic, BadOperand}
 use Rattle.rv_names.specs.declared.lines.Line.{Line}
 use Rattle.rv_names.specs.declared.lines.Statement.TheVariants.{Empty}
 
@@ -21,7 +21,7 @@ abbrev pub has_label : List ℕ → Bool
 has_label content = list_any (λ b. b == 58) content
 
 -- what stands before the first `:` is the label
-unfoldable pub label_of : List ℕ → Result (Option (List ℕ)) Cause
+unfoldable pub label_of : List ℕ → Result (Option (List ℕ)) LineCause
 label_of content =
     if has_label content then
     (let label = before_first (λ b. b == 58) content in
@@ -40,16 +40,16 @@ abbrev pub rest_of_body : List ℕ → List ℕ
 rest_of_body body = trimmed (after_first is_blank body)
 
 -- the keyword of a statement; None where the statement is empty
-unfoldable pub command_of : List ℕ → Result (Option Keyword) Cause
+unfoldable pub command_of : List ℕ → Result (Option Keyword) LineCause
 command_of body =
     if length body == 0 then Ok None else ok_or (option_map Some (keyword_of (word_of_body body))) UnknownMnemonic
 
-abbrev pub said_by : Section → List ℕ → Option Keyword → Result TextLine Cause
+abbrev pub said_by : Section → List ℕ → Option Keyword → Result TextLine LineCause
 said_by section body None = Ok (saying Empty)
 said_by section body (Some keyword) = statement_of section keyword (rest_of_body body)
 
 -- what a line says, or the least-numbered cause that holds of it
-unfoldable pub line_of : Section → List ℕ → Result (Line (List ℕ)) Cause
+unfoldable pub line_of : Section → List ℕ → Result (Line (List ℕ)) LineCause
 line_of section text =
     let content = content_of text in
     let body = body_of content in

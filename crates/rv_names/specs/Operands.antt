@@ -15,12 +15,12 @@ use Rattle.rv_names.specs.Registers.{register_of}
 use Rattle.rv_names.specs.Numbers.{number_of}
 use Rattle.rv_names.specs.declared.target.Target.{Target}
 use Rattle.rv_names.specs.declared.target.Target.TheVariants.{Number, Label}
-use Rattle.rv_names.specs.declared.lines.Cause.{Cause}
-use Rattle.rv_names.specs.declared.lines.Cause.TheVariants.{BadOperand, ImmediateRange}
+use Rattle.rv_names.specs.declared.lines.LineCause.{LineCause}
+use Rattle.rv_names.specs.declared.lines.LineCause.TheVariants.{BadOperand, ImmediateRange}
 
 -- goes on with f where the first step gave a value; else keeps its cause
 infixl 10 ◌>>=◌
-abbrev pub ◌>>=◌ : {A B : Type 0} → Result A Cause → (A → Result B Cause) → Result B Cause
+abbrev pub ◌>>=◌ : {A B : Type 0} → Result A LineCause → (A → Result B LineCause) → Result B LineCause
 (Ok x) >>= f = f x
 (Err cause) >>= f = Err cause
 
@@ -44,28 +44,28 @@ abbrev pub is_comma : ℕ → Bool
 is_comma b = b == 44
 
 -- the first of several operands, and the text of the others
-abbrev pub first_operand : List ℕ → Result (List ℕ × List ℕ) Cause
+abbrev pub first_operand : List ℕ → Result (List ℕ × List ℕ) LineCause
 first_operand text =
     if list_any is_comma text then Ok (trimmed (before_first is_comma text), after_first is_comma text) else Err BadOperand
 
 -- the last operand
-abbrev pub last_operand : List ℕ → Result (List ℕ) Cause
+abbrev pub last_operand : List ℕ → Result (List ℕ) LineCause
 last_operand text = if list_any is_comma text then Err BadOperand else Ok (trimmed text)
 
 -- exactly this number of operands; an empty text has none
-unfoldable pub no_operand : List ℕ → Result (Unit {0}) Cause
+unfoldable pub no_operand : List ℕ → Result (Unit {0}) LineCause
 no_operand text = if length text == 0 then Ok tt else Err BadOperand
 
-unfoldable pub one_operand : List ℕ → Result (List ℕ) Cause
+unfoldable pub one_operand : List ℕ → Result (List ℕ) LineCause
 one_operand text = if length text == 0 then Err BadOperand else last_operand text
 
-unfoldable pub two_operands : List ℕ → Result (List ℕ × List ℕ) Cause
+unfoldable pub two_operands : List ℕ → Result (List ℕ × List ℕ) LineCause
 two_operands text = do
   first ← first_operand text
   last ← last_operand first.1
   Ok (first.0, last)
 
-unfoldable pub three_operands : List ℕ → Result (List ℕ × List ℕ × List ℕ) Cause
+unfoldable pub three_operands : List ℕ → Result (List ℕ × List ℕ × List ℕ) LineCause
 three_operands text = do
   first ← first_operand text
   second ← first_operand first.1
@@ -81,17 +81,17 @@ is_name_byte b = is_ascii_alphanumeric b || b == 95
 unfoldable pub is_name : List ℕ → Bool
 is_name text = nat_le 1 (length text) && not (is_ascii_digit (slice_index text 0)) && list_all is_name_byte text
 
-abbrev pub register_operand : List ℕ → Result Reg Cause
+abbrev pub register_operand : List ℕ → Result Reg LineCause
 register_operand text = ok_or (register_of text) BadOperand
 
-abbrev pub number_operand : List ℕ → Result ℤ Cause
+abbrev pub number_operand : List ℕ → Result ℤ LineCause
 number_operand text = ok_or (number_of text) BadOperand
 
 -- `N(REGISTER)`, with nothing behind the closing parenthesis
-abbrev pub inside_parenthesis : List ℕ → Result (List ℕ) Cause
+abbrev pub inside_parenthesis : List ℕ → Result (List ℕ) LineCause
 inside_parenthesis rest = if slice_index rest (length rest - 1) == 41 then Ok (take (length rest - 1) rest) else Err BadOperand
 
-unfoldable pub place_operand : List ℕ → Result (ℤ × Reg) Cause
+unfoldable pub place_operand : List ℕ → Result (ℤ × Reg) LineCause
 place_operand text = do
   number ← number_operand (before_first (λ b. b == 40) text)
   name ← inside_parenthesis (after_first (λ b. b == 40) text)
@@ -99,11 +99,11 @@ place_operand text = do
   Ok (number, base)
 
 -- a number, or the name of a label
-abbrev pub target_from : List ℕ → Option ℤ → Result (Target (List ℕ)) Cause
+abbrev pub target_from : List ℕ → Option ℤ → Result (Target (List ℕ)) LineCause
 target_from text (Some n) = Ok (Number n)
 target_from text None = if is_name text then Ok (Label text) else Err BadOperand
 
-unfoldable pub target_operand : List ℕ → Result (Target (List ℕ)) Cause
+unfoldable pub target_operand : List ℕ → Result (Target (List ℕ)) LineCause
 target_operand text = target_from text (number_of text)
 
 -- ---- the ranges of numbers
@@ -112,7 +112,7 @@ abbrev pub is_between : ℤ → ℤ → ℤ → Bool
 is_between low high z = int_le low z && int_le z high
 
 -- -2048 to 2047
-unfoldable pub immediate_of : ℤ → Result Immediate Cause
+unfoldable pub immediate_of : ℤ → Result Immediate LineCause
 immediate_of z = if is_between (negsuc 2047) (pos 2047) z then Ok (immediate_at (residue 12 z)) else Err ImmediateRange
 
 -- -4096 to 4094, and even
@@ -126,17 +126,17 @@ jump_offset_of z =
     if is_between (negsuc 1048575) (pos 1048574) z && residue 1 z == 0 then Some (jump_at (residue 21 z / 2)) else None
 
 -- 0 to 1048575
-unfoldable pub upper_of : ℤ → Result Upper Cause
+unfoldable pub upper_of : ℤ → Result Upper LineCause
 upper_of z = if is_between (pos 0) (pos 1048575) z then Ok (upper_at (unsigned_abs z)) else Err ImmediateRange
 
 -- 0 to 31
-unfoldable pub amount_of : ℤ → Result ShiftAmount Cause
+unfoldable pub amount_of : ℤ → Result ShiftAmount LineCause
 amount_of z = if is_between (pos 0) (pos 31) z then Ok (amount_at (unsigned_abs z)) else Err ImmediateRange
 
 -- -2147483648 to 4294967295, modulo 2^32
-unfoldable pub word_value_of : ℤ → Result ℕ Cause
+unfoldable pub word_value_of : ℤ → Result ℕ LineCause
 word_value_of z = if is_between (negsuc 2147483647) (pos 4294967295) z then Ok (residue 32 z) else Err ImmediateRange
 
 -- 0 to `most`
-unfoldable pub count_of : ℕ → ℤ → Result ℕ Cause
+unfoldable pub count_of : ℕ → ℤ → Result ℕ LineCause
 count_of most z = if is_between (pos 0) (pos most) z then Ok (unsigned_abs z) else Err ImmediateRange

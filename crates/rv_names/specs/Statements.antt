@@ -19,8 +19,8 @@ use Rattle.rv_names.specs.declared.keywords.Keyword.{Keyword}
 use Rattle.rv_names.specs.declared.keywords.Keyword.TheVariants as keyword
 use Rattle.rv_names.specs.declared.lines.Section.{Section}
 use Rattle.rv_names.specs.declared.lines.Section.TheVariants.{Text, Data}
-use Rattle.rv_names.specs.declared.lines.Cause.{Cause}
-use Rattle.rv_names.specs.declared.lines.Cause.TheVariants.{BadOperand, ImmediateRange}
+use Rattle.rv_names.specs.declared.lines.LineCause.{LineCause}
+use Rattle.rv_names.specs.declared.lines.LineCause.TheVariants.{BadOperand, ImmediateRange}
 use Rattle.rv_names.specs.declared.lines.Line.{Line}
 use Rattle.rv_names.specs.declared.lines.Statement.{Statement}
 use Rattle.rv_names.specs.declared.lines.Statement.TheVariants.{Plain, Pair, BranchTo, JumpTo, AddressOf, WordValue, ByteValue, ZeroBytes, Enter}
@@ -52,7 +52,7 @@ load_number rd v = (Lui rd (upper_at (high_of v)), ComputeImmediate Addi rd rd (
 -- ---- instructions
 
 -- `lui rd,N` and `auipc rd,N`
-unfoldable pub lui : List ℕ → Result TextLine Cause
+unfoldable pub lui : List ℕ → Result TextLine LineCause
 lui rest = do
   operands ← two_operands rest
   rd ← register_operand operands.0
@@ -60,7 +60,7 @@ lui rest = do
   immediate ← upper_of n
   Ok (saying (Plain (Lui rd immediate)))
 
-unfoldable pub auipc : List ℕ → Result TextLine Cause
+unfoldable pub auipc : List ℕ → Result TextLine LineCause
 auipc rest = do
   operands ← two_operands rest
   rd ← register_operand operands.0
@@ -69,14 +69,14 @@ auipc rest = do
   Ok (saying (Plain (Auipc rd immediate)))
 
 -- JAL to a target
-abbrev pub jump_to : Reg → Target (List ℕ) → Result TextLine Cause
+abbrev pub jump_to : Reg → Target (List ℕ) → Result TextLine LineCause
 jump_to rd (Number n) = do
   offset ← ok_or (jump_offset_of n) ImmediateRange
   Ok (saying (Plain (Jal rd offset)))
 jump_to rd (Label label) = Ok (naming label (JumpTo rd))
 
 -- `jal rd,TARGET`
-unfoldable pub jal : List ℕ → Result TextLine Cause
+unfoldable pub jal : List ℕ → Result TextLine LineCause
 jal rest = do
   operands ← two_operands rest
   rd ← register_operand operands.0
@@ -84,7 +84,7 @@ jal rest = do
   jump_to rd target
 
 -- `jalr rd,N(rs1)`
-unfoldable pub jalr : List ℕ → Result TextLine Cause
+unfoldable pub jalr : List ℕ → Result TextLine LineCause
 jalr rest = do
   operands ← two_operands rest
   rd ← register_operand operands.0
@@ -93,14 +93,14 @@ jalr rest = do
   Ok (saying (Plain (Jalr rd place.1 offset)))
 
 -- a branch to a target
-abbrev pub branch_to : Condition → Reg → Reg → Target (List ℕ) → Result TextLine Cause
+abbrev pub branch_to : Condition → Reg → Reg → Target (List ℕ) → Result TextLine LineCause
 branch_to condition left right (Number n) = do
   offset ← ok_or (branch_offset_of n) ImmediateRange
   Ok (saying (Plain (Branch condition left right offset)))
 branch_to condition left right (Label label) = Ok (naming label (BranchTo condition left right))
 
 -- `beq rs1,rs2,TARGET`
-unfoldable pub branch : Condition → List ℕ → Result TextLine Cause
+unfoldable pub branch : Condition → List ℕ → Result TextLine LineCause
 branch condition rest = do
   operands ← three_operands rest
   left ← register_operand operands.0
@@ -109,7 +109,7 @@ branch condition rest = do
   branch_to condition left right target
 
 -- `lw rd,N(rs1)`
-unfoldable pub load : LoadKind → List ℕ → Result TextLine Cause
+unfoldable pub load : LoadKind → List ℕ → Result TextLine LineCause
 load kind rest = do
   operands ← two_operands rest
   rd ← register_operand operands.0
@@ -118,7 +118,7 @@ load kind rest = do
   Ok (saying (Plain (Load kind rd place.1 offset)))
 
 -- `sw rs2,N(rs1)`
-unfoldable pub store : StoreKind → List ℕ → Result TextLine Cause
+unfoldable pub store : StoreKind → List ℕ → Result TextLine LineCause
 store kind rest = do
   operands ← two_operands rest
   source ← register_operand operands.0
@@ -127,7 +127,7 @@ store kind rest = do
   Ok (saying (Plain (Store kind source place.1 offset)))
 
 -- `addi rd,rs1,N`
-unfoldable pub compute_immediate : ImmediateOperation → List ℕ → Result TextLine Cause
+unfoldable pub compute_immediate : ImmediateOperation → List ℕ → Result TextLine LineCause
 compute_immediate operation rest = do
   operands ← three_operands rest
   rd ← register_operand operands.0
@@ -137,7 +137,7 @@ compute_immediate operation rest = do
   Ok (saying (Plain (ComputeImmediate operation rd source immediate)))
 
 -- `slli rd,rs1,N`
-unfoldable pub shift_immediate : Shift → List ℕ → Result TextLine Cause
+unfoldable pub shift_immediate : Shift → List ℕ → Result TextLine LineCause
 shift_immediate shift rest = do
   operands ← three_operands rest
   rd ← register_operand operands.0
@@ -147,7 +147,7 @@ shift_immediate shift rest = do
   Ok (saying (Plain (ShiftImmediate shift rd source amount)))
 
 -- `add rd,rs1,rs2`
-unfoldable pub compute : Operation → List ℕ → Result TextLine Cause
+unfoldable pub compute : Operation → List ℕ → Result TextLine LineCause
 compute operation rest = do
   operands ← three_operands rest
   rd ← register_operand operands.0
@@ -156,7 +156,7 @@ compute operation rest = do
   Ok (saying (Plain (Compute operation rd left right)))
 
 -- a statement without operands
-abbrev pub alone : Statement → List ℕ → Result TextLine Cause
+abbrev pub alone : Statement → List ℕ → Result TextLine LineCause
 alone statement rest = do
   none ← no_operand rest
   Ok (saying statement)
@@ -176,7 +176,7 @@ abbrev pub ret : Instr
 ret = Jalr (register_at 0) (register_at 1) (immediate_at 0)
 
 -- `mv rd,rs` is `addi rd,rs,0`
-unfoldable pub mv : List ℕ → Result TextLine Cause
+unfoldable pub mv : List ℕ → Result TextLine LineCause
 mv rest = do
   operands ← two_operands rest
   rd ← register_operand operands.0
@@ -184,20 +184,20 @@ mv rest = do
   Ok (saying (Plain (ComputeImmediate Addi rd source (immediate_at 0))))
 
 -- `j TARGET` is `jal x0,TARGET`
-unfoldable pub j : List ℕ → Result TextLine Cause
+unfoldable pub j : List ℕ → Result TextLine LineCause
 j rest = do
   operand ← one_operand rest
   target ← target_operand operand
   jump_to (register_at 0) target
 
 -- `li rd,N` and `li rd,LABEL`
-abbrev pub load_target : Reg → Target (List ℕ) → Result TextLine Cause
+abbrev pub load_target : Reg → Target (List ℕ) → Result TextLine LineCause
 load_target rd (Number n) = do
   v ← word_value_of n
   Ok (saying (Pair (load_number rd v).0 (load_number rd v).1))
 load_target rd (Label label) = Ok (naming label (AddressOf rd))
 
-unfoldable pub li : List ℕ → Result TextLine Cause
+unfoldable pub li : List ℕ → Result TextLine LineCause
 li rest = do
   operands ← two_operands rest
   rd ← register_operand operands.0
@@ -207,24 +207,24 @@ li rest = do
 -- ---- directives
 
 -- the number of `.word N`, `.byte N` and `.zero N`
-abbrev pub only_number : List ℕ → Result ℤ Cause
+abbrev pub only_number : List ℕ → Result ℤ LineCause
 only_number rest = do
   operand ← one_operand rest
   number_operand operand
 
-unfoldable pub word_statement : List ℕ → Result TextLine Cause
+unfoldable pub word_statement : List ℕ → Result TextLine LineCause
 word_statement rest = do
   n ← only_number rest
   v ← word_value_of n
   Ok (saying (WordValue v))
 
-unfoldable pub byte_statement : List ℕ → Result TextLine Cause
+unfoldable pub byte_statement : List ℕ → Result TextLine LineCause
 byte_statement rest = do
   n ← only_number rest
   v ← count_of 255 n
   Ok (saying (ByteValue v))
 
-unfoldable pub zero_statement : List ℕ → Result TextLine Cause
+unfoldable pub zero_statement : List ℕ → Result TextLine LineCause
 zero_statement rest = do
   n ← only_number rest
   v ← count_of 65536 n
@@ -233,7 +233,7 @@ zero_statement rest = do
 -- ---- all of them
 
 -- the statement of a keyword, in a section where it may stand
-unfoldable pub keyword_statement : Keyword → List ℕ → Result TextLine Cause
+unfoldable pub keyword_statement : Keyword → List ℕ → Result TextLine LineCause
 keyword_statement keyword.Lui rest = lui rest
 keyword_statement keyword.Auipc rest = auipc rest
 keyword_statement keyword.Jal rest = jal rest
@@ -272,5 +272,5 @@ may_stand_in section keyword.ZeroDirective = is_data section
 may_stand_in section _ = not (is_data section)
 
 -- the statement of a keyword; BadOperand where it may not stand in the section
-unfoldable pub statement_of : Section → Keyword → List ℕ → Result TextLine Cause
+unfoldable pub statement_of : Section → Keyword → List ℕ → Result TextLine LineCause
 statement_of section keyword rest = if may_stand_in section keyword then keyword_statement keyword rest else Err BadOperand

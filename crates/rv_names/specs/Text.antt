@@ -37,29 +37,29 @@ abbrev pub fence_text : ℕ → List ℕ
 fence_text word = if word == 0x0ff0000f then mnemonic keyword.Fence else word_directive word
 
 -- the text of an instruction
-unfoldable pub text_of : Instr → List ℕ
-text_of (Lui rd immediate) = command keyword.Lui (x_name rd ∷ upper_text immediate ∷ [])
-text_of (Auipc rd immediate) = command keyword.Auipc (x_name rd ∷ upper_text immediate ∷ [])
-text_of (Jal rd offset) = command keyword.Jal (x_name rd ∷ signed_decimal offset.value ∷ [])
-text_of (Jalr rd base offset) = command keyword.Jalr (x_name rd ∷ place_text offset base ∷ [])
-text_of (Branch condition left right offset) =
+unfoldable pub instruction_text : Instr → List ℕ
+instruction_text (Lui rd immediate) = command keyword.Lui (x_name rd ∷ upper_text immediate ∷ [])
+instruction_text (Auipc rd immediate) = command keyword.Auipc (x_name rd ∷ upper_text immediate ∷ [])
+instruction_text (Jal rd offset) = command keyword.Jal (x_name rd ∷ signed_decimal offset.value ∷ [])
+instruction_text (Jalr rd base offset) = command keyword.Jalr (x_name rd ∷ place_text offset base ∷ [])
+instruction_text (Branch condition left right offset) =
     command (keyword.Branch condition) (x_name left ∷ x_name right ∷ signed_decimal offset.value ∷ [])
-text_of (Load kind rd base offset) = command (keyword.Load kind) (x_name rd ∷ place_text offset base ∷ [])
-text_of (Store kind source base offset) = command (keyword.Store kind) (x_name source ∷ place_text offset base ∷ [])
-text_of (ComputeImmediate operation rd source immediate) =
+instruction_text (Load kind rd base offset) = command (keyword.Load kind) (x_name rd ∷ place_text offset base ∷ [])
+instruction_text (Store kind source base offset) = command (keyword.Store kind) (x_name source ∷ place_text offset base ∷ [])
+instruction_text (ComputeImmediate operation rd source immediate) =
     command (keyword.ComputeImmediate operation) (x_name rd ∷ x_name source ∷ signed_decimal immediate.value ∷ [])
-text_of (ShiftImmediate shift rd source amount) =
+instruction_text (ShiftImmediate shift rd source amount) =
     command (keyword.ShiftImmediate shift) (x_name rd ∷ x_name source ∷ decimal amount.value ∷ [])
-text_of (Compute operation rd left right) =
+instruction_text (Compute operation rd left right) =
     command (keyword.Compute operation) (x_name rd ∷ x_name left ∷ x_name right ∷ [])
-text_of (Fence rd source immediate) = fence_text (word_of (Fence rd source immediate))
-text_of Ecall = mnemonic keyword.Ecall
-text_of Ebreak = mnemonic keyword.Ebreak
+instruction_text (Fence rd source immediate) = fence_text (word_of (Fence rd source immediate))
+instruction_text Ecall = mnemonic keyword.Ecall
+instruction_text Ebreak = mnemonic keyword.Ebreak
 
 -- the text of a word: the text of its instruction, or `.word 0x` and eight hex digits where it has none
 abbrev pub text_or_word : ℕ → Option Instr → List ℕ
 text_or_word word None = word_directive word
-text_or_word word (Some instr) = text_of instr
+text_or_word word (Some instr) = instruction_text instr
 
-unfoldable pub word_text : ℕ → List ℕ
-word_text word = text_or_word word (decoded word)
+unfoldable pub disassembly : ℕ → List ℕ
+disassembly word = text_or_word word (decoded word)

@@ -14,12 +14,12 @@ mod statements;
 mod target;
 mod texts;
 
-pub use keywords::Keyword;
-pub use lines::{Cause, Line, Section, Statement};
-pub use mnemonics::{keyword, mnemonic};
+pub use keywords::{Keyword, keyword_of};
+pub use lines::{Line, LineCause, Section, Statement};
+pub use mnemonics::mnemonic;
 pub use numbers::number;
 pub use operands::trimmed;
 pub use ranges::{branch_offset, jump_offset, load_number};
 pub use reading::read_line;
 pub use registers::{register, x_name};
-pub use texts::{instruction_text, word_text};
+pub use texts::{disassembly, instruction_text};

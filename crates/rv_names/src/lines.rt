@@ -15,7 +15,7 @@ pub enum Section {
 
 /// What is wrong with a line by itself. Where several hold, the one with the least number is answered.
 #[derive(Clone, Copy, Debug, PartialEq, Eq)]
-pub enum Cause {
+pub enum LineCause {
     /// The first word is neither a mnemonic nor a directive.
     UnknownMnemonic = 1,
     /// The label is not a name, the operands are wrong in number or form, or the statement may not stand
@@ -67,6 +67,8 @@ pub struct Line<N> {
     pub statement: Statement,
     /// The label that the statement refers to. `BranchTo`, `JumpTo` and `AddressOf` have one, and no other
     /// statement has.
+    // It does not stand in these variants: the borrow checker covers no enum that holds a reference beside
+    // a struct with a ghost field, as `Reg` has one.
     pub target: Option<N>,
 }
 

@@ -1,74 +1,10 @@
-//! The keywords of source by their text: mnemonics and directives.
+//! The text of each keyword: its mnemonic or directive.
 
-ghost use Rattle.std.specs.Prelude.{◌≡◌, map};
-ghost use Rattle.std.specs.List.{find};
-ghost use Rattle.std.specs.Str.{bytes_eq};
-ghost use Rattle.rv_names.specs.Mnemonics.{condition_name, load_name, store_name, immediate_name, shift_name, operation_name, mnemonic, keywords, keyword_of};
+ghost use Rattle.std.specs.Prelude.{◌≡◌};
+ghost use Rattle.rv_names.specs.Mnemonics.{condition_name, load_name, store_name, immediate_name, shift_name, operation_name, mnemonic};
 
 use crate::Keyword;
 use rv_isa::{Condition, ImmediateOperation, LoadKind, Operation, Shift, StoreKind};
-
-/// Every keyword.
-const KEYWORDS: [Keyword; 58] = [
-    Keyword::Lui,
-    Keyword::Auipc,
-    Keyword::Jal,
-    Keyword::Jalr,
-    Keyword::Branch(Condition::Beq),
-    Keyword::Branch(Condition::Bne),
-    Keyword::Branch(Condition::Blt),
-    Keyword::Branch(Condition::Bge),
-    Keyword::Branch(Condition::Bltu),
-    Keyword::Branch(Condition::Bgeu),
-    Keyword::Load(LoadKind::Lb),
-    Keyword::Load(LoadKind::Lh),
-    Keyword::Load(LoadKind::Lw),
-    Keyword::Load(LoadKind::Lbu),
-    Keyword::Load(LoadKind::Lhu),
-    Keyword::Store(StoreKind::Sb),
-    Keyword::Store(StoreKind::Sh),
-    Keyword::Store(StoreKind::Sw),
-    Keyword::ComputeImmediate(ImmediateOperation::Addi),
-    Keyword::ComputeImmediate(ImmediateOperation::Slti),
-    Keyword::ComputeImmediate(ImmediateOperation::Sltiu),
-    Keyword::ComputeImmediate(ImmediateOperation::Xori),
-    Keyword::ComputeImmediate(ImmediateOperation::Ori),
-    Keyword::ComputeImmediate(ImmediateOperation::Andi),
-    Keyword::ShiftImmediate(Shift::Slli),
-    Keyword::ShiftImmediate(Shift::Srli),
-    Keyword::ShiftImmediate(Shift::Srai),
-    Keyword::Compute(Operation::Add),
-    Keyword::Compute(Operation::Sub),
-    Keyword::Compute(Operation::Sll),
-    Keyword::Compute(Operation::Slt),
-    Keyword::Compute(Operation::Sltu),
-    Keyword::Compute(Operation::Xor),
-    Keyword::Compute(Operation::Srl),
-    Keyword::Compute(Operation::Sra),
-    Keyword::Compute(Operation::Or),
-    Keyword::Compute(Operation::And),
-    Keyword::Compute(Operation::Mul),
-    Keyword::Compute(Operation::Mulh),
-    Keyword::Compute(Operation::Mulhsu),
-    Keyword::Compute(Operation::Mulhu),
-    Keyword::Compute(Operation::Div),
-    Keyword::Compute(Operation::Divu),
-    Keyword::Compute(Operation::Rem),
-    Keyword::Compute(Operation::Remu),
-    Keyword::Fence,
-    Keyword::Ecall,
-    Keyword::Ebreak,
-    Keyword::Nop,
-    Keyword::Mv,
-    Keyword::J,
-    Keyword::Ret,
-    Keyword::Li,
-    Keyword::TextSection,
-    Keyword::DataSection,
-    Keyword::WordDirective,
-    Keyword::ByteDirective,
-    Keyword::ZeroDirective,
-];
 
 /// A branch's mnemonic.
 fn condition_name(condition: Condition) -> &'static str
@@ -189,22 +125,4 @@ pub fn mnemonic(keyword: Keyword) -> &'static str
         Keyword::ByteDirective => ".byte",
         Keyword::ZeroDirective => ".zero",
     }
-}
-
-/// The first of the keywords whose mnemonic or directive is `word`; `None` where there is none.
-fn found(keywords: &[Keyword], word: &[u8]) -> Option<Keyword>
-    ensures { result ≡ find (λ keyword. bytes_eq (mnemonic keyword) word.now) keywords.now }
-{
-    keywords
-        .iter()
-        .copied()
-        .find(|keyword| mnemonic(*keyword).as_bytes() == word)
-}
-
-/// The keyword whose mnemonic or directive is `word`; `None` for any other word, also for one in capitals.
-#[tactic(auto, unfolding(crate::specs::Mnemonics::keyword_of))]
-pub fn keyword(word: &[u8]) -> Option<Keyword>
-    ensures { result ≡ keyword_of word.now }
-{
-    found(KEYWORDS.as_slice(), word)
 }

@@ -6,7 +6,7 @@ ghost use Rattle.std.specs.List.{list_all, list_any, prefix_len, suffix_len, pos
 ghost use Rattle.rv_names.specs.Operands.{is_blank, is_name_byte, trimmed, without_blanks_before, without_blanks_behind, first_operand, last_operand, no_operand, one_operand, two_operands, three_operands, is_name, register_operand, number_operand, inside_parenthesis, place_operand, target_operand};
 ghost use Rattle.rv_names.specs.Shown.{target_map};
 
-use crate::Cause;
+use crate::LineCause;
 use crate::numbers::number;
 use crate::registers::register;
 use crate::target::Target;
@@ -95,50 +95,50 @@ pub(crate) fn has(text: &[u8], byte: u8) -> bool
 }
 
 /// The first of several operands, and the text of the others; BadOperand where there is no comma.
-fn first_operand(text: &[u8]) -> Result<(&[u8], &[u8]), Cause>
+fn first_operand(text: &[u8]) -> Result<(&[u8], &[u8]), LineCause>
     ensures { result_map_both (λ p. (p.0.now, p.1.now)) (λ cause. cause) result ≡ first_operand text.now }
 {
     if !has(text, b',') {
-        return Err(Cause::BadOperand);
+        return Err(LineCause::BadOperand);
     }
     Ok((trimmed(before(text, b',')), behind(text, b',')))
 }
 
 /// The last operand; BadOperand where there is a comma.
-fn last_operand(text: &[u8]) -> Result<&[u8], Cause>
+fn last_operand(text: &[u8]) -> Result<&[u8], LineCause>
     ensures { result_map_both (λ a. a.now) (λ cause. cause) result ≡ last_operand text.now }
 {
     if has(text, b',') {
-        return Err(Cause::BadOperand);
+        return Err(LineCause::BadOperand);
     }
     Ok(trimmed(text))
 }
 
 /// Checks that there is no operand; else BadOperand.
 #[tactic(auto, unfolding(crate::specs::Operands::no_operand))]
-pub(crate) fn no_operand(text: &[u8]) -> Result<(), Cause>
+pub(crate) fn no_operand(text: &[u8]) -> Result<(), LineCause>
     ensures { result ≡ no_operand text.now }
 {
     if text.is_empty() {
         return Ok(());
     }
-    Err(Cause::BadOperand)
+    Err(LineCause::BadOperand)
 }
 
 /// The one operand; BadOperand where there is none or more than one.
 #[tactic(auto, unfolding(crate::specs::Operands::one_operand))]
-pub(crate) fn one_operand(text: &[u8]) -> Result<&[u8], Cause>
+pub(crate) fn one_operand(text: &[u8]) -> Result<&[u8], LineCause>
     ensures { result_map_both (λ a. a.now) (λ cause. cause) result ≡ one_operand text.now }
 {
     if text.is_empty() {
-        return Err(Cause::BadOperand);
+        return Err(LineCause::BadOperand);
     }
     last_operand(text)
 }
 
 /// The two operands; BadOperand where there is another number of them.
 #[tactic(auto, unfolding(crate::specs::Operands::two_operands))]
-pub(crate) fn two_operands(text: &[u8]) -> Result<(&[u8], &[u8]), Cause>
+pub(crate) fn two_operands(text: &[u8]) -> Result<(&[u8], &[u8]), LineCause>
     ensures { result_map_both (λ p. (p.0.now, p.1.now)) (λ cause. cause) result ≡ two_operands text.now }
 {
     let (first, rest) = first_operand(text)?;
@@ -148,7 +148,7 @@ pub(crate) fn two_operands(text: &[u8]) -> Result<(&[u8], &[u8]), Cause>
 
 /// The three operands; BadOperand where there is another number of them.
 #[tactic(auto, unfolding(crate::specs::Operands::three_operands))]
-pub(crate) fn three_operands(text: &[u8]) -> Result<(&[u8], &[u8], &[u8]), Cause>
+pub(crate) fn three_operands(text: &[u8]) -> Result<(&[u8], &[u8], &[u8]), LineCause>
     ensures { result_map_both (λ p. (p.0.now, p.1.now, p.2.now)) (λ cause. cause) result ≡ three_operands text.now }
 {
     let (first, rest) = first_operand(text)?;
@@ -183,32 +183,32 @@ pub(crate) fn is_name(text: &[u8]) -> bool
 }
 
 /// A register, else BadOperand.
-pub(crate) fn register_operand(text: &[u8]) -> Result<Reg, Cause>
+pub(crate) fn register_operand(text: &[u8]) -> Result<Reg, LineCause>
     ensures { result ≡ register_operand text.now }
 {
-    register(text).ok_or(Cause::BadOperand)
+    register(text).ok_or(LineCause::BadOperand)
 }
 
 /// A number, else BadOperand.
-pub(crate) fn number_operand(text: &[u8]) -> Result<i64, Cause>
+pub(crate) fn number_operand(text: &[u8]) -> Result<i64, LineCause>
     ensures { result ≡ number_operand text.now }
 {
-    number(text).ok_or(Cause::BadOperand)
+    number(text).ok_or(LineCause::BadOperand)
 }
 
 /// The text without the closing parenthesis at its end; BadOperand where it has none there.
-fn inside_parenthesis(text: &[u8]) -> Result<&[u8], Cause>
+fn inside_parenthesis(text: &[u8]) -> Result<&[u8], LineCause>
     ensures { result_map_both (λ a. a.now) (λ cause. cause) result ≡ inside_parenthesis text.now }
 {
     if text.is_empty() || text[text.len() - 1] != b')' {
-        return Err(Cause::BadOperand);
+        return Err(LineCause::BadOperand);
     }
     Ok(&text[..text.len() - 1])
 }
 
 /// The number and the register of `N(REGISTER)`, else BadOperand.
 #[tactic(auto, unfolding(crate::specs::Operands::place_operand))]
-pub(crate) fn place_operand(text: &[u8]) -> Result<(i64, Reg), Cause>
+pub(crate) fn place_operand(text: &[u8]) -> Result<(i64, Reg), LineCause>
     ensures { result ≡ place_operand text.now }
 {
     let number = number_operand(before(text, b'('))?;
@@ -219,14 +219,14 @@ pub(crate) fn place_operand(text: &[u8]) -> Result<(i64, Reg), Cause>
 
 /// A number or a name, else BadOperand.
 #[tactic(auto, unfolding(crate::specs::Operands::target_operand))]
-pub(crate) fn target_operand(text: &[u8]) -> Result<Target<&[u8]>, Cause>
+pub(crate) fn target_operand(text: &[u8]) -> Result<Target<&[u8]>, LineCause>
     ensures { result_map_both (target_map (λ label. label.now)) (λ cause. cause) result ≡ target_operand text.now }
 {
     if let Some(n) = number(text) {
         return Ok(Target::Number(n));
     }
     if !is_name(text) {
-        return Err(Cause::BadOperand);
+        return Err(LineCause::BadOperand);
     }
     Ok(Target::Label(text))
 }

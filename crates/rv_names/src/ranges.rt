@@ -7,7 +7,7 @@ ghost use Rattle.rv_isa.specs.Decoding.{immediate_at, branch_at, jump_at, upper_
 ghost use Rattle.rv_names.specs.Operands.{immediate_of, branch_offset_of, jump_offset_of, upper_of, amount_of, word_value_of, count_of};
 ghost use Rattle.rv_names.specs.Statements.{high_of, load_number};
 
-use crate::Cause;
+use crate::LineCause;
 use rv_isa::{
     BranchOffset, Immediate, ImmediateOperation, Instr, JumpOffset, Reg, ShiftAmount, Upper,
 };
@@ -24,11 +24,11 @@ fn immediate_in_range(number: i64) -> Immediate
 
 /// An immediate, -2048 to 2047, else ImmediateRange.
 #[tactic(auto, unfolding(crate::specs::Operands::immediate_of))]
-pub(crate) fn immediate(number: i64) -> Result<Immediate, Cause>
+pub(crate) fn immediate(number: i64) -> Result<Immediate, LineCause>
     ensures { result ≡ immediate_of number }
 {
     if number < -2048 || 2047 < number {
-        return Err(Cause::ImmediateRange);
+        return Err(LineCause::ImmediateRange);
     }
     Ok(immediate_in_range(number))
 }
@@ -85,11 +85,11 @@ fn upper_in_range(n: u32) -> Upper
 
 /// The upper 20 bits of LUI and AUIPC, 0 to 1048575, else ImmediateRange.
 #[tactic(auto, unfolding(crate::specs::Operands::upper_of))]
-pub(crate) fn upper(number: i64) -> Result<Upper, Cause>
+pub(crate) fn upper(number: i64) -> Result<Upper, LineCause>
     ensures { result ≡ upper_of number }
 {
     if number < 0 || 1048575 < number {
-        return Err(Cause::ImmediateRange);
+        return Err(LineCause::ImmediateRange);
     }
     Ok(upper_in_range(number as u32))
 }
@@ -104,34 +104,34 @@ fn amount_in_range(n: u8) -> ShiftAmount
 
 /// The number of places of a shift, 0 to 31, else ImmediateRange.
 #[tactic(auto, unfolding(crate::specs::Operands::amount_of))]
-pub(crate) fn amount(number: i64) -> Result<ShiftAmount, Cause>
+pub(crate) fn amount(number: i64) -> Result<ShiftAmount, LineCause>
     ensures { result ≡ amount_of number }
 {
     if number < 0 || 31 < number {
-        return Err(Cause::ImmediateRange);
+        return Err(LineCause::ImmediateRange);
     }
     Ok(amount_in_range(number as u8))
 }
 
 /// A word: a number from -2147483648 to 4294967295, taken modulo 2^32; else ImmediateRange.
 #[tactic(auto, unfolding(crate::specs::Operands::word_value_of))]
-pub(crate) fn word_value(number: i64) -> Result<u32, Cause>
+pub(crate) fn word_value(number: i64) -> Result<u32, LineCause>
     ensures { result ≡ word_value_of number }
 {
     if number < -2147483648 || 4294967295 < number {
-        return Err(Cause::ImmediateRange);
+        return Err(LineCause::ImmediateRange);
     }
     Ok(number.rem_euclid(4294967296) as u32)
 }
 
 /// A number from 0 to `most`, else ImmediateRange.
 #[tactic(auto, unfolding(crate::specs::Operands::count_of))]
-pub(crate) fn count(most: u32, number: i64) -> Result<u32, Cause>
+pub(crate) fn count(most: u32, number: i64) -> Result<u32, LineCause>
     ensures count { result ≡ count_of most number }
     ensures within { IfOk result (λ n. n ≤ most) }
 {
     if number < 0 || i64::from(most) < number {
-        return Err(Cause::ImmediateRange);
+        return Err(LineCause::ImmediateRange);
     }
     Ok(number as u32)
 }

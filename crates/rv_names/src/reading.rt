@@ -5,13 +5,13 @@ ghost use Rattle.std.specs.Option.{option_map};
 ghost use Rattle.std.specs.Result.{result_map_both};
 ghost use Rattle.std.specs.List.{position, after_first};
 ghost use Rattle.rv_names.specs.Operands.{is_blank};
-ghost use Rattle.rv_names.specs.Shown.{line_map};
+ghost use Rattle.rv_names.specs.Shown.{shown_line};
 ghost use Rattle.rv_names.specs.Line.{content_of, label_of, body_of, word_of_body, rest_of_body, command_of, said_by, line_of};
 
-use crate::mnemonics::keyword;
+use crate::keywords::keyword_of;
 use crate::operands::{before, behind, has, is_blank, is_name, trimmed};
 use crate::statements::statement;
-use crate::{Cause, Keyword, Line, Section, Statement};
+use crate::{Keyword, Line, LineCause, Section, Statement};
 
 /// A line without its comment, and without the blanks at its beginning and its end.
 #[tactic(auto, unfolding(crate::specs::Line::content_of))]
@@ -23,7 +23,7 @@ fn content(text: &[u8]) -> &[u8]
 
 /// The label, where there is one; BadOperand where it is not a name.
 #[tactic(auto, unfolding(crate::specs::Line::label_of))]
-fn label(content: &[u8]) -> Result<Option<&[u8]>, Cause>
+fn label(content: &[u8]) -> Result<Option<&[u8]>, LineCause>
     ensures { result_map_both (option_map (λ label. label.now)) (λ cause. cause) result ≡ label_of content.now }
 {
     if !has(content, b':') {
@@ -31,7 +31,7 @@ fn label(content: &[u8]) -> Result<Option<&[u8]>, Cause>
     }
     let label = before(content, b':');
     if !is_name(label) {
-        return Err(Cause::BadOperand);
+        return Err(LineCause::BadOperand);
     }
     Ok(Some(label))
 }
@@ -77,21 +77,19 @@ fn behind_word(body: &[u8]) -> &[u8]
 /// The keyword of a statement; `None` where the statement is empty, UnknownMnemonic where its first word is
 /// neither a mnemonic nor a directive.
 #[tactic(auto, unfolding(crate::specs::Line::command_of))]
-fn command(body: &[u8]) -> Result<Option<Keyword>, Cause>
+fn command(body: &[u8]) -> Result<Option<Keyword>, LineCause>
     ensures { result ≡ command_of body.now }
 {
     if body.is_empty() {
         return Ok(None);
     }
-    match keyword(first_word(body)) {
-        Some(keyword) => Ok(Some(keyword)),
-        None => Err(Cause::UnknownMnemonic),
-    }
+    let keyword = keyword_of(first_word(body)).ok_or(LineCause::UnknownMnemonic)?;
+    Ok(Some(keyword))
 }
 
 /// The statement of a keyword, or the empty statement where there is no keyword.
-fn said(section: Section, body: &[u8], command: Option<Keyword>) -> Result<Line<&[u8]>, Cause>
-    ensures { result_map_both (line_map (λ label. label.now)) (λ cause. cause) result ≡ said_by section body.now command }
+fn said(section: Section, body: &[u8], command: Option<Keyword>) -> Result<Line<&[u8]>, LineCause>
+    ensures { shown_line result ≡ said_by section body.now command }
 {
     match command {
         Some(keyword) => statement(section, keyword, trimmed(behind_word(body))),
@@ -104,8 +102,8 @@ fn said(section: Section, body: &[u8], command: Option<Keyword>) -> Result<Line<
 /// itself: UnknownMnemonic where the first word is neither a mnemonic nor a directive, else BadOperand,
 /// else ImmediateRange.
 #[tactic(auto, unfolding(crate::specs::Line::line_of))]
-pub fn read_line(section: Section, text: &[u8]) -> Result<Line<&[u8]>, Cause>
-    ensures { result_map_both (line_map (λ label. label.now)) (λ cause. cause) result ≡ line_of section text.now }
+pub fn read_line(section: Section, text: &[u8]) -> Result<Line<&[u8]>, LineCause>
+    ensures { shown_line result ≡ line_of section text.now }
 {
     let content = content(text);
     let body = body(content);

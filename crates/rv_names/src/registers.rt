@@ -51,7 +51,7 @@ fn numbered(number: usize) -> Reg
     ensures { result ≡ register_at number }
 {
     Reg {
-        number: number as u8,
+        number: number as u32,
     }
 }
 
@@ -77,5 +77,5 @@ fn name_at<'a>(names: &[&'a str; 32], place: usize) -> &'a str
 pub fn x_name(register: Reg) -> &'static str
     ensures { result.now ≡ x_name register }
 {
-    name_at(&X_NAMES, usize::from(register.number))
+    name_at(&X_NAMES, register.number as usize)
 }

@@ -1,8 +1,7 @@
 //! The statements of source: one function for each keyword, which reads the operands.
 
 ghost use Rattle.std.specs.Prelude.{◌≡◌, ◌<◌};
-ghost use Rattle.std.specs.Result.{result_map_both};
-ghost use Rattle.rv_names.specs.Shown.{line_map, target_map};
+ghost use Rattle.rv_names.specs.Shown.{shown_line, target_map};
 ghost use Rattle.rv_names.specs.Statements.{lui, auipc, jump_to, jal, jalr, branch_to, branch, load, store, compute_immediate, shift_immediate, compute, alone, mv, j, load_target, li, only_number, word_statement, byte_statement, zero_statement, fence, nop, ret, keyword_statement, is_data, may_stand_in, statement_of};
 ghost use Rattle.rv_isa.specs.Decoding.{register_at, immediate_at};
 
@@ -14,7 +13,7 @@ use crate::ranges::{
     amount, branch_offset, count, immediate, jump_offset, load_number, upper, word_value,
 };
 use crate::target::Target;
-use crate::{Cause, Keyword, Line, Section, Statement};
+use crate::{Keyword, Line, LineCause, Section, Statement};
 use rv_isa::{
     Condition, Immediate, ImmediateOperation, Instr, LoadKind, Operation, Reg, Shift, StoreKind,
 };
@@ -48,8 +47,8 @@ fn small(n: u16) -> Immediate
 
 /// `lui rd,N`
 #[tactic(auto, unfolding(crate::specs::Statements::lui))]
-fn lui(rest: &[u8]) -> Result<Line<&[u8]>, Cause>
-    ensures { result_map_both (line_map (λ label. label.now)) (λ cause. cause) result ≡ lui rest.now }
+fn lui(rest: &[u8]) -> Result<Line<&[u8]>, LineCause>
+    ensures { shown_line result ≡ lui rest.now }
 {
     let (rd, n) = two_operands(rest)?;
     let rd = register_operand(rd)?;
@@ -59,8 +58,8 @@ fn lui(rest: &[u8]) -> Result<Line<&[u8]>, Cause>
 
 /// `auipc rd,N`
 #[tactic(auto, unfolding(crate::specs::Statements::auipc))]
-fn auipc(rest: &[u8]) -> Result<Line<&[u8]>, Cause>
-    ensures { result_map_both (line_map (λ label. label.now)) (λ cause. cause) result ≡ auipc rest.now }
+fn auipc(rest: &[u8]) -> Result<Line<&[u8]>, LineCause>
+    ensures { shown_line result ≡ auipc rest.now }
 {
     let (rd, n) = two_operands(rest)?;
     let rd = register_operand(rd)?;
@@ -69,12 +68,12 @@ fn auipc(rest: &[u8]) -> Result<Line<&[u8]>, Cause>
 }
 
 /// JAL to a target; ImmediateRange where a number is odd or out of range.
-fn jump_to(rd: Reg, target: Target<&[u8]>) -> Result<Line<&[u8]>, Cause>
-    ensures { result_map_both (line_map (λ label. label.now)) (λ cause. cause) result ≡ jump_to rd (target_map (λ label. label.now) target.entry) }
+fn jump_to(rd: Reg, target: Target<&[u8]>) -> Result<Line<&[u8]>, LineCause>
+    ensures { shown_line result ≡ jump_to rd (target_map (λ label. label.now) target.entry) }
 {
     match target {
         Target::Number(n) => {
-            let offset = jump_offset(n).ok_or(Cause::ImmediateRange)?;
+            let offset = jump_offset(n).ok_or(LineCause::ImmediateRange)?;
             Ok(Line::saying(Statement::Plain(Instr::Jal { rd, offset })))
         }
         Target::Label(label) => Ok(Line::naming(label, Statement::JumpTo { rd })),
@@ -83,8 +82,8 @@ fn jump_to(rd: Reg, target: Target<&[u8]>) -> Result<Line<&[u8]>, Cause>
 
 /// `jal rd,TARGET`
 #[tactic(auto, unfolding(crate::specs::Statements::jal))]
-fn jal(rest: &[u8]) -> Result<Line<&[u8]>, Cause>
-    ensures { result_map_both (line_map (λ label. label.now)) (λ cause. cause) result ≡ jal rest.now }
+fn jal(rest: &[u8]) -> Result<Line<&[u8]>, LineCause>
+    ensures { shown_line result ≡ jal rest.now }
 {
     let (rd, target) = two_operands(rest)?;
     let rd = register_operand(rd)?;
@@ -93,8 +92,8 @@ fn jal(rest: &[u8]) -> Result<Line<&[u8]>, Cause>
 
 /// `jalr rd,N(rs1)`
 #[tactic(auto, unfolding(crate::specs::Statements::jalr))]
-fn jalr(rest: &[u8]) -> Result<Line<&[u8]>, Cause>
-    ensures { result_map_both (line_map (λ label. label.now)) (λ cause. cause) result ≡ jalr rest.now }
+fn jalr(rest: &[u8]) -> Result<Line<&[u8]>, LineCause>
+    ensures { shown_line result ≡ jalr rest.now }
 {
     let (rd, place) = two_operands(rest)?;
     let rd = register_operand(rd)?;
@@ -109,12 +108,12 @@ fn branch_to(
     left: Reg,
     right: Reg,
     target: Target<&[u8]>,
-) -> Result<Line<&[u8]>, Cause>
-    ensures { result_map_both (line_map (λ label. label.now)) (λ cause. cause) result ≡ branch_to condition left right (target_map (λ label. label.now) target.entry) }
+) -> Result<Line<&[u8]>, LineCause>
+    ensures { shown_line result ≡ branch_to condition left right (target_map (λ label. label.now) target.entry) }
 {
     match target {
         Target::Number(n) => {
-            let offset = branch_offset(n).ok_or(Cause::ImmediateRange)?;
+            let offset = branch_offset(n).ok_or(LineCause::ImmediateRange)?;
             Ok(Line::saying(Statement::Plain(Instr::Branch {
                 condition,
                 left,
@@ -135,8 +134,8 @@ fn branch_to(
 
 /// `beq rs1,rs2,TARGET`
 #[tactic(auto, unfolding(crate::specs::Statements::branch))]
-fn branch(condition: Condition, rest: &[u8]) -> Result<Line<&[u8]>, Cause>
-    ensures { result_map_both (line_map (λ label. label.now)) (λ cause. cause) result ≡ branch condition rest.now }
+fn branch(condition: Condition, rest: &[u8]) -> Result<Line<&[u8]>, LineCause>
+    ensures { shown_line result ≡ branch condition rest.now }
 {
     let (left, right, target) = three_operands(rest)?;
     let left = register_operand(left)?;
@@ -146,8 +145,8 @@ fn branch(condition: Condition, rest: &[u8]) -> Result<Line<&[u8]>, Cause>
 
 /// `lw rd,N(rs1)`
 #[tactic(auto, unfolding(crate::specs::Statements::load))]
-fn load(kind: LoadKind, rest: &[u8]) -> Result<Line<&[u8]>, Cause>
-    ensures { result_map_both (line_map (λ label. label.now)) (λ cause. cause) result ≡ load kind rest.now }
+fn load(kind: LoadKind, rest: &[u8]) -> Result<Line<&[u8]>, LineCause>
+    ensures { shown_line result ≡ load kind rest.now }
 {
     let (rd, place) = two_operands(rest)?;
     let rd = register_operand(rd)?;
@@ -163,8 +162,8 @@ fn load(kind: LoadKind, rest: &[u8]) -> Result<Line<&[u8]>, Cause>
 
 /// `sw rs2,N(rs1)`
 #[tactic(auto, unfolding(crate::specs::Statements::store))]
-fn store(kind: StoreKind, rest: &[u8]) -> Result<Line<&[u8]>, Cause>
-    ensures { result_map_both (line_map (λ label. label.now)) (λ cause. cause) result ≡ store kind rest.now }
+fn store(kind: StoreKind, rest: &[u8]) -> Result<Line<&[u8]>, LineCause>
+    ensures { shown_line result ≡ store kind rest.now }
 {
     let (source, place) = two_operands(rest)?;
     let source = register_operand(source)?;
@@ -180,8 +179,8 @@ fn store(kind: StoreKind, rest: &[u8]) -> Result<Line<&[u8]>, Cause>
 
 /// `addi rd,rs1,N`
 #[tactic(auto, unfolding(crate::specs::Statements::compute_immediate))]
-fn compute_immediate(operation: ImmediateOperation, rest: &[u8]) -> Result<Line<&[u8]>, Cause>
-    ensures { result_map_both (line_map (λ label. label.now)) (λ cause. cause) result ≡ compute_immediate operation rest.now }
+fn compute_immediate(operation: ImmediateOperation, rest: &[u8]) -> Result<Line<&[u8]>, LineCause>
+    ensures { shown_line result ≡ compute_immediate operation rest.now }
 {
     let (rd, source, n) = three_operands(rest)?;
     let rd = register_operand(rd)?;
@@ -197,8 +196,8 @@ fn compute_immediate(operation: ImmediateOperation, rest: &[u8]) -> Result<Line<
 
 /// `slli rd,rs1,N`
 #[tactic(auto, unfolding(crate::specs::Statements::shift_immediate))]
-fn shift_immediate(shift: Shift, rest: &[u8]) -> Result<Line<&[u8]>, Cause>
-    ensures { result_map_both (line_map (λ label. label.now)) (λ cause. cause) result ≡ shift_immediate shift rest.now }
+fn shift_immediate(shift: Shift, rest: &[u8]) -> Result<Line<&[u8]>, LineCause>
+    ensures { shown_line result ≡ shift_immediate shift rest.now }
 {
     let (rd, source, n) = three_operands(rest)?;
     let rd = register_operand(rd)?;
@@ -214,8 +213,8 @@ fn shift_immediate(shift: Shift, rest: &[u8]) -> Result<Line<&[u8]>, Cause>
 
 /// `add rd,rs1,rs2`
 #[tactic(auto, unfolding(crate::specs::Statements::compute))]
-fn compute(operation: Operation, rest: &[u8]) -> Result<Line<&[u8]>, Cause>
-    ensures { result_map_both (line_map (λ label. label.now)) (λ cause. cause) result ≡ compute operation rest.now }
+fn compute(operation: Operation, rest: &[u8]) -> Result<Line<&[u8]>, LineCause>
+    ensures { shown_line result ≡ compute operation rest.now }
 {
     let (rd, left, right) = three_operands(rest)?;
     let rd = register_operand(rd)?;
@@ -230,8 +229,8 @@ fn compute(operation: Operation, rest: &[u8]) -> Result<Line<&[u8]>, Cause>
 }
 
 /// A statement without operands; BadOperand where there are any.
-fn alone(statement: Statement, rest: &[u8]) -> Result<Line<&[u8]>, Cause>
-    ensures { result_map_both (line_map (λ label. label.now)) (λ cause. cause) result ≡ alone statement rest.now }
+fn alone(statement: Statement, rest: &[u8]) -> Result<Line<&[u8]>, LineCause>
+    ensures { shown_line result ≡ alone statement rest.now }
 {
     no_operand(rest)?;
     Ok(Line::saying(statement))
@@ -239,8 +238,8 @@ fn alone(statement: Statement, rest: &[u8]) -> Result<Line<&[u8]>, Cause>
 
 /// `mv rd,rs`, which is `addi rd,rs,0`
 #[tactic(auto, unfolding(crate::specs::Statements::mv))]
-fn mv(rest: &[u8]) -> Result<Line<&[u8]>, Cause>
-    ensures { result_map_both (line_map (λ label. label.now)) (λ cause. cause) result ≡ mv rest.now }
+fn mv(rest: &[u8]) -> Result<Line<&[u8]>, LineCause>
+    ensures { shown_line result ≡ mv rest.now }
 {
     let (rd, source) = two_operands(rest)?;
     let rd = register_operand(rd)?;
@@ -255,16 +254,16 @@ fn mv(rest: &[u8]) -> Result<Line<&[u8]>, Cause>
 
 /// `j TARGET`, which is `jal x0,TARGET`
 #[tactic(auto, unfolding(crate::specs::Statements::j))]
-fn j(rest: &[u8]) -> Result<Line<&[u8]>, Cause>
-    ensures { result_map_both (line_map (λ label. label.now)) (λ cause. cause) result ≡ j rest.now }
+fn j(rest: &[u8]) -> Result<Line<&[u8]>, LineCause>
+    ensures { shown_line result ≡ j rest.now }
 {
     let target = target_operand(one_operand(rest)?)?;
     jump_to(zero(), target)
 }
 
 /// LUI and ADDI that load a number or the address of a label; ImmediateRange where a number is out of range.
-fn load_target(rd: Reg, target: Target<&[u8]>) -> Result<Line<&[u8]>, Cause>
-    ensures { result_map_both (line_map (λ label. label.now)) (λ cause. cause) result ≡ load_target rd (target_map (λ label. label.now) target.entry) }
+fn load_target(rd: Reg, target: Target<&[u8]>) -> Result<Line<&[u8]>, LineCause>
+    ensures { shown_line result ≡ load_target rd (target_map (λ label. label.now) target.entry) }
 {
     match target {
         Target::Number(n) => {
@@ -277,8 +276,8 @@ fn load_target(rd: Reg, target: Target<&[u8]>) -> Result<Line<&[u8]>, Cause>
 
 /// `li rd,N` and `li rd,LABEL`
 #[tactic(auto, unfolding(crate::specs::Statements::li))]
-fn li(rest: &[u8]) -> Result<Line<&[u8]>, Cause>
-    ensures { result_map_both (line_map (λ label. label.now)) (λ cause. cause) result ≡ li rest.now }
+fn li(rest: &[u8]) -> Result<Line<&[u8]>, LineCause>
+    ensures { shown_line result ≡ li rest.now }
 {
     let (rd, target) = two_operands(rest)?;
     let rd = register_operand(rd)?;
@@ -286,7 +285,7 @@ fn li(rest: &[u8]) -> Result<Line<&[u8]>, Cause>
 }
 
 /// The one operand of a directive, a number; else BadOperand.
-fn only_number(rest: &[u8]) -> Result<i64, Cause>
+fn only_number(rest: &[u8]) -> Result<i64, LineCause>
     ensures { result ≡ only_number rest.now }
 {
     number_operand(one_operand(rest)?)
@@ -294,8 +293,8 @@ fn only_number(rest: &[u8]) -> Result<i64, Cause>
 
 /// `.word N`
 #[tactic(auto, unfolding(crate::specs::Statements::word_statement))]
-fn word_statement(rest: &[u8]) -> Result<Line<&[u8]>, Cause>
-    ensures { result_map_both (line_map (λ label. label.now)) (λ cause. cause) result ≡ word_statement rest.now }
+fn word_statement(rest: &[u8]) -> Result<Line<&[u8]>, LineCause>
+    ensures { shown_line result ≡ word_statement rest.now }
 {
     let word = word_value(only_number(rest)?)?;
     Ok(Line::saying(Statement::WordValue(word)))
@@ -303,8 +302,8 @@ fn word_statement(rest: &[u8]) -> Result<Line<&[u8]>, Cause>
 
 /// `.byte N`
 #[tactic(auto, unfolding(crate::specs::Statements::byte_statement))]
-fn byte_statement(rest: &[u8]) -> Result<Line<&[u8]>, Cause>
-    ensures { result_map_both (line_map (λ label. label.now)) (λ cause. cause) result ≡ byte_statement rest.now }
+fn byte_statement(rest: &[u8]) -> Result<Line<&[u8]>, LineCause>
+    ensures { shown_line result ≡ byte_statement rest.now }
 {
     let byte = count(255, only_number(rest)?)?;
     Ok(Line::saying(Statement::ByteValue(byte as u8)))
@@ -312,8 +311,8 @@ fn byte_statement(rest: &[u8]) -> Result<Line<&[u8]>, Cause>
 
 /// `.zero N`
 #[tactic(auto, unfolding(crate::specs::Statements::zero_statement))]
-fn zero_statement(rest: &[u8]) -> Result<Line<&[u8]>, Cause>
-    ensures { result_map_both (line_map (λ label. label.now)) (λ cause. cause) result ≡ zero_statement rest.now }
+fn zero_statement(rest: &[u8]) -> Result<Line<&[u8]>, LineCause>
+    ensures { shown_line result ≡ zero_statement rest.now }
 {
     let bytes = count(65536, only_number(rest)?)?;
     Ok(Line::saying(Statement::ZeroBytes(bytes)))
@@ -355,8 +354,8 @@ fn ret() -> Instr
 
 /// The statement of a keyword with the operands `rest`.
 #[tactic(auto, unfolding(crate::specs::Statements::keyword_statement))]
-fn keyword_statement(keyword: Keyword, rest: &[u8]) -> Result<Line<&[u8]>, Cause>
-    ensures { result_map_both (line_map (λ label. label.now)) (λ cause. cause) result ≡ keyword_statement keyword rest.now }
+fn keyword_statement(keyword: Keyword, rest: &[u8]) -> Result<Line<&[u8]>, LineCause>
+    ensures { shown_line result ≡ keyword_statement keyword rest.now }
 {
     match keyword {
         Keyword::Lui => lui(rest),
@@ -413,11 +412,11 @@ pub(crate) fn statement(
     section: Section,
     keyword: Keyword,
     rest: &[u8],
-) -> Result<Line<&[u8]>, Cause>
-    ensures { result_map_both (line_map (λ label. label.now)) (λ cause. cause) result ≡ statement_of section keyword rest.now }
+) -> Result<Line<&[u8]>, LineCause>
+    ensures { shown_line result ≡ statement_of section keyword rest.now }
 {
     if !may_stand_in(section, keyword) {
-        return Err(Cause::BadOperand);
+        return Err(LineCause::BadOperand);
     }
     keyword_statement(keyword, rest)
 }

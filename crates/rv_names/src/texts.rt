@@ -6,7 +6,7 @@ ghost use Rattle.rv_names.specs.Registers.{x_name};
 ghost use Rattle.rv_names.specs.Mnemonics.{mnemonic};
 ghost use Rattle.rv_names.specs.declared.keywords.Keyword.TheVariants.{Jal};
 ghost use Rattle.std.specs.String.{string_bytes};
-ghost use Rattle.rv_names.specs.Text.{command, upper_text, place_text, word_directive, fence_text, text_of, word_text, text_or_word};
+ghost use Rattle.rv_names.specs.Text.{command, upper_text, place_text, word_directive, fence_text, instruction_text, disassembly, text_or_word};
 
 use crate::Keyword;
 use crate::mnemonics::mnemonic;
@@ -154,9 +154,9 @@ fn fence_text(alloc: Global, word: u32) -> Result<String, AllocError>
 
 /// The text of an instruction: registers by their x names, distances in bytes. A fence whose word is not
 /// 0x0ff0000f is printed as `.word 0x` and eight hex digits. Refused where memory ran out.
-#[tactic(auto, unfolding(crate::specs::Text::text_of))]
+#[tactic(auto, unfolding(crate::specs::Text::instruction_text))]
 pub fn instruction_text(alloc: Global, instr: &Instr) -> Result<String, AllocError>
-    ensures { IfOk result (λ t. string_bytes t ≡ text_of instr.now) }
+    ensures { IfOk result (λ t. string_bytes t ≡ instruction_text instr.now) }
 {
     match *instr {
         Instr::Lui { rd, immediate } => upper_text(alloc, Keyword::Lui, rd, immediate),
@@ -225,9 +225,9 @@ pub fn instruction_text(alloc: Global, instr: &Instr) -> Result<String, AllocErr
 
 /// The text of a word: the text of its instruction, or `.word 0x` and eight hex digits where the word is
 /// illegal. Refused where memory ran out.
-#[tactic(auto, unfolding(crate::specs::Text::word_text))]
-pub fn word_text(alloc: Global, word: u32) -> Result<String, AllocError>
-    ensures { IfOk result (λ t. string_bytes t ≡ word_text word) }
+#[tactic(auto, unfolding(crate::specs::Text::disassembly))]
+pub fn disassembly(alloc: Global, word: u32) -> Result<String, AllocError>
+    ensures { IfOk result (λ t. string_bytes t ≡ disassembly word) }
 {
     match decode(word) {
         Some(instr) => instruction_text(alloc, &instr),

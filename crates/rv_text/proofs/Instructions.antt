@@ -18,14 +18,14 @@ use Rattle.rv_isa.specs.declared.instruction.Instr.TheVariants.{Lui, Auipc, Jal,
 use Rattle.rv_names.specs.Registers.{x_name}
 use Rattle.rv_names.specs.Mnemonics.{mnemonic}
 use Rattle.rv_names.specs.Operands.{◌>>=◌, is_comma, no_operand, one_operand, two_operands, three_operands, inside_parenthesis, place_operand, target_operand}
-use Rattle.rv_names.specs.Text.{command, upper_text, place_text, word_directive, fence_text, text_of, text_or_word, word_text}
+use Rattle.rv_names.specs.Text.{command, upper_text, place_text, word_directive, fence_text, instruction_text, text_or_word, disassembly}
 use Rattle.rv_names.specs.Statements.{TextLine, saying, lui, auipc, jal, jalr, branch, load, store, compute_immediate, shift_immediate, compute, word_statement, fence, keyword_statement, may_stand_in, statement_of}
 use Rattle.rv_names.specs.Line.{line_of}
 use Rattle.rv_names.specs.declared.keywords.Keyword.{Keyword}
 use Rattle.rv_names.specs.declared.keywords.Keyword.TheVariants as keyword
 use Rattle.rv_names.specs.declared.target.Target.TheVariants.{Number}
 use Rattle.rv_names.specs.declared.lines.Section.TheVariants.{Text}
-use Rattle.rv_names.specs.declared.lines.Cause.{Cause}
+use Rattle.rv_names.specs.declared.lines.LineCause.{LineCause}
 use Rattle.rv_names.specs.declared.lines.Statement.{Statement}
 use Rattle.rv_names.specs.declared.lines.Statement.TheVariants.{Plain, WordValue}
 use Rattle.rv_text.proofs.Cuts.{none_of_both, before_at, after_at}
@@ -55,7 +55,7 @@ abbrev Says : List ℕ → Statement → Type 0
 Says text statement = (line_of Text text ≡ Ok (saying statement)) × IsOneLine text
 
 -- a line without a label
-abbrev unlabelled : Result TextLine Cause → Result TextLine Cause
+abbrev unlabelled : Result TextLine LineCause → Result TextLine LineCause
 unlabelled r = r >>= λ said. Ok (record said { label = None })
 
 -- the statement that operands make of a keyword
@@ -151,10 +151,10 @@ target_read z h = rw (signed_read z h) refl
 -- what the text of an instruction says; the text of a FENCE depends on its word
 abbrev IsSaid : Instr → Type 0
 IsSaid (Fence rd source m) = Unit {0}
-IsSaid x = Says (text_of x) (Plain x)
+IsSaid x = Says (instruction_text x) (Plain x)
 
 said : (x : Instr) → IsSaid x
-unfolding text_of statement_of may_stand_in keyword_statement no_operand lui auipc jal jalr branch load store compute_immediate shift_immediate compute
+unfolding instruction_text statement_of may_stand_in keyword_statement no_operand lui auipc jal jalr branch load store compute_immediate shift_immediate compute
 said (Lui rd m) =
     two_line keyword.Lui _ (register_operand_of rd) (upper_operand m) (λ rest e. rw (e, register_read rd, upper_read m.value m.in_range, upper_held m) refl)
 said (Auipc rd m) =
@@ -204,10 +204,10 @@ fence_line word small = go (word == 0x0ff0000f) refl
     go false e = rw e (says_word (word_directive word) (WordValue word) word (word_said word small) refl)
 
 -- the text of a word's instruction is a line that stands for the word
-instr_line : (x : Instr) (word : ℕ) → word < 2 ^ 32 → word_of x ≡ word → IsLineOf word (line_of Text (text_of x))
-unfolding text_of
+instr_line : (x : Instr) (word : ℕ) → word < 2 ^ 32 → word_of x ≡ word → IsLineOf word (line_of Text (instruction_text x))
+unfolding instruction_text
 instr_line (Fence rd source m) word small e = rw e (fence_line word small)
-instr_line x word small e = says_word (text_of x) (Plain x) word (said x) e
+instr_line x word small e = says_word (instruction_text x) (Plain x) word (said x) e
 
 -- with the instruction that a word has, or with none
 text_line : (word : ℕ) → word < 2 ^ 32 → (o : Option Instr) → ((x : Instr) → o ≡ Some x → word_of x ≡ word) → IsLineOf word (line_of Text (text_or_word word o))
@@ -216,7 +216,7 @@ text_line word small (Some x) f = instr_line x word small (f x refl)
 
 -- the text of a word is a line that stands for the word
 pub read_back : (word : ℕ) → word < 2 ^ 32 → (o : Option Instr) → o ≡ decoded word → ((x : Instr) → o ≡ Some x → word_of x ≡ word) → IsReadBack word
-unfolding word_text
+unfolding disassembly
 read_back word small o e f = rw (← e) (text_line word small o f)
 
 -- ---- the text of a word has no line feed
@@ -231,14 +231,14 @@ fence_one_line word = by (word == 0x0ff0000f)
     by true = fence_said.1
     by false = directive_one_line word
 
-instr_one_line : (x : Instr) → IsOneLine (text_of x)
-unfolding text_of
+instr_one_line : (x : Instr) → IsOneLine (instruction_text x)
+unfolding instruction_text
 instr_one_line (Fence rd source m) = fence_one_line (word_of (Fence rd source m))
 instr_one_line x = (said x).1
 
-pub word_text_is_one_line : (word : ℕ) → IsOneLine (word_text word)
-unfolding word_text
-word_text_is_one_line word = by (decoded word)
+pub disassembly_is_one_line : (word : ℕ) → IsOneLine (disassembly word)
+unfolding disassembly
+disassembly_is_one_line word = by (decoded word)
   where
     by : (o : Option Instr) → IsOneLine (text_or_word word o)
     by None = directive_one_line word

@@ -8,8 +8,8 @@ use Rattle.std.proofs.lemmas.List.Elements.{All-cons, All-head, All-tail}
 use Rattle.std.proofs.lemmas.List.Splits.{slice_split_at, slice_split_none}
 use Rattle.rv_names.specs.Operands.{trimmed}
 use Rattle.rv_names.specs.Line.{line_of, content_of, label_of, body_of, command_of}
-use Rattle.rv_names.specs.Text.{word_text}
-use Rattle.rv_names.specs.declared.lines.Cause.{Cause}
+use Rattle.rv_names.specs.Text.{disassembly}
+use Rattle.rv_names.specs.declared.lines.LineCause.{LineCause}
 use Rattle.rv_names.specs.declared.lines.Line.{Line}
 use Rattle.rv_names.specs.declared.lines.Section.TheVariants.{Text}
 use Rattle.rv_names.specs.declared.lines.Statement.{Statement}
@@ -20,7 +20,7 @@ use Rattle.rv_text.specs.declared.fault.AsmError.{AsmError}
 use Rattle.rv_text.specs.Assembly.{Item, Labels, SourceLayout, empty_layout, on_line, place_in, with_label, with_text, with_statement, with_line, layout_from, words_of_item, words_of, program_from, assembled}
 use Rattle.rv_text.specs.Back.{IsWord, IsLineOf, IsReadBack, IsAssembledBack, listing}
 use Rattle.rv_text.proofs.Cuts.{neither}
-use Rattle.rv_text.proofs.Instructions.{word_text_is_one_line}
+use Rattle.rv_text.proofs.Instructions.{disassembly_is_one_line}
 
 -- ---- the lines of a listing
 
@@ -30,12 +30,12 @@ lacks (b ∷ text) h =
     let parts = neither (b == 10) _ h in
     All-cons (λ x. (x == 10) ≡ false) b text parts.0 (lacks text parts.1)
 
-lines_of : (words : List ℕ) → slice_split (λ b. b == 10) (listing words) ≡ map word_text words ++ [] ∷ []
+lines_of : (words : List ℕ) → slice_split (λ b. b == 10) (listing words) ≡ map disassembly words ++ [] ∷ []
 lines_of [] = refl
 lines_of (word ∷ words) =
-    ap (slice_split (λ b. b == 10)) (append_assoc (word_text word) (codes "\n") (listing words))
-    ∙ slice_split_at (λ b. b == 10) (word_text word) 10 (listing words) (lacks (word_text word) (word_text_is_one_line word)) refl
-    ∙ ap (λ (t : List (List ℕ)). word_text word ∷ t) (lines_of words)
+    ap (slice_split (λ b. b == 10)) (append_assoc (disassembly word) (codes "\n") (listing words))
+    ∙ slice_split_at (λ b. b == 10) (disassembly word) 10 (listing words) (lacks (disassembly word) (disassembly_is_one_line word)) refl
+    ∙ ap (λ (t : List (List ℕ)). disassembly word ∷ t) (lines_of words)
 
 -- ---- one word more
 
@@ -86,7 +86,7 @@ module _ (n size word : ℕ) (items : List Item) (front : List ℕ) (texts : Lis
       rw (fits size room) (laid_item (record { line = n; address = place_in Text (state items size); statement = WordValue value; target = target }) (ap (λ w. Ok (w ∷ [])) e))
   stated label target _ h = absurd h
 
-  line_read : (text : List ℕ) (r : Result (Line (List ℕ)) Cause) → line_of Text text ≡ r → IsLineOf word r → rest_gives n (text ∷ texts) items size ≡ wanted
+  line_read : (text : List ℕ) (r : Result (Line (List ℕ)) LineCause) → line_of Text text ≡ r → IsLineOf word r → rest_gives n (text ∷ texts) items size ≡ wanted
   unfolding layout_from with_line with_label
   line_read text (Ok line) e h = rw (e, h.0) (stated None line.target line.statement h.1)
   line_read text (Err cause) e h = absurd h
@@ -96,16 +96,16 @@ unfolding layout_from with_line with_label line_of content_of label_of body_of c
 empty_line n items size = refl
 
 lines_read : (n size : ℕ) (items : List Item) (front words : List ℕ) → words_of [] items ≡ Ok front → All IsReadBack words → size + 4 * length words ≤ 65536
-    → rest_gives n (map word_text words ++ [] ∷ []) items size ≡ only_words (front ++ words)
+    → rest_gives n (map disassembly words ++ [] ∷ []) items size ≡ only_words (front ++ words)
 lines_read n size items front [] before h room =
     empty_line n items size
     ∙ ap (λ r. result_map_both (λ text. (record { text = text; data_bytes = [] })) (λ fault. fault) r) before
     ∙ ap only_words (sym (append-nil front))
 lines_read n size items front (word ∷ words) before h room =
-    line_read n size word items front (map word_text words ++ [] ∷ []) (only_words (front ++ word ∷ words)) before (omega arith)
+    line_read n size word items front (map disassembly words ++ [] ∷ []) (only_words (front ++ word ∷ words)) before (omega arith)
     (λ item more. lines_read (n + 1) (size + 4) (items ++ item ∷ []) (front ++ word ∷ []) words more (All-tail IsReadBack word words h) (omega arith)
     ∙ ap only_words (append_assoc front (word ∷ []) words))
-    (word_text word) (line_of Text (word_text word)) refl (All-head IsReadBack word words h)
+    (disassembly word) (line_of Text (disassembly word)) refl (All-head IsReadBack word words h)
 
 no_words : words_of [] [] ≡ Ok []
 unfolding words_of
@@ -119,10 +119,10 @@ assembled_listing words h room =
     ∙ lines_read 1 0 [] [] words no_words h (omega arith)
 
 -- the text of a word, which is read back, is the source of that word
-pub assembled_word_text : (word : ℕ) → IsReadBack word → assembled (word_text word) ≡ only_words (word ∷ [])
+pub assembled_disassembly : (word : ℕ) → IsReadBack word → assembled (disassembly word) ≡ only_words (word ∷ [])
 unfolding assembled layout_from
-assembled_word_text word back =
-    ap (λ texts. program_from (layout_from 1 texts empty_layout)) (slice_split_none (λ b. b == 10) (word_text word) (lacks (word_text word) (word_text_is_one_line word)))
+assembled_disassembly word back =
+    ap (λ texts. program_from (layout_from 1 texts empty_layout)) (slice_split_none (λ b. b == 10) (disassembly word) (lacks (disassembly word) (disassembly_is_one_line word)))
     ∙ line_read 1 0 word [] [] [] (only_words (word ∷ [])) no_words (omega arith)
     (λ item more. ap (λ r. result_map_both (λ text. (record { text = text; data_bytes = [] })) (λ fault. fault) r) more)
-    (word_text word) (line_of Text (word_text word)) refl back
+    (disassembly word) (line_of Text (disassembly word)) refl back

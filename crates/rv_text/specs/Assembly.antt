@@ -12,8 +12,8 @@ use Rattle.rv_isa.specs.declared.instruction.Instr.TheVariants.{Jal, Branch}
 use Rattle.rv_names.specs.Line.{line_of}
 use Rattle.rv_names.specs.Operands.{branch_offset_of, jump_offset_of}
 use Rattle.rv_names.specs.Statements.{load_number}
-use Rattle.rv_names.specs.declared.lines.Cause.{Cause}
-use Rattle.rv_names.specs.declared.lines.Cause.TheVariants as alone
+use Rattle.rv_names.specs.declared.lines.LineCause.{LineCause}
+use Rattle.rv_names.specs.declared.lines.LineCause.TheVariants as alone
 use Rattle.rv_names.specs.declared.lines.Line.{Line}
 use Rattle.rv_names.specs.declared.lines.Section.{Section}
 use Rattle.rv_names.specs.declared.lines.Section.TheVariants.{Text, Data}
@@ -70,7 +70,7 @@ place_in Data l = 0x20000 + length l.data_bytes
 
 -- ---- the faults of lines: 1, 2, 3, then 5, then 7
 
-abbrev pub cause_of : Cause → AsmCause
+abbrev pub cause_of : LineCause → AsmCause
 cause_of alone.UnknownMnemonic = UnknownMnemonic
 cause_of alone.BadOperand = BadOperand
 cause_of alone.ImmediateRange = ImmediateRange

@@ -1,7 +1,7 @@
 //! Laws of assembling the texts of words: the words come back.
 
 ghost use Rattle.std.specs.Prelude.{◌≡◌, ◌≤◌, ◌*◌, ◌∷◌, [], All, Ok, length};
-ghost use Rattle.rv_names.specs.Text.{word_text};
+ghost use Rattle.rv_names.specs.Text.{disassembly};
 ghost use Rattle.rv_text.specs.Assembly.{assembled};
 ghost use Rattle.rv_text.specs.Back.{IsAssembledBack, IsReadBack};
 
@@ -9,9 +9,9 @@ use crate::laws::text_is_read_back;
 use rv_program::Program;
 
 /// A law: the text of a word, as a source, gives the program with just that word and no data.
-#[tactic(auto, using(crate::proofs::Listings::assembled_word_text))]
+#[tactic(auto, using(crate::proofs::Listings::assembled_disassembly))]
 pub fn assembled_again(word: u32)
-    ensures { assembled (word_text word) ≡ Ok (record { text = word ∷ []; data_bytes = [] }) }
+    ensures { assembled (disassembly word) ≡ Ok (record { text = word ∷ []; data_bytes = [] }) }
 {
     text_is_read_back(word);
 }

@@ -2,9 +2,9 @@
 
 ghost use Rattle.std.specs.Prelude.{◌≡◌, ◌++◌, MatchResult};
 ghost use Rattle.std.specs.String.{string_bytes};
-ghost use Rattle.rv_names.specs.Text.{word_text};
+ghost use Rattle.rv_names.specs.Text.{disassembly};
 
-use rv_names::word_text;
+use rv_names::disassembly;
 use std::alloc::{AllocError, Global};
 
 /// Appends the text of a word. The text of an instruction has registers by their x names, signed decimals,
@@ -13,8 +13,8 @@ use std::alloc::{AllocError, Global};
 /// is then as before.
 pub fn disassemble(alloc: Global, word: u32, text: &mut String) -> Result<(), AllocError>
     ensures { MatchResult result
-        (λ _. string_bytes text.new ≡ string_bytes text.old ++ word_text word)
+        (λ _. string_bytes text.new ≡ string_bytes text.old ++ disassembly word)
         (λ _. string_bytes text.new ≡ string_bytes text.old) }
 {
-    text.push_str(word_text(alloc, word)?.as_str())
+    text.push_str(disassembly(alloc, word)?.as_str())
 }

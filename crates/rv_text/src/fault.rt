@@ -4,7 +4,7 @@ ghost use Rattle.std.specs.Prelude.{◌≡◌};
 ghost use Rattle.rv_text.specs.Faults.{name_of, number_of};
 ghost use Rattle.rv_text.specs.declared.fault.AsmCause.TheVariants.{Memory};
 
-use rv_names::Cause;
+use rv_names::LineCause;
 use std::alloc::{AllocError, AllocFailed};
 use std::fmt;
 use thiserror::Error;
@@ -85,16 +85,16 @@ impl<T: Drop> From<AllocFailed<T>> for AsmCause {
     }
 }
 
-impl From<Cause> for AsmCause {
+impl From<LineCause> for AsmCause {
     ghost use Rattle.rv_text.specs.Assembly.{cause_of};
 
     ghost from_gives = { λ cause e. e ≡ cause_of cause };
 
-    fn from(cause: Cause) -> AsmCause {
+    fn from(cause: LineCause) -> AsmCause {
         match cause {
-            Cause::UnknownMnemonic => AsmCause::UnknownMnemonic,
-            Cause::BadOperand => AsmCause::BadOperand,
-            Cause::ImmediateRange => AsmCause::ImmediateRange,
+            LineCause::UnknownMnemonic => AsmCause::UnknownMnemonic,
+            LineCause::BadOperand => AsmCause::BadOperand,
+            LineCause::ImmediateRange => AsmCause::ImmediateRange,
         }
     }
 }

@@ -31,9 +31,7 @@ pub enum Words {
 fn target_place(labels: &IndexMap<&[u8], u32>, target: Option<&[u8]>) -> Result<u32, AsmCause>
     ensures { result ≡ target_place (shown_labels labels.now.entries) (option_map (λ name. name.now) target.entry) }
 {
-    let Some(name) = target else {
-        return Err(AsmCause::UnknownLabel);
-    };
+    let name = target.ok_or(AsmCause::UnknownLabel)?;
     labels.get(name).copied().ok_or(AsmCause::UnknownLabel)
 }
 
@@ -48,25 +46,21 @@ fn distance(place: u32, address: u32) -> i64
 fn branch(condition: Condition, left: Reg, right: Reg, distance: i64) -> Result<Words, AsmCause>
     ensures { result_map_both shown_words (λ cause. cause) result ≡ branch_words condition left right distance }
 {
-    match branch_offset(distance) {
-        Some(offset) => Ok(Words::One(encode(&Instr::Branch {
-            condition,
-            left,
-            right,
-            offset,
-        }))),
-        None => Err(AsmCause::LabelRange),
-    }
+    let offset = branch_offset(distance).ok_or(AsmCause::LabelRange)?;
+    Ok(Words::One(encode(&Instr::Branch {
+        condition,
+        left,
+        right,
+        offset,
+    })))
 }
 
 /// JAL over this distance; LabelRange where the distance is out of range or odd.
 fn jump(rd: Reg, distance: i64) -> Result<Words, AsmCause>
     ensures { result_map_both shown_words (λ cause. cause) result ≡ jump_words rd distance }
 {
-    match jump_offset(distance) {
-        Some(offset) => Ok(Words::One(encode(&Instr::Jal { rd, offset }))),
-        None => Err(AsmCause::LabelRange),
-    }
+    let offset = jump_offset(distance).ok_or(AsmCause::LabelRange)?;
+    Ok(Words::One(encode(&Instr::Jal { rd, offset })))
 }
 
 /// The words of two instructions.

@@ -2,5 +2,5 @@ mod Chunks
 mod Crosses
 mod Memory
 mod Sharing
-mod Slots
+mod StoredRecords
 mod Walks

@@ -3,4 +3,4 @@ pub mod Chunks
 pub mod Faults
 pub mod Lent
 pub mod Ownership
-pub mod Slots
+pub mod StoredRecords

@@ -10,7 +10,7 @@ ghost use Rattle.version_arena.specs.declared.fault.ReserveFault.TheVariants.{Ar
 use crate::fault::ReserveFault;
 use crate::pool::Pool;
 use crate::record::{Record, VersionId};
-use crate::slot::Slot;
+use crate::stored_record::StoredRecord;
 use rv_ledger::{Change, Value};
 use std::alloc::{AllocError, Global};
 use std::marker::Model;
@@ -22,7 +22,7 @@ pub const RECORD_LIMIT: usize = 1_048_576;
 /// for more: for so many records, and for so many bytes of their values.
 #[derive(Drop)]
 pub struct Arena {
-    slots: Vec<Slot>,
+    stored: Vec<StoredRecord>,
     len: usize,
     bytes: usize,
     pool: Pool,
@@ -31,13 +31,13 @@ pub struct Arena {
 impl Model for Arena {
     ghost use Rattle.std.specs.Prelude.{◌<◌, ◌≤◌, ◌-◌, ◌+◌, All, length, map, take};
     ghost use Rattle.version_arena.specs.ArenaState.{ArenaState};
-    ghost use Rattle.version_arena.specs.Slots.{IsStored, record_of};
+    ghost use Rattle.version_arena.specs.StoredRecords.{IsStored, record_of};
 
     ghost Value = { ArenaState };
 
-    ghost view = { λ a. record { records = map (record_of a.pool.chunks) (take a.len a.slots.items); room = length a.slots.items - a.len; bytes = a.bytes } };
+    ghost view = { λ a. record { records = map (record_of a.pool.chunks) (take a.len a.stored.items); room = length a.stored.items - a.len; bytes = a.bytes } };
 
-    ghost invariant = { λ a. (a.len ≤ length a.slots.items) × (length a.slots.items ≤ 1048576) × (1 ≤ length a.slots.items + a.bytes → a.bytes < a.pool.room) × All (IsStored a.pool.chunks) (take a.len a.slots.items) };
+    ghost invariant = { λ a. (a.len ≤ length a.stored.items) × (length a.stored.items ≤ 1048576) × (1 ≤ length a.stored.items + a.bytes → a.bytes < a.pool.room) × All (IsStored a.pool.chunks) (take a.len a.stored.items) };
 }
 
 impl Arena {
@@ -46,7 +46,7 @@ impl Arena {
         ensures { result ≡ record { records = []; room = 0; bytes = 0 } }
     {
         Arena {
-            slots: Vec::new(alloc),
+            stored: Vec::new(alloc),
             len: 0,
             bytes: 0,
             pool: Pool::new(alloc),
@@ -68,12 +68,12 @@ impl Arena {
         if self.is_full_for(records) {
             return Err(ReserveFault::ArenaFull);
         }
-        if records <= self.slots.len() - self.len && bytes <= self.bytes {
+        if records <= self.stored.len() - self.len && bytes <= self.bytes {
             return Ok(());
         }
         let bytes = self.bytes.max(bytes);
         self.pool.reserve(bytes)?;
-        grow(&mut self.slots, self.len + records)?;
+        grow(&mut self.stored, self.len + records)?;
         self.bytes = bytes;
         Ok(())
     }
@@ -95,7 +95,7 @@ impl Arena {
     {
         let place = self.len;
         let bytes = len_of(&change);
-        self.slots[place] = Slot::of(&mut self.pool, writer, incarnation, change);
+        self.stored[place] = StoredRecord::of(&mut self.pool, writer, incarnation, change);
         self.len += 1;
         self.bytes -= bytes;
         VersionId { place }
@@ -109,8 +109,8 @@ impl Arena {
         if id.place >= self.len {
             return None;
         }
-        let slot = &self.slots[id.place];
-        Some(slot.record(&self.pool))
+        let stored = &self.stored[id.place];
+        Some(stored.record(&self.pool))
     }
 
     /// How many records there are, at most 1,048,576.
@@ -131,18 +131,18 @@ impl Arena {
     }
 }
 
-/// Adds vacant places until there are at least `count`. Refused where memory ran out, and then nothing
+/// Adds room for records until there is room for at least `count`. Refused where memory ran out, and then nothing
 /// changes.
-fn grow(slots: &mut Vec<Slot>, count: usize) -> Result<(), AllocError>
-    requires { (count ≤ 1048576) × (length slots.old.items ≤ 1048576) }
-    ensures ok { OnOk result (length slots.new.items ≡ max count (length slots.old.items)) }
-    ensures begins { take (length slots.old.items) slots.new.items ≡ slots.old.items }
-    ensures unchanged { OnErr result (slots.new.items ≡ slots.old.items) }
-    ensures succeeds { count ≤ length slots.old.items → result ≡ Ok tt }
+fn grow(stored: &mut Vec<StoredRecord>, count: usize) -> Result<(), AllocError>
+    requires { (count ≤ 1048576) × (length stored.old.items ≤ 1048576) }
+    ensures ok { OnOk result (length stored.new.items ≡ max count (length stored.old.items)) }
+    ensures begins { take (length stored.old.items) stored.new.items ≡ stored.old.items }
+    ensures unchanged { OnErr result (stored.new.items ≡ stored.old.items) }
+    ensures succeeds { count ≤ length stored.old.items → result ≡ Ok tt }
 {
-    slots.reserve(count.saturating_sub(slots.len()))?;
-    while slots.len() < count {
-        slots.push_reserved(Slot::vacant());
+    stored.reserve(count.saturating_sub(stored.len()))?;
+    while stored.len() < count {
+        stored.push_reserved(StoredRecord::vacant());
     }
     Ok(())
 }

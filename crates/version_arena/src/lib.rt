@@ -8,7 +8,7 @@ mod fault;
 mod pool;
 mod raw;
 mod record;
-mod slot;
+mod stored_record;
 
 pub use arena::{Arena, RECORD_LIMIT};
 pub use fault::ReserveFault;

@@ -11,7 +11,7 @@ loop-writer-preserved c =
     let seen : ℕ → Visible = seen_in c.args.arena.now.records c.args.at_key.now in
     let found = c.in-Standing-default-Sum in
     let nearest = found.ensures.nearest.1 ∙ ap (λ d. visible_over found.version.writer (Some (Stands found.version.incarnation (change_copied d))) (seen found.version.writer)) found.field-1-is in record {
-      passed = rw (c.push_reserved.ensures.items, c.amount_with.ensures)
+      passed = rw (c.push_reserved.ensures.items, c.total_amount.ensures)
           (walk_passes seen c.args.i c.loop-writer.below c.loop-writer.passed.items c.loop-writer.sum c.loop-writer.invariant.passed found.version found.amount found.ensures.nearest.0 nearest);
       room = c.push_reserved.ensures.capacity ∙ c.loop-writer.invariant.room;
     }

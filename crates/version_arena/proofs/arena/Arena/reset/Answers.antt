@@ -1,6 +1,6 @@
 use Rattle.std.proofs.Common.{arith}
 use Rattle.std.proofs.lemmas.List.Elements.{All-nil}
-use Rattle.version_arena.specs.Slots.{IsStored}
+use Rattle.version_arena.specs.StoredRecords.{IsStored}
 use Rattle.version_arena.proofs.arena.Arena.reset.Goals as goal
 
 pub invariant_of-self : goal.invariant_of-self
