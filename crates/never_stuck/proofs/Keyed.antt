@@ -15,7 +15,7 @@ use Rattle.stm_state.specs.declared.state.Status.TheVariants.{Executing}
 use Rattle.stm_state.specs.declared.state.CallState.{CallState}
 use Rattle.stm_state.specs.declared.state.Task.TheVariants.{Idle, Running}
 use Rattle.stm_state.specs.State.{State, start, fresh, call_at, task_at, with_call, with_task, is_done}
-use Rattle.stm_state.specs.Steps.{Block, Step, Ask, Read_key, counted, one_asking, one_step, answered_with, step_with, worker_step}
+use Rattle.stm_state.specs.Steps.{Block, Step, Ask, ReadKey, counted, one_asking, one_step, answered_with, step_with, worker_step}
 use Rattle.stm_state.specs.Done.{Reached, started, stepped, block_of}
 use Rattle.stm_state.proofs.Cases.{IsMade, by_ask, by_read, by_park, by_record, by_move, by_finish, by_check, by_decide, by_mark, by_abort, made}
 use Rattle.stm_state.proofs.Lists.{replicated}
@@ -113,8 +113,8 @@ module _ (call : Invocation) (store : Storage) (key : List ℕ) (never : asked_b
   abbrev astray : State
   astray = counted one_step 0 (with_task 0 (answered_with store key 0 [] (reading running.versions key 0)) running)
 
-  reads : worker_step one_call 0 (Read_key key) running ≡ Some (Ok astray)
-  reads = ap (λ task. step_with one_call 0 task (Read_key key) running) running_is
+  reads : worker_step one_call 0 (ReadKey key) running ≡ Some (Ok astray)
+  reads = ap (λ task. step_with one_call 0 task (ReadKey key) running) running_is
 
   goes_astray : ReadOutcome store key 0 [] (reading running.versions key 0) → IsAstray key astray
   goes_astray (answers_run answered) = record {
@@ -127,7 +127,7 @@ module _ (call : Invocation) (store : Storage) (key : List ℕ) (never : asked_b
   goes_astray (blocks_run b seen waits) = let less = blocker_lower running.versions key 0 b seen in absurd (omega (arith, less))
 
   astray_reached : Reached one_call 1 astray
-  astray_reached = stepped 0 (Read_key key) (stepped 0 Ask started (omega arith) asks) (omega arith) reads
+  astray_reached = stepped 0 (ReadKey key) (stepped 0 Ask started (omega arith) asks) (omega arith) reads
 
 pub keyed_lists_go_astray : KeyedListsGoAstray
 keyed_lists_go_astray call store key never = (

@@ -14,7 +14,7 @@ use Rattle.rv_step.specs.Run.{RunView, after_answer, asked_key, standing_at}
 use Rattle.stm_state.specs.declared.state.Task.{Task}
 use Rattle.stm_state.specs.declared.state.Task.TheVariants.{Idle, Running}
 use Rattle.stm_state.specs.State.{State, task_at}
-use Rattle.stm_state.specs.Steps.{Block, Read_key, answered_by, answered_with, counted, one_step, after_read_key, step_with, worker_step}
+use Rattle.stm_state.specs.Steps.{Block, ReadKey, answered_by, answered_with, counted, one_step, after_read_key, step_with, worker_step}
 use Rattle.stm_state.proofs.Tests.{equal_itself}
 use Rattle.stm_state.proofs.Whole.{same_state}
 use Rattle.stm_core.specs.CoreState.{read_result_by, read_result_of, runs}
@@ -75,14 +75,14 @@ module _ (block : Block) (calls : List Invocation) (w : ℕ) (key : List ℕ) (v
     task_after : (i : ℕ) (answers : List StorageAnswer) → task_at (counted one_step w (after_read_key block.base key w i answers s)) w ≡ answered_with block.base key i answers (reading s.versions key i)
     task_after i answers = get_or-set_same s.tasks w (answered_with block.base key i answers (reading s.versions key i)) Idle worker
 
-    fits_with : (task : Task) → step_with block w task (Read_key key) s ≡ Some (Ok t) → IsRunOf calls old task → ((i : ℕ) → runs task i ≡ true → read_result.Given value from ≡ read_result_of block.base key (reading s.versions key i)) → IsRunOf calls new (task_at t w)
+    fits_with : (task : Task) → step_with block w task (ReadKey key) s ≡ Some (Ok t) → IsRunOf calls old task → ((i : ℕ) → runs task i ≡ true → read_result.Given value from ≡ read_result_of block.base key (reading s.versions key i)) → IsRunOf calls new (task_at t w)
     fits_with (Running i answers None) k fits told =
         subst (λ (x : State). IsRunOf calls new (task_at x w)) (same_state _ t k)
         (subst (IsRunOf calls new) (sym (task_after i answers)) (seen_fits i answers fits.0 fits.1 (reading s.versions key i) (told i (equal_itself i))))
     fits_with task k fits told = absurd fits
 
     -- the run fits its task after the read
-    pub read_fits : worker_step block w (Read_key key) s ≡ Some (Ok t) → IsRunOf calls old (task_at s w) → ((i : ℕ) → runs (task_at s w) i ≡ true → read_result.Given value from ≡ read_result_of block.base key (reading s.versions key i)) → IsRunOf calls new (task_at t w)
+    pub read_fits : worker_step block w (ReadKey key) s ≡ Some (Ok t) → IsRunOf calls old (task_at s w) → ((i : ℕ) → runs (task_at s w) i ≡ true → read_result.Given value from ≡ read_result_of block.base key (reading s.versions key i)) → IsRunOf calls new (task_at t w)
     read_fits k fits told = fits_with (task_at s w) k fits told
 
 -- ---- what the core gives for a read

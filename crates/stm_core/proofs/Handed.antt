@@ -9,7 +9,7 @@ use Rattle.mvmap.specs.Versions.{Estimate, Versions, changed}
 use Rattle.stm_state.specs.declared.state.Task.{Task}
 use Rattle.stm_state.specs.declared.state.Task.TheVariants.{Idle, Running, Moving, Marking}
 use Rattle.stm_state.specs.State.{State, fresh, task_at}
-use Rattle.stm_state.specs.Steps.{Record, Move_key, Mark_estimate, counted, after_mark_estimate, after_move_key, one_execution, one_step, after_record, version_of, worker_step}
+use Rattle.stm_state.specs.Steps.{Record, MoveKey, MarkEstimate, counted, after_mark_estimate, after_move_key, one_execution, one_step, after_record, version_of, worker_step}
 use Rattle.stm_state.specs.Done.{block_of}
 use Rattle.stm_state.proofs.Invariant.{named_by}
 use Rattle.stm_state.proofs.Tests.{equal_itself}
@@ -47,16 +47,16 @@ module _ (job : Job) (table : Table) (promised : ℕ) (schedule : Schedule) (h :
 
   -- ---- move key
 
-  module _ (due : IsDue w Move_key b) (key : List ℕ) (keys : List (List ℕ)) (new : Bool) (at : get_or schedule.tasks w Idle ≡ Moving i (key ∷ keys) new) where
+  module _ (due : IsDue w MoveKey b) (key : List ℕ) (keys : List (List ℕ)) (new : Bool) (at : get_or schedule.tasks w Idle ≡ Moving i (key ∷ keys) new) where
     -- the next key has a place where the run wrote it, and its record is promised
     pub key_has_place : AreOpen table.places i (writes_at (get_or schedule.calls i fresh).last (key ∷ []))
-    key_has_place = next_has_place (block_of job.block job.store) (length schedule.tasks) w (state_in table promised schedule) (invariant_at job table promised schedule h) (due_at job table promised schedule h b is w Move_key due).worker table promised h.promises i key keys new at
+    key_has_place = next_has_place (block_of job.block job.store) (length schedule.tasks) w (state_in table promised schedule) (invariant_at job table promised schedule h) (due_at job table promised schedule h b is w MoveKey due).worker table promised h.promises i key keys new at
 
     pub key_is_promised : length (writes_at (get_or schedule.calls i fresh).last (key ∷ [])) ≤ promised
-    key_is_promised = next_is_promised (block_of job.block job.store) (length schedule.tasks) w (state_in table promised schedule) (invariant_at job table promised schedule h) (due_at job table promised schedule h b is w Move_key due).worker table promised h.promises i key keys new at
+    key_is_promised = next_is_promised (block_of job.block job.store) (length schedule.tasks) w (state_in table promised schedule) (invariant_at job table promised schedule h) (due_at job table promised schedule h b is w MoveKey due).worker table promised h.promises i key keys new at
 
     module _ (after_table : Table) (more : ℕ) (after : Schedule) (same : state_in after_table more after ≡ counted one_step w (after_move_key w i key keys new (state_in table promised schedule))) where
-      move_is_made : worker_step (block_of job.block job.store) w Move_key (state_in table promised schedule) ≡ Some (Ok (state_in after_table more after))
+      move_is_made : worker_step (block_of job.block job.store) w MoveKey (state_in table promised schedule) ≡ Some (Ok (state_in after_table more after))
       move_is_made = move_made (block_of job.block job.store) w (state_in table promised schedule) i key keys new at ∙ ap (λ t. Some (Ok t)) (sym same)
 
       -- the move leads on
@@ -64,34 +64,34 @@ module _ (job : Job) (table : Table) (promised : ℕ) (schedule : Schedule) (h :
           → more ≤ after_table.arena.room → more * 256 ≤ after_table.arena.bytes → IsReached job after_table more after
       move_reached places placed taken room bytes =
           let versions : after_table.versions ≡ changed table.versions (key, i) (version_of (get_or schedule.calls i fresh) key) = ap (λ (t : State). t.versions) same in
-          goes_on job table promised schedule h b is w Move_key due after_table more after move_is_made
+          goes_on job table promised schedule h b is w MoveKey due after_table more after move_is_made
           (subst (λ p. Within p after_table.versions) (sym places) (subst (Within table.places) (sym versions)
           (moved_within table.places i (get_or schedule.calls i fresh) key table.versions key_has_place h.places)))
           (subst (KeepsPromises after_table more) (sym same)
-          (moved_kept (block_of job.block job.store) (length schedule.tasks) w (state_in table promised schedule) (invariant_at job table promised schedule h) (due_at job table promised schedule h b is w Move_key due).worker table promised h.promises
+          (moved_kept (block_of job.block job.store) (length schedule.tasks) w (state_in table promised schedule) (invariant_at job table promised schedule h) (due_at job table promised schedule h b is w MoveKey due).worker table promised h.promises
           i more key keys new after_table at places placed taken room bytes))
 
       -- and it is made
-      pub move_makes : KeepsRooms w schedule.rooms after.rooms → Makes w Move_key b (core_state_of job after_table more after passed)
-      move_makes rooms = makes job table promised schedule h b is w Move_key due after_table more after move_is_made rooms
+      pub move_makes : KeepsRooms w schedule.rooms after.rooms → Makes w MoveKey b (core_state_of job after_table more after passed)
+      move_makes rooms = makes job table promised schedule h b is w MoveKey due after_table more after move_is_made rooms
 
   -- ---- mark estimate
 
-  module _ (due : IsDue w Mark_estimate b) (key : List ℕ) (keys : List (List ℕ)) (at : get_or schedule.tasks w Idle ≡ Marking i (key ∷ keys)) (after : Schedule) where
+  module _ (due : IsDue w MarkEstimate b) (key : List ℕ) (keys : List (List ℕ)) (at : get_or schedule.tasks w Idle ≡ Marking i (key ∷ keys)) (after : Schedule) where
     -- the table with an estimate at the key
     abbrev pub with_estimate : Table
     with_estimate = record table { versions = changed table.versions (key, i) (Some Estimate) }
 
     module _ (same : state_in with_estimate promised after ≡ counted one_step w (after_mark_estimate w i key keys (state_in table promised schedule))) where
-      mark_is_made : worker_step (block_of job.block job.store) w Mark_estimate (state_in table promised schedule) ≡ Some (Ok (state_in with_estimate promised after))
+      mark_is_made : worker_step (block_of job.block job.store) w MarkEstimate (state_in table promised schedule) ≡ Some (Ok (state_in with_estimate promised after))
       mark_is_made = mark_made (block_of job.block job.store) w (state_in table promised schedule) i key keys at ∙ ap (λ t. Some (Ok t)) (sym same)
 
       -- the mark leads on
       pub mark_reached : IsReached job with_estimate promised after
       mark_reached =
-          goes_on_quietly job table promised schedule h b is w Mark_estimate due with_estimate after tt mark_is_made
+          goes_on_quietly job table promised schedule h b is w MarkEstimate due with_estimate after tt mark_is_made
           (marked_within table.places i key table.versions (mark_has_place job table promised schedule h w i key keys at) h.places) refl refl
 
       -- and it is made
-      pub mark_makes : KeepsRooms w schedule.rooms after.rooms → Makes w Mark_estimate b (core_state_of job with_estimate promised after passed)
-      mark_makes rooms = makes job table promised schedule h b is w Mark_estimate due with_estimate promised after mark_is_made rooms
+      pub mark_makes : KeepsRooms w schedule.rooms after.rooms → Makes w MarkEstimate b (core_state_of job with_estimate promised after passed)
+      mark_makes rooms = makes job table promised schedule h b is w MarkEstimate due with_estimate promised after mark_is_made rooms

@@ -20,7 +20,7 @@ use Rattle.mvmap.specs.Versions.{Entry, Estimate, Versions, place_cmp}
 use Rattle.stm_state.specs.declared.state.Status.TheVariants.{Executing, Aborting}
 use Rattle.stm_state.specs.declared.state.Task.TheVariants.{Idle, Running, Moving, Validating, Marking}
 use Rattle.stm_state.specs.State.{State, fresh, start, call_at, task_at}
-use Rattle.stm_state.specs.Steps.{Block, Step, Ask, Read_key, Park, Record, Move_key, Finish_execution, Check_read, Decide, Mark_estimate, Finish_abort, ArenaFull, IncarnationLimit, counted, one_asking, one_step, one_execution, one_validation, after_ask, after_read_key, after_park, after_record, after_move_key, after_finish_execution, record_within, after_check_read, after_decide, after_mark_estimate, after_finish_abort, step_with, worker_step}
+use Rattle.stm_state.specs.Steps.{Block, Step, Ask, ReadKey, Park, Record, MoveKey, FinishExecution, CheckRead, Decide, MarkEstimate, FinishAbort, ArenaFull, IncarnationLimit, counted, one_asking, one_step, one_execution, one_validation, after_ask, after_read_key, after_park, after_record, after_move_key, after_finish_execution, record_within, after_check_read, after_decide, after_mark_estimate, after_finish_abort, step_with, worker_step}
 use Rattle.stm_state.specs.Done.{Reached, started, stepped, block_of, borne_out_by}
 use Rattle.stm_state.specs.Parts.{has_key}
 use Rattle.stm_state.proofs.Invariant.{Invariant, named_by, owned_by, run_by}
@@ -203,22 +203,22 @@ module _ (block : Block) (w : ℕ) (s : State) where
   pub ask_made : task_at s w ≡ Idle → worker_step block w Ask s ≡ Some (Ok (counted one_asking w (after_ask w s)))
   ask_made idle = ap (λ t. step_with block w t Ask s) idle
 
-  pub read_made : (key : List ℕ) (i : ℕ) (answers : List StorageAnswer) → task_at s w ≡ Running i answers None → worker_step block w (Read_key key) s ≡ Some (Ok (counted one_step w (after_read_key block.base key w i answers s)))
-  read_made key i answers runs = ap (λ t. step_with block w t (Read_key key) s) runs
+  pub read_made : (key : List ℕ) (i : ℕ) (answers : List StorageAnswer) → task_at s w ≡ Running i answers None → worker_step block w (ReadKey key) s ≡ Some (Ok (counted one_step w (after_read_key block.base key w i answers s)))
+  read_made key i answers runs = ap (λ t. step_with block w t (ReadKey key) s) runs
 
   pub park_made : (i b : ℕ) (answers : List StorageAnswer) → task_at s w ≡ Running i answers (Some b) → (call_at s i).incarnation < 65535 → worker_step block w Park s ≡ Some (Ok (counted one_step w (after_park w i b s)))
   park_made i b answers runs low =
       ap (λ t. step_with block w t Park s) runs
       ∙ ap (λ spent. cond spent (Some (Err IncarnationLimit)) (Some (Ok (counted one_step w (after_park w i b s))))) (not_le 65535 (call_at s i).incarnation low)
 
-  pub move_made : (i : ℕ) (key : List ℕ) (keys : List (List ℕ)) (new : Bool) → task_at s w ≡ Moving i (key ∷ keys) new → worker_step block w Move_key s ≡ Some (Ok (counted one_step w (after_move_key w i key keys new s)))
-  move_made i key keys new at = ap (λ t. step_with block w t Move_key s) at
+  pub move_made : (i : ℕ) (key : List ℕ) (keys : List (List ℕ)) (new : Bool) → task_at s w ≡ Moving i (key ∷ keys) new → worker_step block w MoveKey s ≡ Some (Ok (counted one_step w (after_move_key w i key keys new s)))
+  move_made i key keys new at = ap (λ t. step_with block w t MoveKey s) at
 
-  pub finish_made : (i : ℕ) (new : Bool) → task_at s w ≡ Moving i [] new → worker_step block w Finish_execution s ≡ Some (Ok (counted one_step w (after_finish_execution w i new s)))
-  finish_made i new at = ap (λ t. step_with block w t Finish_execution s) at
+  pub finish_made : (i : ℕ) (new : Bool) → task_at s w ≡ Moving i [] new → worker_step block w FinishExecution s ≡ Some (Ok (counted one_step w (after_finish_execution w i new s)))
+  finish_made i new at = ap (λ t. step_with block w t FinishExecution s) at
 
-  pub check_made : (i n left : ℕ) → task_at s w ≡ Validating i n (suc left) false → worker_step block w Check_read s ≡ Some (Ok (counted one_step w (after_check_read w i n left s)))
-  check_made i n left at = ap (λ t. step_with block w t Check_read s) at
+  pub check_made : (i n left : ℕ) → task_at s w ≡ Validating i n (suc left) false → worker_step block w CheckRead s ≡ Some (Ok (counted one_step w (after_check_read w i n left s)))
+  check_made i n left at = ap (λ t. step_with block w t CheckRead s) at
 
   pub decide_made : (i n left : ℕ) (failed : Bool) → task_at s w ≡ Validating i n left failed → is_due Decide (task_at s w) ≡ true → worker_step block w Decide s ≡ Some (Ok (counted one_validation w (after_decide w i n failed s)))
   decide_made i n left failed at due = ap (λ t. step_with block w t Decide s) at ∙ go left failed (sym (ap (is_due Decide) at) ∙ due)
@@ -228,11 +228,11 @@ module _ (block : Block) (w : ℕ) (s : State) where
       go zero false h = refl
       go (suc left) false h = cc
 
-  pub mark_made : (i : ℕ) (key : List ℕ) (keys : List (List ℕ)) → task_at s w ≡ Marking i (key ∷ keys) → worker_step block w Mark_estimate s ≡ Some (Ok (counted one_step w (after_mark_estimate w i key keys s)))
-  mark_made i key keys at = ap (λ t. step_with block w t Mark_estimate s) at
+  pub mark_made : (i : ℕ) (key : List ℕ) (keys : List (List ℕ)) → task_at s w ≡ Marking i (key ∷ keys) → worker_step block w MarkEstimate s ≡ Some (Ok (counted one_step w (after_mark_estimate w i key keys s)))
+  mark_made i key keys at = ap (λ t. step_with block w t MarkEstimate s) at
 
-  pub abort_made : (i : ℕ) → task_at s w ≡ Marking i [] → worker_step block w Finish_abort s ≡ Some (Ok (counted one_step w (after_finish_abort w i s)))
-  abort_made i at = ap (λ t. step_with block w t Finish_abort s) at
+  pub abort_made : (i : ℕ) → task_at s w ≡ Marking i [] → worker_step block w FinishAbort s ≡ Some (Ok (counted one_step w (after_finish_abort w i s)))
+  abort_made i at = ap (λ t. step_with block w t FinishAbort s) at
 
 module _ (block : Block) (w i : ℕ) (answers : List StorageAnswer) (s : State) where
   -- a record within the limits, and one that is refused

@@ -5,7 +5,7 @@ use Rattle.mvmap.specs.Versions.{Versions, Estimate, changed}
 use Rattle.stm_state.specs.declared.state.Task.{Task}
 use Rattle.stm_state.specs.declared.state.Task.TheVariants.{Idle, Running, Moving, Validating, Marking}
 use Rattle.stm_state.specs.State.{State, call_at, with_task}
-use Rattle.stm_state.specs.Steps.{Ask, Read_key, Record, Move_key, Finish_execution, Check_read, Mark_estimate, Finish_abort, after_mark_estimate, after_move_key, version_of}
+use Rattle.stm_state.specs.Steps.{Ask, ReadKey, Record, MoveKey, FinishExecution, CheckRead, MarkEstimate, FinishAbort, after_mark_estimate, after_move_key, version_of}
 use Rattle.stm_state.proofs.Invariant.{named_by}
 use Rattle.scheduler.specs.declared.worker.TaskKind.TheVariants as task_kind
 use Rattle.scheduler.specs.Workers.{HasKeys, IsRunning, task_kind_of}
@@ -19,7 +19,7 @@ pub asks_idle : (task : Task) → is_due Ask task ≡ true → task ≡ Idle
 asks_idle Idle h = refl
 asks_idle task h = cc
 
-pub reads_running : (task : Task) (key : List ℕ) (i : ℕ) (blocked : Option ℕ) → is_due (Read_key key) task ≡ true → task_kind.Running i blocked ≡ task_kind_of task → (answers : List StorageAnswer) × (task ≡ Running i answers None)
+pub reads_running : (task : Task) (key : List ℕ) (i : ℕ) (blocked : Option ℕ) → is_due (ReadKey key) task ≡ true → task_kind.Running i blocked ≡ task_kind_of task → (answers : List StorageAnswer) × (task ≡ Running i answers None)
 reads_running (Running j answers None) key i blocked h d = (answers, cc)
 reads_running task key i blocked h d = cc
 
@@ -27,31 +27,31 @@ pub records_running : (task : Task) (i : ℕ) (blocked : Option ℕ) → is_due 
 records_running (Running j answers None) i blocked h d = (answers, cc)
 records_running task i blocked h d = cc
 
-pub moves_key : (task : Task) (i : ℕ) (new : Bool) (key : List ℕ) → is_due Move_key task ≡ true → task_kind.Moving i new ≡ task_kind_of task → ((j : ℕ) (keys : List (List ℕ)) (b : Bool) → task ≡ Moving j keys b → Some key ≡ slice_get keys 0) → (keys : List (List ℕ)) × (task ≡ Moving i (key ∷ keys) new)
+pub moves_key : (task : Task) (i : ℕ) (new : Bool) (key : List ℕ) → is_due MoveKey task ≡ true → task_kind.Moving i new ≡ task_kind_of task → ((j : ℕ) (keys : List (List ℕ)) (b : Bool) → task ≡ Moving j keys b → Some key ≡ slice_get keys 0) → (keys : List (List ℕ)) × (task ≡ Moving i (key ∷ keys) new)
 moves_key (Moving j (k ∷ keys) c) i new key h d next = let same = next j (k ∷ keys) c refl in (keys, cc)
 moves_key task i new key h d next = cc
 
-pub moves_some_key : (task : Task) → is_due Move_key task ≡ true → ((j : ℕ) (keys : List (List ℕ)) (b : Bool) → task ≡ Moving j keys b → None ≡ slice_get keys 0) → ⊥
+pub moves_some_key : (task : Task) → is_due MoveKey task ≡ true → ((j : ℕ) (keys : List (List ℕ)) (b : Bool) → task ≡ Moving j keys b → None ≡ slice_get keys 0) → ⊥
 moves_some_key (Moving j (k ∷ keys) c) h next = let none = next j (k ∷ keys) c refl in cc
 moves_some_key task h next = cc
 
-pub finishes_moving : (task : Task) (i : ℕ) (new : Bool) → is_due Finish_execution task ≡ true → task_kind.Moving i new ≡ task_kind_of task → task ≡ Moving i [] new
+pub finishes_moving : (task : Task) (i : ℕ) (new : Bool) → is_due FinishExecution task ≡ true → task_kind.Moving i new ≡ task_kind_of task → task ≡ Moving i [] new
 finishes_moving (Moving j [] c) i new h d = cc
 finishes_moving task i new h d = cc
 
-pub marks_key : (task : Task) (i : ℕ) (key : List ℕ) → is_due Mark_estimate task ≡ true → task_kind.Marking i ≡ task_kind_of task → ((j : ℕ) (keys : List (List ℕ)) → task ≡ Marking j keys → Some key ≡ slice_get keys 0) → (keys : List (List ℕ)) × (task ≡ Marking i (key ∷ keys))
+pub marks_key : (task : Task) (i : ℕ) (key : List ℕ) → is_due MarkEstimate task ≡ true → task_kind.Marking i ≡ task_kind_of task → ((j : ℕ) (keys : List (List ℕ)) → task ≡ Marking j keys → Some key ≡ slice_get keys 0) → (keys : List (List ℕ)) × (task ≡ Marking i (key ∷ keys))
 marks_key (Marking j (k ∷ keys)) i key h d next = let same = next j (k ∷ keys) refl in (keys, cc)
 marks_key task i key h d next = cc
 
-pub marks_some_key : (task : Task) → is_due Mark_estimate task ≡ true → ((j : ℕ) (keys : List (List ℕ)) → task ≡ Marking j keys → None ≡ slice_get keys 0) → ⊥
+pub marks_some_key : (task : Task) → is_due MarkEstimate task ≡ true → ((j : ℕ) (keys : List (List ℕ)) → task ≡ Marking j keys → None ≡ slice_get keys 0) → ⊥
 marks_some_key (Marking j (k ∷ keys)) h next = let none = next j (k ∷ keys) refl in cc
 marks_some_key task h next = cc
 
-pub finishes_marking : (task : Task) (i : ℕ) → is_due Finish_abort task ≡ true → task_kind.Marking i ≡ task_kind_of task → task ≡ Marking i []
+pub finishes_marking : (task : Task) (i : ℕ) → is_due FinishAbort task ≡ true → task_kind.Marking i ≡ task_kind_of task → task ≡ Marking i []
 finishes_marking (Marking j []) i h d = cc
 finishes_marking task i h d = cc
 
-pub checks_next : (task : Task) (i n left : ℕ) (failed : Bool) → is_due Check_read task ≡ true → task_kind.Validating i n left failed ≡ task_kind_of task → (less : ℕ) × (left ≡ suc less) × (task ≡ Validating i n (suc less) false)
+pub checks_next : (task : Task) (i n left : ℕ) (failed : Bool) → is_due CheckRead task ≡ true → task_kind.Validating i n left failed ≡ task_kind_of task → (less : ℕ) × (left ≡ suc less) × (task ≡ Validating i n (suc less) false)
 checks_next (Validating j m (suc l) false) i n left failed h d = (l, cc, cc)
 checks_next task i n left failed h d = cc
 

@@ -19,7 +19,7 @@ use Rattle.stm_state.specs.declared.state.Task.{Task}
 use Rattle.stm_state.specs.declared.state.Task.TheVariants.{Idle, Running, Moving}
 use Rattle.stm_state.specs.Limits.{record_limit}
 use Rattle.stm_state.specs.State.{State, fresh, call_at, task_at}
-use Rattle.stm_state.specs.Steps.{Block, Step, Read_key, Record as Hand_in, Move_key, counted, one_step, one_execution, after_record, recorded_run, after_move_key, has_new_key, keys_of, keys_to_move, left_over, write_of, written_by}
+use Rattle.stm_state.specs.Steps.{Block, Step, ReadKey, Record as HandIn, MoveKey, counted, one_step, one_execution, after_record, recorded_run, after_move_key, has_new_key, keys_of, keys_to_move, left_over, write_of, written_by}
 use Rattle.stm_state.proofs.Invariant.{Invariant, owned_by}
 use Rattle.stm_state.proofs.Writes.{entries_found}
 use Rattle.stm_core.specs.CoreState.{is_due}
@@ -110,15 +110,15 @@ at_same_keys P i j keys ks new b e h =
 
 -- a step that neither hands a run in nor moves a key
 abbrev pub IsQuiet : Step → Type 0
-IsQuiet Hand_in = ⊥
-IsQuiet Move_key = ⊥
+IsQuiet HandIn = ⊥
+IsQuiet MoveKey = ⊥
 IsQuiet step = Unit {0}
 
 -- it leaves no keys to move
 leaves_none : (step : Step) (task : Task) → IsQuiet step → LeavesTask step task → moved_by task ≡ None
-leaves_none (Read_key key) task q h = h
-leaves_none Hand_in task q h = absurd q
-leaves_none Move_key task q h = absurd q
+leaves_none (ReadKey key) task q h = h
+leaves_none HandIn task q h = absurd q
+leaves_none MoveKey task q h = absurd q
 leaves_none step task q h = h.1
 
 none_unpublished : (calls : List CallState) (task : Task) → moved_by task ≡ None → unpublished calls task ≡ []
@@ -127,8 +127,8 @@ none_unpublished calls task h = refl
 
 -- nor is there a write to publish before it
 none_before : (calls : List CallState) (step : Step) (task : Task) → IsQuiet step → is_due step task ≡ true → unpublished calls task ≡ []
-none_before calls Hand_in (Moving i (key ∷ keys) new) q due = absurd q
-none_before calls Move_key (Moving i (key ∷ keys) new) q due = absurd q
+none_before calls HandIn (Moving i (key ∷ keys) new) q due = absurd q
+none_before calls MoveKey (Moving i (key ∷ keys) new) q due = absurd q
 none_before calls step (Moving i (key ∷ keys) new) q due = cc
 none_before calls step task q due = refl
 

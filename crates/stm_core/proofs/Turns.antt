@@ -12,7 +12,7 @@ use Rattle.stm_state.specs.declared.state.Task.{Task}
 use Rattle.stm_state.specs.declared.state.Task.TheVariants.{Idle, Running, Moving, Validating, Marking}
 use Rattle.stm_state.specs.declared.state.CallState.{CallState}
 use Rattle.stm_state.specs.State.{State, fresh, call_at, task_at, with_task, no_counts, is_ready, is_executed, is_done}
-use Rattle.stm_state.specs.Steps.{Block, Step, Ask, Read_key, Park, Record, Move_key, Finish_execution, Check_read, Decide, Mark_estimate, Finish_abort, ArenaFull, IncarnationLimit, counted, one_step, one_asking, one_execution, one_validation, after_ask, ask_validation, ask_execution, count_done, answered_by, after_read_key, after_park, after_record, after_move_key, after_finish_execution, next_incarnation, is_parked_on, resume_if_parked, resume_dependents, to_validate, after_check_read, next_stands, after_decide, after_mark_estimate, after_finish_abort, is_executed_at, record_within, step_with, worker_step}
+use Rattle.stm_state.specs.Steps.{Block, Step, Ask, ReadKey, Park, Record, MoveKey, FinishExecution, CheckRead, Decide, MarkEstimate, FinishAbort, ArenaFull, IncarnationLimit, counted, one_step, one_asking, one_execution, one_validation, after_ask, ask_validation, ask_execution, count_done, answered_by, after_read_key, after_park, after_record, after_move_key, after_finish_execution, next_incarnation, is_parked_on, resume_if_parked, resume_dependents, to_validate, after_check_read, next_stands, after_decide, after_mark_estimate, after_finish_abort, is_executed_at, record_within, step_with, worker_step}
 use Rattle.stm_state.proofs.Invariant.{owned_by}
 use Rattle.stm_state.proofs.Whole.{same_state, none_ok, err_ok}
 use Rattle.stm_core.specs.Driving.{HasNoAnswers}
@@ -50,9 +50,9 @@ Rests task = HasNoAnswers task × (moved_by task ≡ None)
 
 -- what a step leaves of a task: keys to move where it is a record or a move, answers where it is a read, and else neither
 abbrev pub LeavesTask : Step → Task → Type 0
-LeavesTask (Read_key key) task = moved_by task ≡ None
+LeavesTask (ReadKey key) task = moved_by task ≡ None
 LeavesTask Record task = HasNoAnswers task
-LeavesTask Move_key task = HasNoAnswers task
+LeavesTask MoveKey task = HasNoAnswers task
 LeavesTask step task = Rests task
 
 -- ---- last recorded runs
@@ -240,17 +240,17 @@ module _ (block : Block) (w : ℕ) (s t : State) where
   -- each step, by the task
   step_turn : (task : Task) → task_at s w ≡ task → (step : Step) → step_with block w task step s ≡ Some (Ok t) → Turn w (LeavesTask step) s t
   step_turn Idle at Ask k = subst (λ x. Turn w Rests s x) (same_state _ t k) (counts_one w s Rests one_asking _ (λ c. refl) (has_asked w s at))
-  step_turn (Running i answers None) at (Read_key key) k =
-      subst (λ x. Turn w (LeavesTask (Read_key key)) s x) (same_state _ t k) (counts_one w s (LeavesTask (Read_key key)) one_step _ (λ c. refl) (has_read w s block.base key i answers))
+  step_turn (Running i answers None) at (ReadKey key) k =
+      subst (λ x. Turn w (LeavesTask (ReadKey key)) s x) (same_state _ t k) (counts_one w s (LeavesTask (ReadKey key)) one_step _ (λ c. refl) (has_read w s block.base key i answers))
   step_turn (Running i answers (Some b)) at Park k = parked_within i b (nat_le 65535 (call_at s i).incarnation) k
   step_turn (Running i answers None) at Record k = recorded_within i answers (block.borne_out i (replies_of answers)) at k
-  step_turn (Moving i (key ∷ keys) new) at Move_key k = subst (λ x. Turn w HasNoAnswers s x) (same_state _ t k) (counts_one w s HasNoAnswers one_step _ (λ c. refl) (has_moved w s i key keys new))
-  step_turn (Moving i [] new) at Finish_execution k = subst (λ x. Turn w Rests s x) (same_state _ t k) (counts_one w s Rests one_step _ (λ c. refl) (has_executed w s i new))
+  step_turn (Moving i (key ∷ keys) new) at MoveKey k = subst (λ x. Turn w HasNoAnswers s x) (same_state _ t k) (counts_one w s HasNoAnswers one_step _ (λ c. refl) (has_moved w s i key keys new))
+  step_turn (Moving i [] new) at FinishExecution k = subst (λ x. Turn w Rests s x) (same_state _ t k) (counts_one w s Rests one_step _ (λ c. refl) (has_executed w s i new))
   step_turn (Validating i n left true) at Decide k = subst (λ x. Turn w Rests s x) (same_state _ t k) (counts_one w s Rests one_validation _ (λ c. refl) (has_decided w s i n true))
-  step_turn (Validating i n (suc left) false) at Check_read k = subst (λ x. Turn w Rests s x) (same_state _ t k) (counts_one w s Rests one_step _ (λ c. refl) (has_checked w s i n left))
+  step_turn (Validating i n (suc left) false) at CheckRead k = subst (λ x. Turn w Rests s x) (same_state _ t k) (counts_one w s Rests one_step _ (λ c. refl) (has_checked w s i n left))
   step_turn (Validating i n zero false) at Decide k = subst (λ x. Turn w Rests s x) (same_state _ t k) (counts_one w s Rests one_validation _ (λ c. refl) (has_decided w s i n false))
-  step_turn (Marking i (key ∷ keys)) at Mark_estimate k = subst (λ x. Turn w Rests s x) (same_state _ t k) (counts_one w s Rests one_step _ (λ c. refl) (has_marked w s i key keys))
-  step_turn (Marking i []) at Finish_abort k = subst (λ x. Turn w Rests s x) (same_state _ t k) (counts_one w s Rests one_step _ (λ c. refl) (has_aborted w s i))
+  step_turn (Marking i (key ∷ keys)) at MarkEstimate k = subst (λ x. Turn w Rests s x) (same_state _ t k) (counts_one w s Rests one_step _ (λ c. refl) (has_marked w s i key keys))
+  step_turn (Marking i []) at FinishAbort k = subst (λ x. Turn w Rests s x) (same_state _ t k) (counts_one w s Rests one_step _ (λ c. refl) (has_aborted w s i))
   step_turn task at step k = absurd (none_ok t k)
 
   -- each step

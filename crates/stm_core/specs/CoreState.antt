@@ -9,7 +9,7 @@ use Rattle.mvmap.specs.Reading.{Visible, blocker, origin_in, value_seen}
 use Rattle.stm_state.specs.declared.state.Task.{Task}
 use Rattle.stm_state.specs.declared.state.Task.TheVariants.{Idle, Running, Moving, Validating, Marking}
 use Rattle.stm_state.specs.State.{State, call_at, task_at, no_counts}
-use Rattle.stm_state.specs.Steps.{Block, Step, Ask, Read_key, Park, Record, Move_key, Finish_execution, Check_read, Decide, Mark_estimate, Finish_abort, Limit, keys_of, recorded_run, worker_step}
+use Rattle.stm_state.specs.Steps.{Block, Step, Ask, ReadKey, Park, Record, MoveKey, FinishExecution, CheckRead, Decide, MarkEstimate, FinishAbort, Limit, keys_of, recorded_run, worker_step}
 use Rattle.stm_state.specs.Done.{block_of}
 use Rattle.scheduler.specs.Schedule.{KeepsRooms, count_limit}
 use Rattle.stm_core.specs.declared.next_step.AskResult.{AskResult}
@@ -20,7 +20,7 @@ use Rattle.stm_core.specs.declared.next_step.StepKind.{StepKind}
 use Rattle.stm_core.specs.declared.next_step.StepKind.TheVariants as kinds
 use Rattle.stm_core.specs.declared.next_step.ReadResult.{ReadResult}
 use Rattle.stm_core.specs.declared.next_step.ReadResult.TheVariants as read_result
-use Rattle.stm_core.specs.declared.prepared.Prepared.{Prepared}
+use Rattle.stm_core.specs.declared.record_parts.RecordParts.{RecordParts}
 
 -- how many versions a read may pass: in the list for the origin that is kept, and in the one for the origin that is handed
 -- out
@@ -42,16 +42,16 @@ block_in b = block_of b.job.block b.job.store
 -- whether a task owes a step; a run that is not blocked owes both a read of any key and a record
 abbrev pub is_due : Step → Task → Bool
 is_due Ask Idle = true
-is_due (Read_key key) (Running i answers None) = true
+is_due (ReadKey key) (Running i answers None) = true
 is_due Record (Running i answers None) = true
 is_due Park (Running i answers (Some b)) = true
-is_due Move_key (Moving i (key ∷ keys) new) = true
-is_due Finish_execution (Moving i [] new) = true
+is_due MoveKey (Moving i (key ∷ keys) new) = true
+is_due FinishExecution (Moving i [] new) = true
 is_due Decide (Validating i n left true) = true
-is_due Check_read (Validating i n (suc left) false) = true
+is_due CheckRead (Validating i n (suc left) false) = true
 is_due Decide (Validating i n zero false) = true
-is_due Mark_estimate (Marking i (key ∷ keys)) = true
-is_due Finish_abort (Marking i []) = true
+is_due MarkEstimate (Marking i (key ∷ keys)) = true
+is_due FinishAbort (Marking i []) = true
 is_due step task = false
 
 -- a worker owes a step, and its number of steps is below the limit, so that it may count this one
@@ -62,7 +62,7 @@ pub record IsDue (w : ℕ) (step : Step) (b : CoreState) : Type 0 where
 
 -- whether a step reads a key
 abbrev pub is_read : Step → Bool
-is_read (Read_key key) = true
+is_read (ReadKey key) = true
 is_read step = false
 
 -- a worker's step was made; the other workers' runs have room for as many answers as before, and unless it is a read there is
@@ -83,12 +83,12 @@ IsTaken w step b = (s : State) × (worker_step (block_in b) w step b.state ≡ S
 -- the step of a kind
 abbrev pub step_of : StepKind → Step
 step_of kinds.Park = Park
-step_of kinds.MoveKey = Move_key
-step_of kinds.FinishExecution = Finish_execution
-step_of kinds.CheckRead = Check_read
+step_of kinds.MoveKey = MoveKey
+step_of kinds.FinishExecution = FinishExecution
+step_of kinds.CheckRead = CheckRead
 step_of kinds.Decide = Decide
-step_of kinds.MarkEstimate = Mark_estimate
-step_of kinds.FinishAbort = Finish_abort
+step_of kinds.MarkEstimate = MarkEstimate
+step_of kinds.FinishAbort = FinishAbort
 
 -- the step that a worker owes, with the call and its incarnation; in a validation, the one whose reads are checked
 abbrev pub next_step_of : State → Task → NextStep
@@ -161,6 +161,6 @@ pub record IsOwn (w : ℕ) (run : EndedRun) (b : CoreState) : Type 0 where
   pub same_answers : run.answers.items ≡ answers_of (task_at b.state w)
 
 -- what is made for the record of a run: the reads that it keeps, and the keys that the run wrote, in their order
-pub record IsPrepared (run : EndedRun) (prepared : Prepared) : Type 0 where
-  pub reads : prepared.reads ≡ (recorded_run run.answers.items run.receipt).reads
-  pub keys : prepared.keys.items ≡ keys_of (map.entries run.receipt.writes)
+pub record AreRecordParts (run : EndedRun) (record_parts : RecordParts) : Type 0 where
+  pub reads : record_parts.reads ≡ (recorded_run run.answers.items run.receipt).reads
+  pub keys : record_parts.keys.items ≡ keys_of (map.entries run.receipt.writes)

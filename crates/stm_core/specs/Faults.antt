@@ -7,24 +7,24 @@ use Rattle.stm_core.specs.declared.fault.RecordFault.{RecordFault}
 use Rattle.stm_core.specs.declared.fault.RecordFault.TheVariants as record_fault
 
 -- the number of a refusal of a schedule
-abbrev pub fault_number : DriveFault → ℕ
-fault_number NotDone = 1
-fault_number BadWorker = 2
-fault_number ArenaFull = 3
-fault_number IncarnationLimit = 4
-fault_number Memory = 5
+abbrev pub number_of : DriveFault → ℕ
+number_of NotDone = 1
+number_of BadWorker = 2
+number_of ArenaFull = 3
+number_of IncarnationLimit = 4
+number_of Memory = 5
 
 -- its name
-abbrev pub fault_name : DriveFault → List ℕ
-fault_name NotDone = codes "NotDone"
-fault_name BadWorker = codes "BadWorker"
-fault_name ArenaFull = codes "ArenaFull"
-fault_name IncarnationLimit = codes "IncarnationLimit"
-fault_name Memory = codes "Memory"
+abbrev pub name_of : DriveFault → List ℕ
+name_of NotDone = codes "NotDone"
+name_of BadWorker = codes "BadWorker"
+name_of ArenaFull = codes "ArenaFull"
+name_of IncarnationLimit = codes "IncarnationLimit"
+name_of Memory = codes "Memory"
 
 -- both, as they are printed
 abbrev pub fault_text : DriveFault → List ℕ
-fault_text fault = fault_name fault ++ codes " " ++ decimal (fault_number fault)
+fault_text fault = name_of fault ++ codes " " ++ decimal (number_of fault)
 
 -- the number of a refusal of a run that is handed in
 abbrev pub record_number : RecordFault → ℕ

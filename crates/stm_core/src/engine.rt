@@ -5,7 +5,7 @@ ghost use Rattle.rv_step.specs.Fold.{receipts_of, store_after};
 ghost use Rattle.rv_step.specs.Run.{IsEnded};
 ghost use Rattle.rv_step.specs.declared.stage.Stage.TheVariants.{Asked};
 ghost use Rattle.stm_state.specs.State.{State, no_counts, start, task_at};
-ghost use Rattle.stm_state.specs.Steps.{IncarnationLimit, Read_key, Record, worker_step};
+ghost use Rattle.stm_state.specs.Steps.{IncarnationLimit, ReadKey, Record, worker_step};
 ghost use Rattle.stm_state.specs.Drive.{drive_of, driven, due_result};
 ghost use Rattle.stm_state.specs.declared.state.Task.TheVariants.{Running};
 ghost use Rattle.stm_core.specs.CoreState.{IsDue, IsRefused, Makes, answers_of, block_in, step_of};
@@ -14,7 +14,7 @@ ghost use Rattle.stm_core.specs.declared.engine.DriveFault.TheVariants.{Memory};
 
 use crate::fault::RecordFault;
 use crate::next_step::{NextStep, ReadResult, StepKind};
-use crate::prepared::Prepared;
+use crate::record_parts::RecordParts;
 use crate::state::Core;
 use rv_ledger::{Job, Key, Outcome};
 use rv_step::{Pause, Run};
@@ -43,18 +43,18 @@ pub enum DriveFault {
 
 impl DriveFault {
     ghost use Rattle.std.specs.Prelude.{◌≡◌};
-    ghost use Rattle.stm_core.specs.Faults.{fault_name, fault_number};
+    ghost use Rattle.stm_core.specs.Faults.{name_of, number_of};
 
     /// The number in what is printed, 1 to 5.
     pub fn number(self) -> u8
-        ensures { result ≡ fault_number self }
+        ensures { result ≡ number_of self }
     {
         self as u8
     }
 
     /// The name in what is printed.
     pub fn name(self) -> &'static str
-        ensures { result.now ≡ fault_name self }
+        ensures { result.now ≡ name_of self }
     {
         match self {
             DriveFault::NotDone => "NotDone",
@@ -291,10 +291,10 @@ fn run_of(
 /// Reads the key that a worker's run asks for. Returns the run with its answer, or None where it met
 /// an estimate. Refused where memory ran out.
 fn read(core: &mut Core, worker: usize, mut run: Run, key: &Key) -> Result<Option<Run>, DriveFault>
-    requires due { IsDue worker (Read_key key.now) core.old }
+    requires due { IsDue worker (ReadKey key.now) core.old }
     requires asked { run.stage ≡ Asked key.now }
     requires fits { FitsTask core.old.job.block (Some run) (task_at core.old.state worker) }
-    ensures makes { OnOk result (Makes worker (Read_key key.now) core.old core.new) }
+    ensures makes { OnOk result (Makes worker (ReadKey key.now) core.old core.new) }
     ensures fits { IfOk result (λ next. FitsTask core.old.job.block next (task_at core.new.state worker)) }
     ensures memory { IfErr result (λ e. e ≡ Memory) }
 {
@@ -317,8 +317,8 @@ fn hand_in(alloc: Global, core: &mut Core, worker: usize, run: Run) -> Result<()
     ensures refused { IfErr result (λ e. IsStepRefusal e (worker_step (block_in core.old) worker Record core.old.state)) }
 {
     let run = run.finish();
-    let prepared = Prepared::of(alloc, &run)?;
-    match core.record_known(alloc, worker, run, prepared) {
+    let record_parts = RecordParts::of(alloc, &run)?;
+    match core.record_known(alloc, worker, run, record_parts) {
         Ok(_) => Ok(()),
         Err(refused) => Err(match refused.fault {
             RecordFault::ArenaFull => DriveFault::ArenaFull,

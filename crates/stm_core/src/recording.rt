@@ -10,11 +10,11 @@ ghost use Rattle.stm_state.specs.Steps.{counted, keys_of, keys_to_move, one_exec
 ghost use Rattle.scheduler.specs.Schedule.{KeepsRooms, MayCount};
 ghost use Rattle.scheduler.specs.Workers.{IsRunning, NobodyMoves};
 ghost use Rattle.stm_core.specs.declared.fault.RecordFault.TheVariants as fault;
-ghost use Rattle.stm_core.specs.CoreState.{IsPrepared};
+ghost use Rattle.stm_core.specs.CoreState.{AreRecordParts};
 ghost use Rattle.stm_core.specs.Inner.{AreOpen, IsGrown, IsPromised, state_in};
 
 use crate::fault::{RecordFault, Refused};
-use crate::prepared::Prepared;
+use crate::record_parts::RecordParts;
 use crate::same::same_answers;
 use crate::versions::{add_left_over, written_count};
 use mvmap::MvMap;
@@ -69,9 +69,9 @@ pub(crate) fn record_run(
     worker: usize,
     call: u16,
     run: EndedRun,
-    prepared: Prepared,
+    record_parts: RecordParts,
 ) -> Result<SpentRun, Refused>
-    requires prepared { IsPrepared run prepared }
+    requires record_parts { AreRecordParts run record_parts }
     requires counts { MayCount worker scheduler.old }
     requires within { call < length scheduler.old.calls }
     requires executing { (get_or scheduler.old.calls call fresh).status ≡ Executing }
@@ -93,7 +93,7 @@ pub(crate) fn record_run(
     if let Err(fault) = check_limits(map, *promised, state.incarnation, writes) {
         return Err(Refused { fault, run });
     }
-    let Prepared { reads, mut keys } = prepared;
+    let RecordParts { reads, mut keys } = record_parts;
     let count = keys.len();
     let records = *promised + count;
     let last = &state.last;

@@ -9,9 +9,9 @@ use crate::fault::{IncarnationLimit, RecordFault, Refused};
 use crate::next_step::{AskResult, NextStep, ReadResult, StepKind};
 use crate::outcome::{moved_outcome, outcome_of};
 use crate::passed_lists::PassedLists;
-use crate::prepared::Prepared;
 use crate::reading::{make_read_room, next_step_of, read_at};
 use crate::reads::next_stands;
+use crate::record_parts::RecordParts;
 use crate::recording::{SpentRun, check_limits, has_own_answers, is_run_of, record_run};
 use crate::versions::{mark_key, move_key};
 use mvmap::MvMap;
@@ -70,7 +70,7 @@ impl Core {
     ghost use Rattle.stm_state.specs.Parts.{CallsAreAttended, IsSized, OthersHaveEstimates, ReadsAreWatched, RunsAreBorneOut};
     ghost use Rattle.scheduler.specs.Schedule.{KeepsRooms};
     ghost use Rattle.stm_core.specs.declared.fault.RecordFault.TheVariants as fault;
-    ghost use Rattle.stm_core.specs.CoreState.{ask_result_of, HasReadRoom, IsDue, IsNoLess, IsOwn, IsPrepared, IsRefused, IsTaken, IsWithin, Makes, block_in, next_step_of, runs, read_result_of, step_of};
+    ghost use Rattle.stm_core.specs.CoreState.{ask_result_of, HasReadRoom, IsDue, IsNoLess, IsOwn, AreRecordParts, IsRefused, IsTaken, IsWithin, Makes, block_in, next_step_of, runs, read_result_of, step_of};
 
     /// The state at the start of a job; refused where memory ran out.
     pub fn new(alloc: Global, job: Job, workers: usize) -> Result<Core, AllocError>
@@ -201,9 +201,9 @@ impl Core {
 
     /// A worker's run reads the key that it asks for, in room that `room_for_read` made. Takes no memory.
     pub fn read(&mut self, worker: usize, key: &Key) -> ReadResult
-        requires due { IsDue worker (steps.Read_key key.now) self.old }
+        requires due { IsDue worker (steps.ReadKey key.now) self.old }
         requires room { HasReadRoom worker self.old }
-        ensures makes { Makes worker (steps.Read_key key.now) self.old self.new }
+        ensures makes { Makes worker (steps.ReadKey key.now) self.old self.new }
         ensures answers { (i : ℕ) → runs (task_at self.old.state worker) i ≡ true → result ≡ read_result_of self.old.job.store key.now (reading self.old.state.versions key.now i) }
         ensures passed { (i : ℕ) → runs (task_at self.old.state worker) i ≡ true → passed_in (reading self.old.state.versions key.now i) ≡ [] → self.new.passed ≡ self.old.passed }
     {
@@ -213,10 +213,10 @@ impl Core {
 
     /// The same, where the caller has looked up what the storage before the block has at the key.
     pub fn read_over(&mut self, worker: usize, key: &Key, base: Option<&Value>) -> ReadResult
-        requires due { IsDue worker (steps.Read_key key.now) self.old }
+        requires due { IsDue worker (steps.ReadKey key.now) self.old }
         requires room { HasReadRoom worker self.old }
         requires base { option_copied base ≡ finite.get self.old.job.store key.now }
-        ensures makes { Makes worker (steps.Read_key key.now) self.old self.new }
+        ensures makes { Makes worker (steps.ReadKey key.now) self.old self.new }
         ensures answers { (i : ℕ) → runs (task_at self.old.state worker) i ≡ true → result ≡ read_result_of self.old.job.store key.now (reading self.old.state.versions key.now i) }
         ensures passed { (i : ℕ) → runs (task_at self.old.state worker) i ≡ true → passed_in (reading self.old.state.versions key.now i) ≡ [] → self.new.passed ≡ self.old.passed }
     {
@@ -310,8 +310,8 @@ impl Core {
         if let Err(fault) = check_limits(&self.map, self.promised, incarnation, writes) {
             return Err(Refused { fault, run });
         }
-        match Prepared::of(alloc, &run) {
-            Ok(prepared) => self.record_known(alloc, worker, run, prepared),
+        match RecordParts::of(alloc, &run) {
+            Ok(record_parts) => self.record_known(alloc, worker, run, record_parts),
             Err(_) => Err(Refused {
                 fault: RecordFault::Memory,
                 run,
@@ -326,10 +326,10 @@ impl Core {
         alloc: Global,
         worker: usize,
         run: EndedRun,
-        prepared: Prepared,
+        record_parts: RecordParts,
     ) -> Result<SpentRun, Refused>
         requires due { IsDue worker steps.Record self.old }
-        requires prepared { IsPrepared run prepared }
+        requires record_parts { AreRecordParts run record_parts }
         requires call { (i : ℕ) → runs (task_at self.old.state worker) i ≡ true → slice_get self.old.job.block i ≡ Some run.call }
         ensures makes { OnOk result (Makes worker steps.Record self.old self.new) }
         ensures own { (IfErr result (λ e. e.fault ≢ fault.Foreign)) ↔ IsOwn worker run self.old }
@@ -355,15 +355,15 @@ impl Core {
             worker,
             call,
             run,
-            prepared,
+            record_parts,
         )
     }
 
     /// A worker moves the next key of the run that it handed in. What the run wrote there is published. A
     /// key that only the call's earlier run wrote is withdrawn. Takes no memory.
     pub fn move_key(&mut self, worker: usize)
-        requires { IsDue worker steps.Move_key self.old }
-        ensures { Makes worker steps.Move_key self.old self.new }
+        requires { IsDue worker steps.MoveKey self.old }
+        ensures { Makes worker steps.MoveKey self.old self.new }
     {
         let TaskKind::Moving { call, .. } = self.scheduler.task_kind(worker) else {
             unreachable!();
@@ -386,8 +386,8 @@ impl Core {
     /// new key; otherwise the worker validates the call next (Block-STM, `finish_execution`). Takes no
     /// memory.
     pub fn finish_execution(&mut self, worker: usize)
-        requires { IsDue worker steps.Finish_execution self.old }
-        ensures { Makes worker steps.Finish_execution self.old self.new }
+        requires { IsDue worker steps.FinishExecution self.old }
+        ensures { Makes worker steps.FinishExecution self.old self.new }
     {
         let TaskKind::Moving { call, new_key } = self.scheduler.task_kind(worker) else {
             unreachable!();
@@ -399,8 +399,8 @@ impl Core {
     /// answers the read differently. Where the call is no longer EXECUTED at that incarnation the task
     /// ends (Block-STM, a read of `validate_read_set`). Takes no memory.
     pub fn check_read(&mut self, worker: usize)
-        requires { IsDue worker steps.Check_read self.old }
-        ensures { Makes worker steps.Check_read self.old self.new }
+        requires { IsDue worker steps.CheckRead self.old }
+        ensures { Makes worker steps.CheckRead self.old self.new }
     {
         let TaskKind::Validating {
             call,
@@ -439,8 +439,8 @@ impl Core {
     /// A worker marks the next key of the call that it aborts: the version there becomes an estimate
     /// (Block-STM, a write of `convert_writes_to_estimates`). Takes no memory.
     pub fn mark_estimate(&mut self, worker: usize)
-        requires { IsDue worker steps.Mark_estimate self.old }
-        ensures { Makes worker steps.Mark_estimate self.old self.new }
+        requires { IsDue worker steps.MarkEstimate self.old }
+        ensures { Makes worker steps.MarkEstimate self.old self.new }
     {
         let TaskKind::Marking { call } = self.scheduler.task_kind(worker) else {
             unreachable!();
@@ -456,8 +456,8 @@ impl Core {
     /// Where the execution index is past the call, the worker runs it next (Block-STM,
     /// `finish_validation`). Takes no memory.
     pub fn finish_abort(&mut self, worker: usize)
-        requires { IsDue worker steps.Finish_abort self.old }
-        ensures { Makes worker steps.Finish_abort self.old self.new }
+        requires { IsDue worker steps.FinishAbort self.old }
+        ensures { Makes worker steps.FinishAbort self.old self.new }
     {
         let TaskKind::Marking { call } = self.scheduler.task_kind(worker) else {
             unreachable!();

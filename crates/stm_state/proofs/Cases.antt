@@ -8,7 +8,7 @@ use Rattle.stm_state.specs.declared.state.Task.{Task}
 use Rattle.stm_state.specs.declared.state.Task.TheVariants.{Idle, Running, Moving, Validating, Marking}
 use Rattle.stm_state.specs.Limits.{record_limit, incarnation_limit}
 use Rattle.stm_state.specs.State.{State, call_at, task_at}
-use Rattle.stm_state.specs.Steps.{Block, Step, Ask, Read_key, Park, Record, Move_key, Finish_execution, Check_read, Decide, Mark_estimate, Finish_abort, Limit, ArenaFull, IncarnationLimit, counted, one_step, one_asking, one_execution, one_validation, after_ask, after_read_key, after_park, after_record, after_move_key, after_finish_execution, after_check_read, after_decide, after_mark_estimate, after_finish_abort, record_within, step_with, worker_step}
+use Rattle.stm_state.specs.Steps.{Block, Step, Ask, ReadKey, Park, Record, MoveKey, FinishExecution, CheckRead, Decide, MarkEstimate, FinishAbort, Limit, ArenaFull, IncarnationLimit, counted, one_step, one_asking, one_execution, one_validation, after_ask, after_read_key, after_park, after_record, after_move_key, after_finish_execution, after_check_read, after_decide, after_mark_estimate, after_finish_abort, record_within, step_with, worker_step}
 use Rattle.stm_state.proofs.Tests.{not_le_says}
 
 -- a step has one result
@@ -26,16 +26,16 @@ err_ok e t h = cc
 -- a step of a worker is made, and comes to a state
 pub data IsMade (block : Block) (w : ℕ) (s : State) : Step → State → Type 0 where
   by_ask : task_at s w ≡ Idle → IsMade block w s Ask (counted one_asking w (after_ask w s))
-  by_read : (i : ℕ) (answers : List StorageAnswer) (key : List ℕ) → task_at s w ≡ Running i answers None → IsMade block w s (Read_key key) (counted one_step w (after_read_key block.base key w i answers s))
+  by_read : (i : ℕ) (answers : List StorageAnswer) (key : List ℕ) → task_at s w ≡ Running i answers None → IsMade block w s (ReadKey key) (counted one_step w (after_read_key block.base key w i answers s))
   by_park : (i b : ℕ) (answers : List StorageAnswer) → task_at s w ≡ Running i answers (Some b) → (call_at s i).incarnation < incarnation_limit → IsMade block w s Park (counted one_step w (after_park w i b s))
   by_record : (i : ℕ) (answers : List StorageAnswer) (receipt : Receipt) → task_at s w ≡ Running i answers None → block.borne_out i (replies_of answers) ≡ Some receipt → (call_at s i).incarnation < incarnation_limit
       → IsMade block w s Record (counted one_execution w (after_record w i answers receipt s))
-  by_move : (i : ℕ) (key : List ℕ) (keys : List (List ℕ)) (new : Bool) → task_at s w ≡ Moving i (key ∷ keys) new → IsMade block w s Move_key (counted one_step w (after_move_key w i key keys new s))
-  by_finish : (i : ℕ) (new : Bool) → task_at s w ≡ Moving i [] new → IsMade block w s Finish_execution (counted one_step w (after_finish_execution w i new s))
-  by_check : (i n left : ℕ) → task_at s w ≡ Validating i n (suc left) false → IsMade block w s Check_read (counted one_step w (after_check_read w i n left s))
+  by_move : (i : ℕ) (key : List ℕ) (keys : List (List ℕ)) (new : Bool) → task_at s w ≡ Moving i (key ∷ keys) new → IsMade block w s MoveKey (counted one_step w (after_move_key w i key keys new s))
+  by_finish : (i : ℕ) (new : Bool) → task_at s w ≡ Moving i [] new → IsMade block w s FinishExecution (counted one_step w (after_finish_execution w i new s))
+  by_check : (i n left : ℕ) → task_at s w ≡ Validating i n (suc left) false → IsMade block w s CheckRead (counted one_step w (after_check_read w i n left s))
   by_decide : (i n left : ℕ) (failed : Bool) → task_at s w ≡ Validating i n left failed → (failed ≡ false → left ≡ 0) → IsMade block w s Decide (counted one_validation w (after_decide w i n failed s))
-  by_mark : (i : ℕ) (key : List ℕ) (keys : List (List ℕ)) → task_at s w ≡ Marking i (key ∷ keys) → IsMade block w s Mark_estimate (counted one_step w (after_mark_estimate w i key keys s))
-  by_abort : (i : ℕ) → task_at s w ≡ Marking i [] → IsMade block w s Finish_abort (counted one_step w (after_finish_abort w i s))
+  by_mark : (i : ℕ) (key : List ℕ) (keys : List (List ℕ)) → task_at s w ≡ Marking i (key ∷ keys) → IsMade block w s MarkEstimate (counted one_step w (after_mark_estimate w i key keys s))
+  by_abort : (i : ℕ) → task_at s w ≡ Marking i [] → IsMade block w s FinishAbort (counted one_step w (after_finish_abort w i s))
 
 module _ (block : Block) (w : ℕ) (s t : State) where
   -- a state that it comes to
@@ -61,16 +61,16 @@ module _ (block : Block) (w : ℕ) (s t : State) where
   -- by the task
   made_by : (task : Task) → task_at s w ≡ task → (step : Step) → step_with block w task step s ≡ Some (Ok t) → IsMade block w s step t
   made_by Idle at Ask k = comes Ask _ (by_ask at) k
-  made_by (Running i answers None) at (Read_key key) k = comes (Read_key key) _ (by_read i answers key at) k
+  made_by (Running i answers None) at (ReadKey key) k = comes (ReadKey key) _ (by_read i answers key at) k
   made_by (Running i answers (Some b)) at Park k = park_made i b answers at (nat_le incarnation_limit (call_at s i).incarnation) refl k
   made_by (Running i answers None) at Record k = record_made i answers (block.borne_out i (replies_of answers)) at refl k
-  made_by (Moving i (key ∷ keys) new) at Move_key k = comes Move_key _ (by_move i key keys new at) k
-  made_by (Moving i [] new) at Finish_execution k = comes Finish_execution _ (by_finish i new at) k
-  made_by (Validating i n (suc left) false) at Check_read k = comes Check_read _ (by_check i n left at) k
+  made_by (Moving i (key ∷ keys) new) at MoveKey k = comes MoveKey _ (by_move i key keys new at) k
+  made_by (Moving i [] new) at FinishExecution k = comes FinishExecution _ (by_finish i new at) k
+  made_by (Validating i n (suc left) false) at CheckRead k = comes CheckRead _ (by_check i n left at) k
   made_by (Validating i n zero false) at Decide k = comes Decide _ (by_decide i n zero false at (λ _. refl)) k
   made_by (Validating i n left true) at Decide k = comes Decide _ (by_decide i n left true at (λ h. cc)) k
-  made_by (Marking i (key ∷ keys)) at Mark_estimate k = comes Mark_estimate _ (by_mark i key keys at) k
-  made_by (Marking i []) at Finish_abort k = comes Finish_abort _ (by_abort i at) k
+  made_by (Marking i (key ∷ keys)) at MarkEstimate k = comes MarkEstimate _ (by_mark i key keys at) k
+  made_by (Marking i []) at FinishAbort k = comes FinishAbort _ (by_abort i at) k
   made_by task at step k = absurd (none_ok t k)
 
   -- a step that a state follows is made

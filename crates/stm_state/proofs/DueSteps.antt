@@ -16,7 +16,7 @@ use Rattle.stm_state.specs.declared.state.Task.{Task}
 use Rattle.stm_state.specs.declared.state.Task.TheVariants.{Idle, Running, Moving, Validating, Marking}
 use Rattle.stm_state.specs.Limits.{record_limit, incarnation_limit}
 use Rattle.stm_state.specs.State.{State, call_at, task_at, is_executed, is_ready, is_done}
-use Rattle.stm_state.specs.Steps.{Step, Read_key, ask_validation, ask_execution, after_ask, answered_by, answered_with, after_park, resume_dependents, to_validate, after_finish_execution, after_check_read, after_decide, after_finish_abort, is_executed_at, next_stands, record_within, step_with}
+use Rattle.stm_state.specs.Steps.{Step, ReadKey, ask_validation, ask_execution, after_ask, answered_by, answered_with, after_park, resume_dependents, to_validate, after_finish_execution, after_check_read, after_decide, after_finish_abort, is_executed_at, next_stands, record_within, step_with}
 use Rattle.stm_state.specs.Done.{Reached, started, stepped, borne_out_by, block_of}
 use Rattle.stm_state.specs.Drive.{due_step_of_run, asked_at, due_step, DrivenTo, at_start, made_step, DueStepHasResult}
 use Rattle.stm_state.proofs.Invariant.{Invariant, named_by}
@@ -144,7 +144,7 @@ executed_goes calls store w s h i new = to_validate_goes calls store w _ h i (ca
 -- ---- a due step
 
 -- a run that reads a key asks for it
-asks_for : (o : Option (List ℕ)) (key : List ℕ) → Read_key key ≡ due_step_of_run o → o ≡ Some key
+asks_for : (o : Option (List ℕ)) (key : List ℕ) → ReadKey key ≡ due_step_of_run o → o ≡ Some key
 asks_for (Some other) key h = cc
 asks_for None key h = cc
 

@@ -12,7 +12,7 @@ use Rattle.stm_state.specs.declared.state.Task.{Task}
 use Rattle.stm_state.specs.declared.state.Task.TheVariants.{Idle, Running, Moving, Validating}
 use Rattle.stm_state.specs.Limits.{record_limit, incarnation_limit}
 use Rattle.stm_state.specs.State.{State, call_at, task_at, with_task}
-use Rattle.stm_state.specs.Steps.{Block, Step, Ask, Read_key, Record, Move_key, Finish_execution, Check_read, Decide, Limit, ArenaFull, IncarnationLimit, counted, one_step, one_asking, one_execution, one_validation, count_done, record_within, step_with, worker_step}
+use Rattle.stm_state.specs.Steps.{Block, Step, Ask, ReadKey, Record, MoveKey, FinishExecution, CheckRead, Decide, Limit, ArenaFull, IncarnationLimit, counted, one_step, one_asking, one_execution, one_validation, count_done, record_within, step_with, worker_step}
 use Rattle.stm_state.proofs.Invariant.{Invariant}
 use Rattle.stm_state.specs.Done.{Reached, started, stepped}
 use Rattle.stm_state.specs.OneWorker.{OneWorkerDid, OneWorkerCountsWhereReached}
@@ -66,7 +66,7 @@ module _ (block : Block) where
           (λ _ ok. let within = within_block h.now in comes one_execution (recorded_state block s d answers receipt h.now within) ok (λ i. moves (records_on receipt h within i)))) k
 
       runs_on : (answers : List StorageAnswer) (step : Step) → Runs block d steps told answers s → step_with block 0 (Running d answers None) step s ≡ Some (Ok t) → Phase t
-      runs_on answers (Read_key key) h k =
+      runs_on answers (ReadKey key) h k =
           let a = answered_here block.base key d answers (reading s.versions key d) (clear_below block s h.now.inv.facts d h.now.calls.below key) in
           comes_to one_step (with_task 0 (Running d (answers ++ a.answer ∷ []) None) s) (ap (λ (task : Task). with_task 0 task s) a.task) k (λ i. runs (reads_on key h a i))
       runs_on answers Record h k = hands_in answers h (block.borne_out d (replies_of answers)) k
@@ -74,8 +74,8 @@ module _ (block : Block) where
 
       -- where the keys of its run are moved
       moves_next : (run : Recorded) (keys : List (List ℕ)) (new : Bool) (step : Step) → Moves block d steps told run keys new s → step_with block 0 (Moving d keys new) step s ≡ Some (Ok t) → Phase t
-      moves_next run (key ∷ keys) new Move_key h k = comes one_step (after_move block s d run key keys new h.now) k (λ i. moves (moves_on h i))
-      moves_next run [] new Finish_execution h k =
+      moves_next run (key ∷ keys) new MoveKey h k = comes one_step (after_move block s d run key keys new h.now) k (λ i. moves (moves_on h i))
+      moves_next run [] new FinishExecution h k =
           let within = within_block h.now in
           comes_to one_step (with_task 0 Idle (finished block s d run new h.now within)) (executed_is block s d run new h.now within) k (λ i. waits (finishes_on h within i))
       moves_next run keys new step h k = absurd (none_ok t k)
@@ -86,7 +86,7 @@ module _ (block : Block) where
       waits_next step h k = absurd (none_ok t k)
 
       checks_next : (left : ℕ) (step : Step) → Checks block d steps told left s → step_with block 0 (Validating d 0 left false) step s ≡ Some (Ok t) → Phase t
-      checks_next (suc left) Check_read h k = comes_to one_step (with_task 0 (Validating d 0 left false) s) (check_stands block s d left h.now h.stand) k (λ i. checks (checks_on h i))
+      checks_next (suc left) CheckRead h k = comes_to one_step (with_task 0 (Validating d 0 left false) s) (check_stands block s d left h.now h.stand) k (λ i. checks (checks_on h i))
       checks_next zero Decide h k = comes_to one_validation (with_task 0 Idle s) (none_taken d 0 s) k (λ i. rests (decides_on h i))
       checks_next left step h k = absurd (none_ok t k)
 

@@ -23,8 +23,8 @@ use Rattle.rv_ledger.specs.declared.end.End.TheVariants.{Returned, OutOfGas}
 use Rattle.rv_ledger.specs.declared.end.Trap.{Trap}
 use Rattle.rv_ledger.specs.declared.writes.Write.{Write}
 use Rattle.ecalls.specs.StorageCalls.{a1, a2, ecall_charge, late_charge, request_of}
-use Rattle.ecalls.specs.declared.request_kind.Request.{Request}
-use Rattle.ecalls.specs.declared.request_kind.Request.TheVariants as request
+use Rattle.ecalls.specs.declared.request_kind.StorageRequest.{StorageRequest}
+use Rattle.ecalls.specs.declared.request_kind.StorageRequest.TheVariants as request
 use Rattle.rv_step.specs.declared.machine.Machine.{Machine}
 use Rattle.rv_step.specs.Step.{Progress, Going, Over, StepResult, Leads, Asks, charged_call_result, instruction_result, answered, ecall_result, charged, compute_result, delivery_result, fetch_result, is_ecall, memory_result, out_of_gas, decode_result, read_result, storage_call_result, step, load_result, delivered, value_result, write_result}
 use Rattle.rv_step.specs.Moment.{Source, from_storage, moment_from, moment_over, start}
@@ -106,7 +106,7 @@ wrote_few s write h = cond_both (has_room s.own write.key) _ _ (λ o. LeavesFew 
     (λ room. unfold LeavesFew in insert_few s.own write.key write.change room h)
     (λ _. unfold LeavesFew in h)
 
-served_few : (s : Machine) (r : Result Request Trap) → HasFew s → StepLeavesFew (storage_call_result s r)
+served_few : (s : Machine) (r : Result StorageRequest Trap) → HasFew s → StepLeavesFew (storage_call_result s r)
 unfolding storage_call_result StepLeavesFew
 served_few s (Err cause) h = unfold LeavesFew in h
 served_few s (Ok (request.Read key)) h = read_own_few s key _ h

@@ -10,12 +10,12 @@ use Rattle.rv_step.specs.declared.answer.StorageAnswer.{StorageAnswer}
 use Rattle.stm_state.specs.declared.state.Task.{Task}
 use Rattle.stm_state.specs.declared.state.Task.TheVariants.{Idle, Running, Moving, Validating, Marking}
 use Rattle.stm_state.specs.State.{State, start, task_at, is_done}
-use Rattle.stm_state.specs.Steps.{Step, Ask, Read_key, Park, Record, Move_key, Finish_execution, Check_read, Decide, Mark_estimate, Finish_abort, Limit, worker_step}
+use Rattle.stm_state.specs.Steps.{Step, Ask, ReadKey, Park, Record, MoveKey, FinishExecution, CheckRead, Decide, MarkEstimate, FinishAbort, Limit, worker_step}
 use Rattle.stm_state.specs.Done.{MeetsLimit, block_of}
 
 -- a run that asks for a key reads it, and a run that has ended is handed in
 abbrev pub due_step_of_run : Option (List ℕ) → Step
-due_step_of_run (Some key) = Read_key key
+due_step_of_run (Some key) = ReadKey key
 due_step_of_run None = Record
 
 -- the key that the call of an index asks for after these replies
@@ -28,13 +28,13 @@ abbrev pub step_by_task : (ℕ → List StorageAnswer → Step) → Task → Ste
 step_by_task run Idle = Ask
 step_by_task run (Running i answers None) = run i answers
 step_by_task run (Running i answers (Some b)) = Park
-step_by_task run (Moving i (key ∷ keys) new) = Move_key
-step_by_task run (Moving i [] new) = Finish_execution
+step_by_task run (Moving i (key ∷ keys) new) = MoveKey
+step_by_task run (Moving i [] new) = FinishExecution
 step_by_task run (Validating i n left true) = Decide
 step_by_task run (Validating i n zero false) = Decide
-step_by_task run (Validating i n (suc left) false) = Check_read
-step_by_task run (Marking i (key ∷ keys)) = Mark_estimate
-step_by_task run (Marking i []) = Finish_abort
+step_by_task run (Validating i n (suc left) false) = CheckRead
+step_by_task run (Marking i (key ∷ keys)) = MarkEstimate
+step_by_task run (Marking i []) = FinishAbort
 
 abbrev pub due_step : List Invocation → Task → Step
 due_step calls task = step_by_task (λ i answers. due_step_of_run (asked_at (slice_get calls i) (replies_of answers))) task

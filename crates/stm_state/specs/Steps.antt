@@ -235,15 +235,15 @@ after_finish_abort w i s =
 -- a step by its kind; a read names its key
 pub data Step : Type 0 where
   Ask : Step
-  Read_key : List ℕ → Step
+  ReadKey : List ℕ → Step
   Park : Step
   Record : Step
-  Move_key : Step
-  Finish_execution : Step
-  Check_read : Step
+  MoveKey : Step
+  FinishExecution : Step
+  CheckRead : Step
   Decide : Step
-  Mark_estimate : Step
-  Finish_abort : Step
+  MarkEstimate : Step
+  FinishAbort : Step
 
 -- why a step is refused
 pub data Limit : Type 0 where
@@ -262,17 +262,17 @@ record_within i answers w (Some receipt) s =
 -- the result of a worker's step, by its task; None where the step is not due
 abbrev pub step_with : Block → ℕ → Task → Step → State → Option (Result State Limit)
 step_with block w Idle Ask s = Some (Ok (counted one_asking w (after_ask w s)))
-step_with block w (Running i answers None) (Read_key key) s = Some (Ok (counted one_step w (after_read_key block.base key w i answers s)))
+step_with block w (Running i answers None) (ReadKey key) s = Some (Ok (counted one_step w (after_read_key block.base key w i answers s)))
 step_with block w (Running i answers (Some b)) Park s =
     if nat_le incarnation_limit (call_at s i).incarnation then Some (Err IncarnationLimit) else Some (Ok (counted one_step w (after_park w i b s)))
 step_with block w (Running i answers None) Record s = record_within i answers w (block.borne_out i (replies_of answers)) s
-step_with block w (Moving i (key ∷ keys) new) Move_key s = Some (Ok (counted one_step w (after_move_key w i key keys new s)))
-step_with block w (Moving i [] new) Finish_execution s = Some (Ok (counted one_step w (after_finish_execution w i new s)))
+step_with block w (Moving i (key ∷ keys) new) MoveKey s = Some (Ok (counted one_step w (after_move_key w i key keys new s)))
+step_with block w (Moving i [] new) FinishExecution s = Some (Ok (counted one_step w (after_finish_execution w i new s)))
 step_with block w (Validating i n left true) Decide s = Some (Ok (counted one_validation w (after_decide w i n true s)))
-step_with block w (Validating i n (suc left) false) Check_read s = Some (Ok (counted one_step w (after_check_read w i n left s)))
+step_with block w (Validating i n (suc left) false) CheckRead s = Some (Ok (counted one_step w (after_check_read w i n left s)))
 step_with block w (Validating i n zero false) Decide s = Some (Ok (counted one_validation w (after_decide w i n false s)))
-step_with block w (Marking i (key ∷ keys)) Mark_estimate s = Some (Ok (counted one_step w (after_mark_estimate w i key keys s)))
-step_with block w (Marking i []) Finish_abort s = Some (Ok (counted one_step w (after_finish_abort w i s)))
+step_with block w (Marking i (key ∷ keys)) MarkEstimate s = Some (Ok (counted one_step w (after_mark_estimate w i key keys s)))
+step_with block w (Marking i []) FinishAbort s = Some (Ok (counted one_step w (after_finish_abort w i s)))
 step_with block w task step s = None
 
 -- a step of a worker in a state; None where it is not due

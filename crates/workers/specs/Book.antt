@@ -3,7 +3,7 @@ use Rattle.std.specs.Prelude.{⊤, Result, Ok, Err, ◌≡◌, ◌<◌, ◌+◌,
 use Rattle.rv_ledger.specs.declared.outcome.Counts.{Counts}
 use Rattle.mvmap.specs.Reading.{reading}
 use Rattle.stm_state.specs.State.{task_at, no_counts, is_done}
-use Rattle.stm_state.specs.Steps.{Step, Ask, Read_key, Park, Record}
+use Rattle.stm_state.specs.Steps.{Step, Ask, ReadKey, Park, Record}
 use Rattle.stm_state.specs.Steps as steps
 use Rattle.scheduler.specs.Schedule.{count_limit}
 use Rattle.stm_core.specs.CoreState.{CoreState, HasReadRoom, IsRefused, Makes, next_step_of, read_result_of, step_of}
@@ -157,7 +157,7 @@ IsMakeCall kind call n before after share counted result = IsStepCall (next_step
 -- the same for a read of a key by a run
 abbrev pub IsReadCall : List ℕ → ℕ → ℕ → (before after : BookState) → (share counted : Share) → Result ReadResult RunFault → Type 0
 IsReadCall key call n before after share counted result =
-    IsStepCall (next_step.Run call n) (Read_key key) ⊤ (HasReadRoom share.worker before.core → ⊥)
+    IsStepCall (next_step.Run call n) (ReadKey key) ⊤ (HasReadRoom share.worker before.core → ⊥)
     (λ answer. (answer ≡ read_result_of before.core.job.store key (reading before.core.state.versions key call)) × (counted.dones ≡ share.dones)) before after share counted result
 
 -- why a worker may not make a step that it should owe, whatever the step

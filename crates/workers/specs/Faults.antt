@@ -7,28 +7,28 @@ use Rattle.workers.specs.declared.fault.RunFault.{RunFault}
 use Rattle.workers.specs.declared.fault.RunFault.TheVariants.{BadCount, Foreign, ArenaFull, IncarnationLimit, Memory, Spawn, StepLimit}
 
 -- the number of a refusal
-abbrev pub fault_number : RunFault → ℕ
-fault_number BadCount = 1
-fault_number Foreign = 2
-fault_number ArenaFull = 3
-fault_number IncarnationLimit = 4
-fault_number Memory = 5
-fault_number Spawn = 6
-fault_number StepLimit = 7
+abbrev pub number_of : RunFault → ℕ
+number_of BadCount = 1
+number_of Foreign = 2
+number_of ArenaFull = 3
+number_of IncarnationLimit = 4
+number_of Memory = 5
+number_of Spawn = 6
+number_of StepLimit = 7
 
 -- its name
-abbrev pub fault_name : RunFault → List ℕ
-fault_name BadCount = codes "BadCount"
-fault_name Foreign = codes "Foreign"
-fault_name ArenaFull = codes "ArenaFull"
-fault_name IncarnationLimit = codes "IncarnationLimit"
-fault_name Memory = codes "Memory"
-fault_name Spawn = codes "Spawn"
-fault_name StepLimit = codes "StepLimit"
+abbrev pub name_of : RunFault → List ℕ
+name_of BadCount = codes "BadCount"
+name_of Foreign = codes "Foreign"
+name_of ArenaFull = codes "ArenaFull"
+name_of IncarnationLimit = codes "IncarnationLimit"
+name_of Memory = codes "Memory"
+name_of Spawn = codes "Spawn"
+name_of StepLimit = codes "StepLimit"
 
 -- both, as they are printed
 abbrev pub fault_text : RunFault → List ℕ
-fault_text fault = fault_name fault ++ codes " " ++ decimal (fault_number fault)
+fault_text fault = name_of fault ++ codes " " ++ decimal (number_of fault)
 
 -- the name and the number of a refusal of a block of a chain
 abbrev pub chain_fault_text : ChainFault → List ℕ

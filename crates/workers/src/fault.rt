@@ -24,18 +24,18 @@ pub enum RunFault {
 
 impl RunFault {
     ghost use Rattle.std.specs.Prelude.{◌≡◌};
-    ghost use Rattle.workers.specs.Faults.{fault_name, fault_number};
+    ghost use Rattle.workers.specs.Faults.{name_of, number_of};
 
     /// The number in what is printed, 1 to 7.
     pub fn number(self) -> u8
-        ensures { result ≡ fault_number self }
+        ensures { result ≡ number_of self }
     {
         self as u8
     }
 
     /// The name in what is printed.
     pub fn name(self) -> &'static str
-        ensures { result.now ≡ fault_name self }
+        ensures { result.now ≡ name_of self }
     {
         match self {
             RunFault::BadCount => "BadCount",

@@ -4,7 +4,7 @@ ghost use Rattle.std.specs.Prelude.{◌≡◌, ◌+◌, None, Some, true, length
 ghost use Rattle.crossbeam_utils.specs.Seq.{cell_view};
 ghost use Rattle.rv_step.specs.Run.{IsEnded};
 ghost use Rattle.rv_step.specs.declared.stage.Stage.TheVariants.{Asked};
-ghost use Rattle.stm_core.specs.CoreState.{IsPrepared};
+ghost use Rattle.stm_core.specs.CoreState.{AreRecordParts};
 ghost use Rattle.workers.specs.DoneCell.{IsPassOf};
 ghost use Rattle.workers.specs.Work.{IsCallFault, IsMakeAnswer, IsMemoryOrRefused, IsRecordAnswer, IsRunAnswer, IsStepAnswer};
 
@@ -19,7 +19,7 @@ use rv_step::{EndedRun, Pause, Run};
 use std::alloc::Global;
 use std::mem::replace;
 use std::sync::Wait;
-use stm_core::{NextStep, Prepared, ReadResult, SpentRun, StepKind};
+use stm_core::{NextStep, ReadResult, RecordParts, SpentRun, StepKind};
 
 /// What a worker keeps from one step to the next: the room that the pages of one run leave to the next one, and how it
 /// spins between two looks at the cell.
@@ -242,11 +242,20 @@ fn run_call<J: JobName, R: Wait, G: Gate>(
     gate.held(share.worker());
     let (ended, left) = run.finish_with_room();
     *room = left;
-    let Ok(prepared) = Prepared::of(alloc, &ended) else {
+    let Ok(record_parts) = RecordParts::of(alloc, &ended) else {
         return Err(WorkFault::Met(shared.refuse(rt, OutsideFault::Memory)));
     };
     // The spent run is dropped here, after the lock.
-    let (next, _spent) = record(rt, alloc, shared, share, call, incarnation, ended, prepared)?;
+    let (next, _spent) = record(
+        rt,
+        alloc,
+        shared,
+        share,
+        call,
+        incarnation,
+        ended,
+        record_parts,
+    )?;
     Ok(next)
 }
 
@@ -260,9 +269,9 @@ fn record<J: JobName, R: Wait>(
     call: u16,
     incarnation: u16,
     run: EndedRun,
-    prepared: Prepared,
+    record_parts: RecordParts,
 ) -> Result<(NextStep, SpentRun), WrittenFault>
-    requires prepared { IsPrepared run prepared }
+    requires record_parts { AreRecordParts run record_parts }
     requires call { slice_get J.job.block call ≡ Some run.call }
     ensures answer { IfOk result (λ made. IsRecordAnswer call incarnation share.old share.new made.0) }
     ensures worker { share.new.worker ≡ share.old.worker }
@@ -271,7 +280,7 @@ fn record<J: JobName, R: Wait>(
 {
     shared
         .hold(rt)
-        .record_known(alloc, share, call, incarnation, run, prepared)
+        .record_known(alloc, share, call, incarnation, run, record_parts)
 }
 
 /// Takes a call's run on to its end. Returns false where it meets an estimate before that.

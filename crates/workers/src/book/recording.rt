@@ -7,13 +7,13 @@ use crate::book::{Book, JobName, Share, WrittenFault};
 use crate::fault::RunFault;
 use rv_step::EndedRun;
 use std::alloc::Global;
-use stm_core::{NextStep, Prepared, RecordFault, SpentRun};
+use stm_core::{NextStep, RecordFault, RecordParts, SpentRun};
 
 impl<J: JobName> Book<J> {
     ghost use Rattle.std.specs.Prelude.{◌≡◌, Some, true, slice_get, IfErr, IfOk, OnOk};
     ghost use Rattle.stm_state.specs.State.{task_at};
     ghost use Rattle.stm_state.specs.Steps as steps;
-    ghost use Rattle.stm_core.specs.CoreState.{IsOwn, IsPrepared, IsTaken, next_step_of};
+    ghost use Rattle.stm_core.specs.CoreState.{IsOwn, AreRecordParts, IsTaken, next_step_of};
     ghost use Rattle.stm_core.specs.declared.next_step.NextStep.TheVariants as next_step;
     ghost use Rattle.workers.specs.Book.{IsCause, IsMade, LeavesWritten, Owes};
 
@@ -58,9 +58,9 @@ impl<J: JobName> Book<J> {
         call: u16,
         incarnation: u16,
         run: EndedRun,
-        prepared: Prepared,
+        record_parts: RecordParts,
     ) -> Result<(NextStep, SpentRun), WrittenFault>
-        requires prepared { IsPrepared run prepared }
+        requires record_parts { AreRecordParts run record_parts }
         requires call { slice_get J.job.block call ≡ Some run.call }
         ensures made { OnOk result (IsMade (next_step.Run call incarnation) steps.Record self.old self.new share.old share.new) }
         ensures next { IfOk result (λ made. made.0 ≡ next_step_of self.new.core.state (task_at self.new.core.state share.new.worker)) }
@@ -71,7 +71,10 @@ impl<J: JobName> Book<J> {
     {
         self.ready(share, NextStep::Run { call, incarnation })?;
         stm_state::dones_grow_at_done();
-        match self.core.record_known(alloc, share.worker, run, prepared) {
+        match self
+            .core
+            .record_known(alloc, share.worker, run, record_parts)
+        {
             Ok(spent) => {
                 self.update(share);
                 Ok((self.core.doing(share.worker), spent))

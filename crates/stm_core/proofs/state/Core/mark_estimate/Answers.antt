@@ -2,7 +2,7 @@ use Rattle.std.proofs.Common.{◌+◌, length, get_or, Some, subst, sym}
 use Rattle.mvmap.specs.Table.{Table}
 use Rattle.mvmap.specs.Versions.{Estimate, changed}
 use Rattle.stm_state.specs.declared.state.Task.TheVariants.{Idle}
-use Rattle.stm_state.specs.Steps.{Mark_estimate}
+use Rattle.stm_state.specs.Steps.{MarkEstimate}
 use Rattle.stm_core.specs.CoreState.{Makes}
 use Rattle.stm_core.specs.Inner.{IsReached, core_state_of, room_of}
 use Rattle.stm_core.proofs.Handed.{mark_makes, mark_reached}
@@ -15,28 +15,28 @@ next_key-requires-clause-keys c = marking_has_keys (get_or c.self.inside.schedul
 
 pub unreachable-requires-in_default-next_key : goal.unreachable-requires-in_default-next_key
 unreachable-requires-in_default-next_key c =
-    let due = due_at c.self.inside.job c.self.inside.map c.self.inside.promised c.self.inside.scheduler c.self.invariant c.args.self.now c.self.view_is c.args.worker Mark_estimate c.requires in
+    let due = due_at c.self.inside.job c.self.inside.map c.self.inside.promised c.self.inside.scheduler c.self.invariant c.args.self.now c.self.view_is c.args.worker MarkEstimate c.requires in
     marks_some_key (get_or c.self.inside.scheduler.tasks c.args.worker Idle) due.due_step c.in_default-next_key.ensures.marking
 
 pub mark_key-requires : goal.mark_key-requires
 mark_key-requires c =
-    let due = due_at c.self.inside.job c.self.inside.map c.self.inside.promised c.self.inside.scheduler c.self.invariant c.args.self.now c.self.view_is c.args.worker Mark_estimate c.requires in
+    let due = due_at c.self.inside.job c.self.inside.map c.self.inside.promised c.self.inside.scheduler c.self.invariant c.args.self.now c.self.view_is c.args.worker MarkEstimate c.requires in
     let marks = marks_key (get_or c.self.inside.scheduler.tasks c.args.worker Idle) c.in-Marking.call c.in-Some.key.now due.due_step c.in-Marking.ensures c.in-Some.ensures.marking in
     mark_has_place c.self.inside.job c.self.inside.map c.self.inside.promised c.self.inside.scheduler c.self.invariant c.args.worker c.in-Marking.call c.in-Some.key.now marks.0 marks.1
 
 pub drop_key-requires-clause-counts : goal.drop_key-requires-clause-counts
-drop_key-requires-clause-counts c = may_count c.self.inside.job c.self.inside.map c.self.inside.promised c.self.inside.scheduler c.self.invariant c.args.self.now c.self.view_is c.args.worker Mark_estimate c.requires
+drop_key-requires-clause-counts c = may_count c.self.inside.job c.self.inside.map c.self.inside.promised c.self.inside.scheduler c.self.invariant c.args.self.now c.self.view_is c.args.worker MarkEstimate c.requires
 
 pub invariant_of-self : goal.invariant_of-self
 invariant_of-self c =
-    let due = due_at c.self.inside.job c.self.inside.map c.self.inside.promised c.self.inside.scheduler c.self.invariant c.args.self.now c.self.view_is c.args.worker Mark_estimate c.requires in
+    let due = due_at c.self.inside.job c.self.inside.map c.self.inside.promised c.self.inside.scheduler c.self.invariant c.args.self.now c.self.view_is c.args.worker MarkEstimate c.requires in
     let marks = marks_key (get_or c.self.inside.scheduler.tasks c.args.worker Idle) c.in-Marking.call c.in-Some.key.now due.due_step c.in-Marking.ensures c.in-Some.ensures.marking in
     subst (λ (t : Table). IsReached c.self.inside.job t c.self.inside.promised c.drop_key.new.self) (sym c.mark_key.ensures)
     (mark_reached c.self.inside.job c.self.inside.map c.self.inside.promised c.self.inside.scheduler c.self.invariant c.args.self.now c.self.view_is c.args.worker c.in-Marking.call c.requires c.in-Some.key.now marks.0 marks.1 c.drop_key.new.self (c.drop_key.ensures.marking c.in-Marking.call c.in-Some.key.now marks.0 marks.1 (changed c.self.inside.map.versions (c.in-Some.key.now, c.in-Marking.call) (Some Estimate)) (length c.self.inside.map.arena.records + c.self.inside.promised)))
 
 pub returns : goal.returns
 returns c =
-    let due = due_at c.self.inside.job c.self.inside.map c.self.inside.promised c.self.inside.scheduler c.self.invariant c.args.self.now c.self.view_is c.args.worker Mark_estimate c.requires in
+    let due = due_at c.self.inside.job c.self.inside.map c.self.inside.promised c.self.inside.scheduler c.self.invariant c.args.self.now c.self.view_is c.args.worker MarkEstimate c.requires in
     let marks = marks_key (get_or c.self.inside.scheduler.tasks c.args.worker Idle) c.in-Marking.call c.in-Some.key.now due.due_step c.in-Marking.ensures c.in-Some.ensures.marking in
-    subst (λ (t : Table). Makes c.args.worker Mark_estimate c.args.self.now (core_state_of c.self.inside.job t c.self.inside.promised c.drop_key.new.self (room_of c.self.inside.passed))) (sym c.mark_key.ensures)
+    subst (λ (t : Table). Makes c.args.worker MarkEstimate c.args.self.now (core_state_of c.self.inside.job t c.self.inside.promised c.drop_key.new.self (room_of c.self.inside.passed))) (sym c.mark_key.ensures)
     (mark_makes c.self.inside.job c.self.inside.map c.self.inside.promised c.self.inside.scheduler c.self.invariant c.args.self.now c.self.view_is c.args.worker c.in-Marking.call c.requires c.in-Some.key.now marks.0 marks.1 c.drop_key.new.self (c.drop_key.ensures.marking c.in-Marking.call c.in-Some.key.now marks.0 marks.1 (changed c.self.inside.map.versions (c.in-Some.key.now, c.in-Marking.call) (Some Estimate)) (length c.self.inside.map.arena.records + c.self.inside.promised)) c.drop_key.ensures.rooms)

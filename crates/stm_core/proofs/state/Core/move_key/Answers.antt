@@ -3,7 +3,7 @@ use Rattle.mvmap.specs.Versions.{changed}
 use Rattle.stm_state.specs.declared.state.CallState.{CallState}
 use Rattle.stm_state.specs.declared.state.Task.TheVariants.{Idle}
 use Rattle.stm_state.specs.State.{call_at}
-use Rattle.stm_state.specs.Steps.{Move_key, counted, after_move_key, one_step, version_of}
+use Rattle.stm_state.specs.Steps.{MoveKey, counted, after_move_key, one_step, version_of}
 use Rattle.stm_core.specs.Inner.{AreOpen, state_in, writes_at}
 use Rattle.stm_core.proofs.Handed.{key_has_place, key_is_promised, move_makes, move_reached}
 use Rattle.stm_core.proofs.Made.{due_at, may_count, named_in}
@@ -15,7 +15,7 @@ next_key-requires-clause-keys c = moving_has_keys (get_or c.self.inside.schedule
 
 pub unreachable-requires-in_default-next_key : goal.unreachable-requires-in_default-next_key
 unreachable-requires-in_default-next_key c =
-    let due = due_at c.self.inside.job c.self.inside.map c.self.inside.promised c.self.inside.scheduler c.self.invariant c.args.self.now c.self.view_is c.args.worker Move_key c.requires in
+    let due = due_at c.self.inside.job c.self.inside.map c.self.inside.promised c.self.inside.scheduler c.self.invariant c.args.self.now c.self.view_is c.args.worker MoveKey c.requires in
     moves_some_key (get_or c.self.inside.scheduler.tasks c.args.worker Idle) due.due_step c.in_default-next_key.ensures.moving
 
 pub call-requires : goal.call-requires
@@ -23,24 +23,24 @@ call-requires c = named_in c.self.inside.job c.self.inside.map c.self.inside.pro
 
 pub move_key-requires-clause-places : goal.move_key-requires-clause-places
 move_key-requires-clause-places c =
-    let due = due_at c.self.inside.job c.self.inside.map c.self.inside.promised c.self.inside.scheduler c.self.invariant c.args.self.now c.self.view_is c.args.worker Move_key c.requires in
+    let due = due_at c.self.inside.job c.self.inside.map c.self.inside.promised c.self.inside.scheduler c.self.invariant c.args.self.now c.self.view_is c.args.worker MoveKey c.requires in
     let moves = moves_key (get_or c.self.inside.scheduler.tasks c.args.worker Idle) c.in-Moving.call c.in-Moving.new_key c.in-Some.key.now due.due_step c.in-Moving.ensures c.in-Some.ensures.moving in
     subst (λ (x : CallState). AreOpen c.self.inside.map.places c.in-Moving.call (writes_at x.last (c.in-Some.key.now ∷ []))) (sym c.call.ensures)
     (key_has_place c.self.inside.job c.self.inside.map c.self.inside.promised c.self.inside.scheduler c.self.invariant c.args.self.now c.self.view_is c.args.worker c.in-Moving.call c.requires c.in-Some.key.now moves.0 c.in-Moving.new_key moves.1)
 
 pub move_key-requires-clause-promised : goal.move_key-requires-clause-promised
 move_key-requires-clause-promised c =
-    let due = due_at c.self.inside.job c.self.inside.map c.self.inside.promised c.self.inside.scheduler c.self.invariant c.args.self.now c.self.view_is c.args.worker Move_key c.requires in
+    let due = due_at c.self.inside.job c.self.inside.map c.self.inside.promised c.self.inside.scheduler c.self.invariant c.args.self.now c.self.view_is c.args.worker MoveKey c.requires in
     let moves = moves_key (get_or c.self.inside.scheduler.tasks c.args.worker Idle) c.in-Moving.call c.in-Moving.new_key c.in-Some.key.now due.due_step c.in-Moving.ensures c.in-Some.ensures.moving in
     subst (λ (x : CallState). length (writes_at x.last (c.in-Some.key.now ∷ [])) ≤ c.self.inside.promised) (sym c.call.ensures)
     (key_is_promised c.self.inside.job c.self.inside.map c.self.inside.promised c.self.inside.scheduler c.self.invariant c.args.self.now c.self.view_is c.args.worker c.in-Moving.call c.requires c.in-Some.key.now moves.0 c.in-Moving.new_key moves.1)
 
 pub drop_key-requires-clause-counts : goal.drop_key-requires-clause-counts
-drop_key-requires-clause-counts c = may_count c.self.inside.job c.self.inside.map c.self.inside.promised c.self.inside.scheduler c.self.invariant c.args.self.now c.self.view_is c.args.worker Move_key c.requires
+drop_key-requires-clause-counts c = may_count c.self.inside.job c.self.inside.map c.self.inside.promised c.self.inside.scheduler c.self.invariant c.args.self.now c.self.view_is c.args.worker MoveKey c.requires
 
 pub invariant_of-self : goal.invariant_of-self
 invariant_of-self c =
-    let due = due_at c.self.inside.job c.self.inside.map c.self.inside.promised c.self.inside.scheduler c.self.invariant c.args.self.now c.self.view_is c.args.worker Move_key c.requires in
+    let due = due_at c.self.inside.job c.self.inside.map c.self.inside.promised c.self.inside.scheduler c.self.invariant c.args.self.now c.self.view_is c.args.worker MoveKey c.requires in
     let moves = moves_key (get_or c.self.inside.scheduler.tasks c.args.worker Idle) c.in-Moving.call c.in-Moving.new_key c.in-Some.key.now due.due_step c.in-Moving.ensures c.in-Some.ensures.moving in
     let s = state_in c.self.inside.map c.self.inside.promised c.self.inside.scheduler in
     let versions : c.move_key.new.map.versions ≡ changed s.versions (c.in-Some.key.now, c.in-Moving.call) (version_of (call_at s c.in-Moving.call) c.in-Some.key.now) =
@@ -55,7 +55,7 @@ invariant_of-self c =
 
 pub returns : goal.returns
 returns c =
-    let due = due_at c.self.inside.job c.self.inside.map c.self.inside.promised c.self.inside.scheduler c.self.invariant c.args.self.now c.self.view_is c.args.worker Move_key c.requires in
+    let due = due_at c.self.inside.job c.self.inside.map c.self.inside.promised c.self.inside.scheduler c.self.invariant c.args.self.now c.self.view_is c.args.worker MoveKey c.requires in
     let moves = moves_key (get_or c.self.inside.scheduler.tasks c.args.worker Idle) c.in-Moving.call c.in-Moving.new_key c.in-Some.key.now due.due_step c.in-Moving.ensures c.in-Some.ensures.moving in
     let s = state_in c.self.inside.map c.self.inside.promised c.self.inside.scheduler in
     let versions : c.move_key.new.map.versions ≡ changed s.versions (c.in-Some.key.now, c.in-Moving.call) (version_of (call_at s c.in-Moving.call) c.in-Some.key.now) =
