@@ -11,7 +11,6 @@ mod migration;
 mod reader;
 mod scan;
 mod schedule;
-mod source;
 
 pub use block::parse;
 pub use block_text::{BlockText, CallLine};
@@ -19,4 +18,3 @@ pub use fault::{BlockFault, Cause};
 pub use laws::{migrated_says_the_same, one_reading};
 pub use migration::migrate;
 pub use schedule::parse_schedule;
-pub use source::{FallibleReader, Source};

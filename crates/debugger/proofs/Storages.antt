@@ -8,7 +8,7 @@ use Rattle.rv_ledger.specs.declared.outcome.Outcome.{Outcome}
 use Rattle.rv_ledger.specs.declared.receipt.Receipt.{Receipt}
 use Rattle.rv_step.specs.Chain.{ends}
 use Rattle.rv_step.specs.Fold.{receipts_of, store_after, store_after_call}
-use Rattle.debugger.specs.Replay.{EndsAs, ReplayState, opened, store_left}
+use Rattle.debugger.specs.Replay.{AgreesAtEnd, ReplayState, opened, store_left}
 use Rattle.debugger.proofs.Moments.{last_is_receipt}
 
 -- the first receipts of calls run in order leave the storage that the first calls leave
@@ -35,14 +35,14 @@ receipt_in_order [] index store receipt e = tt
 receipt_in_order (call ∷ calls) zero store receipt e = cc
 receipt_in_order (call ∷ calls) (suc index) store receipt e = receipt_in_order calls index (store_after_call call store) receipt e
 
-each_ends : (call : Option Invocation) (store wanted : Storage) (n : ℕ) (receipt : Receipt) → store ≡ wanted → IfSome call (λ c. receipt ≡ ends c wanted) → IfSome (option_map (λ (c : Invocation). let r : ReplayState = record { call = c; store = store; moment = 0 } in r) call) (λ r. EndsAs receipt (record r { moment = n }))
+each_ends : (call : Option Invocation) (store wanted : Storage) (n : ℕ) (receipt : Receipt) → store ≡ wanted → IfSome call (λ c. receipt ≡ ends c wanted) → IfSome (option_map (λ (c : Invocation). let r : ReplayState = record { call = c; store = store; moment = 0 } in r) call) (λ r. AgreesAtEnd receipt (record r { moment = n }))
 each_ends None store wanted n receipt same is = tt
 each_ends (Some call) store wanted n receipt same is = λ over.
     let last = last_is_receipt call store n over in
     let own : ends call store ≡ receipt = ap (ends call) same ∙ sym is in
     (last.0 ∙ ap (λ (r : Receipt). r.pc) own, last.1 ∙ ap (λ (r : Receipt). r.regs) own)
 
-pub opened_ends : (outcome : Outcome) (index n : ℕ) (receipt : Receipt) → outcome.receipts.items ≡ receipts_of outcome.job.block outcome.job.store → slice_get outcome.receipts.items index ≡ Some receipt → IfSome (opened outcome index) (λ r. EndsAs receipt (record r { moment = n }))
+pub opened_ends : (outcome : Outcome) (index n : ℕ) (receipt : Receipt) → outcome.receipts.items ≡ receipts_of outcome.job.block outcome.job.store → slice_get outcome.receipts.items index ≡ Some receipt → IfSome (opened outcome index) (λ r. AgreesAtEnd receipt (record r { moment = n }))
 opened_ends outcome index n receipt e at =
     each_ends (slice_get outcome.job.block index) (store_left outcome.job.store (take index outcome.receipts.items)) (store_after (take index outcome.job.block) outcome.job.store) n receipt
     (ap (λ (receipts : List Receipt). store_left outcome.job.store (take index receipts)) e ∙ left_by_first outcome.job.block index outcome.job.store)

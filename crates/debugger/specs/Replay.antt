@@ -36,8 +36,8 @@ abbrev pub is_at_end : ReplayState → Bool
 is_at_end r = is_over (standing r)
 
 -- where the call is over, it has the pc and the registers of this receipt
-abbrev pub EndsAs : Receipt → ReplayState → Type 0
-EndsAs receipt r = is_at_end r ≡ true → ((machine_at r).pc ≡ receipt.pc) × ((machine_at r).regs ≡ receipt.regs)
+abbrev pub AgreesAtEnd : Receipt → ReplayState → Type 0
+AgreesAtEnd receipt r = is_at_end r ≡ true → ((machine_at r).pc ≡ receipt.pc) × ((machine_at r).regs ≡ receipt.regs)
 
 -- the call goes on at each moment before one
 abbrev pub GoesOnBefore : ReplayState → Type 0
@@ -111,7 +111,7 @@ Shows view (Err fault) wanted = ⊥
 
 -- the text of the word that was fetched, if it may be
 abbrev pub fetched_text : Result ℕ AccessFault → List ℕ
-fetched_text (Ok word) = names.word_text word
+fetched_text (Ok word) = names.disassembly word
 fetched_text (Err cause) = codes "fetch-fault"
 
 -- a moment in decimal, the pc in eight hex digits, and the text of the word there

@@ -1,9 +1,11 @@
 -- What `debug` prints for its lines, and where it leaves the replay.
-use Rattle.std.specs.Prelude.{◌≡◌, ℕ, zero, suc, ◌+◌, ◌-◌, ◌^◌, ◌<◌, ◌≤◌, ◌==◌, ◌⊎◌, Bool, true, false, All, List, [], ◌∷◌, ◌++◌, codes, length, Option, Some, None, IfSome, if◌then◌else◌}
+use Rattle.std.specs.Prelude.{◌≡◌, ⊤, ℕ, zero, suc, ◌+◌, ◌-◌, ◌^◌, ◌<◌, ◌≤◌, ◌==◌, ◌⊎◌, Bool, true, false, All, List, [], ◌∷◌, ◌++◌, codes, length, Option, Some, None, IfSome, if◌then◌else◌}
 use Rattle.std.specs.Io.KnownBytes.{Appends}
 use Rattle.rv_ledger.specs.Key.{Storage}
 use Rattle.rv_ledger.specs.Call.{Invocation}
 use Rattle.block_file.specs.Line.{cut}
+use Rattle.byte_streams.specs.Written.{MayRefuse}
+use Rattle.byte_streams.specs.declared.fault.WriteFault.TheVariants as output
 use Rattle.receipts.specs.Text.{bytes_text, regs_line}
 use Rattle.debugger.specs.declared.command.Command.{Command}
 use Rattle.debugger.specs.declared.command.Command.TheVariants.{Step, Back, RunTo, Where, Registers, Bytes, Quit}
@@ -108,6 +110,12 @@ EndsAs ending new before after = Appends before after ending.text × (new ≡ en
 -- an input may be cut off: a read may fail, or it has at least 2^64 - 1 bytes
 abbrev pub MayBeCutOff : Type 0 → Option (List ℕ) → Type 0
 MayBeCutOff may_fail input = may_fail ⊎ IfSome input (λ bytes. 2 ^ 64 - 1 ≤ length bytes)
+
+-- a session may be refused so: for its output only where a write may be refused so, and never as Memory of the output
+abbrev pub MayTell : Type 0 → Type 0 → DebugFault → Type 0
+MayTell may_fail may_take_nothing (Output output.Memory) = ⊥
+MayTell may_fail may_take_nothing (Output fault) = MayRefuse may_fail may_take_nothing fault
+MayTell may_fail may_take_nothing _ = ⊤
 
 -- the known bytes grow by a beginning of a text
 abbrev pub AppendsBeginning : Option (List ℕ) → Option (List ℕ) → List ℕ → Type 0

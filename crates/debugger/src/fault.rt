@@ -3,7 +3,7 @@
 ghost use Rattle.std.specs.Prelude.{◌≡◌};
 ghost use Rattle.debugger.specs.Faults.{name_of, number_of};
 
-use receipts::WriteFault;
+use byte_streams::WriteFault;
 use std::fmt;
 use thiserror::Error;
 

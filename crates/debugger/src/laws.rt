@@ -8,7 +8,7 @@ ghost use Rattle.rv_ledger.specs.declared.receipt.Receipt.{Receipt};
 ghost use Rattle.rv_step.specs.Chain.{ends};
 ghost use Rattle.rv_step.specs.Fold.{receipts_of, store_before};
 ghost use Rattle.rv_step.specs.Moment.{is_over, machine_of, moment_over};
-ghost use Rattle.debugger.specs.Replay.{EndsAs, opened};
+ghost use Rattle.debugger.specs.Replay.{AgreesAtEnd, opened};
 
 /// A law, and no code: where an outcome's receipts are those of running its calls in order, a replay of
 /// one of the calls is over the storage that the calls before it left.
@@ -34,5 +34,5 @@ pub fn replay_ends_as_its_receipt()
     ensures { (outcome : Outcome) (index n : ℕ) (receipt : Receipt)
         → outcome.receipts.items ≡ receipts_of outcome.job.block outcome.job.store
         → slice_get outcome.receipts.items index ≡ Some receipt
-        → IfSome (opened outcome index) (λ r. EndsAs receipt (record r { moment = n })) }
+        → IfSome (opened outcome index) (λ r. AgreesAtEnd receipt (record r { moment = n })) }
 {}

@@ -3,17 +3,15 @@
 ghost use Rattle.std.specs.Prelude.{◌≡◌, ◌≢◌, ◌++◌, All, not, IfErr, IfOk, IfSome, OnErr, OnOk};
 ghost use Rattle.std.specs.Io.KnownBytes.{Appends};
 ghost use Rattle.debugger.specs.Command.{command_of};
-ghost use Rattle.debugger.specs.Session.{AppendsBeginning, EndsAs, IsCutShort, MayBeCutOff, after_line, is_quit, line_text, lines_of, session};
+ghost use Rattle.debugger.specs.Session.{AppendsBeginning, EndsAs, IsCutShort, MayBeCutOff, MayTell, after_line, is_quit, line_text, lines_of, session};
 ghost use Rattle.debugger.specs.Hearing.{Hears, IsCutAnswer, IsCutIn, IsInLine};
 
 use crate::answer::line_text;
 use crate::command::{Command, command_of};
 use crate::fault::DebugFault;
 use crate::replay::Replay;
-use block_file::Source;
-use receipts::{WriteFault, write_whole};
+use byte_streams::{Destination, Source, WriteFault, write_whole};
 use std::alloc::Global;
-use std::io::Write;
 
 /// The byte that ends a line.
 const LINE_END: u8 = b'\n';
@@ -28,7 +26,7 @@ const READ_SIZE: usize = 256;
 /// line whose answer was being written was made, and a beginning of that answer was written. Memory where
 /// memory ran out: nothing of the next line's answer was written, and its move was made or not; a run to
 /// a pc may also have gone a part of its way.
-pub fn debug_to<R: Source, W: Write>(
+pub fn debug_to<R: Source, W: Destination>(
     alloc: Global,
     replay: &mut Replay,
     lines: &mut R,
@@ -38,6 +36,7 @@ pub fn debug_to<R: Source, W: Write>(
         EndsAs (session replay.old (lines_of input)) replay.new (W.contents out.old) (W.contents out.new))) }
     ensures err { IfErr result (λ fault. IfSome (R.remaining lines.old) (λ input.
         IsCutShort fault replay.old (lines_of input) replay.new (W.contents out.old) (W.contents out.new))) }
+    ensures told { IfErr result (MayTell (W.may_fail out.old) (W.may_take_nothing out.old)) }
     ensures unreadable { IfErr result (λ fault. fault ≡ DebugFault.Unreadable → MayBeCutOff (R.may_fail lines.old) (R.remaining lines.old)) }
 {
     let mut line = Vec::new(alloc);
@@ -62,7 +61,7 @@ pub fn debug_to<R: Source, W: Write>(
 }
 
 /// Takes the end of the input. `line` is what came after the last LF.
-fn hear_end<W: Write>(
+fn hear_end<W: Destination>(
     alloc: Global,
     replay: &mut Replay,
     line: &[u8],
@@ -73,6 +72,7 @@ fn hear_end<W: Write>(
     ensures err { IfErr result (λ fault.
         IsCutShort fault replay.old (lines_of line.now) replay.new (W.contents out.old) (W.contents out.new)) }
     ensures fault { IfErr result (λ fault. fault ≢ DebugFault.Unreadable) }
+    ensures told { IfErr result (MayTell (W.may_fail out.old) (W.may_take_nothing out.old)) }
 {
     if line.is_empty() {
         return Ok(());
@@ -85,7 +85,7 @@ fn hear_end<W: Write>(
 
 /// Takes a part of the input. `line` is the beginning of a line that came before it. Returns whether the
 /// session goes on; then `line` is the beginning of the next line.
-fn hear<W: Write>(
+fn hear<W: Destination>(
     alloc: Global,
     replay: &mut Replay,
     line: &mut Vec<u8>,
@@ -98,6 +98,8 @@ fn hear<W: Write>(
     ensures err { IfErr result (λ fault.
         IsCutIn fault replay.old (line.old.items ++ part.now) replay.new (W.contents out.old) (W.contents out.new)) }
     ensures fault { IfErr result (λ fault. fault ≢ DebugFault.Unreadable) }
+    ensures told { IfErr result (MayTell (W.may_fail out.old) (W.may_take_nothing out.old)) }
+    ensures same { (W.may_fail out.new → W.may_fail out.old) × (W.may_take_nothing out.new → W.may_take_nothing out.old) }
 {
     for byte in part {
         if *byte != LINE_END {
@@ -116,7 +118,7 @@ fn hear<W: Write>(
 }
 
 /// Does the command of a line, and writes what it prints. Returns whether the session goes on.
-fn answer_line<W: Write>(
+fn answer_line<W: Destination>(
     alloc: Global,
     replay: &mut Replay,
     line: &[u8],
@@ -128,6 +130,8 @@ fn answer_line<W: Write>(
     ensures err { IfErr result (λ fault.
         IsCutAnswer fault replay.old line.now replay.new (W.contents out.old) (W.contents out.new)) }
     ensures fault { IfErr result (λ fault. fault ≢ DebugFault.Unreadable) }
+    ensures told { IfErr result (MayTell (W.may_fail out.old) (W.may_take_nothing out.old)) }
+    ensures same { (W.may_fail out.new → W.may_fail out.old) × (W.may_take_nothing out.new → W.may_take_nothing out.old) }
 {
     let Ok(command) = command_of(alloc, line) else {
         return Err(DebugFault::Memory);
@@ -149,15 +153,17 @@ fn is_quit(command: Option<Command>) -> bool
 }
 
 /// Writes a text and flushes it, so that it is seen before the next line is read.
-fn print<W: Write>(text: &[u8], out: &mut W) -> Result<(), WriteFault>
+fn print<W: Destination>(text: &[u8], out: &mut W) -> Result<(), WriteFault>
     ensures ok { OnOk result (Appends (W.contents out.old) (W.contents out.new) text.now) }
     ensures err { OnErr result (AppendsBeginning (W.contents out.old) (W.contents out.new) text.now) }
+    ensures told { IfErr result (λ fault. MayTell (W.may_fail out.old) (W.may_take_nothing out.old) (DebugFault.Output fault)) }
+    ensures same { (W.may_fail out.new → W.may_fail out.old) × (W.may_take_nothing out.new → W.may_take_nothing out.old) }
 {
     match write_whole(text, out) {
         Ok(()) => {}
         Err(fault) => return Err(fault),
     }
-    match out.flush() {
+    match out.flush_written() {
         Ok(()) => Ok(()),
         Err(_) => Err(WriteFault::Io),
     }

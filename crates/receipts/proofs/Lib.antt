@@ -1,5 +1,4 @@
 pub mod Buffers
-pub mod Taken
 pub mod Cuts
 pub mod Fields
 pub mod OneText

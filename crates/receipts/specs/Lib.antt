@@ -1,5 +1,3 @@
 pub mod Text
-pub mod Written
 pub mod Buffer
 pub mod Ranges
-pub mod Faults

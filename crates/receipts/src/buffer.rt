@@ -4,12 +4,11 @@ ghost use Rattle.std.specs.Prelude.{◌≡◌, ◌≢◌, ◌≤◌, IfSome, Mat
 ghost use Rattle.std.specs.Io.KnownBytes.{Appends};
 ghost use Rattle.std.specs.Option.{ForSome};
 ghost use Rattle.std.specs.Vec.{vec_capacity, vec_len};
-ghost use Rattle.receipts.specs.Written.{AppendsPart};
-ghost use Rattle.receipts.specs.declared.write.WriteFault.TheVariants.{Memory};
+ghost use Rattle.byte_streams.specs.Written.{AppendsPart, MayRefuse};
+ghost use Rattle.byte_streams.specs.declared.fault.WriteFault.TheVariants.{Memory};
 
-use crate::write::{WriteFault, write_whole};
+use byte_streams::{Destination, WriteFault, write_whole};
 use std::alloc::{AllocError, Global};
-use std::io::Write;
 
 /// The most bytes of text that wait, and so the most that are written at once.
 const PIECE: usize = 65_536;
@@ -26,14 +25,12 @@ pub(crate) struct TextBuffer {
 }
 
 impl TextBuffer {
-    ghost use Rattle.std.specs.Prelude.{◌≡◌, ◌≢◌, ◌≤◌, ◌+◌, ℕ, List, [], IfErr, IfOk, OnErr, OnOk, Option, length};
-    ghost use Rattle.receipts.specs.Buffer.{Appended, Holds};
-    ghost use Rattle.receipts.specs.Written.{AppendsPart};
-    ghost use Rattle.std.specs.Io.KnownBytes.{Appends};
+    ghost use Rattle.std.specs.Prelude.{◌≡◌, ◌≢◌, ◌≤◌, ◌+◌, [], None, IfErr, IfOk, OnOk, length};
+    ghost use Rattle.receipts.specs.Buffer.{Appended, IsCutOff, IsNoWorse, IsWritten};
 
     /// No text; refused where memory ran out. Nothing that is appended takes memory.
     pub(crate) fn new(alloc: Global) -> Result<TextBuffer, AllocError>
-        ensures { IfOk result (λ text. (start : Option (List ℕ)) → Holds text start start []) }
+        ensures { IfOk result (λ text. (text.refused ≡ None) × (text.waiting.items ≡ [])) }
     {
         let waiting = Vec::with_capacity(alloc, PIECE)?;
         Ok(TextBuffer {
@@ -44,9 +41,9 @@ impl TextBuffer {
 
     /// Appends at most 65,536 bytes. What waits is written first where there is no room for them.
     #[inline(always)]
-    pub(crate) fn push<W: Write>(&mut self, bytes: &[u8], out: &mut W)
+    pub(crate) fn push<W: Destination>(&mut self, bytes: &[u8], out: &mut W)
         requires { length bytes.now ≤ PIECE }
-        ensures { Appended self.old (W.contents out.old) self.new (W.contents out.new) bytes.now }
+        ensures { Appended W.contents W.may_fail W.may_take_nothing self.old out.old self.new out.new bytes.now }
     {
         self.make_room(bytes.len(), out);
         match self.waiting.extend_from_slice(bytes) {
@@ -57,9 +54,9 @@ impl TextBuffer {
 
     /// Writes what waits where there is no room for so many bytes more.
     #[inline(always)]
-    fn make_room<W: Write>(&mut self, count: usize, out: &mut W)
+    fn make_room<W: Destination>(&mut self, count: usize, out: &mut W)
         requires { count ≤ PIECE }
-        ensures appended { Appended self.old (W.contents out.old) self.new (W.contents out.new) [] }
+        ensures appended { Appended W.contents W.may_fail W.may_take_nothing self.old out.old self.new out.new [] }
         ensures room { vec_len self.new.waiting + count ≤ PIECE }
     {
         if count > PIECE - self.waiting.len() {
@@ -70,8 +67,8 @@ impl TextBuffer {
     /// Writes what waits, unless a write was refused before.
     #[cold]
     #[inline(never)]
-    fn write_waiting<W: Write>(&mut self, out: &mut W)
-        ensures appended { Appended self.old (W.contents out.old) self.new (W.contents out.new) [] }
+    fn write_waiting<W: Destination>(&mut self, out: &mut W)
+        ensures appended { Appended W.contents W.may_fail W.may_take_nothing self.old out.old self.new out.new [] }
         ensures empty { self.new.waiting.items ≡ [] }
     {
         self.refused = first_refusal(self.refused, self.waiting.as_slice(), out);
@@ -79,10 +76,11 @@ impl TextBuffer {
     }
 
     /// Writes what waits. Refused as the first write that was refused.
-    pub(crate) fn finish<W: Write>(self, out: &mut W) -> Result<(), WriteFault>
-        ensures ok { OnOk result ((start : Option (List ℕ)) (text : List ℕ) → Holds self start (W.contents out.old) text → Appends start (W.contents out.new) text) }
-        ensures err { OnErr result ((start : Option (List ℕ)) (text : List ℕ) → Holds self start (W.contents out.old) text → AppendsPart start (W.contents out.new) text) }
+    pub(crate) fn finish<W: Destination>(self, out: &mut W) -> Result<(), WriteFault>
+        ensures ok { OnOk result (IsWritten W.contents W.may_fail W.may_take_nothing self out.old out.new) }
+        ensures err { IfErr result (IsCutOff W.contents W.may_fail W.may_take_nothing self out.old out.new) }
         ensures fault { IfErr result (λ e. e ≢ WriteFault.Memory) }
+        ensures same { IsNoWorse W.contents W.may_fail W.may_take_nothing self out.old out.new }
     {
         let mut text = self;
         text.write_waiting(out);
@@ -94,13 +92,15 @@ impl TextBuffer {
 }
 
 /// Writes bytes, unless a write was refused before. Returns the first refusal.
-fn first_refusal<W: Write>(
+fn first_refusal<W: Destination>(
     refused: Option<WriteFault>,
     bytes: &[u8],
     out: &mut W,
 ) -> Option<WriteFault>
-    ensures none { refused ≡ None → MatchOption result (Appends (W.contents out.old) (W.contents out.new) bytes.now) (λ _. AppendsPart (W.contents out.old) (W.contents out.new) bytes.now) }
-    ensures before { IfSome refused (λ fault. (result ≡ Some fault) × (W.contents out.new ≡ W.contents out.old)) }
+    ensures none { refused ≡ None → MatchOption result (Appends (W.contents out.old) (W.contents out.new) bytes.now)
+        (λ fault. AppendsPart (W.contents out.old) (W.contents out.new) bytes.now × MayRefuse (W.may_fail out.old) (W.may_take_nothing out.old) fault) }
+    ensures before { IfSome refused (λ fault. (result ≡ Some fault) × (out.new ≡ out.old)) }
+    ensures same { (W.may_fail out.new → W.may_fail out.old) × (W.may_take_nothing out.new → W.may_take_nothing out.old) }
     ensures fault { IfSome result (λ fault. refused ≡ None → fault ≢ Memory) }
 {
     match refused {

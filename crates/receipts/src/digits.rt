@@ -7,7 +7,7 @@ ghost use Rattle.receipts.specs.Buffer.{Appended};
 ghost use Rattle.receipts.specs.Text.{bytes_text, word_text};
 
 use crate::buffer::TextBuffer;
-use std::io::Write;
+use byte_streams::Destination;
 use std::simd::prelude::*;
 
 /// The hex digits, by their values.
@@ -58,9 +58,9 @@ fn digits_of(bytes: u8x16) -> (u8x16, u8x16)
 
 /// Appends sixteen bytes in 32 hex digits.
 #[inline(always)]
-fn push_sixteen<W: Write>(text: &mut TextBuffer, bytes: &[u8], out: &mut W)
+fn push_sixteen<W: Destination>(text: &mut TextBuffer, bytes: &[u8], out: &mut W)
     requires { length bytes.now ≡ 16 }
-    ensures { Appended text.old (W.contents out.old) text.new (W.contents out.new) (encode_lower bytes.now) }
+    ensures { Appended W.contents W.may_fail W.may_take_nothing text.old out.old text.new out.new (encode_lower bytes.now) }
 {
     let (front, back) = digits_of(u8x16::from_slice(bytes));
     text.push(front.to_array().as_slice(), out);
@@ -88,15 +88,15 @@ fn word_field(word: u32) -> [u8; 16]
 }
 
 /// Appends a space and a word in eight hex digits.
-pub(crate) fn push_word_field<W: Write>(text: &mut TextBuffer, word: u32, out: &mut W)
-    ensures { Appended text.old (W.contents out.old) text.new (W.contents out.new) (32 ∷ word_text word) }
+pub(crate) fn push_word_field<W: Destination>(text: &mut TextBuffer, word: u32, out: &mut W)
+    ensures { Appended W.contents W.may_fail W.may_take_nothing text.old out.old text.new out.new (32 ∷ word_text word) }
 {
     text.push(&word_field(word)[..9], out);
 }
 
 /// Appends the 32 bytes of a key in 64 hex digits.
-pub(crate) fn push_key<W: Write>(text: &mut TextBuffer, bytes: &[u8; 32], out: &mut W)
-    ensures { Appended text.old (W.contents out.old) text.new (W.contents out.new) (encode_lower bytes.now) }
+pub(crate) fn push_key<W: Destination>(text: &mut TextBuffer, bytes: &[u8; 32], out: &mut W)
+    ensures { Appended W.contents W.may_fail W.may_take_nothing text.old out.old text.new out.new (encode_lower bytes.now) }
 {
     let (front, back) = bytes.as_slice().split_at(16);
     push_sixteen(text, front, out);
@@ -104,8 +104,8 @@ pub(crate) fn push_key<W: Write>(text: &mut TextBuffer, bytes: &[u8; 32], out: &
 }
 
 /// Appends bytes in hex, two digits each.
-fn push_hex<W: Write>(text: &mut TextBuffer, bytes: &[u8], out: &mut W)
-    ensures { Appended text.old (W.contents out.old) text.new (W.contents out.new) (encode_lower bytes.now) }
+fn push_hex<W: Destination>(text: &mut TextBuffer, bytes: &[u8], out: &mut W)
+    ensures { Appended W.contents W.may_fail W.may_take_nothing text.old out.old text.new out.new (encode_lower bytes.now) }
 {
     let mut rest = bytes;
     while rest.len() >= 16 {
@@ -117,8 +117,8 @@ fn push_hex<W: Write>(text: &mut TextBuffer, bytes: &[u8], out: &mut W)
 }
 
 /// Appends bytes in hex, as `push_hex` does, but four at a time.
-fn push_fours<W: Write>(text: &mut TextBuffer, bytes: &[u8], out: &mut W)
-    ensures { Appended text.old (W.contents out.old) text.new (W.contents out.new) (encode_lower bytes.now) }
+fn push_fours<W: Destination>(text: &mut TextBuffer, bytes: &[u8], out: &mut W)
+    ensures { Appended W.contents W.may_fail W.may_take_nothing text.old out.old text.new out.new (encode_lower bytes.now) }
 {
     let mut rest = bytes;
     while let [a, b, c, d, more @ ..] = rest {
@@ -129,8 +129,8 @@ fn push_fours<W: Write>(text: &mut TextBuffer, bytes: &[u8], out: &mut W)
 }
 
 /// Appends bytes in hex, as `push_hex` does, but one at a time.
-fn push_pairs<W: Write>(text: &mut TextBuffer, bytes: &[u8], out: &mut W)
-    ensures { Appended text.old (W.contents out.old) text.new (W.contents out.new) (encode_lower bytes.now) }
+fn push_pairs<W: Destination>(text: &mut TextBuffer, bytes: &[u8], out: &mut W)
+    ensures { Appended W.contents W.may_fail W.may_take_nothing text.old out.old text.new out.new (encode_lower bytes.now) }
 {
     let mut rest = bytes;
     while let [byte, more @ ..] = rest {
@@ -140,8 +140,8 @@ fn push_pairs<W: Write>(text: &mut TextBuffer, bytes: &[u8], out: &mut W)
 }
 
 /// Appends bytes in hex, or a dash where there are none.
-pub(crate) fn push_bytes<W: Write>(text: &mut TextBuffer, bytes: &[u8], out: &mut W)
-    ensures { Appended text.old (W.contents out.old) text.new (W.contents out.new) (bytes_text bytes.now) }
+pub(crate) fn push_bytes<W: Destination>(text: &mut TextBuffer, bytes: &[u8], out: &mut W)
+    ensures { Appended W.contents W.may_fail W.may_take_nothing text.old out.old text.new out.new (bytes_text bytes.now) }
 {
     if bytes.is_empty() {
         text.push(b"-", out);
@@ -151,8 +151,8 @@ pub(crate) fn push_bytes<W: Write>(text: &mut TextBuffer, bytes: &[u8], out: &mu
 }
 
 /// Appends a number in decimal.
-pub(crate) fn push_decimal<W: Write>(text: &mut TextBuffer, number: u64, out: &mut W)
-    ensures { Appended text.old (W.contents out.old) text.new (W.contents out.new) (decimal number) }
+pub(crate) fn push_decimal<W: Destination>(text: &mut TextBuffer, number: u64, out: &mut W)
+    ensures { Appended W.contents W.may_fail W.may_take_nothing text.old out.old text.new out.new (decimal number) }
 {
     text.push(itoa::Buffer::new().format(number).as_bytes(), out);
 }

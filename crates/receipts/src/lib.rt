@@ -12,4 +12,4 @@ mod write;
 pub use laws::{one_text, one_text_of};
 pub use lines::{bytes_text, end_name, regs_line, word_text};
 pub use text::result_text;
-pub use write::{WriteFault, write_outcome, write_whole};
+pub use write::write_outcome;

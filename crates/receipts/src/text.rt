@@ -11,10 +11,10 @@ ghost use Rattle.receipts.specs.Text.{end_name, more_fields, word_text, call_lin
 use crate::buffer::TextBuffer;
 use crate::digits::{push_bytes, push_decimal, push_key, push_word_field};
 use crate::lines::end_name;
+use byte_streams::Destination;
 use rv_isa::Regs;
 use rv_ledger::{Change, End, Key, Receipt, Store, StoredValue, Writes};
 use std::alloc::{AllocError, Global};
-use std::io::Write;
 
 /// The text of a result: what each call did, in block order, and the storage after the last one.
 /// Refused where memory ran out.
@@ -35,13 +35,13 @@ pub fn result_text(
 }
 
 /// Appends the text of a result: what each call did, in block order, and the storage after the last one.
-pub(crate) fn push_result<W: Write>(
+pub(crate) fn push_result<W: Destination>(
     text: &mut TextBuffer,
     receipts: &[Receipt],
     store: &Store,
     out: &mut W,
 )
-    ensures { Appended text.old (W.contents out.old) text.new (W.contents out.new) (result_text receipts.now store.now) }
+    ensures { Appended W.contents W.may_fail W.may_take_nothing text.old out.old text.new out.new (result_text receipts.now store.now) }
 {
     push_calls(text, receipts, out);
     push_store(text, store, out);
@@ -49,8 +49,8 @@ pub(crate) fn push_result<W: Write>(
 }
 
 /// Appends the lines of all calls.
-fn push_calls<W: Write>(text: &mut TextBuffer, receipts: &[Receipt], out: &mut W)
-    ensures { Appended text.old (W.contents out.old) text.new (W.contents out.new) (flat_map call_lines (enumerate_from 0 receipts.now)) }
+fn push_calls<W: Destination>(text: &mut TextBuffer, receipts: &[Receipt], out: &mut W)
+    ensures { Appended W.contents W.may_fail W.may_take_nothing text.old out.old text.new out.new (flat_map call_lines (enumerate_from 0 receipts.now)) }
 {
     for (index, receipt) in receipts.iter().enumerate() {
         push_call(text, index, receipt, out);
@@ -58,8 +58,8 @@ fn push_calls<W: Write>(text: &mut TextBuffer, receipts: &[Receipt], out: &mut W
 }
 
 /// Appends the lines of the call at an index.
-fn push_call<W: Write>(text: &mut TextBuffer, index: usize, receipt: &Receipt, out: &mut W)
-    ensures { Appended text.old (W.contents out.old) text.new (W.contents out.new) (call_lines (index, receipt.now)) }
+fn push_call<W: Destination>(text: &mut TextBuffer, index: usize, receipt: &Receipt, out: &mut W)
+    ensures { Appended W.contents W.may_fail W.may_take_nothing text.old out.old text.new out.new (call_lines (index, receipt.now)) }
 {
     push_call_line(text, index, receipt, out);
     push_regs(text, &receipt.regs, out);
@@ -67,8 +67,13 @@ fn push_call<W: Write>(text: &mut TextBuffer, index: usize, receipt: &Receipt, o
 }
 
 /// Appends the line that says how the call at an index ended.
-fn push_call_line<W: Write>(text: &mut TextBuffer, index: usize, receipt: &Receipt, out: &mut W)
-    ensures { Appended text.old (W.contents out.old) text.new (W.contents out.new) (call_line index receipt.now) }
+fn push_call_line<W: Destination>(
+    text: &mut TextBuffer,
+    index: usize,
+    receipt: &Receipt,
+    out: &mut W,
+)
+    ensures { Appended W.contents W.may_fail W.may_take_nothing text.old out.old text.new out.new (call_line index receipt.now) }
 {
     push_end(text, index, receipt.end, out);
     push_stop(text, receipt.gas, receipt.pc, out);
@@ -78,8 +83,8 @@ fn push_call_line<W: Write>(text: &mut TextBuffer, index: usize, receipt: &Recei
 }
 
 /// Appends the index of a call, and the name of its end.
-fn push_end<W: Write>(text: &mut TextBuffer, index: usize, end: End, out: &mut W)
-    ensures { Appended text.old (W.contents out.old) text.new (W.contents out.new) (codes "call " ++ (decimal index ++ (32 ∷ end_name end))) }
+fn push_end<W: Destination>(text: &mut TextBuffer, index: usize, end: End, out: &mut W)
+    ensures { Appended W.contents W.may_fail W.may_take_nothing text.old out.old text.new out.new (codes "call " ++ (decimal index ++ (32 ∷ end_name end))) }
 {
     text.push(b"call ", out);
     push_decimal(text, index as u64, out);
@@ -88,8 +93,8 @@ fn push_end<W: Write>(text: &mut TextBuffer, index: usize, end: End, out: &mut W
 }
 
 /// Appends the gas of a call, and the pc where it ended.
-fn push_stop<W: Write>(text: &mut TextBuffer, gas: u32, pc: u32, out: &mut W)
-    ensures { Appended text.old (W.contents out.old) text.new (W.contents out.new) (codes " gas " ++ (decimal gas ++ (codes " pc " ++ word_text pc))) }
+fn push_stop<W: Destination>(text: &mut TextBuffer, gas: u32, pc: u32, out: &mut W)
+    ensures { Appended W.contents W.may_fail W.may_take_nothing text.old out.old text.new out.new (codes " gas " ++ (decimal gas ++ (codes " pc " ++ word_text pc))) }
 {
     text.push(b" gas ", out);
     push_decimal(text, u64::from(gas), out);
@@ -98,16 +103,16 @@ fn push_stop<W: Write>(text: &mut TextBuffer, gas: u32, pc: u32, out: &mut W)
 }
 
 /// Appends the line of the 32 registers, x0 first.
-fn push_regs<W: Write>(text: &mut TextBuffer, regs: &Regs, out: &mut W)
-    ensures { Appended text.old (W.contents out.old) text.new (W.contents out.new) (regs_line regs.now) }
+fn push_regs<W: Destination>(text: &mut TextBuffer, regs: &Regs, out: &mut W)
+    ensures { Appended W.contents W.may_fail W.may_take_nothing text.old out.old text.new out.new (regs_line regs.now) }
 {
     text.push(b"regs", out);
     push_words(text, regs.values(), out);
 }
 
 /// Appends words, each after a space, and ends the line.
-fn push_words<W: Write>(text: &mut TextBuffer, words: &[u32; 32], out: &mut W)
-    ensures { Appended text.old (W.contents out.old) text.new (W.contents out.new) (more_fields (map word_text words.now)) }
+fn push_words<W: Destination>(text: &mut TextBuffer, words: &[u32; 32], out: &mut W)
+    ensures { Appended W.contents W.may_fail W.may_take_nothing text.old out.old text.new out.new (more_fields (map word_text words.now)) }
 {
     for word in words {
         push_word_field(text, *word, out);
@@ -116,8 +121,8 @@ fn push_words<W: Write>(text: &mut TextBuffer, words: &[u32; 32], out: &mut W)
 }
 
 /// Appends the lines of the writes of the call at an index.
-fn push_writes<W: Write>(text: &mut TextBuffer, index: usize, writes: &Writes, out: &mut W)
-    ensures { Appended text.old (W.contents out.old) text.new (W.contents out.new) (flat_map (write_line index) (entries writes.now)) }
+fn push_writes<W: Destination>(text: &mut TextBuffer, index: usize, writes: &Writes, out: &mut W)
+    ensures { Appended W.contents W.may_fail W.may_take_nothing text.old out.old text.new out.new (flat_map (write_line index) (entries writes.now)) }
 {
     for (key, change) in writes.as_slice() {
         push_write(text, index, key, change, out);
@@ -125,14 +130,14 @@ fn push_writes<W: Write>(text: &mut TextBuffer, index: usize, writes: &Writes, o
 }
 
 /// Appends the line of one write of the call at an index.
-fn push_write<W: Write>(
+fn push_write<W: Destination>(
     text: &mut TextBuffer,
     index: usize,
     key: &Key,
     change: &Change<StoredValue>,
     out: &mut W,
 )
-    ensures { Appended text.old (W.contents out.old) text.new (W.contents out.new) (write_line index (key.now, change.now)) }
+    ensures { Appended W.contents W.may_fail W.may_take_nothing text.old out.old text.new out.new (write_line index (key.now, change.now)) }
 {
     push_write_key(text, index, key, out);
     match change {
@@ -144,8 +149,8 @@ fn push_write<W: Write>(
 }
 
 /// Appends the index of a call and a key that it wrote, up to the space after them.
-fn push_write_key<W: Write>(text: &mut TextBuffer, index: usize, key: &Key, out: &mut W)
-    ensures { Appended text.old (W.contents out.old) text.new (W.contents out.new) (codes "write " ++ (decimal index ++ (32 ∷ (encode_lower key.now ++ codes " ")))) }
+fn push_write_key<W: Destination>(text: &mut TextBuffer, index: usize, key: &Key, out: &mut W)
+    ensures { Appended W.contents W.may_fail W.may_take_nothing text.old out.old text.new out.new (codes "write " ++ (decimal index ++ (32 ∷ (encode_lower key.now ++ codes " ")))) }
 {
     text.push(b"write ", out);
     push_decimal(text, index as u64, out);
@@ -155,16 +160,16 @@ fn push_write_key<W: Write>(text: &mut TextBuffer, index: usize, key: &Key, out:
 }
 
 /// Appends the word `add` and an amount.
-fn push_sum<W: Write>(text: &mut TextBuffer, amount: u64, out: &mut W)
-    ensures { Appended text.old (W.contents out.old) text.new (W.contents out.new) (codes "add " ++ decimal amount) }
+fn push_sum<W: Destination>(text: &mut TextBuffer, amount: u64, out: &mut W)
+    ensures { Appended W.contents W.may_fail W.may_take_nothing text.old out.old text.new out.new (codes "add " ++ decimal amount) }
 {
     text.push(b"add ", out);
     push_decimal(text, amount, out);
 }
 
 /// Appends the lines of the storage.
-fn push_store<W: Write>(text: &mut TextBuffer, store: &Store, out: &mut W)
-    ensures { Appended text.old (W.contents out.old) text.new (W.contents out.new) (flat_map store_line (entries store.now)) }
+fn push_store<W: Destination>(text: &mut TextBuffer, store: &Store, out: &mut W)
+    ensures { Appended W.contents W.may_fail W.may_take_nothing text.old out.old text.new out.new (flat_map store_line (entries store.now)) }
 {
     for (key, value) in store.iter() {
         push_entry(text, key, value, out);
@@ -172,8 +177,8 @@ fn push_store<W: Write>(text: &mut TextBuffer, store: &Store, out: &mut W)
 }
 
 /// Appends the line of one key of the storage.
-fn push_entry<W: Write>(text: &mut TextBuffer, key: &Key, value: &StoredValue, out: &mut W)
-    ensures { Appended text.old (W.contents out.old) text.new (W.contents out.new) (store_line (key.now, value.now)) }
+fn push_entry<W: Destination>(text: &mut TextBuffer, key: &Key, value: &StoredValue, out: &mut W)
+    ensures { Appended W.contents W.may_fail W.may_take_nothing text.old out.old text.new out.new (store_line (key.now, value.now)) }
 {
     text.push(b"store ", out);
     push_key(text, key.bytes(), out);

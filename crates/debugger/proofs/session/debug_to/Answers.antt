@@ -2,7 +2,7 @@ use Rattle.std.proofs.Common.{[], ◌++◌, take, arith, lit≤, inl}
 use Rattle.std.proofs.KnownBytes.{Consumes-nil, Consumes-trans}
 use Rattle.std.proofs.lemmas.List.Elements.{All-nil}
 use Rattle.debugger.specs.Hearing.{IsInLine}
-use Rattle.debugger.proofs.Cuts.{cut_at, cut_between_reads, cut_inside, cut_over, read_none}
+use Rattle.debugger.proofs.Cuts.{cut_at, cut_between_reads, cut_inside, cut_over, read_none, told_before}
 use Rattle.debugger.proofs.CutOff.{one_more, too_long}
 use Rattle.debugger.proofs.SessionInputs.{ended_at, ended_over, last_heard, part_heard, start_heard}
 use Rattle.debugger.proofs.session.debug_to.Goals as goal
@@ -13,6 +13,7 @@ loop-turn-init g c = (
   Consumes-nil (g.R.Read.remaining c.args.lines.now),
   rw c.new-line.ensures.items (start_heard c.args.replay.now [] (g.W.Write.contents c.args.out.now) (All-nil IsInLine)),
   (λ h. h),
+  (λ h. h, λ h. h),
   lit≤ tt,
 )
 
@@ -29,7 +30,8 @@ loop-turn-preserved g c = (
   part_heard c.args.replay.now c.loop-turn.replay c.loop-turn.invariant.0 c.loop-turn.line.items _ _ c.loop-turn.invariant.2 (take c.in-Ok.count c.read_part.new.part) c.hear.new.line.items c.hear.new.replay _
       (rw c.in-Ok-true.field-0-test at c.in-Ok-true.ensures.ok),
   (λ h. c.loop-turn.invariant.3 (c.read_part.ensures.same h)),
-  one_more c.loop-turn._turn c.loop-turn.invariant.0 c.read_part.new.part c.in-Ok.count c.loop-turn.invariant.4 (omega arith) c.in-Ok.ensures.bound.0,
+  (λ h. c.loop-turn.invariant.4.0 (c.hear.ensures.same.0 h), λ h. c.loop-turn.invariant.4.1 (c.hear.ensures.same.1 h)),
+  one_more c.loop-turn._turn c.loop-turn.invariant.0 c.read_part.new.part c.in-Ok.count c.loop-turn.invariant.5 (omega arith) c.in-Ok.ensures.bound.0,
 )
 
 pub returns-in-Err-hear-clause-err : goal.returns-in-Err-hear-clause-err
@@ -74,3 +76,9 @@ returns-in_default-clause-unreadable g c _ = inl (c.loop-turn.invariant.3 c.in_d
 pub returns-clause-unreadable : goal.returns-clause-unreadable
 returns-clause-unreadable g c _ =
     too_long (g.R.Source.may_fail c.args.lines.now) (g.R.Read.remaining c.args.lines.now) (g.R.Read.remaining c.loop-turn.lines) c.loop-turn.invariant.0 (omega arith) c.loop-turn.invariant.1
+
+pub returns-in-Err-clause-told : goal.returns-in-Err-clause-told
+returns-in-Err-clause-told g c = told_before c.in-Err.fault _ _ _ _ c.loop-turn.invariant.4 c.in-Err.ensures.told
+
+pub returns-in-Err-hear-clause-told : goal.returns-in-Err-hear-clause-told
+returns-in-Err-hear-clause-told g c = told_before c.in-Err-hear.fault _ _ _ _ c.loop-turn.invariant.4 c.in-Err-hear.ensures.told

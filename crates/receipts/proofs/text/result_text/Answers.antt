@@ -1,9 +1,10 @@
 use Rattle.std.proofs.Common.{[], ◌∙◌, ◌++◌, Some, ap}
+use Rattle.std.specs.Prelude.{⊤}
 use Rattle.receipts.specs.Text.{result_text}
+use Rattle.receipts.proofs.Buffers.{holds_nothing}
 use Rattle.receipts.proofs.text.result_text.Goals as goal
 
 pub returns-in-Ok : goal.returns-in-Ok
 returns-in-Ok c =
-    let start = Some c.new-text.result.items in
-    let held = c.push_result.ensures.holds start [] (c.in_ok-waiting.ensures start) in
-    c.in-Ok.ensures.ok start _ held ∙ ap (λ items. items ++ result_text c.args.receipts.now c.args.store.now) c.new-text.ensures.items
+    let held = c.push_result.ensures.holds c.new-text.result [] (holds_nothing (λ v. Some v.items) (λ _. ⊤) (λ _. ⊥) c.in_ok-waiting.waiting c.new-text.result c.in_ok-waiting.ensures.0 c.in_ok-waiting.ensures.1) in
+    c.in-Ok.ensures.ok c.new-text.result _ held ∙ ap (λ items. items ++ result_text c.args.receipts.now c.args.store.now) c.new-text.ensures.items

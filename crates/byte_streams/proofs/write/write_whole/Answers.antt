@@ -1,0 +1,18 @@
+use Rattle.std.proofs.Common.{◌<◌, length, arith}
+use Rattle.std.proofs.lemmas.Bool.Decides.{nat_tests}
+use Rattle.byte_streams.proofs.Taken.{may_come_before, written_more, written_part}
+use Rattle.byte_streams.proofs.write.write_whole.Goals as goal
+
+pub loop-rest-preserved : goal.loop-rest-preserved
+loop-rest-preserved g c = record {
+  written = rw c.split_at.ensures.back (written_more _ _ _ _ _ _ c.loop-rest.invariant.written c.in-Ok.ensures.ok.2);
+  same = (λ h. c.loop-rest.invariant.same.0 (c.in-Ok.ensures.same.0 h), λ h. c.loop-rest.invariant.same.1 (c.in-Ok.ensures.same.1 h));
+}
+
+pub returns-in-Err-clause-err : goal.returns-in-Err-clause-err
+returns-in-Err-clause-err g c =
+    let left : 0 < length c.loop-rest.rest.now = grind (arith, nat_tests) in
+    written_part _ _ _ _ _ left c.loop-rest.invariant.written c.in-Err.ensures.err
+
+pub returns-in-Err-clause-told : goal.returns-in-Err-clause-told
+returns-in-Err-clause-told g c = may_come_before c.in-Err.fault _ _ _ _ c.loop-rest.invariant.same c.in-Err.ensures.told

@@ -1,0 +1,51 @@
+//! Why a write is refused.
+
+ghost use Rattle.std.specs.Prelude.{◌≡◌};
+ghost use Rattle.byte_streams.specs.Faults.{name_of, number_of};
+
+use std::fmt;
+use thiserror::Error;
+
+/// Why an output is refused.
+#[derive(Clone, Copy, Debug, PartialEq, Eq, Error)]
+pub enum WriteFault {
+    /// A write failed.
+    Io = 1,
+    /// A write took no bytes.
+    WroteNothing = 2,
+    /// Memory for the text ran out, and nothing was written.
+    Memory = 3,
+}
+
+impl WriteFault {
+    /// The number in the refusal's line, 1 to 3.
+    pub fn number(self) -> u8
+        ensures { result ≡ number_of self }
+    {
+        self as u8
+    }
+
+    /// The name in the refusal's line.
+    pub fn name(self) -> &'static str
+        ensures { result.now ≡ name_of self }
+    {
+        match self {
+            WriteFault::Io => "Io",
+            WriteFault::WroteNothing => "WroteNothing",
+            WriteFault::Memory => "Memory",
+        }
+    }
+}
+
+impl fmt::Display for WriteFault {
+    ghost use Rattle.std.specs.Prelude.{Some};
+    ghost use Rattle.byte_streams.specs.Faults.{fault_text};
+
+    ghost output = { λ fault. Some (fault_text fault) };
+
+    /// The name and the number.
+    #[tactic(auto, unfolding(crate::specs::Faults::fault_text))]
+    fn fmt<W: fmt::Write>(&self, f: &mut fmt::Formatter<W>) -> fmt::Result {
+        write!(f, "{} {}", self.name(), self.number())
+    }
+}
