@@ -1,9 +1,12 @@
 //! The engine that runs the calls of a block one after another, in block order.
 #![tactic(auto)]
 
+mod on_storage;
+
 ghost use Rattle.std.specs.Prelude.{◌≡◌, [], IfOk, OnOk};
 ghost use Rattle.rv_step.specs.Fold.{receipts_of, store_after};
 
+pub use on_storage::{run_on, run_over};
 use rv_ledger::{Call, Job, Outcome, Receipt, Store};
 use rv_mem::PageRoom;
 use rv_step::{apply_writes, receipt_over};

@@ -1,0 +1,89 @@
+//! Making changes of a storage, all of them or none.
+
+ghost use Rattle.std.specs.Prelude.{◌≡◌, IfOk, OnErr, OnOk};
+ghost use Rattle.std.specs.FinMap as map;
+ghost use Rattle.overlay.specs.Overlay.{with_changes, set_content};
+ghost use Rattle.overlay.specs.Commit.{AreAbsent, Fits, IsKnown, absent_of, all_set, grown, shrunk};
+
+use crate::overlay::Overlay;
+use rv_ledger::{Key, Store, StoredValue, Value};
+use std::alloc::AllocError;
+use std::collections::BTreeMap;
+
+/// Makes changes of a storage, at a cost in proportion to their number. Refused where memory ran out, and then
+/// nothing changes.
+///
+/// Only a key that the storage does not have yet takes memory. So these keys are put in first, with no value: where
+/// memory runs out they are removed again, which takes none. Then every key gets what it is to have.
+#[tactic(auto, using(crate::proofs::Commits::are_absent, crate::proofs::Commits::changes_fit, crate::proofs::Commits::changes_made))]
+pub fn commit(store: &mut Store, changes: Overlay) -> Result<(), AllocError>
+    ensures ok { OnOk result (store.new ≡ with_changes store.old changes) }
+    ensures err { OnErr result (store.new ≡ store.old) }
+{
+    let absent = absent_keys(store, &changes)?;
+    grow(store, absent.as_slice())?;
+    set_all(store, changes.into_entries());
+    Ok(())
+}
+
+/// The changed keys that are to have a value and that the storage does not have; refused where memory ran out.
+fn absent_keys(store: &Store, changes: &Overlay) -> Result<Vec<Key>, AllocError>
+    ensures { IfOk result (λ v. v.items ≡ absent_of store.now (map.entries changes.now)) }
+{
+    let mut absent = Vec::new(changes.allocator());
+    for (key, content) in changes.iter() {
+        if content.is_some() && store.get(key).is_none() {
+            absent.push(*key)?;
+        }
+    }
+    Ok(absent)
+}
+
+/// Puts in keys that the storage does not have, with no value. Refused where memory ran out, and then nothing changes.
+#[tactic(auto, using(crate::proofs::Commits::grown_back))]
+fn grow(store: &mut Store, keys: &[Key]) -> Result<(), AllocError>
+    requires { AreAbsent store.old keys.now }
+    ensures ok { OnOk result (store.new ≡ grown store.old keys.now) }
+    ensures err { OnErr result (store.new ≡ store.old) }
+{
+    for index in 0..keys.len() {
+        if store.insert(keys[index], Value::empty()).is_err() {
+            shrink(store, &keys[..index]);
+            return Err(AllocError);
+        }
+    }
+    Ok(())
+}
+
+/// Removes keys.
+fn shrink(store: &mut Store, keys: &[Key])
+    ensures { store.new ≡ shrunk store.old keys.now }
+{
+    for key in keys {
+        store.remove(key);
+    }
+}
+
+/// Gives each key what it is to have. Takes no memory, since the storage has each key that is to have a value.
+fn set_all(store: &mut Store, changes: BTreeMap<Key, Option<StoredValue>>)
+    requires { Fits store.old changes.entries }
+    ensures { store.new ≡ all_set store.old changes.entries }
+{
+    for (key, content) in changes {
+        set(store, key, content);
+    }
+}
+
+/// Gives a key what it is to have. Takes no memory.
+fn set(store: &mut Store, key: Key, content: Option<StoredValue>)
+    requires { IsKnown store.old key content }
+    ensures { store.new ≡ set_content store.old key content }
+{
+    match content {
+        Some(value) => match store.put(key, value) {
+            Ok(()) => {}
+            Err(_) => unreachable!(),
+        },
+        None => store.remove(&key),
+    }
+}

@@ -1,0 +1,71 @@
+//! A storage with changes over it.
+
+ghost use Rattle.std.specs.Prelude.{◌≡◌, OnOk};
+ghost use Rattle.std.specs.FinMap as map;
+ghost use Rattle.std.specs.Option.{option_copied};
+ghost use Rattle.rv_step.specs.Fold.{apply_write, apply_writes};
+ghost use Rattle.overlay.specs.Overlay.{with_changes};
+
+use crate::overlay::Overlay;
+use rv_ledger::{Change, Key, Store, StoredValue, Writes, add};
+use rv_step::Contents;
+use std::alloc::AllocError;
+
+/// A storage with changes over it. It stands for the storage that has them.
+#[derive(Drop)]
+pub struct Layers<'a> {
+    /// The storage.
+    pub base: &'a Store,
+    /// The changes.
+    pub over: &'a Overlay,
+}
+
+impl Contents for Layers<'_> {
+    ghost storage = { λ l. with_changes l.base.now l.over.now };
+
+    fn get(&self, key: &Key) -> Option<&StoredValue> {
+        content(self.base, self.over, key)
+    }
+}
+
+/// The value at a key of a storage with changes over it, or None where it is absent.
+#[tactic(auto, using(crate::proofs::WithChanges::get_with_changes))]
+fn content<'a>(base: &'a Store, over: &'a Overlay, key: &Key) -> Option<&'a StoredValue>
+    ensures { option_copied result ≡ map.get (with_changes base.now over.now) key.now }
+{
+    match over.get(key) {
+        Some(content) => content.as_ref(),
+        None => base.get(key),
+    }
+}
+
+/// Adds the writes of a call to the changes over a storage. Refused where memory ran out, and then some of them may be added.
+#[tactic(auto, unfolding(rv_step::specs::Fold::apply_writes))]
+pub fn apply_writes(base: &Store, over: &mut Overlay, writes: &Writes) -> Result<(), AllocError>
+    ensures { OnOk result (with_changes base.now over.new ≡ apply_writes (with_changes base.now over.old) writes.now) }
+{
+    for (key, change) in writes.as_slice() {
+        apply_write(base, over, key, change)?;
+    }
+    Ok(())
+}
+
+/// Adds one write. Refused where memory ran out.
+#[tactic(auto, using(crate::proofs::WithChanges::one_more_change))]
+fn apply_write(
+    base: &Store,
+    over: &mut Overlay,
+    key: &Key,
+    change: &Change<StoredValue>,
+) -> Result<(), AllocError>
+    ensures { OnOk result (with_changes base.now over.new ≡ apply_write (with_changes base.now over.old) key.now change.now) }
+{
+    match change {
+        Change::Value(value) => over.set(*key, Some(value.clone()?)),
+        Change::Gone => over.set(*key, None),
+        Change::Sum(amount) => {
+            let value = add(StoredValue::bytes_of(content(base, over, key)), *amount);
+            over.set(*key, Some(StoredValue::of(over.allocator(), &value)?))
+        }
+    }
+}

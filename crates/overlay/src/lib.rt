@@ -1,0 +1,10 @@
+//! Changes of a storage that are not made yet: what a storage has with them, and making all of them or none.
+#![tactic(auto)]
+
+mod committing;
+mod layers;
+mod overlay;
+
+pub use committing::commit;
+pub use layers::{Layers, apply_writes};
+pub use overlay::Overlay;

@@ -1,0 +1,8 @@
+pub mod Answers
+pub mod Entries
+pub mod FaultParts
+pub mod Folds
+pub mod LoadedTrue
+pub mod Loads
+pub mod Serves
+pub mod Turns

@@ -1,0 +1,23 @@
+//! Sessions: block after block over one storage that stays, and what is answered to each request.
+#![tactic(auto)]
+
+mod answering;
+mod block_run;
+mod fault;
+mod fault_parts;
+mod laws;
+mod loaded;
+mod loader;
+mod loading;
+mod refusing;
+mod serving;
+mod session;
+mod state;
+
+pub use fault::{FrameFault, ProgramFault};
+pub use laws::{frame_answers_as_seq, session_is_a_fold};
+pub use loaded::{LoadedProgram, LoadedPrograms, program_at};
+pub use loader::Loader;
+pub use serving::{ServeFault, serve};
+pub use session::Session;
+pub use state::State;

@@ -1,0 +1,56 @@
+//! Answering the requests of an input one after another.
+
+ghost use Rattle.std.specs.Prelude.{◌≡◌, ℕ, IfErr, IfSome, List, OnOk};
+ghost use Rattle.std.specs.Io.KnownBytes.{Appends};
+ghost use Rattle.frames.specs.Frames.{requests_of};
+ghost use Rattle.sessions.specs.Serving.{AreAnswered, IsCutShort, MayEnd};
+ghost use Rattle.sessions.specs.Session.{IsAnswer};
+
+use crate::answering::answer;
+use crate::loader::Loader;
+use crate::session::Session;
+use byte_streams::{Destination, WriteFault};
+use frames::next_request;
+use std::alloc::Global;
+use std::io::BufRead;
+
+/// Why a session ends before its input.
+#[derive(Clone, Copy, Debug, PartialEq, Eq)]
+pub enum ServeFault {
+    /// A read failed, or memory for a line ran out.
+    Unreadable,
+    /// A write failed.
+    Output(WriteFault),
+}
+
+/// Answers each request of an input, up to a line `q` or its end. Each answer is written and flushed before more is read.
+/// The first fault ends the session. Unreadable comes between two requests. Output comes where an answer was being
+/// written: a beginning of it was written, and what it says was done.
+pub fn serve<R: BufRead, L: Loader, W: Destination>(
+    alloc: Global,
+    input: &mut R,
+    session: &mut Session<L>,
+    out: &mut W,
+) -> Result<(), ServeFault>
+    ensures ok { OnOk result (IfSome (R.remaining input.old) (λ bytes. (text : List ℕ)
+        × Appends (W.contents out.old) (W.contents out.new) text
+        × AreAnswered (IsAnswer (L.program_at session.old.programs.loader)) session.old.state (requests_of bytes) text session.new.state)) }
+    ensures err { IfErr result (λ fault. IfSome (R.remaining input.old) (λ bytes.
+        IsCutShort (IsAnswer (L.program_at session.old.programs.loader)) fault session.old.state (requests_of bytes) session.new.state
+        (W.contents out.old) (W.contents out.new))) }
+    ensures refused { IfErr result (MayEnd (W.may_fail out.old) (W.may_take_nothing out.old)) }
+    ensures same { L.program_at session.new.programs.loader ≡ L.program_at session.old.programs.loader }
+{
+    for _ in 0..u64::MAX {
+        let request = match next_request(alloc, input) {
+            Ok(Some(request)) => request,
+            Ok(None) => return Ok(()),
+            Err(_) => return Err(ServeFault::Unreadable),
+        };
+        match answer(alloc, session, request, out) {
+            Ok(()) => {}
+            Err(fault) => return Err(ServeFault::Output(fault)),
+        }
+    }
+    Err(ServeFault::Unreadable)
+}
