@@ -1,0 +1,4 @@
+pub mod Used
+pub mod Noted
+pub mod Longest
+pub mod Earlier

@@ -1,0 +1,162 @@
+-- The table of the pass names what the receipts of the calls before leave.
+use Rattle.std.proofs.Common.{◌≡◌, ◌&&◌, ◌++◌, ◌+◌, ℕ, zero, suc, Bool, true, false, cond, List, [], ◌∷◌, map, Option, Some, None, T, refl, sym, ap, ◌∙◌, arith}
+use Rattle.std.specs.FinMap as finite
+use Rattle.std.specs.FinMap.Entries.{below_all}
+use Rattle.std.specs.List.{flat_map, range_with_len, slice_get}
+use Rattle.std.specs.Option.{unwrap_or}
+use Rattle.std.specs.Ordering.{eq_by_cmp, is_eq, is_lt}
+use Rattle.std.specs.declared.cmp.Ordering.{Ordering}
+use Rattle.std.specs.declared.cmp.Ordering.TheVariants.{Less, Equal, Greater}
+use Rattle.std.proofs.lemmas.List.FromFn.{map-range_with_len_more}
+use Rattle.std.specs.Cmp.Lexicographic.{nat_list_cmp_total}
+use Rattle.rv_ledger.proofs.Entries.{key_cmp-IsAntisymmetric}
+use Rattle.rv_ledger.specs.Call.{Invocation}
+use Rattle.rv_ledger.specs.Change.{ContentChange}
+use Rattle.rv_ledger.specs.Key.{Storage, key_cmp}
+use Rattle.rv_ledger.specs.declared.change.Change.TheVariants as change
+use Rattle.rv_ledger.specs.declared.receipt.Receipt.{Receipt}
+use Rattle.rv_step.specs.Chain.{ends}
+use Rattle.rv_step.specs.Fold.{receipts_of, store_after, store_after_call, store_before}
+use Rattle.read_set.specs.Origin.{named}
+use Rattle.mvmap.specs.Versions.{Entry}
+use Rattle.mvmap.specs.Reading.{Visible, origin_in, visible_below, visible_over}
+use Rattle.conflicts.specs.declared.wait.Wait.{Wait}
+use Rattle.conflicts.specs.Reads.{keys_read}
+use Rattle.conflicts.specs.Table.{NamedCalls, after_change, after_changes, below_change, named_at, waits_in}
+use Rattle.conflicts.specs.Waits.{CallView, call_of, change_in, gas_in, keys_of, version_of, versions_in, waits_for, waits_over, writers_named}
+
+-- the calls that a read names after what the next call did
+abbrev pub noted : ℕ → Option ContentChange → List ℕ → List ℕ
+noted i None calls = calls
+noted i (Some change) calls = i ∷ below_change change calls
+
+-- ---- the definition
+
+visible_more : (entries : ℕ → Option Entry) (i : ℕ) → visible_below entries (suc i) ≡ visible_over i (entries i) (visible_below entries i)
+unfolding visible_below
+visible_more entries i = refl
+
+abbrev calls_in : Visible → List ℕ
+calls_in seen = map (λ version. version.writer) (named (origin_in seen))
+
+noted_over : (i : ℕ) (c : Option ContentChange) (below : Visible) → calls_in (visible_over i (version_of c) below) ≡ noted i c (calls_in below)
+noted_over i None below = refl
+noted_over i (Some (change.Value value)) below = refl
+noted_over i (Some change.Gone) below = refl
+noted_over i (Some (change.Sum amount)) below = refl
+
+pub named_more : (receipts : List Receipt) (key : List ℕ) (i : ℕ) → writers_named receipts key (suc i) ≡ noted i (change_in (slice_get receipts i) key) (writers_named receipts key i)
+named_more receipts key i =
+    ap calls_in (visible_more (versions_in receipts key) i) ∙ noted_over i (change_in (slice_get receipts i) key) (visible_below (versions_in receipts key) i)
+
+pub named_none : (receipts : List Receipt) (key : List ℕ) → writers_named receipts key zero ≡ []
+unfolding visible_below
+named_none receipts key = refl
+
+-- ---- the table
+
+first : (a b : Bool) → T (a && b) → T a
+first true b h = tt
+first false b h = h
+
+second : (a b : Bool) → T (a && b) → T b
+second true b h = h
+second false b h = absurd h
+
+not_tied : (o : Ordering) → T (is_lt o) → is_eq o ≡ false
+not_tied Less h = refl
+not_tied Equal h = absurd h
+not_tied Greater h = absurd h
+
+tied : (o : Ordering) → is_eq o ≡ true → o ≡ Equal
+tied Less e = cc
+tied Equal e = refl
+tied Greater e = cc
+
+abbrev Changes : Type 0
+Changes = List (List ℕ × ContentChange)
+
+absent : (key : List ℕ) (es : Changes) → T (below_all key_cmp key es) → finite.find key_cmp key es ≡ None
+absent key [] h = refl
+absent key (e ∷ es) h =
+    ap (λ b. cond b (Some e.1) (finite.find key_cmp key es)) (not_tied (key_cmp key e.0) (first _ _ h)) ∙ absent key es (second _ _ h)
+
+module _ (i : ℕ) (q : List ℕ) where
+  at_insert : (before : NamedCalls) (key calls : List ℕ) (b : Bool) → eq_by_cmp key_cmp q key ≡ b → named_at (finite.insert before key calls) q ≡ cond b calls (named_at before q)
+  at_insert before key calls true same = ap (λ o. unwrap_or o []) (finite.get-insert nat_list_cmp_total before key calls q ∙ ap (λ b. cond b (Some calls) (finite.get before q)) same)
+  at_insert before key calls false other = ap (λ o. unwrap_or o []) (finite.get-insert nat_list_cmp_total before key calls q ∙ ap (λ b. cond b (Some calls) (finite.get before q)) other)
+
+  module _ (e : List ℕ × ContentChange) (es : Changes) (before : NamedCalls) (h : T (finite.is_sorted key_cmp (e ∷ es))) where
+    abbrev after : NamedCalls
+    after = after_change i before e.0 e.1
+
+    first_change : (b : Bool) → eq_by_cmp key_cmp q e.0 ≡ b → noted i (finite.find key_cmp q es) (named_at after q) ≡ noted i (cond b (Some e.1) (finite.find key_cmp q es)) (named_at before q)
+    first_change true same =
+        let key : q ≡ e.0 = key_cmp-IsAntisymmetric q e.0 (tied (key_cmp q e.0) same) in
+        ap (λ o. noted i o (named_at after q)) (ap (λ k. finite.find key_cmp k es) key ∙ absent e.0 es (first _ _ h))
+        ∙ at_insert before e.0 (i ∷ below_change e.1 (named_at before e.0)) true same
+        ∙ ap (λ k. i ∷ below_change e.1 (named_at before k)) (sym key)
+    first_change false other = ap (noted i (finite.find key_cmp q es)) (at_insert before e.0 (i ∷ below_change e.1 (named_at before e.0)) false other)
+
+  changes_at : (es : Changes) (before : NamedCalls) → T (finite.is_sorted key_cmp es) → named_at (after_changes i es before) q ≡ noted i (finite.find key_cmp q es) (named_at before q)
+  changes_at [] before h = refl
+  changes_at (e ∷ es) before h = changes_at es (after_change i before e.0 e.1) (second _ _ h) ∙ first_change e es before h (eq_by_cmp key_cmp q e.0) refl
+
+-- ---- the block fold
+
+next_is : (i : ℕ) → i + 1 ≡ suc i
+next_is i = omega arith
+
+module _ (call : Invocation) where
+  receipt_at : (block : List Invocation) (store : Storage) (i : ℕ) → slice_get block i ≡ Some call → slice_get (receipts_of block store) i ≡ Some (ends call (store_before block i store))
+  unfolding receipts_of store_after
+  receipt_at [] store i e = cc
+  receipt_at (c ∷ block) store zero e = let same : c ≡ call = cc in ap (λ k. Some (ends k store)) same
+  receipt_at (c ∷ block) store (suc i) e = receipt_at block (store_after_call c store) i e
+
+  store_suc : (block : List Invocation) (store : Storage) (i : ℕ) → slice_get block i ≡ Some call → store_before block (suc i) store ≡ store_after_call call (store_before block i store)
+  unfolding store_after
+  store_suc [] store i e = cc
+  store_suc (c ∷ block) store zero e = let same : c ≡ call = cc in ap (λ k. store_after_call k store) same
+  store_suc (c ∷ block) store (suc i) e = store_suc block (store_after_call c store) i e
+
+  pub store_next : (block : List Invocation) (store : Storage) (i : ℕ) → slice_get block i ≡ Some call → store_before block (i + 1) store ≡ store_after_call call (store_before block i store)
+  store_next block store i e = ap (λ n. store_before block n store) (next_is i) ∙ store_suc block store i e
+
+pub store_first : (block : List Invocation) (store : Storage) → store ≡ store_before block 0 store
+unfolding store_after
+store_first block store = refl
+
+-- ---- both
+
+abbrev pub Names : NamedCalls → List Receipt → ℕ → Type 0
+Names table receipts i = (q : List ℕ) → named_at table q ≡ writers_named receipts q i
+
+pub names_none : (receipts : List Receipt) → Names finite.empty receipts 0
+names_none receipts q = ap (λ o. unwrap_or o []) (finite.get-empty key_cmp q) ∙ sym (named_none receipts q)
+
+same_waits : (table : NamedCalls) (receipts : List Receipt) (i : ℕ) → Names table receipts i → (keys : List (List ℕ)) → flat_map (λ key. waits_for key (named_at table key)) keys ≡ flat_map (λ key. waits_for key (writers_named receipts key i)) keys
+same_waits table receipts i names [] = refl
+same_waits table receipts i names (key ∷ keys) = ap (λ calls. waits_for key calls ++ flat_map (λ k. waits_for k (named_at table k)) keys) (names key) ∙ ap (λ l. waits_for key (writers_named receipts key i) ++ l) (same_waits table receipts i names keys)
+
+module _ (block : List Invocation) (store : Storage) (i : ℕ) (call : Invocation) (at : slice_get block i ≡ Some call) where
+  abbrev before : Storage
+  before = store_before block i store
+
+  pub names_next : (table : NamedCalls) → Names table (receipts_of block store) i → Names (after_changes i (finite.entries (ends call before).writes) table) (receipts_of block store) (i + 1)
+  names_next table names q =
+      changes_at i q (finite.entries (ends call before).writes) table (finite.entries_sorted (ends call before).writes)
+      ∙ ap (λ o. noted i o (named_at table q)) (sym (finite.get-entries (ends call before).writes q))
+      ∙ ap (noted i (finite.get (ends call before).writes q)) (names q)
+      ∙ ap (λ r. noted i (change_in r q) (writers_named (receipts_of block store) q i)) (sym (receipt_at call block store i at))
+      ∙ sym (named_more (receipts_of block store) q i)
+      ∙ ap (writers_named (receipts_of block store) q) (sym (next_is i))
+
+  pub call_is : (table : NamedCalls) (c : CallView) → Names table (receipts_of block store) i → c.waits ≡ waits_in table (keys_read call before) → c.gas ≡ (ends call before).gas → c ≡ call_of block store i
+  call_is table c names waits gas =
+      ap (λ (w : List Wait). record { waits = w; gas = c.gas }) (waits ∙ same_waits table (receipts_of block store) i names (finite.keys (keys_read call before)) ∙ ap (λ k. waits_over (receipts_of block store) i (keys_of k before)) (sym at))
+      ∙ ap (λ (g : ℕ). record { waits = (call_of block store i).waits; gas = g }) (gas ∙ ap gas_in (sym (receipt_at call block store i at)))
+
+-- one more call
+pub calls_more : (f : ℕ → CallView) (n : ℕ) (l : List CallView) (c : CallView) → l ≡ map f (range_with_len 0 n) → c ≡ f n → l ++ c ∷ [] ≡ map f (range_with_len 0 (n + 1))
+calls_more f n l c e same = ap (λ k. k ++ c ∷ []) e ∙ ap (λ d. map f (range_with_len 0 n) ++ d ∷ []) same ∙ sym (map-range_with_len_more f 0 n n (omega arith))

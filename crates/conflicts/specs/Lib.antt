@@ -1,0 +1,5 @@
+pub mod Reads
+pub mod Waits
+pub mod Table
+pub mod Paths
+pub mod Greatest

@@ -1,0 +1,42 @@
+-- The chains of waits of a block, and the greatest sum of gas over those that end in a call.
+use Rattle.std.specs.Prelude.{◌≡◌, ◌<◌, ◌≤◌, ◌+◌, ℕ, List, [], ◌∷◌, Option, Some, None}
+use Rattle.std.specs.List.{slice_get}
+use Rattle.conflicts.specs.declared.wait.Wait.{Wait}
+use Rattle.conflicts.specs.Waits.{CallView}
+
+-- the waits of a call, if there is one
+abbrev pub waits_in_call : Option CallView → List Wait
+waits_in_call (Some call) = call.waits
+waits_in_call None = []
+
+-- its gas
+abbrev pub gas_in_call : Option CallView → ℕ
+gas_in_call (Some call) = call.gas
+gas_in_call None = 0
+
+-- one of the waits of call j names call i
+abbrev pub WaitsFor : List CallView → ℕ → ℕ → Type 0
+WaitsFor calls j i = (key : List ℕ) × (k : ℕ) × (slice_get (waits_in_call (slice_get calls j)) k ≡ Some (record { writer = i; key = key }))
+
+-- a chain that ends in call j: it waits for the first of these calls, which waits for the next, and so on
+abbrev pub IsChain : List CallView → ℕ → List ℕ → Type 0
+IsChain calls j [] = Unit {0}
+IsChain calls j (i ∷ chain) = WaitsFor calls j i × IsChain calls i chain
+
+-- the gas of all calls of a chain that ends in call j
+abbrev pub gas_along : List CallView → ℕ → List ℕ → ℕ
+gas_along calls j [] = gas_in_call (slice_get calls j)
+gas_along calls j (i ∷ chain) = gas_in_call (slice_get calls j) + gas_along calls i chain
+
+-- the greatest sum of gas over the chains that end in call j
+pub record IsPath (calls : List CallView) (j path : ℕ) : Type 0 where
+  pub some_chain : (chain : List ℕ) × IsChain calls j chain × (gas_along calls j chain ≡ path)
+  pub no_greater : (chain : List ℕ) → IsChain calls j chain → gas_along calls j chain ≤ path
+
+-- each of these is the path of its call
+abbrev pub ArePaths : List CallView → List ℕ → Type 0
+ArePaths calls paths = (j path : ℕ) → slice_get paths j ≡ Some path → IsPath calls j path
+
+-- each call waits for earlier ones only
+abbrev pub AreEarlier : List CallView → Type 0
+AreEarlier calls = (j i : ℕ) → WaitsFor calls j i → i < j

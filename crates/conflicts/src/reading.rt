@@ -1,0 +1,84 @@
+//! The run of one call over a storage, and the keys that it reads.
+
+ghost use Rattle.std.specs.Prelude.{◌≡◌, ◌<◌, IfOk, OnOk, Some};
+ghost use Rattle.conflicts.specs.Reads.{keys_in, keys_read};
+ghost use Rattle.rv_step.specs.Chain.{ends};
+ghost use Rattle.rv_step.specs.Replies.{replies_of};
+ghost use Rattle.rv_step.specs.Chain.{AreFrom};
+ghost use Rattle.rv_step.specs.Run.{asked_key, steps_left};
+
+use crate::keys::KeySet;
+use read_set::Origin;
+use rv_ledger::{Call, Key, Receipt, Store, StoredValue};
+use rv_mem::PageRoom;
+use rv_step::{EndedRun, Pause, Run, StorageAnswer};
+use std::alloc::{AllocError, Global};
+use std::mem::replace;
+
+/// What a call came to, and the keys that it read.
+#[derive(Drop)]
+pub(crate) struct Reading {
+    pub(crate) receipt: Receipt,
+    pub(crate) keys: KeySet,
+}
+
+/// Runs a call over a storage. The call's pages take the room of an earlier call's, and leave it to the next. Refused
+/// where memory ran out.
+pub(crate) fn read_over(
+    alloc: Global,
+    room: &mut PageRoom,
+    call: &Call,
+    store: &Store,
+) -> Result<Reading, AllocError>
+    ensures receipt { IfOk result (λ r. r.receipt ≡ ends call.now store.now) }
+    ensures keys { IfOk result (λ r. r.keys ≡ keys_read call.now store.now) }
+{
+    let (ended, left) = run_over(alloc, replace(room, PageRoom::new(alloc)), call, store)?;
+    *room = left;
+    let keys = keys_answered(alloc, ended.answers.as_slice())?;
+    Ok(Reading {
+        receipt: ended.receipt,
+        keys,
+    })
+}
+
+/// Runs a call whose answers are the storage's.
+fn run_over(
+    alloc: Global,
+    room: PageRoom,
+    call: &Call,
+    store: &Store,
+) -> Result<(EndedRun, PageRoom), AllocError>
+    ensures call { IfOk result (λ r. r.0.call ≡ call.now) }
+    ensures from { IfOk result (λ r. AreFrom store.now (replies_of r.0.answers.items)) }
+{
+    let mut run = Run::start_in(alloc, room, call)?;
+    let mut pause = run.go()?;
+    while let Pause::Ask(key) = pause {
+        answer_from(alloc, &mut run, &key, store)?;
+        pause = run.go()?;
+    }
+    Ok(run.finish_with_room())
+}
+
+/// Answers a run that asks for a key, from a storage. Refused where memory ran out.
+fn answer_from(alloc: Global, run: &mut Run, key: &Key, store: &Store) -> Result<(), AllocError>
+    requires { asked_key run.old.stage ≡ Some key.now }
+    ensures call { OnOk result (run.new.call ≡ run.old.call) }
+    ensures from { OnOk result (AreFrom store.now (replies_of run.old.answers) → AreFrom store.now (replies_of run.new.answers)) }
+    ensures fewer { OnOk result (steps_left run.new < steps_left run.old) }
+{
+    let content = StoredValue::value_of(store.get(key));
+    run.answer(content.as_ref(), Origin::base(alloc))
+}
+
+/// The keys of some answers. Refused where memory ran out.
+fn keys_answered(alloc: Global, answers: &[StorageAnswer]) -> Result<KeySet, AllocError>
+    ensures { IfOk result (λ keys. keys ≡ keys_in (replies_of answers.now)) }
+{
+    let mut keys = KeySet::new(alloc);
+    for answer in answers {
+        keys.insert(answer.key)?;
+    }
+    Ok(keys)
+}
