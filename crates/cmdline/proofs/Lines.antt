@@ -8,7 +8,7 @@ use Rattle.clap.specs.Words.{Text, first_of, first_value, is_simple, is_simple_a
 use Rattle.clap.specs.declared.parser.matches.Found.{Found}
 use Rattle.clap.proofs.OnLiterals.{clap_on_literals}
 use Rattle.clap.proofs.WalkLemmas.{first_value-rows}
-use Rattle.cmdline.specs.Line.{AsmOf, Asked, DebugOf, DisOf, MigrateOf, RunOf, SeqOf, requested, is_call_number, is_operand, is_worker_number, last_call, max_workers, number_in, run_of, rvstm_app, top_app, written_app, written_of}
+use Rattle.cmdline.specs.Line.{AsmOf, Asked, ChainOf, DebugOf, DisOf, MigrateOf, RunOf, SeqOf, requested, is_call_number, is_operand, is_worker_number, last_call, max_workers, number_in, run_of, rvstm_app, top_app, written_app, written_of}
 use Rattle.cmdline.proofs.FileWords.{after_option, file_level, file_walked, may_end, number_asked, number_level, option_level, option_passes, option_walked, rows_at_end}
 use Rattle.cmdline.proofs.Numbers.{is_no_flag, number_is_read}
 
@@ -174,3 +174,12 @@ pub migrate_is_asked : (program file out : Text) → is_operand file ≡ true �
     → requested (program ∷ codes "migrate" ∷ file ∷ codes "--out" ∷ out ∷ []) ≡ Some (MigrateOf file out)
 unfolding clap_on_literals
 migrate_is_asked program file out o p = written_asked (codes "migrate") file out o p MigrateOf
+
+-- the same of `chain`
+pub chain_is_taken : (program : Text) → takes rvstm_app (program ∷ codes "chain" ∷ []) ≡ true
+unfolding clap_on_literals
+chain_is_taken program = refl
+
+pub chain_is_asked : (program : Text) → requested (program ∷ codes "chain" ∷ []) ≡ Some ChainOf
+unfolding clap_on_literals
+chain_is_asked program = refl

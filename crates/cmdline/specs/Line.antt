@@ -12,7 +12,7 @@ use Rattle.clap.specs.declared.builder.value_parser.ValueParser.TheVariants as p
 use Rattle.clap.specs.declared.error.Error.{Error}
 use Rattle.clap.specs.declared.error.ErrorKind.TheVariants as kind
 use Rattle.cmdline.specs.declared.Request.{Request}
-use Rattle.cmdline.specs.declared.Request.TheVariants.{Run, Seq, Drive, Asm, Dis, Debug, Migrate}
+use Rattle.cmdline.specs.declared.Request.TheVariants.{Run, Seq, Drive, Asm, Dis, Debug, Migrate, Chain}
 
 -- the argument FILE: one required word
 abbrev pub file_rule : Rule
@@ -104,6 +104,10 @@ debug_app = with_rule (with_rule (new_app (codes "debug")) file_rule) call_rule
 abbrev pub migrate_app : App
 migrate_app = written_app (codes "migrate")
 
+-- `chain`
+abbrev pub chain_app : App
+chain_app = new_app (codes "chain")
+
 -- `rvstm`, which has a version and requires a subcommand
 abbrev pub top_app : App
 top_app = record (new_app (codes "rvstm")) {
@@ -113,8 +117,8 @@ top_app = record (new_app (codes "rvstm")) {
 -- the whole command line
 abbrev pub rvstm_app : App
 rvstm_app =
-    with_subcommand (with_subcommand (with_subcommand (with_subcommand (with_subcommand (with_subcommand (with_subcommand top_app run_app.top)
-    seq_app.top) drive_app.top) asm_app.top) dis_app.top) debug_app.top) migrate_app.top
+    with_subcommand (with_subcommand (with_subcommand (with_subcommand (with_subcommand (with_subcommand (with_subcommand (with_subcommand top_app run_app.top)
+    seq_app.top) drive_app.top) asm_app.top) dis_app.top) debug_app.top) migrate_app.top) chain_app.top
 
 -- a request with its words as texts
 pub data Asked : Type 0 where
@@ -125,6 +129,7 @@ pub data Asked : Type 0 where
   DisOf : Text → Asked
   DebugOf : Text → ℕ → Asked
   MigrateOf : Text → Text → Asked
+  ChainOf : Asked
 
 abbrev pub asked_by : Request → Asked
 asked_by (Run file workers counts) = RunOf file.now workers counts
@@ -134,6 +139,7 @@ asked_by (Asm file out) = AsmOf file.now out.now
 asked_by (Dis file) = DisOf file.now
 asked_by (Debug file call) = DebugOf file.now call
 asked_by (Migrate file out) = MigrateOf file.now out.now
+asked_by Chain = ChainOf
 
 -- the number that a word gives
 abbrev pub number_in : Text → ℕ
@@ -184,6 +190,8 @@ asked_in found = if bytes_eq found.0 (codes "run")
     then numbered_of DebugOf (codes "call") found.1
     else if bytes_eq found.0 (codes "migrate")
     then written_of MigrateOf found.1
+    else if bytes_eq found.0 (codes "chain")
+    then Some ChainOf
     else None
 
 -- what a whole line, with the program's name first, asks for, where clap accepts it

@@ -2,16 +2,16 @@
 
 ghost use Rattle.std.specs.Prelude.{◌≡◌, IfOk, Some, false, true};
 ghost use Rattle.clap.specs.Words.{App, app_of, new_app, rule_of, with_rule, with_subcommand};
-ghost use Rattle.cmdline.specs.Line.{asm_app, call_rule, counts_rule, debug_app, dis_app, drive_app, file_rule, migrate_app, out_rule, run_app, rvstm_app, schedule_rule, seq_app, top_app, workers_rule};
+ghost use Rattle.cmdline.specs.Line.{asm_app, call_rule, chain_app, counts_rule, debug_app, dis_app, drive_app, file_rule, migrate_app, out_rule, run_app, rvstm_app, schedule_rule, seq_app, top_app, workers_rule};
 
 use clap::{Arg, ArgAction, Command, value_parser};
 use std::alloc::{AllocError, Global};
 
 /// The largest number of workers.
-const MAX_WORKERS: i64 = 32;
+const WORKER_LIMIT: i64 = 32;
 
-/// The largest number of a call, the first being 0.
-const LAST_CALL: i64 = 1023;
+/// The largest number of calls in a block.
+const CALL_LIMIT: i64 = 1024;
 
 /// The whole command, with a subcommand for each request; refused where memory ran out.
 pub(crate) fn rvstm<'a>(alloc: Global) -> Result<Command<'a>, AllocError>
@@ -20,7 +20,8 @@ pub(crate) fn rvstm<'a>(alloc: Global) -> Result<Command<'a>, AllocError>
     let command = add(runner(alloc), asm(alloc));
     let command = add(command, dis(alloc));
     let command = add(command, debug(alloc));
-    add(command, migrate(alloc))
+    let command = add(command, migrate(alloc));
+    add(command, Ok(chain(alloc)))
 }
 
 /// The command with the subcommands that run a block file; refused where memory ran out.
@@ -128,6 +129,14 @@ fn migrate<'a>(alloc: Global) -> Result<Command<'a>, AllocError>
     option_command(alloc, "migrate", about, "The block file", option)
 }
 
+/// `chain`
+fn chain<'a>(alloc: Global) -> Command<'a>
+    ensures { app_of result ≡ chain_app }
+{
+    let about = "Runs block after block from the standard input on one storage and answers each";
+    Command::new(alloc, "chain").about(about)
+}
+
 /// The subcommand `NAME FILE` with one option.
 fn option_command<'a>(
     alloc: Global,
@@ -168,7 +177,7 @@ fn workers<'a>(alloc: Global) -> Arg<'a>
         "N",
         "How many workers make the steps, 1 to 32",
     )
-    .value_parser(value_parser!(usize).range(1..=MAX_WORKERS))
+    .value_parser(value_parser!(usize).range(1..=WORKER_LIMIT))
 }
 
 /// The option `--call N`.
@@ -177,7 +186,7 @@ fn call<'a>(alloc: Global) -> Arg<'a>
     ensures local { result.global ≡ false }
 {
     let help = "The number of the call, 0 to 1023; the first call has 0";
-    option(alloc, "call", "N", help).value_parser(value_parser!(usize).range(0..=LAST_CALL))
+    option(alloc, "call", "N", help).value_parser(value_parser!(usize).range(0..=CALL_LIMIT - 1))
 }
 
 /// The option `--schedule FILE`.

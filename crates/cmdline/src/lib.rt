@@ -8,7 +8,7 @@ ghost use Rattle.std.specs.Prelude.{◌≡◌, ◌∷◌, [], List, ℕ, IfErr, 
 ghost use Rattle.std.specs.String.{string_bytes};
 ghost use Rattle.clap.specs.Words.{FailsBy, HasMatchesOf, fault_of, kind_of, takes};
 ghost use Rattle.clap.specs.declared.error.ErrorKind.TheVariants as kind;
-ghost use Rattle.cmdline.specs.Line.{AnswersUnlessMemory, AsmOf, DebugOf, DisOf, DriveOf, MigrateOf, RunOf, SeqOf, requested, asked_by, is_call_number, is_operand, is_worker_number, number_in, rvstm_app};
+ghost use Rattle.cmdline.specs.Line.{AnswersUnlessMemory, AsmOf, ChainOf, DebugOf, DisOf, DriveOf, MigrateOf, RunOf, SeqOf, requested, asked_by, is_call_number, is_operand, is_worker_number, number_in, rvstm_app};
 
 use crate::commands::rvstm;
 use crate::requests::request_in;
@@ -70,6 +70,8 @@ pub enum Request<'a> {
         /// The path of the new block file.
         out: &'a str,
     },
+    /// Answer the requests of the standard input: blocks one after another on one storage, and lines between them.
+    Chain,
 }
 
 /// Reads a command line, whose first word is the program's name. Refused where the subcommand is missing
@@ -124,6 +126,9 @@ pub fn request_of<'a>(alloc: Global, words: &'a [String]) -> Result<Option<Reque
     ensures migrate { (program file out : List ℕ)
         → map string_bytes words.now ≡ program ∷ codes "migrate" ∷ file ∷ codes "--out" ∷ out ∷ [] → is_operand file ≡ true → is_operand out ≡ true
         → AnswersUnlessMemory result (MigrateOf file out) }
+    // and `chain`
+    ensures chain { (program : List ℕ) → map string_bytes words.now ≡ program ∷ codes "chain" ∷ []
+        → AnswersUnlessMemory result ChainOf }
 {
     let matches = matches_of(alloc, words)?;
     Ok(request_in(&matches))

@@ -20,6 +20,7 @@ pub(crate) fn request_in<'a>(matches: &ArgMatches<'a>) -> Option<Request<'a>>
         ("dis", found) => dis_in(found),
         ("debug", found) => debug_in(found),
         ("migrate", found) => migrate_in(found),
+        ("chain", _) => Some(Request::Chain),
         _ => None,
     }
 }

@@ -3,8 +3,9 @@ use Rattle.std.proofs.Common.{◌≡◌, ◌∙◌, ℕ, List, refl, ap, inl, in
 use Rattle.std.specs.Prelude.{Option, Some, None, Result, Ok, Err, IfSome, IsOk, IsOkAnd, option_and_then}
 use Rattle.std.specs.Option.{option_map}
 use Rattle.std.specs.Result.{result_map_both}
+use Rattle.byte_streams.specs.declared.fault.WriteFault.{WriteFault}
 use Rattle.elf32.specs.Layout.{Layout}
-use Rattle.receipts.specs.Written.{AppendsPart}
+use Rattle.byte_streams.specs.Written.{AppendsPart}
 use Rattle.block_file.specs.Block.{BlockValue}
 use Rattle.block_file.specs.declared.fault.BlockFault.{BlockFault}
 use Rattle.engines.specs.declared.fault.Refusal.{Refusal}
@@ -26,20 +27,20 @@ module _ (workers : ℕ) (schedule : Option (Result (List ℕ) BlockFault)) wher
   first_fault content (Err fault) e h = cc
   first_fault content (Ok block) e h = with_programs block (programs_of content block.programs) e h
 
-  pub before_drive : (may_fail schedule_may_fail : Type 0) (content : List ℕ → Option (List ℕ)) (block : Result BlockValue BlockFault) (old new : Option (List ℕ)) (e : Refusal) → IsJobFault may_fail content block e → IsFaultOfDrive may_fail schedule_may_fail content block workers schedule old new e
-  before_drive may_fail schedule_may_fail content block old new (Block fault) h = h
-  before_drive may_fail schedule_may_fail content block old new (Elf fault) (inl memory) = inl memory
-  before_drive may_fail schedule_may_fail content block old new (Elf fault) (inr wanted) = inr (first_fault content block (Elf fault) wanted)
-  before_drive may_fail schedule_may_fail content block old new (File TooLong) h = first_fault content block (File TooLong) h
-  before_drive may_fail schedule_may_fail content block old new (File Unreadable) h = inl h
-  before_drive may_fail schedule_may_fail content block old new (File Unwritable) h = absurd h
-  before_drive may_fail schedule_may_fail content block old new (Asm fault) h = absurd h
-  before_drive may_fail schedule_may_fail content block old new (Seq fault) h = absurd h
-  before_drive may_fail schedule_may_fail content block old new (Schedule fault) h = absurd h
-  before_drive may_fail schedule_may_fail content block old new (Run fault) h = absurd h
-  before_drive may_fail schedule_may_fail content block old new (Drive fault) h = absurd h
-  before_drive may_fail schedule_may_fail content block old new (Debug fault) h = absurd h
-  before_drive may_fail schedule_may_fail content block old new (Output fault) h = absurd h
+  pub before_drive : (may_fail schedule_may_fail : Type 0) (may_refuse : WriteFault → Type 0) (content : List ℕ → Option (List ℕ)) (block : Result BlockValue BlockFault) (old new : Option (List ℕ)) (e : Refusal) → IsJobFault may_fail content block e → IsFaultOfDrive may_fail schedule_may_fail may_refuse content block workers schedule old new e
+  before_drive may_fail schedule_may_fail may_refuse content block old new (Block fault) h = h
+  before_drive may_fail schedule_may_fail may_refuse content block old new (Elf fault) (inl memory) = inl memory
+  before_drive may_fail schedule_may_fail may_refuse content block old new (Elf fault) (inr wanted) = inr (first_fault content block (Elf fault) wanted)
+  before_drive may_fail schedule_may_fail may_refuse content block old new (File TooLong) h = first_fault content block (File TooLong) h
+  before_drive may_fail schedule_may_fail may_refuse content block old new (File Unreadable) h = inl h
+  before_drive may_fail schedule_may_fail may_refuse content block old new (File Unwritable) h = absurd h
+  before_drive may_fail schedule_may_fail may_refuse content block old new (Asm fault) h = absurd h
+  before_drive may_fail schedule_may_fail may_refuse content block old new (Seq fault) h = absurd h
+  before_drive may_fail schedule_may_fail may_refuse content block old new (Schedule fault) h = absurd h
+  before_drive may_fail schedule_may_fail may_refuse content block old new (Run fault) h = absurd h
+  before_drive may_fail schedule_may_fail may_refuse content block old new (Drive fault) h = absurd h
+  before_drive may_fail schedule_may_fail may_refuse content block old new (Debug fault) h = absurd h
+  before_drive may_fail schedule_may_fail may_refuse content block old new (Output fault) h = absurd h
 
   -- ---- on the run
 
@@ -73,16 +74,16 @@ module _ (workers : ℕ) (schedule : Option (Result (List ℕ) BlockFault)) wher
     written_so None old new h is = tt
     written_so (Some a) old new h is = rw h is
 
-    pub along_drive : (may_fail schedule_may_fail : Type 0) (content : List ℕ → Option (List ℕ)) (block : Result BlockValue BlockFault) (old new : Option (List ℕ)) (e : Refusal) → IfSome (loaded_job content block) (λ w. w ≡ Ok job)
-        → IsDriveFault (text_along job.block job.store workers entries) old new e → IsFaultOfDrive may_fail schedule_may_fail content block workers schedule old new e
-    along_drive may_fail schedule_may_fail content block old new (Drive fault) made (inl memory) = inl (memory, was_made (loaded_job content block) made)
-    along_drive may_fail schedule_may_fail content block old new (Drive fault) made (inr is) = inr (refused_so (driven_answer content block workers schedule) (Drive fault) (wanted_along content block made) is)
-    along_drive may_fail schedule_may_fail content block old new (Output fault) made h = written_so (driven_answer content block workers schedule) old new (wanted_along content block made) h
-    along_drive may_fail schedule_may_fail content block old new (Block fault) made h = absurd h
-    along_drive may_fail schedule_may_fail content block old new (Elf fault) made h = absurd h
-    along_drive may_fail schedule_may_fail content block old new (File fault) made h = absurd h
-    along_drive may_fail schedule_may_fail content block old new (Asm fault) made h = absurd h
-    along_drive may_fail schedule_may_fail content block old new (Seq fault) made h = absurd h
-    along_drive may_fail schedule_may_fail content block old new (Schedule fault) made h = absurd h
-    along_drive may_fail schedule_may_fail content block old new (Run fault) made h = absurd h
-    along_drive may_fail schedule_may_fail content block old new (Debug fault) made h = absurd h
+    pub along_drive : (may_fail schedule_may_fail : Type 0) (may_refuse : WriteFault → Type 0) (content : List ℕ → Option (List ℕ)) (block : Result BlockValue BlockFault) (old new : Option (List ℕ)) (e : Refusal) → IfSome (loaded_job content block) (λ w. w ≡ Ok job)
+        → IsDriveFault may_refuse (text_along job.block job.store workers entries) old new e → IsFaultOfDrive may_fail schedule_may_fail may_refuse content block workers schedule old new e
+    along_drive may_fail schedule_may_fail may_refuse content block old new (Drive fault) made (inl memory) = inl (memory, was_made (loaded_job content block) made)
+    along_drive may_fail schedule_may_fail may_refuse content block old new (Drive fault) made (inr is) = inr (refused_so (driven_answer content block workers schedule) (Drive fault) (wanted_along content block made) is)
+    along_drive may_fail schedule_may_fail may_refuse content block old new (Output fault) made h = (h.0, written_so (driven_answer content block workers schedule) old new (wanted_along content block made) h.1)
+    along_drive may_fail schedule_may_fail may_refuse content block old new (Block fault) made h = absurd h
+    along_drive may_fail schedule_may_fail may_refuse content block old new (Elf fault) made h = absurd h
+    along_drive may_fail schedule_may_fail may_refuse content block old new (File fault) made h = absurd h
+    along_drive may_fail schedule_may_fail may_refuse content block old new (Asm fault) made h = absurd h
+    along_drive may_fail schedule_may_fail may_refuse content block old new (Seq fault) made h = absurd h
+    along_drive may_fail schedule_may_fail may_refuse content block old new (Schedule fault) made h = absurd h
+    along_drive may_fail schedule_may_fail may_refuse content block old new (Run fault) made h = absurd h
+    along_drive may_fail schedule_may_fail may_refuse content block old new (Debug fault) made h = absurd h

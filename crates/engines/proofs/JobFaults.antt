@@ -3,6 +3,7 @@ use Rattle.std.proofs.Common.{◌≡◌, ℕ, List, inl, inr}
 use Rattle.std.specs.Prelude.{Option, Some, None, Result, Ok, Err, IfSome, IsOk}
 use Rattle.std.specs.Option.{option_map}
 use Rattle.std.specs.Result.{result_map_both}
+use Rattle.byte_streams.specs.declared.fault.WriteFault.{WriteFault}
 use Rattle.elf32.specs.Layout.{Layout}
 use Rattle.block_file.specs.Block.{BlockValue}
 use Rattle.block_file.specs.declared.fault.BlockFault.{BlockFault}
@@ -32,17 +33,17 @@ pub no_fault : (content : List ℕ → Option (List ℕ)) (block : Result BlockV
 no_fault content (Err fault) h = h
 no_fault content (Ok block) h = over_programs block (programs_of content block.programs) h
 
-pub job_fault : (may_fail : Type 0) (content : List ℕ → Option (List ℕ)) (block : Result BlockValue BlockFault) (old new : Option (List ℕ)) (e : Refusal) → IsJobFault may_fail content block e → IsFaultOf may_fail content block old new e
-job_fault may_fail content block old new (Block fault) h = h
-job_fault may_fail content block old new (Elf fault) (inl memory) = inl memory
-job_fault may_fail content block old new (Elf fault) (inr wanted) = inr (first_fault content block (Elf fault) wanted)
-job_fault may_fail content block old new (File TooLong) h = first_fault content block (File TooLong) h
-job_fault may_fail content block old new (File Unreadable) h = h
-job_fault may_fail content block old new (File Unwritable) h = absurd h
-job_fault may_fail content block old new (Asm fault) h = absurd h
-job_fault may_fail content block old new (Seq fault) h = absurd h
-job_fault may_fail content block old new (Schedule fault) h = absurd h
-job_fault may_fail content block old new (Run fault) h = absurd h
-job_fault may_fail content block old new (Drive fault) h = absurd h
-job_fault may_fail content block old new (Debug fault) h = absurd h
-job_fault may_fail content block old new (Output fault) h = absurd h
+pub job_fault : (may_fail : Type 0) (may_refuse : WriteFault → Type 0) (content : List ℕ → Option (List ℕ)) (block : Result BlockValue BlockFault) (old new : Option (List ℕ)) (e : Refusal) → IsJobFault may_fail content block e → IsFaultOf may_fail may_refuse content block old new e
+job_fault may_fail may_refuse content block old new (Block fault) h = h
+job_fault may_fail may_refuse content block old new (Elf fault) (inl memory) = inl memory
+job_fault may_fail may_refuse content block old new (Elf fault) (inr wanted) = inr (first_fault content block (Elf fault) wanted)
+job_fault may_fail may_refuse content block old new (File TooLong) h = first_fault content block (File TooLong) h
+job_fault may_fail may_refuse content block old new (File Unreadable) h = h
+job_fault may_fail may_refuse content block old new (File Unwritable) h = absurd h
+job_fault may_fail may_refuse content block old new (Asm fault) h = absurd h
+job_fault may_fail may_refuse content block old new (Seq fault) h = absurd h
+job_fault may_fail may_refuse content block old new (Schedule fault) h = absurd h
+job_fault may_fail may_refuse content block old new (Run fault) h = absurd h
+job_fault may_fail may_refuse content block old new (Drive fault) h = absurd h
+job_fault may_fail may_refuse content block old new (Debug fault) h = absurd h
+job_fault may_fail may_refuse content block old new (Output fault) h = absurd h

@@ -1,3 +1,4 @@
+mod Chains
 pub mod JobFaults
 pub mod ProgramFiles
 pub mod LaterFaults

@@ -11,8 +11,8 @@ use Rattle.debugger.specs.declared.fault.ReplayFault.TheVariants as debug_fault
 use Rattle.elf32.specs.Refusals as elf
 use Rattle.elf32.specs.declared.error.ElfError.{ElfError}
 use Rattle.elf32.specs.declared.error.ElfError.TheVariants as elf_fault
-use Rattle.receipts.specs.Faults as output
-use Rattle.receipts.specs.declared.write.WriteFault.TheVariants as output_fault
+use Rattle.byte_streams.specs.Faults as output
+use Rattle.byte_streams.specs.declared.fault.WriteFault.TheVariants as output_fault
 use Rattle.rv_text.specs.Faults as asm
 use Rattle.rv_text.specs.declared.fault.AsmCause.{AsmCause}
 use Rattle.rv_text.specs.declared.fault.AsmCause.TheVariants as asm_cause

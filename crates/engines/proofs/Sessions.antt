@@ -3,7 +3,12 @@ use Rattle.std.proofs.Common.{◌≡◌, ℕ, List, refl, inr}
 use Rattle.std.specs.Prelude.{Option, Some, None, Result, Ok, Err, IfErr, IfSome, IsOk, IsOkAnd, IsSome, OnErr, slice_get}
 use Rattle.std.specs.Option.{option_map}
 use Rattle.block_file.specs.Block.{block_of}
+use Rattle.byte_streams.specs.Written.{MayRefuse}
+use Rattle.byte_streams.specs.declared.fault.WriteFault.{WriteFault}
+use Rattle.byte_streams.specs.declared.fault.WriteFault.TheVariants as output
 use Rattle.debugger.specs.Replay.{ReplayState}
+use Rattle.debugger.specs.Session.{MayTell}
+use Rattle.debugger.specs.declared.fault.DebugFault.TheVariants as session
 use Rattle.debugger.specs.declared.fault.ReplayFault.TheVariants as debug
 use Rattle.rv_ledger.specs.declared.job.Job.{Job}
 use Rattle.engines.specs.declared.fault.Refusal.{Refusal}
@@ -22,6 +27,12 @@ job_stays (Some (Err fault)) call out = refl
 pub stays : (input : Option (List ℕ)) (content : List ℕ → Option (List ℕ)) (call : ℕ) (out : Option (List ℕ)) → IfSome input (λ bytes. IfSome (loaded_job content (block_of bytes)) (λ job. StaysWithoutSession job call out out))
 stays None content call out = tt
 stays (Some bytes) content call out = job_stays (loaded_job content (block_of bytes)) call out
+
+-- a refusal of a session's output
+pub of_output : (lines_may_fail may_fail may_take_nothing : Type 0) (fault : WriteFault) → MayTell may_fail may_take_nothing (session.Output fault) → IsSessionFault lines_may_fail (MayRefuse may_fail may_take_nothing) (Output fault)
+of_output lines_may_fail may_fail may_take_nothing output.Io h = h
+of_output lines_may_fail may_fail may_take_nothing output.WroteNothing h = h
+of_output lines_may_fail may_fail may_take_nothing output.Memory h = h
 
 module _ (job : Job) (call : ℕ) (replay : ReplayState) (first : first_moment job call ≡ Some replay) where
   some_call : {X : Type 0} (o : Option X) (f : X → ReplayState) → option_map f o ≡ Some replay → IsSome o
@@ -52,23 +63,25 @@ module _ (job : Job) (call : ℕ) (replay : ReplayState) (first : first_moment j
   has_session (Err e) (Some bytes) content old new made = no_refusal (loaded_job content (block_of bytes)) old new made
 
   -- a refusal of the session is one of the whole
-  pub in_session : {X : Type 0} (may_fail lines_may_fail : Type 0) (input : Option (List ℕ)) (content : List ℕ → Option (List ℕ)) (old new : Option (List ℕ)) (r : Result X Refusal) → IfSome input (λ bytes. IfSome (loaded_job content (block_of bytes)) (λ w. w ≡ Ok job))
-      → IfErr r (IsSessionFault lines_may_fail) → IfErr r (λ e. IfSome input (λ bytes. IsFaultOfDebug may_fail lines_may_fail content (block_of bytes) call old new e))
-  in_session may_fail lines_may_fail input content old new (Ok x) made h = tt
-  in_session may_fail lines_may_fail None content old new (Err e) made h = tt
-  in_session may_fail lines_may_fail (Some bytes) content old new (Err (File Unreadable)) made h = inr (h, has_call (loaded_job content (block_of bytes)) made)
-  in_session may_fail lines_may_fail (Some bytes) content old new (Err (Output fault)) made h = has_call (loaded_job content (block_of bytes)) made
-  in_session may_fail lines_may_fail (Some bytes) content old new (Err (Debug debug.Memory)) made h = was_made (loaded_job content (block_of bytes)) made
-  in_session may_fail lines_may_fail (Some bytes) content old new (Err (Debug debug.NoSuchCall)) made h = absurd h
-  in_session may_fail lines_may_fail (Some bytes) content old new (Err (Debug debug.AtEnd)) made h = absurd h
-  in_session may_fail lines_may_fail (Some bytes) content old new (Err (Debug debug.AtStart)) made h = absurd h
-  in_session may_fail lines_may_fail (Some bytes) content old new (Err (Debug debug.BadRange)) made h = absurd h
-  in_session may_fail lines_may_fail (Some bytes) content old new (Err (File Unwritable)) made h = absurd h
-  in_session may_fail lines_may_fail (Some bytes) content old new (Err (File TooLong)) made h = absurd h
-  in_session may_fail lines_may_fail (Some bytes) content old new (Err (Block fault)) made h = absurd h
-  in_session may_fail lines_may_fail (Some bytes) content old new (Err (Elf fault)) made h = absurd h
-  in_session may_fail lines_may_fail (Some bytes) content old new (Err (Asm fault)) made h = absurd h
-  in_session may_fail lines_may_fail (Some bytes) content old new (Err (Seq fault)) made h = absurd h
-  in_session may_fail lines_may_fail (Some bytes) content old new (Err (Schedule fault)) made h = absurd h
-  in_session may_fail lines_may_fail (Some bytes) content old new (Err (Run fault)) made h = absurd h
-  in_session may_fail lines_may_fail (Some bytes) content old new (Err (Drive fault)) made h = absurd h
+  pub in_session : {X : Type 0} (may_fail lines_may_fail : Type 0) (may_refuse : WriteFault → Type 0) (input : Option (List ℕ)) (content : List ℕ → Option (List ℕ)) (old new : Option (List ℕ)) (r : Result X Refusal) → IfSome input (λ bytes. IfSome (loaded_job content (block_of bytes)) (λ w. w ≡ Ok job))
+      → IfErr r (IsSessionFault lines_may_fail may_refuse) → IfErr r (λ e. IfSome input (λ bytes. IsFaultOfDebug may_fail lines_may_fail may_refuse content (block_of bytes) call old new e))
+  in_session may_fail lines_may_fail may_refuse input content old new (Ok x) made h = tt
+  in_session may_fail lines_may_fail may_refuse None content old new (Err e) made h = tt
+  in_session may_fail lines_may_fail may_refuse (Some bytes) content old new (Err (File Unreadable)) made h = inr (h, has_call (loaded_job content (block_of bytes)) made)
+  in_session may_fail lines_may_fail may_refuse (Some bytes) content old new (Err (Output output.Io)) made h = (h, has_call (loaded_job content (block_of bytes)) made)
+  in_session may_fail lines_may_fail may_refuse (Some bytes) content old new (Err (Output output.WroteNothing)) made h = (h, has_call (loaded_job content (block_of bytes)) made)
+  in_session may_fail lines_may_fail may_refuse (Some bytes) content old new (Err (Output output.Memory)) made h = absurd h
+  in_session may_fail lines_may_fail may_refuse (Some bytes) content old new (Err (Debug debug.Memory)) made h = was_made (loaded_job content (block_of bytes)) made
+  in_session may_fail lines_may_fail may_refuse (Some bytes) content old new (Err (Debug debug.NoSuchCall)) made h = absurd h
+  in_session may_fail lines_may_fail may_refuse (Some bytes) content old new (Err (Debug debug.AtEnd)) made h = absurd h
+  in_session may_fail lines_may_fail may_refuse (Some bytes) content old new (Err (Debug debug.AtStart)) made h = absurd h
+  in_session may_fail lines_may_fail may_refuse (Some bytes) content old new (Err (Debug debug.BadRange)) made h = absurd h
+  in_session may_fail lines_may_fail may_refuse (Some bytes) content old new (Err (File Unwritable)) made h = absurd h
+  in_session may_fail lines_may_fail may_refuse (Some bytes) content old new (Err (File TooLong)) made h = absurd h
+  in_session may_fail lines_may_fail may_refuse (Some bytes) content old new (Err (Block fault)) made h = absurd h
+  in_session may_fail lines_may_fail may_refuse (Some bytes) content old new (Err (Elf fault)) made h = absurd h
+  in_session may_fail lines_may_fail may_refuse (Some bytes) content old new (Err (Asm fault)) made h = absurd h
+  in_session may_fail lines_may_fail may_refuse (Some bytes) content old new (Err (Seq fault)) made h = absurd h
+  in_session may_fail lines_may_fail may_refuse (Some bytes) content old new (Err (Schedule fault)) made h = absurd h
+  in_session may_fail lines_may_fail may_refuse (Some bytes) content old new (Err (Run fault)) made h = absurd h
+  in_session may_fail lines_may_fail may_refuse (Some bytes) content old new (Err (Drive fault)) made h = absurd h

@@ -3,6 +3,8 @@ use Rattle.std.specs.Prelude.{ℕ, List, ◌≡◌, ◌⊎◌, ⊤, Option, Some
 use Rattle.std.specs.Option.{option_map}
 use Rattle.block_file.specs.Block.{BlockValue}
 use Rattle.block_file.specs.declared.fault.BlockFault.{BlockFault}
+use Rattle.byte_streams.specs.declared.fault.WriteFault.{WriteFault}
+use Rattle.byte_streams.specs.declared.fault.WriteFault.TheVariants as output
 use Rattle.debugger.specs.Replay.{ReplayState}
 use Rattle.debugger.specs.Session.{lines_of, session}
 use Rattle.debugger.specs.declared.fault.ReplayFault.TheVariants as debug
@@ -33,14 +35,16 @@ HasCall content block index = IfSome (loaded_job content block) (λ wanted. IsOk
 
 -- a refusal: NoSuchCall only where the job of the files has no such call; a fault of the files is as in a run in order;
 -- Memory of the session comes only where nothing that was read has a fault, and a refusal of its writes or reads only
--- where the call is there; all these at any line
-abbrev pub IsFaultOfDebug : Type 0 → Type 0 → (List ℕ → Option (List ℕ)) → Result BlockValue BlockFault → ℕ → Option (List ℕ) → Option (List ℕ) → Refusal → Type 0
-IsFaultOfDebug may_fail lines_may_fail content block index old new (Debug debug.NoSuchCall) = IfSome (loaded_job content block) (λ wanted. IsOkAnd wanted (λ job. slice_get job.block index ≡ None))
-IsFaultOfDebug may_fail lines_may_fail content block index old new (Debug debug.Memory) = IfSome (loaded_job content block) (λ wanted. IsOk wanted)
-IsFaultOfDebug may_fail lines_may_fail content block index old new (Debug fault) = ⊥
-IsFaultOfDebug may_fail lines_may_fail content block index old new (Output fault) = HasCall content block index
-IsFaultOfDebug may_fail lines_may_fail content block index old new (File Unreadable) = MayBeUnreadable may_fail content block ⊎ (lines_may_fail × HasCall content block index)
-IsFaultOfDebug may_fail lines_may_fail content block index old new fault = IsFaultOf may_fail content block old new fault
+-- where the call is there; all these at any line. A refusal of its writes comes only where a write may be refused so, and
+-- Memory of the output does not come
+abbrev pub IsFaultOfDebug : Type 0 → Type 0 → (WriteFault → Type 0) → (List ℕ → Option (List ℕ)) → Result BlockValue BlockFault → ℕ → Option (List ℕ) → Option (List ℕ) → Refusal → Type 0
+IsFaultOfDebug may_fail lines_may_fail may_refuse content block index old new (Debug debug.NoSuchCall) = IfSome (loaded_job content block) (λ wanted. IsOkAnd wanted (λ job. slice_get job.block index ≡ None))
+IsFaultOfDebug may_fail lines_may_fail may_refuse content block index old new (Debug debug.Memory) = IfSome (loaded_job content block) (λ wanted. IsOk wanted)
+IsFaultOfDebug may_fail lines_may_fail may_refuse content block index old new (Debug fault) = ⊥
+IsFaultOfDebug may_fail lines_may_fail may_refuse content block index old new (Output output.Memory) = ⊥
+IsFaultOfDebug may_fail lines_may_fail may_refuse content block index old new (Output fault) = may_refuse fault × HasCall content block index
+IsFaultOfDebug may_fail lines_may_fail may_refuse content block index old new (File Unreadable) = MayBeUnreadable may_fail content block ⊎ (lines_may_fail × HasCall content block index)
+IsFaultOfDebug may_fail lines_may_fail may_refuse content block index old new fault = IsFaultOf may_fail may_refuse content block old new fault
 
 -- where no session is wanted, the output stays as it was
 abbrev pub StaysWithoutSession : Result Job Refusal → ℕ → Option (List ℕ) → Option (List ℕ) → Type 0

@@ -12,7 +12,8 @@ use Rattle.stm_state.specs.Steps.{ArenaFull, IncarnationLimit}
 use Rattle.stm_core.specs.declared.engine.DriveFault.{DriveFault}
 use Rattle.stm_core.specs.declared.engine.DriveFault.TheVariants as drive
 use Rattle.receipts.specs.Text.{result_text}
-use Rattle.receipts.specs.Written.{AppendsPart}
+use Rattle.byte_streams.specs.Written.{AppendsPart}
+use Rattle.byte_streams.specs.declared.fault.WriteFault.{WriteFault}
 use Rattle.block_file.specs.Block.{BlockValue}
 use Rattle.block_file.specs.declared.fault.BlockFault.{BlockFault}
 use Rattle.block_file.specs.declared.fault.Cause.TheVariants as cause
@@ -58,13 +59,14 @@ IsScheduleMemory schedule fault = (fault.cause ≡ cause.Memory) × IfSome sched
 -- a refusal: a fault of what was read or of the run along the schedule is the first one. Memory for a program comes
 -- only where the block file has no fault, and Memory for the schedule or of the run only where the programs have none
 -- either. Unreadable comes only where a file of the job may be unreadable, or where the job's files have no fault and a
--- read of the schedule may fail. Where the output was refused, a beginning of the wanted text was written
-abbrev pub IsFaultOfDrive : Type 0 → Type 0 → (List ℕ → Option (List ℕ)) → Result BlockValue BlockFault → ℕ → Option (Result (List ℕ) BlockFault) → Option (List ℕ) → Option (List ℕ) → Refusal → Type 0
-IsFaultOfDrive may_fail schedule_may_fail content block workers schedule old new (Block fault) = IsTextFault block fault
-IsFaultOfDrive may_fail schedule_may_fail content block workers schedule old new (Elf fault) = ((fault ≡ elf.Memory) × IsOk block) ⊎ IfSome (driven_answer content block workers schedule) (λ a. a ≡ Err (Elf fault))
-IsFaultOfDrive may_fail schedule_may_fail content block workers schedule old new (File TooLong) = IfSome (driven_answer content block workers schedule) (λ a. a ≡ Err (File TooLong))
-IsFaultOfDrive may_fail schedule_may_fail content block workers schedule old new (File Unreadable) = MayBeUnreadable may_fail content block ⊎ (schedule_may_fail × IfSome (loaded_job content block) (λ wanted. IsOk wanted))
-IsFaultOfDrive may_fail schedule_may_fail content block workers schedule old new (Schedule fault) = (IsScheduleMemory schedule fault × IfSome (loaded_job content block) (λ wanted. IsOk wanted)) ⊎ IfSome (driven_answer content block workers schedule) (λ a. a ≡ Err (Schedule fault))
-IsFaultOfDrive may_fail schedule_may_fail content block workers schedule old new (Drive fault) = ((fault ≡ drive.Memory) × IfSome (loaded_job content block) (λ wanted. IsOk wanted)) ⊎ IfSome (driven_answer content block workers schedule) (λ a. a ≡ Err (Drive fault))
-IsFaultOfDrive may_fail schedule_may_fail content block workers schedule old new (Output fault) = IfSome (driven_answer content block workers schedule) (λ a. IsOkAnd a (AppendsPart old new))
-IsFaultOfDrive may_fail schedule_may_fail content block workers schedule old new _ = ⊥
+-- read of the schedule may fail. Where the output was refused, a beginning of the wanted text was written, and a write may
+-- be refused so
+abbrev pub IsFaultOfDrive : Type 0 → Type 0 → (WriteFault → Type 0) → (List ℕ → Option (List ℕ)) → Result BlockValue BlockFault → ℕ → Option (Result (List ℕ) BlockFault) → Option (List ℕ) → Option (List ℕ) → Refusal → Type 0
+IsFaultOfDrive may_fail schedule_may_fail may_refuse content block workers schedule old new (Block fault) = IsTextFault block fault
+IsFaultOfDrive may_fail schedule_may_fail may_refuse content block workers schedule old new (Elf fault) = ((fault ≡ elf.Memory) × IsOk block) ⊎ IfSome (driven_answer content block workers schedule) (λ a. a ≡ Err (Elf fault))
+IsFaultOfDrive may_fail schedule_may_fail may_refuse content block workers schedule old new (File TooLong) = IfSome (driven_answer content block workers schedule) (λ a. a ≡ Err (File TooLong))
+IsFaultOfDrive may_fail schedule_may_fail may_refuse content block workers schedule old new (File Unreadable) = MayBeUnreadable may_fail content block ⊎ (schedule_may_fail × IfSome (loaded_job content block) (λ wanted. IsOk wanted))
+IsFaultOfDrive may_fail schedule_may_fail may_refuse content block workers schedule old new (Schedule fault) = (IsScheduleMemory schedule fault × IfSome (loaded_job content block) (λ wanted. IsOk wanted)) ⊎ IfSome (driven_answer content block workers schedule) (λ a. a ≡ Err (Schedule fault))
+IsFaultOfDrive may_fail schedule_may_fail may_refuse content block workers schedule old new (Drive fault) = ((fault ≡ drive.Memory) × IfSome (loaded_job content block) (λ wanted. IsOk wanted)) ⊎ IfSome (driven_answer content block workers schedule) (λ a. a ≡ Err (Drive fault))
+IsFaultOfDrive may_fail schedule_may_fail may_refuse content block workers schedule old new (Output fault) = may_refuse fault × IfSome (driven_answer content block workers schedule) (λ a. IsOkAnd a (AppendsPart old new))
+IsFaultOfDrive may_fail schedule_may_fail may_refuse content block workers schedule old new _ = ⊥

@@ -10,8 +10,9 @@ use Rattle.rv_ledger.specs.declared.rules.Rules.{Rules}
 use Rattle.rv_ledger.specs.declared.job.Job.{Job}
 use Rattle.rv_step.specs.Fold.{receipts_of, store_after}
 use Rattle.receipts.specs.Text.{result_text}
-use Rattle.receipts.specs.Written.{AppendsPart}
-use Rattle.receipts.specs.declared.write.WriteFault.TheVariants as output
+use Rattle.byte_streams.specs.Written.{AppendsPart}
+use Rattle.byte_streams.specs.declared.fault.WriteFault.{WriteFault}
+use Rattle.byte_streams.specs.declared.fault.WriteFault.TheVariants as output
 use Rattle.block_file.specs.Block.{BlockValue, CallValue}
 use Rattle.block_file.specs.declared.fault.BlockFault.{BlockFault}
 use Rattle.block_file.specs.declared.fault.Cause.TheVariants as cause
@@ -80,15 +81,16 @@ MayBeUnreadable may_fail content block = may_fail ⊎ (loaded_job content block 
 
 -- a refusal: a fault of the block file or of its programs is the first one. Memory for a program comes only where the
 -- block file has no fault, and Memory of the run only where its programs have none either. Unreadable comes only where a
--- file of the job may be unreadable. Where the output was refused, a beginning of the wanted text was written
-abbrev pub IsFaultOf : Type 0 → (List ℕ → Option (List ℕ)) → Result BlockValue BlockFault → Option (List ℕ) → Option (List ℕ) → Refusal → Type 0
-IsFaultOf may_fail content block old new (Block fault) = IsTextFault block fault
-IsFaultOf may_fail content block old new (Elf fault) = ((fault ≡ elf.Memory) × IsOk block) ⊎ IfSome (answer_of content block) (λ answer. answer ≡ Err (Elf fault))
-IsFaultOf may_fail content block old new (File TooLong) = IfSome (answer_of content block) (λ answer. answer ≡ Err (File TooLong))
-IsFaultOf may_fail content block old new (Output fault) = IfSome (answer_of content block) (λ answer. IsOkAnd answer (AppendsPart old new))
-IsFaultOf may_fail content block old new (File Unreadable) = MayBeUnreadable may_fail content block
-IsFaultOf may_fail content block old new (Seq fault) = IfSome (answer_of content block) (λ answer. IsOk answer)
-IsFaultOf may_fail content block old new _ = ⊥
+-- file of the job may be unreadable. Where the output was refused, a beginning of the wanted text was written, and a write
+-- may be refused so
+abbrev pub IsFaultOf : Type 0 → (WriteFault → Type 0) → (List ℕ → Option (List ℕ)) → Result BlockValue BlockFault → Option (List ℕ) → Option (List ℕ) → Refusal → Type 0
+IsFaultOf may_fail may_refuse content block old new (Block fault) = IsTextFault block fault
+IsFaultOf may_fail may_refuse content block old new (Elf fault) = ((fault ≡ elf.Memory) × IsOk block) ⊎ IfSome (answer_of content block) (λ answer. answer ≡ Err (Elf fault))
+IsFaultOf may_fail may_refuse content block old new (File TooLong) = IfSome (answer_of content block) (λ answer. answer ≡ Err (File TooLong))
+IsFaultOf may_fail may_refuse content block old new (Output fault) = may_refuse fault × IfSome (answer_of content block) (λ answer. IsOkAnd answer (AppendsPart old new))
+IsFaultOf may_fail may_refuse content block old new (File Unreadable) = MayBeUnreadable may_fail content block
+IsFaultOf may_fail may_refuse content block old new (Seq fault) = IfSome (answer_of content block) (λ answer. IsOk answer)
+IsFaultOf may_fail may_refuse content block old new _ = ⊥
 
 -- a refused command wrote nothing, unless a write failed
 abbrev pub IsUnwritten : Option (List ℕ) → Option (List ℕ) → Refusal → Type 0

@@ -4,7 +4,7 @@ use Rattle.std.specs.Fmt.{decimal}
 use Rattle.block_file.specs.Faults as block
 use Rattle.debugger.specs.Faults as debug
 use Rattle.elf32.specs.Refusals as elf
-use Rattle.receipts.specs.Faults as output
+use Rattle.byte_streams.specs.Faults as output
 use Rattle.rv_text.specs.Faults as asm
 use Rattle.stm_core.specs.Faults as drive
 use Rattle.workers.specs.Faults as run

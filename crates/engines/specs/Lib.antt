@@ -1,3 +1,4 @@
+pub mod Chaining
 pub mod Engine
 pub mod Listing
 pub mod StageFaults

@@ -7,8 +7,9 @@ use Rattle.elf32.specs.Written.{file_of}
 use Rattle.elf32.specs.declared.words.PlacedWord.{PlacedWord}
 use Rattle.elf32.specs.declared.error.ElfError.TheVariants as elf
 use Rattle.receipts.specs.Text.{word_text}
-use Rattle.receipts.specs.Written.{AppendsPart}
-use Rattle.receipts.specs.declared.write.WriteFault.TheVariants as output
+use Rattle.byte_streams.specs.Written.{AppendsPart}
+use Rattle.byte_streams.specs.declared.fault.WriteFault.{WriteFault}
+use Rattle.byte_streams.specs.declared.fault.WriteFault.TheVariants as output
 use Rattle.rv_names.specs.Text as text
 use Rattle.rv_program.specs.Sections.{Sections}
 use Rattle.rv_text.specs.Assembly.{assembled}
@@ -21,7 +22,7 @@ use Rattle.engines.specs.Engine.{layout_of_file}
 
 -- a line of the listing: the address and the word in eight hex digits each, and the word's text
 abbrev pub listing_line : PlacedWord → List ℕ
-listing_line placed = word_text placed.address ++ 32 ∷ (word_text placed.word ++ 32 ∷ (text.word_text placed.word ++ 10 ∷ []))
+listing_line placed = word_text placed.address ++ 32 ∷ (word_text placed.word ++ 32 ∷ (text.disassembly placed.word ++ 10 ∷ []))
 
 -- the words of a program's text, ascending
 abbrev pub listing_of : Layout → List ℕ
@@ -32,14 +33,15 @@ abbrev pub listing_of_file : List ℕ → Result (List ℕ) Refusal
 listing_of_file bytes = result_map_both listing_of (λ fault. fault) (layout_of_file bytes)
 
 -- a refusal of `dis`: a fault of the file is the wanted one, or Memory; where the output was refused, a beginning of
--- the wanted text was written. Unreadable comes only where a read may fail, and Memory of the output does not come
-abbrev pub IsListingFault : Type 0 → Result (List ℕ) Refusal → Option (List ℕ) → Option (List ℕ) → Refusal → Type 0
-IsListingFault may_fail answer old new (Elf fault) = (fault ≡ elf.Memory) ⊎ (answer ≡ Err (Elf fault))
-IsListingFault may_fail answer old new (File TooLong) = answer ≡ Err (File TooLong)
-IsListingFault may_fail answer old new (File Unreadable) = may_fail
-IsListingFault may_fail answer old new (Output output.Memory) = ⊥
-IsListingFault may_fail answer old new (Output fault) = IsOkAnd answer (AppendsPart old new)
-IsListingFault may_fail answer old new _ = ⊥
+-- the wanted text was written, and a write may be refused so. Unreadable comes only where a read may fail, and Memory of
+-- the output does not come
+abbrev pub IsListingFault : Type 0 → (WriteFault → Type 0) → Result (List ℕ) Refusal → Option (List ℕ) → Option (List ℕ) → Refusal → Type 0
+IsListingFault may_fail may_refuse answer old new (Elf fault) = (fault ≡ elf.Memory) ⊎ (answer ≡ Err (Elf fault))
+IsListingFault may_fail may_refuse answer old new (File TooLong) = answer ≡ Err (File TooLong)
+IsListingFault may_fail may_refuse answer old new (File Unreadable) = may_fail
+IsListingFault may_fail may_refuse answer old new (Output output.Memory) = ⊥
+IsListingFault may_fail may_refuse answer old new (Output fault) = may_refuse fault × IsOkAnd answer (AppendsPart old new)
+IsListingFault may_fail may_refuse answer old new _ = ⊥
 
 -- the file of an assembled program; one without text words has no entry, and is refused as BadEntry
 abbrev pub file_or_fault : Sections → Result (List ℕ) Refusal

@@ -6,7 +6,7 @@ use Rattle.block_file.specs.declared.fault.Cause.{Cause}
 use Rattle.block_file.specs.declared.fault.Cause.TheVariants as cause
 use Rattle.debugger.specs.Faults as debug
 use Rattle.elf32.specs.Refusals as elf
-use Rattle.receipts.specs.Faults as output
+use Rattle.byte_streams.specs.Faults as output
 use Rattle.rv_text.specs.Faults as asm
 use Rattle.rv_text.specs.declared.fault.AsmCause.{AsmCause}
 use Rattle.rv_text.specs.declared.fault.AsmCause.TheVariants as asm_cause
@@ -58,8 +58,8 @@ name_in (Elf fault) = elf.name_of fault
 name_in (Asm fault) = asm.name_of fault.cause
 name_in (Seq fault) = seq_name fault
 name_in (Schedule fault) = block.name_of fault.cause
-name_in (Run fault) = run.fault_name fault
-name_in (Drive fault) = drive.fault_name fault
+name_in (Run fault) = run.name_of fault
+name_in (Drive fault) = drive.name_of fault
 name_in (Debug fault) = debug.name_of fault
 name_in (Output fault) = output.name_of fault
 
@@ -71,7 +71,7 @@ number_in (Elf fault) = elf.number_of fault
 number_in (Asm fault) = asm.number_of fault.cause
 number_in (Seq fault) = seq_number fault
 number_in (Schedule fault) = block.number_of fault.cause
-number_in (Run fault) = run.fault_number fault
-number_in (Drive fault) = drive.fault_number fault
+number_in (Run fault) = run.number_of fault
+number_in (Drive fault) = drive.number_of fault
 number_in (Debug fault) = debug.number_of fault
 number_in (Output fault) = output.number_of fault

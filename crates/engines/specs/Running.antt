@@ -2,6 +2,7 @@
 use Rattle.std.specs.Prelude.{ℕ, List, ◌≡◌, ◌⊎◌, ◌<◌, ⊤, Option, IfSome, Result, IsOkAnd}
 use Rattle.block_file.specs.Block.{BlockValue}
 use Rattle.block_file.specs.declared.fault.BlockFault.{BlockFault}
+use Rattle.byte_streams.specs.declared.fault.WriteFault.{WriteFault}
 use Rattle.rv_ledger.specs.declared.job.Job.{Job}
 use Rattle.stm_state.specs.Steps as steps
 use Rattle.workers.specs.History.{HasLimit, HasStepLimit}
@@ -22,7 +23,7 @@ IsRefusalOf job workers fault = ⊤
 
 -- a refusal: one of the run, Memory too, comes only where nothing that was read has a fault, and is one of the job in
 -- the files; a refusal of a run in order does not come; all others are as in a run in order
-abbrev pub IsFaultOfRun : Type 0 → (List ℕ → Option (List ℕ)) → Result BlockValue BlockFault → ℕ → Option (List ℕ) → Option (List ℕ) → Refusal → Type 0
-IsFaultOfRun may_fail content block workers old new (Run fault) = IfSome (loaded_job content block) (λ wanted. IsOkAnd wanted (λ job. IsRefusalOf job workers fault))
-IsFaultOfRun may_fail content block workers old new (Seq fault) = ⊥
-IsFaultOfRun may_fail content block workers old new fault = IsFaultOf may_fail content block old new fault
+abbrev pub IsFaultOfRun : Type 0 → (WriteFault → Type 0) → (List ℕ → Option (List ℕ)) → Result BlockValue BlockFault → ℕ → Option (List ℕ) → Option (List ℕ) → Refusal → Type 0
+IsFaultOfRun may_fail may_refuse content block workers old new (Run fault) = IfSome (loaded_job content block) (λ wanted. IsOkAnd wanted (λ job. IsRefusalOf job workers fault))
+IsFaultOfRun may_fail may_refuse content block workers old new (Seq fault) = ⊥
+IsFaultOfRun may_fail may_refuse content block workers old new fault = IsFaultOf may_fail may_refuse content block old new fault

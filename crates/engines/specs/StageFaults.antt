@@ -5,7 +5,9 @@ use Rattle.block_file.specs.Block.{BlockValue}
 use Rattle.block_file.specs.declared.fault.BlockFault.{BlockFault}
 use Rattle.debugger.specs.declared.fault.ReplayFault.TheVariants as debug
 use Rattle.receipts.specs.Text.{result_text}
-use Rattle.receipts.specs.Written.{AppendsPart}
+use Rattle.byte_streams.specs.Written.{AppendsPart}
+use Rattle.byte_streams.specs.declared.fault.WriteFault.{WriteFault}
+use Rattle.byte_streams.specs.declared.fault.WriteFault.TheVariants as output
 use Rattle.rv_ledger.specs.declared.job.Job.{Job}
 use Rattle.rv_step.specs.Fold.{receipts_of, store_after}
 use Rattle.stm_core.specs.declared.engine.DriveFault.TheVariants as drive
@@ -44,28 +46,28 @@ IsLoadFault may_fail content block memory e = ((e ≡ memory) × IfSome (loaded_
 abbrev pub text_of : Job → List ℕ
 text_of job = result_text (receipts_of job.block job.store) (store_after job.block job.store)
 
--- a refusal of the output: a beginning of the text was written
-abbrev pub IsOutputFault : List ℕ → Option (List ℕ) → Option (List ℕ) → Refusal → Type 0
-IsOutputFault text old new (Output fault) = AppendsPart old new text
-IsOutputFault text old new _ = ⊥
+-- a refusal of the output: a beginning of the text was written, and a write may be refused so
+abbrev pub IsOutputFault : (WriteFault → Type 0) → List ℕ → Option (List ℕ) → Option (List ℕ) → Refusal → Type 0
+IsOutputFault may_refuse text old new (Output fault) = may_refuse fault × AppendsPart old new text
+IsOutputFault may_refuse text old new _ = ⊥
 
 -- a refusal of a run in order: Memory, or one of the output
-abbrev pub IsRunFault : List ℕ → Option (List ℕ) → Option (List ℕ) → Refusal → Type 0
-IsRunFault text old new (Seq fault) = ⊤
-IsRunFault text old new (Output fault) = AppendsPart old new text
-IsRunFault text old new _ = ⊥
+abbrev pub IsRunFault : (WriteFault → Type 0) → List ℕ → Option (List ℕ) → Option (List ℕ) → Refusal → Type 0
+IsRunFault may_refuse text old new (Seq fault) = ⊤
+IsRunFault may_refuse text old new (Output fault) = may_refuse fault × AppendsPart old new text
+IsRunFault may_refuse text old new _ = ⊥
 
 -- a refusal of a run along a list: the wanted one, Memory, or one of the output
-abbrev pub IsDriveFault : Result (List ℕ) Refusal → Option (List ℕ) → Option (List ℕ) → Refusal → Type 0
-IsDriveFault wanted old new (Drive fault) = (fault ≡ drive.Memory) ⊎ (wanted ≡ Err (Drive fault))
-IsDriveFault wanted old new (Output fault) = IsOkAnd wanted (AppendsPart old new)
-IsDriveFault wanted old new _ = ⊥
+abbrev pub IsDriveFault : (WriteFault → Type 0) → Result (List ℕ) Refusal → Option (List ℕ) → Option (List ℕ) → Refusal → Type 0
+IsDriveFault may_refuse wanted old new (Drive fault) = (fault ≡ drive.Memory) ⊎ (wanted ≡ Err (Drive fault))
+IsDriveFault may_refuse wanted old new (Output fault) = may_refuse fault × IsOkAnd wanted (AppendsPart old new)
+IsDriveFault may_refuse wanted old new _ = ⊥
 
 -- a refusal of a run by workers: one that the job may meet, or one of the output
-abbrev pub IsWorkersFault : Job → ℕ → Option (List ℕ) → Option (List ℕ) → Refusal → Type 0
-IsWorkersFault job workers old new (Run fault) = IsRefusalOf job workers fault
-IsWorkersFault job workers old new (Output fault) = AppendsPart old new (text_of job)
-IsWorkersFault job workers old new _ = ⊥
+abbrev pub IsWorkersFault : (WriteFault → Type 0) → Job → ℕ → Option (List ℕ) → Option (List ℕ) → Refusal → Type 0
+IsWorkersFault may_refuse job workers old new (Run fault) = IsRefusalOf job workers fault
+IsWorkersFault may_refuse job workers old new (Output fault) = may_refuse fault × AppendsPart old new (text_of job)
+IsWorkersFault may_refuse job workers old new _ = ⊥
 
 -- a refusal before a session over the call at an index: Memory, or NoSuchCall where there is no such call
 abbrev pub IsReplayFault : Job → ℕ → Refusal → Type 0
@@ -74,9 +76,10 @@ IsReplayFault job index (Debug debug.Memory) = ⊤
 IsReplayFault job index (Debug debug.NoSuchCall) = slice_get job.block index ≡ None
 IsReplayFault job index _ = ⊥
 
--- a refusal of a session: a failed read where a read may fail, a failed write, or Memory
-abbrev pub IsSessionFault : Type 0 → Refusal → Type 0
-IsSessionFault may_fail (File Unreadable) = may_fail
-IsSessionFault may_fail (Output fault) = ⊤
-IsSessionFault may_fail (Debug debug.Memory) = ⊤
-IsSessionFault may_fail _ = ⊥
+-- a refusal of a session: a failed read where a read may fail, a write that may be refused so, or Memory
+abbrev pub IsSessionFault : Type 0 → (WriteFault → Type 0) → Refusal → Type 0
+IsSessionFault may_fail may_refuse (File Unreadable) = may_fail
+IsSessionFault may_fail may_refuse (Output output.Memory) = ⊥
+IsSessionFault may_fail may_refuse (Output fault) = may_refuse fault
+IsSessionFault may_fail may_refuse (Debug debug.Memory) = ⊤
+IsSessionFault may_fail may_refuse _ = ⊥

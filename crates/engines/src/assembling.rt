@@ -5,7 +5,7 @@ ghost use Rattle.engines.specs.Listing.{IsSourceFault, file_of_source};
 
 use crate::fault::{FileFault, Refusal};
 use crate::reading::read_text;
-use block_file::Source;
+use byte_streams::Source;
 use rv_text::{AsmCause, AsmError, assemble};
 use std::alloc::Global;
 use std::str;

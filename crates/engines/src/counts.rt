@@ -6,12 +6,11 @@ ghost use Rattle.std.specs.Io.KnownBytes.{Appends};
 ghost use Rattle.std.specs.List.{sum_by};
 ghost use Rattle.std.specs.String.{string_bytes};
 ghost use Rattle.engines.specs.Counts.{counts_text, sums_line, worker_line, worker_lines};
-ghost use Rattle.receipts.specs.Written.{AppendsPart};
+ghost use Rattle.byte_streams.specs.Written.{AppendsPart, MayRefuse};
 
-use receipts::{WriteFault, write_whole};
+use byte_streams::{Destination, WriteFault, write_whole};
 use rv_ledger::Counts;
 use std::alloc::{AllocError, Global};
-use std::io::Write;
 
 /// What the workers of a run did.
 #[derive(Drop)]
@@ -34,13 +33,14 @@ struct Sums {
 /// Writes a line for each worker with its steps, asks, executions and validations, and a line with their sums
 /// and the number of executions above that of the calls. Refused as Memory before anything is written, or as
 /// `write_whole` is; then a beginning of the lines was written, and not all of them.
-pub fn write_counts<W: Write>(
+pub fn write_counts<W: Destination>(
     alloc: Global,
     counts: &RunCounts,
     out: &mut W,
 ) -> Result<(), WriteFault>
     ensures ok { OnOk result (Appends (W.contents out.old) (W.contents out.new) (counts_text counts.now)) }
     ensures err { OnErr result (AppendsPart (W.contents out.old) (W.contents out.new) (counts_text counts.now)) }
+    ensures told { IfErr result (MayRefuse (W.may_fail out.old) (W.may_take_nothing out.old)) }
     ensures memory { IfErr result (λ e. e ≡ WriteFault.Memory → out.new ≡ out.old) }
 {
     let Ok(text) = text_of(alloc, counts) else {

@@ -4,6 +4,7 @@ ghost use Rattle.std.specs.Prelude.{◌≡◌, ◌⊎◌, None, Some, Ok, slice_
 ghost use Rattle.std.specs.Io.KnownBytes.{Appends};
 ghost use Rattle.block_file.specs.Block.{block_of};
 ghost use Rattle.debugger.specs.Session.{AppendsBeginning, MayBeCutOff, lines_of, session};
+ghost use Rattle.byte_streams.specs.Written.{MayRefuse};
 ghost use Rattle.engines.specs.Debugging.{first_moment, replayed_text, IsFaultOfDebug, IsUnwrittenBefore, StaysWithoutSession};
 ghost use Rattle.engines.specs.Engine.{loaded_job};
 ghost use Rattle.engines.specs.StageFaults.{IsReplayFault, IsSessionFault};
@@ -11,18 +12,17 @@ ghost use Rattle.engines.specs.StageFaults.{IsReplayFault, IsSessionFault};
 use crate::fault::{FileFault, Refusal, SeqFault};
 use crate::loading::load_job;
 use crate::programs::Programs;
-use block_file::Source;
+use byte_streams::{Destination, Source};
 use debugger::{DebugFault, Replay, ReplayFault, debug_to, opens_over_its_storage};
 use rv_ledger::Job;
 use seq_exec::run_in_order;
 use std::alloc::Global;
-use std::io::Write;
 
 /// Reads a block file to its end and parses it. Opens, reads and loads its programs in the order of their
 /// numbers. Runs the calls in order. Then replays the call at an index, over the storage that the calls
 /// before it left, along the lines that are read. The first refusal ends it. What was read by then stays
 /// read, and a beginning of what the session prints was written; nothing where there is no session.
-pub fn debug_block_to<R: Source, P: Programs, L: Source, W: Write>(
+pub fn debug_block_to<R: Source, P: Programs, L: Source, W: Destination>(
     alloc: Global,
     block: &mut R,
     programs: &mut P,
@@ -35,7 +35,7 @@ pub fn debug_block_to<R: Source, P: Programs, L: Source, W: Write>(
         IsOkAnd (replayed_text job call typed) (Appends (W.contents out.old) (W.contents out.new)))))) }
     ensures refused { IfErr result (λ e. IfSome (R.remaining block.old) (λ input.
         IsFaultOfDebug (R.may_fail block.old) (MayBeCutOff (L.may_fail lines.old) (L.remaining lines.old))
-        (P.content programs.old) (block_of input) call (W.contents out.old) (W.contents out.new) e)) }
+        (MayRefuse (W.may_fail out.old) (W.may_take_nothing out.old)) (P.content programs.old) (block_of input) call (W.contents out.old) (W.contents out.new) e)) }
     ensures unwritten { IfErr result (λ e. IsUnwrittenBefore (W.contents out.old) (W.contents out.new) e) }
     ensures untouched { OnErr result (IfSome (R.remaining block.old) (λ input.
         IfSome (loaded_job (P.content programs.old) (block_of input)) (λ job.
@@ -73,7 +73,7 @@ fn replay_of(alloc: Global, job: &Job, call: usize) -> Result<Replay, Refusal>
 }
 
 /// A session along the lines that are read.
-fn debug_lines<L: Source, W: Write>(
+fn debug_lines<L: Source, W: Destination>(
     alloc: Global,
     replay: &mut Replay,
     lines: &mut L,
@@ -81,7 +81,7 @@ fn debug_lines<L: Source, W: Write>(
 ) -> Result<(), Refusal>
     ensures written { OnOk result (IfSome (L.remaining lines.old) (λ typed.
         Appends (W.contents out.old) (W.contents out.new) (session replay.old (lines_of typed)).text)) }
-    ensures refused { IfErr result (IsSessionFault (MayBeCutOff (L.may_fail lines.old) (L.remaining lines.old))) }
+    ensures refused { IfErr result (IsSessionFault (MayBeCutOff (L.may_fail lines.old) (L.remaining lines.old)) (MayRefuse (W.may_fail out.old) (W.may_take_nothing out.old))) }
     ensures cut { OnErr result (IfSome (L.remaining lines.old) (λ typed.
         AppendsBeginning (W.contents out.old) (W.contents out.new) (session replay.old (lines_of typed)).text)) }
 {

@@ -3,7 +3,7 @@
 ghost use Rattle.std.specs.Prelude.{None};
 
 use crate::programs::Programs;
-use block_file::FallibleReader;
+use byte_streams::FallibleReader;
 use std::fs::File;
 use std::io::Read;
 use std::rt::Files;

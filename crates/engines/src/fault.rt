@@ -6,9 +6,9 @@ ghost use Rattle.std.specs.Option.{option_map};
 ghost use Rattle.engines.specs.Faults.{file_name, file_number, seq_name, seq_number};
 
 use block_file::BlockFault;
+use byte_streams::WriteFault;
 use debugger::ReplayFault;
 use elf32::ElfError;
-use receipts::WriteFault;
 use rv_text::AsmError;
 use std::fmt;
 use stm_core::DriveFault;
@@ -131,17 +131,18 @@ impl fmt::Display for Refusal {
 
     /// The area, and what the refusal in it prints.
     fn fmt<W: fmt::Write>(&self, f: &mut fmt::Formatter<W>) -> fmt::Result {
+        let area = self.area();
         match self {
-            Refusal::File(fault) => write_fault(f, "file ", fault),
-            Refusal::Block(fault) => write_fault(f, "block ", fault),
-            Refusal::Elf(fault) => write_fault(f, "elf ", fault),
-            Refusal::Asm(fault) => write_fault(f, "asm ", fault),
-            Refusal::Seq(fault) => write_fault(f, "seq ", fault),
-            Refusal::Schedule(fault) => write_fault(f, "schedule ", fault),
-            Refusal::Run(fault) => write_fault(f, "run ", fault),
-            Refusal::Drive(fault) => write_fault(f, "drive ", fault),
-            Refusal::Debug(fault) => write_fault(f, "debug ", fault),
-            Refusal::Output(fault) => write_fault(f, "output ", fault),
+            Refusal::File(fault) => write_fault(f, area, fault),
+            Refusal::Block(fault) => write_fault(f, area, fault),
+            Refusal::Elf(fault) => write_fault(f, area, fault),
+            Refusal::Asm(fault) => write_fault(f, area, fault),
+            Refusal::Seq(fault) => write_fault(f, area, fault),
+            Refusal::Schedule(fault) => write_fault(f, area, fault),
+            Refusal::Run(fault) => write_fault(f, area, fault),
+            Refusal::Drive(fault) => write_fault(f, area, fault),
+            Refusal::Debug(fault) => write_fault(f, area, fault),
+            Refusal::Output(fault) => write_fault(f, area, fault),
         }
     }
 }

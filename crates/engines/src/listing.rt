@@ -4,6 +4,7 @@ ghost use Rattle.std.specs.Prelude.{◌≡◌, ◌++◌, [], ◌∷◌, flat_map
 ghost use Rattle.std.specs.Io.KnownBytes.{Appends};
 ghost use Rattle.std.specs.Option.{option_map};
 ghost use Rattle.std.specs.String.{string_bytes};
+ghost use Rattle.byte_streams.specs.Written.{MayRefuse};
 ghost use Rattle.engines.specs.Engine.{IsUnwritten, layout_of_file};
 ghost use Rattle.engines.specs.Listing.{IsListingFault, listing_line, listing_of, listing_of_file};
 ghost use Rattle.engines.specs.StageFaults.{IsProgramFault};
@@ -11,21 +12,24 @@ ghost use Rattle.receipts.specs.Text.{word_text};
 
 use crate::fault::Refusal;
 use crate::reading::read_elf;
-use block_file::Source;
+use byte_streams::{Destination, Source, write_whole};
 use elf32::{ElfError, Image, PlacedWord, load};
-use receipts::{word_text, write_whole};
+use receipts::word_text;
 use rv_text::disassemble;
 use std::alloc::{AllocError, Global};
-use std::io::Write;
 
 /// Reads an ELF file of at most 131,072 bytes to its end, loads it and writes a line for each of its
 /// words: the address, the word and its text. The first refusal ends it. Where the output is
 /// refused, a beginning of the lines was written; otherwise nothing was written.
-pub fn dis_to<R: Source, W: Write>(alloc: Global, file: &mut R, out: &mut W) -> Result<(), Refusal>
+pub fn dis_to<R: Source, W: Destination>(
+    alloc: Global,
+    file: &mut R,
+    out: &mut W,
+) -> Result<(), Refusal>
     ensures written { OnOk result (IfSome (R.remaining file.old) (λ bytes.
         IsOkAnd (listing_of_file bytes) (Appends (W.contents out.old) (W.contents out.new)))) }
     ensures refused { IfErr result (λ e. IfSome (R.remaining file.old) (λ bytes.
-        IsListingFault (R.may_fail file.old) (listing_of_file bytes) (W.contents out.old) (W.contents out.new) e)) }
+        IsListingFault (R.may_fail file.old) (MayRefuse (W.may_fail out.old) (W.may_take_nothing out.old)) (listing_of_file bytes) (W.contents out.old) (W.contents out.new) e)) }
     ensures unwritten { IfErr result (λ e. IsUnwritten (W.contents out.old) (W.contents out.new) e) }
 {
     let listing = listing(alloc, file)?;

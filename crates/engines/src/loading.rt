@@ -11,7 +11,8 @@ ghost use Rattle.engines.specs.StageFaults.{IsLoadFault, IsProgramFault};
 use crate::fault::{FileFault, Refusal};
 use crate::programs::Programs;
 use crate::reading::{read_elf, read_text};
-use block_file::{BlockFault, BlockText, CallLine, Cause, Source, parse};
+use block_file::{BlockFault, BlockText, CallLine, Cause, parse};
+use byte_streams::Source;
 use elf32::{ElfError, Image, load};
 use rv_ledger::{Call, Job, Rules, Store};
 use std::alloc::{AllocError, Global};
@@ -107,7 +108,11 @@ fn load_all<P: Programs>(
 }
 
 /// Opens, reads and loads a program.
-fn load_one<P: Programs>(alloc: Global, programs: &mut P, path: &str) -> Result<Arc<Image>, Refusal>
+pub(crate) fn load_one<P: Programs>(
+    alloc: Global,
+    programs: &mut P,
+    path: &str,
+) -> Result<Arc<Image>, Refusal>
     ensures same { P.content programs.new ≡ P.content programs.old }
     ensures ok { IfOk result (λ i. IfSome (P.content programs.old path.now) (λ bytes. layout_of_file bytes ≡ Ok (arc_value i))) }
     ensures err { IfErr result (λ e. IsProgramFault (P.content programs.old path.now ≡ None) (option_map layout_of_file (P.content programs.old path.now)) e) }

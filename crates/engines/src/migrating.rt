@@ -7,7 +7,8 @@ ghost use Rattle.engines.specs.Engine.{IsBlockFault};
 use crate::fault::Refusal;
 use crate::loading::BLOCK_MEMORY;
 use crate::reading::read_text;
-use block_file::{Source, migrate};
+use block_file::migrate;
+use byte_streams::Source;
 use std::alloc::Global;
 
 /// Reads a block file of format 1 to its end and returns the file of format 2 that says the same. Refused

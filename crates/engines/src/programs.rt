@@ -2,7 +2,7 @@
 
 ghost use Rattle.std.specs.Prelude.{◌≡◌, ℕ, List, Option, None, Some, IfOk, IfSome, OnErr};
 
-use block_file::Source;
+use byte_streams::Source;
 use std::io;
 
 /// Where the programs of a block come from.

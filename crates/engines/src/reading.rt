@@ -6,7 +6,7 @@ ghost use Rattle.engines.specs.Engine.{layout_of_file};
 ghost use Rattle.engines.specs.StageFaults.{IsProgramFault};
 
 use crate::fault::{FileFault, Refusal};
-use block_file::Source;
+use byte_streams::Source;
 use elf32::ElfError;
 use std::alloc::Global;
 

@@ -6,20 +6,20 @@ ghost use Rattle.arrayvec.specs.ArrayString.{array_string_len};
 ghost use Rattle.debugger.specs.Session.{AppendsBeginning};
 ghost use Rattle.engines.specs.Faults.{refusal_line, refusal_text};
 ghost use Rattle.engines.specs.RefusalParts.{line_part};
-ghost use Rattle.receipts.specs.Written.{AppendsPart};
+ghost use Rattle.byte_streams.specs.Written.{AppendsPart, MayRefuse};
 
 use crate::fault::Refusal;
 use arrayvec::ArrayString;
-use receipts::{WriteFault, write_whole};
-use std::io::Write;
+use byte_streams::{Destination, WriteFault, write_whole};
 
 /// The room for a line, in bytes. No refusal has a longer one.
 const LINE_ROOM: usize = 60;
 
 /// Writes the line of a refusal as `write_refusal` does, and returns the exit status 1. Where that is
 /// refused, a beginning of the line was written.
-pub fn report<W: Write>(refusal: &Refusal, out: &mut W) -> u8
+pub fn report<W: Destination>(refusal: &Refusal, out: &mut W) -> u8
     ensures status { result ≡ 1 }
+    ensures whole { ¬ (W.may_fail out.old) → ¬ (W.may_take_nothing out.old) → Appends (W.contents out.old) (W.contents out.new) (refusal_line (refusal_text refusal.now)) }
     ensures line { AppendsBeginning (W.contents out.old) (W.contents out.new) (refusal_line (refusal_text refusal.now)) }
 {
     let _ = write_refusal(refusal, out);
@@ -29,9 +29,10 @@ pub fn report<W: Write>(refusal: &Refusal, out: &mut W) -> u8
 /// Writes the line of a refusal, `rvstm: ` and the refusal's text. The line is formed in full before anything
 /// is written, and takes no memory. Refused as Io where a write failed, and as WroteNothing where a write took
 /// no bytes; then a beginning of the line was written, and not all of it. It is never refused as Memory.
-pub fn write_refusal<W: Write>(refusal: &Refusal, out: &mut W) -> Result<(), WriteFault>
+pub fn write_refusal<W: Destination>(refusal: &Refusal, out: &mut W) -> Result<(), WriteFault>
     ensures written { OnOk result (Appends (W.contents out.old) (W.contents out.new) (refusal_line (refusal_text refusal.now))) }
     ensures cut { OnErr result (AppendsPart (W.contents out.old) (W.contents out.new) (refusal_line (refusal_text refusal.now))) }
+    ensures told { IfErr result (MayRefuse (W.may_fail out.old) (W.may_take_nothing out.old)) }
     ensures room { IfErr result (λ e. e ≢ WriteFault.Memory) }
 {
     let line = line_of(refusal);

@@ -3,6 +3,7 @@
 ghost use Rattle.std.specs.Prelude.{◌≡◌, ◌≤◌, length, IfErr, IfOk, IfSome, IsOkAnd, OnOk};
 ghost use Rattle.std.specs.Io.KnownBytes.{Appends};
 ghost use Rattle.block_file.specs.Block.{block_of};
+ghost use Rattle.byte_streams.specs.Written.{MayRefuse};
 ghost use Rattle.engines.specs.Counts.{AreCountsOfRun};
 ghost use Rattle.engines.specs.Engine.{answer_of, loaded_job, IsUnwritten};
 ghost use Rattle.engines.specs.StageFaults.{IsWorkersFault, text_of};
@@ -11,14 +12,13 @@ ghost use Rattle.rv_step.specs.Fold.{receipts_of, store_after};
 ghost use Rattle.workers.specs.History.{AreOneWorkerCounts, HasHistory};
 
 use crate::counts::RunCounts;
-use crate::engine::write_counted;
 use crate::fault::Refusal;
 use crate::loading::load_job;
 use crate::programs::Programs;
-use block_file::Source;
+use crate::results::write_counted;
+use byte_streams::{Destination, Source};
 use rv_ledger::{Job, Outcome};
 use std::alloc::Global;
-use std::io::Write;
 use std::sync::Wait;
 use std::thread::Threads;
 use workers::{Executor, RunFault};
@@ -28,7 +28,7 @@ use workers::{Executor, RunFault};
 /// result, which is that of the calls in order. The first refusal ends it. Where the output is refused,
 /// a beginning of the result was written; otherwise nothing was written. Where nothing is refused, it returns
 /// what the workers did.
-pub fn run_to<T: Threads + Wait + Sync, R: Source, P: Programs, W: Write>(
+pub fn run_to<T: Threads + Wait + Sync, R: Source, P: Programs, W: Destination>(
     threads: &T,
     alloc: Global,
     block: &mut R,
@@ -40,7 +40,7 @@ pub fn run_to<T: Threads + Wait + Sync, R: Source, P: Programs, W: Write>(
         IfSome (answer_of (P.content programs.old) (block_of input)) (λ answer.
         IsOkAnd answer (Appends (W.contents out.old) (W.contents out.new))))) }
     ensures refused { IfErr result (λ e. IfSome (R.remaining block.old) (λ input.
-        IsFaultOfRun (R.may_fail block.old) (P.content programs.old) (block_of input) workers (W.contents out.old) (W.contents out.new) e)) }
+        IsFaultOfRun (R.may_fail block.old) (MayRefuse (W.may_fail out.old) (W.may_take_nothing out.old)) (P.content programs.old) (block_of input) workers (W.contents out.old) (W.contents out.new) e)) }
     ensures unwritten { IfErr result (λ e. IsUnwritten (W.contents out.old) (W.contents out.new) e) }
     ensures workers { OnOk result ((1 ≤ workers) × (workers ≤ 32)) }
     ensures history { IfOk result (λ counts. IfSome (R.remaining block.old) (λ input.
@@ -55,7 +55,7 @@ pub fn run_to<T: Threads + Wait + Sync, R: Source, P: Programs, W: Write>(
 }
 
 /// Runs a job on workers and writes the result.
-fn run_threads<T: Threads + Wait + Sync, W: Write>(
+fn run_threads<T: Threads + Wait + Sync, W: Destination>(
     threads: &T,
     alloc: Global,
     job: Job,
@@ -63,7 +63,7 @@ fn run_threads<T: Threads + Wait + Sync, W: Write>(
     out: &mut W,
 ) -> Result<RunCounts, Refusal>
     ensures written { OnOk result (Appends (W.contents out.old) (W.contents out.new) (text_of job)) }
-    ensures refused { IfErr result (λ e. IsWorkersFault job workers (W.contents out.old) (W.contents out.new) e) }
+    ensures refused { IfErr result (λ e. IsWorkersFault (MayRefuse (W.may_fail out.old) (W.may_take_nothing out.old)) job workers (W.contents out.old) (W.contents out.new) e) }
     ensures unwritten { IfErr result (λ e. IsUnwritten (W.contents out.old) (W.contents out.new) e) }
     ensures workers { OnOk result ((1 ≤ workers) × (workers ≤ 32)) }
     ensures history { IfOk result (AreCountsOfRun job workers) }

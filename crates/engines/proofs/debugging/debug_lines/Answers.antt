@@ -2,8 +2,9 @@ use Rattle.std.proofs.Common.{ℕ, List, Option, IfSome}
 use Rattle.std.proofs.lemmas.Option.{IfSome_then}
 use Rattle.debugger.specs.declared.fault.DebugFault.{DebugFault}
 use Rattle.debugger.specs.Replay.{ReplayState}
-use Rattle.debugger.specs.Session.{AppendsBeginning, IsCutShort, lines_of, session}
+use Rattle.debugger.specs.Session.{AppendsBeginning, IsCutShort, MayBeCutOff, lines_of, session}
 use Rattle.debugger.proofs.Cuts.{cut_short_begins}
+use Rattle.engines.proofs.Sessions.{of_output}
 use Rattle.engines.proofs.debugging.debug_lines.Goals as goal
 
 -- a session that was cut short has written a beginning of what it prints
@@ -25,3 +26,7 @@ pub returns-in-Err-Memory-clause-cut : goal.returns-in-Err-Memory-clause-cut
 returns-in-Err-Memory-clause-cut g c =
     begins (g.L.Read.remaining c.args.lines.now) c.in-Err-Memory.field-0 c.args.replay.now c.debug_to.new.replay
     (g.W.Write.contents c.args.out.now) (g.W.Write.contents c.debug_to.new.out) c.in-Err-Memory.ensures.err
+
+pub returns-in-Err-Output-clause-refused : goal.returns-in-Err-Output-clause-refused
+returns-in-Err-Output-clause-refused g c =
+    of_output (MayBeCutOff (g.L.Source.may_fail c.args.lines.now) (g.L.Read.remaining c.args.lines.now)) (g.W.Destination.may_fail c.args.out.now) (g.W.Destination.may_take_nothing c.args.out.now) c.in-Err-Output.fault (rw c.in-Err-Output.field-0-is at c.in-Err-Output.ensures.told)

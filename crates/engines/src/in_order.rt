@@ -1,0 +1,53 @@
+//! The engine of `rvstm seq`, over any reader, programs and writer.
+
+ghost use Rattle.std.specs.Prelude.{IfErr, IfSome, IsOkAnd, OnOk};
+ghost use Rattle.std.specs.Io.KnownBytes.{Appends};
+ghost use Rattle.block_file.specs.Block.{block_of};
+ghost use Rattle.byte_streams.specs.Written.{MayRefuse};
+ghost use Rattle.engines.specs.Engine.{answer_of, IsFaultOf, IsUnwritten};
+ghost use Rattle.engines.specs.StageFaults.{IsRunFault, text_of};
+
+use crate::fault::{Refusal, SeqFault};
+use crate::loading::load_job;
+use crate::programs::Programs;
+use crate::results::write_result;
+use byte_streams::{Destination, Source};
+use rv_ledger::Job;
+use seq_exec::into_outcome;
+use std::alloc::Global;
+
+/// Reads a block file to its end and parses it. Opens, reads and loads its programs in the order of their
+/// numbers. Then runs the calls in order and writes the result. The first refusal ends it. Where the
+/// output is refused, a beginning of the result was written; otherwise nothing was written.
+pub fn seq_to<R: Source, P: Programs, W: Destination>(
+    alloc: Global,
+    block: &mut R,
+    programs: &mut P,
+    out: &mut W,
+) -> Result<(), Refusal>
+    ensures written { OnOk result (IfSome (R.remaining block.old) (λ input.
+        IfSome (answer_of (P.content programs.old) (block_of input)) (λ answer.
+        IsOkAnd answer (Appends (W.contents out.old) (W.contents out.new))))) }
+    ensures refused { IfErr result (λ e. IfSome (R.remaining block.old) (λ input.
+        IsFaultOf (R.may_fail block.old) (MayRefuse (W.may_fail out.old) (W.may_take_nothing out.old)) (P.content programs.old) (block_of input) (W.contents out.old) (W.contents out.new) e)) }
+    ensures unwritten { IfErr result (λ e. IsUnwritten (W.contents out.old) (W.contents out.new) e) }
+{
+    // Not by `?`: the proof answers this arm.
+    let job = match load_job(alloc, block, programs, Refusal::Seq(SeqFault::Memory)) {
+        Ok(job) => job,
+        Err(refusal) => return Err(refusal),
+    };
+    seq_job(alloc, job, out)
+}
+
+/// Runs a job in order and writes the result.
+fn seq_job<W: Destination>(alloc: Global, job: Job, out: &mut W) -> Result<(), Refusal>
+    ensures written { OnOk result (Appends (W.contents out.old) (W.contents out.new) (text_of job)) }
+    ensures refused { IfErr result (λ e. IsRunFault (MayRefuse (W.may_fail out.old) (W.may_take_nothing out.old)) (text_of job) (W.contents out.old) (W.contents out.new) e) }
+    ensures unwritten { IfErr result (λ e. IsUnwritten (W.contents out.old) (W.contents out.new) e) }
+{
+    let Ok(outcome) = into_outcome(alloc, job) else {
+        return Err(Refusal::Seq(SeqFault::Memory));
+    };
+    write_result(alloc, &outcome, out)
+}
