@@ -1,0 +1,206 @@
+//! Sessions: block after block on one storage.
+
+use crate::asserts::{assert_number, assert_pieces};
+use crate::blocks::{InMemory, elf_of, forty_count_lines};
+use crate::fake_disk::{Stored, answer_with};
+use crate::programs::{BLOCK, RESULT, disk_of_echo};
+use crate::rows::COUNT;
+use byte_streams::FallibleWriter;
+use engines::chain_to;
+use std::alloc::Global;
+use std::io;
+use std::io::{BufReader, Read, Write};
+use std::process::Abort;
+use std::sync::Wait;
+use std::sync::atomic::{AtomicU64, Ordering};
+use std::test::Fail;
+use std::thread::Threads;
+
+/// Inputs without programs, and what is printed for them.
+const SESSIONS: &[(&str, &str)] = &[
+    ("", ""),
+    ("q\nfoo\n", ""),
+    ("foo", "what\n"),
+    ("dump\n", "end\n"),
+    (
+        "get 0000000000000000000000000000000000000000000000000000000000000001\n",
+        "absent\n",
+    ),
+    ("get 01\nget\n", "what\nwhat\n"),
+    // Bad frames between lines.
+    (
+        "rvblock 9\nend\nfoo\n",
+        "refused block 1 BadHeader 1\nwhat\n",
+    ),
+    ("rvblocks\nq\nend\n", "refused block 1 BadHeader 1\n"),
+    ("rvblock 1\nfoo\nend\n", "refused block 2 BadLine 2\n"),
+    // A frame without its end is not run.
+    (
+        "rvblock 1\nstore 0000000000000000000000000000000000000000000000000000000000000001 05\n",
+        "refused frame NoEnd 1\n",
+    ),
+    // Entries stay, and a later frame's are put over them.
+    (
+        "rvblock 1\nstore 0000000000000000000000000000000000000000000000000000000000000001 05\n\
+        store 0000000000000000000000000000000000000000000000000000000000000002 -\nend\n\
+        rvblock 1\nstore 0000000000000000000000000000000000000000000000000000000000000001 06\nend\n\
+        dump\nget 0000000000000000000000000000000000000000000000000000000000000001\n\
+        get 0000000000000000000000000000000000000000000000000000000000000002",
+        "end\nend\n\
+        store 0000000000000000000000000000000000000000000000000000000000000001 06\n\
+        store 0000000000000000000000000000000000000000000000000000000000000002 -\nend\n\
+        value 06\nvalue -\n",
+    ),
+    // A refused frame leaves the storage as it was.
+    (
+        "rvblock 1\nprogram 0 lost.elf\n\
+        store 0000000000000000000000000000000000000000000000000000000000000001 05\nend\n\
+        dump\n",
+        "refused file Unreadable 1\nend\n",
+    ),
+    // Rules may rise and not fall. Faults of the text come first, and those of programs last.
+    (
+        "rvblock 2\ngas 3\nstore 0000000000000000000000000000000000000000000000000000000000000001 05\nend\n\
+        rvblock 1\nprogram 0 lost.elf\nstore 0000000000000000000000000000000000000000000000000000000000000001 06\nend\n\
+        rvblock 1\nfoo\nend\n\
+        rvblock 2\ngas 3\nend\n\
+        get 0000000000000000000000000000000000000000000000000000000000000001\n",
+        "end\nrefused frame OlderRules 2\nrefused block 2 BadLine 2\nend\nvalue 05\n",
+    ),
+];
+
+/// Asserts what `rvstm chain` prints for an input, over a disk.
+fn assert_session<R: Threads + Wait + Sync + Abort>(
+    rt: &R,
+    alloc: Global,
+    stored: &Stored,
+    input: &str,
+    text: &str,
+) {
+    let answer = answer_with(rt, alloc, b"rvstm chain", stored, input.as_bytes());
+    answer.assert_is(rt, 0, text, "", input);
+}
+
+#[test]
+fn sessions_print(rt: HostRuntime) -> Result<(), Fail> {
+    let stored = disk_of_echo(rt.alloc())?;
+    for (input, text) in SESSIONS {
+        assert_session(&rt, rt.alloc(), &stored, input, text);
+    }
+    Ok(())
+}
+
+#[test]
+fn a_frame_runs(rt: HostRuntime) -> Result<(), Fail> {
+    let stored = disk_of_echo(rt.alloc())?;
+    let input = format!(in rt.alloc(); "{BLOCK}end\n{BLOCK}end")?;
+    let text = format!(in rt.alloc(); "{RESULT}{RESULT}")?;
+    assert_session(&rt, rt.alloc(), &stored, input.as_str(), text.as_str());
+    Ok(())
+}
+
+/// A session of three frames of forty counts of a key, a refused one behind the first, and what it leaves.
+fn counting_session(alloc: Global) -> Result<String, Fail> {
+    let lines = forty_count_lines(alloc)?;
+    let lines = lines.as_str();
+    Ok(format!(in alloc;
+        "rvblock 1\nprogram 0 0\n{lines}end\nrvblock 9\nend\n\
+        rvblock 1\nprogram 0 0\n{lines}end\nrvblock 1\nprogram 0 0\n{lines}end\n\
+        get 0000000000000000000000000000000000000000000000000000000000000001\ndump\n"
+    )?)
+}
+
+/// What is printed for an input over some programs, the path of each of which is its number.
+fn printed(alloc: Global, words: &[u32], input: &str) -> Result<Vec<u8>, Fail> {
+    let file = elf_of(alloc, words)?;
+    let files = [file];
+    let mut lines = BufReader::new(alloc, input.as_bytes())?;
+    let mut text = Vec::new(alloc);
+    chain_to(alloc, &mut lines, InMemory { files: &files }, &mut text)?;
+    Ok(text)
+}
+
+#[test]
+fn counts_go_on_from_frame_to_frame(rt: HostRuntime) -> Result<(), Fail> {
+    let session = counting_session(rt.alloc())?;
+    let text = printed(rt.alloc(), COUNT, session.as_str())?;
+    let pieces = [
+        "call 39 returned gas 639",
+        "write 39 0000000000000000000000000000000000000000000000000000000000000001 28000000\nend\nrefused block 1 BadHeader 1\n",
+        "write 39 0000000000000000000000000000000000000000000000000000000000000001 50000000\nend\n",
+        "write 39 0000000000000000000000000000000000000000000000000000000000000001 78000000\nend\n",
+        "value 78000000\nstore 0000000000000000000000000000000000000000000000000000000000000001 78000000\nend\n",
+    ];
+    assert_pieces(&rt, text.as_slice(), &pieces, "three frames of counts")?;
+    Ok(())
+}
+
+/// The lines that are typed, each with what was printed before it.
+const TYPED: &[(&str, &str)] = &[
+    ("foo\n", ""),
+    ("rvblock 1\nend\n", "what\n"),
+    ("dump\n", "what\nend\n"),
+    ("q\n", "what\nend\nend\n"),
+];
+
+/// A reader that gives the next lines once all answers to those before are shown.
+#[derive(Drop)]
+struct Typist<'a> {
+    /// How many lines were typed.
+    typed: usize,
+    /// How many bytes are shown.
+    shown: &'a AtomicU64,
+}
+
+impl Read for Typist<'_> {
+    fn read(&mut self, buf: &mut [u8]) -> io::Result<usize> {
+        let shown = self.shown.load(Ordering::SeqCst);
+        match TYPED.get(self.typed) {
+            Some((lines, printed)) if printed.len() as u64 == shown => {
+                self.typed += 1;
+                lines.as_bytes().read(buf)
+            }
+            _ => Err(io::Error::from(io::ErrorKind::Other)),
+        }
+    }
+}
+
+/// A writer whose bytes are shown when they are flushed.
+#[derive(Drop)]
+struct Screen<'a> {
+    /// How many bytes were written.
+    written: u64,
+    /// How many bytes are shown.
+    shown: &'a AtomicU64,
+}
+
+impl Write for Screen<'_> {
+    fn write(&mut self, buf: &[u8]) -> io::Result<usize> {
+        self.written = self.written.wrapping_add(buf.len() as u64);
+        Ok(buf.len())
+    }
+
+    fn flush(&mut self) -> io::Result<()> {
+        self.shown.store(self.written, Ordering::SeqCst);
+        Ok(())
+    }
+}
+
+#[test]
+fn each_answer_is_shown_before_more_is_read(rt: HostRuntime) -> Result<(), Fail> {
+    let shown = AtomicU64::new(0);
+    let typist = Typist {
+        typed: 0,
+        shown: &shown,
+    };
+    let mut screen = FallibleWriter {
+        writer: Screen {
+            written: 0,
+            shown: &shown,
+        },
+    };
+    let mut lines = BufReader::new(rt.alloc(), typist)?;
+    chain_to(rt.alloc(), &mut lines, InMemory { files: &[] }, &mut screen)?;
+    assert_number(&rt, screen.writer.written, 13, "bytes written");
+    Ok(())
+}

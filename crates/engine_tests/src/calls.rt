@@ -1,0 +1,107 @@
+//! Calls and jobs of programs, and the texts of their outcomes.
+
+use crate::blocks::{block_of, elf_of};
+use block_file::{BlockText, CallLine, parse};
+use elf32::{Image, load};
+use receipts::result_text;
+use rv_ledger::{Call, Job, Outcome, Store};
+use seq_exec::run_in_order;
+use std::alloc::{AllocError, Global};
+use std::sync::Arc;
+use std::test::Fail;
+
+/// The gas limit of each call of `job_of_inputs`.
+const GAS: u32 = 1000;
+
+/// The image of a file.
+pub fn image_of(alloc: Global, file: &[u8]) -> Result<Arc<Image>, Fail> {
+    let image = load(alloc, file)?;
+    Ok(Arc::new(alloc, image)?)
+}
+
+/// The image of a program.
+fn image_of_words(alloc: Global, words: &[u32]) -> Result<Arc<Image>, Fail> {
+    let file = elf_of(alloc, words)?;
+    image_of(alloc, file.as_slice())
+}
+
+/// A call of an image with an input.
+fn call_of_image(alloc: Global, image: &Arc<Image>, input: &[u8]) -> Result<Call, Fail> {
+    let input = input.to_vec(alloc)?;
+    Ok(Call::new(Arc::try_clone(image)?, GAS, input)?)
+}
+
+/// A job of calls of one image, each with its input, over an empty storage.
+pub fn job_of_image(alloc: Global, image: &Arc<Image>, inputs: &[&[u8]]) -> Result<Job, Fail> {
+    let mut calls = Vec::new(alloc);
+    for input in inputs {
+        calls.push(call_of_image(alloc, image, input)?)?;
+    }
+    Ok(Job::new(calls, Store::new(alloc))?)
+}
+
+/// A job of calls of one program, each with its input, over an empty storage.
+pub fn job_of_inputs(alloc: Global, words: &[u32], inputs: &[&[u8]]) -> Result<Job, Fail> {
+    let image = image_of_words(alloc, words)?;
+    job_of_image(alloc, &image, inputs)
+}
+
+/// The call of a line.
+fn call_of_line(alloc: Global, programs: &[&[u32]], line: CallLine) -> Result<Call, Fail> {
+    let CallLine {
+        program,
+        gas,
+        input,
+    } = line;
+    let words = programs.get(program).copied().unwrap_or(&[]);
+    Ok(Call::new(image_of_words(alloc, words)?, gas, input)?)
+}
+
+/// The calls of lines.
+fn calls_of_lines(
+    alloc: Global,
+    programs: &[&[u32]],
+    lines: Vec<CallLine>,
+) -> Result<Vec<Call>, Fail> {
+    let mut calls = Vec::new(alloc);
+    for line in lines {
+        calls.push(call_of_line(alloc, programs, line)?)?;
+    }
+    Ok(calls)
+}
+
+/// What the block file of some programs and further lines says.
+fn block_text(alloc: Global, programs: usize, lines: &str) -> Result<BlockText, Fail> {
+    let block = block_of(alloc, programs, lines)?;
+    Ok(parse(alloc, block.as_bytes())?)
+}
+
+/// The calls of a block.
+pub fn calls_of(alloc: Global, programs: &[&[u32]], lines: &str) -> Result<Vec<Call>, Fail> {
+    let BlockText { calls, .. } = block_text(alloc, programs.len(), lines)?;
+    calls_of_lines(alloc, programs, calls)
+}
+
+/// The job of a block.
+pub fn job_of(alloc: Global, programs: &[&[u32]], lines: &str) -> Result<Job, Fail> {
+    let BlockText { calls, store, .. } = block_text(alloc, programs.len(), lines)?;
+    let calls = calls_of_lines(alloc, programs, calls)?;
+    Ok(Job::new(calls, store)?)
+}
+
+/// The outcome of running the calls of a job in order.
+pub fn in_order(alloc: Global, job: &Job) -> Result<Outcome, AllocError> {
+    run_in_order(alloc, job)
+}
+
+/// The text of an outcome.
+pub fn text_of(alloc: Global, outcome: &Outcome) -> Result<String, AllocError> {
+    let text = result_text(alloc, outcome.receipts.as_slice(), &outcome.store)?;
+    String::from_utf8_lossy(alloc, text.as_slice())
+}
+
+/// The text of the outcome of running the calls of a job in order.
+pub fn text_in_order(alloc: Global, job: &Job) -> Result<String, AllocError> {
+    let outcome = in_order(alloc, job)?;
+    text_of(alloc, &outcome)
+}

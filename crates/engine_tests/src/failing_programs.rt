@@ -1,0 +1,62 @@
+//! Programs of which a read fails.
+
+ghost use Rattle.std.specs.Prelude.{None};
+
+use crate::asserts::assert_unreadable;
+use crate::blocks::elf_of;
+use crate::failing::FailingReader;
+use crate::rows::ECHO;
+use engines::{Programs, seq_to};
+use std::alloc::Global;
+use std::io;
+use std::process::Abort;
+use std::test::Fail;
+
+/// A block of one program.
+const ONE_PROGRAM: &str = "rvblock 1\nprogram 0 a\n";
+
+/// One program, of which a read fails.
+#[derive(Drop)]
+struct FailingProgram<'a> {
+    /// Its file.
+    file: &'a [u8],
+    /// How many reads of it succeed.
+    reads: usize,
+}
+
+impl<'a> Programs for FailingProgram<'a> {
+    type File = FailingReader<'a>;
+
+    ghost content = { λ _ _. None };
+
+    fn open(&mut self, _path: &str) -> io::Result<FailingReader<'a>> {
+        Ok(FailingReader {
+            bytes: self.file,
+            reads: self.reads,
+        })
+    }
+}
+
+/// Asserts that a block is unreadable where the reader of its program fails after so many reads.
+fn assert_program_read_fails(
+    rt: &impl Abort,
+    alloc: Global,
+    text: &str,
+    file: &[u8],
+    reads: usize,
+) {
+    let mut programs = FailingProgram { file, reads };
+    let mut out = Vec::new(alloc);
+    let answer = seq_to(alloc, &mut text.as_bytes(), &mut programs, &mut out);
+    assert_unreadable(rt, answer, out.as_slice(), reads);
+}
+
+/// A reader fails at each place of a program, its end included.
+#[test]
+fn failing_programs(rt: HostRuntime) -> Result<(), Fail> {
+    let file = elf_of(rt.alloc(), ECHO)?;
+    for reads in 0..file.len() + 1 {
+        assert_program_read_fails(&rt, rt.alloc(), ONE_PROGRAM, file.as_slice(), reads);
+    }
+    Ok(())
+}

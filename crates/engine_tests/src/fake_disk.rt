@@ -1,0 +1,488 @@
+//! A disk in memory, which keeps a record of what it was asked, and of which one request can fail.
+
+ghost use Rattle.std.specs.Prelude.{None};
+
+use crate::asserts::{assert_bytes, assert_number};
+use engines::{Disk, status};
+use std::alloc::{AllocError, Global};
+use std::cell::{Cell, Ref, RefCell, RefMut};
+use std::env::FillError;
+use std::io;
+use std::io::{Read, Write};
+use std::process::Abort;
+use std::rt::Env;
+use std::sync::Wait;
+use std::thread::Threads;
+use system_files::OutputDisk;
+
+/// The most bytes that a write takes.
+const WRITE_SIZE: usize = 40;
+
+/// A file of the disk.
+#[derive(Drop)]
+pub struct StoredFile {
+    /// Its path.
+    pub path: String,
+    /// Its bytes.
+    pub bytes: Vec<u8>,
+}
+
+impl StoredFile {
+    /// A file of some bytes.
+    fn new(alloc: Global, path: &str, bytes: &[u8]) -> Result<StoredFile, AllocError> {
+        Ok(StoredFile {
+            path: String::from_str(alloc, path)?,
+            bytes: bytes.to_vec(alloc)?,
+        })
+    }
+}
+
+/// The file with a path.
+fn file_at<'a>(files: &'a [StoredFile], path: &str) -> Option<&'a StoredFile> {
+    for file in files {
+        if file.path.as_str() == path {
+            return Some(file);
+        }
+    }
+    None
+}
+
+/// The files that don't have a path.
+fn files_without(
+    alloc: Global,
+    files: Vec<StoredFile>,
+    path: &str,
+) -> Result<Vec<StoredFile>, AllocError> {
+    let mut kept = Vec::new(alloc);
+    for file in files {
+        if file.path.as_str() != path {
+            kept.push(file)?;
+        }
+    }
+    Ok(kept)
+}
+
+/// What the disk has and was asked.
+#[derive(Drop)]
+pub struct Stored {
+    /// Its files.
+    pub files: RefCell<Vec<StoredFile>>,
+    /// What it was asked, a line each.
+    pub requests: RefCell<String>,
+    /// How many requests to change something it was asked.
+    pub changes: Cell<usize>,
+    /// The number of the request to change something that fails.
+    pub failing: usize,
+    /// Whether a write that fails takes nothing instead.
+    pub takes_nothing: bool,
+    /// Whether the new files on it were left over by other processes.
+    pub left_over: bool,
+    /// The error where it is asked what a path leads to, if that fails.
+    pub lost_path: Option<io::ErrorKind>,
+}
+
+impl Stored {
+    /// A disk with no files, of which one change fails.
+    pub fn new(alloc: Global, failing: usize) -> Stored {
+        Stored {
+            files: RefCell::new(Vec::new(alloc)),
+            requests: RefCell::new(String::new(alloc)),
+            changes: Cell::new(0),
+            failing,
+            takes_nothing: false,
+            left_over: false,
+            lost_path: None,
+        }
+    }
+
+    /// The files.
+    fn files(&self) -> io::Result<Ref<'_, Vec<StoredFile>>> {
+        match self.files.try_borrow() {
+            Ok(files) => Ok(files),
+            Err(_) => Err(busy()),
+        }
+    }
+
+    /// The files, to change them.
+    fn files_mut(&self) -> io::Result<RefMut<'_, Vec<StoredFile>>> {
+        match self.files.try_borrow_mut() {
+            Ok(files) => Ok(files),
+            Err(_) => Err(busy()),
+        }
+    }
+
+    /// Puts a file on the disk.
+    pub fn put(&self, alloc: Global, path: &str, bytes: &[u8]) -> io::Result<()> {
+        let file = StoredFile::new(alloc, path, bytes)?;
+        let mut files = self.files_mut()?;
+        files.push(file)?;
+        Ok(())
+    }
+
+    /// The bytes of a file.
+    pub fn bytes_of(&self, alloc: Global, path: &str) -> io::Result<Vec<u8>> {
+        let files = self.files()?;
+        match file_at(files.as_slice(), path) {
+            Some(file) => Ok(file.bytes.as_slice().to_vec(alloc)?),
+            None => Err(io::Error::from(io::ErrorKind::NotFound)),
+        }
+    }
+
+    /// Appends bytes to the files with a path.
+    fn append(&self, path: &str, bytes: &[u8]) -> io::Result<()> {
+        let mut files = self.files_mut()?;
+        for file in files.as_mut_slice() {
+            if file.path.as_str() == path {
+                file.bytes.extend_from_slice(bytes)?;
+            }
+        }
+        Ok(())
+    }
+
+    /// How many files there are.
+    pub fn count(&self) -> usize {
+        match self.files() {
+            Ok(files) => files.len(),
+            Err(_) => 0,
+        }
+    }
+
+    /// What was asked, a line each.
+    pub fn asked(&self, alloc: Global) -> io::Result<String> {
+        match self.requests.try_borrow() {
+            Ok(requests) => Ok(String::from_str(alloc, requests.as_str())?),
+            Err(_) => Err(busy()),
+        }
+    }
+
+    /// Keeps a record of a request.
+    fn note(&self, kind: &str, path: &str) -> io::Result<()> {
+        match self.requests.try_borrow_mut() {
+            Ok(mut requests) => Ok(push_request(&mut requests, kind, path)?),
+            Err(_) => Err(busy()),
+        }
+    }
+
+    /// Counts a request to change something; refused where it is the one that fails.
+    fn change(&self) -> io::Result<()> {
+        let number = self.changes.get();
+        self.changes.set(number.wrapping_add(1));
+        if number == self.failing {
+            return Err(io::Error::from(io::ErrorKind::Other));
+        }
+        Ok(())
+    }
+
+    /// Whether a file has a path.
+    fn has(&self, path: &str) -> bool {
+        match self.files() {
+            Ok(files) => file_at(files.as_slice(), path).is_some(),
+            Err(_) => false,
+        }
+    }
+
+    /// Puts other files in place of all, and returns those that were there.
+    fn replace(&self, files: Vec<StoredFile>) -> io::Result<Vec<StoredFile>> {
+        match self.files.try_replace(files) {
+            Ok(files) => Ok(files),
+            Err(_) => Err(busy()),
+        }
+    }
+
+    /// Takes the files with a path away.
+    fn drop_file(&self, alloc: Global, path: &str) -> io::Result<()> {
+        let files = self.replace(Vec::new(alloc))?;
+        self.replace(files_without(alloc, files, path)?)?;
+        Ok(())
+    }
+
+    /// Gives a file another path, in place of the files that have it.
+    fn move_file(&self, alloc: Global, from: &str, to: &str) -> io::Result<()> {
+        let bytes = self.bytes_of(alloc, from)?;
+        self.drop_file(alloc, from)?;
+        self.drop_file(alloc, to)?;
+        self.put(alloc, to, bytes.as_slice())
+    }
+}
+
+/// Appends the line of a request.
+fn push_request(requests: &mut String, kind: &str, path: &str) -> Result<(), AllocError> {
+    requests.push_str(kind)?;
+    requests.push_str(" ")?;
+    requests.push_str(path)?;
+    requests.push_str("\n")
+}
+
+/// A cell that is in use.
+fn busy() -> io::Error {
+    io::Error::from(io::ErrorKind::Other)
+}
+
+/// The disk.
+#[derive(Drop)]
+pub struct FakeDisk<'a> {
+    /// What it has.
+    pub stored: &'a Stored,
+    /// What gives memory.
+    pub alloc: Global,
+}
+
+/// A file that is read. The record shows when it was read to its end.
+#[derive(Drop)]
+pub struct FakeReader<'a> {
+    stored: &'a Stored,
+    path: String,
+    bytes: Vec<u8>,
+    done: usize,
+}
+
+impl<'a> Read for FakeReader<'a> {
+    fn read(&mut self, buf: &mut [u8]) -> io::Result<usize> {
+        let rest = self.bytes.as_slice().get(self.done..).unwrap_or(&[]);
+        if rest.is_empty() {
+            self.stored.note("end", self.path.as_str())?;
+        }
+        let count = rest.len().min(buf.len());
+        buf[..count].copy_from_slice(&rest[..count]);
+        self.done = self.done.saturating_add(count);
+        Ok(count)
+    }
+}
+
+/// A file that is written.
+#[derive(Drop)]
+pub struct FakeWriter<'a> {
+    stored: &'a Stored,
+    path: String,
+}
+
+impl<'a> Write for FakeWriter<'a> {
+    fn write(&mut self, buf: &[u8]) -> io::Result<usize> {
+        if let Err(error) = self.stored.change() {
+            return if self.stored.takes_nothing {
+                Ok(0)
+            } else {
+                Err(error)
+            };
+        }
+        let count = buf.len().min(WRITE_SIZE);
+        self.stored.append(self.path.as_str(), &buf[..count])?;
+        Ok(count)
+    }
+
+    fn flush(&mut self) -> io::Result<()> {
+        Ok(())
+    }
+}
+
+impl<'a> Disk for FakeDisk<'a> {
+    type File = FakeReader<'a>;
+
+    fn open(&self, path: &str) -> io::Result<FakeReader<'a>> {
+        self.stored.note("open", path)?;
+        Ok(FakeReader {
+            stored: self.stored,
+            path: String::from_str(self.alloc, path)?,
+            bytes: self.stored.bytes_of(self.alloc, path)?,
+            done: 0,
+        })
+    }
+}
+
+impl<'a> OutputDisk for FakeDisk<'a> {
+    type NewFile = FakeWriter<'a>;
+
+    ghost entries = { λ _. None };
+
+    ghost leads = { λ _ path. path };
+
+    fn create_new(&mut self, path: &str) -> io::Result<FakeWriter<'a>> {
+        if self.stored.has(path) {
+            return Err(io::Error::from(io::ErrorKind::AlreadyExists));
+        }
+        self.create(path)
+    }
+
+    fn remove_left_over(&mut self, path: &str) -> io::Result<()> {
+        if !self.stored.left_over {
+            return Err(io::Error::from(io::ErrorKind::AlreadyExists));
+        }
+        self.remove_file(path)
+    }
+
+    fn is_one_file(&self, left: &str, right: &str) -> io::Result<bool> {
+        Ok(behind_link(left) == behind_link(right))
+    }
+
+    fn create(&mut self, path: &str) -> io::Result<FakeWriter<'a>> {
+        self.stored.note("create", path)?;
+        self.stored.change()?;
+        self.stored.drop_file(self.alloc, path)?;
+        self.stored.put(self.alloc, path, b"")?;
+        Ok(FakeWriter {
+            stored: self.stored,
+            path: String::from_str(self.alloc, path)?,
+        })
+    }
+
+    fn file_path(&self, alloc: Global, path: &str) -> io::Result<Option<String>> {
+        if let Some(kind) = self.stored.lost_path {
+            return Err(io::Error::from(kind));
+        }
+        if path.starts_with("/dev/") {
+            return Ok(None);
+        }
+        Ok(Some(String::from_str(alloc, behind_link(path))?))
+    }
+
+    fn sync(&self, _file: &FakeWriter<'a>) -> io::Result<()> {
+        self.stored.change()
+    }
+
+    fn rename(&mut self, _file: &FakeWriter<'a>, from: &str, to: &str) -> io::Result<()> {
+        self.stored.note("rename", to)?;
+        self.stored.change()?;
+        self.stored.move_file(self.alloc, from, to)
+    }
+
+    fn remove_file(&mut self, path: &str) -> io::Result<()> {
+        self.stored.note("remove", path)?;
+        self.stored.drop_file(self.alloc, path)
+    }
+}
+
+/// The path behind a link: that without `link/` at its beginning.
+fn behind_link(path: &str) -> &str {
+    path.strip_prefix("link/").unwrap_or(path)
+}
+
+/// The words of a command line, with one space between them.
+#[derive(Drop)]
+pub struct Words<'a> {
+    /// The line.
+    pub line: &'a [u8],
+}
+
+impl<'a> Env for Words<'a> {
+    fn arg(&self, i: usize, buf: &mut [u8]) -> Result<usize, FillError> {
+        let Some(word) = self.line.split(|byte| *byte == b' ').nth(i) else {
+            return Err(FillError::NotPresent);
+        };
+        if buf.len() < word.len() {
+            return Err(FillError::TooLong);
+        }
+        buf[..word.len()].copy_from_slice(word);
+        Ok(word.len())
+    }
+
+    fn var(&self, _name: &str, _buf: &mut [u8]) -> Result<usize, FillError> {
+        Err(FillError::NotPresent)
+    }
+
+    fn var_at(&self, _i: usize, _buf: &mut [u8]) -> Result<usize, FillError> {
+        Err(FillError::NotPresent)
+    }
+}
+
+/// What the program answers.
+#[derive(Drop)]
+pub struct Answer {
+    /// The exit status.
+    pub status: u8,
+    /// What is on standard output.
+    pub out: Vec<u8>,
+    /// What is on standard error.
+    pub errors: Vec<u8>,
+}
+
+/// What the program answers to a command line over a disk, with no lines on its input.
+pub fn answer_to<T: Threads + Wait + Sync>(
+    threads: &T,
+    alloc: Global,
+    line: &[u8],
+    stored: &Stored,
+) -> Answer {
+    answer_with(threads, alloc, line, stored, b"")
+}
+
+/// The same with these bytes on its input.
+pub fn answer_with<T: Threads + Wait + Sync>(
+    threads: &T,
+    alloc: Global,
+    line: &[u8],
+    stored: &Stored,
+    input: &[u8],
+) -> Answer {
+    let mut out = Vec::new(alloc);
+    let mut errors = Vec::new(alloc);
+    let status = answer_on(threads, alloc, line, stored, input, &mut out, &mut errors);
+    Answer {
+        status,
+        out,
+        errors,
+    }
+}
+
+/// The exit status for a command line over a disk, with these bytes on its input and a writer for what it prints.
+pub fn answer_on<T: Threads + Wait + Sync, W: Write>(
+    threads: &T,
+    alloc: Global,
+    line: &[u8],
+    stored: &Stored,
+    input: &[u8],
+    out: &mut W,
+    errors: &mut Vec<u8>,
+) -> u8 {
+    let mut input = input;
+    answer_along(threads, alloc, line, stored, &mut input, out, errors)
+}
+
+/// The same with any reader of its input, and any writer for what stands on standard error.
+pub fn answer_along<T: Threads + Wait + Sync, I: Read, W: Write, E: Write>(
+    threads: &T,
+    alloc: Global,
+    line: &[u8],
+    stored: &Stored,
+    input: &mut I,
+    out: &mut W,
+    errors: &mut E,
+) -> u8 {
+    let mut disk = FakeDisk { stored, alloc };
+    let words = Words { line };
+    status(&(words, alloc), threads, &mut disk, input, out, errors)
+}
+
+impl Answer {
+    /// Asserts what the answer to a command line is.
+    pub fn assert_is(&self, rt: &impl Abort, status: u8, out: &str, errors: &str, line: &str) {
+        assert_number(rt, self.status as u64, status as u64, line);
+        assert_bytes(rt, self.out.as_slice(), out.as_bytes(), line);
+        assert_bytes(rt, self.errors.as_slice(), errors.as_bytes(), line);
+    }
+}
+
+/// Asserts that a file has these bytes.
+pub fn assert_file(
+    rt: &impl Abort,
+    alloc: Global,
+    stored: &Stored,
+    path: &str,
+    bytes: &[u8],
+) -> io::Result<()> {
+    let found = stored.bytes_of(alloc, path)?;
+    assert_bytes(rt, found.as_slice(), bytes, path);
+    Ok(())
+}
+
+/// Asserts what a disk was asked by a command line.
+pub fn assert_asked(
+    rt: &impl Abort,
+    alloc: Global,
+    stored: &Stored,
+    requests: &str,
+    line: &str,
+) -> io::Result<()> {
+    let asked = stored.asked(alloc)?;
+    assert_bytes(rt, asked.as_bytes(), requests.as_bytes(), line);
+    Ok(())
+}

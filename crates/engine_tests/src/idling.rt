@@ -1,0 +1,175 @@
+//! How often an idle worker looks at its block's cell before it asks for work again.
+
+ghost use Rattle.std.specs.Prelude.{◌≡◌};
+ghost use Rattle.workers.specs.DoneCell.{IsPassOf};
+
+use crate::calls::job_of;
+use crate::rows::ECHO;
+use crate::threads::shares_of;
+use rv_ledger::Job;
+use std::alloc::Global;
+use std::marker::Brand;
+use std::process::Abort;
+use std::sync::Wait;
+use std::sync::atomic::{AtomicBool, AtomicU64, Ordering};
+use std::test::Fail;
+use std::thread;
+use std::thread::{Threads, yield_now};
+use stm_core::NextStep;
+use workers::{
+    DoneCell, DonePass, Gate, JobName, LOOK_LIMIT, Open, RunFault, Share, Shared, Spin,
+    WrittenFault, work, work_spinning,
+};
+
+/// How often a worker has looked when the other one, which is held at the end of its run, goes on.
+const HELD_LOOKS: u64 = 200;
+
+/// How often one worker waits for the other, at most.
+const WAITS: usize = 1_000_000;
+
+/// Counts how often a worker looked at a cell that did not show done.
+#[derive(Clone, Copy)]
+struct Looks<'a> {
+    count: &'a AtomicU64,
+}
+
+impl Spin for Looks<'_> {
+    fn spin(&self) {
+        let _ = self.count.fetch_add(1, Ordering::SeqCst);
+    }
+
+    fn learn(&mut self, _owed: NextStep) {}
+}
+
+/// Has a worker look at a cell, and returns how often it did not see done.
+fn count_looks<R: Wait>(rt: &R, cell: &DoneCell, pass: &mut DonePass) -> u64
+    requires { IsPassOf cell.now pass.old }
+    ensures { IsPassOf cell.now pass.new }
+{
+    let count = AtomicU64::new(0);
+    cell.look(rt, pass, &Looks { count: &count });
+    count.load(Ordering::SeqCst)
+}
+
+#[test]
+fn an_idle_worker_looks_64_times(rt: HostRuntime) -> Result<(), Fail> {
+    let cell = DoneCell::new(rt.alloc())?;
+    let mut pass = cell.pass();
+    let while_running = count_looks(&rt, &cell, &mut pass);
+    assert_eq!(rt; while_running, 64);
+    cell.set_done(&rt, &mut pass);
+    let once_done = count_looks(&rt, &cell, &mut pass);
+    assert_eq!(rt; once_done, 0);
+    Ok(())
+}
+
+/// Where a worker is held at the end of its run, until the other one has looked often enough.
+#[derive(Drop)]
+struct Held {
+    here: AtomicBool,
+    looks: AtomicU64,
+}
+
+impl Held {
+    /// Waits until a worker is held.
+    fn await_worker(&self) {
+        for _ in 0..WAITS {
+            if self.here.load(Ordering::SeqCst) {
+                return;
+            }
+            yield_now();
+        }
+    }
+}
+
+impl Gate for Held {
+    fn held(&self, _worker: usize) {
+        self.here.store(true, Ordering::SeqCst);
+        for _ in 0..WAITS {
+            if self.looks.load(Ordering::SeqCst) >= HELD_LOOKS {
+                return;
+            }
+            yield_now();
+        }
+    }
+}
+
+/// The share of a worker that finds no work until the other one, on a thread of its own, goes on.
+fn idle_share<J: JobName + Send + Sync, R: Threads + Wait + Sync>(
+    rt: &R,
+    alloc: Global,
+    shared: &Shared<J>,
+    busy: Share,
+    idle: Share,
+    held: &Held,
+) -> Result<Share, RunFault>
+    requires busy { IsPassOf shared.now.cell busy.pass }
+    requires idle { IsPassOf shared.now.cell idle.pass }
+{
+    thread::scope(
+        thread::scope_env(),
+        rt,
+        |scope| -> Result<Share, RunFault>
+            requires { IsPassOf shared.now.cell busy.pass × IsPassOf shared.now.cell idle.pass }
+        {
+            let working = move || -> Result<Share, WrittenFault>
+                requires { IsPassOf shared.now.cell busy.pass }
+            { work(rt, alloc, shared, busy, held) };
+            let Ok(thread) = scope.spawn(working) else {
+                return Err(RunFault::Spawn);
+            };
+            held.await_worker();
+            let looks = Looks { count: &held.looks };
+            let answer = work_spinning(rt, alloc, shared, idle, &Open, looks);
+            match (thread.join(rt), answer) {
+                (Ok(_), Ok(share)) => Ok(share),
+                (Err(written), _) | (_, Err(written)) => Err(written.fault()),
+            }
+        },
+    )
+}
+
+/// How often a worker of two was answered that there is no task for it, and how often it looked then.
+fn rows_and_looks<J: JobName + Send + Sync, R: Threads + Wait + Sync + Abort>(
+    rt: &R,
+    alloc: Global,
+    job: &Job,
+) -> Result<(u64, u64), Fail>
+    requires { job.now ≡ J.job }
+{
+    let held = Held {
+        here: AtomicBool::new(false),
+        looks: AtomicU64::new(0),
+    };
+    let (shared, mut shares) = shares_of::<J, R>(rt, alloc, job, 2)?;
+    assert!(rt; shares.len() == 2);
+    let busy = shares.remove(0);
+    let idle = shares.remove(0);
+    let counts = idle_share(rt, alloc, &shared, busy, idle, &held)?.counts();
+    let tasks = counts.executions.saturating_add(counts.validations);
+    let rows = counts.asks.saturating_sub(tasks).saturating_sub(1);
+    Ok((rows, held.looks.load(Ordering::SeqCst)))
+}
+
+/// The same for one call.
+fn rows_of_a_call<R: Threads + Wait + Sync + Abort>(
+    rt: &R,
+    alloc: Global,
+) -> Result<(u64, u64), Fail> {
+    let job = job_of(alloc, &[ECHO], "call 0 100 0102\n")?;
+    rows_and_looks::<Brand, R>(rt, alloc, &job)
+}
+
+/// Each row of looks but the last has all of them: in that one the block is done.
+#[test]
+fn a_worker_looks_once_between_two_asks(rt: HostRuntime) -> Result<(), Fail> {
+    let (rows, looks) = rows_of_a_call(&rt, rt.alloc())?;
+    let limit = LOOK_LIMIT as u64;
+    assert!(&rt; rows > HELD_LOOKS / limit, "{rows} rows");
+    let most = rows.saturating_mul(limit);
+    assert!(&rt;
+        looks <= most && looks >= most.saturating_sub(limit),
+        "{looks} looks"
+    );
+    Ok(())
+}

@@ -1,0 +1,62 @@
+//! Tests of the engines and of the program over any files. They stand here, and not in `engines`, since
+//! a crate with tests is proved twice.
+#![tactic(auto)]
+
+#[cfg(test)]
+mod areas;
+#[cfg(test)]
+mod assembled;
+#[cfg(test)]
+mod asserts;
+#[cfg(test)]
+mod block_after_block;
+#[cfg(test)]
+mod blocks;
+#[cfg(test)]
+mod calls;
+#[cfg(test)]
+mod chains;
+#[cfg(test)]
+mod counts;
+#[cfg(test)]
+mod debugging;
+#[cfg(test)]
+mod drives;
+#[cfg(test)]
+mod edge_values;
+#[cfg(test)]
+mod failing;
+#[cfg(test)]
+mod failing_programs;
+#[cfg(test)]
+mod fake_disk;
+#[cfg(test)]
+mod first_faults;
+#[cfg(test)]
+mod idling;
+#[cfg(test)]
+mod large_blocks;
+#[cfg(test)]
+mod large_inputs;
+#[cfg(test)]
+mod migrated;
+#[cfg(test)]
+mod outside;
+#[cfg(test)]
+mod programs;
+#[cfg(test)]
+mod reports;
+#[cfg(test)]
+mod rows;
+#[cfg(test)]
+mod rules_three;
+#[cfg(test)]
+mod rules_two;
+#[cfg(test)]
+mod schedules;
+#[cfg(test)]
+mod sizes;
+#[cfg(test)]
+mod sources;
+#[cfg(test)]
+mod threads;

@@ -1,0 +1,93 @@
+//! A call that is made again and again, with a little more memory each time.
+
+ghost use Rattle.std.specs.Prelude.{◌≤◌, ◌<◌};
+
+use crate::limits::{no_blocks, take_rest, take_space};
+use std::alloc::{AllocError, Global};
+
+/// The size of the piece of memory of which the call gets more and more.
+const PIECE: usize = 1 << 20;
+
+/// What the call gets more from one try to the next: the heap gives out no smaller parts.
+const STEP: usize = 32;
+
+/// How often it gets so little more.
+const SMALL_STEPS: usize = 512;
+
+/// What it gets more from then on.
+const LARGE_STEP: usize = 1 << 10;
+
+/// How often a call is tried, at most.
+const TRIES: usize = 1500;
+
+/// What a try comes to.
+#[derive(Clone, Copy)]
+pub enum Tried {
+    /// It was refused as Memory, and what had to stay stands.
+    Refused,
+    /// The right answer.
+    Done,
+    /// Anything else.
+    Wrong,
+}
+
+/// The end of a try that was refused: whether as Memory, and whether what had to stay stands.
+pub fn refused(stands: bool) -> Tried {
+    if stands { Tried::Refused } else { Tried::Wrong }
+}
+
+/// The end of a try that was not refused: whether the answer is right.
+pub fn done(is_right: bool) -> Tried {
+    if is_right { Tried::Done } else { Tried::Wrong }
+}
+
+/// A call that takes memory.
+pub trait Attempt {
+    /// Makes the call, on what the tries before it left.
+    fn attempt(&mut self, alloc: Global) -> Tried;
+}
+
+/// A block of so many bytes.
+fn block_of(alloc: Global, size: usize) -> Result<Vec<u8>, AllocError> {
+    Ok(Vec::with_capacity(alloc, size)?)
+}
+
+/// How many bytes of the piece a call gets at a try.
+fn spare_at(step: usize) -> usize
+    requires { step < 1500 }
+    ensures { result ≤ 1048576 }
+{
+    if step < SMALL_STEPS {
+        step * STEP
+    } else {
+        SMALL_STEPS * STEP + (step - SMALL_STEPS) * LARGE_STEP
+    }
+}
+
+/// Takes the beginning of the piece again, in place of what was taken of it before: the call gets the rest.
+fn taken_again(alloc: Global, before: Vec<u8>, step: usize) -> Result<Vec<u8>, AllocError>
+    requires { step < 1500 }
+{
+    drop(before);
+    block_of(alloc, PIECE - spare_at(step))
+}
+
+/// Makes a call with more and more memory until it is not refused. Whether it was refused at first, stood then as it must,
+/// and came to the right answer in the end.
+pub fn is_refused_first<A: Attempt>(alloc: Global, call: &mut A) -> Result<bool, AllocError> {
+    // The heap keeps blocks of up to this size from then on, and gives nothing back to the system.
+    drop(block_of(alloc, 4 * PIECE)?);
+    let mut taken = block_of(alloc, PIECE)?;
+    let (mut space, mut rest) = (no_blocks(alloc)?, no_blocks(alloc)?);
+    take_space(alloc, &mut space);
+    take_rest(alloc, &mut rest);
+    for step in 0..TRIES {
+        taken = taken_again(alloc, taken, step)?;
+        match call.attempt(alloc) {
+            Tried::Refused => {}
+            Tried::Done => return Ok(step > 0),
+            Tried::Wrong => return Ok(false),
+        }
+    }
+    Ok(false)
+}

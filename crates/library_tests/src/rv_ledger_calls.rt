@@ -1,0 +1,243 @@
+//! The calls of rv_ledger.
+
+use crate::program_file::ECHO;
+use elf32::Image;
+use rv_isa::Regs;
+use rv_ledger::*;
+use std::alloc::{AllocError, Global};
+use std::process::Abort;
+use std::sync::Arc;
+use std::test::Fail;
+
+// The key with this first and this last byte, and zeros between them.
+fn key(first: u8, last: u8) -> Key {
+    let mut bytes = [0; 32];
+    bytes[0] = first;
+    bytes[31] = last;
+    Key::new(bytes)
+}
+
+// The value of one byte.
+fn value(byte: u8) -> Value {
+    Value::of(&[byte]).unwrap_or(Value::empty())
+}
+
+// The program of `ECHO`, as calls share it.
+fn image(alloc: Global) -> Result<Arc<Image>, Fail> {
+    Ok(Arc::new(alloc, elf32::load(alloc, &ECHO)?)?)
+}
+
+// Whether there is a value of these bytes, and whether there is an output of them.
+fn fits(bytes: &[u8]) -> (bool, bool) {
+    (Value::of(bytes).is_some(), Output::of(bytes).is_some())
+}
+
+// Why a call of a program with this gas limit and this length of input is refused, if it is.
+fn refusal(
+    alloc: Global,
+    image: &Arc<Image>,
+    gas: u32,
+    len: usize,
+) -> Result<Option<CallFault>, Fail> {
+    let input = vec![in alloc; 0; len]?;
+    match Call::new(Arc::try_clone(image)?, gas, input) {
+        Ok(_) => Ok(None),
+        Err(fault) => Ok(Some(fault)),
+    }
+}
+
+// Rows of a gas limit, a length of the input, and why the call is refused.
+const CALLS: &[(u32, usize, Option<CallFault>)] = &[
+    (0, 0, Some(CallFault::BadGas)),
+    (1, 0, None),
+    (10_000_000, 4096, None),
+    (10_000_001, 4097, Some(CallFault::BadGas)),
+    (1, 4097, Some(CallFault::InputTooLong)),
+];
+
+// Values and outputs have at most 256 bytes.
+fn sizes_fit(rt: &impl Abort) {
+    let bytes = [7; 257];
+    assert!(rt; fits(&bytes[..256]) == (true, true));
+    assert!(rt; fits(&bytes) == (false, false));
+}
+
+#[test]
+fn limits(rt: HostRuntime) -> Result<(), Fail> {
+    sizes_fit(&rt);
+    let image = image(rt.alloc())?;
+    for (gas, len, expected) in CALLS {
+        let fault = refusal(rt.alloc(), &image, *gas, *len)?;
+        assert!(rt; fault == *expected, "gas {gas}, input {len}");
+    }
+    Ok(())
+}
+
+// A call of the program of `ECHO`.
+fn call(alloc: Global) -> Result<Call, Fail> {
+    let input = Vec::from_slice(alloc, &[5])?;
+    Ok(Call::new(image(alloc)?, 1000, input)?)
+}
+
+// Calls that differ in their rules alone are not equal.
+#[test]
+fn rules_of_calls(rt: HostRuntime) -> Result<(), Fail> {
+    let alloc = rt.alloc();
+    let first = call(alloc)?;
+    let input = Vec::from_slice(alloc, &[5])?;
+    let second = Call::under(Rules::Two, image(alloc)?, 1000, input)?;
+    assert!(rt; first.rules() == Rules::One && second.rules() == Rules::Two);
+    assert!(rt; same_call(&first, &first.copy()?) && !same_call(&first, &second));
+    Ok(())
+}
+
+// The call, `count` times.
+fn calls(alloc: Global, call: &Call, count: usize) -> Result<Vec<Call>, AllocError> {
+    let mut calls = Vec::new(alloc);
+    for _ in 0..count {
+        calls.push(call.copy()?)?;
+    }
+    Ok(calls)
+}
+
+// The number of calls in a copy of the job of these calls, or why the job is refused.
+fn job_size(alloc: Global, calls: Vec<Call>) -> Result<Result<usize, JobFault>, AllocError> {
+    match Job::new(calls, Store::new(alloc)) {
+        Ok(job) => Ok(Ok(job.copy()?.block.calls().len())),
+        Err(fault) => Ok(Err(fault)),
+    }
+}
+
+// Rows of a number of calls, and the number of calls of the job or why it is refused.
+const JOBS: &[(usize, Result<usize, JobFault>)] = &[
+    (0, Ok(0)),
+    (1024, Ok(1024)),
+    (1025, Err(JobFault::TooManyCalls)),
+];
+
+#[test]
+fn jobs(rt: HostRuntime) -> Result<(), Fail> {
+    let alloc = rt.alloc();
+    let call = call(alloc)?;
+    for (count, expected) in JOBS {
+        let size = job_size(alloc, calls(alloc, &call, *count)?)?;
+        assert!(rt; size == *expected, "{count} calls");
+    }
+    Ok(())
+}
+
+// A storage of two keys. One of them had another value before, and a third key was removed.
+fn store(alloc: Global) -> Result<Store, AllocError> {
+    let mut store = Store::new(alloc);
+    store.insert(key(1, 0), value(1))?;
+    store.insert(key(0, 9), value(2))?;
+    store.insert(key(0, 8), value(3))?;
+    store.insert(key(1, 0), value(4))?;
+    store.remove(&key(0, 8));
+    store.remove(&key(5, 5));
+    Ok(store)
+}
+
+// The entries of a storage.
+fn entries(alloc: Global, store: &Store) -> Result<Vec<(Key, Value)>, AllocError> {
+    let mut entries = Vec::new(alloc);
+    for (key, value) in store.iter() {
+        entries.push((*key, value.value()))?;
+    }
+    Ok(entries)
+}
+
+// Whether these are the entries of `store`, in the order of their keys.
+fn are_entries(entries: &[(Key, Value)]) -> bool {
+    let expected = [(key(0, 9), value(2)), (key(1, 0), value(4))];
+    entries == expected.as_slice()
+}
+
+// The key that was removed is absent, and another is not.
+fn has_keys(rt: &impl Abort, store: &Store) {
+    assert!(rt; store.get(&key(0, 8)).is_none());
+    assert!(rt; store.get(&key(0, 9)).is_some());
+}
+
+// The entries of a copy of a storage.
+fn copied_entries(alloc: Global, store: &Store) -> Result<Vec<(Key, Value)>, AllocError> {
+    entries(alloc, &store.copy()?)
+}
+
+#[test]
+fn storages(rt: HostRuntime) -> Result<(), Fail> {
+    let store = store(rt.alloc())?;
+    has_keys(&rt, &store);
+    let entries = copied_entries(rt.alloc(), &store)?;
+    assert!(rt; are_entries(entries.as_slice()), "{entries:?}");
+    Ok(())
+}
+
+// As many removals of keys as a call may write.
+fn writes(rt: &impl Abort, alloc: Global) -> Result<Writes, AllocError> {
+    let mut writes = Writes::new(alloc);
+    for first in 0..=255 {
+        let key = key(first, 0);
+        assert!(rt; writes.has_room(&key), "key {first}");
+        writes.insert(Write {
+            key,
+            change: Change::Gone,
+        })?;
+    }
+    Ok(writes)
+}
+
+// A receipt with these writes.
+fn receipt(writes: Writes) -> Receipt {
+    Receipt {
+        end: End::Returned,
+        gas: 10,
+        pc: 0x0001_0004,
+        out: Output::empty(),
+        regs: Regs::zero(),
+        writes,
+    }
+}
+
+// The writes have room for a key of theirs alone.
+fn are_full(rt: &impl Abort, writes: &Writes) {
+    assert!(rt; writes.has_room(&key(9, 0)));
+    assert!(rt; !writes.has_room(&key(9, 1)));
+    assert!(rt; writes.get(&key(9, 0)).is_some());
+}
+
+// Writes to 256 keys have room for another once they are cleared.
+fn clears(rt: &impl Abort, writes: &mut Writes) {
+    assert!(rt; writes.as_slice().len() == 256);
+    writes.clear();
+    assert!(rt; writes.has_room(&key(9, 1)));
+}
+
+// The writes of a copy of a receipt.
+fn copied_writes(receipt: &Receipt) -> Result<Writes, AllocError> {
+    Ok(receipt.copy()?.writes)
+}
+
+#[test]
+fn written_keys(rt: HostRuntime) -> Result<(), Fail> {
+    let receipt = receipt(writes(&rt, rt.alloc())?);
+    are_full(&rt, &receipt.writes);
+    clears(&rt, &mut copied_writes(&receipt)?);
+    Ok(())
+}
+
+// The text of all refusals of calls and jobs.
+fn fault_texts(alloc: Global) -> Result<String, AllocError> {
+    let (gas, input) = (CallFault::BadGas, CallFault::InputTooLong);
+    format!(in alloc; "{gas}, {input}, {}", JobFault::TooManyCalls)
+}
+
+#[test]
+fn texts(rt: HostRuntime) -> Result<(), Fail> {
+    let texts = fault_texts(rt.alloc())?;
+    assert!(rt;
+        texts.as_str() == "BadGas 1, InputTooLong 2, TooManyCalls 1",
+        "{texts}"
+    );
+    Ok(())
+}
