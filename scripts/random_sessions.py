@@ -1,0 +1,90 @@
+"""Random inputs of `rvstm chain`: frames, bad frames between good ones, lines, and inputs that are cut."""
+
+import subprocess
+import threading
+
+import sessions
+
+MOST_REQUESTS = 12
+MOST_CALLS = 1024
+SECONDS_A_SESSION = 60
+ODD_LINES = (b"\n", b"get\n", b"get 00\n", b"dump \n", b"end\n", b"quit\n", b" dump\n", b"dump\r\n", b"store 00 00\n", b"\xff\x00\n")
+
+
+def bad_frame(choice, block):
+    """A frame that is mostly refused: by its text, its rules or its programs."""
+    lines = sessions.lines_of(block)
+    place = choice.randrange(len(lines))
+    kind = choice.randrange(8)
+    if kind == 0:
+        lines[0] = choice.choice((b"rvblock\n", b"rvblock 3\n", b"rvblock 1 \n", b"rvblockade\n"))
+    elif kind == 1:
+        del lines[max(place, 1) :]
+        lines.append(choice.choice((b"call 9 1 -\n", b"call 0 0 -\n", b"store 00 00\n", b"dump\n", b"gas 4\n", b"call 0 1 0\n")))
+    elif kind == 2:
+        lines.insert(place, choice.choice(lines))
+    elif kind == 3:
+        lines = [line.replace(b"program 0 ", b"program 0 missing/") for line in lines]
+    elif kind == 4:
+        lines = [b"program 0 .\n" if line.startswith(b"program 0 ") else line for line in lines]
+    elif kind == 5:
+        lines = [b"program 0 %s\n" % __file__.encode() if line.startswith(b"program 0 ") else line for line in lines]
+    elif kind == 6:
+        calls = [line for line in lines if line.startswith(b"call ")]
+        lines += calls * (MOST_CALLS // len(calls) + 1)
+    else:
+        lines[0] = b"rvblock 1\n"
+        lines[1:2] = [] if lines[1].startswith(b"gas ") else lines[1:2]
+    return b"".join(lines) + b"end\n"
+
+
+def line_of(choice, keys):
+    if choice.randrange(4) == 0:
+        return choice.choice(ODD_LINES)
+    return b"get %s\n" % choice.choice(keys).hex().encode() if choice.randrange(2) else b"dump\n"
+
+
+def input_of(choice, blocks, keys):
+    """A random input whose frames come from some blocks; a fifth of the inputs are cut."""
+    parts = []
+    for _ in range(choice.randrange(1, MOST_REQUESTS + 1)):
+        block, kind = next(blocks), choice.randrange(6)
+        parts.append(bad_frame(choice, block) if kind == 0 else line_of(choice, keys) if kind < 3 else block + b"end\n")
+    if choice.randrange(8) == 0:
+        parts.insert(choice.randrange(len(parts)), b"q\n")
+    whole = b"".join(parts) + choice.choice((b"", b"", b"q\n", b"q", b"dump"))
+    return whole[: choice.randrange(len(whole))] if choice.randrange(5) == 0 else whole
+
+
+def answers_at_once(rvstm, folder, text):
+    """What a session writes for an input that it gets in one piece."""
+    words = [rvstm, "chain"]
+    return subprocess.run(words, cwd=folder, input=text, capture_output=True, timeout=SECONDS_A_SESSION).stdout
+
+
+def answers_one_by_one(rvstm, folder, text):
+    """What a session writes for an input, where each answer is read before the next request is given."""
+    *first, last = list(sessions.requests_of(text)) or [b""]
+    with sessions.Session(rvstm, folder) as session:
+        clock = threading.Timer(SECONDS_A_SESSION, session.process.kill)
+        clock.start()
+        try:
+            return b"".join(map(session.ask, first)) + session.ask_last(last)
+        finally:
+            clock.cancel()
+
+
+def first_difference(answers, text, in_order):
+    """The first answer of a session that is not the one in order, or None."""
+    for number, request in enumerate(sessions.requests_of(text)):
+        wanted = in_order.answer(request)
+        if not answers.startswith(wanted):
+            return f"request {number}, {request[:40]!r}: {answers[:len(wanted)][:200]!r} and not {wanted[:200]!r}"
+        answers = answers[len(wanted) :]
+    return f"behind the last answer: {answers[:200]!r}" if answers else None
+
+
+def difference(rvstm, folder, text, is_at_once):
+    """How the answers to an input differ from those in order, or None."""
+    answers = (answers_at_once if is_at_once else answers_one_by_one)(rvstm, folder, text)
+    return first_difference(answers, text, sessions.InOrder(rvstm, folder))
