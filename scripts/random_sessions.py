@@ -44,9 +44,19 @@ def line_of(choice, keys):
     return b"get %s\n" % choice.choice(keys).hex().encode() if choice.randrange(2) else b"dump\n"
 
 
-def input_of(choice, blocks, keys):
+def rising(choice, blocks):
+    """Some blocks of others, so that their rules mostly do not fall from one to the next."""
+    lowest, highest = 1, choice.randrange(1, 4)
+    for block in blocks:
+        rules = sessions.rules_of(block)
+        if lowest <= rules <= highest or rules < lowest and choice.randrange(8) == 0:
+            lowest = max(lowest, rules)
+            yield block
+
+
+def input_of(choice, others, keys):
     """A random input whose frames come from some blocks; a fifth of the inputs are cut."""
-    parts = []
+    parts, blocks = [], rising(choice, others)
     for _ in range(choice.randrange(1, MOST_REQUESTS + 1)):
         block, kind = next(blocks), choice.randrange(6)
         parts.append(bad_frame(choice, block) if kind == 0 else line_of(choice, keys) if kind < 3 else block + b"end\n")
