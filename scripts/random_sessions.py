@@ -7,6 +7,7 @@ import sessions
 
 MOST_REQUESTS = 12
 MOST_CALLS = 1024
+MOST_OTHER_KEYS = 300
 SECONDS_A_SESSION = 60
 ODD_LINES = (b"\n", b"get\n", b"get 00\n", b"dump \n", b"end\n", b"quit\n", b" dump\n", b"dump\r\n", b"store 00 00\n", b"\xff\x00\n")
 
@@ -38,6 +39,16 @@ def bad_frame(choice, block):
     return b"".join(lines) + b"end\n"
 
 
+def frame_of(choice, block):
+    """A frame of a block; a sixth of the frames have many other keys, between those of the calls."""
+    other = {}
+    if choice.randrange(6) == 0:
+        for _ in range(choice.randrange(MOST_OTHER_KEYS)):
+            key = bytes([choice.randrange(4)]) + choice.randbytes(31)
+            other[key.hex().encode()] = choice.randbytes(choice.choice((1, 8, 17, 64))).hex().encode()
+    return sessions.put_over(block, other) + b"end\n"
+
+
 def line_of(choice, keys):
     if choice.randrange(4) == 0:
         return choice.choice(ODD_LINES)
@@ -58,18 +69,26 @@ def input_of(choice, others, keys):
     """A random input whose frames come from some blocks; a fifth of the inputs are cut."""
     parts, blocks = [], rising(choice, others)
     for _ in range(choice.randrange(1, MOST_REQUESTS + 1)):
-        block, kind = next(blocks), choice.randrange(6)
-        parts.append(bad_frame(choice, block) if kind == 0 else line_of(choice, keys) if kind < 3 else block + b"end\n")
+        kind = choice.randrange(6)
+        if kind in (1, 2):
+            parts.append(line_of(choice, keys))
+        else:
+            parts.append((bad_frame if kind == 0 else frame_of)(choice, next(blocks)))
     if choice.randrange(8) == 0:
         parts.insert(choice.randrange(len(parts)), b"q\n")
     whole = b"".join(parts) + choice.choice((b"", b"", b"q\n", b"q", b"dump"))
     return whole[: choice.randrange(len(whole))] if choice.randrange(5) == 0 else whole
 
 
+def told(status):
+    """A status other than 0, to stand behind the answers."""
+    return b"status %d\n" % status if status else b""
+
+
 def answers_at_once(rvstm, folder, text):
     """What a session writes for an input that it gets in one piece."""
-    words = [rvstm, "chain"]
-    return subprocess.run(words, cwd=folder, input=text, capture_output=True, timeout=SECONDS_A_SESSION).stdout
+    done = subprocess.run([rvstm, "chain"], cwd=folder, input=text, capture_output=True, timeout=SECONDS_A_SESSION)
+    return done.stdout + told(done.returncode)
 
 
 def answers_one_by_one(rvstm, folder, text):
@@ -79,7 +98,8 @@ def answers_one_by_one(rvstm, folder, text):
         clock = threading.Timer(SECONDS_A_SESSION, session.process.kill)
         clock.start()
         try:
-            return b"".join(map(session.ask, first)) + session.ask_last(last)
+            answers = b"".join(map(session.ask, first)) + session.ask_last(last)
+            return answers + told(session.process.returncode)
         finally:
             clock.cancel()
 

@@ -34,7 +34,11 @@ class Session:
 
     def ask_last(self, request):
         """The answer to the last request, behind which the input ends."""
-        return self.process.communicate(request)[0]
+        try:
+            return self.process.communicate(request)[0]
+        except BrokenPipeError:
+            self.process.wait()
+            return b""
 
 
 def read_answer(lines):
