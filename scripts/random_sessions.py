@@ -9,7 +9,9 @@ MOST_REQUESTS = 12
 MOST_CALLS = 1024
 MOST_OTHER_KEYS = 300
 SECONDS_A_SESSION = 60
-ODD_LINES = (b"\n", b"get\n", b"get 00\n", b"dump \n", b"end\n", b"quit\n", b" dump\n", b"dump\r\n", b"store 00 00\n", b"\xff\x00\n")
+ODD_LINES = (b"\n", b"get\n", b"get 00\n", b"dump \n", b"end\n", b"quit\n", b" dump\n", b"dump\r\n", b"gas 1\n", b"\xff\x00\n")
+ODD_HEADS = (b"rvblock\n", b"rvblock 3\n", b"rvblock 1 \n", b"rvblockade\n")
+BAD_LINES = (b"call 9 1 -\n", b"call 0 0 -\n", b"call 0 1 0\n", b"store 00 00\n", b"dump\n", b"gas 4\n")
 
 
 def bad_frame(choice, block):
@@ -18,10 +20,10 @@ def bad_frame(choice, block):
     place = choice.randrange(len(lines))
     kind = choice.randrange(8)
     if kind == 0:
-        lines[0] = choice.choice((b"rvblock\n", b"rvblock 3\n", b"rvblock 1 \n", b"rvblockade\n"))
+        lines[0] = choice.choice(ODD_HEADS)
     elif kind == 1:
         del lines[max(place, 1) :]
-        lines.append(choice.choice((b"call 9 1 -\n", b"call 0 0 -\n", b"store 00 00\n", b"dump\n", b"gas 4\n", b"call 0 1 0\n")))
+        lines.append(choice.choice(BAD_LINES))
     elif kind == 2:
         lines.insert(place, choice.choice(lines))
     elif kind == 3:
