@@ -102,8 +102,8 @@ word_bytes x =
     )
 
 -- four bytes tell a word
-four_digits : (x y : ℕ) → x < 2 ^ 32 → y < 2 ^ 32 → x / 16777216 % 256 ≡ y / 16777216 % 256 → x / 65536 % 256 ≡ y / 65536 % 256 → x / 256 % 256 ≡ y / 256 % 256 → x % 256 ≡ y % 256 → x ≡ y
-four_digits x y h k a b c d = omega arith
+four_bytes_tell : (x y : ℕ) → x < 2 ^ 32 → y < 2 ^ 32 → x / 16777216 % 256 ≡ y / 16777216 % 256 → x / 65536 % 256 ≡ y / 65536 % 256 → x / 256 % 256 ≡ y / 256 % 256 → x % 256 ≡ y % 256 → x ≡ y
+four_bytes_tell x y h k a b c d = omega arith
 
 -- a word has no space
 pub word_plain : (x : ℕ) → plain (word_text x) ≡ true
@@ -113,7 +113,7 @@ word_plain x = hex_plain (to_be_bytes w32 x) (word_bytes x)
 pub word_tells : (x y : ℕ) → x < 2 ^ 32 → y < 2 ^ 32 → word_text x ≡ word_text y → x ≡ y
 word_tells x y h k e =
     let same : to_be_bytes w32 x ≡ to_be_bytes w32 y = hex_tells (to_be_bytes w32 x) (to_be_bytes w32 y) (word_bytes x) (word_bytes y) e in
-    four_digits x y h k (cc) (cc) (cc) (cc)
+    four_bytes_tell x y h k (cc) (cc) (cc) (cc)
 
 -- nor have words
 pub words_plain : (xs : List ℕ) → all_plain (map word_text xs) ≡ true

@@ -68,7 +68,7 @@ fn push_sixteen<W: Destination>(text: &mut TextBuffer, bytes: &[u8], out: &mut W
 }
 
 /// Four bytes in eight hex digits, and eight zeros behind them.
-fn four_digits(a: u8, b: u8, c: u8, d: u8) -> u8x16
+fn digits_of_four(a: u8, b: u8, c: u8, d: u8) -> u8x16
     ensures { result ≡ take 16 (encode_lower (a ∷ b ∷ c ∷ d ∷ replicate 12 0)) }
 {
     let bytes = [a, b, c, d, 0, 0, 0, 0, 0, 0, 0, 0, 0, 0, 0, 0];
@@ -80,7 +80,7 @@ fn word_field(word: u32) -> [u8; 16]
     ensures { take 9 result ≡ 32 ∷ word_text word }
 {
     let [a, b, c, d] = word.to_be_bytes();
-    let spaced = four_digits(a, b, c, d).shuffle(
+    let spaced = digits_of_four(a, b, c, d).shuffle(
         u8x16::splat(b' '),
         [16, 0, 1, 2, 3, 4, 5, 6, 7, 8, 9, 10, 11, 12, 13, 14],
     );
@@ -122,7 +122,7 @@ fn push_fours<W: Destination>(text: &mut TextBuffer, bytes: &[u8], out: &mut W)
 {
     let mut rest = bytes;
     while let [a, b, c, d, more @ ..] = rest {
-        text.push(&four_digits(*a, *b, *c, *d).to_array()[..8], out);
+        text.push(&digits_of_four(*a, *b, *c, *d).to_array()[..8], out);
         rest = more;
     }
     push_pairs(text, rest, out);

@@ -66,7 +66,7 @@ fn is_entry_in_range(key: &Key, value: &StoredValue)
 }
 
 /// All keys and values of the storage are bytes.
-fn is_store_in_range(store: &Store)
+fn are_entries_in_range(store: &Store)
     ensures { All IsEntryInRange (entries store.now) }
 {
     for (key, value) in store.iter() {
@@ -88,5 +88,5 @@ pub(crate) fn are_in_range(receipts: &[Receipt], store: &Store)
     ensures { AreInRange receipts.now store.now }
 {
     all_in_range(receipts);
-    is_store_in_range(store);
+    are_entries_in_range(store);
 }

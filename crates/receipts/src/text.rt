@@ -76,7 +76,7 @@ fn push_call_line<W: Destination>(
     ensures { Appended W.contents W.may_fail W.may_take_nothing text.old out.old text.new out.new (call_line index receipt.now) }
 {
     push_end(text, index, receipt.end, out);
-    push_stop(text, receipt.gas, receipt.pc, out);
+    push_gas_and_pc(text, receipt.gas, receipt.pc, out);
     text.push(b" out ", out);
     push_bytes(text, receipt.out.bytes(), out);
     text.push(b"\n", out);
@@ -93,7 +93,7 @@ fn push_end<W: Destination>(text: &mut TextBuffer, index: usize, end: End, out: 
 }
 
 /// Appends the gas of a call, and the pc where it ended.
-fn push_stop<W: Destination>(text: &mut TextBuffer, gas: u32, pc: u32, out: &mut W)
+fn push_gas_and_pc<W: Destination>(text: &mut TextBuffer, gas: u32, pc: u32, out: &mut W)
     ensures { Appended W.contents W.may_fail W.may_take_nothing text.old out.old text.new out.new (codes " gas " ++ (decimal gas ++ (codes " pc " ++ word_text pc))) }
 {
     text.push(b" gas ", out);

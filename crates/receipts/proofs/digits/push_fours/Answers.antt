@@ -8,7 +8,7 @@ pub loop-rest-init : goal.loop-rest-init
 loop-rest-init g c = none_yet _ _ _
 
 pub loop-rest-preserved : goal.loop-rest-preserved
-loop-rest-preserved g c = appended_more _ c.loop-rest.invariant c.push.ensures (rw (c.four_digits.ensures, first_eight _ _ _ _) (sym (four_off c.loop-rest.rest.now (omega arith))))
+loop-rest-preserved g c = appended_more _ c.loop-rest.invariant c.push.ensures (rw (c.digits_of_four.ensures, first_eight _ _ _ _) (sym (four_off c.loop-rest.rest.now (omega arith))))
 
 pub returns : goal.returns
 returns g c = appended_all c.loop-rest.invariant c.push_pairs.ensures refl

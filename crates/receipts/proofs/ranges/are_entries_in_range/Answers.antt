@@ -2,7 +2,7 @@
 use Rattle.std.proofs.Common.{◌∙◌, ℕ, List, All, subst, arith}
 use Rattle.std.proofs.lemmas.List.Elements.{All-cons}
 use Rattle.receipts.specs.Ranges.{IsEntryInRange}
-use Rattle.receipts.proofs.ranges.is_store_in_range.Goals as goal
+use Rattle.receipts.proofs.ranges.are_entries_in_range.Goals as goal
 
 pub loop-key-init : goal.loop-key-init
 loop-key-init c =

@@ -1,7 +1,7 @@
 use Rattle.std.proofs.Common.{All}
 use Rattle.std.specs.FinMap.{entries}
 use Rattle.receipts.specs.Ranges.{IsEntryInRange}
-use Rattle.receipts.proofs.ranges.is_store_in_range.Given as goal
+use Rattle.receipts.proofs.ranges.are_entries_in_range.Given as goal
 
 -- where the entries that are left are in range, all are
 abbrev pub invariant-loop-key : goal.invariant-loop-key
