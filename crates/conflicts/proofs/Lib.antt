@@ -2,3 +2,6 @@ pub mod Used
 pub mod Noted
 pub mod Longest
 pub mod Earlier
+pub mod LeftOutReads
+pub mod LeftOutWrites
+pub mod LeftOut

@@ -3,3 +3,4 @@ pub mod Waits
 pub mod Table
 pub mod Paths
 pub mod Greatest
+pub mod LeftOut
