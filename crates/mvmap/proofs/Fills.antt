@@ -123,15 +123,16 @@ pub written_placed : (rs ss : List Record) (es fs : Slots) (p : Place) (s : Slot
 written_placed rs ss es fs p s l new h old = λ q id found.
     named_in (length rs) (length ss) id s (is_at (place_cmp p) q) (slot_at es q) l (λ i e. old q i e) new (sym (h q) ∙ found)
 
-slice_get_before : (rs : List Record) (r : Record) (i : ℕ) → i < length rs → slice_get (rs ++ r ∷ []) i ≡ slice_get rs i
-slice_get_before [] r i l = absurd (omega arith)
-slice_get_before (x ∷ rs) r zero l = refl
-slice_get_before (x ∷ rs) r (suc i) l = slice_get_before rs r i (omega arith)
+-- what was there before an element was added
+pub slice_get_before : {X : Type 0} (xs : List X) (x : X) (i : ℕ) → i < length xs → slice_get (xs ++ x ∷ []) i ≡ slice_get xs i
+slice_get_before [] x i l = absurd (omega arith)
+slice_get_before (y ∷ xs) x zero l = refl
+slice_get_before (y ∷ xs) x (suc i) l = slice_get_before xs x i (omega arith)
 
--- the record that was added last
-pub slice_get_last : (rs : List Record) (r : Record) → slice_get (rs ++ r ∷ []) (length rs) ≡ Some r
-slice_get_last [] r = refl
-slice_get_last (x ∷ rs) r = slice_get_last rs r
+-- the element that was added last
+pub slice_get_last : {X : Type 0} (xs : List X) (x : X) → slice_get (xs ++ x ∷ []) (length xs) ≡ Some x
+slice_get_last [] x = refl
+slice_get_last (y ∷ xs) x = slice_get_last xs x
 
 kept_entry : (rs : List Record) (r : Record) (o : Option Slot) → ((i : ℕ) → o ≡ Some (slot.Placed i) → i < length rs) → option_and_then (entry_of (rs ++ r ∷ [])) o ≡ option_and_then (entry_of rs) o
 kept_entry rs r None h = refl

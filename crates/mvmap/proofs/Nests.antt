@@ -9,7 +9,7 @@ use Rattle.std.specs.Cmp.Lexicographic.{nat_list_cmp_total}
 use Rattle.std.specs.List.{AllByRecursion}
 use Rattle.std.specs.List.Sorted.{IsStrictlySortedBy}
 use Rattle.std.specs.Map.{keys_of, lookup}
-use Rattle.std.specs.Option.{UnwrapsOrElse, option_and_then, unwrap_or}
+use Rattle.std.specs.Option.{option_and_then, unwrap_or}
 use Rattle.std.specs.Ordering.{nat_cmp, ordering_then, is_eq, eq_by_cmp}
 use Rattle.std.proofs.lemmas.Bool.Decides.{nat_tests}
 use Rattle.std.proofs.lemmas.Map.{lookup-none}
@@ -21,6 +21,7 @@ use Rattle.rv_ledger.specs.Change.{Content}
 use Rattle.rv_ledger.specs.Key.{key_cmp}
 use Rattle.version_arena.specs.ArenaState.{Record}
 use Rattle.mvmap.specs.Versions.{Place, place_cmp}
+use Rattle.mvmap.specs.KeyTable.{writers_at}
 use Rattle.mvmap.specs.Slots.{Slots, ByKey, IsOpened, at_places, entry_of, flat, slot_at, value_over, value_over_slots}
 use Rattle.mvmap.specs.Writers.{ByWriter, AreAscending, slot_of}
 use Rattle.mvmap.specs.declared.slot.Slot.{Slot}
@@ -146,15 +147,6 @@ written_nested es fs key ws h k w = ap (option_and_then (λ (us : ByWriter). slo
     pushed : (b : Bool) (o : Option ByWriter) → option_and_then (λ us. slot_of us w) (cond b (Some ws) o) ≡ cond b (slot_of ws w) (option_and_then (λ us. slot_of us w) o)
     pushed true o = refl
     pushed false o = refl
-
--- the slots at a key, where they are listed
-abbrev pub writers_at : ByKey → List ℕ → ByWriter
-writers_at es key = unwrap_or (lookup (is_at (key_cmp key)) es) []
-
--- they are those that were found, or new ones that are none
-pub found_or_empty : (o : Option ByWriter) (P : ByWriter → Type 0) (ws : ByWriter) → UnwrapsOrElse o P ws → ((us : ByWriter) → P us → us ≡ []) → ws ≡ unwrap_or o []
-found_or_empty None P ws h empty = empty ws h
-found_or_empty (Some us) P ws h empty = h
 
 of_listed : (o : Option ByWriter) (w : ℕ) → option_and_then (λ us. slot_of us w) o ≡ slot_of (unwrap_or o []) w
 of_listed None w = refl

@@ -5,3 +5,4 @@ pub mod Table
 pub mod Answers
 pub mod Writers
 pub mod Slots
+pub mod KeyTable

@@ -3,6 +3,8 @@
 #![tactic(auto)]
 
 mod answer;
+mod hints;
+mod key_table;
 mod laws;
 mod map;
 mod seek;

@@ -8,31 +8,27 @@ ghost use Rattle.mvmap.specs.Versions.{Place, place_cmp};
 ghost use Rattle.mvmap.specs.Slots.{IsOpened, slot_at};
 ghost use Rattle.mvmap.specs.Writers.{AreAscending, slot_of};
 
+use crate::key_table::KeyTable;
 use crate::slot::Slot;
-use crate::writers::WriterSlots;
 use rv_ledger::Key;
 use std::alloc::{AllocError, Global};
-use std::collections::BTreeMap;
 use std::marker::Model;
 
 /// The slots by key, and then by the index of the call.
 #[derive(Drop)]
 pub(crate) struct Slots {
-    pub(crate) by_key: BTreeMap<Key, WriterSlots>,
-    alloc: Global,
+    pub(crate) table: KeyTable,
 }
 
 impl Model for Slots {
-    ghost use Rattle.std.specs.List.Sorted.{IsStrictlySortedBy};
-    ghost use Rattle.std.specs.Map.{keys_of};
-    ghost use Rattle.rv_ledger.specs.Key.{key_cmp};
+    ghost use Rattle.mvmap.specs.KeyTable.{IsIndexed, by_key};
     ghost use Rattle.mvmap.specs.Slots.{Slots as ByPlace, flat};
 
     ghost Value = { ByPlace };
 
-    ghost view = { λ s. flat s.by_key.entries };
+    ghost view = { λ s. flat (by_key s.table) };
 
-    ghost invariant = { λ s. IsStrictlySortedBy key_cmp (keys_of s.by_key.entries) };
+    ghost invariant = { λ s. IsIndexed s.table };
 }
 
 impl Slots {
@@ -41,8 +37,7 @@ impl Slots {
         ensures { result ≡ [] }
     {
         Slots {
-            by_key: BTreeMap::new(alloc),
-            alloc,
+            table: KeyTable::new(alloc),
         }
     }
 
@@ -52,8 +47,8 @@ impl Slots {
         ensures slots { (w : ℕ) → slot_at self.now (key.now, w) ≡ slot_of result.now w }
         ensures ascending { AreAscending result.now }
     {
-        match self.by_key.get(key) {
-            Some(writers) => writers.as_slice(),
+        match self.table.find(key) {
+            Some(position) => self.table.slots_at(position),
             None => &[],
         }
     }
@@ -79,18 +74,16 @@ impl Slots {
         ensures elsewhere { (place : Place) → (key, writer) ≢ place → slot_at self.new place ≡ slot_at self.old place }
         ensures succeeds { IsSome (slot_at self.old (key, writer)) → result ≡ Ok tt }
     {
-        let alloc = self.alloc;
-        let entry = self.by_key.entry(key)?;
-        let writers = entry.or_insert_with(|| WriterSlots::new(alloc));
-        writers.open(writer)
+        let position = self.table.position_for(key)?;
+        self.table.list[position].writers.open(writer)
     }
 
     /// Writes into the slot of a call at a key; nothing changes where there is none.
     pub(crate) fn put(&mut self, key: &Key, writer: u16, slot: Slot)
         ensures { (place : Place) → slot_at self.new place ≡ cond (is_at (place_cmp (key.now, writer)) place) (option_map (λ _. slot) (slot_at self.old place)) (slot_at self.old place) }
     {
-        match self.by_key.get_mut(key) {
-            Some(writers) => writers.put(writer, slot),
+        match self.table.find(key) {
+            Some(position) => self.table.list[position].writers.put(writer, slot),
             None => {}
         }
     }
@@ -99,6 +92,6 @@ impl Slots {
     pub(crate) fn clear(&mut self)
         ensures { self.new ≡ [] }
     {
-        self.by_key.clear();
+        self.table.clear();
     }
 }

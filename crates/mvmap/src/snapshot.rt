@@ -22,8 +22,9 @@ pub(crate) fn apply_slots(slots: &Slots, arena: &Arena, store: &mut Store) -> Re
     ensures values { OnOk result ((key : List ℕ) → map.get store.new key ≡ value_over_slots arena.now.records slots.now key (map.get store.old key)) }
     ensures ordered { OnOk result (IsStrictlySortedBy place_cmp (keys_of slots.now)) }
 {
-    for (key, writers) in &slots.by_key {
-        apply_at_key(writers.as_slice(), arena, key, store)?;
+    let table = &slots.table;
+    for (key, position) in &table.positions {
+        apply_at_key(table.slots_at(*position), arena, key, store)?;
     }
     Ok(())
 }

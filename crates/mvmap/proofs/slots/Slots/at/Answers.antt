@@ -1,19 +1,23 @@
 use Rattle.std.proofs.Common.{◌∙◌, ap, sym}
-use Rattle.std.specs.Option.{option_and_then}
+use Rattle.mvmap.specs.KeyTable.{by_key}
 use Rattle.mvmap.specs.Slots.{Slots, slot_at}
 use Rattle.mvmap.specs.Writers.{ByWriter, slot_of}
-use Rattle.mvmap.proofs.Nests.{flat_at}
+use Rattle.mvmap.proofs.KeyTables.{in_order_sorted, no_writers_in_order, writers_in_order}
+use Rattle.mvmap.proofs.Nests.{at_writers}
 use Rattle.mvmap.proofs.slots.Slots.at.Goals as goal
 
 pub returns-in-Some-clause-slots : goal.returns-in-Some-clause-slots
 returns-in-Some-clause-slots c = λ w.
-    ap (λ (es : Slots). slot_at es (c.args.key.now, w)) (sym c.self.view_is)
-    ∙ flat_at c.self.inside.by_key.entries c.self.invariant c.args.key.now w
-    ∙ ap (option_and_then (λ (ws : ByWriter). slot_of ws w)) (sym c.in-Some.ensures.value)
-    ∙ ap (λ (ws : ByWriter). slot_of ws w) (sym c.as_slice.ensures.all)
+    let t = c.self.inside.table in
+    let key = c.args.key.now in
+    ap (λ (es : Slots). slot_at es (key, w)) (sym c.self.view_is)
+    ∙ at_writers (by_key t) (in_order_sorted t.positions.entries t.list.items c.self.invariant) key w
+    ∙ ap (λ (ws : ByWriter). slot_of ws w) (writers_in_order t.positions.entries t.list.items key c.in-Some.position (sym c.find.ensures ∙ c.in-Some.is) ∙ sym c.slots_at.ensures.all)
 
 pub returns-in-None-clause-slots : goal.returns-in-None-clause-slots
 returns-in-None-clause-slots c = λ w.
-    ap (λ (es : Slots). slot_at es (c.args.key.now, w)) (sym c.self.view_is)
-    ∙ flat_at c.self.inside.by_key.entries c.self.invariant c.args.key.now w
-    ∙ ap (option_and_then (λ (ws : ByWriter). slot_of ws w)) (sym c.in-None.ensures.value)
+    let t = c.self.inside.table in
+    let key = c.args.key.now in
+    ap (λ (es : Slots). slot_at es (key, w)) (sym c.self.view_is)
+    ∙ at_writers (by_key t) (in_order_sorted t.positions.entries t.list.items c.self.invariant) key w
+    ∙ ap (λ (ws : ByWriter). slot_of ws w) (no_writers_in_order t.positions.entries t.list.items key (sym c.find.ensures ∙ c.in-None.is))

@@ -1,40 +1,60 @@
-use Rattle.std.proofs.Common.{◌∙◌, ◌≡◌, false, true, ap, is_some, rules, subst, sym, IsSome}
-use Rattle.std.specs.BTreeMap.{insert_entry, is_at}
-use Rattle.std.specs.Map.{lookup}
-use Rattle.rv_ledger.specs.Key.{key_cmp}
-use Rattle.mvmap.specs.Slots.{Slots, flat, slot_at}
+use Rattle.std.proofs.Common.{◌∙◌, ◌≡◌, false, true, ap, arith, is_some, set, subst, sym, IsSome}
+use Rattle.mvmap.specs.KeyTable.{by_key, in_order, writers_at}
+use Rattle.mvmap.specs.Slots.{ByKey, Slots, flat, slot_at}
 use Rattle.mvmap.specs.Writers.{ByWriter, slot_of}
-use Rattle.mvmap.proofs.Nests.{IsMade, at_writers, found_or_empty, made_apart, made_at, made_opened, made_there, no_key, writers_at}
+use Rattle.mvmap.proofs.KeyTables.{in_order_sorted, none_in_order, position_within, set_in_order, set_indexed, set_twice, set_writers, slots_were}
+use Rattle.mvmap.proofs.Nests.{IsMade, at_writers, made_apart, made_at, made_opened, made_there, no_key}
 use Rattle.mvmap.proofs.slots.Slots.open.Goals as goal
 
-was : (c : goal.After-self-3-1) → c.or_insert_with-writers.result.now ≡ writers_at c.self.inside.by_key.entries c.args.key
-was c =
-    let found = rw c.in_ok-entry.ensures.value at c.or_insert_with-writers.ensures.value in
-    found_or_empty (lookup (is_at (key_cmp c.args.key)) c.self.inside.by_key.entries) _ c.or_insert_with-writers.result.now found (λ ws made. search rules)
+pub returns-in_err-position-clause-succeeds : goal.returns-in_err-position-clause-succeeds
+returns-in_err-position-clause-succeeds c = λ there.
+    let t = c.self.inside.table in
+    let absent = none_in_order t.positions.entries t.list.items c.args.key c.in_err-position.ensures.absent in
+    let none = no_key (by_key t) c.args.key c.args.writer c.args.self.now c.self.view_is (in_order_sorted t.positions.entries t.list.items c.self.invariant) absent in
+    let neither : false ≡ true = sym (ap is_some none) ∙ there in cc
 
-made : (c : goal.After-self-3-1) → IsMade c.args.self.now (flat (insert_entry key_cmp c.self.inside.by_key.entries c.args.key c.open.new.self)) (c.args.key, c.args.writer) c.open.result
+pub index_mut-requires : goal.index_mut-requires
+index_mut-requires c =
+    let t = c.position_for.new.self in
+    let within = position_within t.positions.entries t.list.items c.position_for.ensures.indexed c.args.key c.in_ok-position.position c.in_ok-position.ensures.position in
+    omega (arith, t.list.ok.0)
+
+pub invariant_of-self-2 : goal.invariant_of-self-2
+invariant_of-self-2 c =
+    let t = c.position_for.new.self in
+    set_indexed t.positions.entries t.list.items c.position_for.ensures.indexed c.args.key c.in_ok-position.position c.in_ok-position.ensures.position c.index_mut.result.now c.index_mut.ensures.value c.open.new.self
+
+was : (c : goal.After-self-1) → c.index_mut.result.now.writers ≡ writers_at (by_key c.self.inside.table) c.args.key
+was c =
+    let t = c.position_for.new.self in
+    slots_were t.positions.entries t.list.items c.position_for.ensures.indexed c.args.key c.in_ok-position.position c.in_ok-position.ensures.position c.index_mut.result.now c.index_mut.ensures.value c.open.new.self
+    ∙ set_writers (by_key c.self.inside.table) (by_key t) c.args.key _ c.in_ok-position.ensures.set
+
+abbrev after : (c : goal.After-self-1) → ByKey
+after c = in_order c.position_for.new.self.positions.entries (set c.position_for.new.self.list.items c.in_ok-position.position (record { key = c.index_mut.result.now.key; writers = c.open.new.self }))
+
+made : (c : goal.After-self-1) → IsMade c.args.self.now (flat (after c)) (c.args.key, c.args.writer) c.open.result
 made c =
-    let new = insert_entry key_cmp c.self.inside.by_key.entries c.args.key c.open.new.self in
-    let update = c.in_ok-entry.ensures.update in
-    let is = update.1 c.open.new.self in
-    made_at c.self.inside.by_key.entries new c.args.key c.open.new.self c.args.writer c.args.self.now c.self.view_is c.self.invariant
-    (rw is at (update.2 c.open.new.self)) (λ q. rw is at ((update.0 c.open.new.self).0 q)) c.or_insert_with-writers.result.now (was c) c.open.result c.open.ensures.ok c.open.ensures.err
+    let old = c.self.inside.table in
+    let t = c.position_for.new.self in
+    let changed = set_in_order t.positions.entries t.list.items c.position_for.ensures.indexed c.args.key c.in_ok-position.position c.in_ok-position.ensures.position c.index_mut.result.now c.index_mut.ensures.value c.open.new.self in
+    made_at (by_key old) (after c) c.args.key c.open.new.self c.args.writer c.args.self.now c.self.view_is (in_order_sorted old.positions.entries old.list.items c.self.invariant) (in_order_sorted t.positions.entries _ (invariant_of-self-2 c))
+    (set_twice (by_key old) (by_key t) (after c) c.args.key _ c.open.new.self c.in_ok-position.ensures.set changed) c.index_mut.result.now.writers (was c) c.open.result c.open.ensures.ok c.open.ensures.err
 
 pub returns-clause-opened : goal.returns-clause-opened
-returns-clause-opened c = let is = made_opened _ _ _ _ (made c) in search rules
+returns-clause-opened c = made_opened _ _ _ _ (made c)
 
 pub returns-clause-ok : goal.returns-clause-ok
-returns-clause-ok c = let is = made_there _ _ _ _ (made c) in search rules
+returns-clause-ok c = made_there _ _ _ _ (made c)
 
 pub returns-clause-elsewhere : goal.returns-clause-elsewhere
-returns-clause-elsewhere c = let is = made_apart _ _ _ _ (made c) in search rules
+returns-clause-elsewhere c = made_apart _ _ _ _ (made c)
 
 pub returns-clause-succeeds : goal.returns-clause-succeeds
-returns-clause-succeeds c = λ there. c.open.ensures.succeeds (subst (λ o. IsSome o)
-    (ap (λ (es : Slots). slot_at es (c.args.key, c.args.writer)) (sym c.self.view_is) ∙ at_writers c.self.inside.by_key.entries c.self.invariant c.args.key c.args.writer ∙ ap (λ (ws : ByWriter). slot_of ws c.args.writer) (sym (was c)))
+returns-clause-succeeds c = λ there.
+    let t = c.self.inside.table in
+    c.open.ensures.succeeds (subst (λ o. IsSome o)
+    (ap (λ (es : Slots). slot_at es (c.args.key, c.args.writer)) (sym c.self.view_is)
+    ∙ at_writers (by_key t) (in_order_sorted t.positions.entries t.list.items c.self.invariant) c.args.key c.args.writer
+    ∙ ap (λ (ws : ByWriter). slot_of ws c.args.writer) (sym (was c)))
     there)
-
-pub returns-in_err-entry-clause-succeeds : goal.returns-in_err-entry-clause-succeeds
-returns-in_err-entry-clause-succeeds c = λ there.
-    let none = no_key c.self.inside.by_key.entries c.args.key c.args.writer c.args.self.now c.self.view_is c.self.invariant c.in_err-entry.ensures.absent in
-    let neither : false ≡ true = sym (ap is_some none) ∙ there in cc

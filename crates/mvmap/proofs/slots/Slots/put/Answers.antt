@@ -1,18 +1,37 @@
-use Rattle.std.proofs.Common.{[], sym, ap, is_some, ◌∙◌}
-use Rattle.std.specs.Option.{option_map, unwrap_or}
-use Rattle.mvmap.specs.Slots.{flat}
+use Rattle.std.proofs.Common.{◌≡◌, Some, arith, refl, sym, ◌∙◌}
+use Rattle.std.specs.Option.{option_map}
+use Rattle.mvmap.specs.KeyTable.{by_key, position_of}
 use Rattle.mvmap.proofs.Fills.{put_nowhere}
+use Rattle.mvmap.proofs.KeyTables.{in_order_sorted, none_in_order, position_within, set_in_order, set_indexed, slots_were}
 use Rattle.mvmap.proofs.Nests.{changed_at, no_key}
-use Rattle.mvmap.proofs.slots.Slots.put.Goals.{in-Some, in-None}
 use Rattle.mvmap.proofs.slots.Slots.put.Goals as goal
 
-pub returns : goal.returns
-returns c = elim c.match-get_mut.branch [
-  | in-Some w ↦
-      let written = c.get_mut.follows.holds w.put.new.self in
-      rw w.self-inside-is (changed_at c.self.inside.by_key.entries _ c.args.key.now w.put.new.self c.args.writer c.args.self.now c.self.view_is c.self.invariant written.4
-      ((written.3 (ap is_some (sym w.in-Some.ensures.value))).0) w.in-Some.writers.now (ap (λ o. unwrap_or o []) w.in-Some.ensures.value) (option_map (λ _. c.args.slot)) w.put.ensures)
-  | in-None w ↦
-      rw w.self-inside-is (put_nowhere c.args.self.now _ (c.args.key.now, c.args.writer) c.args.slot
-      (no_key c.self.inside.by_key.entries c.args.key.now c.args.writer c.args.self.now c.self.view_is c.self.invariant (sym w.in-None.ensures.value)) (ap (λ m. flat m.entries) c.get_mut.follows.holds-at-none ∙ c.self.view_is))
-]
+pub index_mut-requires : goal.index_mut-requires
+index_mut-requires c =
+    let t = c.self.inside.table in
+    let within = position_within t.positions.entries t.list.items c.self.invariant c.args.key.now c.in-Some.position (sym c.find.ensures ∙ c.in-Some.is) in
+    omega (arith, t.list.ok.0)
+
+pub invariant_of-self : goal.invariant_of-self
+invariant_of-self c =
+    let t = c.self.inside.table in
+    set_indexed t.positions.entries t.list.items c.self.invariant c.args.key.now c.in-Some.position (sym c.find.ensures ∙ c.in-Some.is) c.index_mut.result.now c.index_mut.ensures.value c.put.new.self
+
+pub returns-in-Some : goal.returns-in-Some
+returns-in-Some c =
+    let t = c.self.inside.table in
+    let es = t.positions.entries in
+    let key = c.args.key.now in
+    let at : position_of es key ≡ Some c.in-Some.position = sym c.find.ensures ∙ c.in-Some.is in
+    let was = c.index_mut.result.now in
+    let is = c.index_mut.ensures.value in
+    changed_at (by_key t) _ key c.put.new.self c.args.writer c.args.self.now c.self.view_is (in_order_sorted es t.list.items c.self.invariant) (in_order_sorted es _ (invariant_of-self c))
+    (set_in_order es t.list.items c.self.invariant key c.in-Some.position at was is c.put.new.self) was.writers
+    (slots_were es t.list.items c.self.invariant key c.in-Some.position at was is c.put.new.self) (option_map (λ _. c.args.slot)) c.put.ensures
+
+pub returns-in-None : goal.returns-in-None
+returns-in-None c =
+    let t = c.self.inside.table in
+    let none = none_in_order t.positions.entries t.list.items c.args.key.now (sym c.find.ensures ∙ c.in-None.is) in
+    put_nowhere c.args.self.now _ (c.args.key.now, c.args.writer) c.args.slot
+    (no_key (by_key t) c.args.key.now c.args.writer c.args.self.now c.self.view_is (in_order_sorted t.positions.entries t.list.items c.self.invariant) none) refl
