@@ -1,9 +1,12 @@
 //! The fields of a word.
 
-ghost use Rattle.std.specs.Prelude.{◌≡◌, ℕ, ◌*◌, ◌/◌, ◌%◌, ◌^◌, ◌<◌};
+ghost use Rattle.std.specs.Prelude.{◌≡◌, ℕ, ◌+◌, ◌-◌, ◌*◌, ◌/◌, ◌%◌, ◌^◌, ◌<◌};
 ghost use Rattle.rv_isa.specs.Decoding.{slots_of, register_at, immediate_at, amount_at, upper_at, branch_at, jump_at, i_immediate, s_immediate, b_offset, u_immediate, j_offset};
 
 use crate::{BranchOffset, Immediate, JumpOffset, Reg, ShiftAmount, Upper};
+
+/// The bits 31 to 20 of a jump's offset that is negative.
+const SIGN_OF_JUMP: u32 = 0xfff0_0000;
 
 /// The register of a number below 32.
 #[tactic(auto, using(crate::proofs::Same::same_register))]
@@ -93,26 +96,22 @@ pub fn immediate_of_s(word: u32) -> Immediate
     extend_12((word >> 25 << 5) + (word >> 7 & 0x1f))
 }
 
-/// The even signed number whose bits 12 to 1 are `half`.
-fn extend_13(half: u32) -> BranchOffset
-    requires { half < 2 ^ 12 }
-    ensures { result ≡ branch_at half }
+/// The bits of a branch's offset that bits 31 to 25 of its word tell: 10 to 5, and 12 and those above, which are the sign.
+fn high_branch_bits(word: u32) -> u32
+    ensures { result ≡ (slots_of word).funct7 / 2 ^ 6 * (2 ^ 32 - 2 ^ 12) + (slots_of word).funct7 % 2 ^ 6 * 2 ^ 5 }
 {
-    BranchOffset {
-        value: (half << 20).cast_signed() >> 19,
-    }
+    let bits = extend_12(word >> 25 << 5).value.cast_unsigned();
+    bits - ((bits >> 11 & 0x1) << 11)
 }
 
 /// The offset of the B format.
 pub fn branch_offset(word: u32) -> BranchOffset
     ensures { result ≡ b_offset (slots_of word) }
 {
-    extend_13(
-        (word >> 31 << 11)
-            + ((word >> 7 & 0x1) << 10)
-            + ((word >> 25 & 0x3f) << 4)
-            + (word >> 8 & 0xf),
-    )
+    let bits = high_branch_bits(word) + ((word >> 7 & 0x1) << 11) + ((word >> 8 & 0xf) << 1);
+    BranchOffset {
+        value: bits.cast_signed(),
+    }
 }
 
 /// The immediate of the U format.
@@ -123,24 +122,15 @@ pub fn upper(word: u32) -> Upper
     Upper { value: word >> 12 }
 }
 
-/// The even signed number whose bits 20 to 1 are `half`.
-fn extend_21(half: u32) -> JumpOffset
-    requires { half < 2 ^ 20 }
-    ensures { result ≡ jump_at half }
-{
-    JumpOffset {
-        value: (half << 12).cast_signed() >> 11,
-    }
-}
-
 /// The offset of the J format.
 pub fn jump_offset(word: u32) -> JumpOffset
     ensures { result ≡ j_offset (slots_of word) }
 {
-    extend_21(
-        (word >> 31 << 19)
-            + ((word >> 12 & 0xff) << 11)
-            + ((word >> 20 & 0x1) << 10)
-            + (word >> 21 & 0x3ff),
-    )
+    let bits = (word >> 31) * SIGN_OF_JUMP
+        + ((word >> 12 & 0xff) << 12)
+        + ((word >> 20 & 0x1) << 11)
+        + ((word >> 21 & 0x3ff) << 1);
+    JumpOffset {
+        value: bits.cast_signed(),
+    }
 }

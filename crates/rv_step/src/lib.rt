@@ -8,6 +8,7 @@ mod dispatch;
 mod ended_run;
 mod faults;
 mod fields;
+mod known_words;
 mod laws;
 mod machine;
 mod outcome;
