@@ -9,9 +9,9 @@ ghost use Rattle.rv_isa.specs.Decoding.{slots_of};
 ghost use Rattle.rv_step.specs.PageSteps.{MeetsTry, machine_at};
 
 use crate::fields::{
-    ADD, ADDI, AND, ANDI, BEQ, BGEU, BLT, BLTU, BNE, DIVU, JALR, LB, LBU, LH, LHU, LW, MUL, MULHSU,
-    MULHU, OR, REM, REMU, SB, SH, SLL, SLLI, SLTI, SLTU, SRA, SRLI, SUB, SW, XOR, XORI, opcode_of,
-    placed_funct3, placed_functs,
+    ADD, ADDI, AND, BEQ, BGEU, BLT, BLTU, BNE, DIVU, JALR, LB, LBU, LH, LHU, LW, MUL, MULHSU,
+    MULHU, OR, ORI, REM, REMU, SB, SH, SLL, SLLI, SLTI, SLTU, SRA, SRLI, SUB, SW, XOR, XORI,
+    opcode_of, placed_funct3, placed_functs,
 };
 use crate::machine::Machine;
 use crate::page_loop::Position;
@@ -59,18 +59,18 @@ impl Machine {
             if code == opcode::LOAD {
                 return self.step_load(word, first, position);
             }
-            if code == opcode::AUIPC {
+            if code > opcode::LOAD && code == opcode::AUIPC {
                 return self.auipc_word(word, first, position);
             }
             return false;
         }
-        if code == opcode::STORE {
-            return self.step_store(word, first, position);
+        if code > opcode::STORE {
+            if code == opcode::LUI {
+                return self.lui_word(word, first, position);
+            }
+            return false;
         }
-        if code == opcode::LUI {
-            return self.lui_word(word, first, position);
-        }
-        false
+        self.step_store(word, first, position)
     }
 
     /// The same for the opcode OP-IMM.
@@ -87,7 +87,7 @@ impl Machine {
             if field == SRLI {
                 return self.step_right_shift(word, first, position);
             }
-            if field == ANDI {
+            if field > ORI {
                 return self.immediate_word(ImmediateOperation::Andi, word, first, position);
             }
             return self.immediate_word(ImmediateOperation::Ori, word, first, position);
@@ -139,7 +139,7 @@ impl Machine {
         if fields == OR {
             return self.compute_word(Operation::Or, word, first, position);
         }
-        if fields == AND {
+        if fields <= AND {
             return self.compute_word(Operation::And, word, first, position);
         }
         if fields <= REMU {
@@ -148,7 +148,7 @@ impl Machine {
         if fields == SUB {
             return self.compute_word(Operation::Sub, word, first, position);
         }
-        if fields == SRA {
+        if fields > SUB && fields == SRA {
             return self.compute_word(Operation::Sra, word, first, position);
         }
         false
@@ -237,7 +237,7 @@ impl Machine {
             if field == LBU {
                 return self.load_word(LoadKind::Lbu, word, first, position);
             }
-            if field == LHU {
+            if field > LBU && field == LHU {
                 return self.load_word(LoadKind::Lhu, word, first, position);
             }
             return false;
