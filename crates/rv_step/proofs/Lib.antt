@@ -11,3 +11,4 @@ pub mod Steps
 pub mod Reached
 pub mod Stops
 pub mod StorageRuns
+pub mod WriteLimit

@@ -32,7 +32,7 @@ use Rattle.stm_state.proofs.Tests.{not_lt_is, not_le_is}
 use Rattle.stm_state.proofs.Asks.{executed_entries}
 use Rattle.stm_state.proofs.Whole.{worker_kept}
 use Rattle.stm_state.proofs.Serials.{seen_after}
-use Rattle.stm_state.proofs.Rooms.{ends_few}
+use Rattle.rv_step.proofs.WriteLimit.{ends_few}
 use Rattle.stm_state.proofs.Rounds.{Stage, not_done, answered_here, clear_below, to_run, run_asked, recorded_state, after_move, moved_seen, finished, done_last, executed_is, to_check, check_asked, check_stands, none_taken}
 use Rattle.stm_state.proofs.Phases.{call_there, Comes, Rests, Runs, Moves, Waits, Checks, within_block, first, begins, told_asked, told_so, over, did_all, reads_on, records_on, moves_on, finishes_on, waits_on, checks_on, decides_on}
 

@@ -25,7 +25,6 @@ pub mod Walks
 pub mod Dones
 pub mod Parted
 pub mod Refusals
-pub mod Rooms
 pub mod Rounds
 pub mod OneWorkerStates
 pub mod Phases
