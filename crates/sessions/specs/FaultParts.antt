@@ -1,4 +1,4 @@
--- Private help of proofs: no public clause cites it. The parts of what a refusal prints.
+-- The parts of what a refusal prints.
 use Rattle.std.specs.Prelude.{List, [], ℕ, ◌++◌, Option, Some, None, codes}
 use Rattle.std.specs.Fmt.{decimal}
 use Rattle.block_file.specs.Faults as block

@@ -31,19 +31,21 @@ put_each store entries = fold (λ s e. fin.insert s e.0 e.1) store entries
 abbrev pub put_over : Storage → Storage → Storage
 put_over store entries = put_each store (fin.entries entries)
 
--- an answer, and what it leaves
+-- an answer, why it is a refusal where it is one, and what it leaves
 pub record Turn : Type 0 where
   pub text : List ℕ
+  pub refusal : Option FrameFault
   pub state : State
 
 -- a refused frame leaves all as it was
 abbrev pub refused : State → FrameFault → Turn
-refused state fault = record { text = refused_line fault; state = state }
+refused state fault = record { text = refused_line fault; refusal = Some fault; state = state }
 
 -- a block that runs: its entries are put over the storage, and its calls run over that; the receipts are the answer
 abbrev pub ran : State → BlockValue → List Layout → Turn
 ran state block images = record {
   text = result_text (receipts_of (calls_over block images) (put_over state.store block.store)) fin.empty;
+  refusal = None;
   state = record { store = store_after (calls_over block images) (put_over state.store block.store); rules = block.rules };
 }
 
@@ -88,7 +90,7 @@ line_answer store line = if bytes_eq line (codes "dump") then result_text [] sto
 abbrev pub turn : (List ℕ → Option (Result Layout ProgramFault)) → State → Ask → Option Turn
 turn program_at state (Frame bytes) = block_turn program_at state (block_of bytes)
 turn program_at state CutOff = Some (refused state NoEnd)
-turn program_at state (Line line) = Some (record { text = line_answer state.store (strip_last 10 line); state = state })
+turn program_at state (Line line) = Some (record { text = line_answer state.store (strip_last 10 line); refusal = None; state = state })
 
 -- an answer that says only that memory ran out
 abbrev pub IsWant : List ℕ → Type 0
@@ -106,6 +108,11 @@ IsAnswer program_at state ask text after = IfSome (turn program_at state ask) (�
 abbrev pub answer_text : Result (Vec ℕ Global) FrameFault → List ℕ
 answer_text (Ok text) = text.items
 answer_text (Err fault) = refused_line fault
+
+-- an answer is a refusal where one is wanted, by the wanted fault; or memory ran out
+abbrev pub IsRefusedAs : {X : Type 0} → Option FrameFault → Result X FrameFault → Type 0
+IsRefusedAs wanted (Ok text) = wanted ≡ None
+IsRefusedAs wanted (Err fault) = (wanted ≡ Some fault) ⊎ IsWantOfMemory fault
 
 -- a request whose turn is known was answered as wanted
 abbrev pub IsWanted : (List ℕ → Option (Result Layout ProgramFault)) → State → Ask → List ℕ → State → Type 0

@@ -61,7 +61,7 @@ pub(crate) fn answer<L: Loader, W: Destination>(
 }
 
 /// A line without the LF at its end.
-fn without_end(line: &[u8]) -> &[u8]
+pub(crate) fn without_end(line: &[u8]) -> &[u8]
     ensures { result.now ≡ strip_last 10 line.now }
 {
     let count = line.len();
@@ -90,7 +90,7 @@ fn answer_line<W: Destination>(
 }
 
 /// The key that a line `get KEY` asks for.
-fn key_asked(line: &[u8]) -> Option<Key>
+pub(crate) fn key_asked(line: &[u8]) -> Option<Key>
     ensures { result ≡ key_asked line.now }
 {
     if !line.starts_with(b"get ") {
@@ -123,7 +123,7 @@ fn answer_key<W: Destination>(
 }
 
 /// The line of what a storage has at a key; refused where memory ran out.
-fn content_line(alloc: Global, store: &Store, key: &Key) -> Result<String, AllocError>
+pub(crate) fn content_line(alloc: Global, store: &Store, key: &Key) -> Result<String, AllocError>
     ensures { IfOk result (λ line. string_bytes line ≡ content_line (get store.now key.now)) }
 {
     let Some(value) = store.get(key) else {

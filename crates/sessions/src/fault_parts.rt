@@ -8,7 +8,7 @@ use block_file::Cause;
 
 impl FrameFault {
     /// The area, with a blank behind it.
-    pub(crate) fn area(self) -> &'static str
+    pub fn area(self) -> &'static str
         ensures text { result.now ≡ area_of self }
         ensures fits { length result.now ≤ 9 }
     {
@@ -23,7 +23,7 @@ impl FrameFault {
     }
 
     /// The number of the line, which only a fault of the text has. Running out of memory has none.
-    pub(crate) fn line(self) -> Option<usize>
+    pub fn line(self) -> Option<usize>
         ensures { result ≡ line_in self }
     {
         match self {
@@ -37,7 +37,7 @@ impl FrameFault {
 
     /// The name.
     #[tactic(auto, using(crate::proofs::FaultParts::short_name))]
-    pub(crate) fn name(self) -> &'static str
+    pub fn name(self) -> &'static str
         ensures text { result.now ≡ name_in self }
         ensures fits { length result.now ≤ 16 }
     {
@@ -53,7 +53,7 @@ impl FrameFault {
     }
 
     /// The number, 1 to 16.
-    pub(crate) fn number(self) -> u8
+    pub fn number(self) -> u8
         ensures { result ≡ number_in self }
     {
         match self {

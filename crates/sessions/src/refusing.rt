@@ -9,10 +9,10 @@ use crate::fault::FrameFault;
 use arrayvec::ArrayString;
 
 /// The room for a line, in bytes. No refusal has a longer one.
-pub(crate) const LINE_ROOM: usize = 60;
+pub const LINE_ROOM: usize = 60;
 
 /// The line of a refusal. Takes no memory.
-pub(crate) fn refused_line(fault: FrameFault) -> ArrayString<LINE_ROOM>
+pub fn refused_line(fault: FrameFault) -> ArrayString<LINE_ROOM>
     ensures { result.bytes ≡ refused_line fault }
 {
     let mut line = ArrayString::new();

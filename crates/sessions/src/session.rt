@@ -6,8 +6,9 @@ ghost use Rattle.std.specs.FinMap as finite;
 ghost use Rattle.std.specs.String.{string_bytes};
 ghost use Rattle.block_file.specs.Block.{block_of, block_value, call_value};
 ghost use Rattle.rv_ledger.specs.declared.rules.Rules.TheVariants.{One};
+ghost use Rattle.sessions.specs.Faults.{IsWantOfMemory};
 ghost use Rattle.sessions.specs.Programs.{programs_of};
-ghost use Rattle.sessions.specs.Session.{IsTurn, answer_text, block_turn, loaded_turn, ran, rules_number};
+ghost use Rattle.sessions.specs.Session.{IsRefusedAs, IsTurn, answer_text, block_turn, loaded_turn, ran, rules_number};
 
 use crate::block_run::run_block;
 use crate::fault::FrameFault;
@@ -48,7 +49,7 @@ impl<L: Loader> Session<L> {
 
 /// Answers a frame. Refused by the first fault of its text, its rules and its programs, in this order, or where memory ran
 /// out; then the state is as it was.
-pub(crate) fn answer_frame<L: Loader>(
+pub fn answer_frame<L: Loader>(
     alloc: Global,
     state: &mut State,
     programs: &mut LoadedPrograms<L>,
@@ -56,6 +57,7 @@ pub(crate) fn answer_frame<L: Loader>(
 ) -> Result<Vec<u8>, FrameFault>
     ensures turn { IfSome (block_turn (L.program_at programs.old.loader) state.old (block_of bytes.now)) (λ want.
         IsTurn state.old want (answer_text result) state.new) }
+    ensures refusal { IfSome (block_turn (L.program_at programs.old.loader) state.old (block_of bytes.now)) (λ want. IsRefusedAs want.refusal result) }
     ensures same { L.program_at programs.new.loader ≡ L.program_at programs.old.loader }
 {
     let block = match parse(alloc, bytes) {
@@ -84,6 +86,8 @@ fn answer_block<L: Loader>(
 ) -> Result<Vec<u8>, FrameFault>
     ensures turn { IfSome (loaded_turn state.old (block_value block) (programs_of (L.program_at programs.old.loader) (map string_bytes block.programs.items))) (λ want.
         IsTurn state.old want (answer_text result) state.new) }
+    ensures refusal { IfSome (loaded_turn state.old (block_value block) (programs_of (L.program_at programs.old.loader) (map string_bytes block.programs.items))) (λ want.
+        IsRefusedAs want.refusal result) }
     ensures same { L.program_at programs.new.loader ≡ L.program_at programs.old.loader }
 {
     let BlockText {
@@ -109,8 +113,9 @@ fn run_lines(
     entries: Store,
 ) -> Result<Vec<u8>, FrameFault>
     requires { All (λ line. line.program < length images.now) lines.items }
-    ensures { IsTurn state.old (ran state.old (record { rules = rules; programs = []; store = entries; calls = map call_value lines.items }) (map arc_value images.now))
+    ensures turn { IsTurn state.old (ran state.old (record { rules = rules; programs = []; store = entries; calls = map call_value lines.items }) (map arc_value images.now))
         (answer_text result) state.new }
+    ensures want { IfErr result (λ fault. IsWantOfMemory fault) }
 {
     let Ok(calls) = calls_over(alloc, rules, images, lines) else {
         return Err(FrameFault::RunMemory);

@@ -1,0 +1,8 @@
+-- What a call on a handle comes to.
+use Rattle.std.proofs.Common.{◌≡◌, ℕ, Option, Some, subst}
+use Rattle.rvstm_c.specs.Embedding.{OnSession}
+use Rattle.rvstm_c.specs.declared.session.EmbeddedSession.{EmbeddedSession}
+
+-- a call on the session that a handle had, which it then has again
+pub on_session : (call : EmbeddedSession → ℕ → EmbeddedSession → Type 0) (old new : Option EmbeddedSession) (before session : EmbeddedSession) (status : ℕ) → Some before ≡ old → new ≡ Some session → call before status session → OnSession call old status new
+on_session call old new before session status had has h = subst (λ o. OnSession call o status new) had (session, has, h)

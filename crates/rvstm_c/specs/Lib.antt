@@ -1,0 +1,5 @@
+pub mod Held
+pub mod Statuses
+pub mod Programs
+pub mod Embedding
+pub mod Refusals
