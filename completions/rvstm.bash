@@ -3,7 +3,7 @@ _rvstm() {
     local word=${COMP_WORDS[COMP_CWORD]} before=${COMP_WORDS[COMP_CWORD - 1]} command=${COMP_WORDS[1]}
     local options=""
     if [ "$COMP_CWORD" = 1 ]; then
-        COMPREPLY=($(compgen -W "run seq drive asm dis debug migrate chain help --help --version" -- "$word"))
+        COMPREPLY=($(compgen -W "run seq conflicts drive asm dis debug migrate chain help --help --version" -- "$word"))
         return
     fi
     case $before in
@@ -15,7 +15,7 @@ _rvstm() {
     drive) options="--workers --schedule --counts" ;;
     asm | migrate) options="--out" ;;
     debug) options="--call" ;;
-    help) COMPREPLY=($(compgen -W "run seq drive asm dis debug migrate chain" -- "$word")) && return ;;
+    help) COMPREPLY=($(compgen -W "run seq conflicts drive asm dis debug migrate chain" -- "$word")) && return ;;
     esac
     if [[ $word == -* ]]; then
         COMPREPLY=($(compgen -W "$options --help" -- "$word"))

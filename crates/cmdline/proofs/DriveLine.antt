@@ -13,7 +13,7 @@ use Rattle.cmdline.proofs.Lines.{shape_at}
 
 -- the command `drive` as it is read
 abbrev shape : Shape
-shape = shape_at 2
+shape = shape_at 3
 
 -- the words after the command's name
 abbrev words : Text → Text → Text → List Text

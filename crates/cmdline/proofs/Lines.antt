@@ -8,7 +8,7 @@ use Rattle.clap.specs.Words.{Text, first_of, first_value, is_simple, is_simple_a
 use Rattle.clap.specs.declared.parser.matches.Found.{Found}
 use Rattle.clap.proofs.OnLiterals.{clap_on_literals}
 use Rattle.clap.proofs.WalkLemmas.{first_value-rows}
-use Rattle.cmdline.specs.Line.{AsmOf, Asked, ChainOf, DebugOf, DisOf, MigrateOf, RunOf, SeqOf, requested, is_call_number, is_operand, is_worker_number, last_call, max_workers, number_in, run_of, rvstm_app, top_app, written_app, written_of}
+use Rattle.cmdline.specs.Line.{AsmOf, Asked, ChainOf, ConflictsOf, DebugOf, DisOf, MigrateOf, RunOf, SeqOf, requested, is_call_number, is_operand, is_worker_number, last_call, max_workers, number_in, run_of, rvstm_app, top_app, written_app, written_of}
 use Rattle.cmdline.proofs.FileWords.{after_option, file_level, file_walked, may_end, number_asked, number_level, option_level, option_passes, option_walked, rows_at_end}
 use Rattle.cmdline.proofs.Numbers.{is_no_flag, number_is_read}
 
@@ -42,11 +42,14 @@ run_shape = shape_at 0
 abbrev seq_shape : Shape
 seq_shape = shape_at 1
 
+abbrev conflicts_shape : Shape
+conflicts_shape = shape_at 2
+
 abbrev dis_shape : Shape
-dis_shape = shape_at 4
+dis_shape = shape_at 5
 
 abbrev debug_shape : Shape
-debug_shape = shape_at 5
+debug_shape = shape_at 6
 
 -- where the walk stands after `run FILE --workers N`
 abbrev after_run : Text → Text → Walk
@@ -109,6 +112,18 @@ pub seq_is_asked : (program file : Text) → is_operand file ≡ true
 unfolding clap_on_literals
 seq_is_asked program file o =
     ap (λ (w : Walk). option_map SeqOf (first_of (codes "file") (rows_at_end seq_shape w))) (file_walked seq_shape file o)
+
+-- the same of `conflicts FILE`
+pub conflicts_is_taken : (program file : Text) → is_operand file ≡ true
+    → takes rvstm_app (program ∷ codes "conflicts" ∷ file ∷ []) ≡ true
+unfolding clap_on_literals
+conflicts_is_taken program file o = and_from _ _ (file_level conflicts_shape file o refl refl) refl
+
+pub conflicts_is_asked : (program file : Text) → is_operand file ≡ true
+    → requested (program ∷ codes "conflicts" ∷ file ∷ []) ≡ Some (ConflictsOf file)
+unfolding clap_on_literals
+conflicts_is_asked program file o =
+    ap (λ (w : Walk). option_map ConflictsOf (first_of (codes "file") (rows_at_end conflicts_shape w))) (file_walked conflicts_shape file o)
 
 -- a subcommand `NAME FILE --out FILE` as it is read
 abbrev written_shape : Text → Shape

@@ -12,7 +12,7 @@ use Rattle.clap.specs.declared.builder.value_parser.ValueParser.TheVariants as p
 use Rattle.clap.specs.declared.error.Error.{Error}
 use Rattle.clap.specs.declared.error.ErrorKind.TheVariants as kind
 use Rattle.cmdline.specs.declared.Request.{Request}
-use Rattle.cmdline.specs.declared.Request.TheVariants.{Run, Seq, Drive, Asm, Dis, Debug, Migrate, Chain}
+use Rattle.cmdline.specs.declared.Request.TheVariants.{Run, Seq, Conflicts, Drive, Asm, Dis, Debug, Migrate, Chain}
 
 -- the argument FILE: one required word
 abbrev pub file_rule : Rule
@@ -61,6 +61,10 @@ run_app = with_rule (with_rule (with_rule (new_app (codes "run")) file_rule) wor
 -- `seq FILE`
 abbrev pub seq_app : App
 seq_app = with_rule (new_app (codes "seq")) file_rule
+
+-- `conflicts FILE`
+abbrev pub conflicts_app : App
+conflicts_app = with_rule (new_app (codes "conflicts")) file_rule
 
 -- the option `--schedule FILE`: it is required
 abbrev pub schedule_rule : Rule
@@ -117,13 +121,14 @@ top_app = record (new_app (codes "rvstm")) {
 -- the whole command line
 abbrev pub rvstm_app : App
 rvstm_app =
-    with_subcommand (with_subcommand (with_subcommand (with_subcommand (with_subcommand (with_subcommand (with_subcommand (with_subcommand top_app run_app.top)
-    seq_app.top) drive_app.top) asm_app.top) dis_app.top) debug_app.top) migrate_app.top) chain_app.top
+    with_subcommand (with_subcommand (with_subcommand (with_subcommand (with_subcommand (with_subcommand (with_subcommand (with_subcommand (with_subcommand top_app run_app.top)
+    seq_app.top) conflicts_app.top) drive_app.top) asm_app.top) dis_app.top) debug_app.top) migrate_app.top) chain_app.top
 
 -- a request with its words as texts
 pub data Asked : Type 0 where
   RunOf : Text → ℕ → Bool → Asked
   SeqOf : Text → Asked
+  ConflictsOf : Text → Asked
   DriveOf : Text → ℕ → Text → Bool → Asked
   AsmOf : Text → Text → Asked
   DisOf : Text → Asked
@@ -134,6 +139,7 @@ pub data Asked : Type 0 where
 abbrev pub asked_by : Request → Asked
 asked_by (Run file workers counts) = RunOf file.now workers counts
 asked_by (Seq file) = SeqOf file.now
+asked_by (Conflicts file) = ConflictsOf file.now
 asked_by (Drive file workers schedule counts) = DriveOf file.now workers schedule.now counts
 asked_by (Asm file out) = AsmOf file.now out.now
 asked_by (Dis file) = DisOf file.now
@@ -180,6 +186,8 @@ asked_in found = if bytes_eq found.0 (codes "run")
     then run_of found.1
     else if bytes_eq found.0 (codes "seq")
     then option_map SeqOf (first_of (codes "file") found.1)
+    else if bytes_eq found.0 (codes "conflicts")
+    then option_map ConflictsOf (first_of (codes "file") found.1)
     else if bytes_eq found.0 (codes "drive")
     then drive_of found.1
     else if bytes_eq found.0 (codes "asm")

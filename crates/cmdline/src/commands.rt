@@ -2,7 +2,7 @@
 
 ghost use Rattle.std.specs.Prelude.{◌≡◌, IfOk, Some, false, true};
 ghost use Rattle.clap.specs.Words.{App, app_of, new_app, rule_of, with_rule, with_subcommand};
-ghost use Rattle.cmdline.specs.Line.{asm_app, call_rule, chain_app, counts_rule, debug_app, dis_app, drive_app, file_rule, migrate_app, out_rule, run_app, rvstm_app, schedule_rule, seq_app, top_app, workers_rule};
+ghost use Rattle.cmdline.specs.Line.{asm_app, call_rule, chain_app, conflicts_app, counts_rule, debug_app, dis_app, drive_app, file_rule, migrate_app, out_rule, run_app, rvstm_app, schedule_rule, seq_app, top_app, workers_rule};
 
 use clap::{Arg, ArgAction, Command, value_parser};
 use std::alloc::{AllocError, Global};
@@ -26,11 +26,12 @@ pub(crate) fn rvstm<'a>(alloc: Global) -> Result<Command<'a>, AllocError>
 
 /// The command with the subcommands that run a block file; refused where memory ran out.
 fn runner<'a>(alloc: Global) -> Result<Command<'a>, AllocError>
-    ensures { IfOk result (λ c. app_of c ≡ with_subcommand (with_subcommand
-        (with_subcommand top_app run_app.top) seq_app.top) drive_app.top) }
+    ensures { IfOk result (λ c. app_of c ≡ with_subcommand (with_subcommand (with_subcommand
+        (with_subcommand top_app run_app.top) seq_app.top) conflicts_app.top) drive_app.top) }
 {
     let command = add(Ok(program(alloc)), run(alloc));
     let command = add(command, seq(alloc));
+    let command = add(command, conflicts(alloc));
     add(command, drive(alloc))
 }
 
@@ -76,6 +77,14 @@ fn seq<'a>(alloc: Global) -> Result<Command<'a>, AllocError>
 {
     let about = "Runs the calls of a block file in order and prints the result";
     file_command(alloc, "seq", about, "The block file")
+}
+
+/// `conflicts FILE`
+fn conflicts<'a>(alloc: Global) -> Result<Command<'a>, AllocError>
+    ensures { IfOk result (λ c. app_of c ≡ conflicts_app) }
+{
+    let about = "Prints which calls of a block file wait for which, and at which keys";
+    file_command(alloc, "conflicts", about, "The block file")
 }
 
 /// `drive FILE --workers N --schedule FILE --counts`

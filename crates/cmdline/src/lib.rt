@@ -8,7 +8,7 @@ ghost use Rattle.std.specs.Prelude.{◌≡◌, ◌∷◌, [], List, ℕ, IfErr, 
 ghost use Rattle.std.specs.String.{string_bytes};
 ghost use Rattle.clap.specs.Words.{FailsBy, HasMatchesOf, fault_of, kind_of, takes};
 ghost use Rattle.clap.specs.declared.error.ErrorKind.TheVariants as kind;
-ghost use Rattle.cmdline.specs.Line.{AnswersUnlessMemory, AsmOf, ChainOf, DebugOf, DisOf, DriveOf, MigrateOf, RunOf, SeqOf, requested, asked_by, is_call_number, is_operand, is_worker_number, number_in, rvstm_app};
+ghost use Rattle.cmdline.specs.Line.{AnswersUnlessMemory, AsmOf, ChainOf, ConflictsOf, DebugOf, DisOf, DriveOf, MigrateOf, RunOf, SeqOf, requested, asked_by, is_call_number, is_operand, is_worker_number, number_in, rvstm_app};
 
 use crate::commands::rvstm;
 use crate::requests::request_in;
@@ -29,6 +29,11 @@ pub enum Request<'a> {
     },
     /// Run the calls of a block file in order, and print the result.
     Seq {
+        /// The path of the block file.
+        file: &'a str,
+    },
+    /// Run the calls of a block file in order, and print which of them wait for which.
+    Conflicts {
         /// The path of the block file.
         file: &'a str,
     },
@@ -99,6 +104,10 @@ pub fn request_of<'a>(alloc: Global, words: &'a [String]) -> Result<Option<Reque
     ensures seq { (program file : List ℕ)
         → map string_bytes words.now ≡ program ∷ codes "seq" ∷ file ∷ [] → is_operand file ≡ true
         → AnswersUnlessMemory result (SeqOf file) }
+    // so is `conflicts FILE`
+    ensures conflicts { (program file : List ℕ)
+        → map string_bytes words.now ≡ program ∷ codes "conflicts" ∷ file ∷ [] → is_operand file ≡ true
+        → AnswersUnlessMemory result (ConflictsOf file) }
     // so is `drive FILE --workers N --schedule FILE`, where N is a whole number of 1 to 32
     ensures drive { (program file word schedule : List ℕ)
         → map string_bytes words.now ≡ program ∷ codes "drive" ∷ file ∷ codes "--workers" ∷ word ∷ codes "--schedule" ∷ schedule ∷ []

@@ -2,7 +2,7 @@
 
 ghost use Rattle.std.specs.Prelude.{◌≡◌, option_and_then, option_map, codes};
 ghost use Rattle.clap.specs.Words.{Text, first_of, found_of, rows_of, subcommand_rows_of};
-ghost use Rattle.cmdline.specs.Line.{AsmOf, Asked, DebugOf, DisOf, MigrateOf, SeqOf, asked_by, asked_in, drive_of, flag_at, number_at, numbered_of, run_of, written_of};
+ghost use Rattle.cmdline.specs.Line.{AsmOf, Asked, ConflictsOf, DebugOf, DisOf, MigrateOf, SeqOf, asked_by, asked_in, drive_of, flag_at, number_at, numbered_of, run_of, written_of};
 
 use crate::Request;
 use clap::ArgMatches;
@@ -15,6 +15,7 @@ pub(crate) fn request_in<'a>(matches: &ArgMatches<'a>) -> Option<Request<'a>>
     match matches.subcommand()? {
         ("run", found) => run_in(found),
         ("seq", found) => seq_in(found),
+        ("conflicts", found) => conflicts_in(found),
         ("drive", found) => drive_in(found),
         ("asm", found) => asm_in(found),
         ("dis", found) => dis_in(found),
@@ -48,6 +49,16 @@ fn seq_in<'a>(found: &ArgMatches<'a>) -> Option<Request<'a>>
 {
     let file = found.get_str("file")?;
     Some(Request::Seq { file })
+}
+
+/// The request of what clap found for `conflicts`.
+#[tactic(auto, using(crate::proofs::Lines::first_in_rows))]
+fn conflicts_in<'a>(found: &ArgMatches<'a>) -> Option<Request<'a>>
+    ensures { option_map asked_by result
+        ≡ option_map ConflictsOf (first_of (codes "file") (rows_of (found_of found.now))) }
+{
+    let file = found.get_str("file")?;
+    Some(Request::Conflicts { file })
 }
 
 /// The request of what clap found for `drive`.

@@ -1,11 +1,11 @@
 use Rattle.std.proofs.Common.{refl, IfOk, ◌≡◌}
 use Rattle.clap.specs.Words.{App, app_of, with_subcommand}
-use Rattle.cmdline.specs.Line.{asm_app, chain_app, debug_app, dis_app, drive_app, migrate_app, run_app, seq_app, top_app}
+use Rattle.cmdline.specs.Line.{asm_app, chain_app, conflicts_app, debug_app, dis_app, drive_app, migrate_app, run_app, seq_app, top_app}
 use Rattle.cmdline.proofs.commands.rvstm.Goals as goal
 
 -- the command with its first subcommands
 abbrev runner_app : App
-runner_app = with_subcommand (with_subcommand (with_subcommand top_app run_app.top) seq_app.top) drive_app.top
+runner_app = with_subcommand (with_subcommand (with_subcommand (with_subcommand top_app run_app.top) seq_app.top) conflicts_app.top) drive_app.top
 
 abbrev with_asm : App
 with_asm = with_subcommand runner_app asm_app.top
