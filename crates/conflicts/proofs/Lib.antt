@@ -1,5 +1,6 @@
 pub mod Used
 pub mod Noted
+pub mod Counted
 pub mod Longest
 pub mod Earlier
 pub mod LeftOutReads

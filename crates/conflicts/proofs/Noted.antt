@@ -55,11 +55,11 @@ named_none receipts key = refl
 
 -- ---- the table
 
-first : (a b : Bool) → T (a && b) → T a
+pub first : (a b : Bool) → T (a && b) → T a
 first true b h = tt
 first false b h = h
 
-second : (a b : Bool) → T (a && b) → T b
+pub second : (a b : Bool) → T (a && b) → T b
 second true b h = h
 second false b h = absurd h
 
@@ -68,15 +68,15 @@ not_tied Less h = refl
 not_tied Equal h = absurd h
 not_tied Greater h = absurd h
 
-tied : (o : Ordering) → is_eq o ≡ true → o ≡ Equal
+pub tied : (o : Ordering) → is_eq o ≡ true → o ≡ Equal
 tied Less e = cc
 tied Equal e = refl
 tied Greater e = cc
 
-abbrev Changes : Type 0
+abbrev pub Changes : Type 0
 Changes = List (List ℕ × ContentChange)
 
-absent : (key : List ℕ) (es : Changes) → T (below_all key_cmp key es) → finite.find key_cmp key es ≡ None
+pub absent : (key : List ℕ) (es : Changes) → T (below_all key_cmp key es) → finite.find key_cmp key es ≡ None
 absent key [] h = refl
 absent key (e ∷ es) h =
     ap (λ b. cond b (Some e.1) (finite.find key_cmp key es)) (not_tied (key_cmp key e.0) (first _ _ h)) ∙ absent key es (second _ _ h)
@@ -108,7 +108,7 @@ next_is : (i : ℕ) → i + 1 ≡ suc i
 next_is i = omega arith
 
 module _ (call : Invocation) where
-  receipt_at : (block : List Invocation) (store : Storage) (i : ℕ) → slice_get block i ≡ Some call → slice_get (receipts_of block store) i ≡ Some (ends call (store_before block i store))
+  pub receipt_at : (block : List Invocation) (store : Storage) (i : ℕ) → slice_get block i ≡ Some call → slice_get (receipts_of block store) i ≡ Some (ends call (store_before block i store))
   unfolding receipts_of store_after
   receipt_at [] store i e = cc
   receipt_at (c ∷ block) store zero e = let same : c ≡ call = cc in ap (λ k. Some (ends k store)) same

@@ -1,10 +1,13 @@
 //! The conflicts of a block.
 
-ghost use Rattle.std.specs.Prelude.{◌≡◌, IfOk, length};
+ghost use Rattle.std.specs.Prelude.{◌≡◌, ◌≤◌, IfOk, length};
 ghost use Rattle.conflicts.specs.Paths.{ArePaths};
+ghost use Rattle.conflicts.specs.Sums.{keys_of_calls};
 ghost use Rattle.conflicts.specs.Waits.{calls_of};
 
-use crate::in_order::{CallWaits, call_waits};
+use crate::hot_key::HotKey;
+use crate::hot_keys::hot_keys;
+use crate::in_order::{CallWaits, Found, call_waits};
 use crate::paths::paths;
 use rv_ledger::Job;
 use std::alloc::{AllocError, Global};
@@ -16,16 +19,22 @@ pub struct Conflicts {
     pub calls: Vec<CallWaits>,
     /// The greatest sum of gas over the chains of waits that end in each call, in block order.
     pub paths: Vec<u64>,
+    /// The keys at which some call waits, ascending.
+    pub keys: Vec<HotKey>,
+    ghost few: { length calls.items ≤ 1024 },
+    ghost each: { length paths.items ≡ length calls.items },
 }
 
 /// The conflicts of a job. Its calls are run one after another. Refused where memory ran out.
 pub fn find_conflicts(alloc: Global, job: &Job) -> Result<Conflicts, AllocError>
     ensures calls { IfOk result (λ c. c.calls.items ≡ calls_of job.now.block job.now.store) }
     ensures paths { IfOk result (λ c. ArePaths (calls_of job.now.block job.now.store) c.paths.items) }
+    ensures keys { IfOk result (λ c. c.keys.items ≡ keys_of_calls job.now.block job.now.store) }
     ensures count { IfOk result (λ c. length c.paths.items ≡ length job.now.block) }
 {
     let _calls = job.block.calls();
-    let calls = call_waits(alloc, job)?;
+    let Found { calls, writers } = call_waits(alloc, job)?;
     let paths = paths(alloc, calls.as_slice())?;
-    Ok(Conflicts { calls, paths })
+    let keys = hot_keys(alloc, calls.as_slice(), &writers)?;
+    Ok(Conflicts { calls, paths, keys })
 }

@@ -1,13 +1,16 @@
 //! What the calls of a block wait for.
 
 ghost use Rattle.std.specs.FinMap as map;
-ghost use Rattle.std.specs.Prelude.{◌≡◌, ◌++◌, ◌≤◌, IfOk, OnOk, length};
+ghost use Rattle.std.specs.Prelude.{◌≡◌, ◌++◌, ◌≤◌, ℕ, List, IfOk, OnOk, length};
+ghost use Rattle.conflicts.specs.Counts.{count_at, with_changes};
 ghost use Rattle.conflicts.specs.Reads.{keys_read};
+ghost use Rattle.conflicts.specs.Sums.{writers_at};
 ghost use Rattle.conflicts.specs.Table.{after_changes, waits_in};
 ghost use Rattle.conflicts.specs.Waits.{calls_of, waits_for};
 ghost use Rattle.rv_step.specs.Chain.{ends};
-ghost use Rattle.rv_step.specs.Fold.{store_after_call};
+ghost use Rattle.rv_step.specs.Fold.{receipts_of, store_after_call};
 
+use crate::counts::CallCounts;
 use crate::keys::KeySet;
 use crate::reading::read_over;
 use crate::table::Table;
@@ -51,10 +54,20 @@ impl CallWaits {
     }
 }
 
-/// What each call of a job waits for, in block order: the calls are run one after another. Refused where memory ran
-/// out.
-pub(crate) fn call_waits(alloc: Global, job: &Job) -> Result<Vec<CallWaits>, AllocError>
-    ensures { IfOk result (λ calls. calls.items ≡ calls_of job.now.block job.now.store) }
+/// What the pass over the calls of a block found.
+#[derive(Drop)]
+pub(crate) struct Found {
+    /// What each call waits for, in block order.
+    pub(crate) calls: Vec<CallWaits>,
+    /// How many calls changed each key.
+    pub(crate) writers: CallCounts,
+}
+
+/// What each call of a job waits for, and how many calls change each key: the calls are run one after another. Refused
+/// where memory ran out.
+pub(crate) fn call_waits(alloc: Global, job: &Job) -> Result<Found, AllocError>
+    ensures calls { IfOk result (λ found. found.calls.items ≡ calls_of job.now.block job.now.store) }
+    ensures writers { IfOk result (λ found. (key : List ℕ) → count_at found.writers key ≡ writers_at (receipts_of job.now.block job.now.store) key) }
 {
     all_waits(alloc, job.block.calls(), job.store.copy()?)
 }
@@ -66,18 +79,22 @@ struct Pass {
     store: Store,
     /// The calls that reads of each key would name.
     table: Table,
+    /// How many calls changed each key.
+    writers: CallCounts,
     /// Room for the pages of the next call.
     room: PageRoom,
 }
 
-/// What each of some calls waits for, which are run one after another on a storage. Refused where memory ran out.
-fn all_waits(alloc: Global, calls: &[Call], store: Store) -> Result<Vec<CallWaits>, AllocError>
+/// The same for some calls and a storage. Refused where memory ran out.
+fn all_waits(alloc: Global, calls: &[Call], store: Store) -> Result<Found, AllocError>
     requires { length calls.now ≤ 1024 }
-    ensures { IfOk result (λ all. all.items ≡ calls_of calls.now store) }
+    ensures calls { IfOk result (λ found. found.calls.items ≡ calls_of calls.now store) }
+    ensures writers { IfOk result (λ found. (key : List ℕ) → count_at found.writers key ≡ writers_at (receipts_of calls.now store) key) }
 {
     let mut pass = Pass {
         store,
         table: Table::new(alloc),
+        writers: CallCounts::new(alloc),
         room: PageRoom::new(alloc),
     };
     let mut all = Vec::with_capacity(alloc, calls.len())?;
@@ -85,12 +102,17 @@ fn all_waits(alloc: Global, calls: &[Call], store: Store) -> Result<Vec<CallWait
         let next = pass.run_next(alloc, index as u16, call)?;
         all.push(next)?;
     }
-    Ok(all)
+    let Pass { writers, .. } = pass;
+    Ok(Found {
+        calls: all,
+        writers,
+    })
 }
 
 impl Pass {
     ghost use Rattle.std.specs.FinMap as map;
     ghost use Rattle.std.specs.Prelude.{◌≡◌, IfOk, OnOk};
+    ghost use Rattle.conflicts.specs.Counts.{with_changes};
     ghost use Rattle.conflicts.specs.Reads.{keys_read};
     ghost use Rattle.conflicts.specs.Table.{after_changes, waits_in};
     ghost use Rattle.rv_step.specs.Chain.{ends};
@@ -101,11 +123,13 @@ impl Pass {
         ensures waits { IfOk result (λ c. c.waits ≡ waits_in self.old.table (keys_read call.now self.old.store)) }
         ensures gas { IfOk result (λ c. c.gas ≡ (ends call.now self.old.store).gas) }
         ensures store { OnOk result (self.new.store ≡ store_after_call call.now self.old.store) }
+        ensures writers { OnOk result (self.new.writers ≡ with_changes self.old.writers (map.entries (ends call.now self.old.store).writes)) }
         ensures table { OnOk result (self.new.table ≡ after_changes index (map.entries (ends call.now self.old.store).writes) self.old.table) }
     {
         let reading = read_over(alloc, &mut self.room, call, &self.store)?;
         let waits = waits_in(alloc, &self.table, &reading.keys)?;
         self.table.note_all(index, &reading.receipt.writes)?;
+        self.writers.add_all(&reading.receipt.writes, index)?;
         apply_writes(&mut self.store, &reading.receipt.writes)?;
         Ok(CallWaits {
             waits,

@@ -1,4 +1,4 @@
--- Text on its way to a writer; only private functions use this.
+-- Text on its way to a writer.
 use Rattle.std.specs.Prelude.{ℕ, List, ◌++◌, MatchOption, Option}
 use Rattle.std.specs.Io.KnownBytes.{Appends}
 use Rattle.byte_streams.specs.Written.{AppendsPart, IsWrittenBefore, MayRefuse}

@@ -16,7 +16,7 @@ const PIECE: usize = 65_536;
 /// Text on its way to a writer. What is appended waits until there is no room for more, and is then written. So no more
 /// than 65,536 bytes of a text are in memory at once. After a write that was refused nothing more is written.
 #[derive(Drop)]
-pub(crate) struct TextBuffer {
+pub struct TextBuffer {
     waiting: Vec<u8>,
     refused: Option<WriteFault>,
     ghost room: { 65536 ≤ vec_capacity waiting },
@@ -29,7 +29,7 @@ impl TextBuffer {
     ghost use Rattle.receipts.specs.Buffer.{Appended, IsCutOff, IsNoWorse, IsWritten};
 
     /// No text; refused where memory ran out. Nothing that is appended takes memory.
-    pub(crate) fn new(alloc: Global) -> Result<TextBuffer, AllocError>
+    pub fn new(alloc: Global) -> Result<TextBuffer, AllocError>
         ensures { IfOk result (λ text. (text.refused ≡ None) × (text.waiting.items ≡ [])) }
     {
         let waiting = Vec::with_capacity(alloc, PIECE)?;
@@ -41,7 +41,7 @@ impl TextBuffer {
 
     /// Appends at most 65,536 bytes. What waits is written first where there is no room for them.
     #[inline(always)]
-    pub(crate) fn push<W: Destination>(&mut self, bytes: &[u8], out: &mut W)
+    pub fn push<W: Destination>(&mut self, bytes: &[u8], out: &mut W)
         requires { length bytes.now ≤ PIECE }
         ensures { Appended W.contents W.may_fail W.may_take_nothing self.old out.old self.new out.new bytes.now }
     {
@@ -76,7 +76,7 @@ impl TextBuffer {
     }
 
     /// Writes what waits. Refused as the first write that was refused.
-    pub(crate) fn finish<W: Destination>(self, out: &mut W) -> Result<(), WriteFault>
+    pub fn finish<W: Destination>(self, out: &mut W) -> Result<(), WriteFault>
         ensures ok { OnOk result (IsWritten W.contents W.may_fail W.may_take_nothing self out.old out.new) }
         ensures err { IfErr result (IsCutOff W.contents W.may_fail W.may_take_nothing self out.old out.new) }
         ensures fault { IfErr result (λ e. e ≢ WriteFault.Memory) }

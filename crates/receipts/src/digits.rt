@@ -95,7 +95,7 @@ pub(crate) fn push_word_field<W: Destination>(text: &mut TextBuffer, word: u32, 
 }
 
 /// Appends the 32 bytes of a key in 64 hex digits.
-pub(crate) fn push_key<W: Destination>(text: &mut TextBuffer, bytes: &[u8; 32], out: &mut W)
+pub fn push_key<W: Destination>(text: &mut TextBuffer, bytes: &[u8; 32], out: &mut W)
     ensures { Appended W.contents W.may_fail W.may_take_nothing text.old out.old text.new out.new (encode_lower bytes.now) }
 {
     let (front, back) = bytes.as_slice().split_at(16);
@@ -151,7 +151,7 @@ pub(crate) fn push_bytes<W: Destination>(text: &mut TextBuffer, bytes: &[u8], ou
 }
 
 /// Appends a number in decimal.
-pub(crate) fn push_decimal<W: Destination>(text: &mut TextBuffer, number: u64, out: &mut W)
+pub fn push_decimal<W: Destination>(text: &mut TextBuffer, number: u64, out: &mut W)
     ensures { Appended W.contents W.may_fail W.may_take_nothing text.old out.old text.new out.new (decimal number) }
 {
     text.push(itoa::Buffer::new().format(number).as_bytes(), out);

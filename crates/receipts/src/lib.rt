@@ -9,6 +9,8 @@ mod ranges;
 mod text;
 mod write;
 
+pub use buffer::TextBuffer;
+pub use digits::{push_decimal, push_key};
 pub use laws::{one_text, one_text_of};
 pub use lines::{bytes_text, end_name, regs_line, word_text};
 pub use text::result_text;

@@ -1,0 +1,49 @@
+-- The keys at which some call waits, with how many calls change each and how many waits there are at it, and the sums over all calls.
+use Rattle.std.specs.Prelude.{ℕ, Bool, List, length, map, max, fold}
+use Rattle.std.specs.FinMap as finite
+use Rattle.std.specs.List.{filter, flat_map, sum_by}
+use Rattle.std.specs.Str.{bytes_eq}
+use Rattle.rv_ledger.specs.Call.{Invocation}
+use Rattle.rv_ledger.specs.Key.{Storage}
+use Rattle.rv_ledger.specs.declared.receipt.Receipt.{Receipt}
+use Rattle.rv_step.specs.Fold.{receipts_of}
+use Rattle.conflicts.specs.declared.hot_key.HotKey.{HotKey}
+use Rattle.conflicts.specs.declared.wait.Wait.{Wait}
+use Rattle.conflicts.specs.Reads.{Keys}
+use Rattle.conflicts.specs.Waits.{CallView, calls_of}
+
+-- the waits of all calls
+abbrev pub all_waits : List CallView → List Wait
+all_waits calls = flat_map (λ call. call.waits) calls
+
+-- the keys at which some call waits
+abbrev pub keys_waited : List CallView → Keys
+keys_waited calls = fold (λ keys wait. finite.insert keys wait.key tt) finite.empty (all_waits calls)
+
+-- a receipt has a key in its writes
+abbrev pub changes_key : List ℕ → Receipt → Bool
+changes_key key receipt = finite.contains_key receipt.writes key
+
+-- how many calls change a key
+abbrev pub writers_at : List Receipt → List ℕ → ℕ
+writers_at receipts key = length (filter (changes_key key) receipts)
+
+-- how many waits there are at a key
+abbrev pub waits_at_key : List CallView → List ℕ → ℕ
+waits_at_key calls key = length (filter (λ wait. bytes_eq wait.key key) (all_waits calls))
+
+-- the counts at a key
+abbrev pub hot_key_of : List Receipt → List CallView → List ℕ → HotKey
+hot_key_of receipts calls key = record { key = key; writers = writers_at receipts key; waits = waits_at_key calls key }
+
+-- the keys at which some call of a block waits, ascending, with their counts
+abbrev pub keys_of_calls : List Invocation → Storage → List HotKey
+keys_of_calls block store = map (hot_key_of (receipts_of block store) (calls_of block store)) (finite.keys (keys_waited (calls_of block store)))
+
+-- the gas of all calls
+abbrev pub gas_of_all : List CallView → ℕ
+gas_of_all calls = sum_by (λ call. call.gas) calls
+
+-- the greatest of some paths, or 0 where there is none
+abbrev pub greatest_path : List ℕ → ℕ
+greatest_path paths = fold max 0 paths

@@ -1,0 +1,154 @@
+//! The lines of a block's conflicts.
+
+ghost use Rattle.std.specs.Prelude.{◌≡◌, ◌++◌, ◌∷◌, ◌≤◌, codes, length};
+ghost use Rattle.std.specs.Fmt.{decimal};
+ghost use Rattle.std.specs.List.{enumerate_from, flat_map, zip};
+ghost use Rattle.hex.specs.Hex.{encode_lower};
+ghost use Rattle.receipts.specs.Buffer.{Appended};
+ghost use Rattle.conflicts.specs.Text.{call_line, call_lines, conflicts_text, key_line, sum_line, wait_line};
+
+use crate::block::Conflicts;
+use crate::hot_key::HotKey;
+use crate::in_order::CallWaits;
+use crate::sums::{gas_of_all, greatest_path};
+use crate::wait::Wait;
+use byte_streams::Destination;
+use receipts::{TextBuffer, push_decimal, push_key};
+
+/// Appends all lines: those of each call, in block order, those of the keys at which some call waits, and the sums.
+pub(crate) fn push_conflicts<W: Destination>(
+    text: &mut TextBuffer,
+    conflicts: &Conflicts,
+    out: &mut W,
+)
+    ensures { Appended W.contents W.may_fail W.may_take_nothing text.old out.old text.new out.new (conflicts_text conflicts.now.calls.items conflicts.now.paths.items conflicts.now.keys.items) }
+{
+    let calls = conflicts.calls.as_slice();
+    let paths = conflicts.paths.as_slice();
+    push_calls(text, calls, paths, out);
+    push_hot_keys(text, conflicts.keys.as_slice(), out);
+    push_sums(
+        text,
+        calls.len(),
+        gas_of_all(calls),
+        greatest_path(paths),
+        out,
+    );
+}
+
+/// Appends the lines of all calls, each with its path.
+fn push_calls<W: Destination>(
+    text: &mut TextBuffer,
+    calls: &[CallWaits],
+    paths: &[u64],
+    out: &mut W,
+)
+    requires { length paths.now ≡ length calls.now }
+    ensures { Appended W.contents W.may_fail W.may_take_nothing text.old out.old text.new out.new (flat_map call_lines (enumerate_from 0 (zip calls.now paths.now))) }
+{
+    for (index, call) in calls.iter().enumerate() {
+        let path = paths[index];
+        push_call(text, index, call, path, out);
+    }
+}
+
+/// Appends the lines of the call at an index.
+fn push_call<W: Destination>(
+    text: &mut TextBuffer,
+    index: usize,
+    call: &CallWaits,
+    path: u64,
+    out: &mut W,
+)
+    ensures { Appended W.contents W.may_fail W.may_take_nothing text.old out.old text.new out.new (call_lines (index, (call.now, path))) }
+{
+    push_waits(text, index, call.waits(), out);
+    push_call_line(text, index, call.gas(), path, out);
+}
+
+/// Appends the lines of the waits of the call at an index.
+fn push_waits<W: Destination>(text: &mut TextBuffer, index: usize, waits: &[Wait], out: &mut W)
+    ensures { Appended W.contents W.may_fail W.may_take_nothing text.old out.old text.new out.new (flat_map (wait_line index) waits.now) }
+{
+    for wait in waits {
+        push_wait(text, index, wait, out);
+    }
+}
+
+/// Appends the line of one wait of the call at an index.
+fn push_wait<W: Destination>(text: &mut TextBuffer, index: usize, wait: &Wait, out: &mut W)
+    ensures { Appended W.contents W.may_fail W.may_take_nothing text.old out.old text.new out.new (wait_line index wait.now) }
+{
+    push_numbered(text, b"wait ", index as u64, out);
+    push_numbered(text, b" ", u64::from(wait.writer), out);
+    text.push(b" ", out);
+    push_key(text, wait.key.bytes(), out);
+    text.push(b"\n", out);
+}
+
+/// Appends the line of the gas and the path of the call at an index.
+fn push_call_line<W: Destination>(
+    text: &mut TextBuffer,
+    index: usize,
+    gas: u32,
+    path: u64,
+    out: &mut W,
+)
+    ensures { Appended W.contents W.may_fail W.may_take_nothing text.old out.old text.new out.new (call_line index gas path) }
+{
+    push_numbered(text, b"call ", index as u64, out);
+    push_gas_and_path(text, u64::from(gas), path, out);
+}
+
+/// Appends a word and a number in decimal.
+fn push_numbered<W: Destination>(text: &mut TextBuffer, word: &[u8], number: u64, out: &mut W)
+    requires { length word.now ≤ 65536 }
+    ensures { Appended W.contents W.may_fail W.may_take_nothing text.old out.old text.new out.new (word.now ++ decimal number) }
+{
+    text.push(word, out);
+    push_decimal(text, number, out);
+}
+
+/// Appends the words and numbers of some gas and a path, and ends the line.
+fn push_gas_and_path<W: Destination>(text: &mut TextBuffer, gas: u64, path: u64, out: &mut W)
+    ensures { Appended W.contents W.may_fail W.may_take_nothing text.old out.old text.new out.new (codes " gas " ++ (decimal gas ++ (codes " path " ++ (decimal path ++ codes "\n")))) }
+{
+    push_numbered(text, b" gas ", gas, out);
+    push_numbered(text, b" path ", path, out);
+    text.push(b"\n", out);
+}
+
+/// Appends the lines of the keys at which some call waits.
+fn push_hot_keys<W: Destination>(text: &mut TextBuffer, keys: &[HotKey], out: &mut W)
+    ensures { Appended W.contents W.may_fail W.may_take_nothing text.old out.old text.new out.new (flat_map key_line keys.now) }
+{
+    for key in keys {
+        push_hot_key(text, key, out);
+    }
+}
+
+/// Appends the line of a key at which some call waits.
+fn push_hot_key<W: Destination>(text: &mut TextBuffer, key: &HotKey, out: &mut W)
+    ensures { Appended W.contents W.may_fail W.may_take_nothing text.old out.old text.new out.new (key_line key.now) }
+{
+    text.push(b"key ", out);
+    push_key(text, key.key.bytes(), out);
+    push_key_counts(text, key.writers, key.waits, out);
+}
+
+/// Appends the numbers of writers and of waits at a key, and ends the line.
+fn push_key_counts<W: Destination>(text: &mut TextBuffer, writers: u64, waits: u64, out: &mut W)
+    ensures { Appended W.contents W.may_fail W.may_take_nothing text.old out.old text.new out.new (codes " writers " ++ (decimal writers ++ (codes " waits " ++ (decimal waits ++ codes "\n")))) }
+{
+    push_numbered(text, b" writers ", writers, out);
+    push_numbered(text, b" waits ", waits, out);
+    text.push(b"\n", out);
+}
+
+/// Appends the line of the sums over all calls.
+fn push_sums<W: Destination>(text: &mut TextBuffer, calls: usize, gas: u64, path: u64, out: &mut W)
+    ensures { Appended W.contents W.may_fail W.may_take_nothing text.old out.old text.new out.new (sum_line calls gas path) }
+{
+    push_numbered(text, b"all calls ", calls as u64, out);
+    push_gas_and_path(text, gas, path, out);
+}
