@@ -5,3 +5,4 @@ pub mod Cuts
 pub mod LineKinds
 pub mod Behind
 pub mod Between
+pub mod Dumps

@@ -30,7 +30,7 @@ pub fn storage_is_read_back_of(store: &Store)
 }
 
 /// Each key has 32 bytes, and each value at most 256.
-fn are_entries(store: &Store)
+pub(crate) fn are_entries(store: &Store)
     ensures { All (IsEntry Two) (entries store.now) }
 {
     for (key, value) in store.iter() {
