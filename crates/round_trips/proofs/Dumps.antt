@@ -78,12 +78,12 @@ put_stored m [] = refl
 put_stored m (e ∷ es) = put_stored (insert m e.0 e.1) es
 
 abbrev restoring : Rules → Storage → Turn
-restoring rules store = record { text = codes "end\n"; state = session_with rules store }
+restoring rules store = record { text = codes "end\n"; refusal = None; state = session_with rules store }
 
 ran_without_calls : (rules : Rules) (store : Storage) → ran new_session (block_with rules store) [] ≡ restoring rules store
 unfolding receipts_of store_after
 ran_without_calls rules store =
-    ap (λ (es : List Entry). record { text = flat_map store_line es ++ codes "end\n"; state = session_with rules (put_each empty (entries store)) }) none
+    ap (λ (es : List Entry). record { text = flat_map store_line es ++ codes "end\n"; refusal = None; state = session_with rules (put_each empty (entries store)) }) none
     ∙ ap (restoring rules) (put_stored empty (entries store) ∙ stored_again store)
 
 block_runs : (program_at : List ℕ → Option (Result Layout ProgramFault)) (rules : Rules) (store : Storage) → block_turn program_at new_session (Ok (block_with rules store)) ≡ Some (restoring rules store)
