@@ -178,6 +178,11 @@ changes_made s d =
     ] refl
     ∙ sym (get_with_contents s es q))
 
+-- changes made one after another in a storage
+pub all_made : (s : Storage) (d : Changes) → all_set s (map.entries d) ≡ with_changes s d
+unfolding with_changes
+all_made s d = same_at_all _ _ (λ q. get_all_set s (map.entries d) q (entries_sorted d) ∙ sym (get_with_contents s (map.entries d) q))
+
 -- the first of entries that fit, and the others
 pub fits_first : (s : Storage) (e : List ℕ × Content) (es : Entries) → Fits s (e ∷ es) → IsKnown s e.0 e.1
 unfolding Fits

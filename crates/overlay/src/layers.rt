@@ -1,13 +1,13 @@
 //! A storage with changes over it.
 
-ghost use Rattle.std.specs.Prelude.{◌≡◌, OnOk};
+ghost use Rattle.std.specs.Prelude.{◌≡◌, IfOk, OnErr, OnOk};
 ghost use Rattle.std.specs.FinMap as map;
 ghost use Rattle.std.specs.Option.{option_copied};
 ghost use Rattle.rv_step.specs.Fold.{apply_write, apply_writes};
-ghost use Rattle.overlay.specs.Overlay.{with_changes};
+ghost use Rattle.overlay.specs.Overlay.{apply_receipts, set_content, with_changes};
 
 use crate::overlay::Overlay;
-use rv_ledger::{Change, Key, Store, StoredValue, Writes, add};
+use rv_ledger::{Change, Key, Receipt, Store, StoredValue, Writes, add};
 use rv_step::Contents;
 use std::alloc::AllocError;
 
@@ -37,6 +37,49 @@ fn content<'a>(base: &'a Store, over: &'a Overlay, key: &Key) -> Option<&'a Stor
         Some(content) => content.as_ref(),
         None => base.get(key),
     }
+}
+
+/// A storage with the changes over it made. Refused where memory ran out.
+#[tactic(auto, using(crate::proofs::Commits::all_made))]
+pub fn copy_with_changes(base: &Store, over: &Overlay) -> Result<Store, AllocError>
+    ensures { IfOk result (λ s. s ≡ with_changes base.now over.now) }
+{
+    let mut store = base.copy()?;
+    for (key, content) in over.iter() {
+        set_copy(&mut store, key, content)?;
+    }
+    Ok(store)
+}
+
+/// Gives a key a copy of what it is to have. Refused where memory ran out.
+fn set_copy(store: &mut Store, key: &Key, content: &Option<StoredValue>) -> Result<(), AllocError>
+    ensures { OnOk result (store.new ≡ set_content store.old key.now content.now) }
+{
+    match content {
+        Some(value) => store.insert_copy(*key, value),
+        None => {
+            store.remove(key);
+            Ok(())
+        }
+    }
+}
+
+/// Adds the writes of receipts, one after another, to the changes over a storage. Refused where memory ran out, and then
+/// nothing changes.
+pub fn apply_receipts(
+    base: &Store,
+    over: &mut Overlay,
+    receipts: &[Receipt],
+) -> Result<(), AllocError>
+    ensures ok { OnOk result (with_changes base.now over.new ≡ apply_receipts (with_changes base.now over.old) receipts.now) }
+    ensures err { OnErr result (over.new ≡ over.old) }
+{
+    let mut changes = over.copy()?;
+    for receipt in receipts {
+        apply_writes(base, &mut changes, &receipt.writes)?;
+    }
+    *over = changes;
+    Ok(())
 }
 
 /// Adds the writes of a call to the changes over a storage. Refused where memory ran out, and then some of them may be added.

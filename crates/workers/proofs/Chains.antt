@@ -4,7 +4,8 @@ use Rattle.std.specs.Global.{Vec}
 use Rattle.rv_ledger.specs.Key.{Storage}
 use Rattle.rv_ledger.specs.Call.{Invocation}
 use Rattle.rv_ledger.specs.declared.receipt.Receipt.{Receipt}
-use Rattle.rv_step.specs.Fold.{store_after, store_after_call}
+use Rattle.overlay.proofs.Receipts.{after_append}
+use Rattle.rv_step.specs.Fold.{store_after}
 use Rattle.rv_ledger.specs.declared.job.Job.{Job}
 use Rattle.rv_ledger.specs.declared.outcome.Outcome.{Outcome}
 use Rattle.stm_state.specs.Steps as steps
@@ -62,12 +63,6 @@ pub one_block_more : (blocks : List (Vec Invocation × ℕ)) (answers : List (Re
 unfolding IsChain
 one_block_more blocks answers store middle last calls workers answer first fits left =
     chain_append blocks ((calls, workers) ∷ []) answers (answer ∷ []) store middle last first (fits, left)
-
--- calls after calls
-after_append : (first rest : List Invocation) (store : Storage) → store_after (first ++ rest) store ≡ store_after rest (store_after first store)
-unfolding store_after
-after_append [] rest store = refl
-after_append (call ∷ calls) rest store = after_append calls rest (store_after_call call store)
 
 -- the last storage is the one after all calls of the blocks answered Ok
 pub chain_store : (blocks : List (Vec Invocation × ℕ)) (answers : List (Result (Vec Receipt) ChainFault)) (store last : Storage)

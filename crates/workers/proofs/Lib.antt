@@ -7,3 +7,4 @@ pub mod Histories
 pub mod Chains
 pub mod Ways
 pub mod Working
+pub mod Runs

@@ -1,5 +1,5 @@
 -- The history of a block's run: one list of worker steps.
-use Rattle.std.specs.Prelude.{◌≡◌, ◌<◌, ◌+◌, ◌*◌, ℕ, true, List, [], ◌∷◌, get_or}
+use Rattle.std.specs.Prelude.{◌≡◌, ◌<◌, ◌+◌, ◌*◌, ℕ, true, List, [], ◌∷◌, get_or, length}
 use Rattle.rv_ledger.specs.declared.job.Job.{Job}
 use Rattle.rv_ledger.specs.declared.outcome.Counts.{Counts}
 use Rattle.stm_state.specs.State.{State, is_done, no_counts}
@@ -7,6 +7,8 @@ use Rattle.stm_state.specs.Steps.{Step, Limit}
 use Rattle.stm_state.specs.Done.{MeetsLimit, Reached, block_of}
 use Rattle.stm_state.specs.Walk.{LeadsTo}
 use Rattle.stm_state.specs.Dones.{EndsAtDone}
+use Rattle.workers.specs.Settle.{AreSharesOf}
+use Rattle.workers.specs.declared.book.share.Share.{Share}
 
 -- some list of worker steps leads from a job's start to a state where workers are done, with these counts; the last
 -- entry of each worker is an ask that is answered Done, its only one
@@ -39,3 +41,10 @@ pub record HasStepLimit (job : Job) (workers : ℕ) : Type 0 where
 pub record AreOneWorkerCounts (calls : ℕ) (found : List Counts) : Type 0 where
   pub steps : ℕ
   pub counts : found ≡ record { steps = steps; asks = 2 * calls + 1; executions = calls; validations = calls } ∷ []
+
+-- a job is run by this number of workers, and these shares of theirs have the counts
+pub record IsRunWithShares (job : Job) (workers : ℕ) (shares : List Share) : Type 0 where
+  pub counts : List Counts
+  pub history : HasHistory job workers counts
+  pub those : AreSharesOf counts shares
+  pub one_worker : workers ≡ 1 → AreOneWorkerCounts (length job.block) counts

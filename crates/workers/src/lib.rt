@@ -9,6 +9,7 @@ mod done_cell;
 mod executor;
 mod fault;
 mod gate;
+mod on_storage;
 mod patience;
 mod shared;
 mod worker;

@@ -1,0 +1,110 @@
+//! Running a block by threads on a storage that stays.
+
+use crate::executor::Executor;
+use crate::fault::RunFault;
+use overlay::{Overlay, apply_receipts, commit, copy_with_changes};
+use rv_ledger::{Block, Job, Outcome, Receipt, Store};
+use std::alloc::Global;
+use std::sync::Wait;
+use std::thread::Threads;
+use stm_core::WORKER_LIMIT;
+
+impl Executor {
+    ghost use Rattle.std.specs.Prelude.{◌≡◌, ◌<◌, ◌⊎◌, ◌↔◌, Err, IfErr, IfOk, OnErr, OnOk};
+    ghost use Rattle.overlay.specs.Overlay.{with_changes};
+    ghost use Rattle.rv_step.specs.Fold.{receipts_of, store_after};
+    ghost use Rattle.stm_state.specs.Steps as steps;
+    ghost use Rattle.workers.specs.declared.fault.RunFault.TheVariants as faults;
+    ghost use Rattle.workers.specs.History.{HasLimit, HasStepLimit, IsRunWithShares};
+
+    /// Runs the calls of a block by 1 to 32 threads on a storage, and changes it as they do in order. Refused as
+    /// `run_block` refuses their job, and then the storage is as it was. The storage is copied for the threads.
+    #[tactic(auto, using(overlay::proofs::WithChanges::without_changes))]
+    pub fn run_on<R: Threads + Wait + Sync>(
+        &mut self,
+        rt: &R,
+        alloc: Global,
+        store: &mut Store,
+        block: Block,
+        workers: usize,
+    ) -> Result<Vec<Receipt>, RunFault>
+        ensures bad_count { (result ≡ Err faults.BadCount) ↔ ((workers ≡ 0) ⊎ (32 < workers)) }
+        ensures receipts { IfOk result (λ r. r.items ≡ receipts_of block store.old) }
+        ensures store { OnOk result (store.new ≡ store_after block store.old) }
+        ensures err { OnErr result (store.new ≡ store.old) }
+        ensures history { OnOk result (IsRunWithShares (record { block = block; store = store.old }) workers self.new.shares.items) }
+        ensures full { IfErr result (λ e. e ≡ faults.ArenaFull → HasLimit (record { block = block; store = store.old }) workers steps.ArenaFull) }
+        ensures limit { IfErr result (λ e. e ≡ faults.IncarnationLimit → HasLimit (record { block = block; store = store.old }) workers steps.IncarnationLimit) }
+        ensures step_limit { IfErr result (λ e. e ≡ faults.StepLimit → HasStepLimit (record { block = block; store = store.old }) workers) }
+        ensures kept { result ≡ Err faults.BadCount → self.new ≡ self.old }
+    {
+        let mut changes = Overlay::new(alloc);
+        let receipts = self.run_over_changes(rt, alloc, store, &mut changes, block, workers)?;
+        match commit(store, changes) {
+            Ok(()) => Ok(receipts),
+            Err(_) => Err(RunFault::Memory),
+        }
+    }
+
+    /// The same on a storage with changes over it. It adds the changes of the calls to these, and where it is refused
+    /// it leaves these as they were.
+    #[tactic(auto, using(overlay::proofs::Receipts::receipts_applied))]
+    pub fn run_over_changes<R: Threads + Wait + Sync>(
+        &mut self,
+        rt: &R,
+        alloc: Global,
+        base: &Store,
+        over: &mut Overlay,
+        block: Block,
+        workers: usize,
+    ) -> Result<Vec<Receipt>, RunFault>
+        ensures bad_count { (result ≡ Err faults.BadCount) ↔ ((workers ≡ 0) ⊎ (32 < workers)) }
+        ensures receipts { IfOk result (λ r. r.items ≡ receipts_of block (with_changes base.now over.old)) }
+        ensures store { OnOk result (with_changes base.now over.new ≡ store_after block (with_changes base.now over.old)) }
+        ensures err { OnErr result (over.new ≡ over.old) }
+        ensures history { OnOk result (IsRunWithShares (record { block = block; store = with_changes base.now over.old }) workers self.new.shares.items) }
+        ensures full { IfErr result (λ e. e ≡ faults.ArenaFull → HasLimit (record { block = block; store = with_changes base.now over.old }) workers steps.ArenaFull) }
+        ensures limit { IfErr result (λ e. e ≡ faults.IncarnationLimit → HasLimit (record { block = block; store = with_changes base.now over.old }) workers steps.IncarnationLimit) }
+        ensures step_limit { IfErr result (λ e. e ≡ faults.StepLimit → HasStepLimit (record { block = block; store = with_changes base.now over.old }) workers) }
+        ensures kept { result ≡ Err faults.BadCount → self.new ≡ self.old }
+    {
+        if workers == 0 || workers > WORKER_LIMIT {
+            return Err(RunFault::BadCount);
+        }
+        let Ok(store) = copy_with_changes(base, over) else {
+            return Err(RunFault::Memory);
+        };
+        let receipts = self.receipts_by(rt, alloc, Job { block, store }, workers)?;
+        match apply_receipts(base, over, receipts.as_slice()) {
+            Ok(()) => Ok(receipts),
+            Err(_) => Err(RunFault::Memory),
+        }
+    }
+
+    /// The receipts of a job by threads. Refused as `run_block` is.
+    #[tactic(auto, using(crate::proofs::Runs::run_with_shares))]
+    fn receipts_by<R: Threads + Wait + Sync>(
+        &mut self,
+        rt: &R,
+        alloc: Global,
+        job: Job,
+        workers: usize,
+    ) -> Result<Vec<Receipt>, RunFault>
+        ensures bad_count { (result ≡ Err faults.BadCount) ↔ ((workers ≡ 0) ⊎ (32 < workers)) }
+        ensures receipts { IfOk result (λ r. r.items ≡ receipts_of job.block job.store) }
+        ensures history { OnOk result (IsRunWithShares job workers self.new.shares.items) }
+        ensures full { IfErr result (λ e. e ≡ faults.ArenaFull → HasLimit job workers steps.ArenaFull) }
+        ensures limit { IfErr result (λ e. e ≡ faults.IncarnationLimit → HasLimit job workers steps.IncarnationLimit) }
+        ensures step_limit { IfErr result (λ e. e ≡ faults.StepLimit → HasStepLimit job workers) }
+        ensures kept { result ≡ Err faults.BadCount → self.new ≡ self.old }
+    {
+        let outcome = self.run_block(rt, alloc, job, workers)?;
+        let Outcome {
+            job: _,
+            receipts,
+            store: _,
+            counts: _,
+        } = outcome;
+        Ok(receipts)
+    }
+}
