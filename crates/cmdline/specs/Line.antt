@@ -108,9 +108,9 @@ debug_app = with_rule (with_rule (new_app (codes "debug")) file_rule) call_rule
 abbrev pub migrate_app : App
 migrate_app = written_app (codes "migrate")
 
--- `chain`
+-- `chain`, and `--workers N` behind it, which may stand or not
 abbrev pub chain_app : App
-chain_app = new_app (codes "chain")
+chain_app = with_rule (new_app (codes "chain")) (record workers_rule { required = false })
 
 -- `rvstm`, which has a version and requires a subcommand
 abbrev pub top_app : App
@@ -134,7 +134,7 @@ pub data Asked : Type 0 where
   DisOf : Text → Asked
   DebugOf : Text → ℕ → Asked
   MigrateOf : Text → Text → Asked
-  ChainOf : Asked
+  ChainOf : Option ℕ → Asked
 
 abbrev pub asked_by : Request → Asked
 asked_by (Run file workers counts) = RunOf file.now workers counts
@@ -145,7 +145,7 @@ asked_by (Asm file out) = AsmOf file.now out.now
 asked_by (Dis file) = DisOf file.now
 asked_by (Debug file call) = DebugOf file.now call
 asked_by (Migrate file out) = MigrateOf file.now out.now
-asked_by Chain = ChainOf
+asked_by (Chain workers) = ChainOf workers
 
 -- the number that a word gives
 abbrev pub number_in : Text → ℕ
@@ -199,7 +199,7 @@ asked_in found = if bytes_eq found.0 (codes "run")
     else if bytes_eq found.0 (codes "migrate")
     then written_of MigrateOf found.1
     else if bytes_eq found.0 (codes "chain")
-    then Some ChainOf
+    then Some (ChainOf (number_at (codes "workers") found.1))
     else None
 
 -- what a whole line, with the program's name first, asks for, where clap accepts it

@@ -21,7 +21,7 @@ pub(crate) fn rvstm<'a>(alloc: Global) -> Result<Command<'a>, AllocError>
     let command = add(command, dis(alloc));
     let command = add(command, debug(alloc));
     let command = add(command, migrate(alloc));
-    add(command, Ok(chain(alloc)))
+    add(command, chain(alloc))
 }
 
 /// The command with the subcommands that run a block file; refused where memory ran out.
@@ -138,12 +138,15 @@ fn migrate<'a>(alloc: Global) -> Result<Command<'a>, AllocError>
     option_command(alloc, "migrate", about, "The block file", option)
 }
 
-/// `chain`
-fn chain<'a>(alloc: Global) -> Command<'a>
-    ensures { app_of result ≡ chain_app }
+/// `chain --workers N`
+fn chain<'a>(alloc: Global) -> Result<Command<'a>, AllocError>
+    ensures { IfOk result (λ c. app_of c ≡ chain_app) }
 {
     let about = "Runs block after block from the standard input on one storage and answers each";
-    Command::new(alloc, "chain").about(about)
+    let help = "By how many workers calls run where that pays, 1 to 32; else all run in order";
+    Command::new(alloc, "chain")
+        .about(about)
+        .arg(workers(alloc).help(help).required(false))
 }
 
 /// The subcommand `NAME FILE` with one option.

@@ -4,7 +4,7 @@
 mod commands;
 mod requests;
 
-ghost use Rattle.std.specs.Prelude.{◌≡◌, ◌∷◌, [], List, ℕ, IfErr, IfOk, false, true, map, option_map, codes};
+ghost use Rattle.std.specs.Prelude.{◌≡◌, ◌∷◌, [], List, ℕ, IfErr, IfOk, None, Some, false, true, map, option_map, codes};
 ghost use Rattle.std.specs.String.{string_bytes};
 ghost use Rattle.clap.specs.Words.{FailsBy, HasMatchesOf, fault_of, kind_of, takes};
 ghost use Rattle.clap.specs.declared.error.ErrorKind.TheVariants as kind;
@@ -76,7 +76,10 @@ pub enum Request<'a> {
         out: &'a str,
     },
     /// Answer the requests of the standard input: blocks one after another on one storage, and lines between them.
-    Chain,
+    Chain {
+        /// The number of workers, 1 to 32, where the calls of a block may run on several at the same time.
+        workers: Option<usize>,
+    },
 }
 
 /// Reads a command line, whose first word is the program's name. Refused where the subcommand is missing
@@ -131,13 +134,18 @@ pub fn request_of<'a>(alloc: Global, words: &'a [String]) -> Result<Option<Reque
         → map string_bytes words.now ≡ program ∷ codes "debug" ∷ file ∷ codes "--call" ∷ word ∷ []
         → is_operand file ≡ true → is_call_number word ≡ true
         → AnswersUnlessMemory result (DebugOf file (number_in word)) }
-    // and `migrate FILE --out OUT`
+    // so is `migrate FILE --out OUT`
     ensures migrate { (program file out : List ℕ)
         → map string_bytes words.now ≡ program ∷ codes "migrate" ∷ file ∷ codes "--out" ∷ out ∷ [] → is_operand file ≡ true → is_operand out ≡ true
         → AnswersUnlessMemory result (MigrateOf file out) }
-    // and `chain`
+    // so is `chain`
     ensures chain { (program : List ℕ) → map string_bytes words.now ≡ program ∷ codes "chain" ∷ []
-        → AnswersUnlessMemory result ChainOf }
+        → AnswersUnlessMemory result (ChainOf None) }
+    // and `chain --workers N`, where N is a whole number of 1 to 32
+    ensures chain_workers { (program word : List ℕ)
+        → map string_bytes words.now ≡ program ∷ codes "chain" ∷ codes "--workers" ∷ word ∷ []
+        → is_worker_number word ≡ true
+        → AnswersUnlessMemory result (ChainOf (Some (number_in word))) }
 {
     let matches = matches_of(alloc, words)?;
     Ok(request_in(&matches))

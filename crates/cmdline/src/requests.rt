@@ -2,7 +2,7 @@
 
 ghost use Rattle.std.specs.Prelude.{◌≡◌, option_and_then, option_map, codes};
 ghost use Rattle.clap.specs.Words.{Text, first_of, found_of, rows_of, subcommand_rows_of};
-ghost use Rattle.cmdline.specs.Line.{AsmOf, Asked, ConflictsOf, DebugOf, DisOf, MigrateOf, SeqOf, asked_by, asked_in, drive_of, flag_at, number_at, numbered_of, run_of, written_of};
+ghost use Rattle.cmdline.specs.Line.{AsmOf, Asked, ChainOf, ConflictsOf, DebugOf, DisOf, MigrateOf, SeqOf, asked_by, asked_in, drive_of, flag_at, number_at, numbered_of, run_of, written_of};
 
 use crate::Request;
 use clap::ArgMatches;
@@ -21,7 +21,7 @@ pub(crate) fn request_in<'a>(matches: &ArgMatches<'a>) -> Option<Request<'a>>
         ("dis", found) => dis_in(found),
         ("debug", found) => debug_in(found),
         ("migrate", found) => migrate_in(found),
-        ("chain", _) => Some(Request::Chain),
+        ("chain", found) => Some(chain_in(found)),
         _ => None,
     }
 }
@@ -113,6 +113,14 @@ fn migrate_in<'a>(found: &ArgMatches<'a>) -> Option<Request<'a>>
 {
     let (file, out) = files_in(found)?;
     Some(Request::Migrate { file, out })
+}
+
+/// The request of what clap found for `chain`.
+fn chain_in<'a>(found: &ArgMatches<'a>) -> Request<'a>
+    ensures { asked_by result ≡ ChainOf (number_at (codes "workers") (rows_of (found_of found.now))) }
+{
+    let workers = number_found(found, "workers");
+    Request::Chain { workers }
 }
 
 /// The FILE and the FILE of `--out` that clap found.

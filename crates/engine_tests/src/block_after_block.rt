@@ -1,12 +1,13 @@
 //! Sessions: block after block on one storage.
 
-use crate::asserts::{assert_number, assert_pieces};
-use crate::blocks::{InMemory, elf_of, forty_count_lines};
+use crate::asserts::{assert_bytes, assert_number, assert_pieces};
+use crate::blocks::{InMemory, count_lines, elf_of, forty_count_lines};
 use crate::fake_disk::{Stored, answer_with};
 use crate::programs::{BLOCK, RESULT, disk_of_echo};
 use crate::rows::COUNT;
 use byte_streams::FallibleWriter;
 use engines::chain_to;
+use sessions::{CallRunner, InOrder};
 use std::alloc::Global;
 use std::io;
 use std::io::{BufReader, Read, Write};
@@ -110,14 +111,24 @@ fn counting_session(alloc: Global) -> Result<String, Fail> {
     )?)
 }
 
-/// What is printed for an input over some programs, the path of each of which is its number.
-fn printed(alloc: Global, words: &[u32], input: &str) -> Result<Vec<u8>, Fail> {
-    let file = elf_of(alloc, words)?;
+/// What is printed for an input over a program, whose path is 0, by what runs the calls.
+pub fn printed_by<C: CallRunner>(
+    alloc: Global,
+    file: Vec<u8>,
+    runner: &mut C,
+    input: &str,
+) -> Result<Vec<u8>, Fail> {
     let files = [file];
+    let programs = InMemory { files: &files };
     let mut lines = BufReader::new(alloc, input.as_bytes())?;
     let mut text = Vec::new(alloc);
-    chain_to(alloc, &mut lines, InMemory { files: &files }, &mut text)?;
+    chain_to(alloc, &mut lines, programs, runner, &mut text)?;
     Ok(text)
+}
+
+/// What is printed for an input over a program, whose path is 0.
+fn printed(alloc: Global, words: &[u32], input: &str) -> Result<Vec<u8>, Fail> {
+    printed_by(alloc, elf_of(alloc, words)?, &mut InOrder, input)
 }
 
 #[test]
@@ -132,6 +143,59 @@ fn counts_go_on_from_frame_to_frame(rt: HostRuntime) -> Result<(), Fail> {
         "value 78000000\nstore 0000000000000000000000000000000000000000000000000000000000000001 78000000\nend\n",
     ];
     assert_pieces(&rt, text.as_slice(), &pieces, "three frames of counts")?;
+    Ok(())
+}
+
+#[test]
+fn a_frame_of_too_many_calls(rt: HostRuntime) -> Result<(), Fail> {
+    let lines = count_lines(rt.alloc(), 1025)?;
+    let input = format!(in rt.alloc(); "rvblock 1\nprogram 0 0\n{lines}end\ndump\n")?;
+    let text = printed(rt.alloc(), COUNT, input.as_str())?;
+    assert_bytes(
+        &rt,
+        text.as_slice(),
+        b"refused block 1027 Limit 7\nend\n",
+        "a frame of 1,025 calls",
+    );
+    Ok(())
+}
+
+#[test]
+fn a_frame_of_a_bad_program(rt: HostRuntime) -> Result<(), Fail> {
+    let input = "rvblock 1\nprogram 0 0\nend\ndump\n";
+    let text = printed_by(rt.alloc(), Vec::new(rt.alloc()), &mut InOrder, input)?;
+    assert_bytes(
+        &rt,
+        text.as_slice(),
+        b"refused elf Truncated 1\nend\n",
+        "a frame of a program without a byte",
+    );
+    Ok(())
+}
+
+/// What is printed behind the first line `end`.
+fn behind_end(alloc: Global, text: Vec<u8>) -> Result<String, Fail> {
+    let text = String::from_utf8(text)?;
+    let behind = match text.split_once("end\n") {
+        Some((_, behind)) => String::from_str(alloc, behind)?,
+        None => String::new(alloc),
+    };
+    Ok(behind)
+}
+
+#[test]
+fn a_dump_begins_another_session(rt: HostRuntime) -> Result<(), Fail> {
+    let alloc = rt.alloc();
+    let lines = forty_count_lines(alloc)?;
+    let frame = format!(in alloc; "rvblock 1\nprogram 0 0\n{lines}end\n")?;
+    let one = format!(in alloc; "{frame}{frame}dump\n")?;
+    let first = format!(in alloc; "{frame}dump\n")?;
+    let wanted = behind_end(alloc, printed(alloc, COUNT, one.as_str())?)?;
+    let dump = behind_end(alloc, printed(alloc, COUNT, first.as_str())?)?;
+    let other = format!(in alloc; "rvblock 1\n{dump}{frame}dump\n")?;
+    let text = behind_end(alloc, printed(alloc, COUNT, other.as_str())?)?;
+    assert!(rt; dump.starts_with("store "));
+    assert_bytes(&rt, text.as_bytes(), wanted.as_bytes(), "two sessions");
     Ok(())
 }
 
@@ -200,7 +264,8 @@ fn each_answer_is_shown_before_more_is_read(rt: HostRuntime) -> Result<(), Fail>
         },
     };
     let mut lines = BufReader::new(rt.alloc(), typist)?;
-    chain_to(rt.alloc(), &mut lines, InMemory { files: &[] }, &mut screen)?;
+    let programs = InMemory { files: &[] };
+    chain_to(rt.alloc(), &mut lines, programs, &mut InOrder, &mut screen)?;
     assert_number(&rt, screen.writer.written, 13, "bytes written");
     Ok(())
 }

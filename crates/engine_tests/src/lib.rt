@@ -55,6 +55,8 @@ mod rules_two;
 #[cfg(test)]
 mod schedules;
 #[cfg(test)]
+mod session_threads;
+#[cfg(test)]
 mod sizes;
 #[cfg(test)]
 mod sources;

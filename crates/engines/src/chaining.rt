@@ -15,7 +15,7 @@ use crate::loading::load_one;
 use crate::programs::Programs;
 use byte_streams::Destination;
 use elf32::Image;
-use sessions::{Loader, ProgramFault, ServeFault, Session, serve};
+use sessions::{CallRunner, Loader, ProgramFault, ServeFault, Session, serve};
 use std::alloc::Global;
 use std::io::BufRead;
 use std::sync::Arc;
@@ -53,13 +53,14 @@ fn fault_of(refusal: Refusal) -> ProgramFault
 }
 
 /// Answers each request of an input in a session that begins with an empty storage, up to a line `q` or the end of the
-/// input. Each answer is written and flushed before more is read. Refused as Unreadable where a read failed, or memory for a
+/// input. The calls of its frames are run by `runner`, which changes no answer. Each answer is written and flushed before more is read. Refused as Unreadable where a read failed, or memory for a
 /// line ran out, which comes between two requests. Refused as Output where a write failed: a beginning of the answer was
 /// written.
-pub fn chain_to<R: BufRead, P: Programs + Drop, W: Destination>(
+pub fn chain_to<R: BufRead, P: Programs + Drop, C: CallRunner, W: Destination>(
     alloc: Global,
     input: &mut R,
     programs: P,
+    runner: &mut C,
     out: &mut W,
 ) -> Result<(), Refusal>
     ensures ok { OnOk result (IfSome (R.remaining input.old) (λ bytes. (text : List ℕ) × (after : State)
@@ -71,7 +72,7 @@ pub fn chain_to<R: BufRead, P: Programs + Drop, W: Destination>(
     ensures refused { IfErr result (λ e. (fault : ServeFault) × (e ≡ cut_of fault) × MayEnd (W.may_fail out.old) (W.may_take_nothing out.old) fault) }
 {
     let mut session = Session::new(alloc, FileLoader { alloc, programs });
-    match serve(alloc, input, &mut session, out) {
+    match serve(alloc, input, runner, &mut session, out) {
         Ok(()) => Ok(()),
         Err(fault) => Err(cut_of(fault)),
     }

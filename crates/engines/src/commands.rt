@@ -3,6 +3,7 @@
 ghost use Rattle.std.specs.Prelude.{◌≡◌};
 
 use crate::assembling::{SOURCE_MEMORY, file_of_source};
+use crate::by_threads::ByThreads;
 use crate::chaining::chain_to;
 use crate::counts::{RunCounts, write_counts};
 use crate::debugging::debug_block_to;
@@ -17,6 +18,7 @@ use crate::reporting::report;
 use crate::running::run_to;
 use byte_streams::{Destination, FallibleReader, FallibleWriter, WriteFault, write_whole};
 use cmdline::{Request, request_of};
+use sessions::{CallRunner, InOrder};
 use std::alloc::Global;
 use std::fs::File;
 use std::io::{BufReader, Read, Stderr, Stdin, Stdout, Write};
@@ -179,7 +181,7 @@ fn answer<T: Threads + Wait + Sync, D: Disk, I: Read, W: Destination, E: Destina
         Request::Dis { file } => dis(alloc, disk, file, out),
         Request::Migrate { file, out } => migrate(alloc, disk, file, out),
         Request::Debug { file, call } => debug(alloc, disk, file, call, input, out),
-        Request::Chain => chain(alloc, disk, input, out),
+        Request::Chain { workers } => chain(threads, alloc, disk, workers, input, out),
     }
 }
 
@@ -339,17 +341,37 @@ fn debug<D: Disk, I: Read, W: Destination>(
     debug_block_to(alloc, &mut block, &mut programs, call, &mut lines, out)
 }
 
-/// Answers the requests of the input in one session, whose blocks run one after another on one storage.
-fn chain<D: Disk, I: Read, W: Destination>(
+/// Answers the requests of the input in one session, whose blocks run one after another on one storage: by threads where
+/// a number of workers is given and that pays, and else in order.
+fn chain<T: Threads + Wait + Sync, D: Disk, I: Read, W: Destination>(
+    threads: &T,
     alloc: Global,
     disk: &D,
+    workers: Option<usize>,
+    input: &mut I,
+    out: &mut W,
+) -> Result<(), Refusal> {
+    match workers {
+        None => chain_by(alloc, disk, &mut InOrder, input, out),
+        Some(workers) => {
+            let mut runner = ByThreads::new(threads, alloc, workers);
+            chain_by(alloc, disk, &mut runner, input, out)
+        }
+    }
+}
+
+/// Answers the requests of the input in one session, whose calls are run by `runner`.
+fn chain_by<D: Disk, C: CallRunner, I: Read, W: Destination>(
+    alloc: Global,
+    disk: &D,
+    runner: &mut C,
     input: &mut I,
     out: &mut W,
 ) -> Result<(), Refusal> {
     let Ok(mut lines) = BufReader::new(alloc, input) else {
         return Err(Refusal::Seq(SeqFault::Memory));
     };
-    chain_to(alloc, &mut lines, ProgramFiles { disk }, out)
+    chain_to(alloc, &mut lines, ProgramFiles { disk }, runner, out)
 }
 
 /// Opens a file to read it.

@@ -2,6 +2,7 @@
 #![tactic(auto)]
 
 mod assembling;
+mod by_threads;
 mod chaining;
 mod commands;
 mod counts;
@@ -20,8 +21,10 @@ mod refusal_parts;
 mod reporting;
 mod results;
 mod running;
+mod thread_costs;
 
 pub use assembling::file_of_source;
+pub use by_threads::ByThreads;
 pub use chaining::{FileLoader, chain_to};
 pub use commands::{exit_code, status};
 pub use counts::{RunCounts, write_counts};

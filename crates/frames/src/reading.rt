@@ -8,8 +8,8 @@ use std::alloc::Global;
 use std::io;
 use std::io::{BufRead, ErrorKind};
 
-/// Reads the next request; None at a line `q` and at the end of the input. Refused where a read failed, or memory for a
-/// line ran out. Where memory for a whole frame runs out, it is read to its end and not kept.
+/// Reads the next request; None at a line `q` and at the end of the input. Refused where a read failed, memory for a
+/// line ran out, or a frame has 2^64 lines. Where memory for a whole frame runs out, it is read to its end and not kept.
 pub fn next_request<R: BufRead>(alloc: Global, input: &mut R) -> io::Result<Option<Request>>
     ensures { IfOk result (λ request. WhereKnown (R.remaining input.old) (R.remaining input.new) (λ xs ys.
         AreAsked request (requests_of xs) (requests_of ys))) }

@@ -12,6 +12,7 @@ ghost use Rattle.sessions.specs.Answering.{Says};
 ghost use Rattle.sessions.specs.Faults.{refused_line};
 ghost use Rattle.sessions.specs.Session.{IsAnswer, IsWant, answer_text, content_line, key_answer, key_asked, line_answer};
 
+use crate::call_runner::CallRunner;
 use crate::fault::FrameFault;
 use crate::loader::Loader;
 use crate::refusing::refused_line;
@@ -32,8 +33,9 @@ const FRAME_MEMORY: BlockFault = BlockFault {
 
 /// Answers a request: does what it asks, writes what that prints, and flushes it. Refused where a write failed; then a
 /// beginning of the answer was written, and what it says was done.
-pub(crate) fn answer<L: Loader, W: Destination>(
+pub(crate) fn answer<L: Loader, C: CallRunner, W: Destination>(
     alloc: Global,
+    runner: &mut C,
     session: &mut Session<L>,
     request: Request,
     out: &mut W,
@@ -47,7 +49,10 @@ pub(crate) fn answer<L: Loader, W: Destination>(
     match request {
         Request::Frame(bytes) => {
             let Session { state, programs } = session;
-            print_answer(answer_frame(alloc, state, programs, bytes.as_slice()), out)
+            print_answer(
+                answer_frame(alloc, runner, state, programs, bytes.as_slice()),
+                out,
+            )
         }
         Request::Unkept => print_refusal(FrameFault::Block(FRAME_MEMORY), out),
         Request::CutOff => print_answer(Err(FrameFault::NoEnd), out),

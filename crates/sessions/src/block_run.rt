@@ -9,20 +9,21 @@ ghost use Rattle.rv_step.specs.Fold.{receipts_of, store_after};
 ghost use Rattle.sessions.specs.Faults.{IsWantOfMemory};
 ghost use Rattle.sessions.specs.Session.{put_over};
 
+use crate::call_runner::CallRunner;
 use crate::fault::FrameFault;
 use overlay::{Overlay, commit};
 use receipts::result_text;
 use rv_ledger::{Call, Receipt, Store};
-use seq_exec::run_over;
 use std::alloc::{AllocError, Global};
 
-/// Puts entries over a storage and runs calls on it in order. Returns the text of the receipts. The cost does not grow with
-/// the storage. Refused where memory ran out, and then the storage is as it was.
+/// Puts entries over a storage and runs calls on it. Returns the text of the receipts. In order, the cost does not
+/// grow with the storage. Refused where memory ran out, and then the storage is as it was.
 ///
 /// On an empty storage the calls run over the entries, which were made in one pass and take its place.
 #[tactic(auto, using(overlay::proofs::WithChanges::without_changes))]
-pub(crate) fn run_block(
+pub(crate) fn run_block<C: CallRunner>(
     alloc: Global,
+    runner: &mut C,
     store: &mut Store,
     entries: Store,
     calls: &[Call],
@@ -33,13 +34,13 @@ pub(crate) fn run_block(
     ensures want { IfErr result (λ fault. IsWantOfMemory fault) }
 {
     if is_empty(store) {
-        return run_first(alloc, store, entries, calls);
+        return run_first(alloc, runner, store, entries, calls);
     }
     let mut changes = Overlay::new(alloc);
     if put_entries(&mut changes, &entries).is_err() {
         return Err(FrameFault::RunMemory);
     }
-    run_changed(alloc, store, changes, calls)
+    run_changed(alloc, runner, store, changes, calls)
 }
 
 /// Whether a storage has no key.
@@ -52,8 +53,9 @@ fn is_empty(store: &Store) -> bool
 
 /// Runs calls over entries, which take the place of an empty storage.
 #[tactic(auto, using(overlay::proofs::WithChanges::without_changes, crate::proofs::Entries::over_none))]
-fn run_first(
+fn run_first<C: CallRunner>(
     alloc: Global,
+    runner: &mut C,
     store: &mut Store,
     entries: Store,
     calls: &[Call],
@@ -65,15 +67,16 @@ fn run_first(
     ensures want { IfErr result (λ fault. IsWantOfMemory fault) }
 {
     let mut first = entries;
-    let text = run_changed(alloc, &mut first, Overlay::new(alloc), calls)?;
+    let text = run_changed(alloc, runner, &mut first, Overlay::new(alloc), calls)?;
     *store = first;
     Ok(text)
 }
 
 /// Runs calls on a storage with changes, and makes all changes. The text of the receipts is made before the storage is
 /// changed, since memory may run out there too.
-fn run_changed(
+fn run_changed<C: CallRunner>(
     alloc: Global,
+    runner: &mut C,
     store: &mut Store,
     changes: Overlay,
     calls: &[Call],
@@ -84,7 +87,7 @@ fn run_changed(
     ensures want { IfErr result (λ fault. IsWantOfMemory fault) }
 {
     let mut changes = changes;
-    let Ok(receipts) = run_over(alloc, store, &mut changes, calls) else {
+    let Ok(receipts) = runner.run_calls(alloc, store, &mut changes, calls) else {
         return Err(FrameFault::RunMemory);
     };
     let text = receipts_text(alloc, receipts.as_slice())?;

@@ -3,6 +3,7 @@
 
 mod answering;
 mod block_run;
+mod call_runner;
 mod fault;
 mod fault_parts;
 mod laws;
@@ -15,6 +16,7 @@ mod serving;
 mod session;
 mod state;
 
+pub use call_runner::{CallRunner, InOrder};
 pub use fault::{FrameFault, ProgramFault};
 pub use laws::{frame_answers_as_seq, session_is_a_fold};
 pub use line_texts::line_text;

@@ -7,6 +7,7 @@ ghost use Rattle.sessions.specs.Serving.{AreAnswered, IsCutShort, MayEnd};
 ghost use Rattle.sessions.specs.Session.{IsAnswer};
 
 use crate::answering::answer;
+use crate::call_runner::CallRunner;
 use crate::loader::Loader;
 use crate::session::Session;
 use byte_streams::{Destination, WriteFault};
@@ -23,12 +24,14 @@ pub enum ServeFault {
     Output(WriteFault),
 }
 
-/// Answers each request of an input, up to a line `q` or its end. Each answer is written and flushed before more is read.
-/// The first fault ends the session. Unreadable comes between two requests. Output comes where an answer was being
-/// written: a beginning of it was written, and what it says was done.
-pub fn serve<R: BufRead, L: Loader, W: Destination>(
+/// Answers each request of an input, up to a line `q` or its end. The calls of its frames are run by `runner`. Each answer
+/// is written and flushed before more is read. The first fault ends the session. Unreadable comes between two requests, and
+/// also behind 2^64 - 1 of them. Output comes where an answer was being written: a beginning of it was written, and what it
+/// says was done.
+pub fn serve<R: BufRead, L: Loader, C: CallRunner, W: Destination>(
     alloc: Global,
     input: &mut R,
+    runner: &mut C,
     session: &mut Session<L>,
     out: &mut W,
 ) -> Result<(), ServeFault>
@@ -47,7 +50,7 @@ pub fn serve<R: BufRead, L: Loader, W: Destination>(
             Ok(None) => return Ok(()),
             Err(_) => return Err(ServeFault::Unreadable),
         };
-        match answer(alloc, session, request, out) {
+        match answer(alloc, runner, session, request, out) {
             Ok(()) => {}
             Err(fault) => return Err(ServeFault::Output(fault)),
         }

@@ -11,6 +11,7 @@ ghost use Rattle.sessions.specs.Programs.{programs_of};
 ghost use Rattle.sessions.specs.Session.{IsRefusedAs, IsTurn, answer_text, block_turn, loaded_turn, ran, rules_number};
 
 use crate::block_run::run_block;
+use crate::call_runner::CallRunner;
 use crate::fault::FrameFault;
 use crate::loaded::LoadedPrograms;
 use crate::loader::Loader;
@@ -49,8 +50,9 @@ impl<L: Loader> Session<L> {
 
 /// Answers a frame. Refused by the first fault of its text, its rules and its programs, in this order, or where memory ran
 /// out; then the state is as it was.
-pub fn answer_frame<L: Loader>(
+pub fn answer_frame<L: Loader, C: CallRunner>(
     alloc: Global,
+    runner: &mut C,
     state: &mut State,
     programs: &mut LoadedPrograms<L>,
     bytes: &[u8],
@@ -67,7 +69,7 @@ pub fn answer_frame<L: Loader>(
     if number_of(block.rules) < number_of(state.rules) {
         return Err(FrameFault::OlderRules);
     }
-    answer_block(alloc, state, programs, block)
+    answer_block(alloc, runner, state, programs, block)
 }
 
 /// The number of rules, 1 to 3.
@@ -78,8 +80,9 @@ fn number_of(rules: Rules) -> u8
 }
 
 /// Answers a block whose rules are no lower than those before it.
-fn answer_block<L: Loader>(
+fn answer_block<L: Loader, C: CallRunner>(
     alloc: Global,
+    runner: &mut C,
     state: &mut State,
     programs: &mut LoadedPrograms<L>,
     block: BlockText,
@@ -100,12 +103,13 @@ fn answer_block<L: Loader>(
         Ok(images) => images,
         Err(fault) => return Err(FrameFault::Program(fault)),
     };
-    run_lines(alloc, state, rules, images.as_slice(), calls, store)
+    run_lines(alloc, runner, state, rules, images.as_slice(), calls, store)
 }
 
 /// Runs the calls of lines over the loaded programs, on the storage with the entries put over it.
-fn run_lines(
+fn run_lines<C: CallRunner>(
     alloc: Global,
+    runner: &mut C,
     state: &mut State,
     rules: Rules,
     images: &[Arc<Image>],
@@ -120,7 +124,7 @@ fn run_lines(
     let Ok(calls) = calls_over(alloc, rules, images, lines) else {
         return Err(FrameFault::RunMemory);
     };
-    let text = run_block(alloc, &mut state.store, entries, calls.as_slice())?;
+    let text = run_block(alloc, runner, &mut state.store, entries, calls.as_slice())?;
     state.rules = rules;
     Ok(text)
 }

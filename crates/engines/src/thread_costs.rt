@@ -1,0 +1,35 @@
+//! When calls run faster by threads.
+
+use rv_ledger::Receipt;
+
+/// What a call costs by threads beside its own steps, in gas: its steps under the lock, one after the other.
+const CALL_COST: u64 = 1_500;
+
+/// What a worker costs, in gas: its thread.
+const WORKER_COST: u64 = 10_000;
+
+/// What a key of the storage costs, in gas: it is copied three times.
+const KEY_COST: u64 = 100;
+
+/// Whether so many calls that are alike those of some receipts run faster by threads, over a storage of so many keys. What
+/// threads save is the gas of the calls, less one worker's part of it. The costs are measured: bench/README.md says on what
+/// machine. No result rests on the answer.
+pub(crate) fn pays(workers: usize, shown: &[Receipt], calls: usize, keys: usize) -> bool {
+    let (workers, calls, keys) = (workers as u64, calls as u64, keys as u64);
+    let work = gas_of_each(shown).saturating_mul(calls);
+    let saved = work - work / workers.max(1);
+    let costs = calls
+        .saturating_mul(CALL_COST)
+        .saturating_add(workers.saturating_mul(WORKER_COST))
+        .saturating_add(keys.saturating_mul(KEY_COST));
+    saved > costs
+}
+
+/// The gas that a call used, in the mean; 0 where there is none.
+fn gas_of_each(receipts: &[Receipt]) -> u64 {
+    let mut gas: u64 = 0;
+    for receipt in receipts {
+        gas = gas.saturating_add(u64::from(receipt.gas));
+    }
+    gas.checked_div(receipts.len() as u64).unwrap_or(0)
+}
