@@ -1,4 +1,5 @@
 mod Chains
+mod Conflicts
 pub mod JobFaults
 pub mod ProgramFiles
 pub mod LaterFaults

@@ -4,6 +4,7 @@ pub mod Listing
 pub mod StageFaults
 pub mod Driving
 pub mod Faults
+pub mod Finding
 pub mod Running
 pub mod Counts
 pub mod Debugging

@@ -12,6 +12,7 @@ use Rattle.rv_ledger.specs.declared.job.Job.{Job}
 use Rattle.rv_step.specs.Fold.{receipts_of, store_after}
 use Rattle.stm_core.specs.declared.engine.DriveFault.TheVariants as drive
 use Rattle.engines.specs.Engine.{loaded_job, IsTextFault, MayBeUnreadable}
+use Rattle.engines.specs.Finding.{AppendsPartOfConflicts}
 use Rattle.engines.specs.Running.{IsRefusalOf}
 use Rattle.engines.specs.declared.fault.Refusal.{Refusal}
 use Rattle.engines.specs.declared.fault.Refusal.TheVariants.{File, Block, Elf, Seq, Schedule, Run, Drive, Debug, Output}
@@ -56,6 +57,12 @@ abbrev pub IsRunFault : (WriteFault → Type 0) → List ℕ → Option (List �
 IsRunFault may_refuse text old new (Seq fault) = ⊤
 IsRunFault may_refuse text old new (Output fault) = may_refuse fault × AppendsPart old new text
 IsRunFault may_refuse text old new _ = ⊥
+
+-- a refusal of a command that writes the conflicts of a job: Memory, or one of the output
+abbrev pub IsConflictsFault : (WriteFault → Type 0) → Job → Option (List ℕ) → Option (List ℕ) → Refusal → Type 0
+IsConflictsFault may_refuse job old new (Seq fault) = ⊤
+IsConflictsFault may_refuse job old new (Output fault) = may_refuse fault × AppendsPartOfConflicts job old new
+IsConflictsFault may_refuse job old new _ = ⊥
 
 -- a refusal of a run along a list: the wanted one, Memory, or one of the output
 abbrev pub IsDriveFault : (WriteFault → Type 0) → Result (List ℕ) Refusal → Option (List ℕ) → Option (List ℕ) → Refusal → Type 0

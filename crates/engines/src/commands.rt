@@ -10,6 +10,7 @@ use crate::debugging::debug_block_to;
 use crate::disk::{Disk, LateFile, ProgramFiles};
 use crate::driving::drive_to;
 use crate::fault::{FileFault, Refusal, SeqFault};
+use crate::finding::conflicts_to;
 use crate::in_order::seq_to;
 use crate::listing::dis_to;
 use crate::loading::BLOCK_MEMORY;
@@ -168,6 +169,7 @@ fn answer<T: Threads + Wait + Sync, D: Disk, I: Read, W: Destination, E: Destina
             print_counts(alloc, counts, &found, errors)
         }
         Request::Seq { file } => seq(alloc, disk, file, out),
+        Request::Conflicts { file } => conflicts(alloc, disk, file, out),
         Request::Drive {
             file,
             workers,
@@ -225,6 +227,17 @@ fn seq<D: Disk, W: Destination>(
 ) -> Result<(), Refusal> {
     let mut block = opened(disk, file)?;
     seq_to(alloc, &mut block, &mut ProgramFiles { disk }, out)
+}
+
+/// Runs the calls of a block file in order and prints which of them wait for which.
+fn conflicts<D: Disk, W: Destination>(
+    alloc: Global,
+    disk: &D,
+    file: &str,
+    out: &mut W,
+) -> Result<(), Refusal> {
+    let mut block = opened(disk, file)?;
+    conflicts_to(alloc, &mut block, &mut ProgramFiles { disk }, out)
 }
 
 /// Runs the calls of a block file along a schedule, and prints the result. Returns what the workers did. The
