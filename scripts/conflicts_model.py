@@ -1,0 +1,85 @@
+"""Which calls of a block wait for which, by what `rvstm seq` and `rvstm debug` show of each call and not by `rvstm conflicts`.
+
+The receipts say what each call changed. A replay of each call shows its storage calls, and so the keys that it read where its
+own writes do not answer. A read waits for the nearest earlier call that wrote or removed the key, and for all that added to
+it behind that call.
+"""
+
+import charges
+import program
+import replays
+import results
+
+READ_BASE = 200  # the gas of a READ before it asks
+
+
+class Block:
+    """The rules of a block, and the gas limits of its calls."""
+
+    def __init__(self, path):
+        with open(path, encoding="ascii") as file:
+            rows = [line.split() for line in file]
+        self.rules = next((int(row[1]) for row in rows if row[:1] == ["gas"]), 1)
+        self.limits = [int(row[2]) for row in rows if row[:1] == ["call"]]
+
+
+def is_asked(call, is_last, receipt, limit):
+    """Whether the storage is asked for the key of a READ: not where the call ends before, by a fault or for want of gas."""
+    if not is_last or receipt.end == "returned":
+        return True
+    return receipt.end == "out-of-gas" and limit - call.gas >= READ_BASE
+
+
+def keys_read(replay, receipt, limit):
+    """The keys that a call reads where its own writes do not answer."""
+    keys, own = set(), {}
+    for place, call in enumerate(replay.storage_calls, 1):
+        key = call.key and call.key.hex()
+        is_last = place == len(replay.storage_calls) and replay.last_text == "ecall"
+        if call.number == charges.READ and own.get(key) != "known":
+            if is_asked(call, is_last, receipt, limit):
+                keys.add(key)
+        elif call.number in (charges.WRITE, charges.REMOVE):
+            own[key] = "known"
+        elif call.number == charges.ADD:
+            own.setdefault(key, "sum")
+    return keys
+
+
+def writers_of(receipts, key, reader):
+    """The calls that a read of a key waits for, the nearest first."""
+    for receipt in reversed(receipts[:reader]):
+        change = receipt.writes.get(key)
+        if change is not None:
+            yield receipt.number
+            if not change.startswith("add "):
+                return
+
+
+def waits_of(path, receipts):
+    """The waits of each call: its earlier calls, each with the key."""
+    block = Block(path)
+    for receipt, limit in zip(receipts, block.limits, strict=True):
+        replay = replays.Replay(path, receipt.number, block.rules)
+        keys = sorted(keys_read(replay, receipt, limit))
+        yield [(writer, key) for key in keys for writer in writers_of(receipts, key, receipt.number)]
+
+
+def text_of(path):
+    """What `rvstm conflicts` has to print of a block that is not refused."""
+    text, refusal = program.run(["seq", path])
+    if refusal:
+        raise ValueError(refusal)
+    receipts, _ = results.result_of(text)
+    lines, paths, named = [], [], []
+    for receipt, waits in zip(receipts, waits_of(path, receipts)):
+        paths.append(receipt.gas + max((paths[writer] for writer, _ in waits), default=0))
+        named += [key for _, key in waits]
+        lines += [f"wait {receipt.number} {writer} {key}" for writer, key in waits]
+        lines.append(f"call {receipt.number} gas {receipt.gas} path {paths[-1]}")
+    for key in sorted(set(named)):
+        writers = sum(key in receipt.writes for receipt in receipts)
+        lines.append(f"key {key} writers {writers} waits {named.count(key)}")
+    gas = sum(receipt.gas for receipt in receipts)
+    lines.append(f"all calls {len(receipts)} gas {gas} path {max(paths, default=0)}")
+    return "".join(f"{line}\n" for line in lines)
