@@ -202,7 +202,7 @@ chain_is_asked program = refl
 
 -- the same of `chain --workers N`
 abbrev chain_shape : Shape
-chain_shape = shape_at 7
+chain_shape = shape_at 8
 
 abbrev at_workers : Walk
 at_workers = walked chain_shape.rules [] (at nothing_held idle 1) (codes "--workers")
