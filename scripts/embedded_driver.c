@@ -28,7 +28,8 @@ static uint8_t *input(size_t length)
     return bytes;
 }
 
-static uint32_t call(rvstm_session *session, char name, const uint8_t *first, size_t first_length, const uint8_t *second, size_t second_length)
+static uint32_t call(
+    rvstm_session *session, char name, const uint8_t *first, size_t first_length, const uint8_t *second, size_t second_length)
 {
     switch (name) {
     case 'o': return rvstm_open(session);
