@@ -13,6 +13,7 @@ _rvstm() {
     case $command in
     run) options="--workers --counts" ;;
     drive) options="--workers --schedule --counts" ;;
+    chain) options="--workers" ;;
     asm | migrate) options="--out" ;;
     debug) options="--call" ;;
     help) COMPREPLY=($(compgen -W "run seq conflicts drive asm dis debug migrate chain" -- "$word")) && return ;;

@@ -87,16 +87,17 @@ def told(status):
     return b"status %d\n" % status if status else b""
 
 
-def answers_at_once(rvstm, folder, text):
+def answers_at_once(rvstm, folder, text, workers):
     """What a session writes for an input that it gets in one piece."""
-    done = subprocess.run([rvstm, "chain"], cwd=folder, input=text, capture_output=True, timeout=SECONDS_A_SESSION)
+    words = [rvstm, *sessions.words_of(workers)]
+    done = subprocess.run(words, cwd=folder, input=text, capture_output=True, timeout=SECONDS_A_SESSION)
     return done.stdout + told(done.returncode)
 
 
-def answers_one_by_one(rvstm, folder, text):
+def answers_one_by_one(rvstm, folder, text, workers):
     """What a session writes for an input, where each answer is read before the next request is given."""
     *first, last = list(sessions.requests_of(text)) or [b""]
-    with sessions.Session(rvstm, folder) as session:
+    with sessions.Session(rvstm, folder, workers) as session:
         clock = threading.Timer(SECONDS_A_SESSION, session.process.kill)
         clock.start()
         try:
@@ -116,7 +117,7 @@ def first_difference(answers, text, in_order):
     return f"behind the last answer: {answers[:200]!r}" if answers else None
 
 
-def difference(rvstm, folder, text, is_at_once):
+def difference(rvstm, folder, text, is_at_once, workers=None):
     """How the answers to an input differ from those in order, or None."""
-    answers = (answers_at_once if is_at_once else answers_one_by_one)(rvstm, folder, text)
+    answers = (answers_at_once if is_at_once else answers_one_by_one)(rvstm, folder, text, workers)
     return first_difference(answers, text, sessions.InOrder(rvstm, folder))

@@ -9,12 +9,17 @@ GET = re.compile(rb"get ([0-9a-f]{64})")
 SECONDS_A_BLOCK = 60
 
 
-class Session:
-    """A process that answers requests. The paths of programs are taken from its folder."""
+def words_of(workers):
+    """The words of the command line: for a session in order, or by so many workers."""
+    return ["chain"] + (["--workers", str(workers)] if workers else [])
 
-    def __init__(self, rvstm, folder="."):
+
+class Session:
+    """A process that answers requests, by so many workers where that is said. The paths of programs are taken from its folder."""
+
+    def __init__(self, rvstm, folder=".", workers=None):
         pipe = subprocess.PIPE
-        self.process = subprocess.Popen([rvstm, "chain"], cwd=folder, stdin=pipe, stdout=pipe)
+        self.process = subprocess.Popen([rvstm, *words_of(workers)], cwd=folder, stdin=pipe, stdout=pipe)
 
     def __enter__(self):
         return self

@@ -5,6 +5,7 @@ import subprocess
 KEYS = 3  # that the input of a program has, 32 bytes each
 BUFFER = "addi a1,sp,-256"
 AMOUNTS = (0, 1, 7, 2**32 - 1, 2**32, 2**64 - 1)
+MOST_ROUNDS = 8_000  # of the loop that a program begins with, of two instructions each
 
 
 def storage_call(choice):
@@ -21,9 +22,11 @@ def storage_call(choice):
 
 
 def source(choice):
-    """A program in assembly: up to eight storage calls, some of them only where the number that was read last is odd, and
-    then a return of eight bytes of it."""
+    """A program in assembly: in a third of them some rounds of a loop; up to eight storage calls, some of them only where the
+    number that was read last is odd; and then a return of eight bytes of it."""
     lines = ["mv s0,a0"]
+    if choice.randrange(3) == 0:
+        lines += [f"li t0,{choice.randrange(1, MOST_ROUNDS)}", "round:", "addi t0,t0,-1", "bne t0,x0,round"]
     for number in range(choice.randrange(1, 9)):
         is_left_out = choice.randrange(3) == 0
         if is_left_out:
