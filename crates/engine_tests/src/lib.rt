@@ -17,6 +17,8 @@ mod calls;
 #[cfg(test)]
 mod chains;
 #[cfg(test)]
+mod conflict_rows;
+#[cfg(test)]
 mod counts;
 #[cfg(test)]
 mod debugging;

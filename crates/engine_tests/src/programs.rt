@@ -71,6 +71,12 @@ const LINES: &[(&str, u8, &str, &str)] = &[
     ("rvstm run echo.block --workers 4", 0, RESULT, ""),
     ("rvstm debug echo.block --call 0", 0, "", ""),
     (
+        "rvstm conflicts echo.block",
+        0,
+        "call 0 gas 13 path 13\nall calls 1 gas 13 path 13\n",
+        "",
+    ),
+    (
         "rvstm drive echo.block --workers 1 --schedule one.schedule",
         0,
         RESULT,
@@ -107,6 +113,18 @@ const LINES: &[(&str, u8, &str, &str)] = &[
         "rvstm: block 1 BadHeader 1\n",
     ),
     ("rvstm seq lost.block", 1, "", "rvstm: file Unreadable 1\n"),
+    (
+        "rvstm conflicts wrong.block",
+        1,
+        "",
+        "rvstm: block 1 BadHeader 1\n",
+    ),
+    (
+        "rvstm conflicts lost.block",
+        1,
+        "",
+        "rvstm: file Unreadable 1\n",
+    ),
     (
         "rvstm run lost.block --workers 2",
         1,

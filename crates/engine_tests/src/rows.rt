@@ -66,7 +66,7 @@ pub const GET: &[u32] = &[
 ];
 
 /// Returns where a key has a value, and reverts where it is absent.
-const SEEN: &[u32] = &[
+pub const SEEN: &[u32] = &[
     0x0000_0073,
     0x0030_0893,
     0x0000_0593,
@@ -77,7 +77,7 @@ const SEEN: &[u32] = &[
 ];
 
 /// Writes an empty value at the second key of its input where the first is absent.
-const COND: &[u32] = &[
+pub const COND: &[u32] = &[
     0x0205_0413,
     0x0000_0073,
     0xfff0_0293,

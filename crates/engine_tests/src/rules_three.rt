@@ -17,7 +17,7 @@ use stm_core::{DriveFault, drive};
 use workers::Executor;
 
 /// Adds 1 to a key.
-const BUMP: &[u32] = &[
+pub const BUMP: &[u32] = &[
     0x0050_0893,
     0x0010_0593,
     0x0000_0073,
@@ -27,7 +27,7 @@ const BUMP: &[u32] = &[
 ];
 
 /// Adds 7 to a key twice, and returns the eight bytes that it then reads there.
-const TWICE: &[u32] = &[
+pub const TWICE: &[u32] = &[
     0x0050_0893,
     0x0070_0593,
     0x0000_0073,
@@ -47,7 +47,7 @@ const ONE: &str = "rvblock 2\ngas 1\n";
 
 const TWO: &str = "rvblock 2\ngas 2\n";
 
-const THREE: &str = "rvblock 2\ngas 3\n";
+pub const THREE: &str = "rvblock 2\ngas 3\n";
 
 /// A block under some rules, and pieces of what is printed of it.
 struct Case {
