@@ -6,7 +6,7 @@ use crate::fake_disk::{Stored, answer_with};
 use crate::programs::{BLOCK, RESULT, disk_of_echo};
 use crate::rows::COUNT;
 use byte_streams::FallibleWriter;
-use engines::chain_to;
+use engines::{chain_to, chain_with};
 use sessions::{CallRunner, InOrder};
 use std::alloc::Global;
 use std::io;
@@ -117,12 +117,14 @@ pub fn printed_by<C: CallRunner>(
     file: Vec<u8>,
     runner: &mut C,
     input: &str,
-) -> Result<Vec<u8>, Fail> {
+) -> Result<Vec<u8>, Fail>
+    requires { C.ready }
+{
     let files = [file];
     let programs = InMemory { files: &files };
     let mut lines = BufReader::new(alloc, input.as_bytes())?;
     let mut text = Vec::new(alloc);
-    chain_to(alloc, &mut lines, programs, runner, &mut text)?;
+    chain_with(alloc, &mut lines, programs, runner, &mut text)?;
     Ok(text)
 }
 
@@ -265,7 +267,7 @@ fn each_answer_is_shown_before_more_is_read(rt: HostRuntime) -> Result<(), Fail>
     };
     let mut lines = BufReader::new(rt.alloc(), typist)?;
     let programs = InMemory { files: &[] };
-    chain_to(rt.alloc(), &mut lines, programs, &mut InOrder, &mut screen)?;
+    chain_to(rt.alloc(), &mut lines, programs, &mut screen)?;
     assert_number(&rt, screen.writer.written, 13, "bytes written");
     Ok(())
 }

@@ -19,7 +19,7 @@ const WORK: &str = "addi s0,a0,0\nlw t0,32(a0)\nround: addi t0,t0,-1\nbne t0,x0,
     addi a1,x0,0\naddi a7,x0,3\necall\n";
 
 /// How many calls a frame has.
-const CALLS: u32 = 64;
+const CALLS: u32 = 24;
 
 /// How many keys they count up in turn.
 const KEYS: u32 = 8;
@@ -28,12 +28,12 @@ const KEYS: u32 = 8;
 /// pay. A run by 33 is refused, and then the calls run in order.
 const WORKERS: &[(usize, u64)] = &[(1, 0), (4, 4), (32, 32), (33, 0)];
 
-/// A session of two frames of calls of 10,000 rounds, and what they leave.
+/// A session of two frames of calls of 12,000 rounds, and what they leave.
 fn working_session(alloc: Global) -> Result<String, Fail> {
     let mut frame = String::from_str(alloc, "rvblock 1\nprogram 0 0\n")?;
     for call in 0..CALLS {
         let key = call % KEYS;
-        let line = format!(in alloc; "call 0 100000 {key:064x}10270000\n")?;
+        let line = format!(in alloc; "call 0 100000 {key:064x}e02e0000\n")?;
         frame.push_str(line.as_str())?;
     }
     Ok(format!(in alloc; "{frame}end\n{frame}end\ndump\n")?)
@@ -68,7 +68,7 @@ fn a_session_by_threads(rt: HostRuntime) -> Result<(), Fail> {
     let wanted = printed_by(rt.alloc(), file, &mut InOrder, input.as_str())?;
     assert!(rt;
         wanted.ends_with(
-            b"store 0000000000000000000000000000000000000000000000000000000000000007 10000000\nend\n"
+            b"store 0000000000000000000000000000000000000000000000000000000000000007 06000000\nend\n"
         )
     );
     for (workers, threads) in WORKERS {

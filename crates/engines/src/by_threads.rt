@@ -1,6 +1,7 @@
 //! Running the calls of a session's frames by threads where that pays.
 
 ghost use Rattle.std.specs.Prelude.{◌≡◌, [], IfOk, IfSome, OnOk};
+ghost use Rattle.std.specs.Thread.{IsSync};
 ghost use Rattle.overlay.specs.Overlay.{with_changes};
 ghost use Rattle.rv_step.specs.Fold.{receipts_of, store_after};
 
@@ -72,6 +73,8 @@ impl<'a, R: Threads + Wait + Sync> ByThreads<'a, R> {
 }
 
 impl<R: Threads + Wait + Sync> CallRunner for ByThreads<'_, R> {
+    ghost ready = { IsSync R.row };
+
     #[tactic(auto, using(overlay::proofs::Receipts::receipts_append, overlay::proofs::Receipts::after_append))]
     fn run_calls(
         &mut self,
@@ -92,15 +95,22 @@ impl<R: Threads + Wait + Sync> CallRunner for ByThreads<'_, R> {
 fn block_of(alloc: Global, calls: &[Call]) -> Result<Option<Block>, AllocError>
     ensures { IfOk result (λ block. IfSome block (λ b. b ≡ calls.now)) }
 {
-    let mut copies = Vec::with_capacity(alloc, calls.len())?;
-    for call in calls {
-        copies.push(call.copy()?)?;
-    }
-    match Job::new(copies, Store::new(alloc)) {
+    match Job::new(copies(alloc, calls)?, Store::new(alloc)) {
         Ok(job) => {
             let Job { block, store: _ } = job;
             Ok(Some(block))
         }
         Err(_) => Ok(None),
     }
+}
+
+/// Equal calls, in the same order; refused where memory ran out.
+fn copies(alloc: Global, calls: &[Call]) -> Result<Vec<Call>, AllocError>
+    ensures { IfOk result (λ v. v.items ≡ calls.now) }
+{
+    let mut copies = Vec::with_capacity(alloc, calls.len())?;
+    for call in calls {
+        copies.push(call.copy()?)?;
+    }
+    Ok(copies)
 }

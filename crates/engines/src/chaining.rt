@@ -15,7 +15,7 @@ use crate::loading::load_one;
 use crate::programs::Programs;
 use byte_streams::Destination;
 use elf32::Image;
-use sessions::{CallRunner, Loader, ProgramFault, ServeFault, Session, serve};
+use sessions::{CallRunner, InOrder, Loader, ProgramFault, ServeFault, Session, serve_with};
 use std::alloc::Global;
 use std::io::BufRead;
 use std::sync::Arc;
@@ -53,14 +53,13 @@ fn fault_of(refusal: Refusal) -> ProgramFault
 }
 
 /// Answers each request of an input in a session that begins with an empty storage, up to a line `q` or the end of the
-/// input. The calls of its frames are run by `runner`, which changes no answer. Each answer is written and flushed before more is read. Refused as Unreadable where a read failed, or memory for a
-/// line ran out, which comes between two requests. Refused as Output where a write failed: a beginning of the answer was
-/// written.
-pub fn chain_to<R: BufRead, P: Programs + Drop, C: CallRunner, W: Destination>(
+/// input. The calls of its frames run in order. Each answer is written and flushed before more is read. Refused as Unreadable
+/// where a read failed, or memory for a line ran out, which comes between two requests. Refused as Output where a write failed:
+/// a beginning of the answer was written.
+pub fn chain_to<R: BufRead, P: Programs + Drop, W: Destination>(
     alloc: Global,
     input: &mut R,
     programs: P,
-    runner: &mut C,
     out: &mut W,
 ) -> Result<(), Refusal>
     ensures ok { OnOk result (IfSome (R.remaining input.old) (λ bytes. (text : List ℕ) × (after : State)
@@ -71,8 +70,28 @@ pub fn chain_to<R: BufRead, P: Programs + Drop, C: CallRunner, W: Destination>(
         × IsCutShort (IsAnswer (programs_in (P.content programs))) fault start (requests_of bytes) after (W.contents out.old) (W.contents out.new))) }
     ensures refused { IfErr result (λ e. (fault : ServeFault) × (e ≡ cut_of fault) × MayEnd (W.may_fail out.old) (W.may_take_nothing out.old) fault) }
 {
+    chain_with(alloc, input, programs, &mut InOrder, out)
+}
+
+/// The same, but a runner runs the calls, which changes no answer.
+pub fn chain_with<R: BufRead, P: Programs + Drop, C: CallRunner, W: Destination>(
+    alloc: Global,
+    input: &mut R,
+    programs: P,
+    runner: &mut C,
+    out: &mut W,
+) -> Result<(), Refusal>
+    requires ready { C.ready }
+    ensures ok { OnOk result (IfSome (R.remaining input.old) (λ bytes. (text : List ℕ) × (after : State)
+        × Appends (W.contents out.old) (W.contents out.new) text
+        × AreAnswered (IsAnswer (programs_in (P.content programs))) start (requests_of bytes) text after)) }
+    ensures err { IfErr result (λ e. IfSome (R.remaining input.old) (λ bytes. (fault : ServeFault) × (after : State)
+        × (e ≡ cut_of fault)
+        × IsCutShort (IsAnswer (programs_in (P.content programs))) fault start (requests_of bytes) after (W.contents out.old) (W.contents out.new))) }
+    ensures refused { IfErr result (λ e. (fault : ServeFault) × (e ≡ cut_of fault) × MayEnd (W.may_fail out.old) (W.may_take_nothing out.old) fault) }
+{
     let mut session = Session::new(alloc, FileLoader { alloc, programs });
-    match serve(alloc, input, runner, &mut session, out) {
+    match serve_with(alloc, input, runner, &mut session, out) {
         Ok(()) => Ok(()),
         Err(fault) => Err(cut_of(fault)),
     }

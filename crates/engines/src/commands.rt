@@ -4,7 +4,7 @@ ghost use Rattle.std.specs.Prelude.{◌≡◌};
 
 use crate::assembling::{SOURCE_MEMORY, file_of_source};
 use crate::by_threads::ByThreads;
-use crate::chaining::chain_to;
+use crate::chaining::chain_with;
 use crate::counts::{RunCounts, write_counts};
 use crate::debugging::debug_block_to;
 use crate::disk::{Disk, LateFile, ProgramFiles};
@@ -380,11 +380,13 @@ fn chain_by<D: Disk, C: CallRunner, I: Read, W: Destination>(
     runner: &mut C,
     input: &mut I,
     out: &mut W,
-) -> Result<(), Refusal> {
+) -> Result<(), Refusal>
+    requires ready { C.ready }
+{
     let Ok(mut lines) = BufReader::new(alloc, input) else {
         return Err(Refusal::Seq(SeqFault::Memory));
     };
-    chain_to(alloc, &mut lines, ProgramFiles { disk }, runner, out)
+    chain_with(alloc, &mut lines, ProgramFiles { disk }, runner, out)
 }
 
 /// Opens a file to read it.

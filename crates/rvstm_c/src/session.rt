@@ -12,7 +12,7 @@ use crate::programs::{GivenProgram, GivenPrograms, find, given_program};
 use crate::status::ALREADY_GIVEN;
 use elf32::ElfError;
 use rv_ledger::{Rules, Store};
-use sessions::{FrameFault, InOrder, LoadedPrograms, ProgramFault, State, answer_frame, line_text};
+use sessions::{FrameFault, LoadedPrograms, ProgramFault, State, answer_frame, line_text};
 use std::alloc::Global;
 
 /// A session that a handle has.
@@ -54,7 +54,7 @@ impl EmbeddedSession {
             programs: programs.as_slice(),
         };
         let mut loaded = LoadedPrograms::new(alloc, given);
-        *answer = answer_frame(alloc, &mut InOrder, state, &mut loaded, block);
+        *answer = answer_frame(alloc, state, &mut loaded, block);
         status_of(answer)
     }
 

@@ -16,7 +16,7 @@ use crate::call_runner::CallRunner;
 use crate::fault::FrameFault;
 use crate::loader::Loader;
 use crate::refusing::refused_line;
-use crate::session::{Session, answer_frame};
+use crate::session::{Session, answer_frame_with};
 use block_file::{BlockFault, Cause, fields};
 use byte_streams::{Destination, WriteFault, write_whole};
 use frames::Request;
@@ -40,6 +40,7 @@ pub(crate) fn answer<L: Loader, C: CallRunner, W: Destination>(
     request: Request,
     out: &mut W,
 ) -> Result<(), WriteFault>
+    requires ready { C.ready }
     ensures says { Says result (W.contents out.old) (W.contents out.new) (λ text. (ask : Ask) → AsksFor request ask
         → IsAnswer (L.program_at session.old.programs.loader) session.old.state ask text session.new.state) }
     ensures same { L.program_at session.new.programs.loader ≡ L.program_at session.old.programs.loader }
@@ -50,7 +51,7 @@ pub(crate) fn answer<L: Loader, C: CallRunner, W: Destination>(
         Request::Frame(bytes) => {
             let Session { state, programs } = session;
             print_answer(
-                answer_frame(alloc, runner, state, programs, bytes.as_slice()),
+                answer_frame_with(alloc, runner, state, programs, bytes.as_slice()),
                 out,
             )
         }

@@ -28,6 +28,7 @@ pub(crate) fn run_block<C: CallRunner>(
     entries: Store,
     calls: &[Call],
 ) -> Result<Vec<u8>, FrameFault>
+    requires ready { C.ready }
     ensures text { IfOk result (λ text. text.items ≡ result_text (receipts_of calls.now (put_over store.old entries)) map.empty) }
     ensures store { OnOk result (store.new ≡ store_after calls.now (put_over store.old entries)) }
     ensures same { OnErr result (store.new ≡ store.old) }
@@ -60,7 +61,8 @@ fn run_first<C: CallRunner>(
     entries: Store,
     calls: &[Call],
 ) -> Result<Vec<u8>, FrameFault>
-    requires { store.old ≡ map.empty }
+    requires ready { C.ready }
+    requires empty { store.old ≡ map.empty }
     ensures text { IfOk result (λ text. text.items ≡ result_text (receipts_of calls.now (put_over store.old entries)) map.empty) }
     ensures store { OnOk result (store.new ≡ store_after calls.now (put_over store.old entries)) }
     ensures same { OnErr result (store.new ≡ store.old) }
@@ -81,6 +83,7 @@ fn run_changed<C: CallRunner>(
     changes: Overlay,
     calls: &[Call],
 ) -> Result<Vec<u8>, FrameFault>
+    requires ready { C.ready }
     ensures text { IfOk result (λ text. text.items ≡ result_text (receipts_of calls.now (with_changes store.old changes)) map.empty) }
     ensures store { OnOk result (store.new ≡ store_after calls.now (with_changes store.old changes)) }
     ensures same { OnErr result (store.new ≡ store.old) }

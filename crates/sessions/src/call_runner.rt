@@ -1,6 +1,6 @@
 //! What runs the calls of a frame.
 
-ghost use Rattle.std.specs.Prelude.{◌≡◌, IfOk, OnOk};
+ghost use Rattle.std.specs.Prelude.{◌≡◌, ⊤, IfOk, OnOk};
 ghost use Rattle.overlay.specs.Overlay.{with_changes};
 ghost use Rattle.rv_step.specs.Fold.{receipts_of, store_after};
 
@@ -11,6 +11,9 @@ use std::alloc::{AllocError, Global};
 
 /// What runs the calls of a frame. However it does, it comes to what they do in order.
 pub trait CallRunner {
+    /// What it needs of the types in it, as that threads may share a handle.
+    ghost ready: { Type 0 };
+
     /// Runs calls on a storage with changes over it, each on what the ones before it left, and adds theirs to the
     /// changes. Refused where memory ran out, and then some of theirs may be added.
     fn run_calls(
@@ -20,6 +23,7 @@ pub trait CallRunner {
         over: &mut Overlay,
         calls: &[Call],
     ) -> Result<Vec<Receipt>, AllocError>
+        requires { ready }
         ensures receipts { IfOk result (λ r. r.items ≡ receipts_of calls.now (with_changes base.now over.old)) }
         ensures store { OnOk result (with_changes base.now over.new ≡ store_after calls.now (with_changes base.now over.old)) };
 }
@@ -29,6 +33,8 @@ pub trait CallRunner {
 pub struct InOrder;
 
 impl CallRunner for InOrder {
+    ghost ready = { ⊤ };
+
     fn run_calls(
         &mut self,
         alloc: Global,

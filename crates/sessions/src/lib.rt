@@ -23,6 +23,6 @@ pub use line_texts::line_text;
 pub use loaded::{LoadedProgram, LoadedPrograms, program_at};
 pub use loader::Loader;
 pub use refusing::{LINE_ROOM, refused_line};
-pub use serving::{ServeFault, serve};
+pub use serving::{ServeFault, serve, serve_with};
 pub use session::{Session, answer_frame};
 pub use state::State;

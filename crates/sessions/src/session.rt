@@ -11,7 +11,7 @@ ghost use Rattle.sessions.specs.Programs.{programs_of};
 ghost use Rattle.sessions.specs.Session.{IsRefusedAs, IsTurn, answer_text, block_turn, loaded_turn, ran, rules_number};
 
 use crate::block_run::run_block;
-use crate::call_runner::CallRunner;
+use crate::call_runner::{CallRunner, InOrder};
 use crate::fault::FrameFault;
 use crate::loaded::LoadedPrograms;
 use crate::loader::Loader;
@@ -48,15 +48,31 @@ impl<L: Loader> Session<L> {
     }
 }
 
-/// Answers a frame. Refused by the first fault of its text, its rules and its programs, in this order, or where memory ran
+/// Answers a frame, whose calls run in order. Refused by the first fault of its text, its rules and its programs, in this order, or where memory ran
 /// out; then the state is as it was.
-pub fn answer_frame<L: Loader, C: CallRunner>(
+pub fn answer_frame<L: Loader>(
+    alloc: Global,
+    state: &mut State,
+    programs: &mut LoadedPrograms<L>,
+    bytes: &[u8],
+) -> Result<Vec<u8>, FrameFault>
+    ensures turn { IfSome (block_turn (L.program_at programs.old.loader) state.old (block_of bytes.now)) (λ want.
+        IsTurn state.old want (answer_text result) state.new) }
+    ensures refusal { IfSome (block_turn (L.program_at programs.old.loader) state.old (block_of bytes.now)) (λ want. IsRefusedAs want.refusal result) }
+    ensures same { L.program_at programs.new.loader ≡ L.program_at programs.old.loader }
+{
+    answer_frame_with(alloc, &mut InOrder, state, programs, bytes)
+}
+
+/// The same, but a runner runs the calls.
+pub(crate) fn answer_frame_with<L: Loader, C: CallRunner>(
     alloc: Global,
     runner: &mut C,
     state: &mut State,
     programs: &mut LoadedPrograms<L>,
     bytes: &[u8],
 ) -> Result<Vec<u8>, FrameFault>
+    requires ready { C.ready }
     ensures turn { IfSome (block_turn (L.program_at programs.old.loader) state.old (block_of bytes.now)) (λ want.
         IsTurn state.old want (answer_text result) state.new) }
     ensures refusal { IfSome (block_turn (L.program_at programs.old.loader) state.old (block_of bytes.now)) (λ want. IsRefusedAs want.refusal result) }
@@ -87,6 +103,7 @@ fn answer_block<L: Loader, C: CallRunner>(
     programs: &mut LoadedPrograms<L>,
     block: BlockText,
 ) -> Result<Vec<u8>, FrameFault>
+    requires ready { C.ready }
     ensures turn { IfSome (loaded_turn state.old (block_value block) (programs_of (L.program_at programs.old.loader) (map string_bytes block.programs.items))) (λ want.
         IsTurn state.old want (answer_text result) state.new) }
     ensures refusal { IfSome (loaded_turn state.old (block_value block) (programs_of (L.program_at programs.old.loader) (map string_bytes block.programs.items))) (λ want.
@@ -116,7 +133,8 @@ fn run_lines<C: CallRunner>(
     lines: Vec<CallLine>,
     entries: Store,
 ) -> Result<Vec<u8>, FrameFault>
-    requires { All (λ line. line.program < length images.now) lines.items }
+    requires ready { C.ready }
+    requires known { All (λ line. line.program < length images.now) lines.items }
     ensures turn { IsTurn state.old (ran state.old (record { rules = rules; programs = []; store = entries; calls = map call_value lines.items }) (map arc_value images.now))
         (answer_text result) state.new }
     ensures want { IfErr result (λ fault. IsWantOfMemory fault) }

@@ -16,9 +16,9 @@ pub returns-in-Frame-clause-says : goal.returns-in-Frame-clause-says
 returns-in-Frame-clause-says g c =
     let program_at = g.L.Loader.program_at c.args.session.now.programs.loader in
     says_also c.print_answer.result (g.W.Write.contents c.args.out.now) (g.W.Write.contents c.print_answer.new.out)
-    (λ text. text ≡ answer_text c.answer_frame.result) (λ text. Answered (IsAnswer program_at) c.args.request c.args.session.now.state text c.answer_frame.new.state)
-    (λ text is ask asks. frame_answered program_at c.args.session.now.state c.answer_frame.new.state c.in-Frame.bytes.items c.as_slice.result.now text (answer_text c.answer_frame.result) ask
-    c.as_slice.ensures.value is (subst (λ request. AsksFor request ask) c.in-Frame.is asks) c.answer_frame.ensures.turn)
+    (λ text. text ≡ answer_text c.answer_frame_with.result) (λ text. Answered (IsAnswer program_at) c.args.request c.args.session.now.state text c.answer_frame_with.new.state)
+    (λ text is ask asks. frame_answered program_at c.args.session.now.state c.answer_frame_with.new.state c.in-Frame.bytes.items c.as_slice.result.now text (answer_text c.answer_frame_with.result) ask
+    c.as_slice.ensures.value is (subst (λ request. AsksFor request ask) c.in-Frame.is asks) c.answer_frame_with.ensures.turn)
     c.print_answer.ensures.says
 
 pub returns-in-Unkept-clause-says : goal.returns-in-Unkept-clause-says

@@ -1,7 +1,7 @@
 use Rattle.block_file.specs.Block.{block_of, block_value}
 use Rattle.sessions.specs.Session.{IsRefusedAs, IsTurn, answer_text}
 use Rattle.sessions.proofs.Turns.{block_answered, text_fault, text_refused}
-use Rattle.sessions.proofs.session.answer_frame.Goals as goal
+use Rattle.sessions.proofs.session.answer_frame_with.Goals as goal
 
 pub returns-in-Err-clause-turn : goal.returns-in-Err-clause-turn
 returns-in-Err-clause-turn g c =
