@@ -12,8 +12,8 @@ const WORKER_COST: u64 = 10_000;
 const KEY_COST: u64 = 100;
 
 /// Whether so many calls that are alike those of some receipts run faster by threads, over a storage of so many keys. What
-/// threads save is the gas of the calls, less one worker's part of it. The costs are measured: bench/README.md says on what
-/// machine. No result rests on the answer.
+/// threads save is the gas of the calls, less one worker's part of it. The costs are estimates by what blocks take by the
+/// length of a call, beside `seq` (bench/README.md). No result rests on the answer.
 pub(crate) fn pays(workers: usize, shown: &[Receipt], calls: usize, keys: usize) -> bool {
     let (workers, calls, keys) = (workers as u64, calls as u64, keys as u64);
     let work = gas_of_each(shown).saturating_mul(calls);
