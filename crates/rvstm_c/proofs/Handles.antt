@@ -16,9 +16,8 @@ use denote.Struct.Struct.{within}
 use denote.Struct.Owning.{shape, to}
 use Rattle.std.specs.Prelude.{Option, Some, None, IsSome, is_some}
 use Rattle.std.specs.Box.Ownership.{box_owns}
-use Rattle.libc.specs.Heap.{chunk}
 use Rattle.std.specs.contracts.alloc.Global as heap
-use Rattle.rvstm_c.specs.Held.{held}
+use Rattle.rvstm_c.specs.Held.{held, on_heap}
 use Rattle.rvstm_c.specs.contracts.session.EmbeddedSession as session
 use Rattle.rvstm_c.specs.contracts.handle.Handle as handle
 
@@ -46,7 +45,7 @@ word p t = vstruct (vcons (ptr_val p) (vcons (vbool t) vnil))
 
 module _ {M : Type 1} {𝓤 : Ura M} {𝓛 : Logic 𝓤} {K : Type 0} {Γ : List (Item 𝓤)} {G : Goal 𝓤 𝓛.H} where
   -- a handle: what it holds, and its machine value
-  pub handle_any : K → (d : Hd.Denot) (vs : List Val) → (vs ≡ word d.at d.full ∷ [] → Seq K 𝓛 (‵ (held chunk R d.at d.value) ∷ Γ) G) → Seq K 𝓛 (‵ (Hd.own_val d vs) ∷ Γ) G
+  pub handle_any : K → (d : Hd.Denot) (vs : List Val) → (vs ≡ word d.at d.full ∷ [] → Seq K 𝓛 (‵ (held on_heap R d.at d.value) ∷ Γ) G) → Seq K 𝓛 (‵ (Hd.own_val d vs) ∷ Γ) G
   handle_any t d vs k =
       fsplit t $ fpick t (λ vss. fsplit t $ feq_l t (λ ev. fsplit t $ feq_l t (λ ep. fsplit t $ feq_l t (λ eb. drop t $ k (
       subst (λ (bs : List Val). vs ≡ vstruct (of_list (ptr_val d.at ∷ (bs ++ []))) ∷ []) eb
@@ -54,15 +53,15 @@ module _ {M : Type 1} {𝓤 : Ura M} {𝓛 : Logic 𝓤} {K : Type 0} {Γ : List
 
   -- a full one: the box, and the pointer's block
   pub handle_out : K → (d : Hd.Denot) (x : R.Denot) → d.value ≡ Some x → (vs : List Val)
-      → ((b o : ℕ) → d.at ≡ block_ptr b o → vs ≡ word d.at d.full ∷ [] → Seq K 𝓛 (‵ (box_owns chunk R (block_ptr b o) x) ∷ Γ) G)
+      → ((b o : ℕ) → d.at ≡ block_ptr b o → vs ≡ word d.at d.full ∷ [] → Seq K 𝓛 (‵ (box_owns on_heap R (block_ptr b o) x) ∷ Γ) G)
       → Seq K 𝓛 (‵ (Hd.own_val d vs) ∷ Γ) G
   handle_out t d x is vs k =
-      handle_any t d vs (λ ev. rewrite t 0 (λ (y : Option R.Denot). ‵ (held chunk R d.at y)) is refl $
-      in_a_block t d.at (λ p. box_owns chunk R p x) (fst∗ 𝓤 (never 𝓤) (sem 𝓛 (chunk (bare (lone R.mir)) null_ptr))) (λ b o e. k b o e ev))
+      handle_any t d vs (λ ev. rewrite t 0 (λ (y : Option R.Denot). ‵ (held on_heap R d.at y)) is refl $
+      in_a_block t d.at (λ p. box_owns on_heap R p x) (fst∗ 𝓤 (never 𝓤) (sem 𝓛 (on_heap (bare (lone R.mir)) null_ptr))) (λ b o e. k b o e ev))
 
   -- a handle made of its machine value and what it holds
   pub handle_in : K → (p : Ptr) (t : Bool) (y : Option R.Denot) (is : t ≡ is_some y)
-      → Step K 𝓛 (‵ (Hd.own_val (record { at = p; full = t; value = y; flagged = is }) (word p t ∷ [])) ∷ Γ) G (‵ (held chunk R p y) ∷ Γ) G
+      → Step K 𝓛 (‵ (Hd.own_val (record { at = p; full = t; value = y; flagged = is }) (word p t ∷ [])) ∷ Γ) G (‵ (held on_heap R p y) ∷ Γ) G
   handle_in k p t y is = step (λ s. let v : Val = word p t in
       nothing k $ feq_i k (List Val) (vbool t ∷ []) (vbool t ∷ []) refl $ fjoin k $ feq_i k (List Val) (ptr_val p ∷ []) (ptr_val p ∷ []) refl $ fjoin k $ feq_i k (List Val) (v ∷ []) (v ∷ []) refl $ fjoin k $
       fpack k (Valss (RawPtr ∷ bool ∷ [])) (within (shape handle.the_type) (to handle.the_type (record { at = p; full = t; value = y; flagged = is })) (v ∷ [])) (ptr_val p ∷ [], (vbool t ∷ [], tt)) $ fjoin k $ s)

@@ -22,11 +22,10 @@ pub struct Handle {
 }
 
 impl Model for Handle {
-    ghost use Rattle.libc.specs.Heap.{chunk};
-    ghost use Rattle.rvstm_c.specs.Held.{held};
+    ghost use Rattle.rvstm_c.specs.Held.{held, on_heap};
     ghost use Rattle.rvstm_c.specs.contracts.session.EmbeddedSession.{the_row};
 
-    ghost also_owns = { λ h. held chunk the_row h.at h.value };
+    ghost also_owns = { λ h. held on_heap the_row h.at h.value };
 }
 
 /// Whether a handle has a session.
