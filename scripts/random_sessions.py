@@ -87,14 +87,14 @@ def told(status):
     return b"status %d\n" % status if status else b""
 
 
-def answers_at_once(rvstm, folder, text, workers):
+def answers_at_once(rvstm, folder, text, workers=None):
     """What a session writes for an input that it gets in one piece."""
     words = [rvstm, *sessions.words_of(workers)]
     done = subprocess.run(words, cwd=folder, input=text, capture_output=True, timeout=SECONDS_A_SESSION)
     return done.stdout + told(done.returncode)
 
 
-def answers_one_by_one(rvstm, folder, text, workers):
+def answers_one_by_one(rvstm, folder, text, workers=None):
     """What a session writes for an input, where each answer is read before the next request is given."""
     *first, last = list(sessions.requests_of(text)) or [b""]
     with sessions.Session(rvstm, folder, workers) as session:
