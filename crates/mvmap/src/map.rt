@@ -9,7 +9,7 @@ use read_set::{Origin, Version};
 use rv_ledger::{Change, Key, Store, Value};
 use std::alloc::{AllocError, Global};
 use std::marker::Model;
-use version_arena::{Arena, ReserveFault};
+use version_arena::{Arena, ReserveFault, lend_bytes};
 
 /// For each key the entries of the calls that write it: versions, whose bytes are in the map's arena,
 /// and estimates.
@@ -38,7 +38,7 @@ impl Model for MvMap {
 
 impl MvMap {
     ghost use Rattle.std.specs.Prelude.{◌≡◌, ◌≢◌, ◌≤◌, ◌+◌, ◌<◌, ◌↔◌, ℕ, [], Err, IsTrue, List, None, Ok, OnErr, OnOk, length, vec_capacity};
-    ghost use Rattle.rv_ledger.specs.Change.{change_copied};
+    ghost use Rattle.rv_ledger.specs.Change.{IfValue, change_copied};
     ghost use Rattle.std.specs.List.{All};
     ghost use Rattle.std.specs.FinMap as map;
     ghost use Rattle.std.specs.FinSet as set;
@@ -137,7 +137,20 @@ impl MvMap {
         ensures places { self.new.places ≡ self.old.places }
         ensures arena { self.new.arena ≡ with_record writer incarnation (change_copied change.entry) self.old.arena }
     {
-        let id = self.arena.place(writer, incarnation, change);
+        self.publish_bytes(key, writer, incarnation, lend_bytes(change));
+    }
+
+    /// The same with a value that is lent by its bytes, at most 256.
+    pub fn publish_bytes(&mut self, key: &Key, writer: u16, incarnation: u16, change: Change<&[u8]>)
+        requires short { IfValue change (λ bytes. length bytes.now ≤ 256) }
+        requires place { IsTrue (set.contains self.old.places (key.now, writer)) }
+        requires room { 1 ≤ self.old.arena.room }
+        requires bytes { bytes_of (change_copied change) ≤ self.old.arena.bytes }
+        ensures versions { self.new.versions ≡ map.insert self.old.versions (key.now, writer) (Stands incarnation (change_copied change.entry)) }
+        ensures places { self.new.places ≡ self.old.places }
+        ensures arena { self.new.arena ≡ with_record writer incarnation (change_copied change.entry) self.old.arena }
+    {
+        let id = self.arena.place_bytes(writer, incarnation, change);
         self.slots.put(key, writer, Slot::Placed(id));
     }
 

@@ -6,13 +6,14 @@ ghost use Rattle.std.specs.List.{filter};
 ghost use Rattle.std.specs.Option.{option_copied};
 ghost use Rattle.std.specs.FinMap.{contains_key, entries};
 ghost use Rattle.std.specs.FinSet.{contains};
+ghost use Rattle.rv_ledger.specs.Change.{IfValue, change_copied};
 ghost use Rattle.version_arena.specs.ArenaState.{bytes_of};
 ghost use Rattle.mvmap.specs.Versions.{Estimate, changed};
 ghost use Rattle.stm_state.specs.Steps.{keys_of, keys_to_move, version_of, write_of};
 ghost use Rattle.stm_core.specs.Inner.{AreOpen, writes_at};
 
 use mvmap::MvMap;
-use rv_ledger::{Change, Key, StoredValue, VALUE_LIMIT, Value, Writes};
+use rv_ledger::{Change, Key, StoredValue, VALUE_LIMIT, Writes};
 use std::alloc::{AllocError, Global};
 use stm_state::{CallState, Recorded};
 
@@ -85,9 +86,7 @@ pub(crate) fn move_key(
 {
     match write_at(&state.last, key) {
         Some(change) => {
-            let change = change_of(change);
-            see_short(&change);
-            map.publish(key, call, state.incarnation, change.as_ref());
+            map.publish_bytes(key, call, state.incarnation, lend_bytes(change));
             *promised -= 1;
         }
         None => map.withdraw(key, call),
@@ -104,23 +103,16 @@ fn write_at<'a>(last: &'a Option<Recorded>, key: &Key) -> Option<&'a Change<Stor
     }
 }
 
-/// An equal change, whose value has an array of its own.
-fn change_of(change: &Change<StoredValue>) -> Change<Value>
-    ensures { result ≡ change.now }
+/// The same change with its value lent by its bytes, at most VALUE_LIMIT.
+fn lend_bytes(change: &Change<StoredValue>) -> Change<&[u8]>
+    ensures value { change_copied result ≡ change.now }
+    ensures short { IfValue result (λ bytes. length bytes.now ≤ 256) }
+    ensures limit { bytes_of (change_copied result) ≤ VALUE_LIMIT }
 {
     match change {
-        Change::Value(value) => Change::Value(value.value()),
+        Change::Value(value) => Change::Value(value.bytes()),
         Change::Gone => Change::Gone,
         Change::Sum(amount) => Change::Sum(*amount),
-    }
-}
-
-/// For the proof: a written value is not longer than VALUE_LIMIT.
-fn see_short(change: &Change<Value>)
-    ensures { bytes_of change.now ≤ VALUE_LIMIT }
-{
-    if let Change::Value(value) = change {
-        let _ = value.bytes();
     }
 }
 

@@ -93,6 +93,17 @@ impl Arena {
         ensures id { result ≡ length self.old.records }
         ensures placed { self.new ≡ with_record writer incarnation (change_copied change.entry) self.old }
     {
+        self.place_bytes(writer, incarnation, lend_bytes(change))
+    }
+
+    /// The same with a value that is lent by its bytes, at most 256.
+    pub fn place_bytes(&mut self, writer: u16, incarnation: u16, change: Change<&[u8]>) -> VersionId
+        requires short { IfValue change (λ bytes. length bytes.now ≤ 256) }
+        requires room { 1 ≤ self.old.room }
+        requires bytes { bytes_of (change_copied change) ≤ self.old.bytes }
+        ensures id { result ≡ length self.old.records }
+        ensures placed { self.new ≡ with_record writer incarnation (change_copied change.entry) self.old }
+    {
         let place = self.len;
         let bytes = len_of(&change);
         self.stored[place] = StoredRecord::of(&mut self.pool, writer, incarnation, change);
@@ -148,11 +159,23 @@ fn grow(stored: &mut Vec<StoredRecord>, count: usize) -> Result<(), AllocError>
 }
 
 /// The number of bytes that a change takes: those of a value.
-fn len_of(change: &Change<&Value>) -> usize
+fn len_of(change: &Change<&[u8]>) -> usize
     ensures { result ≡ bytes_of (change_copied change.now) }
 {
     match change {
-        Change::Value(value) => value.bytes().len(),
+        Change::Value(bytes) => bytes.len(),
         Change::Gone | Change::Sum(_) => 0,
+    }
+}
+
+/// The same change with its value lent by its bytes.
+pub fn lend_bytes(change: Change<&Value>) -> Change<&[u8]>
+    ensures value { change_copied result ≡ change_copied change.entry }
+    ensures short { IfValue result (λ bytes. length bytes.now ≤ 256) }
+{
+    match change {
+        Change::Value(value) => Change::Value(value.bytes()),
+        Change::Gone => Change::Gone,
+        Change::Sum(amount) => Change::Sum(amount),
     }
 }

@@ -9,7 +9,7 @@ ghost use Rattle.version_arena.specs.StoredRecords.{IsShortSpan, IsStored, recor
 
 use crate::pool::{Pool, Span};
 use crate::record::Record;
-use rv_ledger::{Change, Value};
+use rv_ledger::Change;
 
 /// A record as an arena keeps it: who wrote it, and what it did to its key, with where the bytes of a value lie.
 #[derive(Drop)]
@@ -20,15 +20,16 @@ pub(crate) struct StoredRecord {
 }
 
 impl StoredRecord {
-    /// The record with this writer, incarnation and change. The bytes of a value are copied into room that
-    /// was reserved. Takes no memory.
+    /// The record with this writer, incarnation and change. The bytes of a value, at most 256, are copied into room
+    /// that was reserved. Takes no memory.
     pub(crate) fn of(
         pool: &mut Pool,
         writer: u16,
         incarnation: u16,
-        change: Change<&Value>,
+        change: Change<&[u8]>,
     ) -> StoredRecord
-        requires { bytes_of (change_copied change) < pool.old.room }
+        requires short { IfValue change (λ bytes. length bytes.now ≤ 256) }
+        requires room { bytes_of (change_copied change) < pool.old.room }
         ensures record { record_of pool.new.chunks result ≡ record { writer = writer; incarnation = incarnation; change = change_copied change.entry } }
         ensures stored { IsStored pool.new.chunks result }
         ensures keeps { KeepsBytes pool.old.chunks pool.new.chunks }
@@ -64,16 +65,17 @@ impl StoredRecord {
     }
 }
 
-/// Copies the bytes of a value into the pool.
-fn store(pool: &mut Pool, change: Change<&Value>) -> Change<Span>
-    requires { bytes_of (change_copied change) < pool.old.room }
+/// Copies the bytes of a value, at most 256, into the pool.
+fn store(pool: &mut Pool, change: Change<&[u8]>) -> Change<Span>
+    requires short { IfValue change (λ bytes. length bytes.now ≤ 256) }
+    requires room { bytes_of (change_copied change) < pool.old.room }
     ensures value { change_map (part pool.new.chunks) result ≡ change_copied change.entry }
     ensures stored { IfValue result (IsShortSpan pool.new.chunks) }
     ensures keeps { KeepsBytes pool.old.chunks pool.new.chunks }
     ensures room { pool.new.room + bytes_of (change_copied change.entry) ≡ pool.old.room }
 {
     match change {
-        Change::Value(value) => Change::Value(pool.write(value.bytes())),
+        Change::Value(bytes) => Change::Value(pool.write(bytes)),
         Change::Gone => Change::Gone,
         Change::Sum(amount) => Change::Sum(amount),
     }
