@@ -30,7 +30,7 @@ none_taken (Ok zero) a b bs writes = nothing_appended a b writes
 none_taken (Ok (suc n)) a b bs writes = rw above_zero tt
 none_taken (Err e) a b bs writes = writes
 
--- a fault that is told may come
+-- a fault that comes is possible
 pub may_come : {E : Type 0} (r : Result ℕ E) (bs : List ℕ) (may_fail may_take_nothing : Type 0) → 0 < length bs → OnErr r may_fail → IfOk r (λ n. n ≡ 0 → 0 < length bs → may_take_nothing) → IfErr (taken_by r) (MayRefuse may_fail may_take_nothing)
 may_come (Ok zero) bs may_fail may_take_nothing some fails nothing = nothing refl some
 may_come (Ok (suc n)) bs may_fail may_take_nothing some fails nothing = rw above_zero tt

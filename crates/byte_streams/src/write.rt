@@ -14,7 +14,7 @@ pub fn write_whole<W: Destination>(bytes: &[u8], out: &mut W) -> Result<(), Writ
     ensures ok { OnOk result (Appends (W.contents out.old) (W.contents out.new) bytes.now) }
     ensures err { OnErr result (AppendsPart (W.contents out.old) (W.contents out.new) bytes.now) }
     ensures fault { IfErr result (λ e. e ≢ WriteFault.Memory) }
-    ensures told { IfErr result (MayRefuse (W.may_fail out.old) (W.may_take_nothing out.old)) }
+    ensures cause { IfErr result (MayRefuse (W.may_fail out.old) (W.may_take_nothing out.old)) }
     ensures same { (W.may_fail out.new → W.may_fail out.old) × (W.may_take_nothing out.new → W.may_take_nothing out.old) }
 {
     let mut rest = bytes;
@@ -36,7 +36,7 @@ fn write_some<W: Destination>(bytes: &[u8], out: &mut W) -> Result<usize, WriteF
         × Appends (W.contents out.old) (W.contents out.new) (take n bytes.now)) }
     ensures err { OnErr result (Keeps (W.contents out.old) (W.contents out.new)) }
     ensures fault { IfErr result (λ e. e ≢ WriteFault.Memory) }
-    ensures told { IfErr result (MayRefuse (W.may_fail out.old) (W.may_take_nothing out.old)) }
+    ensures cause { IfErr result (MayRefuse (W.may_fail out.old) (W.may_take_nothing out.old)) }
     ensures same { (W.may_fail out.new → W.may_fail out.old) × (W.may_take_nothing out.new → W.may_take_nothing out.old) }
 {
     taken(out.write_part(bytes))

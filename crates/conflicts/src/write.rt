@@ -22,7 +22,7 @@ pub fn write_conflicts<W: Destination>(
         (conflicts_text conflicts.now.calls.items conflicts.now.paths.items conflicts.now.keys.items)) }
     ensures err { OnErr result (AppendsPart (W.contents out.old) (W.contents out.new)
         (conflicts_text conflicts.now.calls.items conflicts.now.paths.items conflicts.now.keys.items)) }
-    ensures told { IfErr result (MayRefuse (W.may_fail out.old) (W.may_take_nothing out.old)) }
+    ensures cause { IfErr result (MayRefuse (W.may_fail out.old) (W.may_take_nothing out.old)) }
     ensures memory { IfErr result (λ e. e ≡ WriteFault.Memory → out.new ≡ out.old) }
     ensures same { (W.may_fail out.new → W.may_fail out.old) × (W.may_take_nothing out.new → W.may_take_nothing out.old) }
 {

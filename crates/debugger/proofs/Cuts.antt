@@ -11,7 +11,7 @@ use Rattle.debugger.specs.declared.fault.DebugFault.{DebugFault}
 use Rattle.debugger.specs.declared.fault.DebugFault.TheVariants.{Memory, Output, Unreadable}
 use Rattle.debugger.specs.Command.{command_of}
 use Rattle.debugger.specs.Replay.{ReplayState}
-use Rattle.debugger.specs.Session.{AppendsBeginning, Ending, IsCutAt, IsCutShort, IsHeardOn, IsOnWay, MayTell, is_quit, line_text, lines_of, session}
+use Rattle.debugger.specs.Session.{AppendsBeginning, Ending, IsCutAt, IsCutShort, IsHeardOn, IsOnWay, IsPossibleFault, is_quit, line_text, lines_of, session}
 use Rattle.debugger.specs.Hearing.{HasAnswered, IsCutAnswer, IsCutIn, IsInLine}
 use Rattle.debugger.proofs.Lines.{last_line, line_and_more}
 use Rattle.debugger.proofs.Stops.{still_past}
@@ -21,13 +21,13 @@ use Rattle.debugger.proofs.SessionInputs.{all_of, more_text, session_append, ses
 pub part_begins : (a b : Option (List ℕ)) (text : List ℕ) → AppendsPart a b text → AppendsBeginning a b text
 part_begins a b text h = (take h.0 text, drop h.0 text, sym (take-append-drop h.0 text), h.2)
 
--- what may be told later may be told now
-pub told_before : (fault : DebugFault) (fails nothing later_fails later_nothing : Type 0) → (later_fails → fails) × (later_nothing → nothing) → MayTell later_fails later_nothing fault → MayTell fails nothing fault
-told_before (Output output.Io) fails nothing later_fails later_nothing same h = same.0 h
-told_before (Output output.WroteNothing) fails nothing later_fails later_nothing same h = same.1 h
-told_before (Output output.Memory) fails nothing later_fails later_nothing same h = h
-told_before Memory fails nothing later_fails later_nothing same h = tt
-told_before Unreadable fails nothing later_fails later_nothing same h = tt
+-- a fault that is possible later is possible now
+pub possible_before : (fault : DebugFault) (fails nothing later_fails later_nothing : Type 0) → (later_fails → fails) × (later_nothing → nothing) → IsPossibleFault later_fails later_nothing fault → IsPossibleFault fails nothing fault
+possible_before (Output output.Io) fails nothing later_fails later_nothing same h = same.0 h
+possible_before (Output output.WroteNothing) fails nothing later_fails later_nothing same h = same.1 h
+possible_before (Output output.Memory) fails nothing later_fails later_nothing same h = h
+possible_before Memory fails nothing later_fails later_nothing same h = tt
+possible_before Unreadable fails nothing later_fails later_nothing same h = tt
 
 begins_with : (r : ReplayState) (line : List ℕ) (lines : List (List ℕ)) (b : Bool) → is_quit (command_of line) ≡ b → (more : List ℕ) × ((session r (line ∷ lines)).text ≡ line_text r (command_of line) ++ more)
 begins_with r line lines true e =

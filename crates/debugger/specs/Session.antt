@@ -112,10 +112,10 @@ abbrev pub MayBeCutOff : Type 0 → Option (List ℕ) → Type 0
 MayBeCutOff may_fail input = may_fail ⊎ IfSome input (λ bytes. 2 ^ 64 - 1 ≤ length bytes)
 
 -- a session may be refused so: for its output only where a write may be refused so, and never as Memory of the output
-abbrev pub MayTell : Type 0 → Type 0 → DebugFault → Type 0
-MayTell may_fail may_take_nothing (Output output.Memory) = ⊥
-MayTell may_fail may_take_nothing (Output fault) = MayRefuse may_fail may_take_nothing fault
-MayTell may_fail may_take_nothing _ = ⊤
+abbrev pub IsPossibleFault : Type 0 → Type 0 → DebugFault → Type 0
+IsPossibleFault may_fail may_take_nothing (Output output.Memory) = ⊥
+IsPossibleFault may_fail may_take_nothing (Output fault) = MayRefuse may_fail may_take_nothing fault
+IsPossibleFault may_fail may_take_nothing _ = ⊤
 
 -- the known bytes grow by a beginning of a text
 abbrev pub AppendsBeginning : Option (List ℕ) → Option (List ℕ) → List ℕ → Type 0

@@ -3,7 +3,7 @@
 ghost use Rattle.std.specs.Prelude.{◌≡◌, ◌≢◌, ◌++◌, All, not, IfErr, IfOk, IfSome, OnErr, OnOk};
 ghost use Rattle.std.specs.Io.KnownBytes.{Appends};
 ghost use Rattle.debugger.specs.Command.{command_of};
-ghost use Rattle.debugger.specs.Session.{AppendsBeginning, EndsAs, IsCutShort, MayBeCutOff, MayTell, after_line, is_quit, line_text, lines_of, session};
+ghost use Rattle.debugger.specs.Session.{AppendsBeginning, EndsAs, IsCutShort, MayBeCutOff, IsPossibleFault, after_line, is_quit, line_text, lines_of, session};
 ghost use Rattle.debugger.specs.Hearing.{Hears, IsCutAnswer, IsCutIn, IsInLine};
 
 use crate::answer::line_text;
@@ -36,7 +36,7 @@ pub fn debug_to<R: Source, W: Destination>(
         EndsAs (session replay.old (lines_of input)) replay.new (W.contents out.old) (W.contents out.new))) }
     ensures err { IfErr result (λ fault. IfSome (R.remaining lines.old) (λ input.
         IsCutShort fault replay.old (lines_of input) replay.new (W.contents out.old) (W.contents out.new))) }
-    ensures told { IfErr result (MayTell (W.may_fail out.old) (W.may_take_nothing out.old)) }
+    ensures cause { IfErr result (IsPossibleFault (W.may_fail out.old) (W.may_take_nothing out.old)) }
     ensures unreadable { IfErr result (λ fault. fault ≡ DebugFault.Unreadable → MayBeCutOff (R.may_fail lines.old) (R.remaining lines.old)) }
 {
     let mut line = Vec::new(alloc);
@@ -72,7 +72,7 @@ fn hear_end<W: Destination>(
     ensures err { IfErr result (λ fault.
         IsCutShort fault replay.old (lines_of line.now) replay.new (W.contents out.old) (W.contents out.new)) }
     ensures fault { IfErr result (λ fault. fault ≢ DebugFault.Unreadable) }
-    ensures told { IfErr result (MayTell (W.may_fail out.old) (W.may_take_nothing out.old)) }
+    ensures cause { IfErr result (IsPossibleFault (W.may_fail out.old) (W.may_take_nothing out.old)) }
 {
     if line.is_empty() {
         return Ok(());
@@ -98,7 +98,7 @@ fn hear<W: Destination>(
     ensures err { IfErr result (λ fault.
         IsCutIn fault replay.old (line.old.items ++ part.now) replay.new (W.contents out.old) (W.contents out.new)) }
     ensures fault { IfErr result (λ fault. fault ≢ DebugFault.Unreadable) }
-    ensures told { IfErr result (MayTell (W.may_fail out.old) (W.may_take_nothing out.old)) }
+    ensures cause { IfErr result (IsPossibleFault (W.may_fail out.old) (W.may_take_nothing out.old)) }
     ensures same { (W.may_fail out.new → W.may_fail out.old) × (W.may_take_nothing out.new → W.may_take_nothing out.old) }
 {
     for byte in part {
@@ -130,7 +130,7 @@ fn answer_line<W: Destination>(
     ensures err { IfErr result (λ fault.
         IsCutAnswer fault replay.old line.now replay.new (W.contents out.old) (W.contents out.new)) }
     ensures fault { IfErr result (λ fault. fault ≢ DebugFault.Unreadable) }
-    ensures told { IfErr result (MayTell (W.may_fail out.old) (W.may_take_nothing out.old)) }
+    ensures cause { IfErr result (IsPossibleFault (W.may_fail out.old) (W.may_take_nothing out.old)) }
     ensures same { (W.may_fail out.new → W.may_fail out.old) × (W.may_take_nothing out.new → W.may_take_nothing out.old) }
 {
     let Ok(command) = command_of(alloc, line) else {
@@ -156,7 +156,7 @@ fn is_quit(command: Option<Command>) -> bool
 fn print<W: Destination>(text: &[u8], out: &mut W) -> Result<(), WriteFault>
     ensures ok { OnOk result (Appends (W.contents out.old) (W.contents out.new) text.now) }
     ensures err { OnErr result (AppendsBeginning (W.contents out.old) (W.contents out.new) text.now) }
-    ensures told { IfErr result (λ fault. MayTell (W.may_fail out.old) (W.may_take_nothing out.old) (DebugFault.Output fault)) }
+    ensures cause { IfErr result (λ fault. IsPossibleFault (W.may_fail out.old) (W.may_take_nothing out.old) (DebugFault.Output fault)) }
     ensures same { (W.may_fail out.new → W.may_fail out.old) × (W.may_take_nothing out.new → W.may_take_nothing out.old) }
 {
     match write_whole(text, out) {

@@ -7,7 +7,7 @@ use Rattle.byte_streams.specs.Written.{MayRefuse}
 use Rattle.byte_streams.specs.declared.fault.WriteFault.{WriteFault}
 use Rattle.byte_streams.specs.declared.fault.WriteFault.TheVariants as output
 use Rattle.debugger.specs.Replay.{ReplayState}
-use Rattle.debugger.specs.Session.{MayTell}
+use Rattle.debugger.specs.Session.{IsPossibleFault}
 use Rattle.debugger.specs.declared.fault.DebugFault.TheVariants as session
 use Rattle.debugger.specs.declared.fault.ReplayFault.TheVariants as debug
 use Rattle.rv_ledger.specs.declared.job.Job.{Job}
@@ -29,7 +29,7 @@ stays None content call out = tt
 stays (Some bytes) content call out = job_stays (loaded_job content (block_of bytes)) call out
 
 -- a refusal of a session's output
-pub of_output : (lines_may_fail may_fail may_take_nothing : Type 0) (fault : WriteFault) → MayTell may_fail may_take_nothing (session.Output fault) → IsSessionFault lines_may_fail (MayRefuse may_fail may_take_nothing) (Output fault)
+pub of_output : (lines_may_fail may_fail may_take_nothing : Type 0) (fault : WriteFault) → IsPossibleFault may_fail may_take_nothing (session.Output fault) → IsSessionFault lines_may_fail (MayRefuse may_fail may_take_nothing) (Output fault)
 of_output lines_may_fail may_fail may_take_nothing output.Io h = h
 of_output lines_may_fail may_fail may_take_nothing output.WroteNothing h = h
 of_output lines_may_fail may_fail may_take_nothing output.Memory h = h

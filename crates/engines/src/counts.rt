@@ -40,7 +40,7 @@ pub fn write_counts<W: Destination>(
 ) -> Result<(), WriteFault>
     ensures ok { OnOk result (Appends (W.contents out.old) (W.contents out.new) (counts_text counts.now)) }
     ensures err { OnErr result (AppendsPart (W.contents out.old) (W.contents out.new) (counts_text counts.now)) }
-    ensures told { IfErr result (MayRefuse (W.may_fail out.old) (W.may_take_nothing out.old)) }
+    ensures cause { IfErr result (MayRefuse (W.may_fail out.old) (W.may_take_nothing out.old)) }
     ensures memory { IfErr result (λ e. e ≡ WriteFault.Memory → out.new ≡ out.old) }
 {
     let Ok(text) = text_of(alloc, counts) else {

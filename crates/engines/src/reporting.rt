@@ -32,7 +32,7 @@ pub fn report<W: Destination>(refusal: &Refusal, out: &mut W) -> u8
 pub fn write_refusal<W: Destination>(refusal: &Refusal, out: &mut W) -> Result<(), WriteFault>
     ensures written { OnOk result (Appends (W.contents out.old) (W.contents out.new) (refusal_line (refusal_text refusal.now))) }
     ensures cut { OnErr result (AppendsPart (W.contents out.old) (W.contents out.new) (refusal_line (refusal_text refusal.now))) }
-    ensures told { IfErr result (MayRefuse (W.may_fail out.old) (W.may_take_nothing out.old)) }
+    ensures cause { IfErr result (MayRefuse (W.may_fail out.old) (W.may_take_nothing out.old)) }
     ensures room { IfErr result (λ e. e ≢ WriteFault.Memory) }
 {
     let line = line_of(refusal);

@@ -9,7 +9,7 @@ use std::rt::Files;
 
 /// What is asked of files.
 #[derive(Clone, Copy, PartialEq, Eq)]
-pub enum Request {
+pub enum DiskRequest {
     /// Opening a file that is there.
     Open,
     /// Making a file.
@@ -30,7 +30,7 @@ pub struct FailingFiles<R: Files> {
     /// The runtime.
     pub rt: R,
     /// What fails.
-    pub failing: Request,
+    pub failing: DiskRequest,
     /// With which error.
     pub kind: io::ErrorKind,
     /// How many files were opened to be written, made, renamed or removed.
@@ -39,7 +39,7 @@ pub struct FailingFiles<R: Files> {
 
 impl<R: Files> FailingFiles<R> {
     /// Refused where this is what fails.
-    fn ask(&self, request: Request) -> io::Result<()> {
+    fn ask(&self, request: DiskRequest) -> io::Result<()> {
         if request == self.failing {
             return Err(io::Error::from(self.kind));
         }
@@ -63,9 +63,9 @@ impl<R: Files> Files for FailingFiles<R> {
             self.count();
         }
         self.ask(if is_made {
-            Request::Make
+            DiskRequest::Make
         } else {
-            Request::Open
+            DiskRequest::Open
         })?;
         self.rt.open_file(how, path)
     }
@@ -75,12 +75,12 @@ impl<R: Files> Files for FailingFiles<R> {
     }
 
     fn metadata(&self, path: &str) -> io::Result<Metadata> {
-        self.ask(Request::Look)?;
+        self.ask(DiskRequest::Look)?;
         self.rt.metadata(path)
     }
 
     fn symlink_metadata(&self, path: &str) -> io::Result<Metadata> {
-        self.ask(Request::LookAtLink)?;
+        self.ask(DiskRequest::LookAtLink)?;
         self.rt.symlink_metadata(path)
     }
 
@@ -90,7 +90,7 @@ impl<R: Files> Files for FailingFiles<R> {
 
     fn rename(&self, from: &str, to: &str) -> io::Result<()> {
         self.count();
-        self.ask(Request::Rename)?;
+        self.ask(DiskRequest::Rename)?;
         self.rt.rename(from, to)
     }
 
@@ -112,7 +112,7 @@ impl<R: Files> Files for FailingFiles<R> {
     }
 
     fn canonicalize<B: Allocator>(&self, alloc: B, path: &str) -> io::Result<PathBuf<B>> {
-        self.ask(Request::Resolve)?;
+        self.ask(DiskRequest::Resolve)?;
         self.rt.canonicalize(alloc, path)
     }
 }

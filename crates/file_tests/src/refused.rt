@@ -1,6 +1,6 @@
 //! Files that can't be made, replaced or compared: what is at the path stays.
 
-use crate::failing_files::{FailingFiles, Request};
+use crate::failing_files::{DiskRequest, FailingFiles};
 use crate::folder::{NEW, OLD, count, has, make_folder, put, remove_folder};
 use std::cell::Cell;
 use std::fs::{File, OpenOptions, Permissions};
@@ -13,74 +13,86 @@ use system_files::ReplaceFault::{Memory, Unwritable};
 use system_files::{OutputDisk, ReplaceFault, SystemDisk, replace};
 
 /// What fails and how; whether a file stands at the path; what is told, and how many changes are asked for before.
-const FAILURES: &[(Request, io::ErrorKind, bool, ReplaceFault, usize)] = &[
+const FAILURES: &[(DiskRequest, io::ErrorKind, bool, ReplaceFault, usize)] = &[
     (
-        Request::Resolve,
+        DiskRequest::Resolve,
         io::ErrorKind::OutOfMemory,
         true,
         Memory,
         0,
     ),
     (
-        Request::Resolve,
+        DiskRequest::Resolve,
         io::ErrorKind::OutOfMemory,
         false,
         Memory,
         0,
     ),
     (
-        Request::Resolve,
+        DiskRequest::Resolve,
         io::ErrorKind::PermissionDenied,
         true,
         Unwritable,
         0,
     ),
     (
-        Request::Resolve,
+        DiskRequest::Resolve,
         io::ErrorKind::FilesystemLoop,
         true,
         Unwritable,
         0,
     ),
-    (Request::Look, io::ErrorKind::OutOfMemory, true, Memory, 0),
     (
-        Request::Look,
+        DiskRequest::Look,
+        io::ErrorKind::OutOfMemory,
+        true,
+        Memory,
+        0,
+    ),
+    (
+        DiskRequest::Look,
         io::ErrorKind::PermissionDenied,
         true,
         Unwritable,
         0,
     ),
     (
-        Request::LookAtLink,
+        DiskRequest::LookAtLink,
         io::ErrorKind::OutOfMemory,
         false,
         Memory,
         0,
     ),
     (
-        Request::LookAtLink,
+        DiskRequest::LookAtLink,
         io::ErrorKind::PermissionDenied,
         false,
         Unwritable,
         0,
     ),
     (
-        Request::Open,
+        DiskRequest::Open,
         io::ErrorKind::PermissionDenied,
         true,
         Unwritable,
         1,
     ),
-    (Request::Open, io::ErrorKind::OutOfMemory, true, Memory, 1),
     (
-        Request::Make,
+        DiskRequest::Open,
+        io::ErrorKind::OutOfMemory,
+        true,
+        Memory,
+        1,
+    ),
+    (
+        DiskRequest::Make,
         io::ErrorKind::PermissionDenied,
         true,
         Unwritable,
         2,
     ),
     (
-        Request::Make,
+        DiskRequest::Make,
         io::ErrorKind::StorageFull,
         false,
         Unwritable,
@@ -88,14 +100,14 @@ const FAILURES: &[(Request, io::ErrorKind, bool, ReplaceFault, usize)] = &[
     ),
     // Opening what is there, making the new file, renaming it, removing it.
     (
-        Request::Rename,
+        DiskRequest::Rename,
         io::ErrorKind::PermissionDenied,
         true,
         Unwritable,
         4,
     ),
     (
-        Request::Rename,
+        DiskRequest::Rename,
         io::ErrorKind::OutOfMemory,
         false,
         Memory,
@@ -106,7 +118,7 @@ const FAILURES: &[(Request, io::ErrorKind, bool, ReplaceFault, usize)] = &[
 /// Whether replacing a file, of which one kind of request fails, is told so, and a folder is as before.
 fn is_refused<R: Files<File = File> + AllocGlobal + Copy>(
     rt: &R,
-    failing: Request,
+    failing: DiskRequest,
     kind: io::ErrorKind,
     has_out: bool,
     fault: ReplaceFault,

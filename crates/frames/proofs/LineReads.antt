@@ -4,8 +4,8 @@ use Rattle.std.specs.Io.BufRead.{take_through, drop_through, DropsThrough}
 use Rattle.std.specs.Io.KnownBytes.{IsAtEnd}
 use Rattle.std.specs.Prelude.{Vec}
 use Rattle.std.specs.declared.alloc.Global.{Global}
-use Rattle.frames.specs.declared.request.Request.{Request}
-use Rattle.frames.specs.declared.request.Request.TheVariants as request
+use Rattle.frames.specs.declared.request.SessionRequest.{SessionRequest}
+use Rattle.frames.specs.declared.request.SessionRequest.TheVariants as request
 use Rattle.frames.specs.Frames.{AreAsked, AsksFor, IsKept, Frame, CutOff, Line, onto_line, lines_of, opens, closes, quits, requests, requests_of, WhereKnown}
 
 -- the first line is what a read up to an LF takes
@@ -126,10 +126,10 @@ frame_goes_on a b c start line kept next so took open_still longer = known_then 
 ))
 
 -- what is asked for inside a frame that began so
-abbrev pub AreAskedIn : List ℕ → Request → List ℕ → List ℕ → Type 0
+abbrev pub AreAskedIn : List ℕ → SessionRequest → List ℕ → List ℕ → Type 0
 AreAskedIn start request xs ys = AreAsked (Some request) (requests (Some start) (lines_of xs)) (requests_of ys)
 
-pub frame_ends : (a b c : Option (List ℕ)) (start line : List ℕ) (kept : Option (Vec ℕ Global)) (request : Request) → WhereKnown a b (IsInFrame start kept) → WhereKnown b c (Took [] line) → true ≡ closes line → ((whole : List ℕ) → IsKept kept whole → AsksFor request (Frame whole)) → WhereKnown a c (AreAskedIn start request)
+pub frame_ends : (a b c : Option (List ℕ)) (start line : List ℕ) (kept : Option (Vec ℕ Global)) (request : SessionRequest) → WhereKnown a b (IsInFrame start kept) → WhereKnown b c (Took [] line) → true ≡ closes line → ((whole : List ℕ) → IsKept kept whole → AsksFor request (Frame whole)) → WhereKnown a c (AreAskedIn start request)
 frame_ends a b c start line kept request so took shut asks = known_then (IsInFrame start kept) (Took [] line) (AreAskedIn start request) a b c so took (λ xs ys zs (whole, k, p) t. (
   Frame whole,
   asks whole k,
@@ -153,5 +153,5 @@ line_request a b line took e q = known_map (Took [] line.items) _ a b took (λ x
 pub quit_request : (a b : Option (List ℕ)) (line : List ℕ) → WhereKnown a b (Took [] line) → false ≡ opens line → true ≡ quits line → WhereKnown a b (λ xs ys. requests_of xs ≡ [])
 quit_request a b line took e q = known_map (Took [] line) _ a b took (λ xs ys t. ap (requests None) t.lines ∙ ends_here line (lines_of ys) (sym e) (sym q))
 
-pub frame_request : (a b c : Option (List ℕ)) (line : List ℕ) (request : Request) → WhereKnown a b (Took [] line) → true ≡ opens line → WhereKnown b c (AreAskedIn line request) → WhereKnown a c (λ xs ys. AreAsked (Some request) (requests_of xs) (requests_of ys))
+pub frame_request : (a b c : Option (List ℕ)) (line : List ℕ) (request : SessionRequest) → WhereKnown a b (Took [] line) → true ≡ opens line → WhereKnown b c (AreAskedIn line request) → WhereKnown a c (λ xs ys. AreAsked (Some request) (requests_of xs) (requests_of ys))
 frame_request a b c line request took e more = known_then (Took [] line) (AreAskedIn line request) _ a b c took more (λ xs ys zs t (ask, asks, p). (ask, asks, ap (requests None) t.lines ∙ begins line (lines_of ys) (sym e) ∙ p))

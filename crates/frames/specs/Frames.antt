@@ -2,8 +2,8 @@
 use Rattle.std.specs.Prelude.{◌≡◌, ℕ, ◌==◌, ◌||◌, Bool, List, [], ◌∷◌, ◌++◌, codes, Option, Some, None, Vec, if◌then◌else◌, bytes_eq, ⊤}
 use Rattle.std.specs.declared.alloc.Global.{Global}
 use Rattle.std.specs.List.{starts_with}
-use Rattle.frames.specs.declared.request.Request.{Request}
-use Rattle.frames.specs.declared.request.Request.TheVariants as request
+use Rattle.frames.specs.declared.request.SessionRequest.{SessionRequest}
+use Rattle.frames.specs.declared.request.SessionRequest.TheVariants as request
 
 -- what a session is asked for: to run a block, of which these are the bytes; nothing, since the input ends inside a frame;
 -- or another line
@@ -13,7 +13,7 @@ pub data Ask : Type 0 where
   Line : List ℕ → Ask
 
 -- a request asks for this; of a frame that is not kept it is not said which
-abbrev pub AsksFor : Request → Ask → Type 0
+abbrev pub AsksFor : SessionRequest → Ask → Type 0
 AsksFor (request.Frame bytes) ask = ask ≡ Frame bytes.items
 AsksFor request.Unkept ask = (bytes : List ℕ) × (ask ≡ Frame bytes)
 AsksFor request.CutOff ask = ask ≡ CutOff
@@ -56,7 +56,7 @@ abbrev pub requests_of : List ℕ → List Ask
 requests_of input = requests None (lines_of input)
 
 -- the first request, if there is one, and the others
-abbrev pub AreAsked : Option Request → List Ask → List Ask → Type 0
+abbrev pub AreAsked : Option SessionRequest → List Ask → List Ask → Type 0
 AreAsked None asks rest = asks ≡ []
 AreAsked (Some request) asks rest = (ask : Ask) × AsksFor request ask × (asks ≡ ask ∷ rest)
 

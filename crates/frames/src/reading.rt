@@ -3,14 +3,14 @@
 ghost use Rattle.std.specs.Prelude.{◌≡◌, ◌++◌, [], IfOk, List, Some, ℕ};
 ghost use Rattle.frames.specs.Frames.{AreAsked, AsksFor, Frame, IsKept, WhereKnown, closes, lines_of, opens, quits, requests, requests_of};
 
-use crate::request::Request;
+use crate::request::SessionRequest;
 use std::alloc::Global;
 use std::io;
 use std::io::{BufRead, ErrorKind};
 
 /// Reads the next request; None at a line `q` and at the end of the input. Refused where a read failed, memory for a
 /// line ran out, or a frame has 2^64 lines. Where memory for a whole frame runs out, it is read to its end and not kept.
-pub fn next_request<R: BufRead>(alloc: Global, input: &mut R) -> io::Result<Option<Request>>
+pub fn next_request<R: BufRead>(alloc: Global, input: &mut R) -> io::Result<Option<SessionRequest>>
     ensures { IfOk result (λ request. WhereKnown (R.remaining input.old) (R.remaining input.new) (λ xs ys.
         AreAsked request (requests_of xs) (requests_of ys))) }
 {
@@ -25,11 +25,15 @@ pub fn next_request<R: BufRead>(alloc: Global, input: &mut R) -> io::Result<Opti
     if quits(line.as_slice()) {
         return Ok(None);
     }
-    Ok(Some(Request::Line(line)))
+    Ok(Some(SessionRequest::Line(line)))
 }
 
 /// Reads the lines of a frame behind its first one, up to its last one, which is not kept.
-fn read_frame<R: BufRead>(alloc: Global, input: &mut R, first: Vec<u8>) -> io::Result<Request>
+fn read_frame<R: BufRead>(
+    alloc: Global,
+    input: &mut R,
+    first: Vec<u8>,
+) -> io::Result<SessionRequest>
     ensures { IfOk result (λ request. WhereKnown (R.remaining input.old) (R.remaining input.new) (λ xs ys.
         AreAsked (Some request) (requests (Some first.items) (lines_of xs)) (requests_of ys))) }
 {
@@ -39,7 +43,7 @@ fn read_frame<R: BufRead>(alloc: Global, input: &mut R, first: Vec<u8>) -> io::R
         line.clear();
         let count = input.read_until(b'\n', &mut line)?;
         if count == 0 {
-            return Ok(Request::CutOff);
+            return Ok(SessionRequest::CutOff);
         }
         if closes(line.as_slice()) {
             return Ok(request_of(frame));
@@ -61,12 +65,12 @@ fn with_line(frame: Option<Vec<u8>>, line: &[u8]) -> Option<Vec<u8>>
 }
 
 /// What a whole frame asks for.
-fn request_of(frame: Option<Vec<u8>>) -> Request
+fn request_of(frame: Option<Vec<u8>>) -> SessionRequest
     ensures { (whole : List ℕ) → IsKept frame whole → AsksFor result (Frame whole) }
 {
     match frame {
-        Some(bytes) => Request::Frame(bytes),
-        None => Request::Unkept,
+        Some(bytes) => SessionRequest::Frame(bytes),
+        None => SessionRequest::Unkept,
     }
 }
 

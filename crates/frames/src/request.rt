@@ -2,7 +2,7 @@
 
 /// What a session is asked for.
 #[derive(Debug, Drop)]
-pub enum Request {
+pub enum SessionRequest {
     /// To run a block: the bytes of its file.
     Frame(Vec<u8>),
     /// To run a block for whose bytes memory ran out. It was read to its end, and is not kept.

@@ -22,7 +22,7 @@ pub fn write_outcome<W: Destination>(
         (result_text outcome.now.receipts.items outcome.now.store)) }
     ensures err { OnErr result (AppendsPart (W.contents out.old) (W.contents out.new)
         (result_text outcome.now.receipts.items outcome.now.store)) }
-    ensures told { IfErr result (MayRefuse (W.may_fail out.old) (W.may_take_nothing out.old)) }
+    ensures cause { IfErr result (MayRefuse (W.may_fail out.old) (W.may_take_nothing out.old)) }
     ensures memory { IfErr result (λ e. e ≡ WriteFault.Memory → out.new ≡ out.old) }
     ensures same { (W.may_fail out.new → W.may_fail out.old) × (W.may_take_nothing out.new → W.may_take_nothing out.old) }
 {

@@ -3,7 +3,7 @@ use Rattle.std.proofs.Common.{◌≡◌, ℕ, List, [], ◌∷◌, ◌++◌, Opt
 use Rattle.std.specs.Io.KnownBytes.{Appends}
 use Rattle.std.proofs.KnownBytes.{Appends-nil, Appends-trans}
 use Rattle.frames.specs.Frames.{AreAsked, Ask, AsksFor, WhereKnown, requests_of}
-use Rattle.frames.specs.declared.request.Request.{Request}
+use Rattle.frames.specs.declared.request.SessionRequest.{SessionRequest}
 use Rattle.frames.proofs.LineReads.{known_then, known_map}
 use Rattle.byte_streams.specs.declared.fault.WriteFault.{WriteFault}
 use Rattle.sessions.specs.Serving.{AreAnswered, IsCutShort}
@@ -35,10 +35,10 @@ serve_start answers s out None = tt
 serve_start answers s out (Some xs) = ([], [], refl, no_answer answers s, Appends-nil out)
 
 -- each request that this may be
-abbrev pub Answered : {S : Type 0} → (S → Ask → List ℕ → S → Type 0) → Request → S → List ℕ → S → Type 0
+abbrev pub Answered : {S : Type 0} → (S → Ask → List ℕ → S → Type 0) → SessionRequest → S → List ℕ → S → Type 0
 Answered answers request s text next = (ask : Ask) → AsksFor request ask → answers s ask text next
 
-pub serve_next : {S : Type 0} (answers : S → Ask → List ℕ → S → Type 0) (old now next : S) (before mid last a b c : Option (List ℕ)) (request : Request)
+pub serve_next : {S : Type 0} (answers : S → Ask → List ℕ → S → Type 0) (old now next : S) (before mid last a b c : Option (List ℕ)) (request : SessionRequest)
     → WhereKnown a b (IsServing answers old now before mid) → WhereKnown b c (λ ys zs. AreAsked (Some request) (requests_of ys) (requests_of zs))
     → (answer : List ℕ) × Answered answers request now answer next × Appends mid last answer
     → WhereKnown a c (IsServing answers old next before last)
@@ -81,7 +81,7 @@ serve_unread answers old now before mid a b so = known_some _ a b (known_map _ (
 )))
 
 -- a write failed
-pub serve_cut : {S : Type 0} (answers : S → Ask → List ℕ → S → Type 0) (fault : WriteFault) (old now next : S) (before mid last a b c : Option (List ℕ)) (request : Request)
+pub serve_cut : {S : Type 0} (answers : S → Ask → List ℕ → S → Type 0) (fault : WriteFault) (old now next : S) (before mid last a b c : Option (List ℕ)) (request : SessionRequest)
     → WhereKnown a b (IsServing answers old now before mid) → WhereKnown b c (λ ys zs. AreAsked (Some request) (requests_of ys) (requests_of zs))
     → (part : List ℕ) × (left : List ℕ) × Answered answers request now (part ++ left) next × Appends mid last part
     → IfSome a (λ bytes. IsCutShort answers (Output fault) old (requests_of bytes) next before last)

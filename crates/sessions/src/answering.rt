@@ -19,7 +19,7 @@ use crate::refusing::refused_line;
 use crate::session::{Session, answer_frame_with};
 use block_file::{BlockFault, Cause, fields};
 use byte_streams::{Destination, WriteFault, write_whole};
-use frames::Request;
+use frames::SessionRequest;
 use receipts::{bytes_text, write_outcome};
 use rv_ledger::{Job, Key, Outcome, Store};
 use std::alloc::{AllocError, Global};
@@ -37,7 +37,7 @@ pub(crate) fn answer<L: Loader, C: CallRunner, W: Destination>(
     alloc: Global,
     runner: &mut C,
     session: &mut Session<L>,
-    request: Request,
+    request: SessionRequest,
     out: &mut W,
 ) -> Result<(), WriteFault>
     requires ready { C.ready }
@@ -48,16 +48,16 @@ pub(crate) fn answer<L: Loader, C: CallRunner, W: Destination>(
     ensures no_worse { (W.may_fail out.new → W.may_fail out.old) × (W.may_take_nothing out.new → W.may_take_nothing out.old) }
 {
     match request {
-        Request::Frame(bytes) => {
+        SessionRequest::Frame(bytes) => {
             let Session { state, programs } = session;
             print_answer(
                 answer_frame_with(alloc, runner, state, programs, bytes.as_slice()),
                 out,
             )
         }
-        Request::Unkept => print_refusal(FrameFault::Block(FRAME_MEMORY), out),
-        Request::CutOff => print_answer(Err(FrameFault::NoEnd), out),
-        Request::Line(line) => answer_line(
+        SessionRequest::Unkept => print_refusal(FrameFault::Block(FRAME_MEMORY), out),
+        SessionRequest::CutOff => print_answer(Err(FrameFault::NoEnd), out),
+        SessionRequest::Line(line) => answer_line(
             alloc,
             &mut session.state.store,
             without_end(line.as_slice()),

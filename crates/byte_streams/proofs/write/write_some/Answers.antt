@@ -8,6 +8,6 @@ returns-clause-ok g c =
 pub returns-clause-err : goal.returns-clause-err
 returns-clause-err g c = rw c.taken.ensures (none_taken c.write_part.result _ _ c.args.bytes.now c.write_part.ensures.bytes)
 
-pub returns-clause-told : goal.returns-clause-told
-returns-clause-told g c =
+pub returns-clause-cause : goal.returns-clause-cause
+returns-clause-cause g c =
     rw c.taken.ensures (may_come c.write_part.result c.args.bytes.now (g.W.Destination.may_fail c.args.out.now) (g.W.Destination.may_take_nothing c.args.out.now) c.requires c.write_part.ensures.fails c.write_part.ensures.nothing)

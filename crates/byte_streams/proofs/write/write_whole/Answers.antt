@@ -14,5 +14,5 @@ returns-in-Err-clause-err g c =
     let left : 0 < length c.loop-rest.rest.now = grind (arith, nat_tests) in
     written_part _ _ _ _ _ left c.loop-rest.invariant.written c.in-Err.ensures.err
 
-pub returns-in-Err-clause-told : goal.returns-in-Err-clause-told
-returns-in-Err-clause-told g c = may_come_before c.in-Err.fault _ _ _ _ c.loop-rest.invariant.same c.in-Err.ensures.told
+pub returns-in-Err-clause-cause : goal.returns-in-Err-clause-cause
+returns-in-Err-clause-cause g c = may_come_before c.in-Err.fault _ _ _ _ c.loop-rest.invariant.same c.in-Err.ensures.cause

@@ -2,7 +2,7 @@ use Rattle.std.proofs.Common.{[], ◌++◌, take, arith, lit≤, inl}
 use Rattle.std.proofs.KnownBytes.{Consumes-nil, Consumes-trans}
 use Rattle.std.proofs.lemmas.List.Elements.{All-nil}
 use Rattle.debugger.specs.Hearing.{IsInLine}
-use Rattle.debugger.proofs.Cuts.{cut_at, cut_between_reads, cut_inside, cut_over, read_none, told_before}
+use Rattle.debugger.proofs.Cuts.{cut_at, cut_between_reads, cut_inside, cut_over, read_none, possible_before}
 use Rattle.debugger.proofs.CutOff.{one_more, too_long}
 use Rattle.debugger.proofs.SessionInputs.{ended_at, ended_over, last_heard, part_heard, start_heard}
 use Rattle.debugger.proofs.session.debug_to.Goals as goal
@@ -77,8 +77,8 @@ pub returns-clause-unreadable : goal.returns-clause-unreadable
 returns-clause-unreadable g c _ =
     too_long (g.R.Source.may_fail c.args.lines.now) (g.R.Read.remaining c.args.lines.now) (g.R.Read.remaining c.loop-turn.lines) c.loop-turn.invariant.0 (omega arith) c.loop-turn.invariant.1
 
-pub returns-in-Err-clause-told : goal.returns-in-Err-clause-told
-returns-in-Err-clause-told g c = told_before c.in-Err.fault _ _ _ _ c.loop-turn.invariant.4 c.in-Err.ensures.told
+pub returns-in-Err-clause-cause : goal.returns-in-Err-clause-cause
+returns-in-Err-clause-cause g c = possible_before c.in-Err.fault _ _ _ _ c.loop-turn.invariant.4 c.in-Err.ensures.cause
 
-pub returns-in-Err-hear-clause-told : goal.returns-in-Err-hear-clause-told
-returns-in-Err-hear-clause-told g c = told_before c.in-Err-hear.fault _ _ _ _ c.loop-turn.invariant.4 c.in-Err-hear.ensures.told
+pub returns-in-Err-hear-clause-cause : goal.returns-in-Err-hear-clause-cause
+returns-in-Err-hear-clause-cause g c = possible_before c.in-Err-hear.fault _ _ _ _ c.loop-turn.invariant.4 c.in-Err-hear.ensures.cause

@@ -1,5 +1,5 @@
 use Rattle.std.proofs.Common.{sym, ◌∙◌}
-use Rattle.debugger.proofs.Cuts.{hear_cut, hear_line_cut, told_before}
+use Rattle.debugger.proofs.Cuts.{hear_cut, hear_line_cut, possible_before}
 use Rattle.debugger.proofs.SessionInputs.{hear_byte, hear_line, hear_quit, start_heard}
 use Rattle.debugger.proofs.session.hear.Goals as goal
 
@@ -44,6 +44,6 @@ returns-in-Err-answer_line-clause-err g c =
     c.loop-byte-test.true c.if-byte-ne-LINE_END.false
     (rw c.as_slice.ensures.value at c.in-Err-answer_line.ensures.err)
 
-pub returns-in-Err-answer_line-clause-told : goal.returns-in-Err-answer_line-clause-told
-returns-in-Err-answer_line-clause-told g c =
-    told_before c.in-Err-answer_line.fault _ _ _ _ (c.loop-byte.invariant.1, c.loop-byte.invariant.2) c.in-Err-answer_line.ensures.told
+pub returns-in-Err-answer_line-clause-cause : goal.returns-in-Err-answer_line-clause-cause
+returns-in-Err-answer_line-clause-cause g c =
+    possible_before c.in-Err-answer_line.fault _ _ _ _ (c.loop-byte.invariant.1, c.loop-byte.invariant.2) c.in-Err-answer_line.ensures.cause

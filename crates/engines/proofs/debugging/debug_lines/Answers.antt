@@ -29,4 +29,4 @@ returns-in-Err-Memory-clause-cut g c =
 
 pub returns-in-Err-Output-clause-refused : goal.returns-in-Err-Output-clause-refused
 returns-in-Err-Output-clause-refused g c =
-    of_output (MayBeCutOff (g.L.Source.may_fail c.args.lines.now) (g.L.Read.remaining c.args.lines.now)) (g.W.Destination.may_fail c.args.out.now) (g.W.Destination.may_take_nothing c.args.out.now) c.in-Err-Output.fault (rw c.in-Err-Output.field-0-is at c.in-Err-Output.ensures.told)
+    of_output (MayBeCutOff (g.L.Source.may_fail c.args.lines.now) (g.L.Read.remaining c.args.lines.now)) (g.W.Destination.may_fail c.args.out.now) (g.W.Destination.may_take_nothing c.args.out.now) c.in-Err-Output.fault (rw c.in-Err-Output.field-0-is at c.in-Err-Output.ensures.cause)

@@ -27,4 +27,4 @@ whole (Err Memory) may_fail may_take_nothing old new text all told room fails no
 
 pub returns-clause-whole : goal.returns-clause-whole
 returns-clause-whole g c fails nothing =
-    whole c.write_refusal.result (g.W.Destination.may_fail c.args.out.now) (g.W.Destination.may_take_nothing c.args.out.now) (g.W.Write.contents c.args.out.now) (g.W.Write.contents c.write_refusal.new.out) (refusal_line (refusal_text c.args.refusal.now)) c.write_refusal.ensures.written c.write_refusal.ensures.told c.write_refusal.ensures.room fails nothing
+    whole c.write_refusal.result (g.W.Destination.may_fail c.args.out.now) (g.W.Destination.may_take_nothing c.args.out.now) (g.W.Write.contents c.args.out.now) (g.W.Write.contents c.write_refusal.new.out) (refusal_line (refusal_text c.args.refusal.now)) c.write_refusal.ensures.written c.write_refusal.ensures.cause c.write_refusal.ensures.room fails nothing

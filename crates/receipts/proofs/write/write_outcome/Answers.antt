@@ -13,8 +13,8 @@ returns-clause-err g c =
     let held = rw c.as_slice.ensures.value at (c.push_result.ensures.holds c.args.out.now [] (holds_nothing g.W.Write.contents g.W.Destination.may_fail g.W.Destination.may_take_nothing c.in-Ok.text c.args.out.now c.in-Ok.ensures.0 c.in-Ok.ensures.1)) in
     IfErr-weaker c.finish.result _ _ (λ fault cut. (cut _ _ held).0) c.finish.ensures.err
 
-pub returns-clause-told : goal.returns-clause-told
-returns-clause-told g c =
+pub returns-clause-cause : goal.returns-clause-cause
+returns-clause-cause g c =
     let held = rw c.as_slice.ensures.value at (c.push_result.ensures.holds c.args.out.now [] (holds_nothing g.W.Write.contents g.W.Destination.may_fail g.W.Destination.may_take_nothing c.in-Ok.text c.args.out.now c.in-Ok.ensures.0 c.in-Ok.ensures.1)) in
     IfErr-weaker c.finish.result _ _ (λ fault cut. (cut _ _ held).1) c.finish.ensures.err
 

@@ -25,7 +25,7 @@ returns g c = record {
   says = part_of (λ text. (text ≡ result_text [] c.args.store.now) ⊎ IsWant text) (result_text c.without_calls-outcome.result.receipts.items c.without_calls-outcome.result.store)
       (g.W.Write.contents c.args.out.now) (g.W.Write.contents c.write_outcome-written.new.out) (inl (first_of (cc, search rules))) c.in-Err.ensures.err;
   same = search rules;
-  refused = c.in-Err.ensures.told;
+  refused = c.in-Err.ensures.cause;
   no_worse = c.write_outcome-written.ensures.same;
 }
 

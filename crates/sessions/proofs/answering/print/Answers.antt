@@ -5,7 +5,7 @@ use Rattle.sessions.proofs.answering.print.Goals as goal
 pub returns-in-Err : goal.returns-in-Err
 returns-in-Err g c = record {
   says = part_of (λ t. t ≡ c.args.text.now) c.args.text.now (g.W.Write.contents c.args.out.now) (g.W.Write.contents c.write_whole.new.out) refl c.in-Err.ensures.err;
-  refused = c.in-Err.ensures.told;
+  refused = c.in-Err.ensures.cause;
   no_worse = c.write_whole.ensures.same;
 }
 
