@@ -6,7 +6,7 @@ use byte_streams::WriteFault;
 use receipts::{end_name, one_text_of, result_text, write_outcome};
 use rv_isa::{Reg, Regs};
 use rv_ledger::{
-    Change, End, InlineBytes, Job, Key, Outcome, Output, Receipt, Store, Trap, Value,
+    Change, End, InlineBytes, Job, Key, Outcome, Receipt, Store, StoredOutput, Trap, Value,
     Write as WriteTo, Writes,
 };
 use std::alloc::{AllocError, Global};
@@ -84,7 +84,7 @@ fn echo(alloc: Global) -> Result<Receipt, Fail> {
         end: End::Returned,
         gas: 13,
         pc: 0x0001_0004,
-        out: Output::of(&[1, 2]).ok_or("long")?,
+        out: StoredOutput::of(alloc, &value(&[1, 2])?)?,
         regs,
         writes: Writes::new(alloc),
     })
@@ -105,7 +105,7 @@ fn writer(alloc: Global) -> Result<Receipt, Fail> {
         end: End::Returned,
         gas: u32::MAX,
         pc: 0xfedc_ba98,
-        out: InlineBytes::empty(),
+        out: StoredOutput::empty(alloc),
         regs: Regs::zero(),
         writes,
     })

@@ -187,13 +187,13 @@ fn writes(rt: &impl Abort, alloc: Global) -> Result<Writes, AllocError> {
     Ok(writes)
 }
 
-// A receipt with these writes.
-fn receipt(writes: Writes) -> Receipt {
+// A receipt with these writes and no output.
+fn receipt(alloc: Global, writes: Writes) -> Receipt {
     Receipt {
         end: End::Returned,
         gas: 10,
         pc: 0x0001_0004,
-        out: Output::empty(),
+        out: StoredOutput::empty(alloc),
         regs: Regs::zero(),
         writes,
     }
@@ -220,7 +220,7 @@ fn copied_writes(receipt: &Receipt) -> Result<Writes, AllocError> {
 
 #[test]
 fn written_keys(rt: HostRuntime) -> Result<(), Fail> {
-    let receipt = receipt(writes(&rt, rt.alloc())?);
+    let receipt = receipt(rt.alloc(), writes(&rt, rt.alloc())?);
     are_full(&rt, &receipt.writes);
     clears(&rt, &mut copied_writes(&receipt)?);
     Ok(())

@@ -15,7 +15,7 @@ mod rules;
 mod same;
 mod store;
 mod store_builder;
-mod stored_value;
+mod stored_bytes;
 mod writes;
 
 pub use call::{Call, CallFault, GAS_LIMIT, INPUT_LIMIT};
@@ -30,5 +30,5 @@ pub use rules::{Rules, SHORT_VALUE_LIMIT};
 pub use same::{same_call, same_content, same_job, same_store};
 pub use store::Store;
 pub use store_builder::StoreBuilder;
-pub use stored_value::StoredValue;
+pub use stored_bytes::{IN_PLACE_LIMIT, StoredBytes, StoredOutput, StoredValue};
 pub use writes::{WRITE_LIMIT, Write, Writes};

@@ -1,7 +1,7 @@
 //! The receipt of a call.
 
 use crate::end::End;
-use crate::inline_bytes::Output;
+use crate::stored_bytes::StoredOutput;
 use crate::writes::Writes;
 use rv_isa::Regs;
 use std::alloc::AllocError;
@@ -16,7 +16,7 @@ pub struct Receipt {
     /// The address of the instruction that ended it.
     pub pc: u32,
     /// What it returned or reverted with; empty after any other end.
-    pub out: Output,
+    pub out: StoredOutput,
     /// The registers at its end.
     pub regs: Regs,
     /// What it wrote; empty unless it returned.
@@ -34,7 +34,7 @@ impl Receipt {
             end: self.end,
             gas: self.gas,
             pc: self.pc,
-            out: self.out.copy(),
+            out: self.out.clone()?,
             regs: self.regs,
             writes: self.writes.copy()?,
         })

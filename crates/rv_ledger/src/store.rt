@@ -3,7 +3,7 @@
 use crate::change::add;
 use crate::inline_bytes::Value;
 use crate::key::Key;
-use crate::stored_value::StoredValue;
+use crate::stored_bytes::StoredValue;
 use std::alloc::{AllocError, Global};
 use std::collections::BTreeMap;
 use std::collections::btree_map::Iter;

@@ -3,7 +3,7 @@
 use crate::inline_bytes::Value;
 use crate::key::Key;
 use crate::store::Store;
-use crate::stored_value::StoredValue;
+use crate::stored_bytes::StoredValue;
 use std::alloc::{AllocError, Global};
 use std::marker::Model;
 

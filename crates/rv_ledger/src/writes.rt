@@ -11,7 +11,7 @@ ghost use Rattle.rv_ledger.specs.Key.{key_cmp};
 use crate::change::Change;
 use crate::inline_bytes::Value;
 use crate::key::Key;
-use crate::stored_value::StoredValue;
+use crate::stored_bytes::StoredValue;
 use std::alloc::{AllocError, Global};
 use std::marker::Model;
 
@@ -67,6 +67,11 @@ impl Writes {
         Writes {
             entries: Vec::new(alloc),
         }
+    }
+
+    /// The allocator of the writes.
+    pub fn allocator(&self) -> Global {
+        *self.entries.allocator()
     }
 
     /// What was last done to a key, or None where it was not written.

@@ -1,11 +1,12 @@
 -- Private help of proofs; no public clause cites it. What the result of a method of the machine says about a step.
-use Rattle.std.specs.Prelude.{◌≡◌, ℕ, zero, suc, [], Bool, true, false, Option, Some, None, Result, Ok, Err, IsTrue, OnErr, alloc_error}
+use Rattle.std.specs.Prelude.{◌≡◌, ◌<◌, ℕ, zero, suc, List, [], length, Bool, true, false, if◌then◌else◌, Option, Some, None, Result, Ok, Err, IsTrue, OnErr, alloc_error}
 use Rattle.rv_isa.specs.declared.instruction.Instr.{Instr}
 use Rattle.rv_isa.specs.declared.instruction.Instr.TheVariants.{Ecall}
 use Rattle.rv_ledger.specs.declared.end.End.{End}
 use Rattle.rv_ledger.specs.declared.end.End.TheVariants.{Trapped}
 use Rattle.rv_ledger.specs.declared.end.Trap.TheVariants as trap
-use Rattle.ecalls.specs.StorageCalls.{ecall_charge}
+use Rattle.ecalls.specs.StorageCalls.{a0, a1, ecall_charge, is_readable}
+use Rattle.rv_mem.specs.Space.{bytes_at}
 use Rattle.rv_mem.specs.declared.fault.Fault.{Fault}
 use Rattle.rv_mem.specs.declared.fault.Fault.TheVariants as fault
 use Rattle.std.specs.declared.alloc.AllocError.{AllocError}
@@ -14,21 +15,21 @@ use Rattle.rv_step.specs.declared.outcome.InstructionOutcome.{InstructionOutcome
 use Rattle.rv_step.specs.declared.outcome.InstructionOutcome.TheVariants as outcome
 use Rattle.rv_step.specs.declared.stage.Stage.{Stage}
 use Rattle.rv_step.specs.declared.stage.Stage.TheVariants.{Running, Asked, Ended}
-use Rattle.rv_step.specs.Growth.{goes_on, instruction_at, may_grow}
+use Rattle.rv_step.specs.Growth.{leaves_more, instruction_at, may_grow}
 use Rattle.rv_step.specs.Step.{Progress, Going, Over, StepResult, Leads, Asks, ecall_result, step}
 
 -- a method did what was wanted. A READ that asks the storage changes nothing. Running out of memory happens only where the
--- call would go on, and changes nothing
+-- call would go on or end with an output, and changes nothing
 abbrev pub MeetsResult : Result Stage AllocError → StepResult → Machine → Machine → Type 0
 MeetsResult (Ok Running) want old new = want ≡ Leads (Going new)
 MeetsResult (Ok (Asked key)) want old new = (want ≡ Asks key) × (new ≡ old)
 MeetsResult (Ok (Ended end out)) want old new = want ≡ Leads (Over end out new)
-MeetsResult (Err refused) want old new = IsTrue (goes_on want) × (new ≡ old)
+MeetsResult (Err refused) want old new = IsTrue (leaves_more want) × (new ≡ old)
 
 -- the same for a method of a machine that is running, which writes how far the run is into a stage
 abbrev pub MeetsStage : Result (Unit {0}) AllocError → Stage → StepResult → Machine → Machine → Type 0
 MeetsStage (Ok done) stage want old new = MeetsResult (Ok stage) want old new
-MeetsStage (Err refused) stage want old new = (stage ≡ Running) × IsTrue (goes_on want) × (new ≡ old)
+MeetsStage (Err refused) stage want old new = (stage ≡ Running) × IsTrue (leaves_more want) × (new ≡ old)
 
 -- the same for a method that only finds an ECALL, and then has not changed the machine; `instr` is the instruction, if
 -- there is one
@@ -36,7 +37,7 @@ abbrev pub MeetsInstruction : Result InstructionOutcome AllocError → Option In
 MeetsInstruction (Ok outcome.Next) instr want old new = want ≡ Leads (Going new)
 MeetsInstruction (Ok outcome.StorageCall) instr want old new = (instr ≡ Some Ecall) × (want ≡ ecall_result old (ecall_charge old.regs old.rules)) × (new ≡ old)
 MeetsInstruction (Ok (outcome.End end)) instr want old new = want ≡ Leads (Over end [] new)
-MeetsInstruction (Err refused) instr want old new = IsTrue (may_grow instr) × IsTrue (goes_on want) × (new ≡ old)
+MeetsInstruction (Err refused) instr want old new = IsTrue (may_grow instr) × IsTrue (leaves_more want) × (new ≡ old)
 
 -- the machine goes on
 abbrev pub is_next : InstructionOutcome → Bool
@@ -70,7 +71,16 @@ pub record MeetsSteps (result : Result (Unit {0}) AllocError) (stage : Stage) (o
 abbrev pub MeetsEffect : Result (Option End) AllocError → Instr → Progress → Machine → Machine → Type 0
 MeetsEffect (Ok None) instr want old new = want ≡ Going new
 MeetsEffect (Ok (Some end)) instr want old new = want ≡ Over end [] new
-MeetsEffect (Err refused) instr want old new = IsTrue (may_grow (Some instr)) × IsTrue (goes_on (Leads want)) × (new ≡ old)
+MeetsEffect (Err refused) instr want old new = IsTrue (may_grow (Some instr)) × IsTrue (leaves_more (Leads want)) × (new ≡ old)
+
+-- the output of a RETURN or a REVERT, or None where a byte of it may not be read
+abbrev pub output_of : Machine → Option (List ℕ)
+output_of s = if is_readable s.memory (a0 s.regs) (a1 s.regs) then Some (bytes_at s.memory (a0 s.regs) (a1 s.regs)) else None
+
+-- a method found that output. Running out of memory happens only where it is not empty
+abbrev pub MeetsOutput : Result (Option (List ℕ)) AllocError → Machine → Type 0
+MeetsOutput (Ok out) s = out ≡ output_of s
+MeetsOutput (Err refused) s = IsTrue (is_readable s.memory (a0 s.regs) (a1 s.regs)) × (0 < length (bytes_at s.memory (a0 s.regs) (a1 s.regs)))
 
 -- the storage is asked
 abbrev pub is_asked : Stage → Bool

@@ -74,9 +74,9 @@ fn go_on_over<S: Contents>(
         Stage::Running => run_until_stop(machine, stage),
         Stage::Asked(key) => {
             let key = *key;
-            let content = StoredValue::value_of(store.get(&key));
+            let content = StoredValue::bytes_of(store.get(&key));
             *stage = Stage::Running;
-            machine.answer(&key, content.as_ref(), stage)
+            machine.answer(&key, content, stage)
         }
         Stage::Ended(_, _) => unreachable!(),
     }

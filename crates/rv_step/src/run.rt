@@ -10,8 +10,9 @@ use crate::ended_run::EndedRun;
 use crate::machine::Machine;
 use crate::outcome::InstructionOutcome;
 use crate::stage::{Stage, end_with};
+use crate::storage_calls::bytes_of;
 use read_set::Origin;
-use rv_ledger::{Call, End, Key, Output, Receipt, Value};
+use rv_ledger::{Call, End, Key, Receipt, StoredOutput, Value};
 use rv_mem::PageRoom;
 use std::alloc::{AllocError, Global};
 use std::marker::Model;
@@ -103,7 +104,7 @@ impl Run {
     }
 
     /// Makes one step of a run that is running. Refused where memory ran out, and then nothing changes.
-    /// Only a store or a storage call after which the call goes on can be refused.
+    /// Only a store or a storage call can be refused, after which the call goes on or has an output.
     pub fn step_one(&mut self) -> Result<(), AllocError>
         requires { IsTrue (is_running self.old.stage) }
         ensures ok { OnOk result (self.new ≡ after_result (step self.old.machine) self.old) }
@@ -114,7 +115,9 @@ impl Run {
         match self.machine.execute_instruction()? {
             InstructionOutcome::Next => {}
             InstructionOutcome::StorageCall => self.machine.execute_ecall(&mut self.stage)?,
-            InstructionOutcome::End(end) => end_with(&mut self.stage, end),
+            InstructionOutcome::End(end) => {
+                end_with(&mut self.stage, self.machine.own.allocator(), end);
+            }
         }
         Ok(())
     }
@@ -185,7 +188,10 @@ impl Run {
             origin,
         })?;
         self.stage = Stage::Running;
-        match self.machine.answer(&key, content, &mut self.stage) {
+        match self
+            .machine
+            .answer(&key, bytes_of(content), &mut self.stage)
+        {
             Ok(()) => Ok(()),
             Err(refused) => {
                 let _ = self.answers.pop();
@@ -258,14 +264,19 @@ pub(crate) fn run_until_stop(machine: &mut Machine, stage: &mut Stage) -> Result
     match machine.execute_until_stop()? {
         InstructionOutcome::Next => unreachable!(),
         InstructionOutcome::StorageCall => machine.execute_ecall(stage)?,
-        InstructionOutcome::End(end) => end_with(stage, end),
+        InstructionOutcome::End(end) => end_with(stage, machine.own.allocator(), end),
     }
     Ok(())
 }
 
 /// The receipt of a call with this gas limit that ended so, and the room of its pages; only a call that returned keeps
 /// its writes.
-pub(crate) fn receipt(limit: u32, end: End, out: Output, machine: Machine) -> (Receipt, PageRoom)
+pub(crate) fn receipt(
+    limit: u32,
+    end: End,
+    out: StoredOutput,
+    machine: Machine,
+) -> (Receipt, PageRoom)
     requires { machine.gas ≤ limit }
     ensures { result.0 ≡ receipt_of limit end out machine }
 {

@@ -5,7 +5,8 @@ ghost use Rattle.rv_step.specs.Meets.{is_asked};
 ghost use Rattle.rv_step.specs.Over.{is_ended};
 ghost use Rattle.rv_step.specs.declared.stage.Stage.TheVariants.{Ended};
 
-use rv_ledger::{End, Key, Output};
+use rv_ledger::{End, Key, StoredOutput};
+use std::alloc::Global;
 
 /// How far a run is.
 #[derive(Drop)]
@@ -15,7 +16,7 @@ pub enum Stage {
     /// It waits for the storage's answer to a key.
     Asked(Key),
     /// Its call has ended, with an output.
-    Ended(End, Output),
+    Ended(End, StoredOutput),
 }
 
 /// Whether a run waits for the storage's answer.
@@ -33,10 +34,10 @@ pub(crate) fn is_ended(stage: &Stage) -> bool
 }
 
 /// Sets the stage of a call that ends without an output. It is kept out of the loop over instructions,
-/// since a function's frame is cleared at each entry, and an output takes much room in the frame.
+/// since a function's frame is cleared at each entry.
 #[inline(never)]
-pub(crate) fn end_with(stage: &mut Stage, end: End)
+pub(crate) fn end_with(stage: &mut Stage, alloc: Global, end: End)
     ensures { stage.new ≡ Ended end [] }
 {
-    *stage = Stage::Ended(end, Output::empty());
+    *stage = Stage::Ended(end, StoredOutput::empty(alloc));
 }

@@ -1,14 +1,14 @@
 //! The storage calls of a machine. Each writes how far the run is into a stage that stands elsewhere, since
 //! a stage may hold an output and is dear to move.
 
-ghost use Rattle.std.specs.Prelude.{◌≡◌, ◌≤◌, if◌then◌else◌, [], length};
+ghost use Rattle.std.specs.Prelude.{◌≡◌, ◌≤◌, if◌then◌else◌, [], IfSome, length};
 ghost use Rattle.std.specs.Option.{option_copied};
 ghost use Rattle.std.specs.FinMap as map;
-ghost use Rattle.ecalls.specs.StorageCalls.{ecall_charge, late_charge, length_of, request_by};
+ghost use Rattle.ecalls.specs.StorageCalls.{a1, ecall_charge, late_charge, length_of, request_by};
 ghost use Rattle.ecalls.specs.declared.storage_call.StorageCall.TheVariants as call;
 ghost use Rattle.rv_isa.specs.Registers.{written};
 ghost use Rattle.rv_ledger.specs.declared.end.End.TheVariants.{OutOfGas, Returned, Reverted};
-ghost use Rattle.rv_step.specs.Meets.{MeetsStage, is_asked};
+ghost use Rattle.rv_step.specs.Meets.{MeetsOutput, MeetsStage, is_asked};
 ghost use Rattle.rv_ledger.specs.Change.{change_copied};
 ghost use Rattle.rv_step.specs.Step.{Going, Leads, answered, change_after_add, charged, delivered, delivery_result, ecall_result, next_instruction, read_result, storage_call_result, value_result, write_result};
 ghost use Rattle.rv_step.specs.declared.stage.Stage.TheVariants.{Ended, Running};
@@ -21,7 +21,10 @@ use ecalls::{
 };
 use gas::Meter;
 use rv_isa::Reg;
-use rv_ledger::{Change, End, Key, StoredValue, Value, add, wrapping_sum};
+use rv_ledger::{
+    Change, End, IN_PLACE_LIMIT, Key, OUTPUT_LIMIT, StoredOutput, StoredValue, Value, add,
+    wrapping_sum,
+};
 use std::alloc::AllocError;
 
 /// The number in a0 after a READ of an absent key.
@@ -42,13 +45,13 @@ impl Machine {
         let call = match requested_call(&self.regs, self.rules) {
             Ok(call) => call,
             Err(cause) => {
-                end_with(stage, End::Trapped(cause));
+                end_with(stage, self.own.allocator(), End::Trapped(cause));
                 return Ok(());
             }
         };
         let gas = self.gas;
         if !self.gas.charge(call.charge(&self.regs)) {
-            end_with(stage, self.run_out());
+            end_with(stage, self.own.allocator(), self.run_out());
             return Ok(());
         }
         match self.serve(call, stage) {
@@ -70,28 +73,30 @@ impl Machine {
     pub(crate) fn answer(
         &mut self,
         key: &Key,
-        content: Option<&Value>,
+        content: Option<&[u8]>,
         stage: &mut Stage,
     ) -> Result<(), AllocError>
-        requires { stage.old ≡ Running }
+        requires running { stage.old ≡ Running }
+        requires short { IfSome content (λ bytes. length bytes.now ≤ 256) }
         ensures { MeetsStage result stage.new (Leads (answered self.old (delivered self.old key.now (option_copied content.entry)))) self.old self.new }
     {
         let Some(Change::Sum(amount)) = self.own.get(key) else {
             return self.answer_with(content, stage);
         };
-        let sum = add(bytes_of(content), *amount);
-        self.answer_with(Some(&sum), stage)
+        let sum = add(content, *amount);
+        self.answer_with(Some(sum.bytes()), stage)
     }
 
     /// Gives what the READ at which the machine stands is delivered. Charges and refuses as `answer` does.
     #[tactic(auto, unfolding(crate::specs::Step::answered))]
-    fn answer_with(&mut self, content: Option<&Value>, stage: &mut Stage) -> Result<(), AllocError>
-        requires { stage.old ≡ Running }
+    fn answer_with(&mut self, content: Option<&[u8]>, stage: &mut Stage) -> Result<(), AllocError>
+        requires running { stage.old ≡ Running }
+        requires short { IfSome content (λ bytes. length bytes.now ≤ 256) }
         ensures { MeetsStage result stage.new (Leads (answered self.old (option_copied content.entry))) self.old self.new }
     {
         let gas = self.gas;
         if !self.gas.charge(READ_CHARGE) {
-            end_with(stage, self.run_out());
+            end_with(stage, self.own.allocator(), self.run_out());
             return Ok(());
         }
         match self.deliver(content, stage) {
@@ -135,14 +140,14 @@ impl Machine {
         ensures { MeetsStage result stage.new (storage_call_result self.old (request_by call.Read self.old.regs self.old.memory)) self.old self.new }
     {
         let Some(key) = key_at(&self.memory, self.regs.get(Reg::a0())) else {
-            end_with(stage, End::Trapped(Trap::MemoryFault));
+            end_with(stage, self.own.allocator(), End::Trapped(Trap::MemoryFault));
             return Ok(());
         };
         if !self
             .memory
             .range_writable(self.regs.get(Reg::a1()), self.regs.get(Reg::a2()))
         {
-            end_with(stage, End::Trapped(Trap::MemoryFault));
+            end_with(stage, self.own.allocator(), End::Trapped(Trap::MemoryFault));
             return Ok(());
         }
         self.read_key(&key, stage)
@@ -162,7 +167,7 @@ impl Machine {
                 return Ok(());
             }
         };
-        self.deliver(content.as_ref(), stage)
+        self.deliver(bytes_of(content.as_ref()), stage)
     }
 
     /// Writes a value to a key; traps MemoryFault unless both may be read.
@@ -173,7 +178,7 @@ impl Machine {
         ensures { MeetsStage result stage.new (storage_call_result self.old (request_by call.Write self.old.regs self.old.memory)) self.old self.new }
     {
         let Some(key) = key_at(&self.memory, self.regs.get(Reg::a0())) else {
-            end_with(stage, End::Trapped(Trap::MemoryFault));
+            end_with(stage, self.own.allocator(), End::Trapped(Trap::MemoryFault));
             return Ok(());
         };
         let value: Option<Value> = bytes_at(
@@ -182,7 +187,7 @@ impl Machine {
             self.regs.get(Reg::a2()),
         );
         let Some(value) = &value else {
-            end_with(stage, End::Trapped(Trap::MemoryFault));
+            end_with(stage, self.own.allocator(), End::Trapped(Trap::MemoryFault));
             return Ok(());
         };
         self.put(key, Change::Value(value), stage)
@@ -195,7 +200,7 @@ impl Machine {
         ensures { MeetsStage result stage.new (storage_call_result self.old (request_by call.Remove self.old.regs self.old.memory)) self.old self.new }
     {
         let Some(key) = key_at(&self.memory, self.regs.get(Reg::a0())) else {
-            end_with(stage, End::Trapped(Trap::MemoryFault));
+            end_with(stage, self.own.allocator(), End::Trapped(Trap::MemoryFault));
             return Ok(());
         };
         self.put(key, Change::Gone, stage)
@@ -208,7 +213,7 @@ impl Machine {
         ensures { MeetsStage result stage.new (storage_call_result self.old (request_by call.Add self.old.regs self.old.memory)) self.old self.new }
     {
         let Some(key) = key_at(&self.memory, self.regs.get(Reg::a0())) else {
-            end_with(stage, End::Trapped(Trap::MemoryFault));
+            end_with(stage, self.own.allocator(), End::Trapped(Trap::MemoryFault));
             return Ok(());
         };
         let change = change_after_add(self.own.get(&key), added_amount(&self.regs));
@@ -222,7 +227,11 @@ impl Machine {
         ensures { MeetsStage result stage.new (Leads (write_result self.old (record { key = key; change = change_copied change.entry }))) self.old self.new }
     {
         if !self.own.has_room(&key) {
-            end_with(stage, End::Trapped(Trap::TooManyWrites));
+            end_with(
+                stage,
+                self.own.allocator(),
+                End::Trapped(Trap::TooManyWrites),
+            );
             return Ok(());
         }
         self.own.set(key, change)?;
@@ -234,16 +243,13 @@ impl Machine {
     /// output may be read.
     #[tactic(auto, unfolding(crate::specs::Step::storage_call_result))]
     fn return_output(&mut self, stage: &mut Stage) -> Result<(), AllocError>
-        requires { length_of call.Return self.old.regs ≤ 256 }
+        requires length { length_of call.Return self.old.regs ≤ 256 }
+        requires running { stage.old ≡ Running }
         ensures { MeetsStage result stage.new (storage_call_result self.old (request_by call.Return self.old.regs self.old.memory)) self.old self.new }
     {
-        match bytes_at(
-            &self.memory,
-            self.regs.get(Reg::a0()),
-            self.regs.get(Reg::a1()),
-        ) {
+        match self.output()? {
             Some(out) => *stage = Stage::Ended(End::Returned, out),
-            None => end_with(stage, End::Trapped(Trap::MemoryFault)),
+            None => end_with(stage, self.own.allocator(), End::Trapped(Trap::MemoryFault)),
         }
         Ok(())
     }
@@ -252,31 +258,64 @@ impl Machine {
     /// output may be read.
     #[tactic(auto, unfolding(crate::specs::Step::storage_call_result))]
     fn revert_output(&mut self, stage: &mut Stage) -> Result<(), AllocError>
-        requires { length_of call.Revert self.old.regs ≤ 256 }
+        requires length { length_of call.Revert self.old.regs ≤ 256 }
+        requires running { stage.old ≡ Running }
         ensures { MeetsStage result stage.new (storage_call_result self.old (request_by call.Revert self.old.regs self.old.memory)) self.old self.new }
     {
-        match bytes_at(
-            &self.memory,
-            self.regs.get(Reg::a0()),
-            self.regs.get(Reg::a1()),
-        ) {
+        match self.output()? {
             Some(out) => *stage = Stage::Ended(End::Reverted, out),
-            None => end_with(stage, End::Trapped(Trap::MemoryFault)),
+            None => end_with(stage, self.own.allocator(), End::Trapped(Trap::MemoryFault)),
         }
         Ok(())
     }
 
+    /// The output of a RETURN or a REVERT, or None where a byte of it may not be read. Refused where memory ran out, which
+    /// an empty output never is.
+    fn output(&self) -> Result<Option<StoredOutput>, AllocError>
+        requires { a1 self.now.regs ≤ 256 }
+        ensures { MeetsOutput result self.now }
+    {
+        if self.regs.get(Reg::a1()) <= IN_PLACE_LIMIT as u32 {
+            return self.output_within::<IN_PLACE_LIMIT>();
+        }
+        self.long_output()
+    }
+
+    /// The same, out of line: a frame with room for the longest output is dear to clear.
+    #[inline(never)]
+    fn long_output(&self) -> Result<Option<StoredOutput>, AllocError>
+        requires { a1 self.now.regs ≤ 256 }
+        ensures { MeetsOutput result self.now }
+    {
+        self.output_within::<OUTPUT_LIMIT>()
+    }
+
+    /// The same, by way of an array of this length.
+    #[inline(always)]
+    fn output_within<const LIMIT: usize>(&self) -> Result<Option<StoredOutput>, AllocError>
+        requires fits { a1 self.now.regs ≤ LIMIT }
+        requires short { LIMIT ≤ 256 }
+        ensures { MeetsOutput result self.now }
+    {
+        let (at, len) = (self.regs.get(Reg::a0()), self.regs.get(Reg::a1()));
+        match bytes_at::<LIMIT>(&self.memory, at, len) {
+            Some(bytes) => Ok(Some(StoredOutput::of_bytes(self.own.allocator(), bytes.bytes())?)),
+            None => Ok(None),
+        }
+    }
+
     /// Delivers the answer to a READ: sets a0, and charges and copies a value that fits into the buffer.
     #[tactic(auto, unfolding(crate::specs::Step::delivery_result))]
-    fn deliver(&mut self, content: Option<&Value>, stage: &mut Stage) -> Result<(), AllocError>
-        requires { stage.old ≡ Running }
+    fn deliver(&mut self, content: Option<&[u8]>, stage: &mut Stage) -> Result<(), AllocError>
+        requires running { stage.old ≡ Running }
+        requires short { IfSome content (λ bytes. length bytes.now ≤ 256) }
         ensures { MeetsStage result stage.new (Leads (delivery_result self.old (option_copied content.entry))) self.old self.new }
     {
         let Some(value) = content else {
             self.end_read(ABSENT);
             return Ok(());
         };
-        if value.bytes().len() > self.regs.get(Reg::a2()) as usize {
+        if value.len() > self.regs.get(Reg::a2()) as usize {
             self.end_read(TOO_LONG);
             return Ok(());
         }
@@ -285,14 +324,15 @@ impl Machine {
 
     /// Charges the bytes of a value and copies it. The call ends out of gas, and nothing is copied, where
     /// less gas is left. Refused where memory ran out, and then nothing changes.
-    fn deliver_charged(&mut self, value: &Value, stage: &mut Stage) -> Result<(), AllocError>
-        requires { stage.old ≡ Running }
+    fn deliver_charged(&mut self, value: &[u8], stage: &mut Stage) -> Result<(), AllocError>
+        requires running { stage.old ≡ Running }
+        requires short { length value.now ≤ 256 }
         ensures { MeetsStage result stage.new (Leads (charged (late_charge self.old.rules (length value.now)) self.old (λ t. value_result t value.now))) self.old self.new }
     {
         let gas = self.gas;
-        let cost = late_charge(self.rules, value.bytes().len() as u32);
+        let cost = late_charge(self.rules, value.len() as u32);
         if !self.gas.charge(cost) {
-            end_with(stage, self.run_out());
+            end_with(stage, self.own.allocator(), self.run_out());
             return Ok(());
         }
         match self.copy_value(value, stage) {
@@ -305,13 +345,14 @@ impl Machine {
     }
 
     /// Copies a value into the buffer of a READ. Refused where memory ran out, and then nothing changes.
-    fn copy_value(&mut self, value: &Value, stage: &mut Stage) -> Result<(), AllocError>
-        requires { stage.old ≡ Running }
+    fn copy_value(&mut self, value: &[u8], stage: &mut Stage) -> Result<(), AllocError>
+        requires running { stage.old ≡ Running }
+        requires short { length value.now ≤ 256 }
         ensures { MeetsStage result stage.new (Leads (value_result self.old value.now)) self.old self.new }
     {
-        match self.memory.copy_in(self.regs.get(Reg::a1()), value.bytes()) {
-            Ok(()) => self.end_read(value.bytes().len() as u32),
-            Err(fault) => end_with(stage, refusal(fault)?),
+        match self.memory.copy_in(self.regs.get(Reg::a1()), value) {
+            Ok(()) => self.end_read(value.len() as u32),
+            Err(fault) => end_with(stage, self.own.allocator(), refusal(fault)?),
         }
         Ok(())
     }
@@ -339,8 +380,9 @@ fn change_after_add(own: Option<&Change<StoredValue>>, amount: u64) -> Change<Va
 }
 
 /// The bytes of a value, or None for None.
-fn bytes_of(content: Option<&Value>) -> Option<&[u8]>
-    ensures { option_copied result ≡ option_copied content.entry }
+pub(crate) fn bytes_of(content: Option<&Value>) -> Option<&[u8]>
+    ensures value { option_copied result ≡ option_copied content.entry }
+    ensures short { IfSome result (λ bytes. length bytes.now ≤ 256) }
 {
     match content {
         Some(value) => Some(value.bytes()),

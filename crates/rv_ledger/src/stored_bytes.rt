@@ -1,6 +1,6 @@
-//! Values as the maps keep them.
+//! Byte strings as the maps and the receipts keep them.
 
-ghost use Rattle.std.specs.Prelude.{◌≡◌, ◌≤◌, IfOk, IfSome, length};
+ghost use Rattle.std.specs.Prelude.{◌≡◌, ◌≤◌, [], IfOk, IfSome, IsOk, length};
 ghost use Rattle.std.specs.Option.{option_copied};
 
 use crate::inline_bytes::Value;
@@ -8,19 +8,25 @@ use smallvec::SmallVec;
 use std::alloc::{AllocError, Global};
 use std::marker::Model;
 
-/// The greatest length of a value that is kept in place, in bytes. A `StoredValue` then takes 32 bytes, as with
+/// The greatest length that is kept in place, in bytes. `StoredBytes` then take 32 bytes, as with
 /// any lower limit. So a leaf of a storage's tree, of 15 keys and 15 values, takes 968 bytes: glibc's allocator
 /// serves up to 1,032 from its fast list.
-const SHORT_LIMIT: usize = 16;
+pub const IN_PLACE_LIMIT: usize = 16;
 
-/// A value as a map keeps it, of at most 256 bytes: a short one in place, a longer one in memory of its own.
-/// So a map of short values takes no room for the longest.
+/// A byte string of at most 256 bytes: a short one is kept in place, a longer one in memory of its own.
+/// So what keeps many short ones takes no room for the longest.
 #[derive(Drop)]
-pub struct StoredValue {
-    kept: SmallVec<u8, SHORT_LIMIT>,
+pub struct StoredBytes {
+    kept: SmallVec<u8, IN_PLACE_LIMIT>,
 }
 
-impl Model for StoredValue {
+/// A value as a map keeps it.
+pub type StoredValue = StoredBytes;
+
+/// What a call returns or reverts with, as its receipt keeps it.
+pub type StoredOutput = StoredBytes;
+
+impl Model for StoredBytes {
     ghost use Rattle.std.specs.Prelude.{ℕ, List, ◌≤◌, length};
 
     ghost Value = { List ℕ };
@@ -30,13 +36,31 @@ impl Model for StoredValue {
     ghost invariant = { λ v. length v.kept.items ≤ 256 };
 }
 
-impl StoredValue {
+impl StoredBytes {
     /// Keeps a value; refused where memory ran out.
-    pub fn of(alloc: Global, value: &Value) -> Result<StoredValue, AllocError>
+    pub fn of(alloc: Global, value: &Value) -> Result<StoredBytes, AllocError>
         ensures { IfOk result (λ v. v ≡ value.now) }
     {
-        let kept = SmallVec::from_slice(alloc, value.bytes())?;
-        Ok(StoredValue { kept })
+        StoredBytes::of_bytes(alloc, value.bytes())
+    }
+
+    /// Keeps at most 256 bytes; refused where memory ran out. No bytes are never refused.
+    pub fn of_bytes(alloc: Global, bytes: &[u8]) -> Result<StoredBytes, AllocError>
+        requires { length bytes.now ≤ 256 }
+        ensures value { IfOk result (λ v. v ≡ bytes.now) }
+        ensures empty { bytes.now ≡ [] → IsOk result }
+    {
+        let kept = SmallVec::from_slice(alloc, bytes)?;
+        Ok(StoredBytes { kept })
+    }
+
+    /// No bytes. Takes no memory.
+    pub fn empty(alloc: Global) -> StoredBytes
+        ensures { result ≡ [] }
+    {
+        StoredBytes {
+            kept: SmallVec::new(alloc),
+        }
     }
 
     /// The bytes, at most 256.
@@ -48,7 +72,7 @@ impl StoredValue {
     }
 
     /// The bytes, at most 256, or None for None.
-    pub fn bytes_of(stored: Option<&StoredValue>) -> Option<&[u8]>
+    pub fn bytes_of(stored: Option<&StoredBytes>) -> Option<&[u8]>
         ensures value { option_copied result ≡ option_copied stored.entry }
         ensures short { IfSome result (λ bytes. length bytes.now ≤ 256) }
     {
@@ -69,7 +93,7 @@ impl StoredValue {
     }
 
     /// The same value with an array of its own, or None for None. Takes no memory.
-    pub fn value_of(stored: Option<&StoredValue>) -> Option<Value>
+    pub fn value_of(stored: Option<&StoredBytes>) -> Option<Value>
         ensures { result ≡ option_copied stored.entry }
     {
         match stored {
@@ -79,11 +103,10 @@ impl StoredValue {
     }
 }
 
-impl Clone for StoredValue {
+impl Clone for StoredBytes {
     ghost is_clone = { λ a b. b ≡ a };
 
-    fn clone(&self) -> Result<StoredValue, AllocError> {
-        let kept = SmallVec::from_slice(*self.kept.allocator(), self.bytes())?;
-        Ok(StoredValue { kept })
+    fn clone(&self) -> Result<StoredBytes, AllocError> {
+        StoredBytes::of_bytes(*self.kept.allocator(), self.bytes())
     }
 }
