@@ -12,7 +12,7 @@ ghost use Rattle.mvmap.specs.Slots.{at_places, entry_of, value_over, value_over_
 
 use crate::slot::Slot;
 use crate::slots::Slots;
-use rv_ledger::{Change, Key, Store, Value};
+use rv_ledger::{Change, Key, Store};
 use std::alloc::AllocError;
 use version_arena::Arena;
 
@@ -65,11 +65,7 @@ fn write(key: &Key, change: &Change<&[u8]>, store: &mut Store) -> Result<(), All
     ensures { OnOk result ((k : List ℕ) → map.get store.new k ≡ cond (eq_by_cmp key_cmp k key.now) (apply_change (change_copied change.now) (map.get store.old k)) (map.get store.old k)) }
 {
     match change {
-        Change::Value(bytes) => {
-            if let Some(value) = Value::of(bytes) {
-                store.insert(*key, value)?;
-            }
-        }
+        Change::Value(bytes) => store.insert_bytes(*key, bytes)?,
         Change::Gone => store.remove(key),
         Change::Sum(amount) => store.add(key, *amount)?,
     }

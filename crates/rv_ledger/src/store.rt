@@ -29,7 +29,7 @@ impl Model for Store {
 }
 
 impl Store {
-    ghost use Rattle.std.specs.Prelude.{◌≡◌, None, OnOk, OnErr, IfOk};
+    ghost use Rattle.std.specs.Prelude.{◌≡◌, ◌≤◌, None, OnOk, OnErr, IfOk, length};
     ghost use Rattle.std.specs.Option.{option_copied};
     ghost use Rattle.std.specs.FinMap as map;
     ghost use Rattle.rv_ledger.specs.Change.{add};
@@ -68,7 +68,16 @@ impl Store {
         ensures ok { OnOk result (self.new ≡ map.insert self.old key value) }
         ensures err { OnErr result (self.new ≡ self.old) }
     {
-        self.put(key, StoredValue::of(self.alloc, &value)?)
+        self.insert_bytes(key, value.bytes())
+    }
+
+    /// Sets the value at a key to at most 256 lent bytes; refused where memory ran out, and then nothing changes.
+    pub fn insert_bytes(&mut self, key: Key, bytes: &[u8]) -> Result<(), AllocError>
+        requires { length bytes.now ≤ 256 }
+        ensures ok { OnOk result (self.new ≡ map.insert self.old key bytes.now) }
+        ensures err { OnErr result (self.new ≡ self.old) }
+    {
+        self.put(key, StoredValue::of_bytes(self.alloc, bytes)?)
     }
 
     /// Sets the value at a key to a copy of one that a map keeps; refused where memory ran out, and then

@@ -44,11 +44,11 @@ impl StoredBytes {
         StoredBytes::of_bytes(alloc, value.bytes())
     }
 
-    /// Keeps at most 256 bytes; refused where memory ran out. No bytes are never refused.
+    /// Keeps at most 256 bytes; refused where memory ran out. At most 16 bytes take none, and are never refused.
     pub fn of_bytes(alloc: Global, bytes: &[u8]) -> Result<StoredBytes, AllocError>
         requires { length bytes.now ≤ 256 }
         ensures value { IfOk result (λ v. v ≡ bytes.now) }
-        ensures empty { bytes.now ≡ [] → IsOk result }
+        ensures succeeds { length bytes.now ≤ 16 → IsOk result }
     {
         let kept = SmallVec::from_slice(alloc, bytes)?;
         Ok(StoredBytes { kept })

@@ -17,19 +17,19 @@ fetched_instruction (Err cause) = None
 abbrev pub instruction_at : Machine → Option Instr
 instruction_at s = fetched_instruction (loaded 4 access.Execute s.memory s.pc)
 
--- a store changes memory; an ECALL may copy a value into memory, record a write or keep an output; nothing else takes memory
+-- a store changes memory; an ECALL may copy a value into memory, record a write or keep a long output; nothing else takes memory
 abbrev pub may_grow : Option Instr → Bool
 may_grow (Some (Store kind source base offset)) = true
 may_grow (Some Ecall) = true
 may_grow _ = false
 
--- the call goes on after the step, or the step ends it with an output that is not empty
+-- the call goes on after the step, or the step ends it with an output of more than 16 bytes
 abbrev pub leaves_more : StepResult → Bool
 leaves_more (Leads (Going t)) = true
-leaves_more (Leads (Over end out t)) = nat_lt 0 (length out)
+leaves_more (Leads (Over end out t)) = nat_lt 16 (length out)
 leaves_more (Asks key) = false
 
 -- the machine's next step may take memory: it is a store or an ECALL after which the call goes on, or an ECALL that ends it
--- with an output that is not empty. So it does not trap, run out of gas, ask the storage or return nothing
+-- with an output of more than 16 bytes. So it does not trap, run out of gas, ask the storage or end with a shorter output
 abbrev pub TakesMemory : Machine → Type 0
 TakesMemory s = IsTrue (may_grow (instruction_at s)) × IsTrue (leaves_more (step s))

@@ -19,7 +19,7 @@ use Rattle.rv_step.specs.Growth.{leaves_more, instruction_at, may_grow}
 use Rattle.rv_step.specs.Step.{Progress, Going, Over, StepResult, Leads, Asks, ecall_result, step}
 
 -- a method did what was wanted. A READ that asks the storage changes nothing. Running out of memory happens only where the
--- call would go on or end with an output, and changes nothing
+-- call would go on or end with an output of more than 16 bytes, and changes nothing
 abbrev pub MeetsResult : Result Stage AllocError → StepResult → Machine → Machine → Type 0
 MeetsResult (Ok Running) want old new = want ≡ Leads (Going new)
 MeetsResult (Ok (Asked key)) want old new = (want ≡ Asks key) × (new ≡ old)
@@ -77,10 +77,10 @@ MeetsEffect (Err refused) instr want old new = IsTrue (may_grow (Some instr)) ×
 abbrev pub output_of : Machine → Option (List ℕ)
 output_of s = if is_readable s.memory (a0 s.regs) (a1 s.regs) then Some (bytes_at s.memory (a0 s.regs) (a1 s.regs)) else None
 
--- a method found that output. Running out of memory happens only where it is not empty
+-- a method found that output. Running out of memory happens only where it has more than 16 bytes
 abbrev pub MeetsOutput : Result (Option (List ℕ)) AllocError → Machine → Type 0
 MeetsOutput (Ok out) s = out ≡ output_of s
-MeetsOutput (Err refused) s = IsTrue (is_readable s.memory (a0 s.regs) (a1 s.regs)) × (0 < length (bytes_at s.memory (a0 s.regs) (a1 s.regs)))
+MeetsOutput (Err refused) s = IsTrue (is_readable s.memory (a0 s.regs) (a1 s.regs)) × (16 < length (bytes_at s.memory (a0 s.regs) (a1 s.regs)))
 
 -- the storage is asked
 abbrev pub is_asked : Stage → Bool

@@ -104,7 +104,7 @@ impl Run {
     }
 
     /// Makes one step of a run that is running. Refused where memory ran out, and then nothing changes.
-    /// Only a store or a storage call can be refused, after which the call goes on or has an output.
+    /// Only a store or a storage call can be refused, after which the call goes on or has an output of more than 16 bytes.
     pub fn step_one(&mut self) -> Result<(), AllocError>
         requires { IsTrue (is_running self.old.stage) }
         ensures ok { OnOk result (self.new ≡ after_result (step self.old.machine) self.old) }

@@ -269,8 +269,8 @@ impl Machine {
         Ok(())
     }
 
-    /// The output of a RETURN or a REVERT, or None where a byte of it may not be read. Refused where memory ran out, which
-    /// an empty output never is.
+    /// The output of a RETURN or a REVERT, or None where a byte of it may not be read. Refused where memory ran out; at
+    /// most 16 bytes take none.
     fn output(&self) -> Result<Option<StoredOutput>, AllocError>
         requires { a1 self.now.regs ≤ 256 }
         ensures { MeetsOutput result self.now }
