@@ -4,8 +4,10 @@
 
 mod engine;
 mod fault;
+mod job_source;
 mod next_step;
 mod outcome;
+mod owned_job;
 mod passed_lists;
 mod reading;
 mod reads;
@@ -17,7 +19,9 @@ mod versions;
 
 pub use engine::{DriveFault, WORKER_LIMIT, drive};
 pub use fault::{IncarnationLimit, RecordFault, Refused};
+pub use job_source::{JobSource, LentJob};
 pub use next_step::{AskResult, NextStep, ReadResult, StepKind};
+pub use outcome::Finished;
 pub use record_parts::RecordParts;
 pub use recording::SpentRun;
 pub use state::Core;

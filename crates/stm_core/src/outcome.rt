@@ -13,6 +13,15 @@ use scheduler::Scheduler;
 use std::alloc::{AllocError, Global};
 use stm_state::{CallState, Recorded};
 
+/// What the run of a job leaves beside the storage.
+#[derive(Drop)]
+pub struct Finished {
+    /// The calls' receipts, in block order.
+    pub receipts: Vec<Receipt>,
+    /// What each worker did.
+    pub counts: Vec<Counts>,
+}
+
 /// What the run of a job leaves: the job, its receipts, the storage after it and the workers'
 /// counts. No entry may be an estimate. Refused where memory ran out.
 pub(crate) fn outcome_of(
@@ -54,14 +63,24 @@ pub(crate) fn moved_outcome(
 {
     let mut store = job.store.copy()?;
     map.snapshot_into(&mut store)?;
-    let counts = counts_in(alloc, &scheduler)?;
-    let receipts = moved_receipts(alloc, scheduler.into_calls())?;
+    let Finished { receipts, counts } = finished_of(alloc, scheduler)?;
     Ok(Outcome {
         job,
         receipts,
         store,
         counts,
     })
+}
+
+/// The receipts, moved out, and the workers' counts; refused where memory ran out.
+pub(crate) fn finished_of(alloc: Global, scheduler: Scheduler) -> Result<Finished, AllocError>
+    requires { length scheduler.counts ≡ length scheduler.tasks }
+    ensures receipts { IfOk result (λ f. f.receipts.items ≡ filter_map last_receipt scheduler.calls) }
+    ensures counts { IfOk result (λ f. f.counts.items ≡ scheduler.counts) }
+{
+    let counts = counts_in(alloc, &scheduler)?;
+    let receipts = moved_receipts(alloc, scheduler.into_calls())?;
+    Ok(Finished { receipts, counts })
 }
 
 /// The receipts of the calls' last recorded runs, moved out of them; refused where memory ran out.

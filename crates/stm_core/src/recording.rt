@@ -18,7 +18,7 @@ use crate::record_parts::RecordParts;
 use crate::same::same_answers;
 use crate::versions::{add_left_over, written_count};
 use mvmap::MvMap;
-use rv_ledger::{Call, Job, Key, VALUE_LIMIT, Writes, same_call};
+use rv_ledger::{Block, Call, Key, VALUE_LIMIT, Writes, same_call};
 use rv_step::{EndedRun, StorageAnswer};
 use scheduler::{INCARNATION_LIMIT, Scheduler};
 use std::alloc::Global;
@@ -33,11 +33,11 @@ pub struct SpentRun {
     answers: Vec<StorageAnswer>,
 }
 
-/// Whether a run is a run of the job's call at an index. Takes no memory.
-pub(crate) fn is_run_of(job: &Job, call: u16, run: &EndedRun) -> bool
-    ensures { (result ≡ true) ↔ (slice_get job.now.block call ≡ Some run.now.call) }
+/// Whether a run is a run of the block's call at an index. Takes no memory.
+pub(crate) fn is_run_of(block: &Block, call: u16, run: &EndedRun) -> bool
+    ensures { (result ≡ true) ↔ (slice_get block.now call ≡ Some run.now.call) }
 {
-    match job.block.calls().get(usize::from(call)) {
+    match block.calls().get(usize::from(call)) {
         Some(own) => same_call(own, &run.call),
         None => false,
     }

@@ -6,8 +6,9 @@ ghost use Rattle.scheduler.specs.Workers.{IsTaskKindOf};
 ghost use Rattle.stm_core.specs.CoreState.{ask_result_of};
 
 use crate::fault::{IncarnationLimit, RecordFault, Refused};
+use crate::job_source::JobSource;
 use crate::next_step::{AskResult, NextStep, ReadResult, StepKind};
-use crate::outcome::{moved_outcome, outcome_of};
+use crate::outcome::{Finished, finished_of};
 use crate::passed_lists::PassedLists;
 use crate::reading::{make_read_room, next_step_of, read_at};
 use crate::reads::next_stands;
@@ -15,7 +16,7 @@ use crate::record_parts::RecordParts;
 use crate::recording::{SpentRun, check_limits, has_own_answers, is_run_of, record_run};
 use crate::versions::{mark_key, move_key};
 use mvmap::MvMap;
-use rv_ledger::{Counts, Job, Key, Outcome, StoredValue, Value};
+use rv_ledger::{Counts, Job, Key, StoredValue, Value};
 use rv_step::{EndedRun, StorageAnswer};
 use scheduler::{INCARNATION_LIMIT, Scheduler, TaskKind};
 use std::alloc::{AllocError, Global};
@@ -25,10 +26,10 @@ use version_arena::Arena;
 /// The state of the speculative run of a job on 1 to 32 workers. Some list of worker steps always leads
 /// to it from the job's start, so the scheduler's invariant holds.
 #[derive(Drop)]
-pub struct Core {
-    job: Job,
-    map: MvMap,
-    scheduler: Scheduler,
+pub struct Core<H: JobSource = Job> {
+    pub(crate) job: H,
+    pub(crate) map: MvMap,
+    pub(crate) scheduler: Scheduler,
     /// The number of records that are promised to runs whose keys are being moved.
     promised: usize,
     /// A list that takes the place of a run's answers while room is made for one more.
@@ -37,7 +38,7 @@ pub struct Core {
     passed: PassedLists,
 }
 
-impl Model for Core {
+impl<H: JobSource> Model for Core<H> {
     ghost use Rattle.std.specs.Prelude.{length};
     ghost use Rattle.std.specs.Coded.{codes};
     ghost use Rattle.std.specs.FinMap as finite;
@@ -52,12 +53,12 @@ impl Model for Core {
 
     ghost coded = { Prim.hlevel (codes, job_row.coded, call_row.coded, task_row.coded, finite.code {R = place_cmp} coded_place coded_entry) };
 
-    ghost view = { λ c. core_state_of c.job c.map c.promised c.scheduler (room_of c.passed) };
+    ghost view = { λ c. core_state_of (H.job c.job) c.map c.promised c.scheduler (room_of c.passed) };
 
-    ghost invariant = { λ c. IsReached c.job c.map c.promised c.scheduler };
+    ghost invariant = { λ c. IsReached (H.job c.job) c.map c.promised c.scheduler };
 }
 
-impl Core {
+impl<H: JobSource> Core<H> {
     ghost use Rattle.std.specs.Prelude.{◌≡◌, ◌≢◌, ◌<◌, ◌≤◌, ◌↔◌, ℕ, Some, true, length, get_or, slice_get, [], IfOk, IfErr, OnOk, OnErr, Ok};
     ghost use Rattle.std.specs.Option.{option_copied};
     ghost use Rattle.std.specs.FinMap as finite;
@@ -72,28 +73,16 @@ impl Core {
     ghost use Rattle.stm_core.specs.declared.fault.RecordFault.TheVariants as fault;
     ghost use Rattle.stm_core.specs.CoreState.{ask_result_of, HasReadRoom, IsDue, IsNoLess, IsOwn, AreRecordParts, IsRefused, IsTaken, IsWithin, Makes, block_in, next_step_of, runs, read_result_of, step_of};
 
-    /// The state at the start of a job; refused where memory ran out.
-    pub fn new(alloc: Global, job: Job, workers: usize) -> Result<Core, AllocError>
+    /// The state at the start of a job, whoever has it, over an arena that is used again: its records are dropped.
+    /// Where memory ran out the arena is handed back, without records.
+    pub fn of(alloc: Global, arena: Arena, job: H, workers: usize) -> Result<Core<H>, Arena>
         requires { (1 ≤ workers) × (workers ≤ 32) }
-        ensures job { IfOk result (λ c. c.job ≡ job) }
-        ensures state { IfOk result (λ c. c.state ≡ start (length job.block) workers) }
-    {
-        match Core::over(alloc, Arena::new(alloc), job, workers) {
-            Ok(core) => Ok(core),
-            Err(_) => Err(AllocError),
-        }
-    }
-
-    /// The same over an arena that is used again: its records are dropped. Where memory ran out the arena
-    /// is handed back, without records.
-    pub fn over(alloc: Global, arena: Arena, job: Job, workers: usize) -> Result<Core, Arena>
-        requires { (1 ≤ workers) × (workers ≤ 32) }
-        ensures job { IfOk result (λ c. c.job ≡ job) }
-        ensures state { IfOk result (λ c. c.state ≡ start (length job.block) workers) }
+        ensures job { IfOk result (λ c. c.job ≡ H.job job) }
+        ensures state { IfOk result (λ c. c.state ≡ start (length (H.job job).block) workers) }
         ensures back { IfErr result (λ a. a ≡ emptied arena) }
     {
         let map = MvMap::over(alloc, arena);
-        match Scheduler::new(alloc, job.block.calls().len(), workers) {
+        match Scheduler::new(alloc, job.block().calls().len(), workers) {
             Ok(scheduler) => Ok(Core {
                 job,
                 map,
@@ -150,9 +139,9 @@ impl Core {
         self.scheduler.dones(worker)
     }
 
-    /// The job.
-    pub fn job(&self) -> &Job
-        ensures { result.now ≡ self.now.job }
+    /// What holds the job.
+    pub fn source(&self) -> &H
+        ensures { H.job result.now ≡ self.now.job }
     {
         &self.job
     }
@@ -207,7 +196,7 @@ impl Core {
         ensures answers { (i : ℕ) → runs (task_at self.old.state worker) i ≡ true → result ≡ read_result_of self.old.job.store key.now (reading self.old.state.versions key.now i) }
         ensures passed { (i : ℕ) → runs (task_at self.old.state worker) i ≡ true → passed_in (reading self.old.state.versions key.now i) ≡ [] → self.new.passed ≡ self.old.passed }
     {
-        let base = StoredValue::value_of(self.job.store.get(key));
+        let base = StoredValue::value_of(self.job.content(key));
         self.read_over(worker, key, base.as_ref())
     }
 
@@ -297,7 +286,7 @@ impl Core {
         let TaskKind::Running { call, .. } = self.scheduler.task_kind(worker) else {
             unreachable!();
         };
-        if !is_run_of(&self.job, call, &run)
+        if !is_run_of(self.job.block(), call, &run)
             || !has_own_answers(&self.scheduler, worker, &run.answers)
         {
             return Err(Refused {
@@ -465,34 +454,17 @@ impl Core {
         self.scheduler.finish_abort(worker, call);
     }
 
-    /// What the run of the job leaves, once all is done; refused where memory ran out.
-    pub fn outcome(&self, alloc: Global) -> Result<Outcome, AllocError>
-        requires { is_done self.now.state ≡ true }
-        ensures job { IfOk result (λ o. o.job ≡ self.now.job) }
-        ensures receipts { IfOk result (λ o. o.receipts.items ≡ receipts_of self.now.job.block self.now.job.store) }
-        ensures store { IfOk result (λ o. o.store ≡ store_after self.now.job.block self.now.job.store) }
-        ensures counts { IfOk result (λ o. o.counts.items ≡ self.now.state.counts) }
-    {
-        outcome_of(alloc, &self.job, &self.map, &self.scheduler)
-    }
-
-    /// The same outcome, once all is done, and the arena, without records. The job and the receipts are moved.
-    pub fn into_outcome(self, alloc: Global) -> (Result<Outcome, AllocError>, Arena)
+    /// What the run of the job leaves beside the storage, once all is done, moved out; and the arena, without records.
+    /// Refused where memory ran out.
+    pub fn into_finished(self, alloc: Global) -> (Result<Finished, AllocError>, Arena)
         requires { is_done self.state ≡ true }
-        ensures job { IfOk result.0 (λ o. o.job ≡ self.job) }
-        ensures receipts { IfOk result.0 (λ o. o.receipts.items ≡ receipts_of self.job.block self.job.store) }
-        ensures store { IfOk result.0 (λ o. o.store ≡ store_after self.job.block self.job.store) }
-        ensures counts { IfOk result.0 (λ o. o.counts.items ≡ self.state.counts) }
+        ensures receipts { IfOk result.0 (λ f. f.receipts.items ≡ receipts_of self.job.block self.job.store) }
+        ensures counts { IfOk result.0 (λ f. f.counts.items ≡ self.state.counts) }
         ensures arena { result.1.records ≡ [] }
     {
-        let Core {
-            job,
-            map,
-            scheduler,
-            ..
-        } = self;
-        let outcome = moved_outcome(alloc, job, &map, scheduler);
-        (outcome, map.into_arena())
+        let Core { map, scheduler, .. } = self;
+        let finished = finished_of(alloc, scheduler);
+        (finished, map.into_arena())
     }
 
     /// The arena, without records. Takes no memory.

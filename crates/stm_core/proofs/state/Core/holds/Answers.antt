@@ -17,18 +17,18 @@ part_at : {job : Job} {table : Table} {promised : ℕ} {schedule : Schedule} {pa
 part_at b P kept is h = subst (λ (x : CoreState). P (block_in x) x.state) is (kept _ _ _ h.reached)
 
 pub returns-clause-sized : goal.returns-clause-sized
-returns-clause-sized c =
+returns-clause-sized g c =
     subst (λ (b : CoreState). IsSized (length b.job.block) (length b.state.tasks) b.state) c.self.view_is
-    (invariant_at c.self.inside.job c.self.inside.map c.self.inside.promised c.self.inside.scheduler c.self.invariant).sized
+    (invariant_at (g.H.JobSource.job c.self.inside.job) c.self.inside.map c.self.inside.promised c.self.inside.scheduler c.self.invariant).sized
 
 pub returns-clause-attended : goal.returns-clause-attended
-returns-clause-attended c = part_at c.args.self.now _ attended_kept c.self.view_is c.self.invariant
+returns-clause-attended g c = part_at c.args.self.now _ attended_kept c.self.view_is c.self.invariant
 
 pub returns-clause-estimates : goal.returns-clause-estimates
-returns-clause-estimates c = part_at c.args.self.now _ estimates_kept c.self.view_is c.self.invariant
+returns-clause-estimates g c = part_at c.args.self.now _ estimates_kept c.self.view_is c.self.invariant
 
 pub returns-clause-watched : goal.returns-clause-watched
-returns-clause-watched c = part_at c.args.self.now _ watched_kept c.self.view_is c.self.invariant
+returns-clause-watched g c = part_at c.args.self.now _ watched_kept c.self.view_is c.self.invariant
 
 pub returns-clause-borne_out : goal.returns-clause-borne_out
-returns-clause-borne_out c = part_at c.args.self.now _ borne_out_kept c.self.view_is c.self.invariant
+returns-clause-borne_out g c = part_at c.args.self.now _ borne_out_kept c.self.view_is c.self.invariant

@@ -10,43 +10,43 @@ use Rattle.stm_core.proofs.Handed.{is_handed, record_reached}
 use Rattle.stm_core.proofs.state.Core.record_known.Goals as goal
 
 pub has_own_answers-requires-clause-running : goal.has_own_answers-requires-clause-running
-has_own_answers-requires-clause-running c = runs_one (get_or c.self.inside.scheduler.tasks c.args.worker Idle) c.in-Running.call c.in-Running.blocked c.in-Running.ensures
+has_own_answers-requires-clause-running g c = runs_one (get_or c.self.inside.scheduler.tasks c.args.worker Idle) c.in-Running.call c.in-Running.blocked c.in-Running.ensures
 
 pub record_run-requires-clause-counts : goal.record_run-requires-clause-counts
-record_run-requires-clause-counts c = may_count c.self.inside.job c.self.inside.map c.self.inside.promised c.self.inside.scheduler c.self.invariant c.args.self.now c.self.view_is c.args.worker Record c.requires.due
+record_run-requires-clause-counts g c = may_count (g.H.JobSource.job c.self.inside.job) c.self.inside.map c.self.inside.promised c.self.inside.scheduler c.self.invariant c.args.self.now c.self.view_is c.args.worker Record c.requires.due
 
 pub record_run-requires-clause-within : goal.record_run-requires-clause-within
-record_run-requires-clause-within c = named_in c.self.inside.job c.self.inside.map c.self.inside.promised c.self.inside.scheduler c.self.invariant c.args.worker c.in-Running.call (names_running (get_or c.self.inside.scheduler.tasks c.args.worker Idle) c.in-Running.call c.in-Running.blocked c.in-Running.ensures)
+record_run-requires-clause-within g c = named_in (g.H.JobSource.job c.self.inside.job) c.self.inside.map c.self.inside.promised c.self.inside.scheduler c.self.invariant c.args.worker c.in-Running.call (names_running (get_or c.self.inside.scheduler.tasks c.args.worker Idle) c.in-Running.call c.in-Running.blocked c.in-Running.ensures)
 
 pub record_run-requires-clause-executing : goal.record_run-requires-clause-executing
-record_run-requires-clause-executing c =
-    let due = due_at c.self.inside.job c.self.inside.map c.self.inside.promised c.self.inside.scheduler c.self.invariant c.args.self.now c.self.view_is c.args.worker Record c.requires.due in
+record_run-requires-clause-executing g c =
+    let due = due_at (g.H.JobSource.job c.self.inside.job) c.self.inside.map c.self.inside.promised c.self.inside.scheduler c.self.invariant c.args.self.now c.self.view_is c.args.worker Record c.requires.due in
     let runs = records_running (get_or c.self.inside.scheduler.tasks c.args.worker Idle) c.in-Running.call c.in-Running.blocked due.due_step c.in-Running.ensures in
-    executing_at c.self.inside.job c.self.inside.map c.self.inside.promised c.self.inside.scheduler c.self.invariant c.args.worker c.in-Running.call runs.0 _ runs.1
+    executing_at (g.H.JobSource.job c.self.inside.job) c.self.inside.map c.self.inside.promised c.self.inside.scheduler c.self.invariant c.args.worker c.in-Running.call runs.0 _ runs.1
 
 pub record_run-requires-clause-nobody : goal.record_run-requires-clause-nobody
-record_run-requires-clause-nobody c =
-    let due = due_at c.self.inside.job c.self.inside.map c.self.inside.promised c.self.inside.scheduler c.self.invariant c.args.self.now c.self.view_is c.args.worker Record c.requires.due in
+record_run-requires-clause-nobody g c =
+    let due = due_at (g.H.JobSource.job c.self.inside.job) c.self.inside.map c.self.inside.promised c.self.inside.scheduler c.self.invariant c.args.self.now c.self.view_is c.args.worker Record c.requires.due in
     let runs = records_running (get_or c.self.inside.scheduler.tasks c.args.worker Idle) c.in-Running.call c.in-Running.blocked due.due_step c.in-Running.ensures in
-    nobody_moves c.self.inside.job c.self.inside.map c.self.inside.promised c.self.inside.scheduler c.self.invariant c.args.worker c.in-Running.call runs.0 _ runs.1
+    nobody_moves (g.H.JobSource.job c.self.inside.job) c.self.inside.map c.self.inside.promised c.self.inside.scheduler c.self.invariant c.args.worker c.in-Running.call runs.0 _ runs.1
 
 pub record_run-requires-clause-placed : goal.record_run-requires-clause-placed
-record_run-requires-clause-placed c = placed_within c.self.inside.job c.self.inside.map c.self.inside.promised c.self.inside.scheduler c.self.invariant
+record_run-requires-clause-placed g c = placed_within (g.H.JobSource.job c.self.inside.job) c.self.inside.map c.self.inside.promised c.self.inside.scheduler c.self.invariant
 
 pub invariant_of-self : goal.invariant_of-self
-invariant_of-self c =
-    let due = due_at c.self.inside.job c.self.inside.map c.self.inside.promised c.self.inside.scheduler c.self.invariant c.args.self.now c.self.view_is c.args.worker Record c.requires.due in
+invariant_of-self g c =
+    let due = due_at (g.H.JobSource.job c.self.inside.job) c.self.inside.map c.self.inside.promised c.self.inside.scheduler c.self.invariant c.args.self.now c.self.view_is c.args.worker Record c.requires.due in
     let runs = records_running (get_or c.self.inside.scheduler.tasks c.args.worker Idle) c.in-Running.call c.in-Running.blocked due.due_step c.in-Running.ensures in
-    let handed = is_handed c.self.inside.job c.self.inside.map c.self.inside.promised c.self.inside.scheduler c.self.invariant c.args.self.now c.self.view_is c.args.worker c.in-Running.call c.args.run runs.0 runs.1 c.requires.call ((c.has_own_answers.ensures c.in-Running.call runs.0 runs.1).0 c.if-not-has_own_answers.false) in
+    let handed = is_handed (g.H.JobSource.job c.self.inside.job) c.self.inside.map c.self.inside.promised c.self.inside.scheduler c.self.invariant c.args.self.now c.self.view_is c.args.worker c.in-Running.call c.args.run runs.0 runs.1 c.requires.call ((c.has_own_answers.ensures c.in-Running.call runs.0 runs.1).0 c.if-not-has_own_answers.false) in
     both_ways c.record_run.result c.record_run.ensures.state c.record_run.ensures.within c.record_run.ensures.promised c.record_run.ensures.back
-    (λ state within promises. record_reached c.self.inside.job c.self.inside.map c.self.inside.promised c.self.inside.scheduler c.self.invariant c.args.self.now c.self.view_is c.args.worker c.in-Running.call c.requires.due c.args.run runs.0 runs.1 handed
+    (λ state within promises. record_reached (g.H.JobSource.job c.self.inside.job) c.self.inside.map c.self.inside.promised c.self.inside.scheduler c.self.invariant c.args.self.now c.self.view_is c.args.worker c.in-Running.call c.requires.due c.args.run runs.0 runs.1 handed
     c.record_run.new.map c.record_run.new.promised c.record_run.new.scheduler c.record_run.ensures.grown promises within state)
-    (λ e back. grown_reached c.self.inside.job c.self.inside.map c.self.inside.promised c.self.inside.scheduler c.self.invariant c.record_run.new.map c.record_run.new.promised c.record_run.new.scheduler c.record_run.ensures.grown back.1 back.2)
+    (λ e back. grown_reached (g.H.JobSource.job c.self.inside.job) c.self.inside.map c.self.inside.promised c.self.inside.scheduler c.self.invariant c.record_run.new.map c.record_run.new.promised c.record_run.new.scheduler c.record_run.ensures.grown back.1 back.2)
 
 pub returns-clause-memory : goal.returns-clause-memory
-returns-clause-memory c =
-    let due = due_at c.self.inside.job c.self.inside.map c.self.inside.promised c.self.inside.scheduler c.self.invariant c.args.self.now c.self.view_is c.args.worker Record c.requires.due in
+returns-clause-memory g c =
+    let due = due_at (g.H.JobSource.job c.self.inside.job) c.self.inside.map c.self.inside.promised c.self.inside.scheduler c.self.invariant c.args.self.now c.self.view_is c.args.worker Record c.requires.due in
     let runs = records_running (get_or c.self.inside.scheduler.tasks c.args.worker Idle) c.in-Running.call c.in-Running.blocked due.due_step c.in-Running.ensures in
-    let handed = is_handed c.self.inside.job c.self.inside.map c.self.inside.promised c.self.inside.scheduler c.self.invariant c.args.self.now c.self.view_is c.args.worker c.in-Running.call c.args.run runs.0 runs.1 c.requires.call ((c.has_own_answers.ensures c.in-Running.call runs.0 runs.1).0 c.if-not-has_own_answers.false) in
+    let handed = is_handed (g.H.JobSource.job c.self.inside.job) c.self.inside.map c.self.inside.promised c.self.inside.scheduler c.self.invariant c.args.self.now c.self.view_is c.args.worker c.in-Running.call c.args.run runs.0 runs.1 c.requires.call ((c.has_own_answers.ensures c.in-Running.call runs.0 runs.1).0 c.if-not-has_own_answers.false) in
     IfErr-weaker c.record_run.result _ _ (λ e within is. subst (IsTaken c.args.worker Record) c.self.view_is
-    (_, own_made c.self.inside.job.block c.self.inside.job.store c.args.worker c.in-Running.call runs.0 c.args.run (state_in c.self.inside.map c.self.inside.promised c.self.inside.scheduler) runs.1 handed (within is).0 (within is).1)) c.record_run.ensures.memory
+    (_, own_made (g.H.JobSource.job c.self.inside.job).block (g.H.JobSource.job c.self.inside.job).store c.args.worker c.in-Running.call runs.0 c.args.run (state_in c.self.inside.map c.self.inside.promised c.self.inside.scheduler) runs.1 handed (within is).0 (within is).1)) c.record_run.ensures.memory

@@ -11,14 +11,14 @@ both_ok (Ok x) p q f = f p q
 both_ok (Err e) p q f = p
 
 pub invariant_of-self : goal.invariant_of-self
-invariant_of-self c =
-    same_reached c.self.inside.job c.self.inside.map c.self.inside.promised c.self.inside.scheduler c.self.invariant c.make_read_room.new.scheduler (c.make_read_room.ensures.same c.self.inside.map.versions (length c.self.inside.map.arena.records + c.self.inside.promised))
+invariant_of-self g c =
+    same_reached (g.H.JobSource.job c.self.inside.job) c.self.inside.map c.self.inside.promised c.self.inside.scheduler c.self.invariant c.make_read_room.new.scheduler (c.make_read_room.ensures.same c.self.inside.map.versions (length c.self.inside.map.arena.records + c.self.inside.promised))
 
 pub returns-clause-state : goal.returns-clause-state
-returns-clause-state c = c.make_read_room.ensures.same c.self.inside.map.versions (length c.self.inside.map.arena.records + c.self.inside.promised) ∙ ap (λ (b : CoreState). b.state) c.self.view_is
+returns-clause-state g c = c.make_read_room.ensures.same c.self.inside.map.versions (length c.self.inside.map.arena.records + c.self.inside.promised) ∙ ap (λ (b : CoreState). b.state) c.self.view_is
 
 pub returns-clause-room : goal.returns-clause-room
-returns-clause-room c =
+returns-clause-room g c =
     let same = c.make_read_room.ensures.same c.self.inside.map.versions (length c.self.inside.map.arena.records + c.self.inside.promised) in
     both_ok c.make_read_room.result c.make_read_room.ensures.room c.make_read_room.ensures.passed (λ room passed. record {
       answer = room;

@@ -7,7 +7,7 @@ use Rattle.rv_step.specs.Fold.{receipts_of, store_after}
 use Rattle.stm_core.specs.CoreState.{CoreState}
 use Rattle.stm_core.proofs.Ended.{receipts_are, store_is, versions_alone}
 use Rattle.stm_core.proofs.Made.{invariant_at}
-use Rattle.stm_core.proofs.state.Core.outcome.Goals as goal
+use Rattle.stm_core.proofs.owned_job.Core.outcome.Goals as goal
 
 pub outcome_of-requires-clause-versions : goal.outcome_of-requires-clause-versions
 outcome_of-requires-clause-versions c = (versions_alone c.self.inside.job c.self.inside.map c.self.inside.promised c.self.inside.scheduler c.self.invariant (ap (λ (b : CoreState). is_done b.state) c.self.view_is ∙ c.requires) versions_at_done).1
