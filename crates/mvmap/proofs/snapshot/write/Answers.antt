@@ -1,13 +1,12 @@
-use Rattle.std.proofs.Common.{◌∙◌, ap}
-use Rattle.std.specs.FinMap as map
+use Rattle.std.proofs.Common.{ap}
 use Rattle.rv_ledger.specs.Change.{change_copied}
 use Rattle.mvmap.proofs.Storages.{amount_added, key_removed, value_written}
 use Rattle.mvmap.proofs.snapshot.write.Goals as goal
 
-pub returns-in_ok-insert-in-Value : goal.returns-in_ok-insert-in-Value
-returns-in_ok-insert-in-Value c =
-    value_written c.args.store.now c.insert.new.self c.args.key.now (change_copied c.args.change.now) c.in-Value.bytes.now
-    (c.in_ok-insert-in-Value.ensures.ok ∙ ap (map.insert c.args.store.now c.args.key.now) c.in-Some.ensures.value) (ap change_copied c.in-Value.is)
+pub returns-in_ok-insert_bytes-in-Value : goal.returns-in_ok-insert_bytes-in-Value
+returns-in_ok-insert_bytes-in-Value c =
+    value_written c.args.store.now c.insert_bytes.new.self c.args.key.now (change_copied c.args.change.now) c.in-Value.bytes.now
+    c.in_ok-insert_bytes-in-Value.ensures.ok (ap change_copied c.in-Value.is)
 
 pub returns-in-Gone : goal.returns-in-Gone
 returns-in-Gone c = key_removed c.args.store.now c.remove.new.self c.args.key.now (change_copied c.args.change.now) c.remove.ensures (ap change_copied c.in-Gone.is)
