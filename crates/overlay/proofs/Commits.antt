@@ -1,6 +1,6 @@
 -- How changes are made: what the storage has at each key then.
-use Rattle.std.proofs.Common.{◌≡◌, ◌≢◌, ℕ, List, [], ◌∷◌, Option, Some, None, Bool, true, false, true≢false, cond, not, ◌&&◌, ◌||◌, T, is_some, refl, sym, ap, subst, ◌∙◌, take, zero, suc, Equal, Less, Greater, is_eq, is_lt, Ordering, IsTrue}
-use Rattle.std.specs.List.{list_any, fold}
+use Rattle.std.proofs.Common.{◌≡◌, ℕ, List, [], ◌∷◌, Option, Some, None, Bool, true, false, true≢false, cond, not, ◌&&◌, ◌||◌, T, is_some, refl, sym, ap, subst, ◌∙◌, take, zero, suc, Equal, Less, Greater, is_eq, is_lt, Ordering, IsTrue}
+use Rattle.std.specs.List.{list_any}
 use Rattle.std.specs.Ordering.{eq_by_cmp}
 use Rattle.std.specs.Cmp.Lexicographic.{nat_list_cmp_total}
 use Rattle.std.specs.Cmp.{tied_itself}
@@ -9,7 +9,7 @@ use Rattle.std.specs.FinMap.{find, get, get_tied, insert, remove, get-insert, ge
 use Rattle.std.specs.FinMap.Entries.{below_all}
 use Rattle.rv_ledger.specs.Change.{Content}
 use Rattle.rv_ledger.specs.Key.{Storage, key_cmp}
-use Rattle.overlay.specs.Overlay.{Changes, set_content, with_contents, with_changes}
+use Rattle.overlay.specs.Overlay.{Changes, set_content, with_changes}
 use Rattle.overlay.specs.Commit.{is_new, absent_of, grown, shrunk, all_set, IsKnown, Fits, AreAbsent}
 use Rattle.overlay.proofs.WithChanges.{content_or, same_at_all, get_set, get_with_contents}
 
@@ -177,11 +177,6 @@ changes_made s d =
       | None ↦ λ none. ap (λ b. cond b (Some []) (get s q)) (none_any s es q none)
     ] refl
     ∙ sym (get_with_contents s es q))
-
--- changes made one after another in a storage
-pub all_made : (s : Storage) (d : Changes) → all_set s (map.entries d) ≡ with_changes s d
-unfolding with_changes
-all_made s d = same_at_all _ _ (λ q. get_all_set s (map.entries d) q (entries_sorted d) ∙ sym (get_with_contents s (map.entries d) q))
 
 -- the first of entries that fit, and the others
 pub fits_first : (s : Storage) (e : List ℕ × Content) (es : Entries) → Fits s (e ∷ es) → IsKnown s e.0 e.1

@@ -1,5 +1,5 @@
 -- Private help of proofs; no public clause cites it. How changes are made.
-use Rattle.std.specs.Prelude.{◌≡◌, ℕ, Bool, ◌&&◌, not, true, List, [], ◌∷◌, fold, is_some, Option, Some, None, IsTrue, if◌then◌else◌, ⊤}
+use Rattle.std.specs.Prelude.{◌≡◌, ℕ, Bool, ◌&&◌, not, true, List, [], ◌∷◌, fold, is_some, Some, None, IsTrue, if◌then◌else◌, ⊤}
 use Rattle.std.specs.FinMap as map
 use Rattle.std.specs.List.{list_any}
 use Rattle.std.specs.Ordering.{eq_by_cmp}

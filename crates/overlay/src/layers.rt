@@ -39,31 +39,6 @@ fn content<'a>(base: &'a Store, over: &'a Overlay, key: &Key) -> Option<&'a Stor
     }
 }
 
-/// A storage with the changes over it made. Refused where memory ran out.
-#[tactic(auto, using(crate::proofs::Commits::all_made))]
-pub fn copy_with_changes(base: &Store, over: &Overlay) -> Result<Store, AllocError>
-    ensures { IfOk result (λ s. s ≡ with_changes base.now over.now) }
-{
-    let mut store = base.copy()?;
-    for (key, content) in over.iter() {
-        set_copy(&mut store, key, content)?;
-    }
-    Ok(store)
-}
-
-/// Gives a key a copy of what it is to have. Refused where memory ran out.
-fn set_copy(store: &mut Store, key: &Key, content: &Option<StoredValue>) -> Result<(), AllocError>
-    ensures { OnOk result (store.new ≡ set_content store.old key.now content.now) }
-{
-    match content {
-        Some(value) => store.insert_copy(*key, value),
-        None => {
-            store.remove(key);
-            Ok(())
-        }
-    }
-}
-
 /// Adds the writes of receipts, one after another, to the changes over a storage. Refused where memory ran out, and then
 /// nothing changes.
 pub fn apply_receipts(

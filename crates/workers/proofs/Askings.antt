@@ -1,5 +1,5 @@
 -- A step by its kind is not an asking.
-use Rattle.std.proofs.Common.{◌≡◌, ◌≢◌}
+use Rattle.std.proofs.Common.{◌≢◌}
 use Rattle.stm_state.specs.Steps.{Ask}
 use Rattle.stm_core.specs.CoreState.{step_of}
 use Rattle.stm_core.specs.declared.next_step.StepKind.{StepKind}

@@ -1,5 +1,5 @@
 -- A chain of blocks, and one block more.
-use Rattle.std.proofs.Common.{◌≡◌, ◌≢◌, ◌≤◌, ◌⊎◌, length, IfErr, inl, inr, arith, ℕ, List, [], ◌∷◌, ◌++◌, Result, Ok, Err, sym, subst, refl, ◌∙◌}
+use Rattle.std.proofs.Common.{◌≡◌, ◌≢◌, ◌<◌, ◌≤◌, ◌⊎◌, ap, length, IfErr, inl, inr, arith, ℕ, List, [], ◌∷◌, ◌++◌, Result, Ok, Err, sym, subst, refl, ◌∙◌}
 use Rattle.std.specs.Global.{Vec}
 use Rattle.rv_ledger.specs.Key.{Storage}
 use Rattle.rv_ledger.specs.Call.{Invocation}
@@ -7,7 +7,6 @@ use Rattle.rv_ledger.specs.declared.receipt.Receipt.{Receipt}
 use Rattle.overlay.proofs.Receipts.{after_append}
 use Rattle.rv_step.specs.Fold.{store_after}
 use Rattle.rv_ledger.specs.declared.job.Job.{Job}
-use Rattle.rv_ledger.specs.declared.outcome.Outcome.{Outcome}
 use Rattle.stm_state.specs.Steps as steps
 use Rattle.workers.specs.History.{HasLimit, HasStepLimit}
 use Rattle.workers.specs.declared.chain.ChainFault.{ChainFault}
@@ -25,17 +24,17 @@ run_is : (a b : RunFault) → Run a ≡ Run b → a ≡ b
 run_is a b e = cc
 
 -- the answer to a block whose run was refused
-pub refused_block : (job : Job) (workers : ℕ) (answer : Result Outcome RunFault) (fault : RunFault) → answer ≡ Err fault → length job.block ≤ 1024 → 1 ≤ workers → workers ≤ 32
-    → IfErr answer (λ e. e ≢ faults.BadCount) → IfErr answer (λ e. e ≡ faults.ArenaFull → HasLimit job workers steps.ArenaFull)
+pub refused_block : {X : Type 0} (job : Job) (workers : ℕ) (answer : Result X RunFault) (fault : RunFault) → answer ≡ Err fault → length job.block ≤ 1024 → 1 ≤ workers → workers ≤ 32
+    → ((answer ≡ Err faults.BadCount) → (workers ≡ 0) ⊎ (32 < workers)) → IfErr answer (λ e. e ≡ faults.ArenaFull → HasLimit job workers steps.ArenaFull)
     → IfErr answer (λ e. e ≡ faults.IncarnationLimit → HasLimit job workers steps.IncarnationLimit) → IfErr answer (λ e. e ≡ faults.StepLimit → HasStepLimit job workers)
     → IsBlockAnswer job.store job.block workers (Err (Run fault))
-refused_block job workers answer fault is short some few good full limit step_limit =
-    let not_bad = subst (λ (r : Result Outcome RunFault). IfErr r (λ e. e ≢ faults.BadCount)) is good in (
+refused_block {X} job workers answer fault is short some few bad_count full limit step_limit =
+    let not_bad : fault ≢ faults.BadCount = λ e. elim (bad_count (is ∙ ap Err e)) [ inl none ↦ omega (arith, none, some) | inr many ↦ omega (arith, many, few) ] in (
       ((λ e. cc), (λ long. absurd (omega (arith, short, long)))),
       ((λ e. absurd (not_bad (run_is fault faults.BadCount e))), (λ bad. absurd (elim bad.1 [ inl none ↦ omega (arith, none, some) | inr many ↦ omega (arith, many, few) ]))),
-      (λ e. subst (λ (r : Result Outcome RunFault). IfErr r (λ f. f ≡ faults.ArenaFull → HasLimit job workers steps.ArenaFull)) is full (run_is fault faults.ArenaFull e)),
-      (λ e. subst (λ (r : Result Outcome RunFault). IfErr r (λ f. f ≡ faults.IncarnationLimit → HasLimit job workers steps.IncarnationLimit)) is limit (run_is fault faults.IncarnationLimit e)),
-      (λ e. subst (λ (r : Result Outcome RunFault). IfErr r (λ f. f ≡ faults.StepLimit → HasStepLimit job workers)) is step_limit (run_is fault faults.StepLimit e)),
+      (λ e. subst (λ (r : Result X RunFault). IfErr r (λ f. f ≡ faults.ArenaFull → HasLimit job workers steps.ArenaFull)) is full (run_is fault faults.ArenaFull e)),
+      (λ e. subst (λ (r : Result X RunFault). IfErr r (λ f. f ≡ faults.IncarnationLimit → HasLimit job workers steps.IncarnationLimit)) is limit (run_is fault faults.IncarnationLimit e)),
+      (λ e. subst (λ (r : Result X RunFault). IfErr r (λ f. f ≡ faults.StepLimit → HasStepLimit job workers)) is step_limit (run_is fault faults.StepLimit e)),
     )
 
 -- a block whose calls are run is refused neither as TooManyCalls nor as BadCount

@@ -3,9 +3,8 @@ use Rattle.std.proofs.Common.{◌≡◌, ◌≢◌, ◌⊎◌, ◌<◌, ◌+◌,
 use Rattle.std.proofs.lemmas.Option.{slice_get-get_or}
 use Rattle.std.proofs.lemmas.Result.{IfOk-weaker, IfErr-weaker}
 use Rattle.rv_ledger.specs.declared.job.Job.{Job}
-use Rattle.rv_ledger.specs.declared.outcome.Outcome.{Outcome}
 use Rattle.rv_ledger.specs.declared.outcome.Counts.{Counts}
-use Rattle.rv_step.specs.Fold.{receipts_of, store_after}
+use Rattle.rv_step.specs.Fold.{receipts_of}
 use Rattle.stm_state.specs.State.{no_counts}
 use Rattle.stm_state.specs.Steps.{Limit}
 use Rattle.stm_state.specs.Steps as steps
@@ -15,25 +14,26 @@ use Rattle.stm_state.specs.Dones.{LastEntryIsDone, dones_of}
 use Rattle.stm_state.specs.OneWorker.{OneWorkerCountsWhereReached}
 use Rattle.stm_state.specs.Parts.{IsSized}
 use Rattle.stm_core.specs.CoreState.{CoreState, block_in}
+use Rattle.stm_core.specs.declared.outcome.Finished.{Finished}
 use Rattle.workers.specs.declared.book.share.Share.{Share}
 use Rattle.workers.specs.declared.fault.RunFault.{RunFault}
 use Rattle.workers.specs.declared.fault.RunFault.TheVariants as faults
 use Rattle.workers.specs.Book.{BookState, FaultFits, HasFullCount, IsAtLimit, MayWrite, counts_of_share}
-use Rattle.workers.specs.Settle.{AreSettled, AreSharesOf, IsShareOf, IsOutcomeOf, IsOutcomeOrMemory, IsSettledAfter}
+use Rattle.workers.specs.Settle.{AreSettled, AreSharesOf, IsShareOf, IsFinishedOf, IsThatOrMemory, IsFinishedAfter}
 use Rattle.workers.specs.History.{HasHistory, HasLimit, HasStepLimit, AreOneWorkerCounts}
 
 -- ---- what an answer says of the book
 
-ok_after : (first : Option RunFault) (b : CoreState) (shares : List Share) (answer : Result Outcome RunFault) (o : Outcome)
-    → IsSettledAfter first b shares answer → answer ≡ Ok o → AreSettled b shares × IsOutcomeOf b o
+ok_after : (first : Option RunFault) (b : CoreState) (shares : List Share) (answer : Result Finished RunFault) (o : Finished)
+    → IsFinishedAfter first b shares answer → answer ≡ Ok o → AreSettled b shares × IsFinishedOf b o
 ok_after (Some f) b shares answer o h e = cc
-ok_after None b shares answer o (inl h) e = (h.0, subst (IsOutcomeOrMemory b) e h.1)
+ok_after None b shares answer o (inl h) e = (h.0, subst (IsThatOrMemory (IsFinishedOf b)) e h.1)
 ok_after None b shares answer o (inr h) e = let k = h.1 in cc
 
-err_after : (first : Option RunFault) (b : CoreState) (shares : List Share) (answer : Result Outcome RunFault) (f : RunFault)
-    → IsSettledAfter first b shares answer → answer ≡ Err f → (first ≡ Some f) ⊎ ((f ≡ faults.Foreign) ⊎ (f ≡ faults.Memory))
+err_after : (first : Option RunFault) (b : CoreState) (shares : List Share) (answer : Result Finished RunFault) (f : RunFault)
+    → IsFinishedAfter first b shares answer → answer ≡ Err f → (first ≡ Some f) ⊎ ((f ≡ faults.Foreign) ⊎ (f ≡ faults.Memory))
 err_after (Some g) b shares answer f h e = inl cc
-err_after None b shares answer f (inl h) e = inr (inr (subst (IsOutcomeOrMemory b) e h.1))
+err_after None b shares answer f (inl h) e = inr (inr (subst (IsThatOrMemory (IsFinishedOf b)) e h.1))
 err_after None b shares answer f (inr h) e = let k = h.1 in inr (inl cc)
 
 -- ---- the history
@@ -94,18 +94,12 @@ size_is core b found same is = is ∙ ap (λ (x : CoreState). length x.state.tas
 
 -- ---- what is answered for a job and a number of workers
 
-module _ (job : Job) (workers : ℕ) (shares : List Share) (b : BookState) (same : b.core.job ≡ job) (settled_answer : Result Outcome RunFault) (settled : IsSettledAfter b.fault b.core shares settled_answer)
+module _ (job : Job) (workers : ℕ) (shares : List Share) (b : BookState) (same : b.core.job ≡ job) (settled_answer : Result Finished RunFault) (settled : IsFinishedAfter b.fault b.core shares settled_answer)
     (reached : Reached (block_in b.core) (length b.core.state.tasks) b.core.state) (sized : IsSized (length b.core.job.block) (length b.core.state.tasks) b.core.state)
     (fits : FaultFits b.core b.fault) (found : ℕ) (size : found ≡ length b.core.state.tasks) where
-  module _ (answer : Result Outcome RunFault) (ok : IfOk answer (λ o. (settled_answer ≡ Ok o) × (found ≡ workers))) where
-    pub job_is : IfOk answer (λ o. o.job ≡ job)
-    job_is = IfOk-weaker answer _ _ (λ o h. let k = ok_after b.fault b.core shares settled_answer o settled h.0 in k.1.job ∙ same) ok
-
+  module _ (answer : Result Finished RunFault) (ok : IfOk answer (λ o. (settled_answer ≡ Ok o) × (found ≡ workers))) where
     pub receipts_are : IfOk answer (λ o. o.receipts.items ≡ receipts_of job.block job.store)
     receipts_are = IfOk-weaker answer _ _ (λ o h. let k = ok_after b.fault b.core shares settled_answer o settled h.0 in k.1.receipts ∙ ap (λ (j : Job). receipts_of j.block j.store) same) ok
-
-    pub store_is : IfOk answer (λ o. o.store ≡ store_after job.block job.store)
-    store_is = IfOk-weaker answer _ _ (λ o h. let k = ok_after b.fault b.core shares settled_answer o settled h.0 in k.1.store ∙ ap (λ (j : Job). store_after j.block j.store) same) ok
 
     pub shares_are : IfOk answer (λ o. AreSharesOf o.counts.items shares)
     shares_are = IfOk-weaker answer _ _ (λ o h.
@@ -147,7 +141,7 @@ module _ (job : Job) (workers : ℕ) (shares : List Share) (b : BookState) (same
   ]
   written f (inr h) foreign memory = absurd (foreign h.0)
 
-  module _ (answer : Result Outcome RunFault) (err : IfErr answer (λ f. ((settled_answer ≡ Err f) × (found ≡ workers)) ⊎ ((f ≡ faults.Foreign) × (found ≢ workers)))) where
+  module _ (answer : Result Finished RunFault) (err : IfErr answer (λ f. ((settled_answer ≡ Err f) × (found ≡ workers)) ⊎ ((f ≡ faults.Foreign) × (found ≢ workers)))) where
     pub never_bad_count : IfErr answer (λ f. f ≢ faults.BadCount)
     never_bad_count = IfErr-weaker answer _ _ (λ f h e. (subst (λ (g : RunFault). MayWrite g b.core) e (written f h (λ k. cc) (λ k. cc)).0)) err
 

@@ -1,5 +1,5 @@
 -- A core with the first fault that was written, the share of a worker, and what the step calls owe.
-use Rattle.std.specs.Prelude.{⊤, Result, Ok, Err, ◌≡◌, ◌<◌, ◌+◌, ◌⊎◌, ℕ, zero, suc, Bool, true, false, List, [], ◌∷◌, ◌++◌, length, get_or, Option, None, Some}
+use Rattle.std.specs.Prelude.{⊤, Result, Ok, Err, ◌≡◌, ◌<◌, ◌+◌, ◌⊎◌, ℕ, zero, suc, true, false, List, [], ◌∷◌, ◌++◌, length, get_or, Option, None, Some}
 use Rattle.rv_ledger.specs.declared.outcome.Counts.{Counts}
 use Rattle.mvmap.specs.Reading.{reading}
 use Rattle.stm_state.specs.State.{task_at, no_counts, is_done}

@@ -6,6 +6,7 @@ use Rattle.rv_ledger.specs.declared.outcome.Counts.{Counts}
 use Rattle.rv_step.specs.Fold.{receipts_of, store_after}
 use Rattle.stm_state.specs.State.{is_done, no_counts}
 use Rattle.stm_core.specs.CoreState.{CoreState}
+use Rattle.stm_core.specs.declared.outcome.Finished.{Finished}
 use Rattle.workers.specs.declared.book.share.Share.{Share}
 use Rattle.workers.specs.declared.fault.RunFault.{RunFault}
 use Rattle.workers.specs.declared.fault.RunFault.TheVariants as faults
@@ -35,15 +36,37 @@ pub record IsOutcomeOf (b : CoreState) (outcome : Outcome) : Type 0 where
   pub store : outcome.store ≡ store_after b.job.block b.job.store
   pub counts : outcome.counts.items ≡ b.state.counts
 
+-- what a core that is done leaves beside the storage
+pub record IsFinishedOf (b : CoreState) (finished : Finished) : Type 0 where
+  pub receipts : finished.receipts.items ≡ receipts_of b.job.block b.job.store
+  pub counts : finished.counts.items ≡ b.state.counts
+
+-- an answer of which a fact holds, or Memory
+abbrev pub IsThatOrMemory : {X : Type 0} → (X → Type 0) → Result X RunFault → Type 0
+IsThatOrMemory That (Ok x) = That x
+IsThatOrMemory That (Err fault) = fault ≡ faults.Memory
+
 -- the core's outcome, or Memory
 abbrev pub IsOutcomeOrMemory : CoreState → Result Outcome RunFault → Type 0
-IsOutcomeOrMemory b (Ok outcome) = IsOutcomeOf b outcome
-IsOutcomeOrMemory b (Err fault) = fault ≡ faults.Memory
+IsOutcomeOrMemory b answer = IsThatOrMemory (IsOutcomeOf b) answer
+
+-- the fault that answers a job, whatever memory there is: the written one, if any, else Foreign where the shares are not settled
+abbrev pub IsFaultAfter : Option RunFault → CoreState → List Share → RunFault → Type 0
+IsFaultAfter (Some fault) b shares found = found ≡ fault
+IsFaultAfter None b shares found = (AreSettled b shares → ⊥) × (found ≡ faults.Foreign)
+
+-- the written fault, if any; else `That` or Memory where the shares are settled, and Foreign where they are not
+abbrev pub IsThatAfter : {X : Type 0} → (X → Type 0) → Option RunFault → CoreState → List Share → Result X RunFault → Type 0
+IsThatAfter That (Some fault) b shares answer = answer ≡ Err fault
+IsThatAfter That None b shares answer = (AreSettled b shares × IsThatOrMemory That answer) ⊎ ((AreSettled b shares → ⊥) × (answer ≡ Err faults.Foreign))
 
 -- the written fault, if any; else the outcome or Memory where the shares are settled, and Foreign where they are not
 abbrev pub IsSettledAfter : Option RunFault → CoreState → List Share → Result Outcome RunFault → Type 0
-IsSettledAfter (Some fault) b shares answer = answer ≡ Err fault
-IsSettledAfter None b shares answer = (AreSettled b shares × IsOutcomeOrMemory b answer) ⊎ ((AreSettled b shares → ⊥) × (answer ≡ Err faults.Foreign))
+IsSettledAfter first b shares answer = IsThatAfter (IsOutcomeOf b) first b shares answer
+
+-- the same without the storage
+abbrev pub IsFinishedAfter : Option RunFault → CoreState → List Share → Result Finished RunFault → Type 0
+IsFinishedAfter first b shares answer = IsThatAfter (IsFinishedOf b) first b shares answer
 
 -- the answer to a job: Foreign where the core has another job, whatever else holds; otherwise as above
 abbrev pub IsSettled : Job → List Share → BookState → Result Outcome RunFault → Type 0

@@ -1,15 +1,15 @@
 //! The answer to a job after the join, by its book and the shares that came back.
 
-ghost use Rattle.std.specs.Prelude.{◌≡◌, ◌<◌, ◌↔◌, [], Err, IfSome, None, length, true};
+ghost use Rattle.std.specs.Prelude.{◌≡◌, ◌<◌, ◌↔◌, [], IfSome, None, length, true};
 ghost use Rattle.stm_state.specs.State.{is_done};
-ghost use Rattle.workers.specs.Settle.{AreSettled, IsOutcomeOrMemory, IsSettled, IsSettledAfter, IsShareOf};
+ghost use Rattle.workers.specs.Settle.{AreSettled, IsFaultAfter, IsFinishedAfter, IsFinishedOf, IsOutcomeOrMemory, IsSettled, IsSettledAfter, IsShareOf, IsThatOrMemory};
 ghost use Rattle.workers.specs.declared.fault.RunFault.TheVariants as faults;
 
 use crate::book::{Book, JobName, Share};
 use crate::fault::RunFault;
 use rv_ledger::{Job, Outcome, same_job};
 use std::alloc::Global;
-use stm_core::Core;
+use stm_core::{Core, Finished, JobSource};
 use version_arena::Arena;
 
 /// The answer to a job, by its book and the shares that came back in the order of their workers; and the
@@ -32,8 +32,8 @@ pub fn settle<J: JobName>(
     settle_shares(alloc, book, shares.as_slice())
 }
 
-/// The same with the shares of their owner, where the core has that job.
-pub(crate) fn settle_shares<J: JobName>(
+/// The same, where the core has that job.
+fn settle_shares<J: JobName>(
     alloc: Global,
     book: Book<J>,
     shares: &[Share],
@@ -47,9 +47,24 @@ pub(crate) fn settle_shares<J: JobName>(
     }
 }
 
+/// The same without the storage, whoever has the job.
+pub(crate) fn finish<J: JobName, H: JobSource>(
+    alloc: Global,
+    book: Book<J, H>,
+    shares: &[Share],
+) -> (Result<Finished, RunFault>, Arena)
+    ensures answer { IsFinishedAfter book.fault book.core shares.now result.0 }
+    ensures arena { result.1.records ≡ [] }
+{
+    match fault_of(&book, shares) {
+        Some(fault) => (Err(fault), book.into_core().into_arena()),
+        None => finished_of(alloc, book.into_core()),
+    }
+}
+
 /// The fault that answers a job; None where the core's outcome does, if memory allows.
-fn fault_of<J: JobName>(book: &Book<J>, shares: &[Share]) -> Option<RunFault>
-    ensures found { IfSome result (λ found. IsSettledAfter book.now.fault book.now.core shares.now (Err found)) }
+fn fault_of<J: JobName, H: JobSource>(book: &Book<J, H>, shares: &[Share]) -> Option<RunFault>
+    ensures found { IfSome result (λ found. IsFaultAfter book.now.fault book.now.core shares.now found) }
     ensures none { result ≡ None → (book.now.fault ≡ None) × AreSettled book.now.core shares.now }
 {
     if let Some(found) = book.fault() {
@@ -74,8 +89,22 @@ fn outcome_of(alloc: Global, core: Core) -> (Result<Outcome, RunFault>, Arena)
     }
 }
 
+/// What a core that is done leaves beside the storage, or Memory where memory ran out; and its arena, without
+/// records.
+fn finished_of<H: JobSource>(alloc: Global, core: Core<H>) -> (Result<Finished, RunFault>, Arena)
+    requires { is_done core.state ≡ true }
+    ensures answer { IsThatOrMemory (IsFinishedOf core) result.0 }
+    ensures arena { result.1.records ≡ [] }
+{
+    let (finished, arena) = core.into_finished(alloc);
+    match finished {
+        Ok(finished) => (Ok(finished), arena),
+        Err(_) => (Err(RunFault::Memory), arena),
+    }
+}
+
 /// Whether workers are done, and there is one share of each, in their order, which agrees with the core.
-fn are_settled(core: &Core, shares: &[Share]) -> bool
+fn are_settled<H: JobSource>(core: &Core<H>, shares: &[Share]) -> bool
     ensures { (result ≡ true) ↔ AreSettled core.now shares.now }
 {
     if !core.done() || shares.len() != core.workers() {
@@ -91,7 +120,7 @@ fn are_settled(core: &Core, shares: &[Share]) -> bool
 
 /// Whether a share is that of a worker, agrees with the core on its counts, and has exactly one ask that was
 /// answered Done.
-fn is_share_of(core: &Core, worker: usize, share: &Share) -> bool
+fn is_share_of<H: JobSource>(core: &Core<H>, worker: usize, share: &Share) -> bool
     requires { worker < length core.now.state.tasks }
     ensures { (result ≡ true) ↔ IsShareOf worker core.now share.now }
 {

@@ -9,11 +9,11 @@ ghost use Rattle.std.specs.FinMap as finite;
 ghost use Rattle.rv_ledger.specs.declared.job.Job.{Job};
 
 use crate::fault::{OutsideFault, RunFault};
-use rv_ledger::{Key, StoredValue, Value};
+use rv_ledger::{Job, Key, StoredValue, Value};
 use scheduler::COUNT_LIMIT;
 pub use share::Share;
 use std::marker::{Brand, Model, PhantomData};
-use stm_core::{AskResult, Core, NextStep, ReadResult, StepKind};
+use stm_core::{AskResult, Core, JobSource, NextStep, ReadResult, StepKind};
 pub(crate) use written::MetFault;
 pub use written::WrittenFault;
 
@@ -30,28 +30,32 @@ impl JobName for Brand {
 /// IncarnationLimit is true of the core: some worker's due step is refused for this limit. So is a written
 /// StepLimit: some worker has made 2^64 - 1 steps. A written fault is never BadCount.
 #[derive(Drop)]
-pub struct Book<J: JobName = Brand> {
-    core: Core,
+pub struct Book<J: JobName = Brand, H: JobSource = Job> {
+    core: Core<H>,
     fault: Option<RunFault>,
     of: PhantomData<J>,
 }
 
-impl<J: JobName> Model for Book<J> {
+impl<J: JobName, H: JobSource> Model for Book<J, H> {
     ghost use Rattle.std.specs.Prelude.{◌≡◌};
     ghost use Rattle.std.specs.Coded.{codes};
-    ghost use Rattle.stm_core.specs.contracts.state.Core.{the_row as core_row};
+    ghost use Rattle.std.specs.FinMap as finite;
+    ghost use Rattle.mvmap.specs.Versions.{coded_entry, coded_place, place_cmp};
+    ghost use Rattle.rv_ledger.specs.contracts.job.Job.{the_row as job_row};
+    ghost use Rattle.stm_state.specs.contracts.state.CallState.{the_row as call_row};
+    ghost use Rattle.stm_state.specs.contracts.state.Task.{the_row as task_row};
     ghost use Rattle.workers.specs.Book.{BookState, FaultFits};
 
     ghost Value = { BookState };
 
-    ghost coded = { Prim.hlevel (codes, core_row.coded) };
+    ghost coded = { Prim.hlevel (codes, job_row.coded, call_row.coded, task_row.coded, finite.code {R = place_cmp} coded_place coded_entry) };
 
     ghost view = { λ b. record { core = b.core; fault = b.fault } };
 
     ghost invariant = { λ b. FaultFits b.core b.fault × (b.core.job ≡ J.job) };
 }
 
-impl<J: JobName> Book<J> {
+impl<J: JobName, H: JobSource> Book<J, H> {
     ghost use Rattle.std.specs.Prelude.{◌≡◌, ◌<◌, ◌↔◌, ⊤, None, Some, true, length, get_or, slice_get, IfErr, IfOk, OnOk};
     ghost use Rattle.std.specs.Option.{option_copied};
     ghost use Rattle.mvmap.specs.Reading.{reading};
@@ -64,7 +68,7 @@ impl<J: JobName> Book<J> {
     ghost use Rattle.workers.specs.Book.{FaultFits, IsAsked, IsCause, IsMade, IsMakeCall, IsReadCall, IsUnready, LeavesWritten, MayWrite, Owes, AgreesWith, first_fault, outside_fault};
 
     /// A core, and no fault.
-    pub fn new(core: Core) -> Book<J>
+    pub fn new(core: Core<H>) -> Book<J, H>
         requires { core.job ≡ J.job }
         ensures { result ≡ record { core = core; fault = None } }
     {
@@ -76,7 +80,7 @@ impl<J: JobName> Book<J> {
     }
 
     /// The core.
-    pub fn core(&self) -> &Core
+    pub fn core(&self) -> &Core<H>
         ensures { result.now ≡ self.now.core }
     {
         &self.core
@@ -135,7 +139,7 @@ impl<J: JobName> Book<J> {
     }
 
     /// The core, without the fault.
-    pub fn into_core(self) -> Core
+    pub fn into_core(self) -> Core<H>
         ensures { result ≡ self.core }
     {
         let Book { core, .. } = self;
@@ -175,7 +179,7 @@ impl<J: JobName> Book<J> {
     ) -> Result<ReadResult, WrittenFault>
         ensures { IsReadCall key.now call incarnation self.old self.new share.old share.new result }
     {
-        let base = StoredValue::value_of(self.core.job().store.get(key));
+        let base = StoredValue::value_of(self.core.source().content(key));
         self.read_over(share, call, incarnation, key, base.as_ref())
     }
 

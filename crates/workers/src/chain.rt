@@ -1,17 +1,14 @@
 //! Blocks run one after another, each over the storage that the last one answered Ok left.
 
-use crate::executor::{Executor, run_over};
+use crate::executor::Executor;
 use crate::fault::RunFault;
-use crate::gate::Open;
-use rv_ledger::{CALL_LIMIT, Call, Job, Outcome, Receipt, Store};
+use rv_ledger::{CALL_LIMIT, Call, Job, Receipt, Store};
 use std::alloc::{AllocError, Global};
-use std::marker::Brand;
+use std::fmt;
 use std::sync::Wait;
 use std::thread::Threads;
-use std::{fmt, mem};
 use stm_core::WORKER_LIMIT;
 use thiserror::Error;
-use version_arena::Arena;
 
 /// Why a block of a chain has no receipts.
 #[derive(Clone, Copy, Debug, PartialEq, Eq, Error)]
@@ -123,23 +120,10 @@ impl Executor {
         ensures answer { IsBlockAnswer job.store job.block workers result.0 }
         ensures left { result.1 ≡ store_left job.store job.block result.0 }
     {
-        let arena = mem::replace(&mut self.arena, Arena::new(alloc));
-        let (answer, arena, shares, before) = run_over::<Brand, R, Open>(
-            rt, alloc, arena, job, workers, &Open,
-        );
-        self.arena = arena;
-        self.shares = shares;
-        match answer {
-            Ok(outcome) => {
-                let Outcome {
-                    job: _,
-                    receipts,
-                    store,
-                    counts: _,
-                } = outcome;
-                (Ok(receipts), store)
-            }
-            Err(fault) => (Err(ChainFault::Run(fault)), before),
+        let Job { block, mut store } = job;
+        match self.run_on(rt, alloc, &mut store, block, workers) {
+            Ok(receipts) => (Ok(receipts), store),
+            Err(fault) => (Err(ChainFault::Run(fault)), store),
         }
     }
 }

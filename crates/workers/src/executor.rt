@@ -2,7 +2,8 @@
 
 ghost use Rattle.std.specs.Prelude.{◌≡◌, ◌≢◌, ◌≤◌, ◌⊎◌, [], All, Err, IfErr, IfOk, Ok, length, true};
 ghost use Rattle.std.specs.Vec.{vec_capacity};
-ghost use Rattle.rv_step.specs.Fold.{receipts_of, store_after};
+ghost use Rattle.overlay.specs.Overlay.{apply_receipts};
+ghost use Rattle.rv_step.specs.Fold.{receipts_of};
 ghost use Rattle.stm_state.specs.Steps as steps;
 ghost use Rattle.workers.specs.DoneCell.{IsPassOf};
 ghost use Rattle.workers.specs.History.{HasHistory, HasLimit, HasStepLimit, AreOneWorkerCounts};
@@ -10,19 +11,21 @@ ghost use Rattle.workers.specs.Settle.{AreSharesOf};
 ghost use Rattle.workers.specs.declared.fault.OutsideFault.TheVariants as outside;
 ghost use Rattle.workers.specs.declared.fault.RunFault.TheVariants as faults;
 
-use crate::answer::settle_shares;
+use crate::answer::finish;
 use crate::book::{JobName, MetFault, Share, WrittenFault};
 use crate::fault::{OutsideFault, RunFault};
 use crate::gate::{Gate, Open};
 use crate::shared::Shared;
 use crate::worker::work;
-use rv_ledger::{Job, Outcome, Store};
-use std::alloc::Global;
+use overlay::{Overlay, apply_receipts, commit};
+use rv_ledger::{Block, Job, Outcome, Receipt, Store};
+use rv_step::Contents;
+use std::alloc::{AllocError, Global};
 use std::marker::Brand;
 use std::sync::Wait;
 use std::thread::{JoinHandle, Scope, Threads};
 use std::{mem, thread};
-use stm_core::{Core, WORKER_LIMIT};
+use stm_core::{Core, Finished, JobSource, LentJob, WORKER_LIMIT};
 use version_arena::Arena;
 
 /// Runs blocks one after another over one arena. The arena has no records between two blocks. The shares are
@@ -90,6 +93,7 @@ impl Executor {
 
     /// `run_block` with a gate. Each thread passes it between the end of a run and its record, and may be
     /// held there.
+    #[tactic(auto, using(overlay::proofs::Receipts::receipts_applied))]
     pub fn run_block_with<R: Threads + Wait + Sync, G: Gate + Sync>(
         &mut self,
         rt: &R,
@@ -110,12 +114,47 @@ impl Executor {
         ensures step_limit { IfErr result (λ e. e ≡ faults.StepLimit → HasStepLimit job workers) }
         ensures kept { result ≡ Err faults.BadCount → self.new ≡ self.old }
     {
+        let Finished { receipts, counts } = self.run_lent(
+            rt, alloc, &job.block, &job.store, workers, gate,
+        )?;
+        match copy_with_receipts(alloc, &job.store, receipts.as_slice()) {
+            Ok(store) => Ok(Outcome {
+                job,
+                receipts,
+                store,
+                counts,
+            }),
+            Err(_) => Err(RunFault::Memory),
+        }
+    }
+
+    /// Runs a block on 1 to 32 threads over what is lent in place of a storage; nothing is copied. Refused as
+    /// `run_block` is.
+    pub(crate) fn run_lent<S: Contents + Sync, R: Threads + Wait + Sync, G: Gate + Sync>(
+        &mut self,
+        rt: &R,
+        alloc: Global,
+        block: &Block,
+        contents: &S,
+        workers: usize,
+        gate: &G,
+    ) -> Result<Finished, RunFault>
+        ensures bad_count { (result ≡ Err faults.BadCount) ↔ ((workers ≡ 0) ⊎ (32 < workers)) }
+        ensures receipts { IfOk result (λ f. f.receipts.items ≡ receipts_of block.now (S.storage contents.now)) }
+        ensures history { IfOk result (λ f. HasHistory (record { block = block.now; store = S.storage contents.now }) workers f.counts.items) }
+        ensures one_worker { IfOk result (λ f. workers ≡ 1 → AreOneWorkerCounts (length block.now) f.counts.items) }
+        ensures shares { IfOk result (λ f. AreSharesOf f.counts.items self.new.shares.items) }
+        ensures full { IfErr result (λ e. e ≡ faults.ArenaFull → HasLimit (record { block = block.now; store = S.storage contents.now }) workers steps.ArenaFull) }
+        ensures limit { IfErr result (λ e. e ≡ faults.IncarnationLimit → HasLimit (record { block = block.now; store = S.storage contents.now }) workers steps.IncarnationLimit) }
+        ensures step_limit { IfErr result (λ e. e ≡ faults.StepLimit → HasStepLimit (record { block = block.now; store = S.storage contents.now }) workers) }
+        ensures kept { result ≡ Err faults.BadCount → self.new ≡ self.old }
+    {
         if workers == 0 || workers > WORKER_LIMIT {
             return Err(RunFault::BadCount);
         }
         let arena = mem::replace(&mut self.arena, Arena::new(alloc));
-        let (answer, arena, shares, _) = run_over::<Brand, R, G>(
-            rt, alloc, arena, job, workers, gate,
+        let (answer, arena, shares) = run_over::<Brand, S, R, G>(
+            rt, alloc, arena, block, contents, workers, gate,
         );
         self.arena = arena;
         self.shares = shares;
@@ -123,73 +162,70 @@ impl Executor {
     }
 }
 
-/// Runs a job on threads over an arena. The arena comes back without records. Refused as `run_block` is, but
-/// never as BadCount. Beside it the shares that the threads gave back, and the storage before the block.
-pub(crate) fn run_over<J: JobName + Send + Sync, R: Threads + Wait + Sync, G: Gate + Sync>(
+/// A copy of a storage after the writes of receipts. Refused where memory ran out.
+#[tactic(auto, using(overlay::proofs::WithChanges::without_changes))]
+fn copy_with_receipts(
+    alloc: Global,
+    store: &Store,
+    receipts: &[Receipt],
+) -> Result<Store, AllocError>
+    ensures { IfOk result (λ s. s ≡ apply_receipts store.now receipts.now) }
+{
+    let mut changes = Overlay::new(alloc);
+    apply_receipts(store, &mut changes, receipts)?;
+    let mut after = store.copy()?;
+    commit(&mut after, changes)?;
+    Ok(after)
+}
+
+/// Runs a block on threads over an arena and over what is lent in place of a storage. The arena comes back without
+/// records. Refused as `run_block` is, but never as BadCount. Beside it the shares that the threads gave back.
+fn run_over<J: JobName + Send + Sync, S: Contents + Sync, R: Threads + Wait + Sync, G: Gate + Sync>(
     rt: &R,
     alloc: Global,
     arena: Arena,
-    job: Job,
+    block: &Block,
+    contents: &S,
     workers: usize,
     gate: &G,
-) -> (Result<Outcome, RunFault>, Arena, Vec<Share>, Store)
+) -> (Result<Finished, RunFault>, Arena, Vec<Share>)
     requires count { (1 ≤ workers) × (workers ≤ 32) }
-    requires job { job ≡ J.job }
+    requires job { J.job ≡ record { block = block.now; store = S.storage contents.now } }
     ensures bad_count { IfErr result.0 (λ e. e ≢ faults.BadCount) }
-    ensures job { IfOk result.0 (λ o. o.job ≡ job) }
-    ensures receipts { IfOk result.0 (λ o. o.receipts.items ≡ receipts_of job.block job.store) }
-    ensures store { IfOk result.0 (λ o. o.store ≡ store_after job.block job.store) }
-    ensures history { IfOk result.0 (λ o. HasHistory job workers o.counts.items) }
-    ensures one_worker { IfOk result.0 (λ o. workers ≡ 1 → AreOneWorkerCounts (length job.block) o.counts.items) }
-    ensures shares { IfOk result.0 (λ o. AreSharesOf o.counts.items result.2.items) }
-    ensures full { IfErr result.0 (λ e. e ≡ faults.ArenaFull → HasLimit job workers steps.ArenaFull) }
-    ensures limit { IfErr result.0 (λ e. e ≡ faults.IncarnationLimit → HasLimit job workers steps.IncarnationLimit) }
-    ensures step_limit { IfErr result.0 (λ e. e ≡ faults.StepLimit → HasStepLimit job workers) }
+    ensures receipts { IfOk result.0 (λ f. f.receipts.items ≡ receipts_of J.job.block J.job.store) }
+    ensures history { IfOk result.0 (λ f. HasHistory J.job workers f.counts.items) }
+    ensures one_worker { IfOk result.0 (λ f. workers ≡ 1 → AreOneWorkerCounts (length J.job.block) f.counts.items) }
+    ensures shares { IfOk result.0 (λ f. AreSharesOf f.counts.items result.2.items) }
+    ensures full { IfErr result.0 (λ e. e ≡ faults.ArenaFull → HasLimit J.job workers steps.ArenaFull) }
+    ensures limit { IfErr result.0 (λ e. e ≡ faults.IncarnationLimit → HasLimit J.job workers steps.IncarnationLimit) }
+    ensures step_limit { IfErr result.0 (λ e. e ≡ faults.StepLimit → HasStepLimit J.job workers) }
     ensures arena { result.1.records ≡ [] }
-    ensures before { result.3 ≡ job.store }
 {
-    let Ok(store) = job.store.copy() else {
-        return (
-            Err(RunFault::Memory),
-            emptied(arena),
-            Vec::new(alloc),
-            job.store,
-        );
-    };
-    let (shared, shares) = match share_out::<J>(alloc, arena, job, store, workers) {
+    let (shared, shares) = match share_out::<J, S>(alloc, arena, block, contents, workers) {
         Ok(shared) => shared,
-        Err((arena, store)) => return (Err(RunFault::Memory), arena, Vec::new(alloc), store),
+        Err(arena) => return (Err(RunFault::Memory), arena, Vec::new(alloc)),
     };
     let back = match run_threads(rt, alloc, &shared, shares, gate) {
         Ok(back) => back,
         Err(_) => Vec::new(alloc),
     };
-    let (book, store) = shared.into_parts();
+    let book = shared.into_book();
     book.holds();
     stm_state::reached_by_list();
     stm_state::last_entry_is_done();
     stm_state::one_worker_counts_where_reached();
     let found = book.core().workers();
-    let (answer, arena) = settle_shares(alloc, book, back.as_slice());
-    (answer_by(answer, found, workers), arena, back, store)
-}
-
-/// The arena, without records. Takes no memory.
-fn emptied(arena: Arena) -> Arena
-    ensures { result.records ≡ [] }
-{
-    let mut arena = arena;
-    arena.reset();
-    arena
+    let (answer, arena) = finish(alloc, book, back.as_slice());
+    (answer_by(answer, found, workers), arena, back)
 }
 
 /// The answer of a core that has so many workers, but Foreign where another number was asked for.
 fn answer_by(
-    answer: Result<Outcome, RunFault>,
+    answer: Result<Finished, RunFault>,
     found: usize,
     workers: usize,
-) -> Result<Outcome, RunFault>
-    ensures ok { IfOk result (λ o. (answer ≡ Ok o) × (found ≡ workers)) }
+) -> Result<Finished, RunFault>
+    ensures ok { IfOk result (λ f. (answer ≡ Ok f) × (found ≡ workers)) }
     ensures err { IfErr result (λ e. ((answer ≡ Err e) × (found ≡ workers)) ⊎ ((e ≡ faults.Foreign) × (found ≢ workers))) }
 {
     if found != workers {
@@ -198,25 +234,22 @@ fn answer_by(
     answer
 }
 
-/// The lock and the cell over a job's core at its start with a copy of its storage, and its workers' shares.
-/// Where memory ran out the arena is handed back, without records, and the copy.
-fn share_out<J: JobName>(
+/// The lock and the cell over the core of what is lent at its start, and its workers' shares. Where memory ran out the
+/// arena is handed back, without records.
+fn share_out<'a, J: JobName, S: Contents>(
     alloc: Global,
     arena: Arena,
-    job: Job,
-    store: Store,
+    block: &'a Block,
+    contents: &'a S,
     workers: usize,
-) -> Result<(Shared<J>, Vec<Share>), (Arena, Store)>
+) -> Result<(Shared<J, LentJob<'a, S>>, Vec<Share>), Arena>
     requires count { (1 ≤ workers) × (workers ≤ 32) }
-    requires job { job ≡ J.job }
-    requires copy { store ≡ J.job.store }
+    requires job { J.job ≡ record { block = block.now; store = S.storage contents.now } }
     ensures passes { IfOk result (λ made. All (λ share. IsPassOf made.0.cell share.pass) made.1.items) }
-    ensures back { IfErr result (λ left. (left.0.records ≡ []) × (left.1 ≡ store)) }
+    ensures back { IfErr result (λ arena. arena.records ≡ []) }
 {
-    match Core::over(alloc, arena, job, workers) {
-        Ok(core) => Shared::over(alloc, core, store),
-        Err(arena) => Err((arena, store)),
-    }
+    let core = Core::of(alloc, arena, LentJob { block, contents }, workers)?;
+    Shared::over(alloc, core, LentJob { block, contents })
 }
 
 /// The handle of a thread that runs for a share.
@@ -224,10 +257,15 @@ type Thread = JoinHandle<Result<Share, WrittenFault>>;
 
 /// Runs a thread for each share, and waits for all of them. Returns all their shares, or a fault that stands
 /// written: that of a thread, Spawn where the system refuses a thread, and Memory where memory ran out.
-fn run_threads<J: JobName + Send + Sync, R: Threads + Wait + Sync, G: Gate + Sync>(
+fn run_threads<
+    J: JobName + Send + Sync,
+    H: JobSource + Send + Sync,
+    R: Threads + Wait + Sync,
+    G: Gate + Sync,
+>(
     rt: &R,
     alloc: Global,
-    shared: &Shared<J>,
+    shared: &Shared<J, H>,
     shares: Vec<Share>,
     gate: &G,
 ) -> Result<Vec<Share>, WrittenFault>
@@ -249,10 +287,10 @@ fn run_threads<J: JobName + Send + Sync, R: Threads + Wait + Sync, G: Gate + Syn
 }
 
 /// Room for so many shares; refused as Memory where memory ran out.
-fn room_for_shares<J: JobName, R: Wait>(
+fn room_for_shares<J: JobName, H: JobSource, R: Wait>(
     rt: &R,
     alloc: Global,
-    shared: &Shared<J>,
+    shared: &Shared<J, H>,
     count: usize,
 ) -> Result<Vec<Share>, MetFault>
     ensures empty { IfOk result (λ room. room.items ≡ []) }
@@ -267,11 +305,18 @@ fn room_for_shares<J: JobName, R: Wait>(
 
 /// Starts a thread for each share. Where the system refuses one, Spawn stands written in its place. Refused as
 /// Memory where memory ran out before the first.
-fn start_threads<'s, E, J: JobName + Send + Sync, R: Threads + Wait + Sync, G: Gate + Sync>(
+fn start_threads<
+    's,
+    E,
+    J: JobName + Send + Sync,
+    H: JobSource + Send + Sync,
+    R: Threads + Wait + Sync,
+    G: Gate + Sync,
+>(
     scope: &Scope<'s, E>,
     rt: &'s R,
     alloc: Global,
-    shared: &'s Shared<J>,
+    shared: &'s Shared<J, H>,
     shares: Vec<Share>,
     gate: &'s G,
 ) -> Result<Vec<Result<Thread, MetFault>>, MetFault>
@@ -289,11 +334,18 @@ fn start_threads<'s, E, J: JobName + Send + Sync, R: Threads + Wait + Sync, G: G
 }
 
 /// Starts a thread for a share; refused as Spawn where the system refuses it.
-fn start_thread<'s, E, J: JobName + Send + Sync, R: Threads + Wait + Sync, G: Gate + Sync>(
+fn start_thread<
+    's,
+    E,
+    J: JobName + Send + Sync,
+    H: JobSource + Send + Sync,
+    R: Threads + Wait + Sync,
+    G: Gate + Sync,
+>(
     scope: &Scope<'s, E>,
     rt: &'s R,
     alloc: Global,
-    shared: &'s Shared<J>,
+    shared: &'s Shared<J, H>,
     share: Share,
     gate: &'s G,
 ) -> Result<Thread, MetFault>

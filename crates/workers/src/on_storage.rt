@@ -2,12 +2,14 @@
 
 use crate::executor::Executor;
 use crate::fault::RunFault;
-use overlay::{Overlay, apply_receipts, commit, copy_with_changes};
-use rv_ledger::{Block, Job, Outcome, Receipt, Store};
+use crate::gate::Open;
+use overlay::{Layers, Overlay, apply_receipts, commit};
+use rv_ledger::{Block, Receipt, Store};
+use rv_step::Contents;
 use std::alloc::Global;
 use std::sync::Wait;
 use std::thread::Threads;
-use stm_core::WORKER_LIMIT;
+use stm_core::Finished;
 
 impl Executor {
     ghost use Rattle.std.specs.Prelude.{◌≡◌, ◌<◌, ◌⊎◌, ◌↔◌, Err, IfErr, IfOk, OnErr, OnOk};
@@ -18,7 +20,7 @@ impl Executor {
     ghost use Rattle.workers.specs.History.{HasLimit, HasStepLimit, IsRunWithShares};
 
     /// Runs the calls of a block by 1 to 32 threads on a storage, and changes it as they do in order. Refused as
-    /// `run_block` refuses their job, and then the storage is as it was. The storage is copied for the threads.
+    /// `run_block` refuses their job, and then the storage is as it was. The threads search the storage itself: it is not copied.
     #[tactic(auto, using(overlay::proofs::WithChanges::without_changes))]
     pub fn run_on<R: Threads + Wait + Sync>(
         &mut self,
@@ -68,43 +70,36 @@ impl Executor {
         ensures step_limit { IfErr result (λ e. e ≡ faults.StepLimit → HasStepLimit (record { block = block; store = with_changes base.now over.old }) workers) }
         ensures kept { result ≡ Err faults.BadCount → self.new ≡ self.old }
     {
-        if workers == 0 || workers > WORKER_LIMIT {
-            return Err(RunFault::BadCount);
-        }
-        let Ok(store) = copy_with_changes(base, over) else {
-            return Err(RunFault::Memory);
-        };
-        let receipts = self.receipts_by(rt, alloc, Job { block, store }, workers)?;
+        let receipts = self.receipts_by(rt, alloc, &block, &Layers { base, over }, workers)?;
         match apply_receipts(base, over, receipts.as_slice()) {
             Ok(()) => Ok(receipts),
             Err(_) => Err(RunFault::Memory),
         }
     }
 
-    /// The receipts of a job by threads. Refused as `run_block` is.
+    /// The receipts of a block by threads, over what is lent in place of a storage. Refused as `run_block` is.
     #[tactic(auto, using(crate::proofs::Runs::run_with_shares))]
-    fn receipts_by<R: Threads + Wait + Sync>(
+    fn receipts_by<S: Contents + Sync, R: Threads + Wait + Sync>(
         &mut self,
         rt: &R,
         alloc: Global,
-        job: Job,
+        block: &Block,
+        contents: &S,
         workers: usize,
     ) -> Result<Vec<Receipt>, RunFault>
         ensures bad_count { (result ≡ Err faults.BadCount) ↔ ((workers ≡ 0) ⊎ (32 < workers)) }
-        ensures receipts { IfOk result (λ r. r.items ≡ receipts_of job.block job.store) }
-        ensures history { OnOk result (IsRunWithShares job workers self.new.shares.items) }
-        ensures full { IfErr result (λ e. e ≡ faults.ArenaFull → HasLimit job workers steps.ArenaFull) }
-        ensures limit { IfErr result (λ e. e ≡ faults.IncarnationLimit → HasLimit job workers steps.IncarnationLimit) }
-        ensures step_limit { IfErr result (λ e. e ≡ faults.StepLimit → HasStepLimit job workers) }
+        ensures receipts { IfOk result (λ r. r.items ≡ receipts_of block.now (S.storage contents.now)) }
+        ensures history { OnOk result (IsRunWithShares (record { block = block.now; store = S.storage contents.now }) workers self.new.shares.items) }
+        ensures full { IfErr result (λ e. e ≡ faults.ArenaFull → HasLimit (record { block = block.now; store = S.storage contents.now }) workers steps.ArenaFull) }
+        ensures limit { IfErr result (λ e. e ≡ faults.IncarnationLimit → HasLimit (record { block = block.now; store = S.storage contents.now }) workers steps.IncarnationLimit) }
+        ensures step_limit { IfErr result (λ e. e ≡ faults.StepLimit → HasStepLimit (record { block = block.now; store = S.storage contents.now }) workers) }
         ensures kept { result ≡ Err faults.BadCount → self.new ≡ self.old }
     {
-        let outcome = self.run_block(rt, alloc, job, workers)?;
-        let Outcome {
-            job: _,
+        let finished = self.run_lent(rt, alloc, block, contents, workers, &Open)?;
+        let Finished {
             receipts,
-            store: _,
             counts: _,
-        } = outcome;
+        } = finished;
         Ok(receipts)
     }
 }

@@ -1,6 +1,8 @@
 //! What the threads of a block share.
 
 ghost use Rattle.std.specs.Prelude.{◌≡◌, true, All, IfOk, map};
+ghost use Rattle.std.specs.Coded.{codes};
+ghost use Rattle.rv_ledger.specs.contracts.job.Job.{the_row as job_row};
 ghost use Rattle.workers.specs.Book.{zero_counts_of_all, counts_of_share};
 ghost use Rattle.workers.specs.DoneCell.{IsPassOf};
 
@@ -8,11 +10,11 @@ use crate::book::{Book, JobName, MetFault, Share};
 use crate::done_cell::DoneCell;
 use crate::fault::OutsideFault;
 use crate::patience::spin_for;
-use rv_ledger::{Block, Store};
+use rv_ledger::Job;
 use std::alloc::{AllocError, Global};
 use std::marker::Brand;
 use std::sync::{Mutex, MutexGuard, Wait};
-use stm_core::Core;
+use stm_core::{Core, JobSource};
 use version_arena::Arena;
 
 /// How often a thread tries the lock before it waits for it.
@@ -22,16 +24,14 @@ const TRIES: u32 = 200;
 /// has the lock.
 const SPINS: u32 = 64;
 
-/// What the threads of a block share: the lock with the book, the calls, which they run outside the lock, the
-/// storage before them, which they search outside the lock, and the cell, which they look at outside the lock.
-/// Calls and storage are those of the job that `J` names.
+/// What the threads of a block share: the lock with the book, the job, whose calls they run and whose storage they
+/// search outside the lock, and the cell, which they look at outside the lock. The job is the one that `J` names.
 #[derive(Drop)]
-pub struct Shared<J: JobName = Brand> {
-    pub(crate) lock: Mutex<Book<J>>,
-    pub(crate) block: Block,
-    pub(crate) store: Store,
+pub struct Shared<J: JobName = Brand, H: JobSource = Job> {
+    pub(crate) lock: Mutex<Book<J, H>>,
+    pub(crate) job: H,
     pub(crate) cell: DoneCell,
-    ghost is: { (block ≡ J.job.block) × (store ≡ J.job.store) },
+    ghost is: { H.job job ≡ J.job } by { Prim.hlevel (codes, job_row.coded) },
 }
 
 impl<J: JobName> Shared<J> {
@@ -48,67 +48,52 @@ impl<J: JobName> Shared<J> {
         ensures passes { IfOk result (λ made. All (λ share. IsPassOf made.0.cell share.pass) made.1.items) }
         ensures back { IfErr result (λ arena. arena.records ≡ []) }
     {
-        let Ok(store) = core.job().store.copy() else {
+        let Ok(job) = core.job().copy() else {
             return Err(core.into_arena());
         };
-        match Shared::over(alloc, core, store) {
-            Ok(made) => Ok(made),
-            Err((arena, _)) => Err(arena),
-        }
+        Shared::over(alloc, core, job)
     }
+}
 
-    /// The same with a copy of the storage that the threads search. Where memory ran out it is handed back with
-    /// the arena.
+impl<J: JobName, H: JobSource> Shared<J, H> {
+    ghost use Rattle.std.specs.Prelude.{◌≡◌, [], length, map, All, IfErr, IfOk};
+    ghost use Rattle.workers.specs.Book.{zero_counts_of_all, counts_of_share};
+    ghost use Rattle.workers.specs.DoneCell.{IsPassOf};
+
+    /// The same, where the threads run the calls and search the storage of another holder of the job.
     pub(crate) fn over(
         alloc: Global,
-        core: Core,
-        store: Store,
-    ) -> Result<(Shared<J>, Vec<Share>), (Arena, Store)>
+        core: Core<H>,
+        job: H,
+    ) -> Result<(Shared<J, H>, Vec<Share>), Arena>
         requires core { core.job ≡ J.job }
-        requires store { store ≡ J.job.store }
+        requires job { H.job job ≡ J.job }
         ensures shares { IfOk result (λ made. map counts_of_share made.1.items ≡ zero_counts_of_all (length core.state.tasks)) }
         ensures passes { IfOk result (λ made. All (λ share. IsPassOf made.0.cell share.pass) made.1.items) }
-        ensures back { IfErr result (λ left. (left.0.records ≡ []) × (left.1 ≡ store)) }
+        ensures back { IfErr result (λ arena. arena.records ≡ []) }
     {
-        let Ok(block) = core.job().block.copy() else {
-            return Err((core.into_arena(), store));
-        };
         let Ok(cell) = DoneCell::new(alloc) else {
-            return Err((core.into_arena(), store));
+            return Err(core.into_arena());
         };
         match new_shares(alloc, core.workers(), &cell) {
             Ok(shares) => {
                 let lock = Mutex::new(Book::new(core));
-                let shared = Shared {
-                    lock,
-                    block,
-                    store,
-                    cell,
-                };
-                Ok((shared, shares))
+                Ok((Shared { lock, job, cell }, shares))
             }
-            Err(_) => Err((core.into_arena(), store)),
+            Err(_) => Err(core.into_arena()),
         }
     }
 
     /// The book that was under the lock, once no thread has the lock any more.
-    pub fn into_book(self) -> Book<J> {
-        let (book, _) = self.into_parts();
-        book
-    }
-
-    /// The same, and the storage before the block.
-    pub(crate) fn into_parts(self) -> (Book<J>, Store)
-        ensures { result.1 ≡ J.job.store }
-    {
-        let Shared { lock, store, .. } = self;
-        (lock.into_inner(), store)
+    pub fn into_book(self) -> Book<J, H> {
+        let Shared { lock, .. } = self;
+        lock.into_inner()
     }
 
     /// Takes the lock. It is tried for a while before the thread waits for it, since a thread that waits
     /// sleeps, and waking it takes longer than a step under the lock. Between two tries the thread spins,
     /// since each try takes the lock's cache line away from the thread that has the lock.
-    pub(crate) fn hold<R: Wait>(&self, rt: &R) -> MutexGuard<'_, Book<J>> {
+    pub(crate) fn hold<R: Wait>(&self, rt: &R) -> MutexGuard<'_, Book<J, H>> {
         for _ in 0..TRIES {
             if let Some(guard) = self.lock.try_lock() {
                 return guard;

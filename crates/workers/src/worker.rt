@@ -19,7 +19,7 @@ use rv_step::{EndedRun, Pause, Run};
 use std::alloc::Global;
 use std::mem::replace;
 use std::sync::Wait;
-use stm_core::{NextStep, ReadResult, RecordParts, SpentRun, StepKind};
+use stm_core::{JobSource, NextStep, ReadResult, RecordParts, SpentRun, StepKind};
 
 /// What a worker keeps from one step to the next: the room that the pages of one run leave to the next one, and how it
 /// spins between two looks at the cell.
@@ -63,10 +63,10 @@ impl From<WrittenFault> for WorkFault {
 /// hands the share back; the cell shows done then. Refused as the step call that was refused, as Memory where
 /// memory ran out, and as Foreign where the block has no such call. The fault is written, and the steps that
 /// were made stand.
-pub fn work<J: JobName, R: Wait, G: Gate>(
+pub fn work<J: JobName, H: JobSource, R: Wait, G: Gate>(
     rt: &R,
     alloc: Global,
-    shared: &Shared<J>,
+    shared: &Shared<J, H>,
     share: Share,
     gate: &G,
 ) -> Result<Share, WrittenFault>
@@ -79,10 +79,10 @@ pub fn work<J: JobName, R: Wait, G: Gate>(
 }
 
 /// `work` with what the worker does between two looks at the cell.
-pub fn work_spinning<J: JobName, R: Wait, G: Gate, S: Spin + Drop>(
+pub fn work_spinning<J: JobName, H: JobSource, R: Wait, G: Gate, S: Spin + Drop>(
     rt: &R,
     alloc: Global,
-    shared: &Shared<J>,
+    shared: &Shared<J, H>,
     share: Share,
     gate: &G,
     spin: S,
@@ -100,10 +100,10 @@ pub fn work_spinning<J: JobName, R: Wait, G: Gate, S: Spin + Drop>(
 }
 
 /// Makes the steps of a share's worker until an ask is answered Done. Refused as `work` is.
-fn make_steps<J: JobName, R: Wait, G: Gate, S: Spin + Drop>(
+fn make_steps<J: JobName, H: JobSource, R: Wait, G: Gate, S: Spin + Drop>(
     rt: &R,
     alloc: Global,
-    shared: &Shared<J>,
+    shared: &Shared<J, H>,
     share: &mut Share,
     gate: &G,
     spin: S,
@@ -129,10 +129,10 @@ fn make_steps<J: JobName, R: Wait, G: Gate, S: Spin + Drop>(
 
 /// Makes a step that the worker owes, and returns the step that it owes then. Returns None where an ask is
 /// answered Done, and then the cell shows it.
-fn make_step<J: JobName, R: Wait, G: Gate, S: Spin + Drop>(
+fn make_step<J: JobName, H: JobSource, R: Wait, G: Gate, S: Spin + Drop>(
     rt: &R,
     alloc: Global,
-    shared: &Shared<J>,
+    shared: &Shared<J, H>,
     share: &mut Share,
     kept: &mut Kept<S>,
     step: NextStep,
@@ -167,9 +167,9 @@ fn make_step<J: JobName, R: Wait, G: Gate, S: Spin + Drop>(
 
 /// Makes a step of a worker's task that takes nothing else. Returns the step that the worker owes then, as the book
 /// under the lock told it.
-fn make<J: JobName, R: Wait>(
+fn make<J: JobName, H: JobSource, R: Wait>(
     rt: &R,
-    shared: &Shared<J>,
+    shared: &Shared<J, H>,
     share: &mut Share,
     kind: StepKind,
     call: u16,
@@ -185,9 +185,9 @@ fn make<J: JobName, R: Wait>(
 
 /// Asks for work, and returns the step that the worker owes then. Returns None where all is done, and then
 /// the cell shows it. A worker that gets no task looks at the cell before it asks again.
-fn ask<J: JobName, R: Wait, S: Spin>(
+fn ask<J: JobName, H: JobSource, R: Wait, S: Spin>(
     rt: &R,
-    shared: &Shared<J>,
+    shared: &Shared<J, H>,
     share: &mut Share,
     spin: &S,
 ) -> Result<Option<NextStep>, WrittenFault>
@@ -209,10 +209,10 @@ fn ask<J: JobName, R: Wait, S: Spin>(
 /// Runs a call outside the lock up to a read that meets an estimate, or up to its end; then it passes the gate, and
 /// hands the run in. Returns the step that the worker owes then. A run is large, so it stays here until it is finished.
 #[tactic(auto, using(crate::proofs::Working::call_fault_of))]
-fn run_call<J: JobName, R: Wait, G: Gate>(
+fn run_call<J: JobName, H: JobSource, R: Wait, G: Gate>(
     rt: &R,
     alloc: Global,
-    shared: &Shared<J>,
+    shared: &Shared<J, H>,
     share: &mut Share,
     room: &mut PageRoom,
     call: u16,
@@ -225,7 +225,7 @@ fn run_call<J: JobName, R: Wait, G: Gate>(
     ensures pass { share.new.pass ≡ share.old.pass }
     ensures dones { OnOk result (share.new.dones ≡ share.old.dones) }
 {
-    let Some(own) = shared.block.calls().get(usize::from(call)) else {
+    let Some(own) = shared.job.block().calls().get(usize::from(call)) else {
         return Err(WorkFault::Met(shared.refuse(rt, OutsideFault::Foreign)));
     };
     let Ok(mut run) = Run::start_in(alloc, replace(room, PageRoom::new(alloc)), own) else {
@@ -261,10 +261,10 @@ fn run_call<J: JobName, R: Wait, G: Gate>(
 
 /// Hands in the ended run of a call, for which what its record takes is made. Returns the step that the worker owes
 /// then, as the book under the lock told it, and what is left over of the run.
-fn record<J: JobName, R: Wait>(
+fn record<J: JobName, H: JobSource, R: Wait>(
     rt: &R,
     alloc: Global,
-    shared: &Shared<J>,
+    shared: &Shared<J, H>,
     share: &mut Share,
     call: u16,
     incarnation: u16,
@@ -284,9 +284,9 @@ fn record<J: JobName, R: Wait>(
 }
 
 /// Takes a call's run on to its end. Returns false where it meets an estimate before that.
-fn run_to_end<J: JobName, R: Wait>(
+fn run_to_end<J: JobName, H: JobSource, R: Wait>(
     rt: &R,
-    shared: &Shared<J>,
+    shared: &Shared<J, H>,
     share: &mut Share,
     call: u16,
     incarnation: u16,
@@ -315,9 +315,9 @@ fn run_to_end<J: JobName, R: Wait>(
 
 /// Reads the key that a call's run asks for, and answers the run. Returns false where the read meets an estimate. The
 /// storage before the block is searched before the lock is taken.
-fn read<J: JobName, R: Wait>(
+fn read<J: JobName, H: JobSource, R: Wait>(
     rt: &R,
-    shared: &Shared<J>,
+    shared: &Shared<J, H>,
     share: &mut Share,
     call: u16,
     incarnation: u16,
@@ -331,7 +331,7 @@ fn read<J: JobName, R: Wait>(
     ensures pass { share.new.pass ≡ share.old.pass }
     ensures dones { OnOk result (share.new.dones ≡ share.old.dones) }
 {
-    let base = StoredValue::value_of(shared.store.get(key));
+    let base = StoredValue::value_of(shared.job.content(key));
     let answer = shared
         .hold(rt)
         .read_over(share, call, incarnation, key, base.as_ref());

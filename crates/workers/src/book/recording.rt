@@ -7,9 +7,9 @@ use crate::book::{Book, JobName, Share, WrittenFault};
 use crate::fault::RunFault;
 use rv_step::EndedRun;
 use std::alloc::Global;
-use stm_core::{NextStep, RecordFault, RecordParts, SpentRun};
+use stm_core::{JobSource, NextStep, RecordFault, RecordParts, SpentRun};
 
-impl<J: JobName> Book<J> {
+impl<J: JobName, H: JobSource> Book<J, H> {
     ghost use Rattle.std.specs.Prelude.{◌≡◌, Some, true, slice_get, IfErr, IfOk, OnOk};
     ghost use Rattle.stm_state.specs.State.{task_at};
     ghost use Rattle.stm_state.specs.Steps as steps;

@@ -6,7 +6,7 @@ use Rattle.workers.specs.Settle.{IsShareOf}
 use Rattle.workers.proofs.answer.are_settled.Goals as goal
 
 pub loop-worker-preserved : goal.loop-worker-preserved
-loop-worker-preserved c w share within at = elim (eq-or-lt_of_le {n = w} {m = c.loop-worker.worker} (omega (arith, within))) [
+loop-worker-preserved g c w share within at = elim (eq-or-lt_of_le {n = w} {m = c.loop-worker.worker} (omega (arith, within))) [
   | inl same ↦ (
       let own = c.is_share_of.ensures.0 c.if-not-is_share_of.false in
       let found : c.index-shares-worker.result ≡ share = c.index-shares-worker.is ∙ get_or_from_slice_get c.args.shares.now c.loop-worker.worker share c.index-shares-worker.result (subst (λ n. slice_get c.args.shares.now n ≡ Some share) same at) in
@@ -15,7 +15,7 @@ loop-worker-preserved c w share within at = elim (eq-or-lt_of_le {n = w} {m = c.
 ]
 
 pub returns : goal.returns
-returns c = (
+returns g c = (
   (λ _. record {
     done = sym c.done.ensures ∙ c.if-not-done.false;
     count = c.if-shares-workers.false ∙ c.workers.ensures;

@@ -4,4 +4,4 @@ use Rattle.workers.specs.Settle.{IsShareOf}
 use Rattle.workers.proofs.answer.are_settled.Given as goal
 
 abbrev pub invariant-loop-worker : goal.invariant-loop-worker
-invariant-loop-worker l = (w : ℕ) (share : Share) → w < l.worker → slice_get l.shares w ≡ Some share → IsShareOf w l.core share
+invariant-loop-worker g l = (w : ℕ) (share : Share) → w < l.worker → slice_get l.shares w ≡ Some share → IsShareOf w l.core share

@@ -1,58 +1,48 @@
-use Rattle.std.proofs.Common.{List, IfOk, subst, sym, ◌∙◌}
+use Rattle.std.proofs.Common.{List, IfOk, subst}
 use Rattle.workers.specs.declared.book.share.Share.{Share}
 use Rattle.workers.specs.Settle.{AreSharesOf}
-use Rattle.workers.proofs.Histories.{full_is, history_is, job_is, limit_is, never_bad_count, one_worker_is, receipts_are, shares_are, size_is, step_limit_is, store_is}
+use Rattle.workers.proofs.Histories.{full_is, history_is, limit_is, never_bad_count, one_worker_is, receipts_are, shares_are, size_is, step_limit_is}
 use Rattle.workers.proofs.executor.run_over.Goals as goal
 
 pub returns-clause-bad_count : goal.returns-clause-bad_count
 returns-clause-bad_count g c =
-    never_bad_count c.args.job c.args.workers c.as_slice.result.now c.into_parts-book.result.0 (c.holds.ensures.job ∙ sym c.requires.job) c.settle_shares-answer.result.0 c.settle_shares-answer.ensures.answer
-    c.holds.ensures.reached c.holds.ensures.sized c.holds.ensures.fits c.workers-found.result (size_is c.core.result.now c.into_parts-book.result.0.core c.workers-found.result c.core.ensures c.workers-found.ensures) c.answer_by.result c.answer_by.ensures.err
+    never_bad_count (g.J.JobName.job) c.args.workers c.as_slice.result.now c.into_book-book.result c.holds.ensures.job c.finish-answer.result.0 c.finish-answer.ensures.answer
+    c.holds.ensures.reached c.holds.ensures.sized c.holds.ensures.fits c.workers-found.result (size_is c.core.result.now c.into_book-book.result.core c.workers-found.result c.core.ensures c.workers-found.ensures) c.answer_by.result c.answer_by.ensures.err
 
 pub returns-clause-full : goal.returns-clause-full
 returns-clause-full g c =
-    full_is c.args.job c.args.workers c.as_slice.result.now c.into_parts-book.result.0 (c.holds.ensures.job ∙ sym c.requires.job) c.settle_shares-answer.result.0 c.settle_shares-answer.ensures.answer
-    c.holds.ensures.reached c.holds.ensures.sized c.holds.ensures.fits c.workers-found.result (size_is c.core.result.now c.into_parts-book.result.0.core c.workers-found.result c.core.ensures c.workers-found.ensures) c.answer_by.result c.answer_by.ensures.err
+    full_is (g.J.JobName.job) c.args.workers c.as_slice.result.now c.into_book-book.result c.holds.ensures.job c.finish-answer.result.0 c.finish-answer.ensures.answer
+    c.holds.ensures.reached c.holds.ensures.sized c.holds.ensures.fits c.workers-found.result (size_is c.core.result.now c.into_book-book.result.core c.workers-found.result c.core.ensures c.workers-found.ensures) c.answer_by.result c.answer_by.ensures.err
 
 pub returns-clause-limit : goal.returns-clause-limit
 returns-clause-limit g c =
-    limit_is c.args.job c.args.workers c.as_slice.result.now c.into_parts-book.result.0 (c.holds.ensures.job ∙ sym c.requires.job) c.settle_shares-answer.result.0 c.settle_shares-answer.ensures.answer
-    c.holds.ensures.reached c.holds.ensures.sized c.holds.ensures.fits c.workers-found.result (size_is c.core.result.now c.into_parts-book.result.0.core c.workers-found.result c.core.ensures c.workers-found.ensures) c.answer_by.result c.answer_by.ensures.err
+    limit_is (g.J.JobName.job) c.args.workers c.as_slice.result.now c.into_book-book.result c.holds.ensures.job c.finish-answer.result.0 c.finish-answer.ensures.answer
+    c.holds.ensures.reached c.holds.ensures.sized c.holds.ensures.fits c.workers-found.result (size_is c.core.result.now c.into_book-book.result.core c.workers-found.result c.core.ensures c.workers-found.ensures) c.answer_by.result c.answer_by.ensures.err
 
 pub returns-clause-step_limit : goal.returns-clause-step_limit
 returns-clause-step_limit g c =
-    step_limit_is c.args.job c.args.workers c.as_slice.result.now c.into_parts-book.result.0 (c.holds.ensures.job ∙ sym c.requires.job) c.settle_shares-answer.result.0 c.settle_shares-answer.ensures.answer
-    c.holds.ensures.reached c.holds.ensures.sized c.holds.ensures.fits c.workers-found.result (size_is c.core.result.now c.into_parts-book.result.0.core c.workers-found.result c.core.ensures c.workers-found.ensures) c.answer_by.result c.answer_by.ensures.err
-
-pub returns-clause-job : goal.returns-clause-job
-returns-clause-job g c =
-    job_is c.args.job c.args.workers c.as_slice.result.now c.into_parts-book.result.0 (c.holds.ensures.job ∙ sym c.requires.job) c.settle_shares-answer.result.0 c.settle_shares-answer.ensures.answer
-    c.holds.ensures.reached c.holds.ensures.sized c.holds.ensures.fits c.workers-found.result (size_is c.core.result.now c.into_parts-book.result.0.core c.workers-found.result c.core.ensures c.workers-found.ensures) c.answer_by.result c.answer_by.ensures.ok
+    step_limit_is (g.J.JobName.job) c.args.workers c.as_slice.result.now c.into_book-book.result c.holds.ensures.job c.finish-answer.result.0 c.finish-answer.ensures.answer
+    c.holds.ensures.reached c.holds.ensures.sized c.holds.ensures.fits c.workers-found.result (size_is c.core.result.now c.into_book-book.result.core c.workers-found.result c.core.ensures c.workers-found.ensures) c.answer_by.result c.answer_by.ensures.err
 
 pub returns-clause-receipts : goal.returns-clause-receipts
 returns-clause-receipts g c =
-    receipts_are c.args.job c.args.workers c.as_slice.result.now c.into_parts-book.result.0 (c.holds.ensures.job ∙ sym c.requires.job) c.settle_shares-answer.result.0 c.settle_shares-answer.ensures.answer
-    c.holds.ensures.reached c.holds.ensures.sized c.holds.ensures.fits c.workers-found.result (size_is c.core.result.now c.into_parts-book.result.0.core c.workers-found.result c.core.ensures c.workers-found.ensures) c.answer_by.result c.answer_by.ensures.ok
-
-pub returns-clause-store : goal.returns-clause-store
-returns-clause-store g c =
-    store_is c.args.job c.args.workers c.as_slice.result.now c.into_parts-book.result.0 (c.holds.ensures.job ∙ sym c.requires.job) c.settle_shares-answer.result.0 c.settle_shares-answer.ensures.answer
-    c.holds.ensures.reached c.holds.ensures.sized c.holds.ensures.fits c.workers-found.result (size_is c.core.result.now c.into_parts-book.result.0.core c.workers-found.result c.core.ensures c.workers-found.ensures) c.answer_by.result c.answer_by.ensures.ok
+    receipts_are (g.J.JobName.job) c.args.workers c.as_slice.result.now c.into_book-book.result c.holds.ensures.job c.finish-answer.result.0 c.finish-answer.ensures.answer
+    c.holds.ensures.reached c.holds.ensures.sized c.holds.ensures.fits c.workers-found.result (size_is c.core.result.now c.into_book-book.result.core c.workers-found.result c.core.ensures c.workers-found.ensures) c.answer_by.result c.answer_by.ensures.ok
 
 pub returns-clause-history : goal.returns-clause-history
 returns-clause-history g c =
-    history_is c.args.job c.args.workers c.as_slice.result.now c.into_parts-book.result.0 (c.holds.ensures.job ∙ sym c.requires.job) c.settle_shares-answer.result.0 c.settle_shares-answer.ensures.answer
-    c.holds.ensures.reached c.holds.ensures.sized c.holds.ensures.fits c.workers-found.result (size_is c.core.result.now c.into_parts-book.result.0.core c.workers-found.result c.core.ensures c.workers-found.ensures) c.answer_by.result c.answer_by.ensures.ok
+    history_is (g.J.JobName.job) c.args.workers c.as_slice.result.now c.into_book-book.result c.holds.ensures.job c.finish-answer.result.0 c.finish-answer.ensures.answer
+    c.holds.ensures.reached c.holds.ensures.sized c.holds.ensures.fits c.workers-found.result (size_is c.core.result.now c.into_book-book.result.core c.workers-found.result c.core.ensures c.workers-found.ensures) c.answer_by.result c.answer_by.ensures.ok
     c.reached_by_list.ensures c.last_entry_is_done.ensures
 
 pub returns-clause-one_worker : goal.returns-clause-one_worker
 returns-clause-one_worker g c =
-    one_worker_is c.args.job c.args.workers c.as_slice.result.now c.into_parts-book.result.0 (c.holds.ensures.job ∙ sym c.requires.job) c.settle_shares-answer.result.0 c.settle_shares-answer.ensures.answer
-    c.holds.ensures.reached c.holds.ensures.sized c.holds.ensures.fits c.workers-found.result (size_is c.core.result.now c.into_parts-book.result.0.core c.workers-found.result c.core.ensures c.workers-found.ensures) c.answer_by.result c.answer_by.ensures.ok
+    one_worker_is (g.J.JobName.job) c.args.workers c.as_slice.result.now c.into_book-book.result c.holds.ensures.job c.finish-answer.result.0 c.finish-answer.ensures.answer
+    c.holds.ensures.reached c.holds.ensures.sized c.holds.ensures.fits c.workers-found.result (size_is c.core.result.now c.into_book-book.result.core c.workers-found.result c.core.ensures c.workers-found.ensures) c.answer_by.result c.answer_by.ensures.ok
     c.one_worker_counts_where_reached.ensures
 
 pub returns-clause-shares : goal.returns-clause-shares
 returns-clause-shares g c =
     subst (λ (shares : List Share). IfOk c.answer_by.result (λ o. AreSharesOf o.counts.items shares)) c.as_slice.ensures.value
-    (shares_are c.args.job c.args.workers c.as_slice.result.now c.into_parts-book.result.0 (c.holds.ensures.job ∙ sym c.requires.job) c.settle_shares-answer.result.0 c.settle_shares-answer.ensures.answer
-    c.holds.ensures.reached c.holds.ensures.sized c.holds.ensures.fits c.workers-found.result (size_is c.core.result.now c.into_parts-book.result.0.core c.workers-found.result c.core.ensures c.workers-found.ensures) c.answer_by.result c.answer_by.ensures.ok)
+    (shares_are (g.J.JobName.job) c.args.workers c.as_slice.result.now c.into_book-book.result c.holds.ensures.job c.finish-answer.result.0 c.finish-answer.ensures.answer
+    c.holds.ensures.reached c.holds.ensures.sized c.holds.ensures.fits c.workers-found.result (size_is c.core.result.now c.into_book-book.result.core c.workers-found.result c.core.ensures c.workers-found.ensures) c.answer_by.result c.answer_by.ensures.ok)
