@@ -57,6 +57,17 @@ pub fn apply_receipts(
     Ok(())
 }
 
+/// A copy of a storage after the writes of receipts, one after another. Refused where memory ran out.
+pub fn copy_with_receipts(store: &Store, receipts: &[Receipt]) -> Result<Store, AllocError>
+    ensures { IfOk result (λ s. s ≡ apply_receipts store.now receipts.now) }
+{
+    let mut after = store.copy()?;
+    for receipt in receipts {
+        rv_step::apply_writes(&mut after, &receipt.writes)?;
+    }
+    Ok(after)
+}
+
 /// Adds the writes of a call to the changes over a storage. Refused where memory ran out, and then some of them may be added.
 #[tactic(auto, unfolding(rv_step::specs::Fold::apply_writes))]
 pub fn apply_writes(base: &Store, over: &mut Overlay, writes: &Writes) -> Result<(), AllocError>

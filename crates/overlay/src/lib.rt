@@ -6,5 +6,5 @@ mod layers;
 mod overlay;
 
 pub use committing::commit;
-pub use layers::{Layers, apply_receipts, apply_writes};
+pub use layers::{Layers, apply_receipts, apply_writes, copy_with_receipts};
 pub use overlay::Overlay;

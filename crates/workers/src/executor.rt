@@ -2,7 +2,6 @@
 
 ghost use Rattle.std.specs.Prelude.{◌≡◌, ◌≢◌, ◌≤◌, ◌⊎◌, [], All, Err, IfErr, IfOk, Ok, length, true};
 ghost use Rattle.std.specs.Vec.{vec_capacity};
-ghost use Rattle.overlay.specs.Overlay.{apply_receipts};
 ghost use Rattle.rv_step.specs.Fold.{receipts_of};
 ghost use Rattle.stm_state.specs.Steps as steps;
 ghost use Rattle.workers.specs.DoneCell.{IsPassOf};
@@ -17,10 +16,10 @@ use crate::fault::{OutsideFault, RunFault};
 use crate::gate::{Gate, Open};
 use crate::shared::Shared;
 use crate::worker::work;
-use overlay::{Overlay, apply_receipts, commit};
-use rv_ledger::{Block, Job, Outcome, Receipt, Store};
+use overlay::copy_with_receipts;
+use rv_ledger::{Block, Job, Outcome};
 use rv_step::Contents;
-use std::alloc::{AllocError, Global};
+use std::alloc::Global;
 use std::marker::Brand;
 use std::sync::Wait;
 use std::thread::{JoinHandle, Scope, Threads};
@@ -117,7 +116,7 @@ impl Executor {
         let Finished { receipts, counts } = self.run_lent(
             rt, alloc, &job.block, &job.store, workers, gate,
         )?;
-        match copy_with_receipts(alloc, &job.store, receipts.as_slice()) {
+        match copy_with_receipts(&job.store, receipts.as_slice()) {
             Ok(store) => Ok(Outcome {
                 job,
                 receipts,
@@ -160,22 +159,6 @@ impl Executor {
         self.shares = shares;
         answer
     }
-}
-
-/// A copy of a storage after the writes of receipts. Refused where memory ran out.
-#[tactic(auto, using(overlay::proofs::WithChanges::without_changes))]
-fn copy_with_receipts(
-    alloc: Global,
-    store: &Store,
-    receipts: &[Receipt],
-) -> Result<Store, AllocError>
-    ensures { IfOk result (λ s. s ≡ apply_receipts store.now receipts.now) }
-{
-    let mut changes = Overlay::new(alloc);
-    apply_receipts(store, &mut changes, receipts)?;
-    let mut after = store.copy()?;
-    commit(&mut after, changes)?;
-    Ok(after)
 }
 
 /// Runs a block on threads over an arena and over what is lent in place of a storage. The arena comes back without

@@ -1,0 +1,6 @@
+use Rattle.std.proofs.Common.{◌≡◌, take}
+use Rattle.overlay.specs.Overlay.{apply_receipts}
+use Rattle.overlay.proofs.layers.copy_with_receipts.Given as goal
+
+abbrev pub invariant-loop-receipt : goal.invariant-loop-receipt
+invariant-loop-receipt l = l.after ≡ apply_receipts l.store (take l.receipt-index l.receipts)
