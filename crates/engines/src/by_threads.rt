@@ -55,7 +55,7 @@ impl<'a, R: Threads + Wait + Sync> ByThreads<'a, R> {
         ensures receipts { IfOk result (λ r. r.items ≡ receipts_of calls.now (with_changes base.now over.old)) }
         ensures store { OnOk result (with_changes base.now over.new ≡ store_after calls.now (with_changes base.now over.old)) }
     {
-        if !pays(self.workers, shown, calls.len(), base.iter().len()) {
+        if !pays(self.workers, shown, calls.len()) {
             return run_over(alloc, base, over, calls);
         }
         let Some(block) = block_of(alloc, calls)? else {

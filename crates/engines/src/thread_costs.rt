@@ -8,20 +8,16 @@ const CALL_COST: u64 = 1_500;
 /// What a worker costs, in gas: its thread.
 const WORKER_COST: u64 = 10_000;
 
-/// What a key of the storage costs, in gas: it is copied three times.
-const KEY_COST: u64 = 100;
-
-/// Whether so many calls that are alike those of some receipts run faster by threads, over a storage of so many keys. What
-/// threads save is the gas of the calls, less one worker's part of it. The costs are estimates by what blocks take by the
-/// length of a call, beside `seq` (bench/README.md). No result rests on the answer.
-pub(crate) fn pays(workers: usize, shown: &[Receipt], calls: usize, keys: usize) -> bool {
-    let (workers, calls, keys) = (workers as u64, calls as u64, keys as u64);
+/// Whether so many calls that are alike those of some receipts run faster by threads. What threads save is the gas of the
+/// calls, less one worker's part of it. The costs are estimates by what blocks take by the length of a call, beside `seq`
+/// (bench/README.md); the storage costs nothing, since threads read it where it is. No result rests on the answer.
+pub(crate) fn pays(workers: usize, shown: &[Receipt], calls: usize) -> bool {
+    let (workers, calls) = (workers as u64, calls as u64);
     let work = gas_of_each(shown).saturating_mul(calls);
     let saved = work - work / workers.max(1);
     let costs = calls
         .saturating_mul(CALL_COST)
-        .saturating_add(workers.saturating_mul(WORKER_COST))
-        .saturating_add(keys.saturating_mul(KEY_COST));
+        .saturating_add(workers.saturating_mul(WORKER_COST));
     saved > costs
 }
 
