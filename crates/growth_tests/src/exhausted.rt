@@ -3,9 +3,10 @@
 ghost use Rattle.std.specs.Prelude.{◌≡◌, ◌≤◌, All, IfOk};
 ghost use Rattle.workers.specs.DoneCell.{IsPassOf};
 
-use crate::images::{COUNT, ECHO, KEY, assembled_call, copy_of, job_of};
+use crate::exhausted::attempts::Way;
+use crate::images::{COUNT, ECHO, KEY, NotMade, assembled_call, job_of};
 use crate::limits::{no_blocks, reserve_of, take_rest, take_space};
-use crate::rows::{ECHO_TEXT, ECHOED, are_counts, assert_text};
+use crate::rows::{ECHO_TEXT, ECHOED, are_counts, has_text};
 use crate::taking::Taking;
 use rv_ledger::{Call, Job, Outcome, Store};
 use std::alloc::{AllocError, Global};
@@ -13,12 +14,11 @@ use std::marker::Brand;
 use std::process::Abort;
 use std::rt::Clock;
 use std::sync::Wait;
-use std::test::Fail;
 use std::thread::Threads;
 use stm_core::Core;
 use workers::{Chain, Executor, JobName, Open, RunFault, Share, Shared, settle, work};
 
-mod attempts;
+pub mod attempts;
 mod files;
 mod steps;
 
@@ -31,16 +31,33 @@ const STEP: usize = 32;
 /// How often more memory is left to a worker, at most.
 const STEPS: usize = 1 << 14;
 
-/// Runs one call of ECHO by two workers on an executor, and asserts that the outcome is right.
-fn assert_usable<R: Threads + Wait + Sync + Abort>(
+/// Whether an executor runs one call of ECHO by two workers, and the outcome is right.
+pub fn runs_echo<R: Threads + Wait + Sync>(
     rt: &R,
     alloc: Global,
     executor: &mut Executor,
-) -> Result<(), Fail> {
+) -> Result<bool, NotMade> {
     let echo = job_of(alloc, &[(ECHO, ECHOED)])?;
     let outcome = executor.run_block(rt, alloc, echo, 2)?;
-    assert_text(rt, alloc, &outcome, ECHO_TEXT)?;
+    Ok(has_text(alloc, &outcome, ECHO_TEXT)?)
+}
+
+/// Asserts that calls which are refused in some way come to the right answers.
+pub fn assert_come_right(rt: &impl Abort, alloc: Global, way: Way) -> Result<(), NotMade> {
+    assert!(rt; files::files(alloc, way)?);
+    assert!(rt; files::texts(alloc, way)?);
+    assert!(rt; steps::stores(alloc, way)?);
+    assert!(rt; steps::runs(alloc, way)?);
+    assert!(rt; steps::replays(alloc, way)?);
+    assert!(rt; steps::cores(rt, alloc, way)?);
+    assert!(rt; steps::drives(alloc, way)?);
     Ok(())
+}
+
+/// Each call is refused as Memory at first, and comes to the right answer at a later try.
+#[test]
+fn calls_refused(rt: HostRuntime) {
+    assert!(rt; assert_come_right(&rt, rt.alloc(), Way::Exhausted).is_ok());
 }
 
 /// Whether a share is that of a worker of an outcome: it has its number and its counts, and one ask answered Done.
@@ -50,19 +67,21 @@ fn is_share_of(share: &Share, worker: usize, outcome: &Outcome) -> bool {
         && outcome.counts.as_slice().get(worker).copied() == Some(share.counts())
 }
 
-/// Two workers give back two shares, in their order.
+/// Whether two workers give back two shares, in their order.
+fn are_shares_in_order<R: Threads + Wait + Sync>(rt: &R, alloc: Global) -> Result<bool, NotMade> {
+    let mut executor = Executor::new(alloc);
+    let counts = job_of(alloc, &[(COUNT, KEY); 8])?;
+    let outcome = executor.run_block(rt, alloc, counts, 2)?;
+    let are_in_order = match executor.shares() {
+        [first, second] => is_share_of(first, 0, &outcome) && is_share_of(second, 1, &outcome),
+        _ => false,
+    };
+    Ok(are_in_order && are_counts(&outcome, 8))
+}
+
 #[test]
-fn shares_in_order(rt: HostRuntime) -> Result<(), Fail> {
-    let mut executor = Executor::new(rt.alloc());
-    assert_eq!(&rt; executor.shares().len(), 0);
-    let counts = job_of(rt.alloc(), &[(COUNT, KEY); 8])?;
-    let outcome = executor.run_block(&rt, rt.alloc(), counts, 2)?;
-    assert!(rt; are_counts(&outcome, 8));
-    let shares = executor.shares();
-    assert_eq!(&rt; shares.len(), 2);
-    assert!(rt; is_share_of(&shares[0], 0, &outcome));
-    assert!(rt; is_share_of(&shares[1], 1, &outcome));
-    Ok(())
+fn shares_in_order(rt: HostRuntime) {
+    assert!(rt; matches!(are_shares_in_order(&rt, rt.alloc()), Ok(true)));
 }
 
 /// Runs a job by so many workers while no address is left for a thread's stack.
@@ -82,28 +101,46 @@ fn run_without_space<R: Threads + Wait + Sync>(
     Ok(answer)
 }
 
+/// Whether a block of so many workers, which run behind those of a block before, is refused as Spawn; and whether the
+/// executor runs another block then.
+fn is_spawn_refused<R: Threads + Wait + Sync>(
+    rt: &R,
+    alloc: Global,
+    executor: &mut Executor,
+) -> Result<bool, NotMade> {
+    let counts = job_of(alloc, &[(COUNT, KEY); 8])?;
+    let answer = run_without_space(rt, alloc, executor, counts, 2)?;
+    let is_refused = matches!(answer, Err(RunFault::Spawn));
+    Ok(runs_echo(rt, alloc, executor)? && is_refused)
+}
+
 /// Every thread is refused.
 #[test]
-fn all_threads_refused(rt: HostRuntime) -> Result<(), Fail> {
+fn all_threads_refused(rt: HostRuntime) {
     let mut executor = Executor::new(rt.alloc());
-    let counts = job_of(rt.alloc(), &[(COUNT, KEY); 8])?;
-    let answer = run_without_space(&rt, rt.alloc(), &mut executor, counts, 2)?;
-    assert_eq!(&rt; answer.err(), Some(RunFault::Spawn));
-    assert_usable(&rt, rt.alloc(), &mut executor)
+    let is_refused = is_spawn_refused(&rt, rt.alloc(), &mut executor);
+    assert!(rt; matches!(is_refused, Ok(true)));
+}
+
+/// Whether one worker runs without space for more than the stack of the thread of a block before.
+fn runs_alone<R: Threads + Wait + Sync>(
+    rt: &R,
+    alloc: Global,
+    executor: &mut Executor,
+) -> Result<bool, NotMade> {
+    let counts = job_of(alloc, &[(COUNT, KEY); 8])?;
+    let before = executor.run_block(rt, alloc, counts.copy()?, 1)?;
+    let alone = run_without_space(rt, alloc, executor, counts, 1)?;
+    Ok(are_counts(&before, 8) && are_counts(&alone?, 8))
 }
 
 /// The second thread is refused. The first gets the stack of the thread of a block before.
 #[test]
-fn second_thread_refused(rt: HostRuntime) -> Result<(), Fail> {
+fn second_thread_refused(rt: HostRuntime) {
     let mut executor = Executor::new(rt.alloc());
-    let counts = job_of(rt.alloc(), &[(COUNT, KEY); 8])?;
-    let before = executor.run_block(&rt, rt.alloc(), copy_of(&counts)?, 1)?;
-    assert!(rt; are_counts(&before, 8));
-    let alone = run_without_space(&rt, rt.alloc(), &mut executor, copy_of(&counts)?, 1)?;
-    let answer = run_without_space(&rt, rt.alloc(), &mut executor, counts, 2)?;
-    assert!(rt; are_counts(&alone?, 8));
-    assert_eq!(&rt; answer.err(), Some(RunFault::Spawn));
-    assert_usable(&rt, rt.alloc(), &mut executor)
+    assert!(rt; matches!(runs_alone(&rt, rt.alloc(), &mut executor), Ok(true)));
+    let is_refused = is_spawn_refused(&rt, rt.alloc(), &mut executor);
+    assert!(rt; matches!(is_refused, Ok(true)));
 }
 
 /// Runs a chain while all memory is refused.
@@ -121,19 +158,28 @@ fn chain_without_memory<R: Threads + Wait + Sync>(
     Ok(answer)
 }
 
-/// The growth of a chain itself is refused, and no block is run: the shares are those of the block before.
-#[test]
-fn chain_growth_refused(rt: HostRuntime) -> Result<(), Fail> {
-    let mut executor = Executor::new(rt.alloc());
-    assert_usable(&rt, rt.alloc(), &mut executor)?;
-    let mut calls = Vec::with_capacity(rt.alloc(), 1)?;
-    calls.push(assembled_call(rt.alloc(), COUNT, KEY)?)?;
-    let mut blocks = Vec::with_capacity(rt.alloc(), 1)?;
+/// Two calls of COUNT, as a chain of one block for two workers.
+fn chain_of_counts(alloc: Global) -> Result<Vec<(Vec<Call>, usize)>, NotMade> {
+    let mut calls = Vec::new(alloc);
+    calls.push(assembled_call(alloc, COUNT, KEY)?)?;
+    let mut blocks = Vec::new(alloc);
     blocks.push((calls, 2_usize))?;
-    let answer = chain_without_memory(&rt, rt.alloc(), &mut executor, blocks)?;
-    assert!(rt; answer.is_err());
-    assert_eq!(&rt; executor.shares().len(), 2);
-    assert_usable(&rt, rt.alloc(), &mut executor)
+    Ok(blocks)
+}
+
+/// Whether the growth of a chain itself is refused, and no block is run: the shares are those of the block before.
+fn is_chain_refused<R: Threads + Wait + Sync>(rt: &R, alloc: Global) -> Result<bool, NotMade> {
+    let mut executor = Executor::new(alloc);
+    let before = runs_echo(rt, alloc, &mut executor)?;
+    let blocks = chain_of_counts(alloc)?;
+    let is_refused = chain_without_memory(rt, alloc, &mut executor, blocks)?.is_err();
+    let are_kept = executor.shares().len() == 2;
+    Ok(before && is_refused && are_kept && runs_echo(rt, alloc, &mut executor)?)
+}
+
+#[test]
+fn chain_growth_refused(rt: HostRuntime) {
+    assert!(rt; matches!(is_chain_refused(&rt, rt.alloc()), Ok(true)));
 }
 
 /// What the two workers of a job share, and the share of each.
@@ -141,11 +187,11 @@ fn shares_of<J: JobName, R: Abort>(
     rt: &R,
     alloc: Global,
     job: &Job,
-) -> Result<(Shared<J>, Vec<Share>), Fail>
+) -> Result<(Shared<J>, Vec<Share>), NotMade>
     requires { job.now ≡ J.job }
     ensures { IfOk result (λ made. All (λ share. IsPassOf made.0.cell share.pass) made.1.items) }
 {
-    let core = Core::new(alloc, copy_of(job)?, 2)?;
+    let core = Core::new(alloc, job.copy()?, 2)?;
     match Shared::new(alloc, core) {
         Ok(made) => Ok(made),
         Err(_) => panic!(rt; "there is no memory"),
@@ -188,7 +234,7 @@ fn work_after<J: JobName, R: Wait + Abort>(
     for share in shares {
         match work(rt, alloc, shared, share, &Open) {
             Ok(share) => back.push(share)?,
-            Err(written) => assert_eq!(rt; Some(written.fault()), fault),
+            Err(written) => assert!(rt; Some(written.fault()) == fault),
         }
     }
     Ok(())
@@ -203,7 +249,7 @@ fn answer_on_spare<J: JobName, R: Wait + Abort>(
     first: usize,
     spare: usize,
     rest: &mut Vec<Vec<u8>>,
-) -> Result<Result<Outcome, RunFault>, Fail>
+) -> Result<Result<Outcome, RunFault>, NotMade>
     requires { job.now ≡ J.job }
 {
     let (shared, mut shares) = shares_of::<J, R>(rt, alloc, job)?;
@@ -228,7 +274,7 @@ fn refusals_of<R: Wait + Abort>(
     alloc: Global,
     job: &Job,
     first: usize,
-) -> Result<(usize, Result<Outcome, RunFault>), Fail> {
+) -> Result<(usize, Result<Outcome, RunFault>), NotMade> {
     let (mut space, mut rest) = (no_blocks(alloc)?, no_blocks(alloc)?);
     let reserve = reserve_of(alloc, RESERVE)?;
     take_space(alloc, &mut space);
@@ -242,59 +288,50 @@ fn refusals_of<R: Wait + Abort>(
     Ok((STEPS, Err(RunFault::Memory)))
 }
 
+/// Whether the growths of a worker that works alone are refused before the block comes to its outcome.
+fn are_growths_refused<R: Wait + Abort>(
+    rt: &R,
+    alloc: Global,
+    first: usize,
+) -> Result<bool, NotMade> {
+    let job = job_of(alloc, &[(COUNT, KEY); 2])?;
+    let (refusals, answer) = refusals_of(rt, alloc, &job, first)?;
+    Ok(refusals > 0 && are_counts(&answer?, 2))
+}
+
 /// The growths of a worker that works alone are refused one after another, for more and more memory is left to it. The
 /// other worker is refused as it was. Small growths right after the end of a run are not refused: they get memory that
 /// the run gave back.
 #[test]
-fn growths_of_work_refused(rt: HostRuntime) -> Result<(), Fail> {
-    let job = job_of(rt.alloc(), &[(COUNT, KEY); 2])?;
-    for first in 0..2 {
-        let (refusals, answer) = refusals_of(&rt, rt.alloc(), &job, first)?;
-        assert!(rt; refusals > 0);
-        assert!(rt; are_counts(&answer?, 2));
-    }
-    Ok(())
+fn growths_of_work_refused(rt: HostRuntime) {
+    assert!(rt; matches!(are_growths_refused(&rt, rt.alloc(), 0), Ok(true)));
+    assert!(rt; matches!(are_growths_refused(&rt, rt.alloc(), 1), Ok(true)));
 }
 
-/// Runs a job at a gate where memory is taken away from workers, and asserts that it is refused as Memory. Then the
-/// executor runs other blocks.
-fn assert_refused<R: Threads + Wait + Sync + Abort + Clock + Clone + Drop>(
+/// Whether a job is refused as Memory at a gate where memory is taken away from workers, and the executor runs other
+/// blocks then.
+fn is_refused<R: Threads + Wait + Sync + Clock + Clone + Drop>(
     rt: &R,
     alloc: Global,
-    job: &Job,
     refused: [bool; 2],
-) -> Result<(), Fail> {
+) -> Result<bool, NotMade> {
+    let job = job_of(alloc, &[(COUNT, KEY); 4])?;
     let mut executor = Executor::new(alloc);
-    let own = copy_of(job)?;
+    let own = job.copy()?;
     let gate = Taking::new(rt.clone()?, alloc, refused)?;
     let answer = executor.run_block_with(rt, alloc, own, 2, &gate);
     let is_taken = gate.is_taken();
     drop(gate);
-    assert!(rt; is_taken);
-    assert_eq!(rt; answer.err(), Some(RunFault::Memory));
-    assert_usable(rt, alloc, &mut executor)?;
-    let outcome = executor.run_block(rt, alloc, copy_of(job)?, 2)?;
-    assert!(rt; are_counts(&outcome, 4));
-    Ok(())
+    let is_usable = runs_echo(rt, alloc, &mut executor)?;
+    let outcome = executor.run_block(rt, alloc, job, 2)?;
+    let is_memory = matches!(answer, Err(RunFault::Memory));
+    Ok(is_taken && is_memory && is_usable && are_counts(&outcome, 4))
 }
 
-/// Memory is refused to the first worker alone.
+/// Memory is refused to the first worker alone, to the second alone, and to both.
 #[test]
-fn memory_of_worker_0_refused(rt: HostRuntime) -> Result<(), Fail> {
-    let job = job_of(rt.alloc(), &[(COUNT, KEY); 4])?;
-    assert_refused(&rt, rt.alloc(), &job, [true, false])
-}
-
-/// Memory is refused to the second worker alone.
-#[test]
-fn memory_of_worker_1_refused(rt: HostRuntime) -> Result<(), Fail> {
-    let job = job_of(rt.alloc(), &[(COUNT, KEY); 4])?;
-    assert_refused(&rt, rt.alloc(), &job, [false, true])
-}
-
-/// Memory is refused to both workers.
-#[test]
-fn memory_of_both_workers_refused(rt: HostRuntime) -> Result<(), Fail> {
-    let job = job_of(rt.alloc(), &[(COUNT, KEY); 4])?;
-    assert_refused(&rt, rt.alloc(), &job, [true, true])
+fn memory_of_workers_refused(rt: HostRuntime) {
+    assert!(rt; matches!(is_refused(&rt, rt.alloc(), [true, false]), Ok(true)));
+    assert!(rt; matches!(is_refused(&rt, rt.alloc(), [false, true]), Ok(true)));
+    assert!(rt; matches!(is_refused(&rt, rt.alloc(), [true, true]), Ok(true)));
 }

@@ -1,15 +1,12 @@
-//! Programs of sources, their calls, and jobs. Each growth that is refused is tried once more.
+//! Calls and jobs of small programs.
 
-ghost use Rattle.std.specs.Prelude.{◌≡◌, IfOk};
-
-use elf32::{ElfError, Image, load, write};
+use elf32::{Image, load, write};
 use rv_ledger::{Call, Job, Outcome, Store};
-use rv_program::Program;
-use rv_text::{AsmCause, AsmError, assemble};
+use rv_text::assemble;
 use seq_exec::run_in_order;
-use std::alloc::{AllocError, Global};
+use std::alloc::Global;
+use std::fmt::Debug;
 use std::sync::Arc;
-use std::test::Fail;
 
 /// The gas limit of each call.
 const GAS: u32 = 1000;
@@ -56,101 +53,39 @@ pub const TOUCH_MANY: &str = "li t0,0x30000\nli t1,60\nli t2,4096\n\
 /// A key of 32 bytes.
 pub const KEY: &[u8] = &[0x28; 32];
 
-/// The program of a source. A call that is refused as Memory is made once more.
-pub fn assembled(alloc: Global, source: &str) -> Result<Program, AsmError> {
-    match assemble(alloc, source) {
-        Err(
-            AsmError {
-                cause: AsmCause::Memory,
-                ..
-            },
-        ) => assemble(alloc, source),
-        answer => answer,
+/// Something that calls are made of was refused. It has no `Debug`, so that every error that has it can convert to it.
+#[derive(Drop)]
+pub struct NotMade;
+
+impl<E: Debug + Drop> From<E> for NotMade {
+    fn from(_error: E) -> NotMade {
+        NotMade
     }
 }
 
-/// The file of a program. A call that is refused as Memory is made once more.
-pub fn file_of(alloc: Global, program: &Program) -> Result<Vec<u8>, ElfError> {
-    match write(alloc, program) {
-        Err(ElfError::Memory) => write(alloc, program),
-        answer => answer,
-    }
-}
-
-/// The image of a file. A call that is refused as Memory is made once more.
-fn image_of(alloc: Global, file: &[u8]) -> Result<Image, ElfError> {
-    match load(alloc, file) {
-        Err(ElfError::Memory) => load(alloc, file),
-        answer => answer,
-    }
-}
-
-/// An image that calls can share. A growth that is refused is tried once more.
-fn shared(alloc: Global, image: Image) -> Result<Arc<Image>, AllocError> {
-    match Arc::new(alloc, image) {
-        Ok(image) => Ok(image),
-        Err(refused) => Ok(Arc::new(alloc, refused.value)?),
-    }
-}
-
-/// The bytes of an input. A growth that is refused is tried once more.
-fn input_of(alloc: Global, bytes: &[u8]) -> Result<Vec<u8>, AllocError> {
-    match bytes.to_vec(alloc) {
-        Ok(input) => Ok(input),
-        Err(_) => bytes.to_vec(alloc),
-    }
+/// The image of a source.
+pub fn image_of(alloc: Global, source: &str) -> Result<Image, NotMade> {
+    let file = write(alloc, &assemble(alloc, source)?)?;
+    Ok(load(alloc, file.as_slice())?)
 }
 
 /// A call of a source.
-pub fn assembled_call(alloc: Global, source: &str, input: &[u8]) -> Result<Call, Fail> {
-    let file = file_of(alloc, &assembled(alloc, source)?)?;
-    let image = shared(alloc, image_of(alloc, file.as_slice())?)?;
-    Ok(Call::new(image, GAS, input_of(alloc, input)?)?)
+pub fn assembled_call(alloc: Global, source: &str, input: &[u8]) -> Result<Call, NotMade> {
+    let image = Arc::new(alloc, image_of(alloc, source)?)?;
+    Ok(Call::new(image, GAS, input.to_vec(alloc)?)?)
 }
 
-/// The image of TOUCH.
-pub fn touch_image(alloc: Global) -> Result<Image, Fail> {
-    let file = file_of(alloc, &assembled(alloc, TOUCH)?)?;
-    Ok(image_of(alloc, file.as_slice())?)
-}
-
-/// A job of calls, each a source and its input. A growth that is refused is tried once more.
-pub fn job_of(alloc: Global, sources: &[(&str, &[u8])]) -> Result<Job, Fail> {
-    let mut calls = match Vec::with_capacity(alloc, sources.len()) {
-        Ok(calls) => calls,
-        Err(_) => Vec::with_capacity(alloc, sources.len())?,
-    };
+/// A job of calls, each a source and its input.
+pub fn job_of(alloc: Global, sources: &[(&str, &[u8])]) -> Result<Job, NotMade> {
+    let mut calls = Vec::new(alloc);
     for (source, input) in sources {
         calls.push(assembled_call(alloc, source, input)?)?;
     }
     Ok(Job::new(calls, Store::new(alloc))?)
 }
 
-/// An equal job. A growth that is refused is tried once more.
-pub fn copy_of(job: &Job) -> Result<Job, AllocError>
-    ensures { IfOk result (λ copy. copy ≡ job.now) }
-{
-    match job.copy() {
-        Ok(copy) => Ok(copy),
-        Err(_) => job.copy(),
-    }
-}
-
-/// The outcome of running a job in order. A growth that is refused is tried once more.
-fn in_order(alloc: Global, job: &Job) -> Result<Outcome, AllocError> {
-    match run_in_order(alloc, job) {
-        Ok(outcome) => Ok(outcome),
-        Err(_) => run_in_order(alloc, job),
-    }
-}
-
 /// The outcome of a block of one call of a source.
-pub fn outcome_of_source(alloc: Global, source: &str) -> Result<Outcome, Fail> {
+pub fn outcome_of_source(alloc: Global, source: &str) -> Result<Outcome, NotMade> {
     let job = job_of(alloc, &[(source, KEY)])?;
-    Ok(in_order(alloc, &job)?)
-}
-
-/// The outcome of a block of one call of TOUCH.
-pub fn touch_outcome(alloc: Global) -> Result<Outcome, Fail> {
-    outcome_of_source(alloc, TOUCH)
+    Ok(run_in_order(alloc, &job)?)
 }

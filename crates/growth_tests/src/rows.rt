@@ -4,7 +4,6 @@ use crate::images::{COND, GET, PUT, SEEN};
 use receipts::result_text;
 use rv_ledger::{Change, End, Key, Outcome, Receipt, StoredValue};
 use std::alloc::{AllocError, Global};
-use std::process::Abort;
 
 /// The key of LATE_WRITER.
 const K: &[u8] = b"\0\0\0\0\0\0\0\0\0\0\0\0\0\0\0\0\0\0\0\0\0\0\0\0\0\0\0\0\0\0\0\x01";
@@ -108,20 +107,10 @@ pub const ECHO_TEXT: &str = "\
     00000000 00000000 00000000 00000000 00000000 00000000 00000000 00000000\n\
     end\n";
 
-/// Asserts that the result of an outcome has this text. A growth that is refused is tried once more.
-pub fn assert_text(
-    rt: &impl Abort,
-    alloc: Global,
-    outcome: &Outcome,
-    text: &str,
-) -> Result<(), AllocError> {
-    let receipts = outcome.receipts.as_slice();
-    let found = match result_text(alloc, receipts, &outcome.store) {
-        Ok(found) => found,
-        Err(_) => result_text(alloc, receipts, &outcome.store)?,
-    };
-    assert_eq!(rt; found.as_slice(), text.as_bytes());
-    Ok(())
+/// Whether the result of an outcome has this text.
+pub fn has_text(alloc: Global, outcome: &Outcome, text: &str) -> Result<bool, AllocError> {
+    let found = result_text(alloc, outcome.receipts.as_slice(), &outcome.store)?;
+    Ok(found.as_slice() == text.as_bytes())
 }
 
 /// Whether the calls of COUNT ended as they must: each counts the key up by one, and the storage has no other key.

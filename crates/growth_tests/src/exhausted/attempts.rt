@@ -1,4 +1,4 @@
-//! A call that is made again and again, with a little more memory each time.
+//! A call that is made again and again: with a little more memory each time, or once more.
 
 ghost use Rattle.std.specs.Prelude.{◌≤◌, ◌<◌};
 
@@ -74,7 +74,7 @@ fn taken_again(alloc: Global, before: Vec<u8>, step: usize) -> Result<Vec<u8>, A
 
 /// Makes a call with more and more memory until it is not refused. Whether it was refused at first, stood then as it must,
 /// and came to the right answer in the end.
-pub fn is_refused_first<A: Attempt>(alloc: Global, call: &mut A) -> Result<bool, AllocError> {
+fn is_refused_first<A: Attempt>(alloc: Global, call: &mut A) -> Result<bool, AllocError> {
     // The heap keeps blocks of up to this size from then on, and gives nothing back to the system.
     drop(block_of(alloc, 4 * PIECE)?);
     let mut taken = block_of(alloc, PIECE)?;
@@ -90,4 +90,30 @@ pub fn is_refused_first<A: Attempt>(alloc: Global, call: &mut A) -> Result<bool,
         }
     }
     Ok(false)
+}
+
+/// Makes a call, once more where it is refused. Whether it came to the right answer.
+fn is_made_again<A: Attempt>(alloc: Global, call: &mut A) -> bool {
+    match call.attempt(alloc) {
+        Tried::Refused => matches!(call.attempt(alloc), Tried::Done),
+        Tried::Done => true,
+        Tried::Wrong => false,
+    }
+}
+
+/// How calls are refused.
+#[derive(Clone, Copy)]
+pub enum Way {
+    /// All memory is taken away, and more and more of it is given back.
+    Exhausted,
+    /// One request at most is refused, by `scripts/growths`.
+    OneRequest,
+}
+
+/// Whether a call is refused in some way, stands then as it must, and comes to the right answer in the end.
+pub fn comes_right<A: Attempt>(alloc: Global, call: &mut A, way: Way) -> Result<bool, AllocError> {
+    match way {
+        Way::Exhausted => is_refused_first(alloc, call),
+        Way::OneRequest => Ok(is_made_again(alloc, call)),
+    }
 }

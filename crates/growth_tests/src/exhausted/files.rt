@@ -1,8 +1,7 @@
 //! Files and texts that are read and written while memory is refused.
 
-use crate::exhausted::attempts::{Attempt, Tried, done, is_refused_first, refused};
-use crate::images::{TOUCH, assembled, file_of, touch_outcome};
-use crate::texts::{TOUCH_TEXT, room};
+use crate::exhausted::attempts::{Attempt, Tried, Way, comes_right, done, refused};
+use crate::images::{NotMade, TOUCH, outcome_of_source};
 use block_file::{BlockFault, Cause, parse};
 use byte_streams::WriteFault;
 use elf32::{ElfError, Image, load, write};
@@ -11,8 +10,6 @@ use rv_ledger::Outcome;
 use rv_program::Program;
 use rv_text::{AsmCause, AsmError, assemble};
 use std::alloc::Global;
-use std::process::Abort;
-use std::test::Fail;
 
 /// The data of TOUCH.
 const TOUCH_DATA: &[u8] = b"\x07\0\0\0";
@@ -43,17 +40,17 @@ impl Attempt for Assembling {
     }
 }
 
-/// Writing the file of a program.
+/// Writing the file of TOUCH.
 #[derive(Drop)]
-struct Writing {
+struct Writing<'a> {
     program: Program,
-    file: Vec<u8>,
+    file: &'a [u8],
 }
 
-impl Attempt for Writing {
+impl Attempt for Writing<'_> {
     fn attempt(&mut self, alloc: Global) -> Tried {
         match write(alloc, &self.program) {
-            Ok(file) => done(file.as_slice() == self.file.as_slice()),
+            Ok(file) => done(file.as_slice() == self.file),
             Err(fault) => refused(fault == ElfError::Memory),
         }
     }
@@ -61,30 +58,28 @@ impl Attempt for Writing {
 
 /// Loading the file of TOUCH.
 #[derive(Drop)]
-struct Loading {
-    file: Vec<u8>,
+struct Loading<'a> {
+    file: &'a [u8],
 }
 
-impl Attempt for Loading {
+impl Attempt for Loading<'_> {
     fn attempt(&mut self, alloc: Global) -> Tried {
-        match load(alloc, self.file.as_slice()) {
+        match load(alloc, self.file) {
             Ok(image) => done(is_touch_image(&image)),
             Err(fault) => refused(fault == ElfError::Memory),
         }
     }
 }
 
-/// TOUCH is assembled, written and loaded, each at a later try.
-#[test]
-fn files_refused(rt: HostRuntime) -> Result<(), Fail> {
-    let alloc = rt.alloc();
-    let program = assembled(alloc, TOUCH)?;
-    let file = file_of(alloc, &program)?;
-    let copy = file_of(alloc, &program)?;
-    assert!(rt; is_refused_first(alloc, &mut Assembling)?);
-    assert!(rt; is_refused_first(alloc, &mut Writing { program, file })?);
-    assert!(rt; is_refused_first(alloc, &mut Loading { file: copy })?);
-    Ok(())
+/// Whether TOUCH is assembled, written and loaded.
+pub fn files(alloc: Global, way: Way) -> Result<bool, NotMade> {
+    let program = assemble(alloc, TOUCH)?;
+    let file = write(alloc, &program)?;
+    let file = file.as_slice();
+    let is_assembled = comes_right(alloc, &mut Assembling, way)?;
+    let is_written = comes_right(alloc, &mut Writing { program, file }, way)?;
+    let is_loaded = comes_right(alloc, &mut Loading { file }, way)?;
+    Ok(is_assembled && is_written && is_loaded)
 }
 
 /// A block file of three keys, two programs and two calls.
@@ -112,6 +107,15 @@ impl Attempt for Parsing {
     }
 }
 
+/// The result of a block of one call of TOUCH. Its word lies at 0x00020000.
+const TOUCH_TEXT: &[u8] = b"\
+    call 0 returned gas 24 pc 00010020 out 08000000\n\
+    regs 00000000 00000000 00110000 00000000 00000000 00020000 00000008 00000000 \
+    00000000 00000000 00020000 00000004 00000000 00000000 00000000 00000000 \
+    00000000 00000003 00000000 00000000 00000000 00000000 00000000 00000000 \
+    00000000 00000000 00000000 00000000 00000000 00000000 00000000 00000000\n\
+    end\n";
+
 /// Writing the result of TOUCH, into room that is there.
 #[derive(Drop)]
 struct Printing {
@@ -133,13 +137,11 @@ impl Attempt for Printing {
     }
 }
 
-/// A block file is read, and a result written, at a later try.
-#[test]
-fn texts_refused(rt: HostRuntime) -> Result<(), Fail> {
-    let alloc = rt.alloc();
-    let outcome = touch_outcome(alloc)?;
-    let text = room(alloc)?;
-    assert!(rt; is_refused_first(alloc, &mut Parsing)?);
-    assert!(rt; is_refused_first(alloc, &mut Printing { outcome, text })?);
-    Ok(())
+/// Whether a block file is read, and a result written.
+pub fn texts(alloc: Global, way: Way) -> Result<bool, NotMade> {
+    let outcome = outcome_of_source(alloc, TOUCH)?;
+    let text = Vec::with_capacity(alloc, 1024)?;
+    let is_read = comes_right(alloc, &mut Parsing, way)?;
+    let is_written = comes_right(alloc, &mut Printing { outcome, text }, way)?;
+    Ok(is_read && is_written)
 }

@@ -1,22 +1,26 @@
 //! Runs, cores and replays that go on while memory is refused.
 
-use crate::cores::{answers_of_all, follow, outcome_of, start};
-use crate::exhausted::attempts::{Attempt, Tried, done, is_refused_first, refused};
+ghost use Rattle.stm_state.specs.Steps.{Record};
+ghost use Rattle.stm_core.specs.CoreState.{IsDue};
+
+use crate::exhausted::attempts::{Attempt, Tried, Way, comes_right, done, refused};
 use crate::images::{
-    COUNT, KEY, LEN, PUT, TOUCH_MANY, assembled_call, job_of, outcome_of_source, touch_image,
+    COUNT, KEY, LEN, NotMade, PUT, TOUCH, TOUCH_MANY, assembled_call, image_of, job_of,
+    outcome_of_source,
 };
-use crate::rows::{K_1, LATE_WRITER, Row, WITHDRAWN_WRITE, assert_text};
-use crate::runs::{CELL, is_end, receipt_of, run_of, start_run, state_of};
+use crate::rows::{K_1, LATE_WRITER, Row, WITHDRAWN_WRITE, has_text};
 use debugger::{Replay, ReplayFault};
 use read_set::Origin;
-use rv_ledger::{Job, Key, Outcome, Receipt, Value};
+use rv_ledger::{End, Job, Key, Outcome, Receipt, Value};
 use rv_mem::{Fault, Memory};
 use rv_step::{EndedRun, Pause, Run};
 use scheduler::COUNT_LIMIT;
 use std::alloc::Global;
 use std::process::Abort;
-use std::test::Fail;
 use stm_core::{Core, DriveFault, NextStep, RecordFault, Refused, drive};
+
+/// The address of the word of TOUCH.
+const CELL: u32 = 0x0002_0000;
 
 /// How many pages are written to. There is room for the first ones from the start.
 const PAGES: u32 = 60;
@@ -68,39 +72,60 @@ impl Attempt for Stepping {
             if !self.run.is_running() {
                 return Tried::Done;
             }
-            let before = state_of(self.run.machine());
             if self.run.step_one().is_err() {
-                return refused(state_of(self.run.machine()) == before);
+                return Tried::Refused;
             }
         }
         Tried::Wrong
     }
 }
 
-/// The memory of TOUCH.
-fn touch_memory(alloc: Global) -> Result<Memory, Fail> {
-    Ok(Memory::of(alloc, &touch_image(alloc)?, &[])?)
+/// A run of a source at its start.
+fn run_of(alloc: Global, source: &str, input: &[u8]) -> Result<Run, NotMade> {
+    let call = assembled_call(alloc, source, input)?;
+    Ok(Run::start(alloc, &call)?)
 }
 
-/// Whether a receipt is that of TOUCH_MANY.
-fn is_touched(receipt: &Option<Receipt>) -> bool {
-    has_end(receipt, 689, TOUCHED_PC, 29, 1830)
+/// What a receipt shows of a call that returned: its gas, its pc, and the number in a register.
+type Shown = (u32, u32, Option<u32>);
+
+/// What the receipt of a run shows that ends without asking for a key.
+fn end_of(mut run: Run, register: usize) -> Result<Option<Shown>, NotMade> {
+    match run.go()? {
+        Pause::Ended => Ok(shown(&run.finish().receipt, register)),
+        Pause::Ask(_) => Ok(None),
+    }
 }
 
-/// Stores are made at a later try: by themselves, and as instructions.
-#[test]
-fn stores_refused(rt: HostRuntime) -> Result<(), Fail> {
-    let alloc = rt.alloc();
-    let memory = touch_memory(alloc)?;
+/// What a receipt shows of a call that returned.
+fn shown(receipt: &Receipt, register: usize) -> Option<Shown> {
+    let number = receipt.regs.values().get(register).copied();
+    (receipt.end == End::Returned).then_some((receipt.gas, receipt.pc, number))
+}
+
+/// What the receipt of TOUCH_MANY shows.
+const TOUCHED: Option<Shown> = Some((689, TOUCHED_PC, Some(1830)));
+
+/// Whether stores are made by themselves, also the one of TOUCH (`touch_growth_refused`).
+fn stores_alone(alloc: Global, way: Way) -> Result<bool, NotMade> {
+    let memory = Memory::of(alloc, &image_of(alloc, TOUCH)?, &[])?;
     let left = PAGES - 1;
-    assert!(rt; is_refused_first(alloc, &mut Storing { memory, left })?);
+    Ok(comes_right(alloc, &mut Storing { memory, left }, way)?)
+}
+
+/// Whether the instructions of a run of TOUCH_MANY, which store, are made one by one.
+fn stores_in_run(alloc: Global, way: Way) -> Result<bool, NotMade> {
     let mut steps = Stepping {
         run: run_of(alloc, TOUCH_MANY, b"")?,
     };
-    assert!(rt; is_refused_first(alloc, &mut steps)?);
+    let is_made = comes_right(alloc, &mut steps, way)?;
     let Stepping { run } = steps;
-    assert!(rt; is_touched(&receipt_of(run)?));
-    Ok(())
+    Ok(is_made && end_of(run, 29)? == TOUCHED)
+}
+
+/// Whether stores are made: by themselves, and as instructions.
+pub fn stores(alloc: Global, way: Way) -> Result<bool, NotMade> {
+    Ok(stores_alone(alloc, way)? && stores_in_run(alloc, way)?)
 }
 
 /// A run that asks for one key, and is given its value.
@@ -134,42 +159,32 @@ impl Attempt for Going {
     }
 }
 
-/// The receipt of a run that is refused at first.
-fn receipt_of_refused(
-    rt: &impl Abort,
+/// Whether a run of a source, which may ask for one key and is given its value, comes to an end that shows this.
+fn goes_to(
     alloc: Global,
+    way: Way,
     source: &str,
     value: Option<Value>,
-) -> Result<Option<Receipt>, Fail> {
-    let mut going = Going {
-        run: run_of(alloc, source, KEY)?,
-        value,
-    };
-    assert!(rt; is_refused_first(alloc, &mut going)?);
+    register: usize,
+    wanted: Option<Shown>,
+) -> Result<bool, NotMade> {
+    let run = run_of(alloc, source, KEY)?;
+    let mut going = Going { run, value };
+    let is_made = comes_right(alloc, &mut going, way)?;
     let Going { run, .. } = going;
-    Ok(receipt_of(run)?)
+    Ok(is_made && end_of(run, register)? == wanted)
 }
 
-/// Whether a receipt has this end, and this number in a register.
-fn has_end(receipt: &Option<Receipt>, gas: u32, pc: u32, register: usize, number: u32) -> bool {
-    match receipt {
-        Some(receipt) => {
-            is_end(receipt, gas, pc) && receipt.regs.values().get(register) == Some(&number)
-        }
-        None => false,
-    }
-}
-
-/// Runs of TOUCH_MANY, LEN and COUNT come to their ends at a later try.
-#[test]
-fn runs_refused(rt: HostRuntime) -> Result<(), Fail> {
-    let touched = receipt_of_refused(&rt, rt.alloc(), TOUCH_MANY, None)?;
-    assert!(rt; is_touched(&touched));
-    let length = receipt_of_refused(&rt, rt.alloc(), LEN, Value::of(&[0x11; 64]))?;
-    assert!(rt; has_end(&length, 214, 0x0001_0014, 10, 0xffff_fffe));
-    let count = receipt_of_refused(&rt, rt.alloc(), COUNT, None)?;
-    assert!(rt; has_end(&count, 639, 0x0001_0034, 5, 1));
-    Ok(())
+/// Whether runs of TOUCH_MANY, LEN (the row `length`) and COUNT come to their ends.
+pub fn runs(alloc: Global, way: Way) -> Result<bool, NotMade> {
+    let long = Value::of(&[0x11; 64]);
+    let length = Some((214, 0x0001_0014, Some(0xffff_fffe)));
+    let count = Some((639, 0x0001_0034, Some(1)));
+    Ok(
+        goes_to(alloc, way, TOUCH_MANY, None, 29, TOUCHED)?
+            && goes_to(alloc, way, LEN, long, 10, length)?
+            && goes_to(alloc, way, COUNT, None, 5, count)?,
+    )
 }
 
 /// The moment before the last instruction of TOUCH_MANY.
@@ -202,39 +217,25 @@ impl Attempt for Rewinding {
     }
 }
 
-/// A replay goes on and back at a later try.
-#[test]
-fn replays_refused(rt: HostRuntime) -> Result<(), Fail> {
-    let outcome = outcome_of_source(rt.alloc(), TOUCH_MANY)?;
-    let replay = Replay::open(rt.alloc(), &outcome, 0)?;
-    assert!(rt; is_refused_first(rt.alloc(), &mut Rewinding { replay })?);
-    Ok(())
+/// Whether a replay goes on and back.
+pub fn replays(alloc: Global, way: Way) -> Result<bool, NotMade> {
+    let outcome = outcome_of_source(alloc, TOUCH_MANY)?;
+    let replay = Replay::open(alloc, &outcome, 0)?;
+    Ok(comes_right(alloc, &mut Rewinding { replay }, way)?)
 }
 
-/// Room for a read of the second worker's run.
-#[derive(Drop)]
-struct MakingRoom {
-    core: Core,
-}
-
-impl Attempt for MakingRoom {
-    fn attempt(&mut self, _alloc: Global) -> Tried {
-        if self.core.workers() < 2 {
-            return Tried::Wrong;
-        }
-        let before = answers_of_all(&self.core);
-        match self.core.room_for_read(1) {
-            Ok(()) => Tried::Done,
-            Err(_) => refused(answers_of_all(&self.core) == before),
-        }
-    }
-}
-
-/// Handing in the first worker's run.
+/// A core of two calls of PUT, of which two workers have one each: room for a read of the second one's run, and handing
+/// in the first one's.
 #[derive(Drop)]
 struct Recording {
     core: Core,
+    has_room: bool,
     run: Option<EndedRun>,
+}
+
+/// Makes room for a read of the second worker's run. Whether it is there.
+fn make_room(core: &mut Core) -> bool {
+    core.workers() > 1 && core.room_for_read(1).is_ok()
 }
 
 /// Hands a run of the first worker in; gives it back where it is refused.
@@ -253,67 +254,115 @@ fn record(alloc: Global, core: &mut Core, run: EndedRun) -> (Tried, Option<Ended
 
 impl Attempt for Recording {
     fn attempt(&mut self, alloc: Global) -> Tried {
+        if !self.has_room {
+            self.has_room = make_room(&mut self.core);
+            return if self.has_room {
+                Tried::Done
+            } else {
+                Tried::Refused
+            };
+        }
         let Some(run) = self.run.take() else {
             return Tried::Wrong;
         };
-        let before = answers_of_all(&self.core);
         let (tried, back) = record(alloc, &mut self.core, run);
         self.run = back;
-        match tried {
-            Tried::Refused => refused(answers_of_all(&self.core) == before),
-            tried => tried,
-        }
+        tried
     }
 }
 
 /// The ended run of a call of PUT.
-fn ended_put(rt: &impl Abort, alloc: Global) -> Result<EndedRun, Fail> {
-    let call = assembled_call(alloc, PUT, K_1)?;
-    let mut run = start_run(alloc, &call)?;
+fn ended_put(alloc: Global) -> Result<EndedRun, NotMade> {
+    let mut run = run_of(alloc, PUT, K_1)?;
     match run.go()? {
         Pause::Ended => Ok(run.finish()),
-        Pause::Ask(_) => panic!(rt; "it asks for a key"),
+        Pause::Ask(_) => Err(NotMade),
     }
 }
 
-/// Whether a core at its end has the value of PUT at its key.
-fn is_put(outcome: &Outcome) -> bool {
+/// Makes the step that a worker owes, who runs PUT.
+fn step(rt: &impl Abort, alloc: Global, core: &mut Core, worker: usize) -> Result<(), NotMade> {
+    assert!(rt; worker < core.workers());
+    assert!(rt; core.counts(worker).steps < COUNT_LIMIT);
+    match core.doing(worker) {
+        NextStep::Ask => {
+            let _ = core.ask(worker);
+        }
+        NextStep::Run { .. } => hand_in(alloc, core, worker)?,
+        NextStep::Make { kind, .. } => core.make(worker, kind)?,
+    }
+    Ok(())
+}
+
+/// Hands in the ended run of a worker, who runs PUT.
+fn hand_in(alloc: Global, core: &mut Core, worker: usize) -> Result<(), NotMade>
+    requires { IsDue worker Record core.old }
+{
+    let run = ended_put(alloc)?;
+    match core.record(alloc, worker, run) {
+        Ok(_) => Ok(()),
+        Err(_) => Err(NotMade),
+    }
+}
+
+/// Makes the steps of a list of workers, who run PUT.
+fn follow(
+    rt: &impl Abort,
+    alloc: Global,
+    core: &mut Core,
+    schedule: &[usize],
+) -> Result<(), NotMade> {
+    for worker in schedule {
+        step(rt, alloc, core, *worker)?;
+    }
+    Ok(())
+}
+
+/// Whether a core is done, and has the value of PUT at its key.
+fn is_put(alloc: Global, core: &Core) -> Result<bool, NotMade> {
+    if !core.done() {
+        return Ok(false);
+    }
+    let outcome = core.outcome(alloc)?;
     let mut key = [0; 32];
     key[31] = 1;
-    match outcome.store.get(&Key::new(key)) {
+    Ok(match outcome.store.get(&Key::new(key)) {
         Some(value) => value.bytes() == b"\x01".as_slice(),
         None => false,
-    }
+    })
 }
 
 /// A core of two calls of PUT, of which two workers have one each.
-fn core_of_two(rt: &impl Abort, alloc: Global) -> Result<Core, Fail> {
+fn core_of_two(rt: &impl Abort, alloc: Global) -> Result<Core, NotMade> {
     let job = job_of(alloc, &[(PUT, K_1); 2])?;
-    let mut core = start(alloc, &job)?;
+    let mut core = Core::new(alloc, job, 2)?;
     follow(rt, alloc, &mut core, &[0, 1, 1])?;
     Ok(core)
 }
 
-/// Room for a read is made, and a run is taken, at a later try. Then the first worker makes the rest.
-#[test]
-fn cores_refused(rt: HostRuntime) -> Result<(), Fail> {
-    let core = core_of_two(&rt, rt.alloc())?;
-    let mut room = MakingRoom { core };
-    assert!(rt; is_refused_first(rt.alloc(), &mut room)?);
-    let MakingRoom { core } = room;
-    let run = Some(ended_put(&rt, rt.alloc())?);
-    let mut recording = Recording { core, run };
-    assert!(rt; is_refused_first(rt.alloc(), &mut recording)?);
-    let Recording { mut core, .. } = recording;
-    follow(
-        &rt,
-        rt.alloc(),
-        &mut core,
-        &[0, 0, 1, 1, 1, 0, 0, 0, 0, 0, 0],
-    )?;
-    let outcome = outcome_of(&rt, rt.alloc(), &core)?;
-    assert!(rt; is_put(&outcome));
-    Ok(())
+/// Whether room for a read is made, and a run is taken.
+fn is_recorded(alloc: Global, way: Way, recording: &mut Recording) -> Result<bool, NotMade> {
+    let has_room = comes_right(alloc, recording, way)?;
+    let is_taken = comes_right(alloc, recording, way)?;
+    Ok(has_room && is_taken)
+}
+
+/// Whether the workers make the rest, and come to the value of PUT.
+fn ends_as_put(rt: &impl Abort, alloc: Global, core: &mut Core) -> Result<bool, NotMade> {
+    follow(rt, alloc, core, &[0, 0, 1, 1, 1, 0, 0, 0, 0, 0, 0])?;
+    is_put(alloc, core)
+}
+
+/// Whether room for a read is made, and a run is taken. Then the workers make the rest.
+pub fn cores(rt: &impl Abort, alloc: Global, way: Way) -> Result<bool, NotMade> {
+    let run = ended_put(alloc)?;
+    let mut recording = Recording {
+        core: core_of_two(rt, alloc)?,
+        has_room: false,
+        run: Some(run),
+    };
+    let is_right = is_recorded(alloc, way, &mut recording)?;
+    Ok(is_right && ends_as_put(rt, alloc, &mut recording.core)?)
 }
 
 /// A block along its list of worker numbers.
@@ -336,24 +385,22 @@ impl Attempt for Driving<'_> {
     }
 }
 
-/// Asserts that a row comes to its outcome at a later try.
-fn assert_driven(rt: &impl Abort, alloc: Global, row: &Row) -> Result<(), Fail> {
+/// Whether a row comes to its outcome.
+fn is_driven(alloc: Global, way: Way, row: &Row) -> Result<bool, NotMade> {
+    let job = job_of(alloc, row.calls)?;
     let mut driving = Driving {
-        job: job_of(alloc, row.calls)?,
+        job,
         row,
         outcome: None,
     };
-    assert!(rt; is_refused_first(alloc, &mut driving)?);
-    match &driving.outcome {
-        Some(outcome) => assert_text(rt, alloc, outcome, row.text)?,
-        None => panic!(rt; "there is no outcome"),
-    }
-    Ok(())
+    let is_made = comes_right(alloc, &mut driving, way)?;
+    Ok(match &driving.outcome {
+        Some(outcome) => is_made && has_text(alloc, outcome, row.text)?,
+        None => false,
+    })
 }
 
-/// Blocks come to their outcomes at a later try.
-#[test]
-fn drives_refused(rt: HostRuntime) -> Result<(), Fail> {
-    assert_driven(&rt, rt.alloc(), &LATE_WRITER)?;
-    assert_driven(&rt, rt.alloc(), &WITHDRAWN_WRITE)
+/// Whether blocks come to their outcomes.
+pub fn drives(alloc: Global, way: Way) -> Result<bool, NotMade> {
+    Ok(is_driven(alloc, way, &LATE_WRITER)? && is_driven(alloc, way, &WITHDRAWN_WRITE)?)
 }

@@ -1,0 +1,47 @@
+//! Calls of which one request for memory is refused, by `scripts/growths`, and which are made once more then.
+
+use crate::exhausted::attempts::Way;
+use crate::exhausted::{assert_come_right, runs_echo};
+use crate::images::{COUNT, KEY, NotMade, job_of};
+use crate::rows::are_counts;
+use std::alloc::Global;
+use std::sync::Wait;
+use std::thread::Threads;
+use workers::{Executor, RunFault};
+
+/// The number of threads.
+const WORKERS: usize = 4;
+
+/// The row `growths`. What the calls are made of is made once more, too, where it is refused.
+#[test]
+fn growths(rt: HostRuntime) {
+    if assert_come_right(&rt, rt.alloc(), Way::OneRequest).is_err() {
+        assert!(rt; assert_come_right(&rt, rt.alloc(), Way::OneRequest).is_ok());
+    }
+}
+
+/// Whether eight calls of COUNT by four threads come to the right outcome. Where that is refused as Memory or as Spawn,
+/// the executor runs another block, and then these calls once more.
+fn counts<R: Threads + Wait + Sync>(rt: &R, alloc: Global) -> Result<bool, NotMade> {
+    let mut executor = Executor::new(alloc);
+    let job = job_of(alloc, &[(COUNT, KEY); 8])?;
+    let again = job.copy()?;
+    match executor.run_block(rt, alloc, job, WORKERS) {
+        Ok(outcome) => Ok(are_counts(&outcome, 8)),
+        Err(RunFault::Memory | RunFault::Spawn) => {
+            let is_usable = runs_echo(rt, alloc, &mut executor)?;
+            let outcome = executor.run_block(rt, alloc, again, WORKERS)?;
+            Ok(is_usable && are_counts(&outcome, 8))
+        }
+        Err(_) => Ok(false),
+    }
+}
+
+#[test]
+fn run_block_growths_refused(rt: HostRuntime) {
+    let is_right = match counts(&rt, rt.alloc()) {
+        Ok(is_right) => is_right,
+        Err(_) => matches!(counts(&rt, rt.alloc()), Ok(true)),
+    };
+    assert!(rt; is_right);
+}
