@@ -5,7 +5,7 @@ ghost use Rattle.stm_core.specs.CoreState.{IsDue};
 
 use crate::exhausted::attempts::{Attempt, Tried, Way, comes_right, done, refused};
 use crate::images::{
-    COUNT, KEY, LEN, NotMade, PUT, TOUCH, TOUCH_MANY, assembled_call, image_of, job_of,
+    COUNT, ECHO, KEY, LEN, NotMade, PUT, TOUCH, TOUCH_MANY, assembled_call, image_of, job_of,
     outcome_of_source,
 };
 use crate::rows::{K_1, LATE_WRITER, Row, WITHDRAWN_WRITE, has_text};
@@ -86,8 +86,8 @@ fn run_of(alloc: Global, source: &str, input: &[u8]) -> Result<Run, NotMade> {
     Ok(Run::start(alloc, &call)?)
 }
 
-/// What a receipt shows of a call that returned: its gas, its pc, and the number in a register.
-type Shown = (u32, u32, Option<u32>);
+/// What a receipt shows of a call that returned: its gas, its pc, the number in a register, and the length of its output.
+type Shown = (u32, u32, Option<u32>, usize);
 
 /// What the receipt of a run shows that ends without asking for a key.
 fn end_of(mut run: Run, register: usize) -> Result<Option<Shown>, NotMade> {
@@ -100,11 +100,12 @@ fn end_of(mut run: Run, register: usize) -> Result<Option<Shown>, NotMade> {
 /// What a receipt shows of a call that returned.
 fn shown(receipt: &Receipt, register: usize) -> Option<Shown> {
     let number = receipt.regs.values().get(register).copied();
-    (receipt.end == End::Returned).then_some((receipt.gas, receipt.pc, number))
+    let len = receipt.out.bytes().len();
+    (receipt.end == End::Returned).then_some((receipt.gas, receipt.pc, number, len))
 }
 
 /// What the receipt of TOUCH_MANY shows.
-const TOUCHED: Option<Shown> = Some((689, TOUCHED_PC, Some(1830)));
+const TOUCHED: Option<Shown> = Some((689, TOUCHED_PC, Some(1830), 4));
 
 /// Whether stores are made by themselves, also the one of TOUCH (`touch_growth_refused`).
 fn stores_alone(alloc: Global, way: Way) -> Result<bool, NotMade> {
@@ -175,15 +176,18 @@ fn goes_to(
     Ok(is_made && end_of(run, register)? == wanted)
 }
 
-/// Whether runs of TOUCH_MANY, LEN (the row `length`) and COUNT come to their ends.
+/// Whether runs of TOUCH_MANY, LEN (the row `length`), COUNT and ECHO come to their ends. ECHO returns 32 bytes, which take
+/// memory of their own.
 pub fn runs(alloc: Global, way: Way) -> Result<bool, NotMade> {
     let long = Value::of(&[0x11; 64]);
-    let length = Some((214, 0x0001_0014, Some(0xffff_fffe)));
-    let count = Some((639, 0x0001_0034, Some(1)));
+    let length = Some((214, 0x0001_0014, Some(0xffff_fffe), 0));
+    let count = Some((639, 0x0001_0034, Some(1), 0));
+    let echo = Some((43, 0x0001_0004, Some(32), 32));
     Ok(
         goes_to(alloc, way, TOUCH_MANY, None, 29, TOUCHED)?
             && goes_to(alloc, way, LEN, long, 10, length)?
-            && goes_to(alloc, way, COUNT, None, 5, count)?,
+            && goes_to(alloc, way, COUNT, None, 5, count)?
+            && goes_to(alloc, way, ECHO, None, 11, echo)?,
     )
 }
 
