@@ -1,5 +1,5 @@
 -- Versions that are in a map.
-use Rattle.std.proofs.Common.{◌≡◌, ℕ, List, [], Option, Some, Bool, true, ap, sym, ◌∙◌}
+use Rattle.std.proofs.Common.{◌≡◌, ℕ, List, [], Some, Bool, true, ap, sym, ◌∙◌}
 use Rattle.rv_ledger.specs.Change.{ContentChange}
 use Rattle.read_set.specs.Origin.{Origin}
 use Rattle.read_set.specs.declared.Read.{Read}

@@ -2,12 +2,7 @@
 
 use std::process::Abort;
 
-/// Asserts that a text is this one.
-pub fn assert_text(rt: &impl Abort, text: &str, wanted: &str) {
-    assert_eq!(rt; text, wanted);
-}
-
-/// Asserts that these are the right bytes.
-pub fn assert_bytes(rt: &impl Abort, bytes: &[u8], wanted: &[u8]) {
-    assert_eq!(rt; bytes, wanted);
+/// Asserts that a case is right.
+pub fn assert_right(rt: &impl Abort, is_right: bool, case: &str) {
+    assert!(rt; is_right, "{case}");
 }

@@ -1,80 +1,81 @@
 //! The calls of block_file.
 
-use crate::asserts::assert_text;
+use crate::asserts::assert_right;
+use crate::texts::around;
 use block_file::*;
 use rv_ledger::Key;
 use std::alloc::{AllocError, Global};
 use std::process::Abort;
-use std::test::*;
+use std::test::Fail;
 
-/// Appends a character, or 63 zeros in place of `@`.
-fn push_char(text: &mut String, c: char) -> Result<(), AllocError> {
-    if c != '@' {
-        return text.push(c);
-    }
-    for _ in 0..63 {
-        text.push('0')?;
-    }
-    Ok(())
-}
+/// 63 digits of a key.
+const ZEROS: &str = "000000000000000000000000000000000000000000000000000000000000000";
 
-/// Appends lines, where `@` stands for 63 zeros.
-fn push_lines(text: &mut String, lines: &str) -> Result<(), AllocError> {
-    for c in lines.chars() {
-        push_char(text, c)?;
+/// A file of a first line and these lines, where `@` stands for 63 zeros.
+fn file(alloc: Global, head: &str, lines: &str) -> Result<String, AllocError> {
+    let mut text = String::from_str(alloc, head)?;
+    let mut is_first = true;
+    for part in lines.split('@') {
+        if !is_first {
+            text.push_str(ZEROS)?;
+        }
+        text.push_str(part)?;
+        is_first = false;
     }
-    Ok(())
-}
-
-/// A block file of these lines, where `@` stands for 63 zeros.
-fn file(alloc: Global, lines: &str) -> Result<String, AllocError> {
-    let mut text = String::from_str(alloc, "rvblock 1\n")?;
-    push_lines(&mut text, lines)?;
     Ok(text)
 }
+
+/// The first line of format 1.
+const HEAD: &str = "rvblock 1\n";
 
 /// The fault of a file, if it has one.
 pub fn refusal(alloc: Global, text: &str) -> Option<BlockFault> {
     parse(alloc, text.as_bytes()).err()
 }
 
-/// Asserts that a file is refused for this cause at this line.
-pub fn assert_refused(rt: &impl Abort, alloc: Global, text: &str, line: usize, cause: Cause) {
-    assert_eq!(rt;
-        refusal(alloc, text),
-        Some(BlockFault { line, cause }),
-        "at {text}"
-    );
+/// Whether files that begin with `head` are refused, each for its cause at its line: the first that is not.
+pub fn not_refused<'a>(
+    alloc: Global,
+    head: &str,
+    rows: &[(&'a str, usize, Cause)],
+) -> Result<Option<&'a str>, AllocError> {
+    for (lines, line, cause) in rows {
+        let text = file(alloc, head, lines)?;
+        let (line, cause) = (*line, *cause);
+        if refusal(alloc, text.as_str()) != Some(BlockFault { line, cause }) {
+            return Ok(Some(*lines));
+        }
+    }
+    Ok(None)
 }
 
-/// Files whose first line is refused, each with the cause.
-const BAD_FIRST_LINES: &[(&str, Cause)] = &[
-    ("rvblock 1", Cause::BadLine),
-    ("rvblock 1\r\n", Cause::BadHeader),
-    ("rvblock 3\n", Cause::BadHeader),
-    ("\n", Cause::BadHeader),
+/// Asserts that no row is wrong.
+pub fn assert_no_wrong(rt: &impl Abort, row: Option<&str>) {
+    assert_right(rt, row.is_none(), row.unwrap_or(""));
+}
+
+/// Files whose first line is refused, each with the line and the cause.
+const BAD_FIRST_LINES: &[(&str, usize, Cause)] = &[
+    ("rvblock 1", 1, Cause::BadLine),
+    ("rvblock 1\r\n", 1, Cause::BadHeader),
+    ("rvblock 3\n", 1, Cause::BadHeader),
+    ("\n", 1, Cause::BadHeader),
 ];
 
-/// Why a beginning of the first line without its end is refused.
-fn refusal_of_beginning(alloc: Global, len: usize) -> Option<BlockFault> {
+/// Whether a beginning of the first line without its end is refused.
+fn is_beginning_refused(alloc: Global, len: usize) -> bool {
     let bytes = b"rvblock 1".get(..len).unwrap_or(b"");
-    parse(alloc, bytes).err()
+    let (line, cause) = (1, Cause::BadHeader);
+    parse(alloc, bytes).err() == Some(BlockFault { line, cause })
 }
 
-/// The fault of a file whose first line is not the header.
-const BAD_HEADER: Option<BlockFault> = Some(BlockFault {
-    line: 1,
-    cause: Cause::BadHeader,
-});
-
 #[test]
-fn malicious_block_files(rt: HostRuntime) {
+fn malicious_block_files(rt: HostRuntime) -> Result<(), AllocError> {
     for len in 0..9 {
-        assert_fault(&rt, refusal_of_beginning(rt.alloc(), len), BAD_HEADER);
+        assert!(rt; is_beginning_refused(rt.alloc(), len));
     }
-    for (text, cause) in BAD_FIRST_LINES {
-        assert_refused(&rt, rt.alloc(), text, 1, *cause);
-    }
+    assert_no_wrong(&rt, not_refused(rt.alloc(), "", BAD_FIRST_LINES)?);
+    Ok(())
 }
 
 /// The lines of files, where `@` stands for 63 zeros, each with the line that is refused and the cause.
@@ -110,107 +111,58 @@ const BAD_LINES: &[(&str, usize, Cause)] = &[
     ("store @1 @@0000\n", 2, Cause::Limit),
 ];
 
-/// Asserts that a file of these lines is refused for this cause at this line.
-fn assert_lines_refused(
-    rt: &impl Abort,
-    alloc: Global,
-    lines: &str,
-    line: usize,
-    cause: Cause,
-) -> Result<(), AllocError> {
-    let text = file(alloc, lines)?;
-    assert_refused(rt, alloc, text.as_str(), line, cause);
-    Ok(())
-}
-
 #[test]
 fn block_faults(rt: HostRuntime) -> Result<(), AllocError> {
-    for (lines, line, cause) in BAD_LINES {
-        assert_lines_refused(&rt, rt.alloc(), lines, *line, *cause)?;
-    }
+    assert_no_wrong(&rt, not_refused(rt.alloc(), HEAD, BAD_LINES)?);
     Ok(())
 }
 
 /// A file of this many programs.
 fn programs(alloc: Global, count: usize) -> Result<String, AllocError> {
-    let mut text = file(alloc, "")?;
+    let mut text = String::from_str(alloc, HEAD)?;
     for number in 0..count {
-        push_program(alloc, &mut text, number)?;
+        let line = format!(in alloc; "program {number} a\n")?;
+        text.push_str(line.as_str())?;
     }
     Ok(text)
 }
 
-/// Appends the line of a program of this number.
-fn push_program(alloc: Global, text: &mut String, number: usize) -> Result<(), AllocError> {
-    let line = format!(in alloc; "program {number} a\n")?;
-    text.push_str(line.as_str())
-}
-
-/// Appends a text this many times.
-fn push_times(text: &mut String, part: &str, count: usize) -> Result<(), AllocError> {
-    for _ in 0..count {
-        text.push_str(part)?;
-    }
-    Ok(())
-}
-
-/// Appends 1,024 calls of the greatest gas limit, and then these lines.
-fn push_calls(text: &mut String, lines: &str) -> Result<(), AllocError> {
-    push_times(text, "call 63 10000000 -\n", 1024)?;
-    text.push_str(lines)
-}
-
-/// Appends this many bytes of an input, and ends the line.
-fn push_input(text: &mut String, count: usize) -> Result<(), AllocError> {
-    push_times(text, "ff", count)?;
-    text.push_str("\n")
-}
-
-/// The fault of a file of this many programs.
-fn refusal_of_programs(alloc: Global, count: usize) -> Result<Option<BlockFault>, AllocError> {
+/// The line at which a file of this many programs, and of 1,024 calls and these lines behind them, passes a limit; 0 where it
+/// is right.
+fn limit_of_calls(alloc: Global, count: usize, lines: &str) -> Result<Option<usize>, AllocError> {
     let text = programs(alloc, count)?;
-    Ok(refusal(alloc, text.as_str()))
+    let text = around(alloc, text.as_str(), "call 63 10000000 -\n", 1024, lines)?;
+    Ok(limit_in(alloc, text.as_str()))
 }
 
-/// The fault of a file of 64 programs, 1,024 calls and then these lines.
-fn refusal_of_calls(alloc: Global, lines: &str) -> Result<Option<BlockFault>, AllocError> {
-    let mut text = programs(alloc, 64)?;
-    push_calls(&mut text, lines)?;
-    Ok(refusal(alloc, text.as_str()))
+/// The line at which a file passes a limit; 0 where it is right, None where it has another fault.
+fn limit_in(alloc: Global, text: &str) -> Option<usize> {
+    match parse(alloc, text.as_bytes()) {
+        Ok(_) => Some(0),
+        Err(fault) => (fault.cause == Cause::Limit).then_some(fault.line),
+    }
 }
 
-/// The fault of a file of one call whose input has this many bytes.
-fn refusal_of_input(alloc: Global, count: usize) -> Result<Option<BlockFault>, AllocError> {
-    let mut text = file(alloc, "program 0 a\ncall 0 1 ")?;
-    push_input(&mut text, count)?;
-    Ok(refusal(alloc, text.as_str()))
-}
-
-/// The fault of a line that passes a limit.
-fn limit_at(line: usize) -> Option<BlockFault> {
-    Some(BlockFault {
-        line,
-        cause: Cause::Limit,
-    })
-}
-
-/// Asserts that a fault is this one.
-fn assert_fault(rt: &impl Abort, fault: Option<BlockFault>, wanted: Option<BlockFault>) {
-    assert_eq!(rt; fault, wanted);
+/// The same for a file of one call whose input has this many bytes.
+fn limit_of_input(alloc: Global, count: usize) -> Result<Option<usize>, AllocError> {
+    let text = around(
+        alloc,
+        "rvblock 1\nprogram 0 a\ncall 0 1 ",
+        "ff",
+        count,
+        "\n",
+    )?;
+    Ok(limit_in(alloc, text.as_str()))
 }
 
 #[test]
 fn greatest_files(rt: HostRuntime) -> Result<(), AllocError> {
     let alloc = rt.alloc();
-    assert_fault(&rt, refusal_of_programs(alloc, 65)?, limit_at(66));
-    assert_fault(&rt, refusal_of_calls(alloc, "")?, None);
-    assert_fault(
-        &rt,
-        refusal_of_calls(alloc, "call 63 1 -\n")?,
-        limit_at(1090),
-    );
-    assert_fault(&rt, refusal_of_input(alloc, 4096)?, None);
-    assert_fault(&rt, refusal_of_input(alloc, 4097)?, limit_at(3));
+    assert!(rt; limit_of_calls(alloc, 65, "")? == Some(66));
+    assert!(rt; limit_of_calls(alloc, 64, "")? == Some(0));
+    assert!(rt; limit_of_calls(alloc, 64, "call 63 1 -\n")? == Some(1090));
+    assert!(rt; limit_of_input(alloc, 4096)? == Some(0));
+    assert!(rt; limit_of_input(alloc, 4097)? == Some(3));
     Ok(())
 }
 
@@ -218,76 +170,59 @@ fn greatest_files(rt: HostRuntime) -> Result<(), AllocError> {
 const GOOD_LINES: &str =
     "program 0 a\nprogram 1 b/~\nstore @0 -\nstore @1 0aff\ncall 1 10000000 00ff\ncall 0 1 -\n";
 
-/// What the good file says.
-fn good_block(alloc: Global) -> Result<BlockText, Fail> {
-    let text = file(alloc, GOOD_LINES)?;
-    Ok(parse(alloc, text.as_bytes())?)
+/// Whether two programs are at these paths.
+fn are_paths(programs: &[String], paths: [&str; 2]) -> bool {
+    match programs {
+        [one, two] => one.as_str() == paths[0] && two.as_str() == paths[1],
+        _ => false,
+    }
 }
 
-/// Asserts that a block has two programs at these paths.
-fn assert_paths(rt: &impl Abort, block: &BlockText, first: &str, second: &str) {
-    let [one, two] = block.programs.as_slice() else {
-        panic!(rt; "not two programs");
-    };
-    assert_text(rt, one.as_str(), first);
-    assert_text(rt, two.as_str(), second);
-}
-
-/// Asserts that a block stores these bytes at the key of zeros with this last byte.
-fn assert_stored(rt: &impl Abort, block: &BlockText, last: u8, bytes: &[u8]) {
+/// Whether a block stores these bytes at the key of zeros with this last byte.
+fn is_stored(block: &BlockText, last: u8, bytes: &[u8]) -> bool {
     let mut key = [0; 32];
     key[31] = last;
-    let value = block.store.get(&Key::new(key)).map(|v| v.bytes());
-    assert_eq!(rt; value, Some(bytes));
+    match block.store.get(&Key::new(key)) {
+        Some(value) => value.bytes() == bytes,
+        None => false,
+    }
 }
 
-/// Asserts what a call line says.
-fn assert_call(rt: &impl Abort, call: &CallLine, program: usize, gas: u32, input: &[u8]) {
-    assert_eq!(rt;
-        (call.program, call.gas, call.input.as_slice()),
-        (program, gas, input)
-    );
+/// Whether a call line says this.
+fn is_call(call: &CallLine, program: usize, gas: u32, input: &[u8]) -> bool {
+    call.program == program && call.gas == gas && call.input.as_slice() == input
 }
 
-/// Asserts that the calls are those of the good file.
-fn assert_good_calls(rt: &impl Abort, calls: &[CallLine]) {
-    let [first, second] = calls else {
-        panic!(rt; "not two calls");
-    };
-    assert_call(rt, first, 1, 10_000_000, &[0, 255]);
-    assert_call(rt, second, 0, 1, &[]);
+/// Whether the calls are those of the good file.
+fn are_good_calls(calls: &[CallLine]) -> bool {
+    match calls {
+        [first, second] => is_call(first, 1, 10_000_000, &[0, 255]) && is_call(second, 0, 1, &[]),
+        _ => false,
+    }
 }
 
 #[test]
 fn good_file(rt: HostRuntime) -> Result<(), Fail> {
-    let block = good_block(rt.alloc())?;
-    assert_paths(&rt, &block, "a", "b/~");
-    assert_stored(&rt, &block, 0, &[]);
-    assert_stored(&rt, &block, 1, &[10, 255]);
-    assert_good_calls(&rt, block.calls.as_slice());
+    let text = file(rt.alloc(), HEAD, GOOD_LINES)?;
+    let block = parse(rt.alloc(), text.as_bytes())?;
+    assert!(rt; are_paths(block.programs.as_slice(), ["a", "b/~"]));
+    assert!(rt; is_stored(&block, 0, &[]) && is_stored(&block, 1, &[10, 255]));
+    assert!(rt; are_good_calls(block.calls.as_slice()));
     Ok(())
 }
 
-/// Asserts that a schedule file has these entries.
-fn assert_entries(
-    rt: &impl Abort,
-    alloc: Global,
-    text: &[u8],
-    entries: &[u16],
-) -> Result<(), BlockFault> {
-    let found = parse_schedule(alloc, text)?;
-    assert_eq!(rt; found.as_slice(), entries);
-    Ok(())
+/// Whether a schedule file has these entries.
+fn has_entries(alloc: Global, text: &[u8], entries: &[u16]) -> bool {
+    match parse_schedule(alloc, text) {
+        Ok(found) => found.as_slice() == entries,
+        Err(_) => false,
+    }
 }
 
-/// Asserts that a schedule file is refused as BadNumber at this line.
-fn assert_bad_number(rt: &impl Abort, alloc: Global, text: &str, line: usize) {
+/// Whether a schedule file is refused as BadNumber at this line.
+fn is_bad_number(alloc: Global, text: &str, line: usize) -> bool {
     let cause = Cause::BadNumber;
-    assert_eq!(rt;
-        parse_schedule(alloc, text.as_bytes()).err(),
-        Some(BlockFault { line, cause }),
-        "at {text}"
-    );
+    parse_schedule(alloc, text.as_bytes()).err() == Some(BlockFault { line, cause })
 }
 
 /// Schedule files that are refused as BadNumber, each with the line.
@@ -303,31 +238,23 @@ const BAD_SCHEDULES: &[(&str, usize)] = &[
 ];
 
 #[test]
-fn schedules(rt: HostRuntime) -> Result<(), BlockFault> {
-    assert_entries(&rt, rt.alloc(), b"0\n1\n65535\n", &[0, 1, 65535])?;
-    assert_entries(&rt, rt.alloc(), b"", &[])?;
+fn schedules(rt: HostRuntime) {
+    assert!(rt; has_entries(rt.alloc(), b"0\n1\n65535\n", &[0, 1, 65535]));
+    assert!(rt; has_entries(rt.alloc(), b"", &[]));
     for (text, line) in BAD_SCHEDULES {
-        assert_bad_number(&rt, rt.alloc(), text, *line);
+        assert_right(&rt, is_bad_number(rt.alloc(), text, *line), text);
     }
-    Ok(())
 }
 
-/// Asserts that a fault at line 3 prints this text.
-fn assert_printed(
-    rt: &impl Abort,
-    alloc: Global,
-    cause: Cause,
-    text: &str,
-) -> Result<(), AllocError> {
-    let fault = BlockFault { line: 3, cause };
-    let printed = format!(in alloc; "{fault}")?;
-    assert_text(rt, printed.as_str(), text);
-    Ok(())
+/// A fault at line 3.
+fn fault(cause: Cause) -> BlockFault {
+    BlockFault { line: 3, cause }
 }
 
 #[test]
 fn printed(rt: HostRuntime) -> Result<(), AllocError> {
-    assert_printed(&rt, rt.alloc(), Cause::BadNumber, "3 BadNumber 3")?;
-    assert_printed(&rt, rt.alloc(), Cause::Memory, "Memory 8")?;
+    let (number, memory) = (fault(Cause::BadNumber), fault(Cause::Memory));
+    let text = format!(in rt.alloc(); "{number}, {memory}")?;
+    assert!(rt; text.as_str() == "3 BadNumber 3, Memory 8");
     Ok(())
 }

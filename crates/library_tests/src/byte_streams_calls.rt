@@ -2,7 +2,6 @@
 
 ghost use Rattle.std.specs.Prelude.{⊤};
 
-use crate::asserts::{assert_bytes, assert_text};
 use byte_streams::{Destination, WriteFault, write_whole};
 use std::alloc::{AllocError, Global};
 use std::io;
@@ -11,13 +10,13 @@ use std::process::Abort;
 
 /// A writer that takes one byte per call while it has room, and then fails or takes nothing.
 #[derive(Drop)]
-pub struct Slow {
+struct Slow {
     /// What it holds.
-    pub held: Vec<u8>,
+    held: Vec<u8>,
     /// How many bytes it holds at most.
-    pub room: usize,
+    room: usize,
     /// Whether it fails then, or takes nothing.
-    pub fails: bool,
+    fails: bool,
 }
 
 impl Write for Slow {
@@ -56,76 +55,41 @@ impl Destination for Slow {
     }
 }
 
-/// Writes no bytes, and then three.
-fn write_twice(out: &mut Vec<u8>) -> Result<(), WriteFault> {
-    write_whole(b"", out)?;
-    write_whole(b"two", out)
+/// Whether bytes are written whole, also where there are none.
+fn is_written_twice(alloc: Global) -> Result<bool, WriteFault> {
+    let mut out = Vec::new(alloc);
+    write_whole(b"", &mut out)?;
+    write_whole(b"two", &mut out)?;
+    Ok(out.as_slice() == b"two".as_slice())
 }
 
-#[test]
-fn writes_whole(rt: HostRuntime) -> Result<(), WriteFault> {
-    let mut out = Vec::new(rt.alloc());
-    write_twice(&mut out)?;
-    assert_bytes(&rt, out.as_slice(), b"two");
-    Ok(())
-}
-
-/// Asserts what writing three bytes to a writer that takes two answers, and what it holds.
-fn assert_stops_at_two(rt: &impl Abort, alloc: Global, fails: bool, fault: WriteFault) {
+/// Whether writing three bytes to a writer that takes two is refused so, and it holds two then.
+fn stops_at_two(alloc: Global, fails: bool, fault: WriteFault) -> bool {
     let mut out = Slow {
         held: Vec::new(alloc),
         room: 2,
         fails,
     };
-    assert_eq!(rt; write_whole(b"two", &mut out), Err(fault));
-    assert_bytes(rt, out.held.as_slice(), b"tw");
+    write_whole(b"two", &mut out) == Err(fault) && out.held.as_slice() == b"tw".as_slice()
 }
 
 #[test]
-fn tells_a_failed_write_from_one_that_took_nothing(rt: HostRuntime) {
-    assert_stops_at_two(&rt, rt.alloc(), true, WriteFault::Io);
-    assert_stops_at_two(&rt, rt.alloc(), false, WriteFault::WroteNothing);
-}
-
-#[test]
-fn a_sink_takes_all(rt: HostRuntime) {
-    assert_eq!(&rt; write_whole(b"two", &mut io::sink()), Ok(()));
-}
-
-/// Asserts what a fault prints.
-fn assert_printed(
-    rt: &impl Abort,
-    alloc: Global,
-    fault: WriteFault,
-    text: &str,
-) -> Result<(), AllocError> {
-    let printed = fault.to_string(alloc)?;
-    assert_text(rt, printed.as_str(), text);
+fn writes_whole(rt: HostRuntime) -> Result<(), WriteFault> {
+    assert!(rt; is_written_twice(rt.alloc())?);
+    assert!(rt; stops_at_two(rt.alloc(), true, WriteFault::Io));
+    assert!(rt; stops_at_two(rt.alloc(), false, WriteFault::WroteNothing));
+    assert!(rt; write_whole(b"two", &mut io::sink()) == Ok(()));
     Ok(())
 }
 
-/// Asserts the number of a fault and what it prints.
-fn assert_fault(
-    rt: &impl Abort,
-    alloc: Global,
-    fault: WriteFault,
-    number: u8,
-    text: &str,
-) -> Result<(), AllocError> {
-    assert_eq!(rt; fault as u8, number);
-    assert_printed(rt, alloc, fault, text)
-}
+/// The faults.
+const FAULTS: [WriteFault; 3] = [WriteFault::Io, WriteFault::WroteNothing, WriteFault::Memory];
 
 #[test]
 fn numbers_faults(rt: HostRuntime) -> Result<(), AllocError> {
-    assert_fault(&rt, rt.alloc(), WriteFault::Io, 1, "Io 1")?;
-    assert_fault(
-        &rt,
-        rt.alloc(),
-        WriteFault::WroteNothing,
-        2,
-        "WroteNothing 2",
-    )?;
-    assert_fault(&rt, rt.alloc(), WriteFault::Memory, 3, "Memory 3")?;
+    let [io, nothing, memory] = FAULTS;
+    let text = format!(in rt.alloc(); "{io}, {nothing}, {memory}")?;
+    assert!(rt; text.as_str() == "Io 1, WroteNothing 2, Memory 3");
+    assert!(rt; [io as u8, nothing as u8, memory as u8] == [1, 2, 3]);
     Ok(())
 }

@@ -1,60 +1,22 @@
 //! The calls of cmdline.
 
+use crate::asserts::assert_right;
 use clap::Error;
 use cmdline::{Request, request_of};
 use std::alloc::{AllocError, Global};
 use std::process::Abort;
 
-/// Appends a word.
-fn push_word(alloc: Global, words: &mut Vec<String>, word: &str) -> Result<(), AllocError> {
-    words.push(String::from_str(alloc, word)?)?;
-    Ok(())
-}
-
 /// The words of a line, between single spaces.
 fn words_of(alloc: Global, line: &str) -> Result<Vec<String>, AllocError> {
     let mut words = Vec::new(alloc);
     for word in line.split(' ') {
-        push_word(alloc, &mut words, word)?;
+        words.push(String::from_str(alloc, word)?)?;
     }
     Ok(words)
 }
 
-/// Asserts that the words of a line are this request.
-fn assert_request(
-    rt: &impl Abort,
-    alloc: Global,
-    line: &str,
-    words: &[String],
-    asked: &Request<'_>,
-) {
-    match request_of(alloc, words) {
-        Ok(request) => assert!(rt; request == Some(*asked), "{line}"),
-        Err(error) => panic!(rt; "{line}: {error}"),
-    }
-}
-
-/// Asserts that a line is this request.
-fn assert_asks(
-    rt: &impl Abort,
-    alloc: Global,
-    line: &str,
-    asked: &Request<'_>,
-) -> Result<(), AllocError> {
-    let words = words_of(alloc, line)?;
-    assert_request(rt, alloc, line, words.as_slice(), asked);
-    Ok(())
-}
-
 /// The request of `seq`.
 const SEQ: Request<'static> = Request::Seq { file: "a.block" };
-
-#[test]
-fn reads_seq(rt: HostRuntime) -> Result<(), AllocError> {
-    assert_asks(&rt, rt.alloc(), "rvstm seq a.block", &SEQ)?;
-    assert_asks(&rt, rt.alloc(), "rvstm seq -- a.block", &SEQ)?;
-    Ok(())
-}
 
 /// The request of `asm`.
 const ASM: Request<'static> = Request::Asm {
@@ -62,73 +24,56 @@ const ASM: Request<'static> = Request::Asm {
     out: "a.elf",
 };
 
-/// The request of `migrate`.
-const MIGRATE: Request<'static> = Request::Migrate {
-    file: "a.block",
-    out: "b.block",
-};
-
-/// The request of `dis`.
-const DIS: Request<'static> = Request::Dis { file: "a.elf" };
-
-#[test]
-fn reads_migrate(rt: HostRuntime) -> Result<(), AllocError> {
-    let line = "rvstm migrate a.block --out b.block";
-    assert_asks(&rt, rt.alloc(), line, &MIGRATE)
-}
-
-#[test]
-fn reads_asm_and_dis(rt: HostRuntime) -> Result<(), AllocError> {
-    assert_asks(&rt, rt.alloc(), "rvstm asm a.s --out a.elf", &ASM)?;
-    assert_asks(&rt, rt.alloc(), "rvstm asm --out=a.elf a.s", &ASM)?;
-    assert_asks(&rt, rt.alloc(), "rvstm dis a.elf", &DIS)?;
-    Ok(())
-}
-
-/// Lines of `drive`, each with the number of workers and whether it asks for counts.
-const DRIVES: &[(&str, usize, bool)] = &[
+/// Lines, each with its request.
+const LINES: &[(&str, Request<'static>)] = &[
+    ("rvstm seq a.block", SEQ),
+    ("rvstm seq -- a.block", SEQ),
+    (
+        "rvstm migrate a.block --out b.block",
+        Request::Migrate {
+            file: "a.block",
+            out: "b.block",
+        },
+    ),
+    ("rvstm asm a.s --out a.elf", ASM),
+    ("rvstm asm --out=a.elf a.s", ASM),
+    ("rvstm dis a.elf", Request::Dis { file: "a.elf" }),
     (
         "rvstm drive a.block --workers 1 --schedule b.schedule",
-        1,
-        false,
+        Request::Drive {
+            file: "a.block",
+            workers: 1,
+            schedule: "b.schedule",
+            counts: false,
+        },
     ),
     (
         "rvstm drive --schedule=b.schedule --workers=32 a.block",
-        32,
-        false,
+        Request::Drive {
+            file: "a.block",
+            workers: 32,
+            schedule: "b.schedule",
+            counts: false,
+        },
     ),
     (
         "rvstm drive --workers 007 a.block --schedule b.schedule",
-        7,
-        false,
+        Request::Drive {
+            file: "a.block",
+            workers: 7,
+            schedule: "b.schedule",
+            counts: false,
+        },
     ),
     (
         "rvstm drive --counts a.block --workers 2 --schedule b.schedule",
-        2,
-        true,
+        Request::Drive {
+            file: "a.block",
+            workers: 2,
+            schedule: "b.schedule",
+            counts: true,
+        },
     ),
-];
-
-/// The request of `drive` with this many workers.
-fn drive(workers: usize, counts: bool) -> Request<'static> {
-    Request::Drive {
-        file: "a.block",
-        workers,
-        schedule: "b.schedule",
-        counts,
-    }
-}
-
-#[test]
-fn reads_drive(rt: HostRuntime) -> Result<(), AllocError> {
-    for (line, workers, counts) in DRIVES {
-        assert_asks(&rt, rt.alloc(), line, &drive(*workers, *counts))?;
-    }
-    Ok(())
-}
-
-/// Lines of `run` and `debug`, each with its request.
-const RUNS: &[(&str, Request<'static>)] = &[
     (
         "rvstm run a.block --workers 007",
         Request::Run {
@@ -161,33 +106,36 @@ const RUNS: &[(&str, Request<'static>)] = &[
     ),
 ];
 
-#[test]
-fn reads_run_and_debug(rt: HostRuntime) -> Result<(), AllocError> {
-    for (line, asked) in RUNS {
-        assert_asks(&rt, rt.alloc(), line, asked)?;
-    }
-    Ok(())
-}
-
-/// The error that words are answered with; None where they are a request.
-fn error_of(alloc: Global, words: &[String]) -> Option<Error> {
-    request_of(alloc, words).err()
-}
-
-/// Whether the error of a line is for standard error; None where the line has none.
-fn refusal(alloc: Global, line: &str) -> Result<Option<bool>, AllocError> {
+/// Whether a line is this request.
+fn is_request(alloc: Global, line: &str, asked: &Request<'_>) -> Result<bool, AllocError> {
     let words = words_of(alloc, line)?;
-    match error_of(alloc, words.as_slice()) {
-        Some(error) => Ok(Some(error.use_stderr())),
-        None => Ok(None),
-    }
+    Ok(match request_of(alloc, words.as_slice()) {
+        Ok(request) => request == Some(*asked),
+        Err(_) => false,
+    })
 }
 
-/// Asserts that a line is refused on standard error.
-fn assert_wrong(rt: &impl Abort, alloc: Global, line: &str) -> Result<(), AllocError> {
-    let refused = refusal(alloc, line)?;
-    assert!(rt; refused == Some(true), "{line}");
+#[test]
+fn reads_lines(rt: HostRuntime) -> Result<(), AllocError> {
+    for (line, asked) in LINES {
+        let is_right = is_request(rt.alloc(), line, asked)?;
+        assert_right(&rt, is_right, line);
+    }
     Ok(())
+}
+
+/// The error that a line is answered with; None where it is a request.
+fn error_of(alloc: Global, line: &str) -> Result<Option<Error>, AllocError> {
+    let words = words_of(alloc, line)?;
+    Ok(request_of(alloc, words.as_slice()).err())
+}
+
+/// Whether a line is refused on standard error.
+fn is_wrong(alloc: Global, line: &str) -> Result<bool, AllocError> {
+    Ok(match error_of(alloc, line)? {
+        Some(error) => error.use_stderr(),
+        None => false,
+    })
 }
 
 /// Lines that are refused.
@@ -222,7 +170,8 @@ const WRONG_LINES: &[&str] = &[
 #[test]
 fn refuses_wrong_lines(rt: HostRuntime) -> Result<(), AllocError> {
     for line in WRONG_LINES {
-        assert_wrong(&rt, rt.alloc(), line)?;
+        let is_right = is_wrong(rt.alloc(), line)?;
+        assert_right(&rt, is_right, line);
     }
     Ok(())
 }
@@ -237,32 +186,20 @@ const HELPS: &[(&str, &str)] = &[
     ("rvstm --version", "rvstm 0.1.0"),
 ];
 
-/// Asserts that an error is for standard output, and that its text has this part.
-fn assert_help(
-    rt: &impl Abort,
-    alloc: Global,
-    error: &Error,
-    part: &str,
-) -> Result<(), AllocError> {
-    assert!(rt; !error.use_stderr(), "no {part}");
-    let text = format!(in alloc; "{error}")?;
-    assert!(rt; text.contains(part), "no {part}");
-    Ok(())
-}
-
-/// Asserts that a line is answered on standard output, by a text with this part.
-fn assert_helps(rt: &impl Abort, alloc: Global, line: &str, part: &str) -> Result<(), AllocError> {
-    let words = words_of(alloc, line)?;
-    let Some(error) = error_of(alloc, words.as_slice()) else {
-        panic!(rt; "{line}");
+/// Whether a line is answered on standard output, by a text with this part.
+fn is_help(alloc: Global, line: &str, part: &str) -> Result<bool, AllocError> {
+    let Some(error) = error_of(alloc, line)? else {
+        return Ok(false);
     };
-    assert_help(rt, alloc, &error, part)
+    let text = format!(in alloc; "{error}")?;
+    Ok(!error.use_stderr() && text.contains(part))
 }
 
 #[test]
 fn answers_requests_for_help(rt: HostRuntime) -> Result<(), AllocError> {
     for (line, part) in HELPS {
-        assert_helps(&rt, rt.alloc(), line, part)?;
+        let is_right = is_help(rt.alloc(), line, part)?;
+        assert_right(&rt, is_right, line);
     }
     Ok(())
 }

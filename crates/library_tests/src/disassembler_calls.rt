@@ -1,29 +1,21 @@
 //! Worked words, both ways.
 
+use crate::asserts::assert_right;
 use crate::source_lines::word;
 use rv_names::Section;
 use rv_text::disassemble;
 use std::alloc::{AllocError, Global};
 use std::process::Abort;
-use std::test::Fail;
 
-/// What the disassembler makes of `pc ` for a word.
-fn disassembled(alloc: Global, code: u32) -> Result<String, AllocError> {
+/// Whether a word has a text, which is appended behind `pc `; and whether this text gives the word.
+fn is_both_ways(alloc: Global, code: u32, text: &str) -> Result<bool, AllocError> {
     let mut line = String::from_str(alloc, "pc ")?;
     disassemble(alloc, code, &mut line)?;
-    Ok(line)
+    let is_text = line.as_str().strip_prefix("pc ") == Some(text);
+    Ok(is_text && word(Section::Text, text) == Some(code))
 }
 
-/// Checks words both ways: the text of each, appended behind `pc `, and the word that this text gives.
-fn both_ways(rt: &impl Abort, alloc: Global, rows: &[(u32, &str)]) -> Result<(), Fail> {
-    for (code, text) in rows {
-        assert!(rt; word(Section::Text, text) == Some(*code), "{text}");
-        let line = disassembled(alloc, *code)?;
-        assert!(rt; line.as_str().strip_prefix("pc ") == Some(*text), "{line}");
-    }
-    Ok(())
-}
-
+/// five_words
 const FIVE_WORDS: &[(u32, &str)] = &[
     (0x0050_0093, "addi x1,x0,5"),
     (0x0020_81b3, "add x3,x1,x2"),
@@ -32,21 +24,13 @@ const FIVE_WORDS: &[(u32, &str)] = &[
     (0x41f0_d093, "srai x1,x1,31"),
 ];
 
-#[test]
-fn five_words(rt: HostRuntime) -> Result<(), Fail> {
-    both_ways(&rt, rt.alloc(), FIVE_WORDS)
-}
-
+/// illegal_words
 const ILLEGAL_WORDS: &[(u32, &str)] = &[
     (0x0000_0000, ".word 0x00000000"),
     (0x0200_9093, ".word 0x02009093"),
 ];
 
-#[test]
-fn illegal_words(rt: HostRuntime) -> Result<(), Fail> {
-    both_ways(&rt, rt.alloc(), ILLEGAL_WORDS)
-}
-
+/// more_words
 const MORE_WORDS: &[(u32, &str)] = &[
     (0x0ff0_000f, "fence"),
     (0x0000_000f, ".word 0x0000000f"),
@@ -54,11 +38,6 @@ const MORE_WORDS: &[(u32, &str)] = &[
     (0x0000_9063, "bne x1,x0,0"),
     (0x0002_00b7, "lui x1,0x20"),
 ];
-
-#[test]
-fn more_words(rt: HostRuntime) -> Result<(), Fail> {
-    both_ways(&rt, rt.alloc(), MORE_WORDS)
-}
 
 /// A word of each instruction, and its text as GNU objdump prints it. The text of a FENCE with
 /// other fields than the plain one is its word as a number.
@@ -115,6 +94,12 @@ const WORDS: &[(u32, &str)] = &[
 ];
 
 #[test]
-fn words_of_another_tool(rt: HostRuntime) -> Result<(), Fail> {
-    both_ways(&rt, rt.alloc(), WORDS)
+fn worked_words(rt: HostRuntime) -> Result<(), AllocError> {
+    for rows in [FIVE_WORDS, ILLEGAL_WORDS, MORE_WORDS, WORDS] {
+        for (code, text) in rows {
+            let is_right = is_both_ways(rt.alloc(), *code, text)?;
+            assert_right(&rt, is_right, text);
+        }
+    }
+    Ok(())
 }

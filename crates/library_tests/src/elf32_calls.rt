@@ -1,5 +1,6 @@
 //! The calls of elf32.
 
+use crate::asserts::assert_right;
 use crate::program_file::ECHO;
 use elf32::*;
 use rv_mem::Memory;
@@ -89,19 +90,12 @@ fn echo_loads(rt: HostRuntime) -> Result<(), Fail> {
     Ok(())
 }
 
-// Files that end within the headers, and within the text.
-fn short_echo(rt: &impl Abort, alloc: Global) {
-    for len in 0..84 {
-        assert!(rt;
-            refusal(alloc, &ECHO[..len]) == Some(ElfError::Truncated),
-            "at {len}"
-        );
-    }
-    for len in 84..92 {
-        assert!(rt;
-            refusal(alloc, &ECHO[..len]) == Some(ElfError::SegmentRange),
-            "at {len}"
-        );
+// Why `load` refuses a file of so many bytes: one that ends within the headers, or within the text.
+fn fault_of_length(len: usize) -> ElfError {
+    if len < 84 {
+        ElfError::Truncated
+    } else {
+        ElfError::SegmentRange
     }
 }
 
@@ -115,10 +109,11 @@ fn short_files(rt: HostRuntime) -> Result<(), Fail> {
 
 #[test]
 fn malicious_files(rt: HostRuntime) -> Result<(), Fail> {
-    let alloc = rt.alloc();
-    short_echo(&rt, alloc);
+    for len in 0..92 {
+        assert!(rt; refusal(rt.alloc(), &ECHO[..len]) == Some(fault_of_length(len)));
+    }
     let far_table = &[(28, 0xff), (29, 0xff), (30, 0xff), (31, 0xff)];
-    let far_table = refusal_of_changed(alloc, &ECHO, far_table)?;
+    let far_table = refusal_of_changed(rt.alloc(), &ECHO, far_table)?;
     assert!(rt; far_table == Some(ElfError::Truncated));
     Ok(())
 }
@@ -342,7 +337,7 @@ const TEXTS: &[(ElfError, &str)] = &[
 fn texts(rt: HostRuntime) -> Result<(), Fail> {
     for (error, expected) in TEXTS {
         let text = format!(in rt.alloc(); "{error}")?;
-        assert!(rt; text.as_str() == *expected, "{text}");
+        assert_right(&rt, text.as_str() == *expected, expected);
     }
     Ok(())
 }

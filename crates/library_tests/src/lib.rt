@@ -46,6 +46,8 @@ mod second_format;
 #[cfg(test)]
 mod source_lines;
 #[cfg(test)]
+mod texts;
+#[cfg(test)]
 mod validate_calls;
 #[cfg(test)]
 mod version_arena_calls;

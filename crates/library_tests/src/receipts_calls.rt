@@ -1,15 +1,13 @@
-//! The text, compared with one that was written by hand, and writers that stop at each place.
+//! The text, compared with one that was written by hand.
 
-use crate::asserts::{assert_bytes, assert_text};
-use crate::byte_streams_calls::Slow;
-use byte_streams::WriteFault;
+use crate::asserts::assert_right;
 use receipts::{end_name, one_text_of, result_text, write_outcome};
 use rv_isa::{Reg, Regs};
 use rv_ledger::{
     Change, End, InlineBytes, Job, Key, Outcome, Receipt, Store, StoredOutput, Trap, Value,
     Write as WriteTo, Writes,
 };
-use std::alloc::{AllocError, Global};
+use std::alloc::Global;
 use std::process::Abort;
 use std::test::Fail;
 
@@ -43,33 +41,24 @@ const TEXT: &str = "\
 
 /// The outcome whose text that is.
 fn outcome(alloc: Global) -> Result<Outcome, Fail> {
-    let mut outcome = empty_outcome(alloc)?;
-    push_receipts(alloc, &mut outcome.receipts)?;
-    insert_values(&mut outcome.store)?;
-    Ok(outcome)
-}
-
-/// The outcome of no calls.
-fn empty_outcome(alloc: Global) -> Result<Outcome, Fail> {
-    Ok(Outcome {
+    let mut outcome = Outcome {
         job: Job::new(Vec::new(alloc), Store::new(alloc))?,
         receipts: Vec::new(alloc),
         store: Store::new(alloc),
         counts: Vec::new(alloc),
-    })
+    };
+    fill(alloc, &mut outcome)?;
+    Ok(outcome)
 }
 
-/// Appends the receipts of that outcome.
-fn push_receipts(alloc: Global, receipts: &mut Vec<Receipt>) -> Result<(), Fail> {
-    receipts.push(echo(alloc)?)?;
-    receipts.push(writer(alloc)?)?;
-    Ok(())
-}
-
-/// Stores what that outcome stores.
-fn insert_values(store: &mut Store) -> Result<(), Fail> {
-    store.insert(Key::new([0xff; 32]), value(&[1])?)?;
-    store.insert(Key::new([10; 32]), InlineBytes::empty())?;
+/// Puts the receipts and the values of that outcome into an empty one.
+fn fill(alloc: Global, outcome: &mut Outcome) -> Result<(), Fail> {
+    outcome.receipts.push(echo(alloc)?)?;
+    outcome.receipts.push(writer(alloc)?)?;
+    outcome.store.insert(Key::new([0xff; 32]), value(&[1])?)?;
+    outcome
+        .store
+        .insert(Key::new([10; 32]), InlineBytes::empty())?;
     Ok(())
 }
 
@@ -123,48 +112,25 @@ fn write(writes: &mut Writes, key: [u8; 32], change: Change<Value>) -> Result<()
     Ok(())
 }
 
-/// Asserts that an output holds a 7 and the text.
-fn assert_behind(rt: &impl Abort, out: &[u8]) {
-    let [first, rest @ ..] = out else {
-        panic!(rt; "nothing is held");
-    };
-    assert_eq!(rt; *first, 7);
-    assert_bytes(rt, rest, TEXT.as_bytes());
-}
-
-/// Writes a 7 and then the outcome.
-fn write_behind(alloc: Global, outcome: &Outcome, out: &mut Vec<u8>) -> Result<(), Fail> {
-    out.push(7)?;
-    write_outcome(alloc, outcome, out)?;
-    Ok(())
-}
-
-/// Asserts that an outcome is written behind what an output holds.
-fn assert_written(rt: &impl Abort, alloc: Global, outcome: &Outcome) -> Result<(), Fail> {
+/// Whether an outcome is written behind what an output holds.
+fn is_written(alloc: Global, outcome: &Outcome) -> Result<bool, Fail> {
     let mut out = Vec::new(alloc);
-    write_behind(alloc, outcome, &mut out)?;
-    assert_behind(rt, out.as_slice());
-    Ok(())
-}
-
-/// The text of a result without calls.
-fn empty_text(alloc: Global) -> Result<Vec<u8>, AllocError> {
-    result_text(alloc, &[], &Store::new(alloc))
-}
-
-/// Asserts that this text is right.
-fn assert_empty(rt: &impl Abort, alloc: Global) -> Result<(), AllocError> {
-    let text = empty_text(alloc)?;
-    assert_bytes(rt, text.as_slice(), b"end\n");
-    Ok(())
+    out.push(7)?;
+    write_outcome(alloc, outcome, &mut out)?;
+    Ok(match out.as_slice() {
+        [7, rest @ ..] => rest == TEXT.as_bytes(),
+        _ => false,
+    })
 }
 
 #[test]
 fn writes_a_result(rt: HostRuntime) -> Result<(), Fail> {
-    assert_empty(&rt, rt.alloc())?;
     let outcome = outcome(rt.alloc())?;
     one_text_of(&outcome, &outcome);
-    assert_written(&rt, rt.alloc(), &outcome)
+    assert!(rt; is_written(rt.alloc(), &outcome)?);
+    let empty = result_text(rt.alloc(), &[], &Store::new(rt.alloc()))?;
+    assert!(rt; empty.as_slice() == b"end\n".as_slice());
+    Ok(())
 }
 
 /// Each end with its name.
@@ -185,54 +151,6 @@ const NAMES: &[(End, &str)] = &[
 #[test]
 fn names_ends(rt: HostRuntime) {
     for (end, name) in NAMES {
-        assert_text(&rt, end_name(*end), name);
+        assert_right(&rt, end_name(*end) == *name, name);
     }
-}
-
-/// Asserts that a writer that takes this many bytes holds so much of the text.
-fn assert_held(rt: &impl Abort, held: &[u8], room: usize) {
-    assert_eq!(rt; Some(held), TEXT.as_bytes().get(..room), "at {room}");
-}
-
-/// Asserts what writing the text to a writer that takes this many bytes answers.
-fn assert_answer(rt: &impl Abort, answer: Result<(), WriteFault>, room: usize, fails: bool) {
-    assert_eq!(rt; answer, answer_at(room, fails), "at {room}");
-}
-
-/// Asserts what a writer that takes this many bytes answers and holds.
-fn assert_stops(rt: &impl Abort, alloc: Global, outcome: &Outcome, room: usize, fails: bool) {
-    let mut out = Slow {
-        held: Vec::new(alloc),
-        room,
-        fails,
-    };
-    let answer = write_outcome(alloc, outcome, &mut out);
-    assert_answer(rt, answer, room, fails);
-    assert_held(rt, out.held.as_slice(), room);
-}
-
-/// The answer to writing the text to a writer that takes this many bytes.
-fn answer_at(room: usize, fails: bool) -> Result<(), WriteFault> {
-    if room >= TEXT.len() {
-        Ok(())
-    } else if fails {
-        Err(WriteFault::Io)
-    } else {
-        Err(WriteFault::WroteNothing)
-    }
-}
-
-/// Asserts what writers that stop at each place answer and hold.
-fn assert_each(rt: &impl Abort, alloc: Global, outcome: &Outcome) {
-    for room in 0..=TEXT.len() {
-        assert_stops(rt, alloc, outcome, room, true);
-        assert_stops(rt, alloc, outcome, room, false);
-    }
-}
-
-#[test]
-fn stops_at_each_place(rt: HostRuntime) -> Result<(), Fail> {
-    let outcome = outcome(rt.alloc())?;
-    assert_each(&rt, rt.alloc(), &outcome);
-    Ok(())
 }

@@ -72,56 +72,55 @@ fn holds_the_image_and_the_input(rt: HostRuntime) -> Result<(), Fail> {
     Ok(())
 }
 
-fn stores(rt: &impl Abort, memory: &mut Memory) {
-    assert!(rt; memory.store32(0x0002_0000, 0x0403_0201) == Ok(()));
-    assert!(rt; memory.store16(0x0002_0002, 0x0605) == Ok(()));
-    assert!(rt; memory.store8(0x0002_0001, 7) == Ok(()));
-    assert!(rt; memory.load32(0x0002_0000) == Ok(0x0605_0701));
-    assert!(rt; memory.store32(0x0001_0000, 9) == Err(Fault::MemoryFault));
-    assert!(rt; memory.store16(0x0002_0001, 9) == Err(Fault::Misaligned));
-    assert!(rt; memory.store32(0xffff_fffc, 9) == Err(Fault::MemoryFault));
+fn stores(memory: &mut Memory) -> bool {
+    memory.store32(0x0002_0000, 0x0403_0201) == Ok(())
+        && memory.store16(0x0002_0002, 0x0605) == Ok(())
+        && memory.store8(0x0002_0001, 7) == Ok(())
+        && memory.load32(0x0002_0000) == Ok(0x0605_0701)
+        && memory.store32(0x0001_0000, 9) == Err(Fault::MemoryFault)
+        && memory.store16(0x0002_0001, 9) == Err(Fault::Misaligned)
+        && memory.store32(0xffff_fffc, 9) == Err(Fault::MemoryFault)
 }
 
-fn copies(rt: &impl Abort, memory: &mut Memory) {
-    assert!(rt; memory.copy_in(0x0002_0fff, &[1, 2]) == Ok(()));
+fn copies(memory: &mut Memory) -> bool {
     let mut out = [0; 3];
-    assert!(rt; memory.copy_out(0x0002_0ffe, &mut out) == Ok(()));
-    assert!(rt; out == [0, 1, 2]);
-    assert!(rt; memory.copy_in(0x0010_ffff, &[1, 2]) == Err(Fault::MemoryFault));
-    assert!(rt; memory.copy_out(0x0010_fffe, &mut out) == Err(Fault::MemoryFault));
-    assert!(rt; out == [0, 1, 2]);
+    memory.copy_in(0x0002_0fff, &[1, 2]) == Ok(())
+        && memory.copy_out(0x0002_0ffe, &mut out) == Ok(())
+        && out == [0, 1, 2]
+        && memory.copy_in(0x0010_ffff, &[1, 2]) == Err(Fault::MemoryFault)
+        && memory.copy_out(0x0010_fffe, &mut out) == Err(Fault::MemoryFault)
+        && out == [0, 1, 2]
 }
 
 #[test]
 fn stores_and_copies(rt: HostRuntime) -> Result<(), Fail> {
     let mut memory = memory_alone(rt.alloc())?;
-    stores(&rt, &mut memory);
-    copies(&rt, &mut memory);
+    assert!(rt; stores(&mut memory));
+    assert!(rt; copies(&mut memory));
     Ok(())
 }
 
-fn copies_pages(rt: &impl Abort, memory: &mut Memory) {
-    assert!(rt; memory.copy_in(0x0003_0fff, &[5; 0x2002]) == Ok(()));
-    assert!(rt; memory.load8(0x0003_0ffe) == Ok(0));
-    assert!(rt; memory.load8(0x0003_0fff) == Ok(5));
-    assert!(rt; memory.load32(0x0003_2000) == Ok(0x0505_0505));
-    assert!(rt; memory.load32(0x0003_3000) == Ok(5));
+fn copies_pages(memory: &mut Memory) -> bool {
+    memory.copy_in(0x0003_0fff, &[5; 0x2002]) == Ok(())
+        && memory.load8(0x0003_0ffe) == Ok(0)
+        && memory.load8(0x0003_0fff) == Ok(5)
+        && memory.load32(0x0003_2000) == Ok(0x0505_0505)
+        && memory.load32(0x0003_3000) == Ok(5)
 }
 
-fn copied_pages(rt: &impl Abort, memory: &Memory) {
+fn has_copied_pages(memory: &Memory) -> bool {
     let mut out = [0; 0x2004];
-    assert!(rt; memory.copy_out(0x0003_0ffe, &mut out) == Ok(()));
     let mut expected = [5; 0x2004];
     expected[0] = 0;
     expected[0x2003] = 0;
-    assert!(rt; out == expected);
+    memory.copy_out(0x0003_0ffe, &mut out) == Ok(()) && out == expected
 }
 
 #[test]
 fn copies_over_several_pages(rt: HostRuntime) -> Result<(), Fail> {
     let mut memory = memory_alone(rt.alloc())?;
-    copies_pages(&rt, &mut memory);
-    copied_pages(&rt, &memory);
+    assert!(rt; copies_pages(&mut memory));
+    assert!(rt; has_copied_pages(&memory));
     Ok(())
 }
 

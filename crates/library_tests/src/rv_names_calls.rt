@@ -1,5 +1,6 @@
 //! Worked words and lines.
 
+use crate::asserts::assert_right;
 use crate::source_lines::word;
 use rv_isa::{Reg, decode, encode};
 use rv_names::{
@@ -49,10 +50,10 @@ const WORDS: &[(Section, &str, u32)] = &[
 #[test]
 fn pseudo_instructions(rt: HostRuntime) {
     for (text, words) in PAIRS {
-        assert!(rt; pair(text) == Some(*words), "{text}");
+        assert_right(&rt, pair(text) == Some(*words), text);
     }
     for (section, text, want) in WORDS {
-        assert!(rt; word(*section, text) == Some(*want), "{text}");
+        assert_right(&rt, word(*section, text) == Some(*want), text);
     }
 }
 
@@ -92,7 +93,7 @@ const CAUSES: &[(Section, &str, LineCause)] = &[
 #[test]
 fn causes(rt: HostRuntime) {
     for (section, text, want) in CAUSES {
-        assert!(rt; cause(*section, text) == Some(*want), "{text}");
+        assert_right(&rt, cause(*section, text) == Some(*want), text);
     }
     let zero = "addi x1,x0,-0";
     assert!(rt; word(Section::Text, zero) == Some(0x0000_0093));
@@ -124,7 +125,7 @@ const LABELS: &[(&str, Option<&[u8]>, Option<&[u8]>)] = &[
 #[test]
 fn labels(rt: HostRuntime) {
     for (text, label, target) in LABELS {
-        assert!(rt; names_in(text) == Some((*label, *target)), "{text}");
+        assert_right(&rt, names_in(text) == Some((*label, *target)), text);
     }
     let entered = Statement::Enter(Section::Data);
     assert!(rt; statement("x: .data") == Some(entered));
@@ -171,6 +172,6 @@ fn names(rt: HostRuntime) -> Result<(), Fail> {
     assert!(rt; jump_offset(-1048576).is_some());
     assert!(rt; load_word(b"t6", 0x800) == Some(0x0000_1fb7));
     let text = text_of(rt.alloc(), 0x0050_0093)?;
-    assert!(rt; text.as_str() == "addi x1,x0,5", "{text}");
+    assert!(rt; text.as_str() == "addi x1,x0,5");
     Ok(())
 }

@@ -1,12 +1,13 @@
 //! Block files of format 2, and what older ones are migrated to.
 
-use crate::asserts::assert_bytes;
-use crate::block_file_calls::{assert_refused, refusal};
+use crate::asserts::assert_right;
+use crate::block_file_calls::{assert_no_wrong, not_refused, refusal};
+use crate::texts::around;
 use block_file::*;
 use rv_ledger::Rules;
 use std::alloc::{AllocError, Global};
 use std::process::Abort;
-use std::test::*;
+use std::test::Fail;
 
 /// Files that are refused for their first lines, each with the line and the cause.
 const SECOND_LINES: &[(&str, usize, Cause)] = &[
@@ -33,26 +34,13 @@ const SECOND_LINES: &[(&str, usize, Cause)] = &[
 ];
 
 #[test]
-fn second_lines(rt: HostRuntime) {
-    for (text, line, cause) in SECOND_LINES {
-        assert_refused(&rt, rt.alloc(), text, *line, *cause);
-    }
+fn second_lines(rt: HostRuntime) -> Result<(), AllocError> {
+    assert_no_wrong(&rt, not_refused(rt.alloc(), "", SECOND_LINES)?);
+    Ok(())
 }
 
-/// A file that begins with `head` and stores a value of this many bytes at the key of zeros.
-fn storing(alloc: Global, head: &str, len: usize) -> Result<String, AllocError> {
-    let mut text = String::from_str(alloc, head)?;
-    text.push_str("store ")?;
-    for _ in 0..64 {
-        text.push('0')?;
-    }
-    text.push(' ')?;
-    for _ in 0..len {
-        text.push_str("5a")?;
-    }
-    text.push('\n')?;
-    Ok(text)
-}
+/// The key of zeros.
+const KEY: &str = "store 0000000000000000000000000000000000000000000000000000000000000000 ";
 
 /// The beginning of a file, a length of a value, and the line of the fault Limit where it is too long.
 const LENGTHS: &[(&str, usize, Option<usize>)] = &[
@@ -68,20 +56,27 @@ const LENGTHS: &[(&str, usize, Option<usize>)] = &[
     ("rvblock 2\ngas 3\n", 257, Some(3)),
 ];
 
-/// Asserts that a file has no fault, or Limit at this line.
-fn assert_limit(rt: &impl Abort, alloc: Global, text: &str, line: Option<usize>) {
-    let wanted = line.map(|line| BlockFault {
-        line,
-        cause: Cause::Limit,
-    });
-    assert_eq!(rt; refusal(alloc, text), wanted, "at {text}");
+/// Whether a file that begins with `head`, and stores a value of this many bytes, has no fault, or Limit at this line.
+fn is_limit(
+    alloc: Global,
+    head: &str,
+    len: usize,
+    line: Option<usize>,
+) -> Result<bool, AllocError> {
+    let mut text = String::from_str(alloc, head)?;
+    let stored = around(alloc, KEY, "5a", len, "\n")?;
+    text.push_str(stored.as_str())?;
+    Ok(match refusal(alloc, text.as_str()) {
+        None => line.is_none(),
+        Some(fault) => fault.cause == Cause::Limit && line == Some(fault.line),
+    })
 }
 
 #[test]
 fn lengths_of_values(rt: HostRuntime) -> Result<(), AllocError> {
     for (head, len, line) in LENGTHS {
-        let text = storing(rt.alloc(), head, *len)?;
-        assert_limit(&rt, rt.alloc(), text.as_str(), *line);
+        let is_right = is_limit(rt.alloc(), head, *len, *line)?;
+        assert_right(&rt, is_right, head);
     }
     Ok(())
 }
@@ -106,13 +101,6 @@ const OLD: &str = "rvblock 1\nprogram 0 a\ncall 0 7 00ff\n";
 
 const MIGRATED: &str = "rvblock 2\ngas 1\nprogram 0 a\ncall 0 7 00ff\n";
 
-#[test]
-fn migrated_file(rt: HostRuntime) -> Result<(), Fail> {
-    let text = migrate(rt.alloc(), OLD.as_bytes())?;
-    assert_bytes(&rt, text.as_slice(), MIGRATED.as_bytes());
-    Ok(())
-}
-
 /// Files that are not migrated, each with the line and the cause.
 const NOT_MIGRATED: &[(&str, usize, Cause)] = &[
     ("", 1, Cause::BadHeader),
@@ -124,18 +112,17 @@ const NOT_MIGRATED: &[(&str, usize, Cause)] = &[
     ("rvblock 1\nprogram 0 a", 2, Cause::BadLine),
 ];
 
-/// Asserts that a file is not migrated, for this cause at this line.
-fn assert_not_migrated(rt: &impl Abort, alloc: Global, text: &str, line: usize, cause: Cause) {
-    assert_eq!(rt;
-        migrate(alloc, text.as_bytes()).err(),
-        Some(BlockFault { line, cause }),
-        "at {text}"
-    );
+/// Whether a file is not migrated, for this cause at this line.
+fn is_not_migrated(alloc: Global, text: &str, line: usize, cause: Cause) -> bool {
+    migrate(alloc, text.as_bytes()).err() == Some(BlockFault { line, cause })
 }
 
 #[test]
-fn refused_migrations(rt: HostRuntime) {
+fn migrations(rt: HostRuntime) -> Result<(), Fail> {
+    let text = migrate(rt.alloc(), OLD.as_bytes())?;
+    assert!(rt; text.as_slice() == MIGRATED.as_bytes());
     for (text, line, cause) in NOT_MIGRATED {
-        assert_not_migrated(&rt, rt.alloc(), text, *line, *cause);
+        assert_right(&rt, is_not_migrated(rt.alloc(), text, *line, *cause), text);
     }
+    Ok(())
 }

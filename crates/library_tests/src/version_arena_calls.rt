@@ -1,3 +1,5 @@
+//! The calls of version_arena.
+
 ghost use Rattle.std.specs.Prelude.{◌≤◌, length};
 
 use rv_ledger::{Change, Value};
@@ -14,102 +16,54 @@ fn value(byte: u8) -> Value
     }
 }
 
-// A record's writer, incarnation and byte; the byte is 0 where the key was removed.
-fn byte(record: Option<Record<'_>>) -> Option<(u16, u16, u8)> {
-    match record {
-        Some(record) => match record.change {
-            Change::Value([byte]) => Some((record.writer, record.incarnation, *byte)),
-            Change::Gone => Some((record.writer, record.incarnation, 0)),
-            Change::Value(_) | Change::Sum(_) => None,
-        },
-        None => None,
-    }
+/// A record's writer and incarnation, and its byte or its sum; 0 where the key was removed.
+fn shown(record: Option<Record<'_>>) -> Option<(u16, u16, u64)> {
+    let record = record?;
+    let number = match record.change {
+        Change::Value([byte]) => u64::from(*byte),
+        Change::Gone => 0,
+        Change::Sum(amount) => amount,
+        Change::Value(_) => return None,
+    };
+    Some((record.writer, record.incarnation, number))
 }
 
-// A record's sum, where it is one.
-fn sum(record: Option<Record<'_>>) -> Option<u64> {
-    match record {
-        Some(record) => match record.change {
-            Change::Sum(amount) => Some(amount),
-            _ => None,
-        },
-        None => None,
-    }
-}
-
-// Asserts that an arena has this record; None where it has none.
-fn assert_record(rt: &impl Abort, arena: &Arena, id: VersionId, record: Option<(u16, u16, u8)>) {
-    assert_eq!(rt; byte(arena.get(id)), record);
-}
-
-// Asserts that an arena refuses this room, as it has too many records then.
-fn assert_full(rt: &impl Abort, arena: &mut Arena, records: usize, bytes: usize) {
-    assert_eq!(rt;
-        arena.reserve(records, bytes),
-        Err(ReserveFault::ArenaFull),
-        "{records} records"
-    );
-}
-
-// Reserves room for a record of one byte, and places it.
-fn place_one(arena: &mut Arena) -> Result<VersionId, ReserveFault> {
+/// Reserves room for a record of one byte, and places it.
+fn place_byte(arena: &mut Arena, writer: u16, byte: u8) -> Result<VersionId, ReserveFault> {
     arena.reserve(1, 1)?;
-    let one = value(1);
-    Ok(arena.place(0, 0, Change::Value(&one)))
+    let value = value(byte);
+    Ok(arena.place(writer, 0, Change::Value(&value)))
 }
 
-// Asserts that an arena refuses what is too much, before and after a record is placed.
-fn assert_fills(rt: &impl Abort, arena: &mut Arena) -> Result<(), ReserveFault> {
-    assert_full(rt, arena, 1_048_577, 0);
-    let id = place_one(arena)?;
-    assert_full(rt, arena, 1_048_576, 0);
-    assert_full(rt, arena, usize::MAX, usize::MAX);
-    assert_eq!(rt; arena.len(), 1);
-    assert_record(rt, arena, id, Some((0, 0, 1)));
-    Ok(())
+/// Whether an arena refuses this room, as it has too many records then.
+fn is_full(arena: &mut Arena, records: usize, bytes: usize) -> bool {
+    arena.reserve(records, bytes) == Err(ReserveFault::ArenaFull)
 }
 
-// Asserts the numbers of the refusals.
-fn assert_numbers(rt: &impl Abort) {
-    assert_eq!(rt; ReserveFault::ArenaFull as u8, 1);
-    assert_eq!(rt; ReserveFault::Memory as u8, 2);
+/// Whether an arena refuses what is too much, before and after a record is placed.
+fn is_filled(arena: &mut Arena) -> Result<bool, ReserveFault> {
+    let is_refused = is_full(arena, 1_048_577, 0);
+    let id = place_byte(arena, 0, 1)?;
+    Ok(
+        is_refused
+            && is_full(arena, 1_048_576, 0)
+            && is_full(arena, usize::MAX, usize::MAX)
+            && arena.len() == 1
+            && shown(arena.get(id)) == Some((0, 0, 1)),
+    )
 }
 
-#[test]
-fn arena_full(rt: HostRuntime) -> Result<(), ReserveFault> {
-    let mut arena = Arena::new(rt.alloc());
-    assert_numbers(&rt);
-    assert_fills(&rt, &mut arena)
-}
-
-// Places a record of one byte and then one of a removal, whose name it answers.
-fn place_two(arena: &mut Arena) -> Result<VersionId, ReserveFault> {
-    arena.reserve(2, 1)?;
-    let two = value(2);
-    let _ = arena.place(1, 0, Change::Value(&two));
-    Ok(arena.place(1, 0, Change::Gone))
-}
-
-// Asserts that a name gives no record that was removed, though it may give one that was placed later.
-fn assert_resets(rt: &impl Abort, arena: &mut Arena) -> Result<(), ReserveFault> {
-    let id = place_one(arena)?;
-    assert_record(rt, arena, id, Some((0, 0, 1)));
+/// Whether a name gives no record that was removed, though it may give one that was placed later.
+fn is_reset(arena: &mut Arena) -> Result<bool, ReserveFault> {
+    let id = place_byte(arena, 0, 1)?;
     arena.reset();
-    assert_record(rt, arena, id, None);
-    let gone = place_two(arena)?;
-    let again = byte(arena.get(id));
-    assert!(rt; again.is_none() || again == Some((1, 0, 2)));
-    assert_record(rt, arena, gone, Some((1, 0, 0)));
-    Ok(())
+    let is_gone = shown(arena.get(id)).is_none();
+    let _ = place_byte(arena, 1, 2)?;
+    let again = shown(arena.get(id));
+    Ok(is_gone && (again.is_none() || again == Some((1, 0, 2))))
 }
 
-#[test]
-fn place_reset_get(rt: HostRuntime) -> Result<(), ReserveFault> {
-    let mut arena = Arena::new(rt.alloc());
-    assert_resets(&rt, &mut arena)
-}
-
-// Places a record, removes it, and places one of a removal in its room. Answers the name of the first.
+/// Places a record, removes it, and places one of a removal in its room. Answers the name of the first.
 fn place_again(arena: &mut Arena) -> Result<VersionId, ReserveFault> {
     arena.reserve(1, 1)?;
     let one = value(1);
@@ -119,34 +73,39 @@ fn place_again(arena: &mut Arena) -> Result<VersionId, ReserveFault> {
     Ok(id)
 }
 
-// Asserts that a record can be placed in the room of one that was removed.
-fn assert_keeps_room(rt: &impl Abort, arena: &mut Arena) -> Result<(), ReserveFault> {
+/// Whether a record can be placed in the room of one that was removed.
+fn is_room_kept(arena: &mut Arena) -> Result<bool, ReserveFault> {
     let id = place_again(arena)?;
-    assert_record(rt, arena, id, Some((2, 3, 0)));
+    Ok(shown(arena.get(id)) == Some((2, 3, 0)))
+}
+
+/// Whether an arena lends a sum, which takes no bytes, as it was placed.
+fn is_sum_lent(arena: &mut Arena) -> Result<bool, ReserveFault> {
+    arena.reserve(1, 0)?;
+    let id = arena.place(1, 0, Change::Sum(u64::MAX));
+    Ok(shown(arena.get(id)) == Some((1, 0, u64::MAX)))
+}
+
+/// The numbers of the refusals, too.
+#[test]
+fn arena_full(rt: HostRuntime) -> Result<(), ReserveFault> {
+    let mut arena = Arena::new(rt.alloc());
+    assert!(rt; is_filled(&mut arena)?);
+    assert!(rt; [ReserveFault::ArenaFull as u8, ReserveFault::Memory as u8] == [1, 2]);
+    Ok(())
+}
+
+#[test]
+fn place_reset_get(rt: HostRuntime) -> Result<(), ReserveFault> {
+    let mut arena = Arena::new(rt.alloc());
+    assert!(rt; is_reset(&mut arena)?);
+    assert!(rt; is_sum_lent(&mut arena)?);
     Ok(())
 }
 
 #[test]
 fn reset_keeps_room(rt: HostRuntime) -> Result<(), ReserveFault> {
     let mut arena = Arena::new(rt.alloc());
-    assert_keeps_room(&rt, &mut arena)
-}
-
-// Places a sum, which takes no bytes.
-fn place_sum(arena: &mut Arena) -> Result<VersionId, ReserveFault> {
-    arena.reserve(1, 0)?;
-    Ok(arena.place(1, 0, Change::Sum(u64::MAX)))
-}
-
-// Asserts that an arena lends a sum as it was placed.
-fn assert_sum(rt: &impl Abort, arena: &mut Arena) -> Result<(), ReserveFault> {
-    let id = place_sum(arena)?;
-    assert!(rt; sum(arena.get(id)) == Some(u64::MAX));
+    assert!(rt; is_room_kept(&mut arena)?);
     Ok(())
-}
-
-#[test]
-fn a_sum_is_lent(rt: HostRuntime) -> Result<(), ReserveFault> {
-    let mut arena = Arena::new(rt.alloc());
-    assert_sum(&rt, &mut arena)
 }
