@@ -1,6 +1,6 @@
 //! The line of each refusal.
 
-use crate::asserts::{assert_reported, assert_shown};
+use crate::asserts::{assert_right, is_reported};
 use block_file::{BlockFault, Cause};
 use byte_streams::WriteFault;
 use debugger::ReplayFault;
@@ -88,7 +88,7 @@ const LAST_ASM_LINE: AsmError = AsmError {
     cause: AsmCause::UnknownMnemonic,
 };
 
-/// The refusals that `others` gives.
+/// The other refusals, with their lines.
 const OTHERS: &[(Refusal, &str)] = &[
     (
         Refusal::File(FileFault::Unreadable),
@@ -222,49 +222,40 @@ const OTHERS: &[(Refusal, &str)] = &[
     ),
 ];
 
-/// The other refusals, with their lines.
-fn others() -> &'static [(Refusal, &'static str)] {
-    OTHERS
-}
-
-/// Asserts the lines of a cause at line 2 of a block file and of a schedule file.
-fn assert_block_lines(rt: &impl Abort, alloc: Global, cause: Cause, block: &str, schedule: &str) {
+/// Whether a cause at line 2 of a block file and of a schedule file is reported so.
+fn is_block_reported(alloc: Global, cause: Cause, block: &str, schedule: &str) -> bool {
     let fault = BlockFault { line: 2, cause };
-    assert_reported(rt, alloc, &Refusal::Block(fault), block);
-    assert_reported(rt, alloc, &Refusal::Schedule(fault), schedule);
+    is_reported(alloc, &Refusal::Block(fault), block)
+        && is_reported(alloc, &Refusal::Schedule(fault), schedule)
 }
 
-/// Asserts the line of a cause at line 3 of a source.
-fn assert_asm_line(rt: &impl Abort, alloc: Global, cause: AsmCause, line: &str) {
-    let fault = AsmError { line: 3, cause };
-    assert_reported(rt, alloc, &Refusal::Asm(fault), line);
+/// Whether a cause at line 3 of a source is reported so.
+fn is_asm_reported(alloc: Global, cause: AsmCause, line: &str) -> bool {
+    is_reported(alloc, &Refusal::Asm(AsmError { line: 3, cause }), line)
 }
 
 #[test]
 fn each_refusal_has_its_line(rt: HostRuntime) {
-    for (refusal, line) in others() {
-        assert_reported(&rt, rt.alloc(), refusal, line);
+    for (refusal, line) in OTHERS {
+        assert_right(&rt, is_reported(rt.alloc(), refusal, line), line);
     }
     for (cause, block, schedule) in CAUSES {
-        assert_block_lines(&rt, rt.alloc(), *cause, block, schedule);
+        let is_right = is_block_reported(rt.alloc(), *cause, block, schedule);
+        assert_right(&rt, is_right, block);
     }
     for (cause, line) in ASM_CAUSES {
-        assert_asm_line(&rt, rt.alloc(), *cause, line);
+        assert_right(&rt, is_asm_reported(rt.alloc(), *cause, line), line);
     }
 }
 
-/// The faults of handing in a run, with what they print.
-const RECORD_FAULTS: &[(RecordFault, &str)] = &[
-    (RecordFault::Foreign, "Foreign 1"),
-    (RecordFault::ArenaFull, "ArenaFull 2"),
-    (RecordFault::Memory, "Memory 3"),
-    (RecordFault::IncarnationLimit, "IncarnationLimit 4"),
-];
+/// What the faults of handing in a run print.
+const RECORD_FAULTS: &str = "Foreign 1, ArenaFull 2, Memory 3, IncarnationLimit 4";
 
 #[test]
 fn record_faults_have_their_numbers(rt: HostRuntime) -> Result<(), Fail> {
-    for (fault, text) in RECORD_FAULTS {
-        assert_shown(&rt, rt.alloc(), fault, text)?;
-    }
+    let (foreign, full) = (RecordFault::Foreign, RecordFault::ArenaFull);
+    let (memory, limit) = (RecordFault::Memory, RecordFault::IncarnationLimit);
+    let text = format!(in rt.alloc(); "{foreign}, {full}, {memory}, {limit}")?;
+    assert!(rt; text.as_str() == RECORD_FAULTS);
     Ok(())
 }

@@ -1,7 +1,7 @@
 //! `rvstm asm` over a disk of which each request fails in turn: the file that stood at OUT stays.
 
-use crate::asserts::assert_number;
-use crate::fake_disk::{Stored, answer_to, assert_asked, assert_file};
+use crate::asserts::assert_right;
+use crate::fake_disk::{Stored, is_answered, is_refused};
 use crate::sources::{ECHO_FILE, ECHO_SOURCE};
 use std::alloc::Global;
 use std::io;
@@ -13,7 +13,7 @@ use std::thread::Threads;
 /// No request fails.
 const NONE: usize = usize::MAX;
 
-/// What stood at OUT before.
+/// What stood at OUT before, and at each name that is taken.
 const OLD: &[u8] = b"a good file";
 
 /// The line on standard error where OUT is not written.
@@ -32,245 +32,189 @@ fn disk_of_source(alloc: Global, has_out: bool, failing: usize) -> io::Result<St
     Ok(stored)
 }
 
-/// Asserts that a command line is done.
-fn assert_done<R: Threads + Wait + Sync + Abort>(
+/// Such a disk with a file at OUT, on which so many of the names that are tried are taken.
+fn disk_of_names(alloc: Global, names: usize) -> io::Result<Stored> {
+    let stored = disk_of_source(alloc, true, NONE)?;
+    for number in 0..names {
+        let name = format!(in alloc; ".rvstm.new{number}")?;
+        stored.put(alloc, name.as_str(), OLD)?;
+    }
+    Ok(stored)
+}
+
+/// Whether a command line is done, and a file is that of the source then.
+fn is_assembled<R: Threads + Wait + Sync>(
     rt: &R,
     alloc: Global,
+    stored: &Stored,
     line: &str,
-    stored: &Stored,
-) {
-    let answer = answer_to(rt, alloc, line.as_bytes(), stored);
-    assert_number(rt, answer.status as u64, 0, line);
-}
-
-/// Asserts that the command line is refused, since OUT is not written.
-fn assert_unwritable<R: Threads + Wait + Sync + Abort>(rt: &R, alloc: Global, stored: &Stored) {
-    let answer = answer_to(rt, alloc, LINE.as_bytes(), stored);
-    answer.assert_is(rt, 1, "", UNWRITABLE, LINE);
-}
-
-/// Asserts that a file is that of the source.
-fn assert_assembled(
-    rt: &impl Abort,
-    alloc: Global,
-    stored: &Stored,
     path: &str,
-) -> Result<(), Fail> {
+) -> Result<bool, Fail> {
     let wanted = hex::decode(alloc, ECHO_FILE)?;
-    assert_file(rt, alloc, stored, path, wanted.as_slice())?;
-    Ok(())
+    Ok(
+        is_answered(rt, alloc, stored, line, "", 0, "", "")
+            && stored.has_file(path, wanted.as_slice()),
+    )
 }
 
-/// Asserts that OUT is written, and that no other file is left.
-fn assert_replaced<R: Threads + Wait + Sync + Abort>(
+/// Whether OUT is written, by six changes, and no other file is left. They are making the file, three writes, bringing
+/// it to the disk, and renaming it.
+fn is_replaced<R: Threads + Wait + Sync>(
     rt: &R,
     alloc: Global,
     has_out: bool,
-) -> Result<(), Fail> {
+) -> Result<bool, Fail> {
     let stored = disk_of_source(alloc, has_out, NONE)?;
-    assert_done(rt, alloc, LINE, &stored);
-    assert_assembled(rt, alloc, &stored, "out.elf")?;
-    assert_number(rt, stored.count() as u64, 2, "files");
-    Ok(())
+    let is_written = is_assembled(rt, alloc, &stored, LINE, "out.elf")?;
+    Ok(is_written && stored.count() == 2 && stored.changes.get() == 6)
 }
 
 #[test]
 fn a_file_is_replaced(rt: HostRuntime) -> Result<(), Fail> {
-    assert_replaced(&rt, rt.alloc(), false)?;
-    assert_replaced(&rt, rt.alloc(), true)
-}
-
-/// How many changes writing OUT asks for.
-fn changes<R: Threads + Wait + Sync + Abort>(
-    rt: &R,
-    alloc: Global,
-    has_out: bool,
-) -> io::Result<usize> {
-    let stored = disk_of_source(alloc, has_out, NONE)?;
-    assert_done(rt, alloc, LINE, &stored);
-    Ok(stored.changes.get())
-}
-
-/// Asserts that OUT is as before, and that no other file is left.
-fn assert_old(rt: &impl Abort, alloc: Global, stored: &Stored, has_out: bool) -> io::Result<()> {
-    if has_out {
-        assert_file(rt, alloc, stored, "out.elf", OLD)?;
-        assert_number(rt, stored.count() as u64, 2, "files");
-    } else {
-        assert_number(rt, stored.count() as u64, 1, "files");
-    }
+    assert!(rt; is_replaced(&rt, rt.alloc(), false)?);
+    assert!(rt; is_replaced(&rt, rt.alloc(), true)?);
     Ok(())
 }
 
-/// Asserts that OUT stays as it was where one change fails, or takes nothing if it is a write.
-fn assert_stays<R: Threads + Wait + Sync + Abort>(
+/// Whether OUT is as before, and no other file is left.
+fn is_old(stored: &Stored, has_out: bool) -> bool {
+    if has_out {
+        stored.has_file("out.elf", OLD) && stored.count() == 2
+    } else {
+        stored.count() == 1
+    }
+}
+
+/// Whether OUT stays as it was where one change fails, or takes nothing if it is a write.
+fn is_kept<R: Threads + Wait + Sync>(
     rt: &R,
     alloc: Global,
     has_out: bool,
     failing: usize,
     takes_nothing: bool,
-) -> io::Result<()> {
+) -> io::Result<bool> {
     let mut stored = disk_of_source(alloc, has_out, failing)?;
     stored.takes_nothing = takes_nothing;
-    assert_unwritable(rt, alloc, &stored);
-    assert_old(rt, alloc, &stored, has_out)
-}
-
-/// Asserts that OUT stays as it was, whichever change fails.
-fn assert_stays_always<R: Threads + Wait + Sync + Abort>(
-    rt: &R,
-    alloc: Global,
-    has_out: bool,
-) -> io::Result<()> {
-    // Making the file, three writes, bringing it to the disk, renaming it.
-    assert_number(rt, changes(rt, alloc, has_out)? as u64, 6, "changes");
-    for failing in 0..6 {
-        assert_stays(rt, alloc, has_out, failing, false)?;
-        assert_stays(rt, alloc, has_out, failing, true)?;
-    }
-    Ok(())
+    Ok(is_refused(rt, alloc, &stored, LINE, UNWRITABLE) && is_old(&stored, has_out))
 }
 
 #[test]
 fn a_refused_file_stays(rt: HostRuntime) -> Result<(), Fail> {
-    assert_stays_always(&rt, rt.alloc(), false)?;
-    assert_stays_always(&rt, rt.alloc(), true)?;
+    for failing in 0..6 {
+        for (has_out, takes_nothing) in [
+            (false, false),
+            (false, true),
+            (true, false),
+            (true, true),
+        ] {
+            assert!(rt; is_kept(&rt, rt.alloc(), has_out, failing, takes_nothing)?);
+        }
+    }
     Ok(())
 }
 
-/// The names that are tried first.
-const FIRST_NAMES: [&str; 2] = [".rvstm.new0", ".rvstm.new1"];
-
-/// A disk on which those names are taken.
-fn disk_of_two_names(alloc: Global) -> io::Result<Stored> {
-    let stored = disk_of_source(alloc, true, NONE)?;
-    for name in FIRST_NAMES {
-        stored.put(alloc, name, OLD)?;
-    }
-    Ok(stored)
+/// Whether OUT is written where two names are taken, and the files there are as they were.
+fn is_beside_two_names<R: Threads + Wait + Sync>(rt: &R, alloc: Global) -> Result<bool, Fail> {
+    let stored = disk_of_names(alloc, 2)?;
+    let is_written = is_assembled(rt, alloc, &stored, LINE, "out.elf")?;
+    Ok(
+        is_written
+            && stored.has_file(".rvstm.new0", OLD)
+            && stored.has_file(".rvstm.new1", OLD)
+            && stored.count() == 4,
+    )
 }
 
-/// Asserts that OUT is written, that the files at the two names are as they were, and that there is no other.
-fn assert_beside_two_names(rt: &impl Abort, alloc: Global, stored: &Stored) -> Result<(), Fail> {
-    assert_assembled(rt, alloc, stored, "out.elf")?;
-    for name in FIRST_NAMES {
-        assert_file(rt, alloc, stored, name, OLD)?;
-    }
-    assert_number(rt, stored.count() as u64, 4, "files");
-    Ok(())
+/// Whether OUT stays where all names are taken, and is written where the files there were left over.
+fn is_beside_all_names<R: Threads + Wait + Sync>(rt: &R, alloc: Global) -> Result<bool, Fail> {
+    let mut stored = disk_of_names(alloc, 100)?;
+    let stays = is_refused(rt, alloc, &stored, LINE, UNWRITABLE)
+        && stored.has_file("out.elf", OLD)
+        && stored.count() == 102;
+    stored.left_over = true;
+    let is_written = is_assembled(rt, alloc, &stored, LINE, "out.elf")?;
+    Ok(stays && is_written && stored.count() == 101)
 }
 
 #[test]
 fn no_other_file_is_written_over(rt: HostRuntime) -> Result<(), Fail> {
-    let stored = disk_of_two_names(rt.alloc())?;
-    assert_done(&rt, rt.alloc(), LINE, &stored);
-    assert_beside_two_names(&rt, rt.alloc(), &stored)
-}
-
-/// Puts a file at one of the names that are tried.
-fn take_name(alloc: Global, stored: &Stored, number: usize) -> io::Result<()> {
-    let name = format!(in alloc; ".rvstm.new{number}")?;
-    stored.put(alloc, name.as_str(), OLD)
-}
-
-/// A disk on which all names that are tried are taken.
-fn disk_of_all_names(alloc: Global) -> io::Result<Stored> {
-    let stored = disk_of_source(alloc, true, NONE)?;
-    for number in 0..100 {
-        take_name(alloc, &stored, number)?;
-    }
-    Ok(stored)
-}
-
-#[test]
-fn no_free_name_is_refused(rt: HostRuntime) -> Result<(), Fail> {
-    let stored = disk_of_all_names(rt.alloc())?;
-    assert_unwritable(&rt, rt.alloc(), &stored);
-    assert_file(&rt, rt.alloc(), &stored, "out.elf", OLD)?;
-    assert_number(&rt, stored.count() as u64, 102, "files");
+    assert!(rt; is_beside_two_names(&rt, rt.alloc())?);
+    assert!(rt; is_beside_all_names(&rt, rt.alloc())?);
     Ok(())
 }
 
-#[test]
-fn a_left_over_file_is_removed(rt: HostRuntime) -> Result<(), Fail> {
-    let mut stored = disk_of_all_names(rt.alloc())?;
-    stored.left_over = true;
-    assert_done(&rt, rt.alloc(), LINE, &stored);
-    assert_assembled(&rt, rt.alloc(), &stored, "out.elf")?;
-    assert_number(&rt, stored.count() as u64, 101, "files");
-    Ok(())
-}
-
-#[test]
-fn a_source_is_not_written_over(rt: HostRuntime) -> Result<(), Fail> {
-    let stored = disk_of_source(rt.alloc(), false, NONE)?;
+/// Whether a source is not written over.
+fn is_source_kept<R: Threads + Wait + Sync>(rt: &R, alloc: Global) -> io::Result<bool> {
+    let stored = disk_of_source(alloc, false, NONE)?;
     let line = "rvstm asm echo.s --out link/echo.s";
-    let answer = answer_to(&rt, rt.alloc(), line.as_bytes(), &stored);
-    answer.assert_is(&rt, 1, "", "rvstm: file Unwritable 2\n", line);
-    assert_file(&rt, rt.alloc(), &stored, "echo.s", ECHO_SOURCE.as_bytes())?;
-    Ok(())
+    Ok(
+        is_refused(rt, alloc, &stored, line, UNWRITABLE)
+            && stored.has_file("echo.s", ECHO_SOURCE.as_bytes()),
+    )
 }
 
-/// Asserts that a command line is refused with a line, where it can't be told what OUT leads to, before anything on
+/// Whether a command line is refused with a line, where it can't be told what OUT leads to, before anything on
 /// the disk is changed.
-fn assert_lost<R: Threads + Wait + Sync + Abort>(
+fn is_lost<R: Threads + Wait + Sync>(
     rt: &R,
     alloc: Global,
     kind: io::ErrorKind,
     errors: &str,
-) -> io::Result<()> {
+) -> io::Result<bool> {
     let mut stored = disk_of_source(alloc, true, NONE)?;
     stored.lost_path = Some(kind);
-    let answer = answer_to(rt, alloc, LINE.as_bytes(), &stored);
-    answer.assert_is(rt, 1, "", errors, LINE);
-    assert_asked(rt, alloc, &stored, "open echo.s\nend echo.s\n", LINE)?;
-    assert_old(rt, alloc, &stored, true)
+    Ok(
+        is_refused(rt, alloc, &stored, LINE, errors)
+            && stored.was_asked("open echo.s\nend echo.s\n")
+            && is_old(&stored, true),
+    )
 }
 
 #[test]
-fn a_lost_path_is_refused(rt: HostRuntime) -> Result<(), Fail> {
+fn a_source_or_a_lost_path_is_refused(rt: HostRuntime) -> Result<(), Fail> {
     let memory = "rvstm: asm Memory 8\n";
-    assert_lost(&rt, rt.alloc(), io::ErrorKind::OutOfMemory, memory)?;
-    assert_lost(&rt, rt.alloc(), io::ErrorKind::Other, UNWRITABLE)?;
+    assert!(rt; is_source_kept(&rt, rt.alloc())?);
+    assert!(rt; is_lost(&rt, rt.alloc(), io::ErrorKind::OutOfMemory, memory)?);
+    assert!(rt; is_lost(&rt, rt.alloc(), io::ErrorKind::Other, UNWRITABLE)?);
     Ok(())
 }
 
-/// Asserts to which path a command line writes OUT, and what the disk is asked.
-fn assert_path<R: Threads + Wait + Sync + Abort>(
+/// Command lines, each with the path to which it writes OUT, and what the disk is asked.
+const PATHS: &[(&str, &str, &str)] = &[
+    (
+        "rvstm asm echo.s --out link/out.elf",
+        "out.elf",
+        "open echo.s\nend echo.s\ncreate .rvstm.new0\nrename out.elf\n",
+    ),
+    (
+        "rvstm asm echo.s --out deep/out.elf",
+        "deep/out.elf",
+        "open echo.s\nend echo.s\ncreate deep/.rvstm.new0\nrename deep/out.elf\n",
+    ),
+    (
+        "rvstm asm echo.s --out /dev/out",
+        "/dev/out",
+        "open echo.s\nend echo.s\ncreate /dev/out\n",
+    ),
+];
+
+/// Whether a command line writes OUT to a path, and asks the disk for this.
+fn is_path<R: Threads + Wait + Sync>(
     rt: &R,
     alloc: Global,
     line: &str,
     path: &str,
     requests: &str,
-) -> Result<(), Fail> {
+) -> Result<bool, Fail> {
     let stored = disk_of_source(alloc, true, NONE)?;
-    assert_done(rt, alloc, line, &stored);
-    assert_assembled(rt, alloc, &stored, path)?;
-    assert_asked(rt, alloc, &stored, requests, line)?;
-    Ok(())
+    Ok(is_assembled(rt, alloc, &stored, line, path)? && stored.was_asked(requests))
 }
 
 #[test]
 fn links_are_followed_and_devices_are_written(rt: HostRuntime) -> Result<(), Fail> {
-    assert_path(
-        &rt,
-        rt.alloc(),
-        "rvstm asm echo.s --out link/out.elf",
-        "out.elf",
-        "open echo.s\nend echo.s\ncreate .rvstm.new0\nrename out.elf\n",
-    )?;
-    assert_path(
-        &rt,
-        rt.alloc(),
-        "rvstm asm echo.s --out deep/out.elf",
-        "deep/out.elf",
-        "open echo.s\nend echo.s\ncreate deep/.rvstm.new0\nrename deep/out.elf\n",
-    )?;
-    assert_path(
-        &rt,
-        rt.alloc(),
-        "rvstm asm echo.s --out /dev/out",
-        "/dev/out",
-        "open echo.s\nend echo.s\ncreate /dev/out\n",
-    )
+    for (line, path, requests) in PATHS {
+        let is_right = is_path(&rt, rt.alloc(), line, path, requests)?;
+        assert_right(&rt, is_right, line);
+    }
+    Ok(())
 }

@@ -1,8 +1,8 @@
 //! Sessions: block after block on one storage.
 
-use crate::asserts::{assert_bytes, assert_number, assert_pieces};
+use crate::asserts::{assert_right, has_pieces};
 use crate::blocks::{InMemory, count_lines, elf_of, forty_count_lines};
-use crate::fake_disk::{Stored, answer_with};
+use crate::fake_disk::is_answered;
 use crate::programs::{BLOCK, RESULT, disk_of_echo};
 use crate::rows::COUNT;
 use byte_streams::FallibleWriter;
@@ -70,33 +70,39 @@ const SESSIONS: &[(&str, &str)] = &[
     ),
 ];
 
-/// Asserts what `rvstm chain` prints for an input, over a disk.
-fn assert_session<R: Threads + Wait + Sync + Abort>(
-    rt: &R,
-    alloc: Global,
-    stored: &Stored,
-    input: &str,
-    text: &str,
-) {
-    let answer = answer_with(rt, alloc, b"rvstm chain", stored, input.as_bytes());
-    answer.assert_is(rt, 0, text, "", input);
-}
+/// The command of a session.
+const CHAIN: &str = "rvstm chain";
 
 #[test]
 fn sessions_print(rt: HostRuntime) -> Result<(), Fail> {
     let stored = disk_of_echo(rt.alloc())?;
     for (input, text) in SESSIONS {
-        assert_session(&rt, rt.alloc(), &stored, input, text);
+        let is_right = is_answered(&rt, rt.alloc(), &stored, CHAIN, input, 0, text, "");
+        assert_right(&rt, is_right, input);
     }
     Ok(())
 }
 
+/// Whether two frames of an echo print its result twice.
+fn are_echoes<R: Threads + Wait + Sync>(rt: &R, alloc: Global) -> io::Result<bool> {
+    let stored = disk_of_echo(alloc)?;
+    let input = format!(in alloc; "{BLOCK}end\n{BLOCK}end")?;
+    let text = format!(in alloc; "{RESULT}{RESULT}")?;
+    Ok(is_answered(
+        rt,
+        alloc,
+        &stored,
+        CHAIN,
+        input.as_str(),
+        0,
+        text.as_str(),
+        "",
+    ))
+}
+
 #[test]
 fn a_frame_runs(rt: HostRuntime) -> Result<(), Fail> {
-    let stored = disk_of_echo(rt.alloc())?;
-    let input = format!(in rt.alloc(); "{BLOCK}end\n{BLOCK}end")?;
-    let text = format!(in rt.alloc(); "{RESULT}{RESULT}")?;
-    assert_session(&rt, rt.alloc(), &stored, input.as_str(), text.as_str());
+    assert!(rt; are_echoes(&rt, rt.alloc())?);
     Ok(())
 }
 
@@ -144,7 +150,7 @@ fn counts_go_on_from_frame_to_frame(rt: HostRuntime) -> Result<(), Fail> {
         "write 39 0000000000000000000000000000000000000000000000000000000000000001 78000000\nend\n",
         "value 78000000\nstore 0000000000000000000000000000000000000000000000000000000000000001 78000000\nend\n",
     ];
-    assert_pieces(&rt, text.as_slice(), &pieces, "three frames of counts")?;
+    assert!(rt; has_pieces(text.as_slice(), &pieces));
     Ok(())
 }
 
@@ -153,12 +159,7 @@ fn a_frame_of_too_many_calls(rt: HostRuntime) -> Result<(), Fail> {
     let lines = count_lines(rt.alloc(), 1025)?;
     let input = format!(in rt.alloc(); "rvblock 1\nprogram 0 0\n{lines}end\ndump\n")?;
     let text = printed(rt.alloc(), COUNT, input.as_str())?;
-    assert_bytes(
-        &rt,
-        text.as_slice(),
-        b"refused block 1027 Limit 7\nend\n",
-        "a frame of 1,025 calls",
-    );
+    assert!(rt; text.as_slice() == b"refused block 1027 Limit 7\nend\n".as_slice());
     Ok(())
 }
 
@@ -166,12 +167,7 @@ fn a_frame_of_too_many_calls(rt: HostRuntime) -> Result<(), Fail> {
 fn a_frame_of_a_bad_program(rt: HostRuntime) -> Result<(), Fail> {
     let input = "rvblock 1\nprogram 0 0\nend\ndump\n";
     let text = printed_by(rt.alloc(), Vec::new(rt.alloc()), &mut InOrder, input)?;
-    assert_bytes(
-        &rt,
-        text.as_slice(),
-        b"refused elf Truncated 1\nend\n",
-        "a frame of a program without a byte",
-    );
+    assert!(rt; text.as_slice() == b"refused elf Truncated 1\nend\n".as_slice());
     Ok(())
 }
 
@@ -196,8 +192,7 @@ fn a_dump_begins_another_session(rt: HostRuntime) -> Result<(), Fail> {
     let dump = behind_end(alloc, printed(alloc, COUNT, first.as_str())?)?;
     let other = format!(in alloc; "rvblock 1\n{dump}{frame}dump\n")?;
     let text = behind_end(alloc, printed(alloc, COUNT, other.as_str())?)?;
-    assert!(rt; dump.starts_with("store "));
-    assert_bytes(&rt, text.as_bytes(), wanted.as_bytes(), "two sessions");
+    assert!(rt; dump.starts_with("store ") && text.as_str() == wanted.as_str());
     Ok(())
 }
 
@@ -268,6 +263,6 @@ fn each_answer_is_shown_before_more_is_read(rt: HostRuntime) -> Result<(), Fail>
     let mut lines = BufReader::new(rt.alloc(), typist)?;
     let programs = InMemory { files: &[] };
     chain_to(rt.alloc(), &mut lines, programs, &mut screen)?;
-    assert_number(&rt, screen.writer.written, 13, "bytes written");
+    assert!(rt; screen.writer.written == 13);
     Ok(())
 }

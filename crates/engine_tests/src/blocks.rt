@@ -2,7 +2,7 @@
 
 ghost use Rattle.std.specs.Prelude.{None};
 
-use crate::asserts::assert_pieces;
+use crate::asserts::{assert_right, has_pieces};
 use crate::rows::{COUNT, Row, rows};
 use byte_streams::{Destination, Source};
 use engines::{Programs, Refusal, seq_to};
@@ -173,17 +173,17 @@ pub fn printed_row(alloc: Global, row: &Row) -> Result<Vec<u8>, Fail> {
     Ok(printed(alloc, &block)?)
 }
 
-/// Asserts that the engine prints the pieces of a row.
-fn assert_row(rt: &impl Abort, alloc: Global, row: &Row) -> Result<(), Fail> {
+/// Whether the engine prints the pieces of a row.
+fn is_row(alloc: Global, row: &Row) -> Result<bool, Fail> {
     let text = printed_row(alloc, row)?;
-    assert_pieces(rt, text.as_slice(), row.pieces, row.name)?;
-    Ok(())
+    Ok(has_pieces(text.as_slice(), row.pieces))
 }
 
 #[test]
 fn rows_print_what_they_say(rt: HostRuntime) -> Result<(), Fail> {
     for row in rows() {
-        assert_row(&rt, rt.alloc(), row)?;
+        let is_right = is_row(rt.alloc(), row)?;
+        assert_right(&rt, is_right, row.name);
     }
     Ok(())
 }

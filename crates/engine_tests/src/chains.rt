@@ -1,7 +1,6 @@
 //! Blocks run one after another on one executor.
 
-use crate::asserts::{assert_bytes, assert_number, assert_shown};
-use crate::blocks::forty_count_lines;
+use crate::blocks::{count_lines, forty_count_lines};
 use crate::calls::calls_of;
 use crate::rows::COUNT;
 use rv_ledger::{Call, Key, Receipt, Store};
@@ -54,124 +53,96 @@ fn four_blocks(alloc: Global) -> Result<Blocks, Fail> {
     )
 }
 
-/// Asserts that calls counted the key up from a number, and returns the number that they came to.
-fn count_up(rt: &impl Abort, receipts: &[Receipt], from: u32) -> u32 {
+/// The number to which calls counted the key up from a number; None where one of them did not.
+fn counted_up(receipts: &[Receipt], from: u32) -> Option<u32> {
     let mut count = from;
     for receipt in receipts {
         count = count.wrapping_add(1);
-        assert_number(
-            rt,
-            receipt.regs.values()[5] as u64,
-            count as u64,
-            "register x5",
-        );
-    }
-    count
-}
-
-/// Asserts the answers to the four blocks, of which the second alone is refused.
-fn assert_answers(rt: &impl Abort, answers: &[Answer]) {
-    assert_number(rt, answers.len() as u64, 4, "answers");
-    let mut count = 0_u32;
-    for answer in answers {
-        match answer {
-            Ok(receipts) => {
-                assert_number(rt, receipts.len() as u64, 40, "receipts");
-                count = count_up(rt, receipts.as_slice(), count);
-            }
-            Err(fault) => {
-                assert_eq!(rt; *fault, ChainFault::Run(RunFault::BadCount));
-                assert_number(rt, count as u64, 40, "the count");
-            }
+        if receipt.regs.values()[5] != count {
+            return None;
         }
     }
-    assert_number(rt, count as u64, 120, "the count");
+    Some(count)
 }
 
-/// Asserts that the key holds this number.
-fn assert_counted(rt: &impl Abort, store: &Store, number: u32) {
+/// Whether these are the answers to the four blocks, of which the second alone is refused.
+fn are_answers(answers: &[Answer]) -> bool {
+    match answers {
+        [
+            Ok(first),
+            Err(ChainFault::Run(RunFault::BadCount)),
+            Ok(second),
+            Ok(third),
+        ] => {
+            counted_up(first.as_slice(), 0) == Some(40)
+                && counted_up(second.as_slice(), 40) == Some(80)
+                && counted_up(third.as_slice(), 80) == Some(120)
+        }
+        _ => false,
+    }
+}
+
+/// Whether the key holds this number.
+fn is_counted(store: &Store, number: u32) -> bool {
     let mut key = [0; 32];
     key[31] = 1;
     match store.get(&Key::new(key)) {
-        Some(value) => assert_bytes(rt, value.bytes(), &number.to_le_bytes(), "the value"),
-        None => panic!(rt; "the key has no value"),
+        Some(value) => value.bytes() == number.to_le_bytes().as_slice(),
+        None => false,
     }
 }
 
 #[test]
 fn three_chained_blocks(rt: HostRuntime) -> Result<(), Fail> {
     let chain = run(&rt, rt.alloc(), four_blocks(rt.alloc())?)?;
-    assert_answers(&rt, chain.blocks.as_slice());
-    assert_counted(&rt, &chain.store, 120);
+    assert!(rt; are_answers(chain.blocks.as_slice()) && is_counted(&chain.store, 120));
     Ok(())
 }
 
-/// Whether each answer is the receipt of one call of COUNT, which counts up to the block's number from 1.
+/// Whether each answer is that of one call of COUNT, which counts up to the block's number from 1.
 fn are_single_counts(answers: &[Answer]) -> bool {
     let mut count = 0_u32;
     for answer in answers {
-        count = count.wrapping_add(1);
-        if !is_single_count(answer, count) {
+        let Ok(receipts) = answer else {
+            return false;
+        };
+        if counted_up(receipts.as_slice(), count) != Some(count.wrapping_add(1)) {
             return false;
         }
+        count = count.wrapping_add(1);
     }
     true
-}
-
-/// Whether an answer is the receipt of one call of COUNT that counts up to this number.
-fn is_single_count(answer: &Answer, count: u32) -> bool {
-    match answer {
-        Ok(receipts) => match receipts.as_slice() {
-            [receipt] => receipt.regs.values()[5] == count,
-            _ => false,
-        },
-        Err(_) => false,
-    }
 }
 
 #[test]
 fn a_chain_of_100_blocks(rt: HostRuntime) -> Result<(), Fail> {
     let blocks = blocks_of(rt.alloc(), &[(ONE_COUNT, 2); 100])?;
     let chain = run(&rt, rt.alloc(), blocks)?;
-    assert!(rt; chain.blocks.len() == 100 && are_single_counts(chain.blocks.as_slice()));
-    assert_counted(&rt, &chain.store, 100);
+    let are_right = chain.blocks.len() == 100 && are_single_counts(chain.blocks.as_slice());
+    assert!(rt; are_right && is_counted(&chain.store, 100));
     Ok(())
-}
-
-/// Too many copies of each of some calls.
-fn copies(alloc: Global, calls: &[Call]) -> Result<Vec<Call>, AllocError> {
-    let mut many = Vec::new(alloc);
-    for call in calls {
-        for _ in 0..TOO_MANY_CALLS {
-            many.push(call.copy()?)?;
-        }
-    }
-    Ok(many)
 }
 
 /// A block of too many calls, which 33 workers are to run.
 fn too_large_block(alloc: Global) -> Result<Blocks, Fail> {
-    let calls = calls_of(alloc, &[COUNT], ONE_COUNT)?;
-    let mut blocks = Vec::new(alloc);
-    blocks.push((copies(alloc, calls.as_slice())?, 33))?;
-    Ok(blocks)
-}
-
-/// Asserts that the one block of a chain is refused, since it has too many calls.
-fn assert_too_many(rt: &impl Abort, answers: &[Answer]) {
-    assert_number(rt, answers.len() as u64, 1, "answers");
-    for answer in answers {
-        match answer {
-            Ok(_) => panic!(rt; "the block is run"),
-            Err(fault) => assert_eq!(rt; *fault, ChainFault::TooManyCalls),
+    let lines = count_lines(alloc, 1)?;
+    let calls = calls_of(alloc, &[COUNT], lines.as_str())?;
+    let mut many = Vec::new(alloc);
+    for call in &calls {
+        for _ in 0..TOO_MANY_CALLS {
+            many.push(call.copy()?)?;
         }
     }
+    let mut blocks = Vec::new(alloc);
+    blocks.push((many, 33))?;
+    Ok(blocks)
 }
 
 #[test]
 fn chain_too_many_calls(rt: HostRuntime) -> Result<(), Fail> {
     let chain = run(&rt, rt.alloc(), too_large_block(rt.alloc())?)?;
-    assert_too_many(&rt, chain.blocks.as_slice());
-    assert_shown(&rt, rt.alloc(), &ChainFault::TooManyCalls, "TooManyCalls 8")?;
+    let printed = format!(in rt.alloc(); "{}", ChainFault::TooManyCalls)?;
+    assert!(rt; matches!(chain.blocks.as_slice(), [Err(ChainFault::TooManyCalls)]));
+    assert!(rt; printed.as_str() == "TooManyCalls 8");
     Ok(())
 }

@@ -1,7 +1,6 @@
 //! What is printed of the workers' counts.
 
-use crate::asserts::assert_bytes;
-use crate::failing::{FailingWriter, assert_begins};
+use crate::failing::FailingWriter;
 use byte_streams::WriteFault;
 use engines::{RunCounts, write_counts};
 use rv_ledger::Counts;
@@ -32,21 +31,19 @@ fn counts(alloc: Global) -> Result<RunCounts, AllocError> {
     Ok(RunCounts { calls: 2, workers })
 }
 
-/// Asserts what a writer took that takes so many bytes, and the refusal.
-fn assert_cut(rt: &impl Abort, alloc: Global, counts: &RunCounts, left: usize) {
+/// Whether a writer that takes so many bytes holds the beginning, and the rest is refused.
+fn is_cut(alloc: Global, counts: &RunCounts, left: usize) -> bool {
     let mut writer = FailingWriter::new(alloc, left, true);
     let answer = write_counts(alloc, counts, &mut writer);
-    assert!(rt; answer == Err(WriteFault::Io));
-    assert_begins(rt, TEXT.as_bytes(), writer.taken.as_slice(), left);
+    answer == Err(WriteFault::Io) && writer.has_beginning(TEXT.as_bytes(), left)
 }
 
 #[test]
 fn counts_are_printed(rt: HostRuntime) -> Result<(), Fail> {
     let counts = counts(rt.alloc())?;
     let mut out = Vec::new(rt.alloc());
-    let answer = write_counts(rt.alloc(), &counts, &mut out);
-    assert!(rt; answer == Ok(()));
-    assert_bytes(&rt, out.as_slice(), TEXT.as_bytes(), "counts");
-    assert_cut(&rt, rt.alloc(), &counts, 70);
+    write_counts(rt.alloc(), &counts, &mut out)?;
+    assert!(rt; out.as_slice() == TEXT.as_bytes());
+    assert!(rt; is_cut(rt.alloc(), &counts, 70));
     Ok(())
 }

@@ -1,6 +1,6 @@
 //! Blocks run along schedules.
 
-use crate::asserts::{assert_bytes, assert_pieces, assert_reported, assert_unreadable};
+use crate::asserts::{assert_right, has_pieces, is_reported, is_unreadable};
 use crate::blocks::{BlockInMemory, InMemory, printed_row};
 use crate::failing::FailingReader;
 use crate::rows::{ECHO, Row, rows};
@@ -58,48 +58,27 @@ fn in_turn(alloc: Global, workers: usize, steps: usize) -> Result<String, AllocE
     Ok(schedule)
 }
 
-/// What the engine prints of a row's block where so many workers make their steps in turn.
-fn driven_in_turn(
-    rt: &impl Abort,
-    alloc: Global,
-    row: &Row,
-    workers: usize,
-) -> Result<Vec<u8>, AllocError> {
+/// Whether a text is what the engine prints of a row's block in order, and has the row's pieces.
+pub fn is_in_order(alloc: Global, row: &Row, text: &[u8]) -> Result<bool, Fail> {
+    let wanted = printed_row(alloc, row)?;
+    Ok(text == wanted.as_slice() && has_pieces(text, row.pieces))
+}
+
+/// Whether so many workers in turn come to what the calls of a row come to in order.
+fn is_row(alloc: Global, row: &Row, workers: usize) -> Result<bool, Fail> {
     let block = BlockInMemory::new(alloc, row.programs, row.lines)?;
     let schedule = in_turn(alloc, workers, 1000)?;
-    match driven(alloc, &block, workers, schedule.as_str()) {
-        Ok(text) => Ok(text),
-        Err(refusal) => panic!(rt; "{} by {workers} is refused: {refusal}", row.name),
-    }
-}
-
-/// Asserts that a text is what the engine prints of a row's block in order, and that it has the row's pieces.
-pub fn assert_in_order(
-    rt: &impl Abort,
-    alloc: Global,
-    row: &Row,
-    text: &[u8],
-    case: &str,
-) -> Result<(), Fail> {
-    let wanted = printed_row(alloc, row)?;
-    assert_bytes(rt, text, wanted.as_slice(), case);
-    assert_pieces(rt, text, row.pieces, case)?;
-    Ok(())
-}
-
-/// Asserts that so many workers in turn come to what the calls of a row come to in order.
-fn assert_row(rt: &impl Abort, alloc: Global, row: &Row, workers: usize) -> Result<(), Fail> {
-    let text = driven_in_turn(rt, alloc, row, workers)?;
-    let case = format!(in alloc; "{} by {workers}", row.name)?;
-    assert_in_order(rt, alloc, row, text.as_slice(), case.as_str())
+    let text = driven(alloc, &block, workers, schedule.as_str())?;
+    is_in_order(alloc, row, text.as_slice())
 }
 
 #[test]
 fn rows_print_the_same_along_schedules(rt: HostRuntime) -> Result<(), Fail> {
     for row in rows() {
-        assert_row(&rt, rt.alloc(), row, 1)?;
-        assert_row(&rt, rt.alloc(), row, 2)?;
-        assert_row(&rt, rt.alloc(), row, 3)?;
+        for workers in 1..4 {
+            let is_right = is_row(rt.alloc(), row, workers)?;
+            assert_right(&rt, is_right, row.name);
+        }
     }
     Ok(())
 }
@@ -110,7 +89,7 @@ fn an_empty_block_is_done_at_once(rt: HostRuntime) -> Result<(), Fail> {
     let block = BlockInMemory::new(rt.alloc(), &[], lines)?;
     let text = driven(rt.alloc(), &block, 1, "")?;
     let wanted = "store 0000000000000000000000000000000000000000000000000000000000000001 07\nend\n";
-    assert_bytes(&rt, text.as_slice(), wanted.as_bytes(), "an empty block");
+    assert!(rt; text.as_slice() == wanted.as_bytes());
     Ok(())
 }
 
@@ -130,44 +109,34 @@ const REFUSED: &[(&str, usize, &str, &str)] = &[
         "x\n",
         "rvstm: block 3 UnknownProgram 6\n",
     ),
+    // bad_worker
+    (THREE_ECHOES, 0, "", BAD_WORKER),
+    (THREE_ECHOES, 33, "0\n", BAD_WORKER),
+    (THREE_ECHOES, 2, "0\n2\n", BAD_WORKER),
 ];
 
-/// Asserts that a block of ECHO is refused along a schedule, with a line.
-fn assert_refused(
-    rt: &impl Abort,
+const BAD_WORKER: &str = "rvstm: drive BadWorker 2\n";
+
+/// Whether a block of ECHO is refused along a schedule, with a line.
+fn is_refused(
     alloc: Global,
     lines: &str,
     workers: usize,
     schedule: &str,
     line: &str,
-) -> Result<(), AllocError> {
+) -> Result<bool, AllocError> {
     let block = BlockInMemory::new(alloc, &[ECHO], lines)?;
-    match driven(alloc, &block, workers, schedule) {
-        Ok(_) => panic!(rt; "{schedule:?} is taken"),
-        Err(refusal) => assert_reported(rt, alloc, &refusal, line),
-    }
-    Ok(())
+    Ok(match driven(alloc, &block, workers, schedule) {
+        Ok(_) => false,
+        Err(refusal) => is_reported(alloc, &refusal, line),
+    })
 }
 
 #[test]
 fn refused_schedules_are_reported(rt: HostRuntime) -> Result<(), Fail> {
     for (lines, workers, schedule, line) in REFUSED {
-        assert_refused(&rt, rt.alloc(), lines, *workers, schedule, line)?;
-    }
-    Ok(())
-}
-
-#[test]
-fn bad_worker(rt: HostRuntime) -> Result<(), Fail> {
-    for (workers, schedule) in [(0, ""), (33, "0\n"), (2, "0\n2\n")] {
-        assert_refused(
-            &rt,
-            rt.alloc(),
-            THREE_ECHOES,
-            workers,
-            schedule,
-            "rvstm: drive BadWorker 2\n",
-        )?;
+        let is_right = is_refused(rt.alloc(), lines, *workers, schedule, line)?;
+        assert_right(&rt, is_right, schedule);
     }
     Ok(())
 }
@@ -177,25 +146,19 @@ fn bad_worker(rt: HostRuntime) -> Result<(), Fail> {
 fn incarnation_limit_number(rt: HostRuntime) -> Result<(), AllocError> {
     let limit = IncarnationLimit;
     let printed = format!(in rt.alloc(); "{limit}")?;
-    assert_eq!(&rt; printed.as_str(), "IncarnationLimit 4");
+    assert!(rt; printed.as_str() == "IncarnationLimit 4");
     Ok(())
 }
 
-/// Asserts that a schedule is unreadable where its reader fails after so many reads.
-fn assert_read_fails(
-    rt: &impl Abort,
-    alloc: Global,
-    block: &BlockInMemory,
-    schedule: &str,
-    reads: usize,
-) {
+/// Whether a schedule is unreadable where its reader fails after so many reads.
+fn is_read_refused(alloc: Global, block: &BlockInMemory, schedule: &str, reads: usize) -> bool {
     let mut reader = FailingReader {
         bytes: schedule.as_bytes(),
         reads,
     };
     let mut out = Vec::new(alloc);
     let answer = drive(alloc, block, 1, &mut reader, &mut out);
-    assert_unreadable(rt, answer, out.as_slice(), reads);
+    is_unreadable(&answer, out.as_slice())
 }
 
 #[test]
@@ -203,7 +166,7 @@ fn a_failing_schedule_is_unreadable(rt: HostRuntime) -> Result<(), Fail> {
     let block = BlockInMemory::new(rt.alloc(), &[ECHO], THREE_ECHOES)?;
     let schedule = in_turn(rt.alloc(), 1, 12)?;
     for reads in 0..schedule.len() {
-        assert_read_fails(&rt, rt.alloc(), &block, schedule.as_str(), reads);
+        assert!(rt; is_read_refused(rt.alloc(), &block, schedule.as_str(), reads));
     }
     Ok(())
 }

@@ -2,7 +2,7 @@
 
 ghost use Rattle.std.specs.Prelude.{⊤};
 
-use crate::asserts::{assert_number, assert_reported, assert_unreadable};
+use crate::asserts::{assert_right, is_reported, is_unreadable};
 use crate::blocks::{BlockInMemory, printed, run_in_memory};
 use crate::rows::ECHO;
 use byte_streams::{Destination, Source, WriteFault};
@@ -67,6 +67,11 @@ impl FailingWriter {
             fails,
         }
     }
+
+    /// Whether it took the first bytes of a text, so many as it was to take.
+    pub fn has_beginning(&self, text: &[u8], count: usize) -> bool {
+        self.taken.len() == count && text.starts_with(self.taken.as_slice())
+    }
 }
 
 impl Write for FailingWriter {
@@ -116,12 +121,6 @@ pub fn write_fault(fails: bool) -> WriteFault {
     }
 }
 
-/// Asserts that a writer took the first bytes of a text, so many as it was to take.
-pub fn assert_begins(rt: &impl Abort, text: &[u8], taken: &[u8], count: usize) {
-    assert_number(rt, taken.len() as u64, count as u64, "bytes taken");
-    assert!(rt; text.starts_with(taken), "after {count} bytes");
-}
-
 /// A block of one program and one key with a value.
 fn block_of_one_value(alloc: Global) -> Result<BlockInMemory, AllocError> {
     BlockInMemory::new(
@@ -131,60 +130,42 @@ fn block_of_one_value(alloc: Global) -> Result<BlockInMemory, AllocError> {
     )
 }
 
-/// Asserts that a block is unreadable where its reader fails after so many reads.
-fn assert_read_fails(rt: &impl Abort, alloc: Global, block: &BlockInMemory, reads: usize) {
+/// Whether a block is unreadable where its reader fails after so many reads.
+fn is_read_refused(alloc: Global, block: &BlockInMemory, reads: usize) -> bool {
     let mut reader = FailingReader {
         bytes: block.text.as_bytes(),
         reads,
     };
     let mut out = Vec::new(alloc);
     let answer = run_in_memory(alloc, &mut reader, block.files.as_slice(), &mut out);
-    assert_unreadable(rt, answer, out.as_slice(), reads);
+    is_unreadable(&answer, out.as_slice())
 }
 
-/// Asserts that a block is unreadable where its program is missing.
-fn assert_program_fails(rt: &impl Abort, alloc: Global, block: &BlockInMemory) {
-    let mut out = Vec::new(alloc);
-    let answer = run_in_memory(alloc, &mut block.text.as_bytes(), &[], &mut out);
-    assert_unreadable(rt, answer, out.as_slice(), block.text.len());
-}
-
-/// Asserts that the output is refused where a writer takes so many bytes, and then fails or takes nothing.
-fn assert_write_fails(
-    rt: &impl Abort,
+/// Whether the output is refused where a writer takes so many bytes, and then fails or takes nothing.
+fn is_write_refused(
     alloc: Global,
     block: &BlockInMemory,
     text: &[u8],
     left: usize,
     fails: bool,
-) {
+) -> bool {
     let mut writer = FailingWriter::new(alloc, left, fails);
-    let answer = run_in_memory(
-        alloc,
-        &mut block.text.as_bytes(),
-        block.files.as_slice(),
-        &mut writer,
-    );
-    assert_refused_write(rt, answer, fails);
-    assert_begins(rt, text, writer.taken.as_slice(), left);
+    let mut block_text = block.text.as_bytes();
+    let answer = run_in_memory(alloc, &mut block_text, block.files.as_slice(), &mut writer);
+    answer == Err(Refusal::Output(write_fault(fails))) && writer.has_beginning(text, left)
 }
 
-/// Asserts what an engine answers where its writer fails, or takes nothing.
-pub fn assert_refused_write(rt: &impl Abort, answer: Result<(), Refusal>, fails: bool) {
-    assert_eq!(rt; answer, Err(Refusal::Output(write_fault(fails))));
-}
-
+/// The block at each place of its text and of what it prints.
 #[test]
 fn failing_files(rt: HostRuntime) -> Result<(), Fail> {
     let block = block_of_one_value(rt.alloc())?;
     let text = printed(rt.alloc(), &block)?;
     for reads in 0..block.text.len() + 1 {
-        assert_read_fails(&rt, rt.alloc(), &block, reads);
+        assert!(rt; is_read_refused(rt.alloc(), &block, reads));
     }
-    assert_program_fails(&rt, rt.alloc(), &block);
     for left in 0..text.len() {
-        assert_write_fails(&rt, rt.alloc(), &block, text.as_slice(), left, true);
-        assert_write_fails(&rt, rt.alloc(), &block, text.as_slice(), left, false);
+        assert!(rt; is_write_refused(rt.alloc(), &block, text.as_slice(), left, true));
+        assert!(rt; is_write_refused(rt.alloc(), &block, text.as_slice(), left, false));
     }
     Ok(())
 }
@@ -204,19 +185,18 @@ const REFUSED: &[(&str, &str)] = &[
     ("rvblock 1\nprogram 0 a\n", "rvstm: file Unreadable 1\n"),
 ];
 
-/// Asserts that a block over no programs is refused with a line, and that nothing is printed.
-fn assert_refused(rt: &impl Abort, alloc: Global, block: &str, line: &str) {
+/// Whether a block over no programs is refused with a line, and nothing is printed.
+fn is_refused(alloc: Global, block: &str, line: &str) -> bool {
     let mut out = Vec::new(alloc);
     match run_in_memory(alloc, &mut block.as_bytes(), &[], &mut out) {
-        Ok(()) => panic!(rt; "{block:?} is taken"),
-        Err(refusal) => assert_reported(rt, alloc, &refusal, line),
+        Ok(()) => false,
+        Err(refusal) => is_reported(alloc, &refusal, line) && out.is_empty(),
     }
-    assert!(rt; out.is_empty(), "{block:?}");
 }
 
 #[test]
 fn refusals_are_reported(rt: HostRuntime) {
     for (block, line) in REFUSED {
-        assert_refused(&rt, rt.alloc(), block, line);
+        assert_right(&rt, is_refused(rt.alloc(), block, line), line);
     }
 }

@@ -2,7 +2,7 @@
 
 ghost use Rattle.std.specs.Prelude.{None};
 
-use crate::asserts::assert_unreadable;
+use crate::asserts::is_unreadable;
 use crate::blocks::elf_of;
 use crate::failing::FailingReader;
 use crate::rows::ECHO;
@@ -37,18 +37,12 @@ impl<'a> Programs for FailingProgram<'a> {
     }
 }
 
-/// Asserts that a block is unreadable where the reader of its program fails after so many reads.
-fn assert_program_read_fails(
-    rt: &impl Abort,
-    alloc: Global,
-    text: &str,
-    file: &[u8],
-    reads: usize,
-) {
+/// Whether a block is unreadable where the reader of its program fails after so many reads.
+fn is_read_refused(alloc: Global, file: &[u8], reads: usize) -> bool {
     let mut programs = FailingProgram { file, reads };
     let mut out = Vec::new(alloc);
-    let answer = seq_to(alloc, &mut text.as_bytes(), &mut programs, &mut out);
-    assert_unreadable(rt, answer, out.as_slice(), reads);
+    let answer = seq_to(alloc, &mut ONE_PROGRAM.as_bytes(), &mut programs, &mut out);
+    is_unreadable(&answer, out.as_slice())
 }
 
 /// A reader fails at each place of a program, its end included.
@@ -56,7 +50,7 @@ fn assert_program_read_fails(
 fn failing_programs(rt: HostRuntime) -> Result<(), Fail> {
     let file = elf_of(rt.alloc(), ECHO)?;
     for reads in 0..file.len() + 1 {
-        assert_program_read_fails(&rt, rt.alloc(), ONE_PROGRAM, file.as_slice(), reads);
+        assert!(rt; is_read_refused(rt.alloc(), file.as_slice(), reads));
     }
     Ok(())
 }

@@ -2,14 +2,12 @@
 
 ghost use Rattle.std.specs.Prelude.{None};
 
-use crate::asserts::{assert_bytes, assert_number};
 use engines::{Disk, status};
 use std::alloc::{AllocError, Global};
 use std::cell::{Cell, Ref, RefCell, RefMut};
 use std::env::FillError;
 use std::io;
 use std::io::{Read, Write};
-use std::process::Abort;
 use std::rt::Env;
 use std::sync::Wait;
 use std::thread::Threads;
@@ -147,11 +145,22 @@ impl Stored {
         }
     }
 
-    /// What was asked, a line each.
-    pub fn asked(&self, alloc: Global) -> io::Result<String> {
+    /// Whether this was asked, a line each.
+    pub fn was_asked(&self, requests: &str) -> bool {
         match self.requests.try_borrow() {
-            Ok(requests) => Ok(String::from_str(alloc, requests.as_str())?),
-            Err(_) => Err(busy()),
+            Ok(asked) => asked.as_str() == requests,
+            Err(_) => false,
+        }
+    }
+
+    /// Whether a file has these bytes.
+    pub fn has_file(&self, path: &str, bytes: &[u8]) -> bool {
+        match self.files() {
+            Ok(files) => match file_at(files.as_slice(), path) {
+                Some(file) => file.bytes.as_slice() == bytes,
+                None => false,
+            },
+            Err(_) => false,
         }
     }
 
@@ -453,36 +462,35 @@ pub fn answer_along<T: Threads + Wait + Sync, I: Read, W: Write, E: Write>(
 }
 
 impl Answer {
-    /// Asserts what the answer to a command line is.
-    pub fn assert_is(&self, rt: &impl Abort, status: u8, out: &str, errors: &str, line: &str) {
-        assert_number(rt, self.status as u64, status as u64, line);
-        assert_bytes(rt, self.out.as_slice(), out.as_bytes(), line);
-        assert_bytes(rt, self.errors.as_slice(), errors.as_bytes(), line);
+    /// Whether the answer to a command line is this.
+    pub fn is(&self, status: u8, out: &str, errors: &str) -> bool {
+        self.status == status
+            && self.out.as_slice() == out.as_bytes()
+            && self.errors.as_slice() == errors.as_bytes()
     }
 }
 
-/// Asserts that a file has these bytes.
-pub fn assert_file(
-    rt: &impl Abort,
+/// Whether this is the answer to a command line over a disk, with these bytes on its input.
+pub fn is_answered<T: Threads + Wait + Sync>(
+    threads: &T,
     alloc: Global,
     stored: &Stored,
-    path: &str,
-    bytes: &[u8],
-) -> io::Result<()> {
-    let found = stored.bytes_of(alloc, path)?;
-    assert_bytes(rt, found.as_slice(), bytes, path);
-    Ok(())
+    line: &str,
+    input: &str,
+    status: u8,
+    out: &str,
+    errors: &str,
+) -> bool {
+    answer_with(threads, alloc, line.as_bytes(), stored, input.as_bytes()).is(status, out, errors)
 }
 
-/// Asserts what a disk was asked by a command line.
-pub fn assert_asked(
-    rt: &impl Abort,
+/// Whether a command line is refused with a line, and prints nothing.
+pub fn is_refused<T: Threads + Wait + Sync>(
+    threads: &T,
     alloc: Global,
     stored: &Stored,
-    requests: &str,
     line: &str,
-) -> io::Result<()> {
-    let asked = stored.asked(alloc)?;
-    assert_bytes(rt, asked.as_bytes(), requests.as_bytes(), line);
-    Ok(())
+    errors: &str,
+) -> bool {
+    is_answered(threads, alloc, stored, line, "", 1, "", errors)
 }

@@ -1,10 +1,10 @@
 //! The first fault of readable files, as each command tells it.
 
-use crate::fake_disk::{Stored, answer_to};
+use crate::asserts::assert_right;
+use crate::fake_disk::{Stored, is_refused};
 use crate::programs::disk_of_echo;
 use std::alloc::Global;
 use std::io;
-use std::process::Abort;
 use std::sync::Wait;
 use std::test::Fail;
 use std::thread::Threads;
@@ -96,41 +96,33 @@ fn disk_of_faults(alloc: Global) -> io::Result<Stored> {
     Ok(stored)
 }
 
-/// Asserts that a command line is refused with a line, and that nothing is printed.
-fn assert_refused<R: Threads + Wait + Sync + Abort>(
-    rt: &R,
-    alloc: Global,
-    stored: &Stored,
-    line: &str,
-    error: &str,
-) {
-    let answer = answer_to(rt, alloc, line.as_bytes(), stored);
-    answer.assert_is(rt, 1, "", error, line);
-}
-
-/// Asserts that each command that runs the calls of a block file is refused with a line.
-fn assert_block_refused<R: Threads + Wait + Sync + Abort>(
+/// Whether each command that runs the calls of a block file is refused with a line.
+fn is_block_refused<R: Threads + Wait + Sync>(
     rt: &R,
     alloc: Global,
     stored: &Stored,
     file: &str,
     error: &str,
-) -> io::Result<()> {
+) -> io::Result<bool> {
     for (before, behind) in COMMANDS {
         let line = format!(in alloc; "{before}{file}{behind}")?;
-        assert_refused(rt, alloc, stored, line.as_str(), error);
+        if !is_refused(rt, alloc, stored, line.as_str(), error) {
+            return Ok(false);
+        }
     }
-    Ok(())
+    Ok(true)
 }
 
 #[test]
 fn first_faults_are_told(rt: HostRuntime) -> Result<(), Fail> {
     let stored = disk_of_faults(rt.alloc())?;
     for (file, error) in BLOCKS {
-        assert_block_refused(&rt, rt.alloc(), &stored, file, error)?;
+        let is_right = is_block_refused(&rt, rt.alloc(), &stored, file, error)?;
+        assert_right(&rt, is_right, file);
     }
     for (line, error) in LINES {
-        assert_refused(&rt, rt.alloc(), &stored, line, error);
+        let is_right = is_refused(&rt, rt.alloc(), &stored, line, error);
+        assert_right(&rt, is_right, line);
     }
     Ok(())
 }

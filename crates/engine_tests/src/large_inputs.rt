@@ -1,8 +1,8 @@
 //! Files and sessions that are many times as long as the worked ones. The texts of their results follow from the rules.
 
 use crate::blocks::repeated;
-use crate::fake_disk::{Stored, answer_to, answer_with};
-use crate::large_blocks::{disk_of, is_printed};
+use crate::fake_disk::{Stored, is_answered};
+use crate::large_blocks::{disk_of, is_printed_by};
 use crate::programs::disk_of_echo;
 use crate::sizes::push_echo;
 use crate::sources::{ECHO_FILE, ECHO_SOURCE, assembled};
@@ -42,29 +42,34 @@ fn result_of_keys(alloc: Global, stores: &str) -> Result<String, AllocError> {
     Ok(text)
 }
 
+/// Whether a block over so many keys prints what it must by each command line.
+fn are_keys_printed<R: Threads + Wait + Sync>(
+    rt: &R,
+    alloc: Global,
+    keys: u32,
+    lines: &[&str],
+) -> Result<bool, Fail> {
+    let stores = store_lines(alloc, keys)?;
+    let stored = disk_of_keys(alloc, stores.as_str())?;
+    let text = result_of_keys(alloc, stores.as_str())?;
+    Ok(is_printed_by(rt, alloc, &stored, lines, text.as_str()))
+}
+
 /// A block over a storage of 20,000 keys is run by threads, and along a schedule.
 #[test]
 fn a_storage_of_20000_keys(rt: HostRuntime) -> Result<(), Fail> {
-    let stores = store_lines(rt.alloc(), 20_000)?;
-    let stored = disk_of_keys(rt.alloc(), stores.as_str())?;
-    let text = result_of_keys(rt.alloc(), stores.as_str())?;
-    for line in [
+    let by_workers = [
         "rvstm run full.block --workers 8",
         "rvstm drive full.block --workers 1 --schedule one.schedule",
-    ] {
-        assert!(rt; is_printed(&rt, rt.alloc(), &stored, line, text.as_str()));
-    }
+    ];
+    assert!(rt; are_keys_printed(&rt, rt.alloc(), 20_000, &by_workers)?);
     Ok(())
 }
 
 /// A block file of 8 MiB, whose storage has more than 40,000 keys, is run in order.
 #[test]
 fn a_block_file_of_8_mib(rt: HostRuntime) -> Result<(), Fail> {
-    let stores = store_lines(rt.alloc(), KEYS)?;
-    let stored = disk_of_keys(rt.alloc(), stores.as_str())?;
-    let text = result_of_keys(rt.alloc(), stores.as_str())?;
-    let line = "rvstm seq full.block";
-    assert!(rt; is_printed(&rt, rt.alloc(), &stored, line, text.as_str()));
+    assert!(rt; are_keys_printed(&rt, rt.alloc(), KEYS, &["rvstm seq full.block"])?);
     Ok(())
 }
 
@@ -110,82 +115,54 @@ fn full_listing(alloc: Global) -> Result<String, AllocError> {
     Ok(text)
 }
 
-/// The longest program is assembled and listed. Its file has both sections behind 116 bytes of headers.
+/// The length of its file: both sections behind 116 bytes of headers.
+const FULL_FILE: usize = 127_092;
+
+/// The longest program is assembled and listed.
 #[test]
 fn the_longest_program(rt: HostRuntime) -> Result<(), Fail> {
     let stored = disk_of_full_source(rt.alloc())?;
     let text = full_listing(rt.alloc())?;
-    let made = answer_to(&rt, rt.alloc(), b"rvstm asm full.s --out full.elf", &stored);
-    assert!(rt; made.status == 0);
-    assert!(rt; stored.bytes_of(rt.alloc(), "full.elf")?.len() == 127_092);
-    assert!(rt;
-        is_printed(
-            &rt,
-            rt.alloc(),
-            &stored,
-            "rvstm dis full.elf",
-            text.as_str()
-        )
-    );
+    let asm = "rvstm asm full.s --out full.elf";
+    assert!(rt; is_printed_by(&rt, rt.alloc(), &stored, &[asm], ""));
+    assert!(rt; stored.bytes_of(rt.alloc(), "full.elf")?.len() == FULL_FILE);
+    let listing = text.as_str();
+    assert!(rt; is_printed_by(&rt, rt.alloc(), &stored, &["rvstm dis full.elf"], listing));
     Ok(())
 }
 
-/// Whether a session of `debug` over the first call of a block prints a text.
-fn is_shown<R: Threads + Wait + Sync>(
+/// The command that replays the call of the echo.
+const DEBUG: &str = "rvstm debug echo.block --call 0";
+
+/// Whether 4,096 bytes are shown, the first ones of the echo's input area.
+fn are_bytes_shown<R: Threads + Wait + Sync>(
     rt: &R,
     alloc: Global,
     stored: &Stored,
-    block: &str,
-    session: &str,
-    text: &str,
 ) -> Result<bool, AllocError> {
-    let line = format!(in alloc; "rvstm debug {block} --call 0")?;
-    let answer = answer_with(rt, alloc, line.as_bytes(), stored, session.as_bytes());
-    Ok(answer.status == 0 && answer.out.as_slice() == text.as_bytes())
-}
-
-/// What `m` prints of the first 4,096 bytes of the echo's input area.
-fn input_area(alloc: Global) -> Result<String, AllocError> {
     let zeros = repeated(alloc, "00", 4094)?;
-    format!(in alloc; "0102{zeros}\n")
-}
-
-/// 4,096 bytes are shown.
-#[test]
-fn as_many_bytes_as_can_be_shown(rt: HostRuntime) -> Result<(), Fail> {
-    let stored = disk_of_echo(rt.alloc())?;
-    let text = input_area(rt.alloc())?;
+    let text = format!(in alloc; "0102{zeros}\n")?;
     let session = "m 00100000 4096\n";
-    assert!(rt;
-        is_shown(
-            &rt,
-            rt.alloc(),
-            &stored,
-            "echo.block",
-            session,
-            text.as_str()
-        )?
-    );
-    Ok(())
+    Ok(is_answered(rt, alloc, stored, DEBUG, session, 0, text.as_str(), ""))
 }
 
-/// A session of 1,000 lines: a step and back, again and again.
+/// Whether a session of 1,000 lines is answered: a step and back, again and again.
+fn are_lines_answered<R: Threads + Wait + Sync>(
+    rt: &R,
+    alloc: Global,
+    stored: &Stored,
+) -> Result<bool, AllocError> {
+    let session = repeated(alloc, "s\nb\n", 500)?;
+    let text = repeated(alloc, "1 00010004 ecall\n0 00010000 addi x17,x0,3\n", 500)?;
+    let (session, text) = (session.as_str(), text.as_str());
+    Ok(is_answered(rt, alloc, stored, DEBUG, session, 0, text, ""))
+}
+
 #[test]
-fn a_session_of_1000_lines(rt: HostRuntime) -> Result<(), Fail> {
+fn long_sessions(rt: HostRuntime) -> Result<(), Fail> {
     let stored = disk_of_echo(rt.alloc())?;
-    let session = repeated(rt.alloc(), "s\nb\n", 500)?;
-    let shown = "1 00010004 ecall\n0 00010000 addi x17,x0,3\n";
-    let text = repeated(rt.alloc(), shown, 500)?;
-    assert!(rt;
-        is_shown(
-            &rt,
-            rt.alloc(),
-            &stored,
-            "echo.block",
-            session.as_str(),
-            text.as_str()
-        )?
-    );
+    assert!(rt; are_bytes_shown(&rt, rt.alloc(), &stored)?);
+    assert!(rt; are_lines_answered(&rt, rt.alloc(), &stored)?);
     Ok(())
 }
 
@@ -199,7 +176,7 @@ const BEHIND_LOOP: &str = "200000 00010010 addi x17,x0,3\n199999 0001000c bne x5
 #[test]
 fn back_from_moment_200000(rt: HostRuntime) -> Result<(), Fail> {
     let stored = disk_of(rt.alloc(), LOOP, "call 0 1000000 -\n", 0)?;
-    let session = "g 00010010\nb\n";
-    assert!(rt; is_shown(&rt, rt.alloc(), &stored, "full.block", session, BEHIND_LOOP)?);
+    let (line, lines) = ("rvstm debug full.block --call 0", "g 00010010\nb\n");
+    assert!(rt; is_answered(&rt, rt.alloc(), &stored, line, lines, 0, BEHIND_LOOP, ""));
     Ok(())
 }

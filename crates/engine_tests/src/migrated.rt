@@ -1,8 +1,8 @@
 //! Block files of format 1 and what they are migrated to.
 
-use crate::asserts::{assert_bytes, assert_number};
+use crate::asserts::assert_right;
 use crate::blocks::{BlockInMemory, printed};
-use crate::fake_disk::{Stored, answer_to, assert_file};
+use crate::fake_disk::{Stored, is_answered};
 use crate::rows::{Row, rows};
 use engines::migrated_file;
 use std::alloc::Global;
@@ -12,29 +12,22 @@ use std::sync::Wait;
 use std::test::Fail;
 use std::thread::Threads;
 
-/// A block, and the same block migrated.
-fn both_formats(alloc: Global, row: &Row) -> Result<(BlockInMemory, BlockInMemory), Fail> {
-    let old = BlockInMemory::new(alloc, row.programs, row.lines)?;
-    let mut new = BlockInMemory::new(alloc, row.programs, row.lines)?;
-    let bytes = migrated_file(alloc, &mut old.text.as_bytes())?;
-    new.text = String::from_utf8(bytes)?;
-    Ok((old, new))
-}
-
-/// Asserts that a block and its migration print the same bytes.
-fn assert_equal(rt: &impl Abort, alloc: Global, row: &Row) -> Result<(), Fail> {
-    let (old, new) = both_formats(alloc, row)?;
-    assert!(rt; new.text.starts_with("rvblock 2\ngas 1\n"), "{}", row.name);
-    let wanted = printed(alloc, &old)?;
-    let text = printed(alloc, &new)?;
-    assert_bytes(rt, text.as_slice(), wanted.as_slice(), row.name);
-    Ok(())
+/// Whether a block's migration begins as it must, and prints the same bytes as the block.
+fn is_equal(alloc: Global, row: &Row) -> Result<bool, Fail> {
+    let mut block = BlockInMemory::new(alloc, row.programs, row.lines)?;
+    let wanted = printed(alloc, &block)?;
+    let bytes = migrated_file(alloc, &mut block.text.as_bytes())?;
+    block.text = String::from_utf8(bytes)?;
+    let text = printed(alloc, &block)?;
+    let is_migrated = block.text.starts_with("rvblock 2\ngas 1\n");
+    Ok(is_migrated && text.as_slice() == wanted.as_slice())
 }
 
 #[test]
 fn migrated_equal(rt: HostRuntime) -> Result<(), Fail> {
     for row in rows() {
-        assert_equal(&rt, rt.alloc(), row)?;
+        let is_right = is_equal(rt.alloc(), row)?;
+        assert_right(&rt, is_right, row.name);
     }
     Ok(())
 }
@@ -42,63 +35,74 @@ fn migrated_equal(rt: HostRuntime) -> Result<(), Fail> {
 /// The command line.
 const LINE: &str = "rvstm migrate old --out new";
 
-/// The file at `old`, and what is at `new` after it is migrated or refused, with what is reported.
-const FILES: &[(&str, &str, u8, &str)] = &[
-    ("rvblock 1\nstore", "kept", 1, "rvstm: block 2 BadLine 2\n"),
+/// Writes OUT over the file that is read.
+const OVER: &str = "rvstm migrate old --out link/old";
+
+/// A command line, the file at `old`, what is at `new` after it is migrated or refused, and what is reported.
+const FILES: &[(&str, &str, &str, u8, &str)] = &[
     (
+        LINE,
+        "rvblock 1\nstore",
+        "kept",
+        1,
+        "rvstm: block 2 BadLine 2\n",
+    ),
+    (
+        LINE,
         "rvblock 2\ngas 1\n",
         "kept",
         1,
         "rvstm: block 1 BadHeader 1\n",
     ),
-    ("rvblock 1\n", "rvblock 2\ngas 1\n", 0, ""),
+    (LINE, "rvblock 1\n", "rvblock 2\ngas 1\n", 0, ""),
+    (OVER, "rvblock 1\n", "kept", 1, "rvstm: file Unwritable 2\n"),
 ];
 
-/// Asserts that a file is migrated, or refused and the file at `new` kept.
-fn assert_migrated<R: Threads + Wait + Sync + Abort>(
+/// A disk with these files at `old` and at `new`.
+fn disk_of(alloc: Global, old: &str) -> io::Result<Stored> {
+    let stored = Stored::new(alloc, usize::MAX);
+    stored.put(alloc, "old", old.as_bytes())?;
+    stored.put(alloc, "new", b"kept")?;
+    Ok(stored)
+}
+
+/// Whether a file is migrated, or refused and the files kept.
+fn is_migrated<R: Threads + Wait + Sync>(
     rt: &R,
     alloc: Global,
+    line: &str,
     old: &str,
     new: &str,
     status: u8,
     errors: &str,
-) -> Result<(), Fail> {
-    let stored = Stored::new(alloc, usize::MAX);
-    stored.put(alloc, "old", old.as_bytes())?;
-    stored.put(alloc, "new", b"kept")?;
-    let answer = answer_to(rt, alloc, LINE.as_bytes(), &stored);
-    answer.assert_is(rt, status, "", errors, old);
-    assert_file(rt, alloc, &stored, "new", new.as_bytes())?;
-    assert_number(rt, stored.count() as u64, 2, "files");
-    Ok(())
+) -> io::Result<bool> {
+    let stored = disk_of(alloc, old)?;
+    Ok(
+        is_answered(rt, alloc, &stored, line, "", status, "", errors)
+            && stored.has_file("old", old.as_bytes())
+            && stored.has_file("new", new.as_bytes())
+            && stored.count() == 2,
+    )
+}
+
+/// Whether want of memory for a path is the block's.
+fn is_lost<R: Threads + Wait + Sync>(rt: &R, alloc: Global) -> io::Result<bool> {
+    let mut stored = disk_of(alloc, "rvblock 1\n")?;
+    stored.lost_path = Some(io::ErrorKind::OutOfMemory);
+    let memory = "rvstm: block Memory 8\n";
+    Ok(
+        is_answered(rt, alloc, &stored, LINE, "", 1, "", memory)
+            && stored.has_file("new", b"kept")
+            && stored.count() == 2,
+    )
 }
 
 #[test]
 fn files_are_migrated(rt: HostRuntime) -> Result<(), Fail> {
-    for (old, new, status, errors) in FILES {
-        assert_migrated(&rt, rt.alloc(), old, new, *status, errors)?;
+    for (line, old, new, status, errors) in FILES {
+        let is_right = is_migrated(&rt, rt.alloc(), line, old, new, *status, errors)?;
+        assert_right(&rt, is_right, old);
     }
-    Ok(())
-}
-
-#[test]
-fn an_old_file_is_not_written_over(rt: HostRuntime) -> Result<(), Fail> {
-    let stored = Stored::new(rt.alloc(), usize::MAX);
-    stored.put(rt.alloc(), "old", b"rvblock 1\n")?;
-    let line = "rvstm migrate old --out link/old";
-    let answer = answer_to(&rt, rt.alloc(), line.as_bytes(), &stored);
-    answer.assert_is(&rt, 1, "", "rvstm: file Unwritable 2\n", line);
-    assert_file(&rt, rt.alloc(), &stored, "old", b"rvblock 1\n")?;
-    Ok(())
-}
-
-#[test]
-fn want_of_memory_for_a_path_is_the_blocks(rt: HostRuntime) -> Result<(), Fail> {
-    let mut stored = Stored::new(rt.alloc(), usize::MAX);
-    stored.put(rt.alloc(), "old", b"rvblock 1\n")?;
-    stored.lost_path = Some(io::ErrorKind::OutOfMemory);
-    let answer = answer_to(&rt, rt.alloc(), LINE.as_bytes(), &stored);
-    answer.assert_is(&rt, 1, "", "rvstm: block Memory 8\n", LINE);
-    assert_number(&rt, stored.count() as u64, 1, "files");
+    assert!(rt; is_lost(&rt, rt.alloc())?);
     Ok(())
 }

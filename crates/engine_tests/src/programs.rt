@@ -1,19 +1,16 @@
-//! The program over a disk in memory: command lines, exit statuses, the order of what is opened, and
-//! blocks at their limits.
+//! The program over a disk in memory: command lines, exit statuses, and the order of what is opened.
 
-use crate::asserts::{assert_bytes, assert_number};
+use crate::asserts::{assert_right, has_pieces};
 use crate::blocks::elf_of;
-use crate::failing::FailingWriter;
-use crate::fake_disk::{Answer, Stored, answer_on, answer_to, answer_with, assert_asked};
+use crate::fake_disk::{Stored, answer_to, is_answered};
 use crate::rows::ECHO;
 use crate::sources::{ECHO_LISTING, ECHO_SOURCE};
-use std::alloc::{AllocError, Global};
+use std::alloc::Global;
+use std::io;
 use std::process::Abort;
-use std::str::Utf8Error;
 use std::sync::Wait;
 use std::test::Fail;
 use std::thread::Threads;
-use std::{io, str};
 
 /// No request fails.
 const NONE: usize = usize::MAX;
@@ -137,6 +134,7 @@ const LINES: &[(&str, u8, &str, &str)] = &[
         "",
         "rvstm: block 1 BadHeader 1\n",
     ),
+    // debug_no_such_call
     (
         "rvstm debug echo.block --call 1",
         1,
@@ -189,81 +187,52 @@ const LINES: &[(&str, u8, &str, &str)] = &[
     ),
 ];
 
-/// Asserts the answer to a command line.
-fn assert_answer<R: Threads + Wait + Sync + Abort>(
+/// Whether this is the answer to a command line.
+fn is_line<R: Threads + Wait + Sync>(
     rt: &R,
     alloc: Global,
     line: &str,
     status: u8,
     out: &str,
     errors: &str,
-) -> io::Result<()> {
+) -> io::Result<bool> {
     let stored = disk_of_echo(alloc)?;
-    let answer = answer_to(rt, alloc, line.as_bytes(), &stored);
-    answer.assert_is(rt, status, out, errors, line);
-    Ok(())
+    Ok(is_answered(rt, alloc, &stored, line, "", status, out, errors))
 }
 
 #[test]
 fn commands_reach_their_engines(rt: HostRuntime) -> Result<(), Fail> {
     for (line, status, out, errors) in LINES {
-        assert_answer(&rt, rt.alloc(), line, *status, out, errors)?;
+        let is_right = is_line(&rt, rt.alloc(), line, *status, out, errors)?;
+        assert_right(&rt, is_right, line);
     }
     Ok(())
 }
 
-#[test]
-fn a_call_is_replayed_along_the_input(rt: HostRuntime) -> Result<(), Fail> {
-    let stored = disk_of_echo(rt.alloc())?;
-    let line = "rvstm debug echo.block --call 0";
-    let input = b"w\ns\nq\ns\n";
-    let answer = answer_with(&rt, rt.alloc(), line.as_bytes(), &stored, input);
-    let shown = "0 00010000 addi x17,x0,3\n1 00010004 ecall\n";
-    answer.assert_is(&rt, 0, shown, "", line);
-    Ok(())
+/// Whether a text has a piece.
+fn has(text: &[u8], piece: &str) -> bool {
+    has_pieces(text, &[piece])
 }
 
-/// Asserts that a text has a piece.
-fn assert_has(rt: &impl Abort, text: &[u8], piece: &str, case: &str) -> Result<(), Utf8Error> {
-    let text = str::from_utf8(text)?;
-    assert!(rt; text.contains(piece), "{case} lacks {piece}");
-    Ok(())
-}
+/// Command lines that print a text, each with a piece of it.
+const HELPS: &[(&str, &str)] = &[
+    ("rvstm --help", "Executes blocks of RV32IM contract calls"),
+    ("rvstm seq --help", "The block file"),
+    ("rvstm --version", "0.1.0"),
+];
 
-/// Asserts that a command line prints a piece.
-fn assert_help<R: Threads + Wait + Sync + Abort>(
-    rt: &R,
-    alloc: Global,
-    line: &str,
-    piece: &str,
-) -> Result<(), Utf8Error> {
+/// Whether a command line prints a piece, and nothing on standard error.
+fn is_help<R: Threads + Wait + Sync>(rt: &R, alloc: Global, line: &str, piece: &str) -> bool {
     let stored = Stored::new(alloc, NONE);
     let answer = answer_to(rt, alloc, line.as_bytes(), &stored);
-    assert_printed(rt, &answer, piece, line)
-}
-
-/// Asserts that a piece is printed, and nothing on standard error.
-fn assert_printed(
-    rt: &impl Abort,
-    answer: &Answer,
-    piece: &str,
-    case: &str,
-) -> Result<(), Utf8Error> {
-    assert_number(rt, answer.status as u64, 0, case);
-    assert_bytes(rt, answer.errors.as_slice(), b"", case);
-    assert_has(rt, answer.out.as_slice(), piece, case)
+    answer.status == 0 && answer.errors.is_empty() && has(answer.out.as_slice(), piece)
 }
 
 #[test]
-fn help_is_printed(rt: HostRuntime) -> Result<(), Fail> {
-    for (line, piece) in [
-        ("rvstm --help", "Executes blocks of RV32IM contract calls"),
-        ("rvstm seq --help", "The block file"),
-        ("rvstm --version", "0.1.0"),
-    ] {
-        assert_help(&rt, rt.alloc(), line, piece)?;
+fn help_is_printed(rt: HostRuntime) {
+    for (line, piece) in HELPS {
+        assert_right(&rt, is_help(&rt, rt.alloc(), line, piece), line);
     }
-    Ok(())
 }
 
 /// Wrong command lines, each with a piece of what stands on standard error.
@@ -289,31 +258,24 @@ const WRONG_LINES: &[(&[u8], &str)] = &[
     ),
 ];
 
-/// Asserts that a line is answered as a wrong one: a piece stands on standard error, and nothing is printed.
-fn assert_wrong(rt: &impl Abort, answer: &Answer, piece: &str) -> Result<(), Utf8Error> {
-    assert_number(rt, answer.status as u64, 2, piece);
-    assert_bytes(rt, answer.out.as_slice(), b"", piece);
-    assert_has(rt, answer.errors.as_slice(), piece, "a wrong line")
-}
-
-/// Asserts that a command line is wrong, and that the disk is asked nothing.
-fn assert_wrong_line<R: Threads + Wait + Sync + Abort>(
+/// Whether a command line is wrong: a piece stands on standard error, nothing is printed, and the disk is asked nothing.
+fn is_wrong<R: Threads + Wait + Sync>(
     rt: &R,
     alloc: Global,
     line: &[u8],
     piece: &str,
-) -> Result<(), Fail> {
+) -> io::Result<bool> {
     let stored = disk_of_echo(alloc)?;
     let answer = answer_to(rt, alloc, line, &stored);
-    assert_wrong(rt, &answer, piece)?;
-    assert_asked(rt, alloc, &stored, "", piece)?;
-    Ok(())
+    let is_refused = answer.status == 2 && answer.out.is_empty();
+    Ok(is_refused && has(answer.errors.as_slice(), piece) && stored.was_asked(""))
 }
 
 #[test]
 fn wrong_lines_are_refused(rt: HostRuntime) -> Result<(), Fail> {
     for (line, piece) in WRONG_LINES {
-        assert_wrong_line(&rt, rt.alloc(), line, piece)?;
+        let is_right = is_wrong(&rt, rt.alloc(), line, piece)?;
+        assert!(rt; is_right, "{line:?}");
     }
     Ok(())
 }
@@ -361,159 +323,23 @@ const REQUESTS: &[(&str, &str)] = &[
     ("rvstm asm no.s --out new.elf", "open no.s\nend no.s\n"),
 ];
 
-/// Asserts what the disk is asked by a command line.
-fn assert_requests<R: Threads + Wait + Sync + Abort>(
+/// Whether the disk is asked this by a command line.
+fn is_asked<R: Threads + Wait + Sync>(
     rt: &R,
     alloc: Global,
     line: &str,
     requests: &str,
-) -> io::Result<()> {
+) -> io::Result<bool> {
     let stored = disk_of_echo(alloc)?;
     let _ = answer_to(rt, alloc, line.as_bytes(), &stored);
-    assert_asked(rt, alloc, &stored, requests, line)
+    Ok(stored.was_asked(requests))
 }
 
 #[test]
 fn files_are_opened_in_their_order(rt: HostRuntime) -> Result<(), Fail> {
     for (line, requests) in REQUESTS {
-        assert_requests(&rt, rt.alloc(), line, requests)?;
+        let is_right = is_asked(&rt, rt.alloc(), line, requests)?;
+        assert_right(&rt, is_right, line);
     }
-    Ok(())
-}
-
-/// Asserts the line on standard error where a writer takes three bytes, and then fails or takes nothing.
-fn assert_output_fails<R: Threads + Wait + Sync + Abort>(
-    rt: &R,
-    alloc: Global,
-    line: &str,
-    fails: bool,
-    error: &str,
-) -> io::Result<()> {
-    let stored = disk_of_echo(alloc)?;
-    let mut out = FailingWriter::new(alloc, 3, fails);
-    let mut errors = Vec::new(alloc);
-    let status = answer_on(
-        rt,
-        alloc,
-        line.as_bytes(),
-        &stored,
-        b"",
-        &mut out,
-        &mut errors,
-    );
-    assert_failed(rt, status, errors.as_slice(), error, line);
-    Ok(())
-}
-
-/// Asserts that a status is 1, and that this stands on standard error.
-pub fn assert_failed(rt: &impl Abort, status: u8, errors: &[u8], error: &str, line: &str) {
-    assert_number(rt, status as u64, 1, line);
-    assert_bytes(rt, errors, error.as_bytes(), line);
-}
-
-#[test]
-fn a_failing_output_is_reported(rt: HostRuntime) -> Result<(), Fail> {
-    for (fails, error) in [
-        (true, "rvstm: output Io 1\n"),
-        (false, "rvstm: output WroteNothing 2\n"),
-    ] {
-        assert_output_fails(&rt, rt.alloc(), "rvstm seq echo.block", fails, error)?;
-        assert_output_fails(&rt, rt.alloc(), "rvstm dis echo.elf", fails, error)?;
-        assert_output_fails(&rt, rt.alloc(), "rvstm --help", fails, error)?;
-        assert_output_fails(&rt, rt.alloc(), "rvstm --version", fails, error)?;
-    }
-    Ok(())
-}
-
-/// Puts the program of a number on a disk.
-fn put_program(alloc: Global, stored: &Stored, number: usize) -> io::Result<()> {
-    let path = format!(in alloc; "{number}.elf")?;
-    put_echo(alloc, stored, path.as_str())
-}
-
-/// Appends the line of a program to a block.
-fn push_program(alloc: Global, block: &mut String, number: usize) -> Result<(), AllocError> {
-    let line = format!(in alloc; "program {number} {number}.elf\n")?;
-    block.push_str(line.as_str())
-}
-
-/// Appends the lines of so many calls of a program to a block.
-fn push_calls(
-    alloc: Global,
-    block: &mut String,
-    program: usize,
-    calls: usize,
-) -> Result<(), AllocError> {
-    let line = format!(in alloc; "call {program} 100 -\n")?;
-    for _ in 0..calls {
-        block.push_str(line.as_str())?;
-    }
-    Ok(())
-}
-
-/// The text of a block of so many programs and calls, each call of the last program.
-fn large_text(alloc: Global, programs: usize, calls: usize) -> Result<String, AllocError> {
-    let mut block = String::from_str(alloc, "rvblock 1\n")?;
-    for number in 0..programs {
-        push_program(alloc, &mut block, number)?;
-    }
-    push_calls(alloc, &mut block, programs.saturating_sub(1), calls)?;
-    Ok(block)
-}
-
-/// A disk with such a block and its programs.
-fn large_block(alloc: Global, programs: usize, calls: usize) -> io::Result<Stored> {
-    let stored = Stored::new(alloc, NONE);
-    for number in 0..programs {
-        put_program(alloc, &stored, number)?;
-    }
-    let block = large_text(alloc, programs, calls)?;
-    stored.put(alloc, "large.block", block.as_bytes())?;
-    Ok(stored)
-}
-
-/// The answer to a run of such a block.
-fn large_answer<R: Threads + Wait + Sync>(
-    rt: &R,
-    alloc: Global,
-    programs: usize,
-    calls: usize,
-) -> io::Result<Answer> {
-    let stored = large_block(alloc, programs, calls)?;
-    Ok(answer_to(rt, alloc, b"rvstm seq large.block", &stored))
-}
-
-#[test]
-fn the_largest_block_is_run(rt: HostRuntime) -> Result<(), Fail> {
-    let answer = large_answer(&rt, rt.alloc(), 64, 1024)?;
-    assert_printed(
-        &rt,
-        &answer,
-        "\ncall 1023 returned gas 11 ",
-        "the largest block",
-    )?;
-    assert!(rt; answer.out.starts_with(b"call 0 returned gas 11 "));
-    assert!(rt; answer.out.ends_with(b"\nend\n"));
-    Ok(())
-}
-
-/// Asserts that a block of so many programs and calls is refused with a line.
-fn assert_too_large<R: Threads + Wait + Sync + Abort>(
-    rt: &R,
-    alloc: Global,
-    programs: usize,
-    calls: usize,
-    line: &str,
-) -> io::Result<()> {
-    let answer = large_answer(rt, alloc, programs, calls)?;
-    answer.assert_is(rt, 1, "", line, "a large block");
-    Ok(())
-}
-
-#[test]
-fn larger_blocks_are_refused(rt: HostRuntime) -> Result<(), Fail> {
-    assert_too_large(&rt, rt.alloc(), 64, 1025, "rvstm: block 1090 Limit 7\n")?;
-    assert_too_large(&rt, rt.alloc(), 1, 1025, "rvstm: block 1027 Limit 7\n")?;
-    assert_too_large(&rt, rt.alloc(), 65, 1, "rvstm: block 66 Limit 7\n")?;
     Ok(())
 }

@@ -1,6 +1,6 @@
 //! Reads under rules two, which pay for the bytes that they copy.
 
-use crate::asserts::{assert_bytes, assert_pieces};
+use crate::asserts::{assert_right, has_pieces};
 use crate::blocks::{BlockInMemory, printed};
 use crate::drives::{driven, push_worker};
 use crate::rows::{LEN, PUT};
@@ -118,22 +118,17 @@ fn printed_reading(alloc: Global, reading: &Reading) -> Result<Vec<u8>, Fail> {
     Ok(printed(alloc, &block)?)
 }
 
-/// Asserts that a reading ends as it should.
-fn assert_reading(rt: &impl Abort, alloc: Global, reading: &Reading) -> Result<(), Fail> {
+/// Whether a reading ends as it should.
+fn is_reading(alloc: Global, reading: &Reading) -> Result<bool, Fail> {
     let text = printed_reading(alloc, reading)?;
-    assert_pieces(
-        rt,
-        text.as_slice(),
-        &[reading.end, reading.x10],
-        reading.name,
-    )?;
-    Ok(())
+    Ok(has_pieces(text.as_slice(), &[reading.end, reading.x10]))
 }
 
 #[test]
 fn two_gas_reads(rt: HostRuntime) -> Result<(), Fail> {
     for reading in READINGS {
-        assert_reading(&rt, rt.alloc(), reading)?;
+        let is_right = is_reading(rt.alloc(), reading)?;
+        assert_right(&rt, is_right, reading.name);
     }
     Ok(())
 }
@@ -172,8 +167,7 @@ fn late_out_of_gas_validated(rt: HostRuntime) -> Result<(), Fail> {
         "call 1 returned gas 215 pc 00010014 out -\n",
         " 00000000 00000000 00110000 00000000 00000000 00000000 00000000 00000000 00000000 00000000 00000001 ",
     ];
-    assert_pieces(&rt, text.as_slice(), &pieces, "a late out of gas")?;
     let wanted = printed(alloc, &block)?;
-    assert_bytes(&rt, text.as_slice(), wanted.as_slice(), "in order");
+    assert!(rt; has_pieces(text.as_slice(), &pieces) && text.as_slice() == wanted.as_slice());
     Ok(())
 }

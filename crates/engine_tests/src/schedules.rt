@@ -1,15 +1,14 @@
 //! Lists of worker numbers, over blocks whose calls meet each other's writes: what is printed is what
 //! running the calls in order prints.
 
-use crate::asserts::{assert_bytes, assert_number};
-use crate::blocks::{BlockInMemory, forty_counts_block, is_forty_counts, printed};
+use crate::asserts::assert_right;
+use crate::blocks::{BlockInMemory, forty_counts_block, is_forty_counts};
 use crate::calls::{job_of, job_of_inputs, text_of};
-use crate::drives::{assert_in_order, driven, push_worker};
+use crate::drives::{driven, is_in_order, push_worker};
 use crate::rows::{
     COUNT, ECHO, GET, LATE_WRITER, NEW_KEY, READ_OF_ABSENCE, REPEATED_READ, Row, WITHDRAWN_WRITE,
 };
-use engines::Refusal;
-use rv_ledger::{Counts, Job, Outcome};
+use rv_ledger::{Counts, Job};
 use scheduler::COUNT_LIMIT;
 use std::alloc::{AllocError, Global};
 use std::process::Abort;
@@ -178,55 +177,38 @@ fn entries_of(alloc: Global, turns: &[(u16, usize)]) -> Result<Vec<u16>, AllocEr
     Ok(entries)
 }
 
-/// Asserts how many runs each worker recorded.
-fn assert_executions(rt: &impl Abort, found: &[Counts], wanted: &[u64], case: &str) {
-    assert_number(rt, found.len() as u64, wanted.len() as u64, case);
+/// Whether each worker recorded so many runs.
+fn are_executions(found: &[Counts], wanted: &[u64]) -> bool {
+    let mut is_right = found.len() == wanted.len();
     for (counts, executions) in found.iter().zip(wanted) {
-        assert_number(rt, counts.executions, *executions, case);
+        is_right = is_right && counts.executions == *executions;
     }
+    is_right
 }
 
-/// Asserts that the outcome of a case is what its calls come to in order, and how many runs each worker recorded.
-fn assert_done(
-    rt: &impl Abort,
-    alloc: Global,
-    case: &Schedule,
-    outcome: &Outcome,
-) -> Result<(), Fail> {
-    let text = text_of(alloc, outcome)?;
-    assert_in_order(rt, alloc, &case.row, text.as_bytes(), case.name)?;
-    assert_executions(rt, outcome.counts.as_slice(), case.executions, case.name);
-    Ok(())
+/// Whether the workers of a case come to what its calls come to in order, and record so many runs.
+fn is_done(alloc: Global, case: &Schedule, job: &Job, schedule: &[u16]) -> Result<bool, Fail> {
+    let outcome = drive(alloc, job, case.workers, schedule)?;
+    let text = text_of(alloc, &outcome)?;
+    let are_right = are_executions(outcome.counts.as_slice(), case.executions);
+    Ok(is_in_order(alloc, &case.row, text.as_bytes())? && are_right)
 }
 
-/// Asserts that a list is refused, since workers are not done after it.
-fn assert_not_done(
-    rt: &impl Abort,
-    alloc: Global,
-    job: &Job,
-    workers: usize,
-    schedule: &[u16],
-    case: &str,
-) {
-    let early = drive(alloc, job, workers, schedule);
-    assert!(rt; matches!(early, Err(DriveFault::NotDone)), "{case}");
-}
-
-/// Asserts what a case comes to, and that it is refused without its last entry.
-fn assert_case(rt: &impl Abort, alloc: Global, case: &Schedule) -> Result<(), Fail> {
+/// Whether a case comes to what it must, and is refused without its last entry.
+fn is_case(alloc: Global, case: &Schedule) -> Result<bool, Fail> {
     let job = job_of(alloc, case.row.programs, case.row.lines)?;
     let mut entries = entries_of(alloc, case.turns)?;
-    let outcome = drive(alloc, &job, case.workers, entries.as_slice())?;
-    assert_done(rt, alloc, case, &outcome)?;
+    let is_right = is_done(alloc, case, &job, entries.as_slice())?;
     let _ = entries.pop();
-    assert_not_done(rt, alloc, &job, case.workers, entries.as_slice(), case.name);
-    Ok(())
+    let early = drive(alloc, &job, case.workers, entries.as_slice());
+    Ok(is_right && matches!(early, Err(DriveFault::NotDone)))
 }
 
 #[test]
 fn schedules_print_what_in_order_prints(rt: HostRuntime) -> Result<(), Fail> {
     for case in SCHEDULES {
-        assert_case(&rt, rt.alloc(), case)?;
+        let is_right = is_case(rt.alloc(), case)?;
+        assert_right(&rt, is_right, case.name);
     }
     Ok(())
 }
@@ -254,129 +236,115 @@ pub fn driven_mixed(
     Ok(driven(alloc, block, workers as usize, schedule.as_str())?)
 }
 
-/// Asserts that a text is what the engine prints of a block in order.
-pub fn assert_printed(
-    rt: &impl Abort,
-    alloc: Global,
-    block: &BlockInMemory,
-    text: &[u8],
-) -> Result<(), Refusal> {
-    let wanted = printed(alloc, block)?;
-    assert_bytes(rt, text, wanted.as_slice(), "in order");
-    Ok(())
-}
-
-/// Asserts that a mixed list of so many entries leads so many workers to what forty calls of COUNT come to
-/// in order.
-fn assert_forty_counts(
-    rt: &impl Abort,
-    alloc: Global,
-    workers: u32,
-    entries: usize,
-) -> Result<(), Fail> {
-    let block = forty_counts_block(alloc)?;
-    let text = driven_mixed(alloc, &block, workers, entries)?;
-    assert_printed(rt, alloc, &block, text.as_slice())?;
-    assert!(rt; is_forty_counts(alloc, text.as_slice())?);
-    Ok(())
-}
-
-// 320 is 40 calls of eight steps; 540, 1430 and 5150 are entries after which a mixed list was seen done.
-#[test]
-fn forty_counts_by_1_worker(rt: HostRuntime) -> Result<(), Fail> {
-    assert_forty_counts(&rt, rt.alloc(), 1, 320)
-}
+/// Mixed lists, each with the number of workers and of entries: 320 is 40 calls of eight steps; 540, 1430 and 5150 are
+/// entries after which a mixed list was seen done.
+const MIXED: [(u32, usize); 4] = [(1, 320), (2, 540), (8, 1430), (32, 5150)];
 
 #[test]
-fn forty_counts_by_2_workers(rt: HostRuntime) -> Result<(), Fail> {
-    assert_forty_counts(&rt, rt.alloc(), 2, 540)
-}
-
-#[test]
-fn forty_counts_by_8_workers(rt: HostRuntime) -> Result<(), Fail> {
-    assert_forty_counts(&rt, rt.alloc(), 8, 1430)
-}
-
-#[test]
-fn forty_counts_by_32_workers(rt: HostRuntime) -> Result<(), Fail> {
-    assert_forty_counts(&rt, rt.alloc(), 32, 5150)
-}
-
-/// The counts of so many steps and asks, and of so many calls run and validated once.
-fn counts(steps: u64, asks: u64, calls: u64) -> Counts {
-    Counts {
-        steps,
-        asks,
-        executions: calls,
-        validations: calls,
+fn forty_counts_along_mixed_lists(rt: HostRuntime) -> Result<(), Fail> {
+    let block = forty_counts_block(rt.alloc())?;
+    for (workers, entries) in MIXED {
+        let text = driven_mixed(rt.alloc(), &block, workers, entries)?;
+        assert!(rt; is_forty_counts(rt.alloc(), text.as_slice())?);
     }
+    Ok(())
 }
 
-/// Asserts what each worker did along a list over calls of ECHO.
-fn assert_counts(
-    rt: &impl Abort,
+/// The inputs of no call and of three calls of ECHO.
+const NO_INPUTS: &[&[u8]] = &[];
+
+const THREE_INPUTS: &[&[u8]] = &[b"", b"", b""];
+
+/// The inputs of calls of ECHO, a list, and the steps and asks of each worker along it, and how often it runs and validates
+/// a call. The last is of one worker who does all, while each of two others asks once.
+const COUNTED: &[(&[&[u8]], &[u16], &[[u64; 3]])] = &[
+    (
+        THREE_INPUTS,
+        &[0, 0, 0, 0, 0, 0, 0, 0, 0, 0, 0, 0, 0, 0, 0],
+        &[[15, 6, 3]],
+    ),
+    (
+        THREE_INPUTS,
+        &[0, 0, 0, 0, 0, 0, 0, 0, 0, 0, 0, 0, 0, 0, 0, 0],
+        &[[16, 7, 3]],
+    ),
+    (NO_INPUTS, &[], &[[0, 0, 0]]),
+    (NO_INPUTS, &[0], &[[1, 1, 0]]),
+    (
+        THREE_INPUTS,
+        &[0, 0, 0, 0, 0, 0, 0, 0, 0, 0, 0, 0, 0, 0, 0, 0, 1, 2],
+        &[[16, 7, 3], [1, 1, 0], [1, 1, 0]],
+    ),
+];
+
+/// Whether these are the counts of each worker.
+fn are_counts(found: &[Counts], wanted: &[[u64; 3]]) -> bool {
+    let mut is_right = found.len() == wanted.len();
+    for (counts, [steps, asks, calls]) in found.iter().zip(wanted) {
+        is_right = is_right
+            && counts.steps == *steps
+            && counts.asks == *asks
+            && counts.executions == *calls
+            && counts.validations == *calls;
+    }
+    is_right
+}
+
+/// Whether each worker does what it must along a list over calls of ECHO.
+fn is_counted(
     alloc: Global,
     inputs: &[&[u8]],
     schedule: &[u16],
-    wanted: &[Counts],
-) -> Result<(), Fail> {
+    wanted: &[[u64; 3]],
+) -> Result<bool, Fail> {
     let job = job_of_inputs(alloc, ECHO, inputs)?;
     let outcome = drive(alloc, &job, wanted.len(), schedule)?;
-    assert!(rt; outcome.counts.as_slice() == wanted);
-    Ok(())
+    Ok(are_counts(outcome.counts.as_slice(), wanted))
 }
 
-/// The inputs of three calls of ECHO.
-const THREE_INPUTS: &[&[u8]] = &[b"", b"", b""];
-
-#[test]
-fn three_echoes(rt: HostRuntime) -> Result<(), Fail> {
-    let alloc = rt.alloc();
-    assert_counts(&rt, alloc, THREE_INPUTS, &[0; 15], &[counts(15, 6, 3)])?;
-    assert_counts(&rt, alloc, THREE_INPUTS, &[0; 16], &[counts(16, 7, 3)])
-}
-
-/// One of three workers does all, and each of the others asks once.
-#[test]
-fn three_echoes_by_one_of_three(rt: HostRuntime) -> Result<(), Fail> {
-    let schedule = [0, 0, 0, 0, 0, 0, 0, 0, 0, 0, 0, 0, 0, 0, 0, 0, 1, 2];
-    let wanted = [counts(16, 7, 3), counts(1, 1, 0), counts(1, 1, 0)];
-    assert_counts(&rt, rt.alloc(), THREE_INPUTS, &schedule, &wanted)
-}
-
-/// What a worker without a task is answered when it asks for work.
-fn asked(rt: &impl Abort, core: &mut Core, worker: usize) -> AskResult {
-    assert!(rt; worker < core.workers());
-    assert!(rt; core.counts(worker).steps < COUNT_LIMIT);
+/// What a worker without a task is answered when it asks for work; None where it owes another step.
+fn asked(core: &mut Core, worker: usize) -> Option<AskResult> {
+    if worker >= core.workers() || core.counts(worker).steps >= COUNT_LIMIT {
+        return None;
+    }
     match core.doing(worker) {
-        NextStep::Ask => core.ask(worker),
-        other => panic!(rt; "worker {worker} owes {other:?}"),
+        NextStep::Ask => Some(core.ask(worker)),
+        _ => None,
     }
 }
 
-/// Worker 1 gets call 1 when it asks again: first it meets call 0, which is not run yet.
-#[test]
-fn three_echoes_by_two(rt: HostRuntime) -> Result<(), Fail> {
-    let job = job_of_inputs(rt.alloc(), ECHO, THREE_INPUTS)?;
-    let mut core = Core::new(rt.alloc(), job, 2)?;
-    assert_eq!(rt; asked(&rt, &mut core, 0), AskResult::Task);
-    assert_eq!(rt; asked(&rt, &mut core, 1), AskResult::Nothing);
-    assert_eq!(rt; asked(&rt, &mut core, 1), AskResult::Task);
+/// Whether worker 1 of two gets call 1 when it asks again: first it meets call 0, which is not run yet.
+fn is_second_met(alloc: Global) -> Result<bool, Fail> {
+    let mut core = Core::new(alloc, job_of_inputs(alloc, ECHO, THREE_INPUTS)?, 2)?;
+    let first = asked(&mut core, 0);
+    let early = asked(&mut core, 1);
+    let second = asked(&mut core, 1);
     let wanted = NextStep::Run {
         call: 1,
         incarnation: 0,
     };
-    assert!(rt; 1 < core.workers());
-    assert_eq!(rt; core.doing(1), wanted);
+    Ok(
+        first == Some(AskResult::Task)
+            && early == Some(AskResult::Nothing)
+            && second == Some(AskResult::Task)
+            && 1 < core.workers()
+            && core.doing(1) == wanted,
+    )
+}
+
+#[test]
+fn three_echoes(rt: HostRuntime) -> Result<(), Fail> {
+    for (inputs, schedule, wanted) in COUNTED {
+        assert!(rt; is_counted(rt.alloc(), inputs, schedule, wanted)?);
+    }
+    assert!(rt; is_second_met(rt.alloc())?);
     Ok(())
 }
 
 #[test]
 fn empty_block(rt: HostRuntime) -> Result<(), Fail> {
-    assert_counts(&rt, rt.alloc(), &[], &[], &[counts(0, 0, 0)])?;
-    assert_counts(&rt, rt.alloc(), &[], &[0], &[counts(1, 1, 0)])?;
-    let job = job_of_inputs(rt.alloc(), ECHO, &[])?;
+    let job = job_of_inputs(rt.alloc(), ECHO, NO_INPUTS)?;
     let mut core = Core::new(rt.alloc(), job, 1)?;
-    assert_eq!(rt; asked(&rt, &mut core, 0), AskResult::Done);
+    assert!(rt; asked(&mut core, 0) == Some(AskResult::Done));
     Ok(())
 }

@@ -1,13 +1,12 @@
 //! The engines of `rvstm asm` and `rvstm dis` over sources and files in memory.
 
-use crate::asserts::{assert_bytes, assert_reported, assert_unreadable};
+use crate::asserts::{assert_right, is_reported, is_unreadable};
 use crate::edge_values::SOURCE;
-use crate::failing::{FailingReader, FailingWriter, assert_begins, assert_refused_write};
+use crate::failing::{FailingReader, FailingWriter, write_fault};
 use crate::outside::TORTURE;
-use byte_streams::{Destination, Source};
+use byte_streams::Source;
 use engines::{FileFault, Refusal, dis_to, file_of_source};
 use std::alloc::Global;
-use std::io::Write;
 use std::process::Abort;
 use std::test::Fail;
 
@@ -28,49 +27,19 @@ pub fn assembled<R: Source>(alloc: Global, source: &mut R) -> Result<Vec<u8>, Re
     file_of_source(alloc, source)
 }
 
-/// Writes the listing of a file.
-fn list<R: Source, W: Destination>(
-    alloc: Global,
-    file: &mut R,
-    out: &mut W,
-) -> Result<(), Refusal> {
-    dis_to(alloc, file, out)
-}
-
-/// Asserts that the file of a source has these bytes, which are given in hex.
-fn assert_assembled(
-    rt: &impl Abort,
-    alloc: Global,
-    source: &str,
-    digits: &str,
-) -> Result<(), Fail> {
+/// Whether the file of a source has these bytes, which are given in hex.
+fn is_assembled(alloc: Global, source: &str, digits: &str) -> Result<bool, Fail> {
     let wanted = hex::decode(alloc, digits)?;
     let file = assembled(alloc, &mut source.as_bytes())?;
-    assert_bytes(rt, file.as_slice(), wanted.as_slice(), "a file");
-    Ok(())
+    Ok(file.as_slice() == wanted.as_slice())
 }
 
-/// Asserts that the listing of a file is this.
-fn assert_listed(rt: &impl Abort, alloc: Global, file: &[u8], text: &str) -> Result<(), Refusal> {
-    let mut file = file;
-    let mut listing = Vec::new(alloc);
-    list(alloc, &mut file, &mut listing)?;
-    assert_bytes(rt, listing.as_slice(), text.as_bytes(), "a listing");
-    Ok(())
-}
-
+// The second file is the one that was made beside the source, byte for byte. Listings are in `programs`.
 #[test]
-fn echo_is_assembled_and_listed(rt: HostRuntime) -> Result<(), Fail> {
-    assert_assembled(&rt, rt.alloc(), ECHO_SOURCE, ECHO_FILE)?;
-    let file = hex::decode(rt.alloc(), ECHO_FILE)?;
-    assert_listed(&rt, rt.alloc(), file.as_slice(), ECHO_LISTING)?;
+fn sources_are_assembled(rt: HostRuntime) -> Result<(), Fail> {
+    assert!(rt; is_assembled(rt.alloc(), ECHO_SOURCE, ECHO_FILE)?);
+    assert!(rt; is_assembled(rt.alloc(), SOURCE, TORTURE)?);
     Ok(())
-}
-
-// The file is the one that was made beside the source, byte for byte.
-#[test]
-fn a_source_of_other_tools(rt: HostRuntime) -> Result<(), Fail> {
-    assert_assembled(&rt, rt.alloc(), SOURCE, TORTURE)
 }
 
 /// Wrong sources, each with the line of its refusal.
@@ -84,59 +53,59 @@ const WRONG_SOURCES: &[(&[u8], &str)] = &[
     (b"# \xff\n", "rvstm: file Unreadable 1\n"),
 ];
 
-/// Asserts that a source is refused with a line.
-fn assert_refused(rt: &impl Abort, alloc: Global, source: &[u8], line: &str) {
+/// Whether a source is refused with a line.
+fn is_refused(alloc: Global, source: &[u8], line: &str) -> bool {
     let mut source = source;
     match assembled(alloc, &mut source) {
-        Ok(_) => panic!(rt; "a wrong source is taken: {line}"),
-        Err(refusal) => assert_reported(rt, alloc, &refusal, line),
+        Ok(_) => false,
+        Err(refusal) => is_reported(alloc, &refusal, line),
     }
 }
 
 #[test]
 fn wrong_sources_are_reported(rt: HostRuntime) {
     for (source, line) in WRONG_SOURCES {
-        assert_refused(&rt, rt.alloc(), source, line);
+        assert_right(&rt, is_refused(rt.alloc(), source, line), line);
     }
 }
 
-/// Asserts that a file is unreadable where its reader fails after so many reads.
-fn assert_file_fails(rt: &impl Abort, alloc: Global, file: &[u8], reads: usize) {
+/// Whether a file is unreadable where its reader fails after so many reads.
+fn is_file_unreadable(alloc: Global, file: &[u8], reads: usize) -> bool {
     let mut reader = FailingReader { bytes: file, reads };
     let mut out = Vec::new(alloc);
-    let answer = list(alloc, &mut reader, &mut out);
-    assert_unreadable(rt, answer, out.as_slice(), reads);
+    let answer = dis_to(alloc, &mut reader, &mut out);
+    is_unreadable(&answer, out.as_slice())
 }
 
-/// Asserts that a source is unreadable where its reader fails after three reads.
-fn assert_source_fails(rt: &impl Abort, alloc: Global) {
+/// Whether a source is unreadable where its reader fails after three reads.
+fn is_source_unreadable(alloc: Global) -> bool {
     let mut reader = FailingReader {
         bytes: ECHO_SOURCE.as_bytes(),
         reads: 3,
     };
     let refusal = assembled(alloc, &mut reader).err();
-    assert_eq!(rt; refusal, Some(Refusal::File(FileFault::Unreadable)));
+    refusal == Some(Refusal::File(FileFault::Unreadable))
 }
 
-/// Asserts that a listing is refused where its writer takes so many bytes, and then fails or takes nothing.
-fn assert_listing_fails(rt: &impl Abort, alloc: Global, file: &[u8], left: usize, fails: bool) {
+/// Whether a listing is refused where its writer takes so many bytes, and then fails or takes nothing.
+fn is_listing_refused(alloc: Global, file: &[u8], left: usize, fails: bool) -> bool {
     let mut file = file;
     let mut writer = FailingWriter::new(alloc, left, fails);
-    let answer = list(alloc, &mut file, &mut writer);
-    assert_refused_write(rt, answer, fails);
-    assert_begins(rt, ECHO_LISTING.as_bytes(), writer.taken.as_slice(), left);
+    let answer = dis_to(alloc, &mut file, &mut writer);
+    answer == Err(Refusal::Output(write_fault(fails)))
+        && writer.has_beginning(ECHO_LISTING.as_bytes(), left)
 }
 
 #[test]
 fn failing_sources_and_listings(rt: HostRuntime) -> Result<(), Fail> {
     let file = hex::decode(rt.alloc(), ECHO_FILE)?;
     for reads in [0, 1, 20, 91] {
-        assert_file_fails(&rt, rt.alloc(), file.as_slice(), reads);
+        assert!(rt; is_file_unreadable(rt.alloc(), file.as_slice(), reads));
     }
-    assert_source_fails(&rt, rt.alloc());
     for left in 0..ECHO_LISTING.len() {
-        assert_listing_fails(&rt, rt.alloc(), file.as_slice(), left, true);
-        assert_listing_fails(&rt, rt.alloc(), file.as_slice(), left, false);
+        assert!(rt; is_listing_refused(rt.alloc(), file.as_slice(), left, true));
+        assert!(rt; is_listing_refused(rt.alloc(), file.as_slice(), left, false));
     }
+    assert!(rt; is_source_unreadable(rt.alloc()));
     Ok(())
 }

@@ -4,14 +4,14 @@
 ghost use Rattle.std.specs.Prelude.{◌≡◌, ◌≤◌, All, IfOk};
 ghost use Rattle.workers.specs.DoneCell.{IsPassOf};
 
-use crate::asserts::{assert_bytes, assert_number, assert_pieces, assert_shown};
+use crate::asserts::{assert_right, has_pieces};
 use crate::blocks::{forty_count_lines, is_forty_counts};
 use crate::calls::{image_of, job_of, job_of_image, text_in_order, text_of};
 use crate::rows::{COUNT, ECHO, LATE_WRITER, READ_OF_ABSENCE, Row, WITHDRAWN_WRITE};
 use crate::sizes::result_of_echoes;
 use crate::sources::assembled;
-use rv_ledger::{Counts, Job, Outcome};
-use std::alloc::{AllocError, Global};
+use rv_ledger::{Counts, Job};
+use std::alloc::Global;
 use std::marker::Brand;
 use std::process::Abort;
 use std::sync::Wait;
@@ -69,17 +69,6 @@ const BLOCKS: &[Row] = &[
     WITHDRAWN_WRITE,
 ];
 
-/// Runs a job by so many workers.
-fn run<R: Threads + Wait + Sync>(
-    rt: &R,
-    alloc: Global,
-    executor: &mut Executor,
-    job: Job,
-    workers: usize,
-) -> Result<Outcome, RunFault> {
-    executor.run_block(rt, alloc, job, workers)
-}
-
 /// The text of the outcome of a job that so many workers run.
 fn run_text<R: Threads + Wait + Sync>(
     rt: &R,
@@ -88,87 +77,53 @@ fn run_text<R: Threads + Wait + Sync>(
     job: Job,
     workers: usize,
 ) -> Result<String, Fail> {
-    let outcome = run(rt, alloc, executor, job, workers)?;
+    let outcome = executor.run_block(rt, alloc, job, workers)?;
     Ok(text_of(alloc, &outcome)?)
 }
 
-/// A job of forty counts of a key.
-fn forty_counts_job(alloc: Global) -> Result<Job, Fail> {
-    let lines = forty_count_lines(alloc)?;
-    job_of(alloc, &[COUNT], lines.as_str())
-}
-
-/// Asserts that so many workers come to the right text of forty counts.
-fn assert_forty_counts<R: Threads + Wait + Sync + Abort>(
+/// Whether so many workers come to the right text of forty counts.
+fn are_counted<R: Threads + Wait + Sync>(
     rt: &R,
     alloc: Global,
     executor: &mut Executor,
     workers: usize,
-) -> Result<(), Fail> {
-    let job = forty_counts_job(alloc)?;
+) -> Result<bool, Fail> {
+    let lines = forty_count_lines(alloc)?;
+    let job = job_of(alloc, &[COUNT], lines.as_str())?;
     let text = run_text(rt, alloc, executor, job, workers)?;
-    assert!(rt; is_forty_counts(alloc, text.as_bytes())?, "{workers}");
-    Ok(())
+    Ok(is_forty_counts(alloc, text.as_bytes())?)
 }
 
-/// Runs forty counts by so many workers, twice on one executor.
-fn assert_forty_counts_twice<R: Threads + Wait + Sync + Abort>(
-    rt: &R,
-    alloc: Global,
-    workers: usize,
-) -> Result<(), Fail> {
-    let mut executor = Executor::new(alloc);
-    assert_forty_counts(rt, alloc, &mut executor, workers)?;
-    assert_forty_counts(rt, alloc, &mut executor, workers)
-}
-
+/// By each number of workers, twice on one executor.
 #[test]
 fn forty_counts_by_threads(rt: HostRuntime) -> Result<(), Fail> {
     for workers in 1..33 {
-        assert_forty_counts_twice(&rt, rt.alloc(), workers)?;
+        let mut executor = Executor::new(rt.alloc());
+        assert!(rt; are_counted(&rt, rt.alloc(), &mut executor, workers)?);
+        assert!(rt; are_counted(&rt, rt.alloc(), &mut executor, workers)?);
     }
     Ok(())
 }
 
-/// The text of the outcome of a row's job that two workers run.
-fn text_by_two<R: Threads + Wait + Sync + Abort>(
-    rt: &R,
-    alloc: Global,
-    executor: &mut Executor,
-    job: Job,
-    name: &str,
-) -> Result<String, AllocError> {
-    match run(rt, alloc, executor, job, 2) {
-        Ok(outcome) => text_of(alloc, &outcome),
-        Err(fault) => panic!(rt; "{name} is refused: {fault}"),
-    }
-}
-
-/// Asserts that two workers come to what the calls of a row come to in order, and that its pieces are there.
-fn assert_row<R: Threads + Wait + Sync + Abort>(
+/// Whether two workers come to what the calls of a row come to in order, and its pieces are there.
+fn is_row<R: Threads + Wait + Sync>(
     rt: &R,
     alloc: Global,
     executor: &mut Executor,
     row: &Row,
-) -> Result<(), Fail> {
+) -> Result<bool, Fail> {
     let job = job_of(alloc, row.programs, row.lines)?;
     let wanted = text_in_order(alloc, &job)?;
-    let text = text_by_two(rt, alloc, executor, job, row.name)?;
-    assert_text(rt, text.as_str(), wanted.as_str(), row.name);
-    assert_pieces(rt, text.as_bytes(), row.pieces, row.name)?;
-    Ok(())
-}
-
-/// Asserts that this is the text that a case wants.
-fn assert_text(rt: &impl Abort, found: &str, wanted: &str, case: &str) {
-    assert_bytes(rt, found.as_bytes(), wanted.as_bytes(), case);
+    let text = run_text(rt, alloc, executor, job, 2)?;
+    Ok(text.as_str() == wanted.as_str() && has_pieces(text.as_bytes(), row.pieces))
 }
 
 #[test]
 fn answers_ok(rt: HostRuntime) -> Result<(), Fail> {
     let mut executor = Executor::new(rt.alloc());
     for row in BLOCKS {
-        assert_row(&rt, rt.alloc(), &mut executor, row)?;
+        let is_right = is_row(&rt, rt.alloc(), &mut executor, row)?;
+        assert_right(&rt, is_right, row.name);
     }
     Ok(())
 }
@@ -183,54 +138,34 @@ fn touch_job(alloc: Global) -> Result<Job, Fail> {
     job_of_image(alloc, &image, &[NO_INPUT; 8])
 }
 
-/// Asserts that a call of TOUCH ended as it must.
-fn assert_touched(
-    rt: &impl Abort,
-    alloc: Global,
-    text: &str,
-    number: usize,
-) -> Result<(), AllocError> {
-    let end = format!(in alloc; "call {number} returned gas 24 pc 00010020 out 08000000\n")?;
-    assert!(rt; text.contains(end.as_str()), "{number}");
-    Ok(())
-}
+/// What a call of TOUCH ends as.
+const TOUCHED: &str = " returned gas 24 pc 00010020 out 08000000\n";
 
 /// Calls of one program share its pages, and none sees what another wrote to its own.
 #[test]
 fn eight_touches(rt: HostRuntime) -> Result<(), Fail> {
     let job = touch_job(rt.alloc())?;
     let text = run_text(&rt, rt.alloc(), &mut Executor::new(rt.alloc()), job, 4)?;
-    for number in 0..8 {
-        assert_touched(&rt, rt.alloc(), text.as_str(), number)?;
-    }
+    assert!(rt; has_pieces(text.as_bytes(), &[TOUCHED; 8]));
     Ok(())
 }
 
-/// Asserts that no job is run by so many workers.
-fn assert_bad_count<R: Threads + Wait + Sync + Abort>(
+/// Whether no job is run by so many workers.
+fn is_bad_count<R: Threads + Wait + Sync>(
     rt: &R,
     alloc: Global,
-    executor: &mut Executor,
     workers: usize,
-) -> Result<(), Fail> {
+) -> Result<bool, Fail> {
     let job = job_of(alloc, &[ECHO], ONE_ECHO)?;
-    let fault = run(rt, alloc, executor, job, workers).err();
-    assert_eq!(rt; fault, Some(RunFault::BadCount), "{workers} workers");
-    Ok(())
+    let mut executor = Executor::new(alloc);
+    let answer = executor.run_block(rt, alloc, job, workers);
+    Ok(matches!(answer, Err(RunFault::BadCount)))
 }
 
 #[test]
 fn bad_count(rt: HostRuntime) -> Result<(), Fail> {
-    let mut executor = Executor::new(rt.alloc());
-    assert_bad_count(&rt, rt.alloc(), &mut executor, 0)?;
-    assert_bad_count(&rt, rt.alloc(), &mut executor, 33)?;
-    assert_shown(&rt, rt.alloc(), &RunFault::BadCount, "BadCount 1")?;
-    assert_shown(
-        &rt,
-        rt.alloc(),
-        &RunFault::IncarnationLimit,
-        "IncarnationLimit 4",
-    )?;
+    assert!(rt; is_bad_count(&rt, rt.alloc(), 0)?);
+    assert!(rt; is_bad_count(&rt, rt.alloc(), 33)?);
     Ok(())
 }
 
@@ -302,17 +237,6 @@ fn work_from<J: JobName, R: Wait + Abort>(
     Ok(back)
 }
 
-/// The answer to a job from what its workers shared and the shares that they gave back.
-fn settled<J: JobName>(
-    alloc: Global,
-    shared: Shared<J>,
-    back: Vec<Share>,
-    job: &Job,
-) -> Result<Outcome, RunFault> {
-    let (answer, _) = settle(alloc, shared.into_book(), back, job);
-    answer
-}
-
 /// The counts of so many steps and asks, and of so many calls run and validated once.
 fn counts(steps: u64, asks: u64, calls: u64) -> Counts {
     Counts {
@@ -323,114 +247,82 @@ fn counts(steps: u64, asks: u64, calls: u64) -> Counts {
     }
 }
 
-/// Asserts the counts of a worker, and that it was answered once that all is done.
-fn assert_share(rt: &impl Abort, share: &Share, wanted: Counts) {
-    assert_eq!(rt; share.counts(), wanted, "{}", share.worker());
-    assert_number(rt, share.dones(), 1, "answers that all is done");
-}
-
-/// Asserts that of three workers the first to work ran three echoes, and that each of the others asked once.
-fn assert_shares(rt: &impl Abort, shares: &[Share], first: usize) {
-    assert_number(rt, shares.len() as u64, 3, "shares");
-    assert!(rt; first < shares.len());
-    assert_number(
-        rt,
-        shares[first].worker() as u64,
-        first as u64,
-        "the first worker",
-    );
-    for worker in 0..shares.len() {
-        let wanted = if worker == first {
+/// Whether of three workers the first to work ran three echoes, and each of the others asked once. Each was answered once
+/// that all is done.
+fn are_shares(shares: &[Share], first: usize) -> bool {
+    let mut number = 0;
+    for share in shares {
+        let wanted = if number == first {
             counts(16, 7, 3)
         } else {
             counts(1, 1, 0)
         };
-        assert_share(rt, &shares[worker], wanted);
+        if share.worker() != number || share.counts() != wanted || share.dones() != 1 {
+            return false;
+        }
+        number = number.wrapping_add(1);
     }
+    number == 3
 }
 
-/// The outcome of three workers of which the given one works first.
-fn outcome_from<J: JobName, R: Wait + Abort>(
+/// Whether three workers, of whom the given one works first, come to what three echoes come to in order.
+fn is_alone<J: JobName, R: Wait + Abort>(
     rt: &R,
     alloc: Global,
     job: &Job,
     first: usize,
-) -> Result<Outcome, Fail>
+) -> Result<bool, Fail>
     requires { job.now ≡ J.job }
 {
     let (shared, shares) = shares_of::<J, R>(rt, alloc, job, 3)?;
     let back = work_from(rt, alloc, &shared, shares, first)?;
-    assert_shares(rt, back.as_slice(), first);
-    Ok(settled(alloc, shared, back, job)?)
-}
-
-/// The text of a job of which the given one of three workers works first.
-fn text_from<R: Wait + Abort>(
-    rt: &R,
-    alloc: Global,
-    job: &Job,
-    first: usize,
-) -> Result<String, Fail> {
-    let outcome = outcome_from::<Brand, R>(rt, alloc, job, first)?;
-    Ok(text_of(alloc, &outcome)?)
-}
-
-/// Asserts that the text of a job of which the given one of three workers works first is that in order.
-fn assert_text_from<R: Wait + Abort>(
-    rt: &R,
-    alloc: Global,
-    job: &Job,
-    first: usize,
-) -> Result<(), Fail> {
+    let are_right = are_shares(back.as_slice(), first);
+    let (answer, _) = settle(alloc, shared.into_book(), back, job);
+    let text = text_of(alloc, &answer?)?;
     let wanted = text_in_order(alloc, job)?;
-    let text = text_from(rt, alloc, job, first)?;
-    assert_text(rt, text.as_str(), wanted.as_str(), "three echoes");
-    Ok(())
+    Ok(are_right && text.as_str() == wanted.as_str())
 }
 
-/// Asserts that one worker of three does all the work of three echoes, and that the text is that in order.
-fn assert_alone<R: Wait + Abort>(rt: &R, alloc: Global, first: usize) -> Result<(), Fail> {
-    let job = job_of(alloc, &[ECHO], THREE_ECHOES)?;
-    assert_text_from(rt, alloc, &job, first)
+/// The same for any job.
+fn is_done_alone<R: Wait + Abort>(
+    rt: &R,
+    alloc: Global,
+    job: &Job,
+    first: usize,
+) -> Result<bool, Fail> {
+    is_alone::<Brand, R>(rt, alloc, job, first)
 }
 
 /// One worker of three does all the work of three echoes, then the others ask once each.
 #[test]
 fn one_share_alone(rt: HostRuntime) -> Result<(), Fail> {
+    let job = job_of(rt.alloc(), &[ECHO], THREE_ECHOES)?;
     for first in 0..3 {
-        assert_alone(&rt, rt.alloc(), first)?;
+        assert!(rt; is_done_alone(&rt, rt.alloc(), &job, first)?);
     }
     Ok(())
 }
 
-/// The answer to a job whose second worker's share is not given back.
-fn settled_without_one<J: JobName, R: Wait + Abort>(
-    rt: &R,
-    alloc: Global,
-    job: &Job,
-) -> Result<Option<RunFault>, Fail>
+/// Whether a job whose second worker's share is not given back is refused as Foreign.
+fn is_foreign<J: JobName, R: Wait + Abort>(rt: &R, alloc: Global, job: &Job) -> Result<bool, Fail>
     requires { job.now ≡ J.job }
 {
     let (shared, shares) = shares_of::<J, R>(rt, alloc, job, 2)?;
     let mut back = work_in_turn(rt, alloc, &shared, shares)?;
     let _ = back.pop();
-    Ok(settled(alloc, shared, back, job).err())
+    let (answer, _) = settle(alloc, shared.into_book(), back, job);
+    Ok(matches!(answer, Err(RunFault::Foreign)))
 }
 
-/// The fault that such a job is answered with, if any.
-fn fault_without_one<R: Wait + Abort>(
-    rt: &R,
-    alloc: Global,
-    job: &Job,
-) -> Result<Option<RunFault>, Fail> {
-    settled_without_one::<Brand, R>(rt, alloc, job)
+/// The same for any job.
+fn is_foreign_without_one<R: Wait + Abort>(rt: &R, alloc: Global, job: &Job) -> Result<bool, Fail> {
+    is_foreign::<Brand, R>(rt, alloc, job)
 }
 
 #[test]
 fn settle_misses_a_share(rt: HostRuntime) -> Result<(), Fail> {
     let job = job_of(rt.alloc(), &[ECHO], ONE_ECHO)?;
-    let fault = fault_without_one(&rt, rt.alloc(), &job)?;
-    assert_eq!(rt; fault, Some(RunFault::Foreign));
+    assert!(rt; is_foreign_without_one(&rt, rt.alloc(), &job)?);
     Ok(())
 }
 
@@ -470,34 +362,18 @@ impl Gate for Meeting {
     }
 }
 
-/// The text of two echoes that two workers run at a gate.
-fn text_at_gate<R: Threads + Wait + Sync>(
+/// Whether two workers who run two echoes come to the right text; and whether they met.
+fn echo_at_gate<R: Threads + Wait + Sync>(
     rt: &R,
     alloc: Global,
     executor: &mut Executor,
-    gate: &Meeting,
-) -> Result<String, Fail> {
-    let job = job_of(alloc, &[ECHO], TWO_ECHOES)?;
-    text_of_answer(alloc, executor.run_block_with(rt, alloc, job, 2, gate))
-}
-
-/// The text of an outcome; refused where the run was refused, and where memory ran out.
-fn text_of_answer(alloc: Global, answer: Result<Outcome, RunFault>) -> Result<String, Fail> {
-    let outcome = answer?;
-    Ok(text_of(alloc, &outcome)?)
-}
-
-/// Whether two workers who run two echoes met. Asserts that the echoes are right.
-fn is_met<R: Threads + Wait + Sync + Abort>(
-    rt: &R,
-    alloc: Global,
-    executor: &mut Executor,
-) -> Result<bool, Fail> {
+) -> Result<(bool, bool), Fail> {
     let gate = Meeting::new();
-    let text = text_at_gate(rt, alloc, executor, &gate)?;
+    let job = job_of(alloc, &[ECHO], TWO_ECHOES)?;
+    let outcome = executor.run_block_with(rt, alloc, job, 2, &gate)?;
+    let text = text_of(alloc, &outcome)?;
     let wanted = result_of_echoes(alloc, 2)?;
-    assert_text(rt, text.as_str(), wanted.as_str(), "two echoes");
-    Ok(gate.is_met())
+    Ok((text.as_str() == wanted.as_str(), gate.is_met()))
 }
 
 #[test]
@@ -505,11 +381,13 @@ fn two_at_once(rt: HostRuntime) -> Result<(), Fail> {
     let mut executor = Executor::new(rt.alloc());
     let mut met = false;
     for _ in 0..TRIES {
-        met = is_met(&rt, rt.alloc(), &mut executor)?;
-        if met {
+        let (is_right, is_met) = echo_at_gate(&rt, rt.alloc(), &mut executor)?;
+        assert!(rt; is_right);
+        if is_met {
+            met = true;
             break;
         }
     }
-    assert!(rt; met, "two workers were never met at once");
+    assert!(rt; met);
     Ok(())
 }

@@ -1,0 +1,4 @@
+use Rattle.engine_tests.proofs.threads.is_foreign_without_one.Given as goal
+
+abbrev pub ghosts-is_foreign : goal.ghosts-is_foreign
+ghosts-is_foreign g a = record { job = a.job.now }
