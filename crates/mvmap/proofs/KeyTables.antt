@@ -1,5 +1,5 @@
 -- A table of the slots at each key: where a key stands, and what an edit does to it.
-use Rattle.std.proofs.Common.{◌≡◌, ◌≢◌, ◌<◌, ◌⊎◌, ◌++◌, ℕ, suc, zero, Bool, true, false, cond, List, [], ◌∷◌, get_or, length, set, Option, None, Some, refl, sym, ap, subst, ◌∙◌, arith, inl, inr, slice_get}
+use Rattle.std.proofs.Common.{◌≡◌, ◌<◌, ◌⊎◌, ◌++◌, ℕ, suc, zero, Bool, true, false, cond, List, [], ◌∷◌, get_or, length, set, Option, None, Some, refl, sym, ap, subst, ◌∙◌, arith, inl, inr, slice_get}
 use mathlib.Core.Bool.{false≢true}
 use Rattle.std.specs.BTreeMap.{is_at}
 use Rattle.std.specs.Cmp.{tied_itself}
@@ -13,10 +13,13 @@ use Rattle.std.proofs.lemmas.Map.Lookups.{exact_bytes}
 use Rattle.std.proofs.lemmas.Map.Views.{tells_apart}
 use Rattle.std.proofs.lemmas.Option.{slice_get-get_or}
 use Rattle.rv_ledger.specs.Key.{key_cmp}
+use Rattle.mvmap.specs.Hints.{hint_of, noted}
 use Rattle.mvmap.specs.KeyTable.{AreIndexed, IsSetAt, Positions, in_order, key_at, position_of, slots_in, writers_at}
 use Rattle.mvmap.specs.Slots.{ByKey}
 use Rattle.mvmap.specs.Writers.{ByWriter}
+use Rattle.mvmap.specs.declared.hints.Hint.TheVariants.{Nothing}
 use Rattle.mvmap.specs.declared.key_table.KeySlots.{KeySlots}
+use Rattle.mvmap.proofs.Buckets.{get_set_apart, get_set_here, noted_empty, noted_found}
 use Rattle.mvmap.proofs.Fills.{slice_get_before, slice_get_last}
 
 -- ---- keys
@@ -84,26 +87,22 @@ key_within (s ∷ list) zero key h = omega arith
 key_within (s ∷ list) (suc p) key h = let l = key_within list p key h in omega arith
 
 -- the key of what was found at a position
-pub key_found : (list : List KeySlots) (p : ℕ) (s : KeySlots) (key : List ℕ) → p < length list → s ≡ get_or list p s → s.key ≡ key → key_at list p ≡ Some key
-key_found list p s key l is same = ap (option_map (λ (x : KeySlots). x.key)) (slice_get-get_or list p s l ∙ ap Some (sym is)) ∙ ap Some same
-
-get_set_here : (list : List KeySlots) (p : ℕ) (s : KeySlots) → p < length list → slice_get (set list p s) p ≡ Some s
-get_set_here [] p s l = absurd (omega arith)
-get_set_here (x ∷ list) zero s l = refl
-get_set_here (x ∷ list) (suc p) s l = get_set_here list p s (omega arith)
-
-get_set_apart : (list : List KeySlots) (p q : ℕ) (s : KeySlots) → p ≢ q → slice_get (set list p s) q ≡ slice_get list q
-get_set_apart [] p q s ne = refl
-get_set_apart (x ∷ list) zero zero s ne = absurd (ne refl)
-get_set_apart (x ∷ list) zero (suc q) s ne = refl
-get_set_apart (x ∷ list) (suc p) zero s ne = refl
-get_set_apart (x ∷ list) (suc p) (suc q) s ne = get_set_apart list p q s (λ e. ne (ap suc e))
+pub key_found : (list : List KeySlots) (p : ℕ) (s : KeySlots) → p < length list → s ≡ get_or list p s → key_at list p ≡ Some s.key
+key_found list p s l is = ap (option_map (λ (x : KeySlots). x.key)) (slice_get-get_or list p s l ∙ ap Some (sym is))
 
 -- ---- the slots at a position are replaced
 
 -- a position that a key has is one of the list
 pub position_within : (es : Positions) (list : List KeySlots) → AreIndexed es list → (key : List ℕ) (p : ℕ) → position_of es key ≡ Some p → p < length list
 position_within es list h key p at = key_within list p key (h.listed key p at)
+
+-- where the list is empty, no key is there
+pub no_keys : (es : Positions) (list : List KeySlots) → AreIndexed es list → length list ≡ 0 → (key : List ℕ) → position_of es key ≡ None
+no_keys es list h empty key = by (position_of es key) refl
+  where
+    by : (o : Option ℕ) → position_of es key ≡ o → o ≡ None
+    by None e = refl
+    by (Some p) e = let within = position_within es list h key p e in absurd (omega arith)
 
 module _ (es : Positions) (list : List KeySlots) (h : AreIndexed es list) (key : List ℕ) (p : ℕ) (at : position_of es key ≡ Some p) (was : KeySlots) (is : was ≡ get_or list p was) (ws : ByWriter) where
   abbrev new : KeySlots
@@ -217,3 +216,11 @@ module _ (es fs : Positions) (list : List KeySlots) (h : AreIndexed es list) (ke
       by false None e = refl
       by false (Some p) e =
           ap (λ (x : Option KeySlots). Some (unwrap_or (option_map (λ (s : KeySlots). s.writers) x) [])) (slice_get_before list empty p (key_within list p q (h.listed q p e)))
+
+  -- a key whose bucket is empty is none of them, after the key was noted
+  pub added_hinted : (buckets : List ℕ) (p : ℕ) → ((q : List ℕ) → hint_of buckets q ≡ Nothing → position_of es q ≡ None) → (q : List ℕ) → hint_of (noted buckets key p) q ≡ Nothing → position_of fs q ≡ None
+  added_hinted buckets p hinted q e = added q ∙ by (is_at (key_cmp key) q) refl
+    where
+      by : (b : Bool) → is_at (key_cmp key) q ≡ b → cond b (Some n) (position_of es q) ≡ None
+      by true t = absurd (noted_found buckets key p (ap (hint_of (noted buckets key p)) (same_key key q t) ∙ e))
+      by false t = hinted q (noted_empty buckets key p q e)

@@ -2,6 +2,7 @@ pub mod Readings
 pub mod Places
 pub mod Searches
 pub mod Nests
+pub mod Buckets
 pub mod KeyTables
 pub mod Changes
 pub mod Fills

@@ -1,12 +1,14 @@
 -- A table of the slots at each key; only private functions use this.
-use Rattle.std.specs.Prelude.{◌≡◌, ℕ, List, [], Option, Some, cond, map, slice_get}
+use Rattle.std.specs.Prelude.{◌≡◌, ℕ, List, [], Option, Some, None, cond, map, slice_get}
 use Rattle.std.specs.BTreeMap.{is_at}
 use Rattle.std.specs.List.Sorted.{IsStrictlySortedBy}
 use Rattle.std.specs.Map.{keys_of, lookup}
 use Rattle.std.specs.Option.{option_map, unwrap_or}
 use Rattle.rv_ledger.specs.Key.{key_cmp}
+use Rattle.mvmap.specs.Hints.{hint_of}
 use Rattle.mvmap.specs.Slots.{ByKey}
 use Rattle.mvmap.specs.Writers.{ByWriter}
+use Rattle.mvmap.specs.declared.hints.Hint.TheVariants.{Nothing}
 use Rattle.mvmap.specs.declared.key_table.KeySlots.{KeySlots}
 use Rattle.mvmap.specs.declared.key_table.KeyTable.{KeyTable}
 
@@ -40,9 +42,10 @@ pub record AreIndexed (positions : Positions) (list : List KeySlots) : Type 0 wh
   pub listed : (key : List ℕ) (position : ℕ) → position_of positions key ≡ Some position → key_at list position ≡ Some key
   pub indexed : (key : List ℕ) (position : ℕ) → key_at list position ≡ Some key → position_of positions key ≡ Some position
 
--- the same of a table
-abbrev pub IsIndexed : KeyTable → Type 0
-IsIndexed table = AreIndexed table.positions.entries table.list.items
+-- the same of a table, and a key whose bucket is empty is none of its keys
+pub record IsIndexed (table : KeyTable) : Type 0 where
+  pub positions : AreIndexed table.positions.entries table.list.items
+  pub hinted : (key : List ℕ) → hint_of table.hints.buckets.items key ≡ Nothing → position_of table.positions.entries key ≡ None
 
 -- the slots by key, ascending
 abbrev pub by_key : KeyTable → ByKey

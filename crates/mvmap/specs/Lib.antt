@@ -6,3 +6,4 @@ pub mod Answers
 pub mod Writers
 pub mod Slots
 pub mod KeyTable
+pub mod Hints

@@ -1,6 +1,7 @@
 //! Hints of where keys stand in a list.
 
-ghost use Rattle.std.specs.Prelude.{◌<◌};
+ghost use Rattle.std.specs.Prelude.{◌≡◌, ◌<◌, ◌⊎◌, [], replicate};
+ghost use Rattle.mvmap.specs.Hints.{bucket_of, hint_of, noted, word_of};
 
 use rv_ledger::Key;
 use std::alloc::Global;
@@ -14,6 +15,9 @@ const BUCKET_COUNT: usize = 4096;
 /// The content of a bucket without a hint.
 const NO_HINT: u32 = u32::MAX;
 
+/// The last position that a hint can say.
+const LAST_HINT: usize = NO_HINT as usize - 1;
+
 /// An odd number near 2^64 over the golden ratio, whose product spreads numbers that differ little.
 const MULTIPLIER: u64 = 0x9e37_79b9_7f4a_7c15;
 
@@ -23,48 +27,70 @@ const WORD_SIZE: usize = 8;
 /// The number of such words in a key.
 const WORD_COUNT: usize = 4;
 
-/// For each bucket of keys the position of one of them, as a hint: a search believes it only where the key that it
-/// looks for stands there. So a hint that is missing or wrong costs time alone, and no clause speaks of hints.
+/// What the hints say of a key.
+#[derive(Drop)]
+pub(crate) enum Hint {
+    /// Its bucket is empty, so neither it nor another key of the bucket was noted.
+    Nothing,
+    /// A position at which it may stand.
+    At(usize),
+    /// There are no buckets.
+    Unknown,
+}
+
+/// For each bucket of keys the position of one of them, as a hint. A hint may be wrong: a search believes it only where
+/// the key that it looks for stands there. An empty bucket is to be believed: no key of it was noted.
 #[derive(Drop)]
 pub(crate) struct Hints {
     buckets: Vec<u32>,
 }
 
 impl Hints {
-    /// No hints. Takes no memory.
-    pub(crate) fn new(alloc: Global) -> Hints {
+    /// No buckets. Takes no memory.
+    pub(crate) fn new(alloc: Global) -> Hints
+        ensures { result.buckets.items ≡ [] }
+    {
         Hints {
             buckets: Vec::new(alloc),
         }
     }
 
-    /// The hint of a key's bucket: a position at which the key may stand.
+    /// What a key's bucket says.
     #[inline(always)]
-    pub(crate) fn of(&self, key: &Key) -> Option<usize> {
+    pub(crate) fn of(&self, key: &Key) -> Hint
+        ensures { result ≡ hint_of self.now.buckets.items key.now }
+    {
         match self.buckets.as_slice().get(bucket_of(key)) {
-            Some(position) => Some(*position as usize),
-            None => None,
+            Some(position) if *position == NO_HINT => Hint::Nothing,
+            Some(position) => Hint::At(*position as usize),
+            None => Hint::Unknown,
         }
     }
 
-    /// Notes the position of a key as its bucket's hint, unless the bucket has one. The buckets are made with the
-    /// first hint; where memory for them is refused, the key gets none.
-    pub(crate) fn note(&mut self, key: &Key, position: usize) {
-        if self.buckets.is_empty() && self.buckets.resize(BUCKET_COUNT, NO_HINT).is_err() {
-            return;
-        }
-        let Ok(hint) = u32::try_from(position) else {
-            return;
-        };
+    /// Makes the buckets, all of them empty. Where memory for them is refused, there are none.
+    pub(crate) fn open(&mut self)
+        ensures { (self.new.buckets.items ≡ []) ⊎ (self.new.buckets.items ≡ replicate BUCKET_COUNT NO_HINT) }
+    {
+        self.buckets.clear();
+        let _ = self.buckets.resize(BUCKET_COUNT, NO_HINT);
+    }
+
+    /// Notes the position of a key as its bucket's hint, unless the bucket has one. In place of a position past the last
+    /// that a hint can say, that last one is noted, which is a wrong hint.
+    pub(crate) fn note(&mut self, key: &Key, position: usize)
+        ensures { self.new.buckets.items ≡ noted self.old.buckets.items key.now position }
+    {
         if let Some(bucket) = self.buckets.get_mut(bucket_of(key)) {
             if *bucket == NO_HINT {
-                *bucket = hint;
+                *bucket = position.min(LAST_HINT) as u32;
             }
         }
     }
 
-    /// Removes all hints; the buckets' room stays. Takes no memory.
-    pub(crate) fn clear(&mut self) {
+    /// Removes the buckets; their room stays. Takes no memory.
+    pub(crate) fn clear(&mut self)
+        ensures { self.new.buckets.items ≡ [] }
+    {
         self.buckets.clear();
     }
 }
@@ -72,21 +98,23 @@ impl Hints {
 /// The bucket of a key, from all of its bytes.
 #[inline(always)]
 fn bucket_of(key: &Key) -> usize
-    ensures { result < BUCKET_COUNT }
+    ensures value { result ≡ bucket_of key.now }
+    ensures count { result < BUCKET_COUNT }
 {
     let bytes = key.bytes();
-    let mut sum: u64 = 0;
-    for word in 0..WORD_COUNT {
-        sum = sum.wrapping_add(word_at(bytes, word));
-    }
+    let sum = word_at(bytes, 0)
+        .wrapping_add(word_at(bytes, 1))
+        .wrapping_add(word_at(bytes, 2))
+        .wrapping_add(word_at(bytes, 3));
     let mixed = (sum ^ (sum >> 32)).wrapping_mul(MULTIPLIER);
     (mixed >> (u64::BITS - BUCKET_BITS)) as usize
 }
 
-/// The eight bytes of a key from byte `8 * word` on, as a little-endian number.
+/// The eight bytes of a key from byte `word * 8` on, as a little-endian number.
 #[inline(always)]
 fn word_at(bytes: &[u8; 32], word: usize) -> u64
     requires { word < WORD_COUNT }
+    ensures { result ≡ word_of bytes.now word }
 {
     let start = word * WORD_SIZE;
     u64::from_le_bytes([

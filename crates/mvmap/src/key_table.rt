@@ -1,10 +1,11 @@
-//! The slots at each key. A tree of the keys says where each one stands in a list, and hints are a short cut to it.
+//! The slots at each key. A tree of the keys says where each one stands in a list. Hints spare most searches of the
+//! tree, for keys that are there and for keys that are not.
 
-ghost use Rattle.std.specs.Prelude.{◌≡◌, ℕ, [], IfOk, IfSome, None, OnErr, OnOk, Some};
+ghost use Rattle.std.specs.Prelude.{◌≡◌, ◌↔◌, ℕ, [], IfOk, IsTrue, None, OnErr, OnOk, Some};
 ghost use Rattle.mvmap.specs.KeyTable.{IsIndexed, IsSetAt, by_key, key_at, position_of, slots_in, writers_at};
 ghost use Rattle.mvmap.specs.Writers.{AreAscending};
 
-use crate::hints::Hints;
+use crate::hints::{Hint, Hints};
 use crate::slot::Slot;
 use crate::writers::WriterSlots;
 use rv_ledger::Key;
@@ -61,21 +62,21 @@ impl KeyTable {
         requires { IsIndexed self.now }
         ensures { result ≡ position_of self.now.positions.entries key.now }
     {
-        match self.hinted(key) {
-            Some(position) => Some(position),
-            None => self.search(key),
+        match self.hints.of(key) {
+            Hint::Nothing => None,
+            Hint::At(position) if self.stands_at(key, position) => Some(position),
+            _ => self.search(key),
         }
     }
 
-    /// The position that the hints say, if the key stands there.
+    /// Whether a key stands at a position of the list.
     #[inline(always)]
-    fn hinted(&self, key: &Key) -> Option<usize>
-        ensures { IfSome result (λ position. key_at self.now.list.items position ≡ Some key.now) }
+    fn stands_at(&self, key: &Key, position: usize) -> bool
+        ensures { IsTrue result ↔ (key_at self.now.list.items position ≡ Some key.now) }
     {
-        let position = self.hints.of(key)?;
         match self.list.as_slice().get(position) {
-            Some(slots) if slots.key == *key => Some(position),
-            _ => None,
+            Some(slots) => slots.key == *key,
+            None => false,
         }
     }
 
@@ -107,7 +108,8 @@ impl KeyTable {
     }
 
     /// Adds a key that is not there, without slots, and answers its position. Room in the list is made first, so
-    /// that nothing changes where memory ran out.
+    /// that nothing changes where memory ran out. The buckets of hints are made with the first key alone, so that no
+    /// key has an empty one. Where memory for them is refused, the tree decides everything until the table is cleared.
     #[inline(never)]
     fn add(&mut self, key: Key) -> Result<usize, AllocError>
         requires indexed { IsIndexed self.old }
@@ -124,6 +126,9 @@ impl KeyTable {
             key,
             writers: WriterSlots::new(self.alloc),
         });
+        if position == 0 {
+            self.hints.open();
+        }
         self.hints.note(&key, position);
         Ok(position)
     }

@@ -29,5 +29,5 @@ returns-clause-ordered c =
     let t = c.slots.inside.table in
     let all = λ (es : Positions). AreAllAscending (in_order es t.list.items) in
     subst (λ (es : Slots). IsStrictlySortedBy place_cmp (keys_of es)) c.slots.view_is
-    (flat_sorted (in_order t.positions.entries t.list.items) (in_order_sorted t.positions.entries t.list.items c.slots.invariant)
+    (flat_sorted (in_order t.positions.entries t.list.items) (in_order_sorted t.positions.entries t.list.items c.slots.invariant.positions)
     (subst all c.into_iter-key-iterator.ensures.into_iter_gives.0 (c.loop-key.invariant.ascending (subst all (sym c.in-None.ensures.steps.0) tt))))

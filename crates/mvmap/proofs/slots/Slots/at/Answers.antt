@@ -11,7 +11,7 @@ returns-in-Some-clause-slots c = λ w.
     let t = c.self.inside.table in
     let key = c.args.key.now in
     ap (λ (es : Slots). slot_at es (key, w)) (sym c.self.view_is)
-    ∙ at_writers (by_key t) (in_order_sorted t.positions.entries t.list.items c.self.invariant) key w
+    ∙ at_writers (by_key t) (in_order_sorted t.positions.entries t.list.items c.self.invariant.positions) key w
     ∙ ap (λ (ws : ByWriter). slot_of ws w) (writers_in_order t.positions.entries t.list.items key c.in-Some.position (sym c.find.ensures ∙ c.in-Some.is) ∙ sym c.slots_at.ensures.all)
 
 pub returns-in-None-clause-slots : goal.returns-in-None-clause-slots
@@ -19,5 +19,5 @@ returns-in-None-clause-slots c = λ w.
     let t = c.self.inside.table in
     let key = c.args.key.now in
     ap (λ (es : Slots). slot_at es (key, w)) (sym c.self.view_is)
-    ∙ at_writers (by_key t) (in_order_sorted t.positions.entries t.list.items c.self.invariant) key w
+    ∙ at_writers (by_key t) (in_order_sorted t.positions.entries t.list.items c.self.invariant.positions) key w
     ∙ ap (λ (ws : ByWriter). slot_of ws w) (no_writers_in_order t.positions.entries t.list.items key (sym c.find.ensures ∙ c.in-None.is))

@@ -10,24 +10,27 @@ pub returns-in_err-position-clause-succeeds : goal.returns-in_err-position-claus
 returns-in_err-position-clause-succeeds c = λ there.
     let t = c.self.inside.table in
     let absent = none_in_order t.positions.entries t.list.items c.args.key c.in_err-position.ensures.absent in
-    let none = no_key (by_key t) c.args.key c.args.writer c.args.self.now c.self.view_is (in_order_sorted t.positions.entries t.list.items c.self.invariant) absent in
+    let none = no_key (by_key t) c.args.key c.args.writer c.args.self.now c.self.view_is (in_order_sorted t.positions.entries t.list.items c.self.invariant.positions) absent in
     let neither : false ≡ true = sym (ap is_some none) ∙ there in cc
 
 pub index_mut-requires : goal.index_mut-requires
 index_mut-requires c =
     let t = c.position_for.new.self in
-    let within = position_within t.positions.entries t.list.items c.position_for.ensures.indexed c.args.key c.in_ok-position.position c.in_ok-position.ensures.position in
+    let within = position_within t.positions.entries t.list.items c.position_for.ensures.indexed.positions c.args.key c.in_ok-position.position c.in_ok-position.ensures.position in
     omega (arith, t.list.ok.0)
 
 pub invariant_of-self-2 : goal.invariant_of-self-2
 invariant_of-self-2 c =
     let t = c.position_for.new.self in
-    set_indexed t.positions.entries t.list.items c.position_for.ensures.indexed c.args.key c.in_ok-position.position c.in_ok-position.ensures.position c.index_mut.result.now c.index_mut.ensures.value c.open.new.self
+    record {
+      positions = set_indexed t.positions.entries t.list.items c.position_for.ensures.indexed.positions c.args.key c.in_ok-position.position c.in_ok-position.ensures.position c.index_mut.result.now c.index_mut.ensures.value c.open.new.self;
+      hinted = c.position_for.ensures.indexed.hinted;
+    }
 
 was : (c : goal.After-self-1) → c.index_mut.result.now.writers ≡ writers_at (by_key c.self.inside.table) c.args.key
 was c =
     let t = c.position_for.new.self in
-    slots_were t.positions.entries t.list.items c.position_for.ensures.indexed c.args.key c.in_ok-position.position c.in_ok-position.ensures.position c.index_mut.result.now c.index_mut.ensures.value c.open.new.self
+    slots_were t.positions.entries t.list.items c.position_for.ensures.indexed.positions c.args.key c.in_ok-position.position c.in_ok-position.ensures.position c.index_mut.result.now c.index_mut.ensures.value c.open.new.self
     ∙ set_writers (by_key c.self.inside.table) (by_key t) c.args.key _ c.in_ok-position.ensures.set
 
 abbrev after : (c : goal.After-self-1) → ByKey
@@ -37,8 +40,8 @@ made : (c : goal.After-self-1) → IsMade c.args.self.now (flat (after c)) (c.ar
 made c =
     let old = c.self.inside.table in
     let t = c.position_for.new.self in
-    let changed = set_in_order t.positions.entries t.list.items c.position_for.ensures.indexed c.args.key c.in_ok-position.position c.in_ok-position.ensures.position c.index_mut.result.now c.index_mut.ensures.value c.open.new.self in
-    made_at (by_key old) (after c) c.args.key c.open.new.self c.args.writer c.args.self.now c.self.view_is (in_order_sorted old.positions.entries old.list.items c.self.invariant) (in_order_sorted t.positions.entries _ (invariant_of-self-2 c))
+    let changed = set_in_order t.positions.entries t.list.items c.position_for.ensures.indexed.positions c.args.key c.in_ok-position.position c.in_ok-position.ensures.position c.index_mut.result.now c.index_mut.ensures.value c.open.new.self in
+    made_at (by_key old) (after c) c.args.key c.open.new.self c.args.writer c.args.self.now c.self.view_is (in_order_sorted old.positions.entries old.list.items c.self.invariant.positions) (in_order_sorted t.positions.entries _ (invariant_of-self-2 c).positions)
     (set_twice (by_key old) (by_key t) (after c) c.args.key _ c.open.new.self c.in_ok-position.ensures.set changed) c.index_mut.result.now.writers (was c) c.open.result c.open.ensures.ok c.open.ensures.err
 
 pub returns-clause-opened : goal.returns-clause-opened
@@ -55,6 +58,6 @@ returns-clause-succeeds c = λ there.
     let t = c.self.inside.table in
     c.open.ensures.succeeds (subst (λ o. IsSome o)
     (ap (λ (es : Slots). slot_at es (c.args.key, c.args.writer)) (sym c.self.view_is)
-    ∙ at_writers (by_key t) (in_order_sorted t.positions.entries t.list.items c.self.invariant) c.args.key c.args.writer
+    ∙ at_writers (by_key t) (in_order_sorted t.positions.entries t.list.items c.self.invariant.positions) c.args.key c.args.writer
     ∙ ap (λ (ws : ByWriter). slot_of ws c.args.writer) (sym (was c)))
     there)

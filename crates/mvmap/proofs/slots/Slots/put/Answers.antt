@@ -9,13 +9,16 @@ use Rattle.mvmap.proofs.slots.Slots.put.Goals as goal
 pub index_mut-requires : goal.index_mut-requires
 index_mut-requires c =
     let t = c.self.inside.table in
-    let within = position_within t.positions.entries t.list.items c.self.invariant c.args.key.now c.in-Some.position (sym c.find.ensures ∙ c.in-Some.is) in
+    let within = position_within t.positions.entries t.list.items c.self.invariant.positions c.args.key.now c.in-Some.position (sym c.find.ensures ∙ c.in-Some.is) in
     omega (arith, t.list.ok.0)
 
 pub invariant_of-self : goal.invariant_of-self
 invariant_of-self c =
     let t = c.self.inside.table in
-    set_indexed t.positions.entries t.list.items c.self.invariant c.args.key.now c.in-Some.position (sym c.find.ensures ∙ c.in-Some.is) c.index_mut.result.now c.index_mut.ensures.value c.put.new.self
+    record {
+      positions = set_indexed t.positions.entries t.list.items c.self.invariant.positions c.args.key.now c.in-Some.position (sym c.find.ensures ∙ c.in-Some.is) c.index_mut.result.now c.index_mut.ensures.value c.put.new.self;
+      hinted = c.self.invariant.hinted;
+    }
 
 pub returns-in-Some : goal.returns-in-Some
 returns-in-Some c =
@@ -25,13 +28,13 @@ returns-in-Some c =
     let at : position_of es key ≡ Some c.in-Some.position = sym c.find.ensures ∙ c.in-Some.is in
     let was = c.index_mut.result.now in
     let is = c.index_mut.ensures.value in
-    changed_at (by_key t) _ key c.put.new.self c.args.writer c.args.self.now c.self.view_is (in_order_sorted es t.list.items c.self.invariant) (in_order_sorted es _ (invariant_of-self c))
-    (set_in_order es t.list.items c.self.invariant key c.in-Some.position at was is c.put.new.self) was.writers
-    (slots_were es t.list.items c.self.invariant key c.in-Some.position at was is c.put.new.self) (option_map (λ _. c.args.slot)) c.put.ensures
+    changed_at (by_key t) _ key c.put.new.self c.args.writer c.args.self.now c.self.view_is (in_order_sorted es t.list.items c.self.invariant.positions) (in_order_sorted es _ (invariant_of-self c).positions)
+    (set_in_order es t.list.items c.self.invariant.positions key c.in-Some.position at was is c.put.new.self) was.writers
+    (slots_were es t.list.items c.self.invariant.positions key c.in-Some.position at was is c.put.new.self) (option_map (λ _. c.args.slot)) c.put.ensures
 
 pub returns-in-None : goal.returns-in-None
 returns-in-None c =
     let t = c.self.inside.table in
     let none = none_in_order t.positions.entries t.list.items c.args.key.now (sym c.find.ensures ∙ c.in-None.is) in
     put_nowhere c.args.self.now _ (c.args.key.now, c.args.writer) c.args.slot
-    (no_key (by_key t) c.args.key.now c.args.writer c.args.self.now c.self.view_is (in_order_sorted t.positions.entries t.list.items c.self.invariant) none) refl
+    (no_key (by_key t) c.args.key.now c.args.writer c.args.self.now c.self.view_is (in_order_sorted t.positions.entries t.list.items c.self.invariant.positions) none) refl

@@ -1,0 +1,16 @@
+use Rattle.std.proofs.Common.{◌≡◌, ℕ, ◌+◌, ◌/◌, ◌%◌, ◌*◌, ◌^◌, ap, ◌∙◌, bit_xor}
+use Rattle.std.proofs.Math.Nat.{mod-add-mod}
+use Rattle.mvmap.specs.declared.hints.TheConstants.{MULTIPLIER}
+use Rattle.mvmap.specs.Hints.{bucket_of, sum_of}
+use Rattle.mvmap.proofs.hints.bucket_of.Goals as goal
+
+-- a sum that is reduced at each step is the sum reduced once
+reduced : (a b c d m : ℕ) → (((a + b) % m + c) % m + d) % m ≡ (a + b + c + d) % m
+reduced a b c d m = ap (λ n. (n + d) % m) (mod-add-mod (a + b) m c) ∙ mod-add-mod (a + b + c) m d
+
+pub returns-clause-value : goal.returns-clause-value
+unfolding bucket_of
+returns-clause-value c =
+    let sum : (c.word_at.result + c.word_at-2.result + c.word_at-3.result + c.word_at-4.result) % 2 ^ 64 ≡ sum_of c.args.key.now =
+    rw (c.word_at.ensures, c.word_at-2.ensures, c.word_at-3.ensures, c.word_at-4.ensures, c.bytes-bytes.ensures.value) in
+    ap (λ (s : ℕ). bit_xor s (s / 2 ^ 32) * MULTIPLIER % 2 ^ 64 / 2 ^ 52) (reduced c.word_at.result c.word_at-2.result c.word_at-3.result c.word_at-4.result (2 ^ 64) ∙ sum)

@@ -1,0 +1,35 @@
+-- Buckets of keys, each with a hint of where one of its keys stands; only private functions use this.
+use Rattle.std.specs.Prelude.{ℕ, ◌+◌, ◌*◌, ◌/◌, ◌%◌, ◌^◌, ◌==◌, min, bit_xor, if◌then◌else◌, List, drop, Option, Some, None, slice_get, slice_index, slice_set}
+use Rattle.std.specs.Int.{from_le_bytes, w64}
+use Rattle.mvmap.specs.declared.hints.Hint.{Hint}
+use Rattle.mvmap.specs.declared.hints.Hint.TheVariants.{Nothing, At, Unknown}
+use Rattle.mvmap.specs.declared.hints.TheConstants.{NO_HINT, LAST_HINT, MULTIPLIER}
+
+-- the eight bytes of a key from byte word * 8 on, as a number, the lowest first
+unfoldable pub word_of : List ℕ → ℕ → ℕ
+word_of key word = from_le_bytes w64 (drop (word * 8) key)
+
+-- the sum of a key's four words, modulo 2^64
+abbrev pub sum_of : List ℕ → ℕ
+sum_of key = (word_of key 0 + word_of key 1 + word_of key 2 + word_of key 3) % 2 ^ 64
+
+-- the bucket of a key: the highest twelve bits of a product modulo 2^64, of its sum with the higher half mixed into the lower
+unfoldable pub bucket_of : List ℕ → ℕ
+bucket_of key = bit_xor (sum_of key) (sum_of key / 2 ^ 32) * MULTIPLIER % 2 ^ 64 / 2 ^ 52
+
+-- what the content of a bucket says
+abbrev pub hint_in : Option ℕ → Hint
+hint_in None = Unknown
+hint_in (Some position) = if position == NO_HINT then Nothing else At position
+
+-- what the buckets say of a key
+abbrev pub hint_of : List ℕ → List ℕ → Hint
+hint_of buckets key = hint_in (slice_get buckets (bucket_of key))
+
+-- the content of a bucket after a position was noted in it
+abbrev pub filled : ℕ → ℕ → ℕ
+filled content position = if content == NO_HINT then min position LAST_HINT else content
+
+-- the buckets after the position of a key was noted
+abbrev pub noted : List ℕ → List ℕ → ℕ → List ℕ
+noted buckets key position = slice_set buckets (bucket_of key) (filled (slice_index buckets (bucket_of key)) position)
