@@ -3,9 +3,8 @@ use Rattle.std.proofs.Common.{◌≡◌, ◌≢◌, ◌==◌, ◌<◌, ◌≤◌
 use mathlib.Core.Bool.{false≢true}
 use Rattle.std.proofs.lemmas.Bool.{cases_eq, cases_lt}
 use Rattle.std.proofs.lemmas.Bool.Decides.{Decides-eqb}
-use Rattle.mvmap.specs.Hints.{bucket_of, filled, hint_in, hint_of, noted}
+use Rattle.mvmap.specs.Hints.{bucket_of, filled, hint_in, hint_of, last_hint, no_hint, noted}
 use Rattle.mvmap.specs.declared.hints.Hint.TheVariants.{Nothing, At}
-use Rattle.mvmap.specs.declared.hints.TheConstants.{NO_HINT, LAST_HINT}
 
 -- ---- a list, one element of which was replaced
 
@@ -29,20 +28,20 @@ get_set_past (x ∷ list) (suc p) s l = get_set_past list p s (omega arith)
 -- ---- one bucket
 
 -- a bucket that says that it is empty has no hint
-no_hint : (content : ℕ) → hint_in (Some content) ≡ Nothing → content ≡ NO_HINT
-no_hint content = by (content == NO_HINT) refl
+holds_none : (content : ℕ) → hint_in (Some content) ≡ Nothing → content ≡ no_hint
+holds_none content = by (content == no_hint) refl
   where
-    by : (b : Bool) → (content == NO_HINT) ≡ b → cond b Nothing (At content) ≡ Nothing → content ≡ NO_HINT
-    by true t e = (Decides-eqb content NO_HINT).0 t
+    by : (b : Bool) → (content == no_hint) ≡ b → cond b Nothing (At content) ≡ Nothing → content ≡ no_hint
+    by true t e = (Decides-eqb content no_hint).0 t
     by false t e = cc
 
 -- a bucket in which a position was noted has a hint
-has_hint : (content position : ℕ) → filled content position ≢ NO_HINT
-has_hint content position = by (content == NO_HINT) refl
+has_hint : (content position : ℕ) → filled content position ≢ no_hint
+has_hint content position = by (content == no_hint) refl
   where
-    by : (b : Bool) → (content == NO_HINT) ≡ b → cond b (min position LAST_HINT) content ≢ NO_HINT
+    by : (b : Bool) → (content == no_hint) ≡ b → cond b (min position last_hint) content ≢ no_hint
     by true t e = omega arith
-    by false t e = false≢true (sym t ∙ (Decides-eqb content NO_HINT).1 e)
+    by false t e = false≢true (sym t ∙ (Decides-eqb content no_hint).1 e)
 
 -- ---- all of them
 
@@ -56,7 +55,7 @@ module _ (buckets key : List ℕ) (position : ℕ) where
   -- the bucket of the key is not empty
   pub noted_found : hint_of (noted buckets key position) key ≢ Nothing
   noted_found e = elim (cases_lt bucket (length buckets)) [
-    | inl l ↦ has_hint (slice_index buckets bucket) position (no_hint content (sym (ap hint_in (get_set_here buckets bucket content l)) ∙ e))
+    | inl l ↦ has_hint (slice_index buckets bucket) position (holds_none content (sym (ap hint_in (get_set_here buckets bucket content l)) ∙ e))
     | inr past ↦ let none : hint_in None ≡ Nothing = sym (ap hint_in (get_set_past buckets bucket content past)) ∙ e in cc
   ]
 

@@ -3,7 +3,14 @@ use Rattle.std.specs.Prelude.{ℕ, ◌+◌, ◌*◌, ◌/◌, ◌%◌, ◌^◌, 
 use Rattle.std.specs.Int.{from_le_bytes, w64}
 use Rattle.mvmap.specs.declared.hints.Hint.{Hint}
 use Rattle.mvmap.specs.declared.hints.Hint.TheVariants.{Nothing, At, Unknown}
-use Rattle.mvmap.specs.declared.hints.TheConstants.{NO_HINT, LAST_HINT, MULTIPLIER}
+
+-- the content of a bucket without a hint: 2^32 - 1
+abbrev pub no_hint : ℕ
+no_hint = 4294967295
+
+-- the last position that a hint can say
+abbrev pub last_hint : ℕ
+last_hint = 4294967294
 
 -- the eight bytes of a key from byte word * 8 on, as a number, the lowest first
 unfoldable pub word_of : List ℕ → ℕ → ℕ
@@ -15,12 +22,12 @@ sum_of key = (word_of key 0 + word_of key 1 + word_of key 2 + word_of key 3) % 2
 
 -- the bucket of a key: the highest twelve bits of a product modulo 2^64, of its sum with the higher half mixed into the lower
 unfoldable pub bucket_of : List ℕ → ℕ
-bucket_of key = bit_xor (sum_of key) (sum_of key / 2 ^ 32) * MULTIPLIER % 2 ^ 64 / 2 ^ 52
+bucket_of key = bit_xor (sum_of key) (sum_of key / 2 ^ 32) * 11400714819323198485 % 2 ^ 64 / 2 ^ 52
 
 -- what the content of a bucket says
 abbrev pub hint_in : Option ℕ → Hint
 hint_in None = Unknown
-hint_in (Some position) = if position == NO_HINT then Nothing else At position
+hint_in (Some position) = if position == no_hint then Nothing else At position
 
 -- what the buckets say of a key
 abbrev pub hint_of : List ℕ → List ℕ → Hint
@@ -28,7 +35,7 @@ hint_of buckets key = hint_in (slice_get buckets (bucket_of key))
 
 -- the content of a bucket after a position was noted in it
 abbrev pub filled : ℕ → ℕ → ℕ
-filled content position = if content == NO_HINT then min position LAST_HINT else content
+filled content position = if content == no_hint then min position last_hint else content
 
 -- the buckets after the position of a key was noted
 abbrev pub noted : List ℕ → List ℕ → ℕ → List ℕ
