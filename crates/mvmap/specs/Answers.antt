@@ -1,11 +1,14 @@
 -- What the answer to a read says.
-use Rattle.std.specs.Prelude.{◌≡◌, ◌<◌, ◌≤◌, ℕ, List, Option, None, Some, length}
+use Rattle.std.specs.Prelude.{◌≡◌, ◌<◌, ◌≤◌, ℕ, List, Option, None, Some, IfSome, length}
+use Rattle.std.specs.Option.{option_copied}
 use Rattle.rv_ledger.specs.Change.{Content, IfValue, add, change_copied}
 use Rattle.read_set.specs.declared.origin.Version.{Version}
 use Rattle.mvmap.specs.Versions.{Stands}
 use Rattle.mvmap.specs.Reading.{Visible, Base, Blocked, blocker, origin_in, value_seen, visible_over}
 use Rattle.mvmap.specs.declared.answer.Answer.{Answer}
 use Rattle.mvmap.specs.declared.answer.Answer.TheVariants as answer
+use Rattle.mvmap.specs.declared.answer.LentAnswer.{LentAnswer}
+use Rattle.mvmap.specs.declared.answer.LentAnswer.TheVariants as lent
 use Rattle.mvmap.specs.declared.seek.Nearest.{Nearest}
 use Rattle.mvmap.specs.declared.seek.Nearest.TheVariants as nearest
 
@@ -24,6 +27,17 @@ Tells (answer.Found version content) passed seen =
     (blocker seen ≡ None) × (origin_in seen ≡ record { passed = passed; bottom = Some version })
     × ((base : Content) → value_seen base seen ≡ content)
 Tells (answer.Estimate writer) passed seen = blocker seen ≡ Some writer
+
+-- the answer that lent bytes stand for, once the passed amounts are added
+abbrev pub added : LentAnswer → Answer
+added (lent.Base sum) = answer.Base sum
+added (lent.Found version content sum) = answer.Found version (with_amount (option_copied content) sum)
+added (lent.Estimate writer) = answer.Estimate writer
+
+-- lent bytes are at most 256
+abbrev pub IsShortAnswer : LentAnswer → Type 0
+IsShortAnswer (lent.Found version content sum) = IfSome content (λ bytes. length bytes.now ≤ 256)
+IsShortAnswer other = Unit {0}
 
 -- the value of a version has at most 256 bytes
 abbrev pub IsShort : Nearest → Type 0

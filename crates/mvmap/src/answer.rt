@@ -15,3 +15,16 @@ pub enum Answer {
     /// An estimate: the call of this index is expected to write the key again.
     Estimate(u16),
 }
+
+/// The same, where what a version has is lent by its bytes, before the passed amounts are added.
+#[derive(Drop)]
+pub enum LentAnswer<'a> {
+    /// The storage before the block; and the sum of the amounts of the versions that were passed, if any was,
+    /// modulo 2^64.
+    Base(Option<u64>),
+    /// A version, the bytes of its value, at most 256, or None where it removes the key, and the sum of the amounts of
+    /// the versions that were passed above it.
+    Found(Version, Option<&'a [u8]>, Option<u64>),
+    /// An estimate: the call of this index is expected to write the key again.
+    Estimate(u16),
+}

@@ -14,7 +14,7 @@ mod snapshot;
 mod walk;
 mod writers;
 
-pub use answer::Answer;
+pub use answer::{Answer, LentAnswer};
 pub use laws::{
     blocks_on_lower_writers, changes_no_standing_read, depends_on_lower_writers, names_what_stands,
     sums_add_up,

@@ -1,10 +1,10 @@
 //! The map of a block's versions.
 
-use crate::answer::Answer;
+use crate::answer::{Answer, LentAnswer};
 use crate::slot::Slot;
 use crate::slots::Slots;
 use crate::snapshot::apply_slots;
-use crate::walk::{has_walk, walk};
+use crate::walk::{has_walk, walk, with_amount};
 use read_set::{Origin, Version};
 use rv_ledger::{Change, Key, Store, Value};
 use std::alloc::{AllocError, Global};
@@ -46,7 +46,7 @@ impl MvMap {
     ghost use Rattle.version_arena.specs.declared.fault.ReserveFault.TheVariants.{ArenaFull};
     ghost use Rattle.mvmap.specs.Versions.{Estimate, HasNoEstimate, Place, Stands, entry_at};
     ghost use Rattle.mvmap.specs.Reading.{is_origin, reading, value_seen};
-    ghost use Rattle.mvmap.specs.Answers.{Tells};
+    ghost use Rattle.mvmap.specs.Answers.{IsShortAnswer, Tells, added};
 
     /// A map without versions over an arena. The arena's records are removed, and their room stays.
     /// Takes no memory.
@@ -82,6 +82,23 @@ impl MvMap {
     pub fn read(&self, key: &Key, i: u16, passed: &mut Vec<Version>) -> Answer
         requires { i ≤ vec_capacity passed.old }
         ensures tells { Tells result passed.new.items (reading self.now.versions key.now i) }
+        ensures count { length passed.new.items ≤ i }
+        ensures room { vec_capacity passed.new ≡ vec_capacity passed.old }
+    {
+        match self.read_bytes(key, i, passed) {
+            LentAnswer::Base(sum) => Answer::Base(sum),
+            LentAnswer::Found(version, content, sum) => {
+                Answer::Found(version, with_amount(content, sum))
+            }
+            LentAnswer::Estimate(writer) => Answer::Estimate(writer),
+        }
+    }
+
+    /// The same, where what a version has is lent by its bytes and no amount is added yet.
+    pub fn read_bytes(&self, key: &Key, i: u16, passed: &mut Vec<Version>) -> LentAnswer<'_>
+        requires { i ≤ vec_capacity passed.old }
+        ensures tells { Tells (added result) passed.new.items (reading self.now.versions key.now i) }
+        ensures short { IsShortAnswer result }
         ensures count { length passed.new.items ≤ i }
         ensures room { vec_capacity passed.new ≡ vec_capacity passed.old }
     {

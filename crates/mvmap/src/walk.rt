@@ -3,13 +3,13 @@
 ghost use Rattle.std.specs.Prelude.{◌≡◌, ◌≤◌, ℕ, IfSome, List, Option, length, vec_capacity};
 ghost use Rattle.std.specs.Option.{option_copied};
 ghost use Rattle.read_set.specs.declared.origin.Version.{Version};
-ghost use Rattle.mvmap.specs.Answers.{Tells, with_amount};
+ghost use Rattle.mvmap.specs.Answers.{IsShortAnswer, Tells, added, with_amount};
 ghost use Rattle.mvmap.specs.Laws.{total_amount};
 ghost use Rattle.mvmap.specs.Reading.{Found, Passed, Visible, is_origin, is_walk};
 ghost use Rattle.mvmap.specs.Slots.{ArePlacedIn, seen_in, walk_after};
 ghost use Rattle.mvmap.specs.Writers.{AreAscending};
 
-use crate::answer::Answer;
+use crate::answer::LentAnswer;
 use crate::seek::{Nearest, seek};
 use crate::slot::Slot;
 use read_set::{Origin, Version};
@@ -18,16 +18,17 @@ use version_arena::Arena;
 
 /// What the call of index `i` sees of a key with these slots, with the versions that it passes, the nearest
 /// first.
-pub(crate) fn walk(
+pub(crate) fn walk<'a>(
     at_key: &[(u16, Slot)],
-    arena: &Arena,
+    arena: &'a Arena,
     i: u16,
     passed: &mut Vec<Version>,
-) -> Answer
+) -> LentAnswer<'a>
     requires ascending { AreAscending at_key.now }
     requires placed { ArePlacedIn arena.now.records at_key.now }
     requires room { i ≤ vec_capacity passed.old }
-    ensures tells { Tells result passed.new.items (seen_in arena.now.records at_key.now i) }
+    ensures tells { Tells (added result) passed.new.items (seen_in arena.now.records at_key.now i) }
+    ensures short { IsShortAnswer result }
     ensures count { length passed.new.items ≤ i }
     ensures room { vec_capacity passed.new ≡ vec_capacity passed.old }
 {
@@ -36,18 +37,18 @@ pub(crate) fn walk(
     let mut below = i;
     loop {
         match seek(at_key, arena, below) {
-            Nearest::Nothing => return Answer::Base(sum),
-            Nearest::Waiting(writer) => return Answer::Estimate(writer),
+            Nearest::Nothing => return LentAnswer::Base(sum),
+            Nearest::Waiting(writer) => return LentAnswer::Estimate(writer),
             Nearest::Standing(version, Change::Sum(amount)) => {
                 passed.push_reserved(version);
                 sum = Some(total_amount(amount, sum));
                 below = version.writer;
             }
             Nearest::Standing(version, Change::Value(bytes)) => {
-                return Answer::Found(version, with_amount(Some(bytes), sum));
+                return LentAnswer::Found(version, Some(bytes), sum);
             }
             Nearest::Standing(version, Change::Gone) => {
-                return Answer::Found(version, with_amount(None, sum));
+                return LentAnswer::Found(version, None, sum);
             }
         }
     }

@@ -1,12 +1,13 @@
 //! Byte strings as the maps and the receipts keep them.
 
-ghost use Rattle.std.specs.Prelude.{◌≡◌, ◌≤◌, [], IfOk, IfSome, IsOk, length};
+ghost use Rattle.std.specs.Prelude.{◌≡◌, ◌<◌, ◌≤◌, [], IfOk, IfSome, IsOk, length, vec_capacity};
 ghost use Rattle.std.specs.Option.{option_copied};
 
 use crate::inline_bytes::Value;
 use smallvec::SmallVec;
 use std::alloc::{AllocError, Global};
 use std::marker::Model;
+use std::{fmt, mem};
 
 /// The greatest length that is kept in place, in bytes. `StoredBytes` then take 32 bytes, as with
 /// any lower limit. So a leaf of a storage's tree, of 15 keys and 15 values, takes 968 bytes: glibc's allocator
@@ -52,6 +53,26 @@ impl StoredBytes {
     {
         let kept = SmallVec::from_slice(alloc, bytes)?;
         Ok(StoredBytes { kept })
+    }
+
+    /// Keeps at most 256 bytes. More than 16 bytes take a list with them, which must have room for them; at most 16 leave
+    /// it. Takes no memory.
+    pub fn of_room(bytes: &[u8], room: &mut Vec<u8>) -> StoredBytes
+        requires short { length bytes.now ≤ 256 }
+        requires room { 16 < length bytes.now → length bytes.now ≤ vec_capacity room.old }
+        ensures value { result ≡ bytes.now }
+        ensures stays { length bytes.now ≤ 16 → room.new ≡ room.old }
+    {
+        let alloc = *room.allocator();
+        if bytes.len() <= IN_PLACE_LIMIT {
+            return StoredBytes::of_bytes(alloc, bytes).unwrap();
+        }
+        room.clear();
+        room.extend_from_slice(bytes).unwrap();
+        let filled = mem::replace(room, Vec::new(alloc));
+        StoredBytes {
+            kept: SmallVec::from_vec(filled),
+        }
     }
 
     /// No bytes. Takes no memory.
@@ -108,5 +129,11 @@ impl Clone for StoredBytes {
 
     fn clone(&self) -> Result<StoredBytes, AllocError> {
         StoredBytes::of_bytes(*self.kept.allocator(), self.bytes())
+    }
+}
+
+impl fmt::Debug for StoredBytes {
+    fn fmt<W: fmt::Write>(&self, f: &mut fmt::Formatter<W>) -> fmt::Result {
+        self.bytes().fmt(f)
     }
 }

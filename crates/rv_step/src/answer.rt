@@ -1,7 +1,7 @@
 //! Answers from the storage.
 
 use read_set::Origin;
-use rv_ledger::{Key, Value};
+use rv_ledger::{Key, StoredValue};
 
 /// An answer that a run was given.
 #[derive(Debug, Drop)]
@@ -9,7 +9,7 @@ pub struct StorageAnswer {
     /// The key that it asked for.
     pub key: Key,
     /// The key's value, or None where it is absent.
-    pub value: Option<Value>,
+    pub value: Option<StoredValue>,
     /// Where the answer came from.
     pub origin: Origin,
 }

@@ -1,6 +1,7 @@
 //! A run of one call, which stops where it needs an answer from the storage.
 
-ghost use Rattle.std.specs.Prelude.{◌≡◌, ◌≤◌};
+ghost use Rattle.std.specs.Prelude.{◌≡◌, ◌≤◌, IfOk, IfSome, length};
+ghost use Rattle.std.specs.Option.{option_copied};
 ghost use Rattle.rv_step.specs.Chain.{receipt_of};
 ghost use Rattle.rv_step.specs.Meets.{MeetsSteps};
 ghost use Rattle.rv_step.specs.declared.stage.Stage.TheVariants.{Running};
@@ -12,7 +13,7 @@ use crate::outcome::InstructionOutcome;
 use crate::stage::{Stage, end_with};
 use crate::storage_calls::bytes_of;
 use read_set::Origin;
-use rv_ledger::{Call, End, Key, Receipt, StoredOutput, Value};
+use rv_ledger::{Call, End, Key, Receipt, StoredOutput, StoredValue, Value};
 use rv_mem::PageRoom;
 use std::alloc::{AllocError, Global};
 use std::marker::Model;
@@ -54,7 +55,7 @@ pub enum Pause {
 }
 
 impl Run {
-    ghost use Rattle.std.specs.Prelude.{◌≡◌, ◌<◌, ◌≤◌, ℕ, false, IsTrue, IsSome, IfSome, IfOk, OnOk, OnErr};
+    ghost use Rattle.std.specs.Prelude.{◌≡◌, ◌<◌, ◌≤◌, ℕ, false, IsTrue, IsSome, IfSome, IfOk, OnOk, OnErr, length};
     ghost use Rattle.std.specs.Option.{option_copied};
     ghost use Rattle.rv_step.specs.Growth.{TakesMemory};
     ghost use Rattle.rv_step.specs.Step.{step};
@@ -177,21 +178,26 @@ impl Run {
         ensures fewer { OnOk result (steps_left self.new < steps_left self.old) }
         ensures err { OnErr result (self.new ≡ self.old) }
     {
+        self.answer_bytes(bytes_of(content), origin)
+    }
+
+    /// The same with a value that is lent by its bytes, at most 256.
+    pub fn answer_bytes(&mut self, content: Option<&[u8]>, origin: Origin) -> Result<(), AllocError>
+        requires asked { IsSome (asked_key self.old.stage) }
+        requires short { IfSome content (λ bytes. length bytes.now ≤ 256) }
+        ensures ok { OnOk result (IfSome (asked_key self.old.stage) (λ key. self.new ≡ after_answer key (option_copied content.entry) origin self.old)) }
+        ensures fewer { OnOk result (steps_left self.new < steps_left self.old) }
+        ensures err { OnErr result (self.new ≡ self.old) }
+    {
         let key = match &self.stage {
             Stage::Asked(key) => *key,
             _ => unreachable!(),
         };
+        let value = stored(*self.answers.allocator(), content)?;
         make_room(&mut self.answers)?;
-        self.answers.push(StorageAnswer {
-            key,
-            value: Value::copied(content),
-            origin,
-        })?;
+        self.answers.push(StorageAnswer { key, value, origin })?;
         self.stage = Stage::Running;
-        match self
-            .machine
-            .answer(&key, bytes_of(content), &mut self.stage)
-        {
+        match self.machine.answer(&key, content, &mut self.stage) {
             Ok(()) => Ok(()),
             Err(refused) => {
                 let _ = self.answers.pop();
@@ -242,6 +248,17 @@ impl Run {
     pub fn into_room(self) -> PageRoom {
         let Run { machine, .. } = self;
         machine.memory.into_room()
+    }
+}
+
+/// Keeps a value of at most 256 bytes, or None for None; refused where memory ran out.
+fn stored(alloc: Global, content: Option<&[u8]>) -> Result<Option<StoredValue>, AllocError>
+    requires { IfSome content (λ bytes. length bytes.now ≤ 256) }
+    ensures { IfOk result (λ value. value ≡ option_copied content.entry) }
+{
+    match content {
+        Some(bytes) => Ok(Some(StoredValue::of_bytes(alloc, bytes)?)),
+        None => Ok(None),
     }
 }
 

@@ -1,10 +1,10 @@
 use Rattle.rv_step.proofs.Beginnings.{answer_keeps, answer_leaves_fewer}
-use Rattle.rv_step.proofs.run.Run.answer.Goals as goal
+use Rattle.rv_step.proofs.run.Run.answer_bytes.Goals as goal
 
 pub invariant_of-self-in-Ok : goal.invariant_of-self-in-Ok
 invariant_of-self-in-Ok c =
-    rw (c.in_ok-push.ensures.items, c.copied.ensures, c.in_ok-make_room.ensures)
-    (answer_keeps c.self.inside.call c.self.inside.machine c.answer.new.self c.self.inside.answers.items c.in-Asked.key _ c.args.origin c.answer.new.stage (rw c.in-Asked.is at c.self.invariant) (rw c.bytes_of.ensures.value at c.in-Ok.ensures))
+    rw (c.in_ok-push.ensures.items, c.in_ok-value.ensures, c.in_ok-make_room.ensures)
+    (answer_keeps c.self.inside.call c.self.inside.machine c.answer.new.self c.self.inside.answers.items c.in-Asked.key _ c.args.origin c.answer.new.stage (rw c.in-Asked.is at c.self.invariant) c.in-Ok.ensures)
 
 pub returns-in-Ok-clause-fewer : goal.returns-in-Ok-clause-fewer
 returns-in-Ok-clause-fewer c =
