@@ -1,5 +1,5 @@
 -- The state of a job's run, and what its calls owe to worker steps.
-use Rattle.std.specs.Prelude.{◌≡◌, ◌<◌, ◌≤◌, ◌==◌, ℕ, zero, suc, Bool, true, false, List, [], ◌∷◌, length, get_or, Option, None, Some, Ok, Err, slice_get}
+use Rattle.std.specs.Prelude.{◌≡◌, ◌<◌, ◌≤◌, ◌==◌, ℕ, zero, suc, Bool, true, false, List, [], ◌∷◌, length, get_or, Option, None, Some, Ok, Err, IfSome, slice_get}
 use Rattle.std.specs.FinMap as map
 use Rattle.rv_ledger.specs.Key.{Storage}
 use Rattle.rv_ledger.specs.declared.job.Job.{Job}
@@ -28,13 +28,20 @@ pub record PassedRoom : Type 0 where
   pub kept : ℕ
   pub lent : ℕ
 
--- a job, the state of its run, the number of further answers that each worker's run has room for, and how many versions the
--- next read of a worker may pass
+-- how long a value may be that a read finds: in the list for the answer that is kept, and in the one for the answer that is
+-- handed out
+pub record ValueRoom : Type 0 where
+  pub kept : ℕ
+  pub lent : ℕ
+
+-- a job, the state of its run, the number of further answers that each worker's run has room for, how many versions the next
+-- read of a worker may pass, and how long a value it may find
 pub record CoreState : Type 0 where
   pub job : Job
   pub state : State
   pub rooms : List ℕ
   pub passed : PassedRoom
+  pub values : ValueRoom
 
 abbrev pub block_in : CoreState → Block
 block_in b = block_of b.job.block b.job.store
@@ -66,11 +73,11 @@ is_read (ReadKey key) = true
 is_read step = false
 
 -- a worker's step was made; the other workers' runs have room for as many answers as before, and unless it is a read there is
--- room for as many passed versions
+-- room for as many passed versions and for values as long
 abbrev pub Makes : ℕ → Step → CoreState → CoreState → Type 0
 Makes w step old new =
     (worker_step (block_in old) w step old.state ≡ Some (Ok new.state)) × (new.job ≡ old.job) × KeepsRooms w old.rooms new.rooms
-    × (is_read step ≡ false → new.passed ≡ old.passed)
+    × (is_read step ≡ false → (new.passed ≡ old.passed) × (new.values ≡ old.values))
 
 -- a worker's step is refused
 abbrev pub IsRefused : ℕ → Step → Limit → CoreState → Type 0
@@ -148,10 +155,31 @@ pub record IsNoLess (old new : PassedRoom) : Type 0 where
   pub kept : old.kept ≤ new.kept
   pub lent : old.lent ≤ new.lent
 
--- there is room for a worker's next read: for one more answer, and for as many passed versions as there are calls below its own
+-- a read may find any value
+pub record HasValueRoom (room : ValueRoom) : Type 0 where
+  pub kept : 256 ≤ room.kept
+  pub lent : 256 ≤ room.lent
+
+-- a content takes no memory of its own: it is absent, or has at most 16 bytes
+abbrev pub IsInPlace : Option (List ℕ) → Type 0
+IsInPlace content = IfSome content (λ bytes. length bytes ≤ 16)
+
+-- so does the content that a read gives, if it gives one
+abbrev pub GivesInPlace : ReadResult → Type 0
+GivesInPlace (read_result.Given content origin) = IsInPlace content
+GivesInPlace read_result.Blocked = Unit {0}
+
+-- there is no less room for values than before
+pub record IsNoLessForValues (old new : ValueRoom) : Type 0 where
+  pub kept : old.kept ≤ new.kept
+  pub lent : old.lent ≤ new.lent
+
+-- there is room for a worker's next read: for one more answer, for as many passed versions as there are calls below its own,
+-- and for any value
 pub record HasReadRoom (w : ℕ) (b : CoreState) : Type 0 where
   pub answer : 1 ≤ get_or b.rooms w 0
   pub passed : IsRoomFor (task_at b.state w) b.passed
+  pub values : HasValueRoom b.values
 
 -- a run is a run of the call that a worker's task runs, and was given exactly the answers of that task
 pub record IsOwn (w : ℕ) (run : EndedRun) (b : CoreState) : Type 0 where

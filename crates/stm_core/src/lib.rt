@@ -15,6 +15,7 @@ mod record_parts;
 mod recording;
 mod same;
 mod state;
+mod value_rooms;
 mod versions;
 
 pub use engine::{DriveFault, WORKER_LIMIT, drive};

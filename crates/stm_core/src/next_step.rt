@@ -1,7 +1,7 @@
 //! The step that a worker owes, and the answers to `ask` and to a read.
 
 use read_set::Origin;
-use rv_ledger::Value;
+use rv_ledger::StoredValue;
 
 /// The step that a worker owes, with its call's index and incarnation where it has a task.
 #[derive(Clone, Copy, Debug, PartialEq, Eq)]
@@ -60,7 +60,7 @@ pub enum AskResult {
 #[derive(Drop)]
 pub enum ReadResult {
     /// The key's value, or None where it is absent, and where the answer came from.
-    Given(Option<Value>, Origin),
+    Given(Option<StoredValue>, Origin),
     /// Nothing yet: the run met an estimate.
     Blocked,
 }

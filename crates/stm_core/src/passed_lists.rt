@@ -53,9 +53,9 @@ impl PassedLists {
     }
 }
 
-/// A list with room for `count` versions in place of one that has less, or None where that one has it. The room
+/// A list with room for `count` items in place of one that has less, or None where that one has it. The room
 /// at least doubles, so that calls of ascending indices seldom make a list. Refused where memory ran out.
-pub(crate) fn larger(list: &Vec<Version>, count: usize) -> Result<Option<Vec<Version>>, AllocError>
+pub(crate) fn larger<T>(list: &Vec<T>, count: usize) -> Result<Option<Vec<T>>, AllocError>
     ensures made { IfOk result (λ made. IfSome made (λ more. (count ≤ vec_capacity more) × (vec_capacity list.now < count))) }
     ensures enough { IfOk result (λ made. made ≡ None → count ≤ vec_capacity list.now) }
     ensures succeeds { count ≤ vec_capacity list.now → result ≡ Ok None }
@@ -68,7 +68,7 @@ pub(crate) fn larger(list: &Vec<Version>, count: usize) -> Result<Option<Vec<Ver
 }
 
 /// Puts a list in the place of another, if there is one.
-pub(crate) fn replace(list: &mut Vec<Version>, larger: Option<Vec<Version>>)
+pub(crate) fn replace<T: Drop>(list: &mut Vec<T>, larger: Option<Vec<T>>)
     ensures some { IfSome larger (λ more. list.new ≡ more) }
     ensures none { larger ≡ None → list.new ≡ list.old }
 {

@@ -14,14 +14,15 @@ ghost use Rattle.scheduler.specs.Schedule.{KeepsRooms, MayCount, state_of};
 ghost use Rattle.stm_state.specs.declared.state.Task.{Task};
 ghost use Rattle.scheduler.specs.Workers.{HasKeys, IsTaskKindOf, with_answer};
 ghost use Rattle.stm_core.specs.declared.next_step.ReadResult.TheVariants as read_result;
-ghost use Rattle.stm_core.specs.CoreState.{IsNoLess, IsRoomFor, index_run, next_step_of, read_result_of};
-ghost use Rattle.stm_core.specs.Inner.{room_of};
+ghost use Rattle.stm_core.specs.CoreState.{GivesInPlace, HasValueRoom, IsNoLess, IsNoLessForValues, IsRoomFor, index_run, next_step_of, read_result_of};
+ghost use Rattle.stm_core.specs.Inner.{room_of, value_room_of};
 
 use crate::next_step::{NextStep, ReadResult, StepKind};
 use crate::passed_lists::{PassedLists, larger, replace};
-use mvmap::{Answer, MvMap, with_amount};
+use crate::value_rooms::{Contents, ValueRooms};
+use mvmap::{LentAnswer, MvMap};
 use read_set::Version;
-use rv_ledger::{Key, Value};
+use rv_ledger::{Key, VALUE_LIMIT};
 use rv_step::StorageAnswer;
 use scheduler::{Scheduler, TaskKind};
 use std::alloc::AllocError;
@@ -138,29 +139,36 @@ pub(crate) fn make_answer_room(
 }
 
 /// Makes room for one more answer to a worker's run, and for a read of its call that passes as many versions as
-/// the call's index. Refused where memory ran out, and then nothing changes.
+/// the call's index and finds any value. Refused where memory ran out, and then nothing changes.
 pub(crate) fn make_read_room(
     scheduler: &mut Scheduler,
     worker: usize,
     spare: &mut Vec<StorageAnswer>,
     lists: &mut PassedLists,
+    values: &mut ValueRooms,
 ) -> Result<(), AllocError>
     requires { worker < length scheduler.old.tasks }
     ensures room { OnOk result (1 ≤ get_or scheduler.new.rooms worker 0) }
     ensures passed { OnOk result (IsRoomFor (get_or scheduler.old.tasks worker task.Idle) (room_of lists.new)) }
+    ensures values { OnOk result (HasValueRoom (value_room_of values.new)) }
     ensures kept { get_or scheduler.old.rooms worker 0 ≤ get_or scheduler.new.rooms worker 0 }
     ensures same { (v : Versions) (p : ℕ) → state_of v p scheduler.new ≡ state_of v p scheduler.old }
     ensures rooms { KeepsRooms worker scheduler.old.rooms scheduler.new.rooms }
     ensures grows { IsNoLess (room_of lists.old) (room_of lists.new) }
-    ensures unchanged { OnErr result ((scheduler.new ≡ scheduler.old) × (lists.new ≡ lists.old)) }
-    ensures succeeds { 1 ≤ get_or scheduler.old.rooms worker 0 → IsRoomFor (get_or scheduler.old.tasks worker task.Idle) (room_of lists.old) → result ≡ Ok tt }
+    ensures values_grow { IsNoLessForValues (value_room_of values.old) (value_room_of values.new) }
+    ensures unchanged { OnErr result ((scheduler.new ≡ scheduler.old) × (lists.new ≡ lists.old) × (values.new ≡ values.old)) }
+    ensures succeeds { 1 ≤ get_or scheduler.old.rooms worker 0 → IsRoomFor (get_or scheduler.old.tasks worker task.Idle) (room_of lists.old) → HasValueRoom (value_room_of values.old) → result ≡ Ok tt }
 {
     let count = index_run(scheduler.task_kind(worker));
     let kept = larger(&lists.kept, count)?;
     let lent = larger(&lists.lent, count)?;
+    let kept_value = larger(&values.kept, VALUE_LIMIT)?;
+    let lent_value = larger(&values.lent, VALUE_LIMIT)?;
     make_answer_room(scheduler, worker, spare)?;
     replace(&mut lists.kept, kept);
     replace(&mut lists.lent, lent);
+    replace(&mut values.kept, kept_value);
+    replace(&mut values.lent, lent_value);
     Ok(())
 }
 
@@ -175,14 +183,15 @@ fn index_run(kind: TaskKind) -> usize
 }
 
 /// A worker's run reads a key for its call, in room that was made; the storage before the block has `base`
-/// at the key. From the highest call below downwards the read passes the versions that add an amount. What
+/// at the key, lent by its bytes. From the highest call below downwards the read passes the versions that add an amount. What
 /// it then finds decides: the run is given the value that this version or the storage has, with the amounts
 /// added, or is blocked where it is an estimate. Takes no memory.
 pub(crate) fn read_at(
-    base: Option<&Value>,
+    base: Option<&[u8]>,
     map: &MvMap,
     scheduler: &mut Scheduler,
     lists: &mut PassedLists,
+    values: &mut ValueRooms,
     worker: usize,
     call: u16,
     key: &Key,
@@ -191,33 +200,28 @@ pub(crate) fn read_at(
     requires room { 1 ≤ get_or scheduler.old.rooms worker 0 }
     requires kept { call ≤ vec_capacity lists.old.kept }
     requires lent { call ≤ vec_capacity lists.old.lent }
+    requires short { IfSome base (λ bytes. length bytes.now ≤ 256) }
+    requires values { HasValueRoom (value_room_of values.old) }
     ensures answers { (store : Storage) → option_copied base.entry ≡ finite.get store key.now → result ≡ read_result_of store key.now (reading map.now.versions key.now call) }
     ensures state { (store : Storage) → option_copied base.entry ≡ finite.get store key.now → (answers : List StorageAnswer) → get_or scheduler.old.tasks worker task.Idle ≡ task.Running call answers None → (v : Versions) (p : ℕ) →
         state_of v p scheduler.new ≡ counted one_step worker (with_task worker (answered_with store key.now call answers (reading map.now.versions key.now call)) (state_of v p scheduler.old)) }
     ensures rooms { KeepsRooms worker scheduler.old.rooms scheduler.new.rooms }
     ensures passed { passed_in (reading map.now.versions key.now call) ≡ [] → room_of lists.new ≡ room_of lists.old }
+    ensures stay { GivesInPlace result → values.new ≡ values.old }
 {
-    match map.read(key, call, &mut lists.kept) {
-        Answer::Base(sum) => {
-            let value = with_amount(bytes_of(base), sum);
-            give(scheduler, lists, worker, key, value, None)
+    match map.read_bytes(key, call, &mut lists.kept) {
+        LentAnswer::Base(sum) => {
+            let found = values.contents(base, sum);
+            give(scheduler, lists, worker, key, found, None)
         }
-        Answer::Found(version, value) => give(scheduler, lists, worker, key, value, Some(version)),
-        Answer::Estimate(writer) => {
+        LentAnswer::Found(version, content, sum) => {
+            let found = values.contents(content, sum);
+            give(scheduler, lists, worker, key, found, Some(version))
+        }
+        LentAnswer::Estimate(writer) => {
             scheduler.block(worker, writer);
             ReadResult::Blocked
         }
-    }
-}
-
-/// The bytes of a value, at most 256, or None for None.
-fn bytes_of(value: Option<&Value>) -> Option<&[u8]>
-    ensures value { option_copied result ≡ option_copied value.entry }
-    ensures short { IfSome result (λ bytes. length bytes.now ≤ 256) }
-{
-    match value {
-        Some(value) => Some(value.bytes()),
-        None => None,
     }
 }
 
@@ -228,23 +232,24 @@ fn give(
     lists: &mut PassedLists,
     worker: usize,
     key: &Key,
-    value: Option<Value>,
+    contents: Contents,
     bottom: Option<Version>,
 ) -> ReadResult
     requires counts { MayCount worker scheduler.old }
     requires room { 1 ≤ get_or scheduler.old.rooms worker 0 }
+    requires twice { contents.lent ≡ contents.kept }
     requires lent { length lists.old.kept.items ≤ vec_capacity lists.old.lent }
-    ensures answers { result ≡ read_result.Given value (record { passed = lists.old.kept.items; bottom = bottom }) }
-    ensures state { (v : Versions) (p : ℕ) → state_of v p scheduler.new ≡ counted one_step worker (with_task worker (with_answer (record { key = key.now; value = value; origin = record { passed = lists.old.kept.items; bottom = bottom } }) (get_or scheduler.old.tasks worker task.Idle)) (state_of v p scheduler.old)) }
+    ensures answers { result ≡ read_result.Given contents.kept (record { passed = lists.old.kept.items; bottom = bottom }) }
+    ensures state { (v : Versions) (p : ℕ) → state_of v p scheduler.new ≡ counted one_step worker (with_task worker (with_answer (record { key = key.now; value = contents.kept; origin = record { passed = lists.old.kept.items; bottom = bottom } }) (get_or scheduler.old.tasks worker task.Idle)) (state_of v p scheduler.old)) }
     ensures rooms { KeepsRooms worker scheduler.old.rooms scheduler.new.rooms }
     ensures passed { lists.old.kept.items ≡ [] → lists.new ≡ lists.old }
 {
     let (kept, lent) = lists.origins(bottom);
     let answer = StorageAnswer {
         key: *key,
-        value: Value::copied(value.as_ref()),
+        value: contents.kept,
         origin: kept,
     };
     scheduler.answer(worker, answer);
-    ReadResult::Given(value, lent)
+    ReadResult::Given(contents.lent, lent)
 }

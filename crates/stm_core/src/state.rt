@@ -14,9 +14,10 @@ use crate::reading::{make_read_room, next_step_of, read_at};
 use crate::reads::next_stands;
 use crate::record_parts::RecordParts;
 use crate::recording::{SpentRun, check_limits, has_own_answers, is_run_of, record_run};
+use crate::value_rooms::ValueRooms;
 use crate::versions::{mark_key, move_key};
 use mvmap::MvMap;
-use rv_ledger::{Counts, Job, Key, StoredValue, Value};
+use rv_ledger::{Counts, Job, Key, StoredValue};
 use rv_step::{EndedRun, StorageAnswer};
 use scheduler::{INCARNATION_LIMIT, Scheduler, TaskKind};
 use std::alloc::{AllocError, Global};
@@ -36,6 +37,8 @@ pub struct Core<H: JobSource = Job> {
     spare_answers: Vec<StorageAnswer>,
     /// The lists of the versions that a read passes.
     passed: PassedLists,
+    /// The lists of the bytes of a value that a read finds.
+    values: ValueRooms,
 }
 
 impl<H: JobSource> Model for Core<H> {
@@ -47,19 +50,19 @@ impl<H: JobSource> Model for Core<H> {
     ghost use Rattle.stm_state.specs.contracts.state.CallState.{the_row as call_row};
     ghost use Rattle.stm_state.specs.contracts.state.Task.{the_row as task_row};
     ghost use Rattle.stm_core.specs.CoreState.{CoreState};
-    ghost use Rattle.stm_core.specs.Inner.{IsReached, core_state_of, room_of};
+    ghost use Rattle.stm_core.specs.Inner.{IsReached, core_state_of, room_of, value_room_of};
 
     ghost Value = { CoreState };
 
     ghost coded = { Prim.hlevel (codes, job_row.coded, call_row.coded, task_row.coded, finite.code {R = place_cmp} coded_place coded_entry) };
 
-    ghost view = { λ c. core_state_of (H.job c.job) c.map c.promised c.scheduler (room_of c.passed) };
+    ghost view = { λ c. core_state_of (H.job c.job) c.map c.promised c.scheduler (room_of c.passed) (value_room_of c.values) };
 
     ghost invariant = { λ c. IsReached (H.job c.job) c.map c.promised c.scheduler };
 }
 
 impl<H: JobSource> Core<H> {
-    ghost use Rattle.std.specs.Prelude.{◌≡◌, ◌≢◌, ◌<◌, ◌≤◌, ◌↔◌, ℕ, Some, true, length, get_or, slice_get, [], IfOk, IfErr, OnOk, OnErr, Ok};
+    ghost use Rattle.std.specs.Prelude.{◌≡◌, ◌≢◌, ◌<◌, ◌≤◌, ◌↔◌, ℕ, Some, true, length, get_or, slice_get, [], IfOk, IfErr, IfSome, OnOk, OnErr, Ok};
     ghost use Rattle.std.specs.Option.{option_copied};
     ghost use Rattle.std.specs.FinMap as finite;
     ghost use Rattle.version_arena.specs.ArenaState.{emptied};
@@ -71,7 +74,7 @@ impl<H: JobSource> Core<H> {
     ghost use Rattle.stm_state.specs.Parts.{CallsAreAttended, IsSized, OthersHaveEstimates, ReadsAreWatched, RunsAreBorneOut};
     ghost use Rattle.scheduler.specs.Schedule.{KeepsRooms};
     ghost use Rattle.stm_core.specs.declared.fault.RecordFault.TheVariants as fault;
-    ghost use Rattle.stm_core.specs.CoreState.{ask_result_of, HasReadRoom, IsDue, IsNoLess, IsOwn, AreRecordParts, IsRefused, IsTaken, IsWithin, Makes, block_in, next_step_of, runs, read_result_of, step_of};
+    ghost use Rattle.stm_core.specs.CoreState.{ask_result_of, GivesInPlace, HasReadRoom, IsDue, IsNoLess, IsNoLessForValues, IsOwn, AreRecordParts, IsRefused, IsTaken, IsWithin, Makes, block_in, next_step_of, runs, read_result_of, step_of};
 
     /// The state at the start of a job, whoever has it, over an arena that is used again: its records are dropped.
     /// Where memory ran out the arena is handed back, without records.
@@ -90,6 +93,7 @@ impl<H: JobSource> Core<H> {
                 promised: 0,
                 spare_answers: Vec::new(alloc),
                 passed: PassedLists::new(alloc),
+                values: ValueRooms::new(alloc),
             }),
             Err(_) => Err(map.into_arena()),
         }
@@ -155,15 +159,16 @@ impl<H: JobSource> Core<H> {
         next_step_of(&self.scheduler, worker)
     }
 
-    /// Makes room for the next read of a worker's run: for one more answer, and for as many passed versions as
-    /// the index of its call, in the origin that is kept and in the one that `read` hands out. Succeeds where
-    /// the room is there. Refused where memory ran out, and then nothing changes. This is not a step.
+    /// Makes room for the next read of a worker's run: for one more answer, for as many passed versions as the
+    /// index of its call, and for any value, both in the answer that is kept and in the one that `read` hands out.
+    /// Succeeds where the room is there. Refused where memory ran out, and then nothing changes. This is not a step.
     pub fn room_for_read(&mut self, worker: usize) -> Result<(), AllocError>
         requires { worker < length self.old.state.tasks }
         ensures room { OnOk result (HasReadRoom worker self.new) }
         ensures kept { get_or self.old.rooms worker 0 ≤ get_or self.new.rooms worker 0 }
         ensures rooms { KeepsRooms worker self.old.rooms self.new.rooms }
         ensures passed { IsNoLess self.old.passed self.new.passed }
+        ensures values { IsNoLessForValues self.old.values self.new.values }
         ensures job { self.new.job ≡ self.old.job }
         ensures state { self.new.state ≡ self.old.state }
         ensures unchanged { OnErr result (self.new ≡ self.old) }
@@ -174,6 +179,7 @@ impl<H: JobSource> Core<H> {
             worker,
             &mut self.spare_answers,
             &mut self.passed,
+            &mut self.values,
         )
     }
 
@@ -195,19 +201,23 @@ impl<H: JobSource> Core<H> {
         ensures makes { Makes worker (steps.ReadKey key.now) self.old self.new }
         ensures answers { (i : ℕ) → runs (task_at self.old.state worker) i ≡ true → result ≡ read_result_of self.old.job.store key.now (reading self.old.state.versions key.now i) }
         ensures passed { (i : ℕ) → runs (task_at self.old.state worker) i ≡ true → passed_in (reading self.old.state.versions key.now i) ≡ [] → self.new.passed ≡ self.old.passed }
+        ensures values { GivesInPlace result → self.new.values ≡ self.old.values }
     {
         let base = StoredValue::value_of(self.job.content(key));
-        self.read_over(worker, key, base.as_ref())
+        self.read_over(worker, key, base.as_ref().map(|base| base.bytes()))
     }
 
-    /// The same, where the caller has looked up what the storage before the block has at the key.
-    pub fn read_over(&mut self, worker: usize, key: &Key, base: Option<&Value>) -> ReadResult
+    /// The same, where the caller has looked up what the storage before the block has at the key, and lends its
+    /// bytes.
+    pub fn read_over(&mut self, worker: usize, key: &Key, base: Option<&[u8]>) -> ReadResult
         requires due { IsDue worker (steps.ReadKey key.now) self.old }
         requires room { HasReadRoom worker self.old }
+        requires short { IfSome base (λ bytes. length bytes.now ≤ 256) }
         requires base { option_copied base ≡ finite.get self.old.job.store key.now }
         ensures makes { Makes worker (steps.ReadKey key.now) self.old self.new }
         ensures answers { (i : ℕ) → runs (task_at self.old.state worker) i ≡ true → result ≡ read_result_of self.old.job.store key.now (reading self.old.state.versions key.now i) }
         ensures passed { (i : ℕ) → runs (task_at self.old.state worker) i ≡ true → passed_in (reading self.old.state.versions key.now i) ≡ [] → self.new.passed ≡ self.old.passed }
+        ensures values { GivesInPlace result → self.new.values ≡ self.old.values }
     {
         let TaskKind::Running { call, .. } = self.scheduler.task_kind(worker) else {
             unreachable!();
@@ -217,6 +227,7 @@ impl<H: JobSource> Core<H> {
             &self.map,
             &mut self.scheduler,
             &mut self.passed,
+            &mut self.values,
             worker,
             call,
             key,

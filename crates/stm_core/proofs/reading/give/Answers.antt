@@ -10,5 +10,4 @@ use Rattle.stm_core.proofs.reading.give.Goals as goal
 pub returns-clause-state : goal.returns-clause-state
 returns-clause-state c = λ v p.
     c.answer.ensures.state v p
-    ∙ ap (λ x. counted one_step c.args.worker (with_task c.args.worker (with_answer (record { key = c.args.key.now; value = x; origin = c.origins-kept.result.0 }) (get_or c.args.scheduler.now.tasks c.args.worker Idle)) (state_of v p c.args.scheduler.now))) (c.copied.ensures ∙ c.as_ref.ensures.value)
-    ∙ ap (λ (o : Origin). counted one_step c.args.worker (with_task c.args.worker (with_answer (record { key = c.args.key.now; value = c.args.value; origin = o }) (get_or c.args.scheduler.now.tasks c.args.worker Idle)) (state_of v p c.args.scheduler.now))) c.origins-kept.ensures.kept
+    ∙ ap (λ (o : Origin). counted one_step c.args.worker (with_task c.args.worker (with_answer (record { key = c.args.key.now; value = c.args.contents.kept; origin = o }) (get_or c.args.scheduler.now.tasks c.args.worker Idle)) (state_of v p c.args.scheduler.now))) c.origins-kept.ensures.kept

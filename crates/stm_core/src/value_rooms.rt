@@ -1,0 +1,76 @@
+//! The lists that a read writes the bytes of a long value into.
+
+ghost use Rattle.std.specs.Prelude.{◌≡◌, ◌≤◌, IfSome, None, length};
+ghost use Rattle.std.specs.Option.{option_copied};
+ghost use Rattle.mvmap.specs.Answers.{with_amount};
+ghost use Rattle.stm_core.specs.CoreState.{HasValueRoom, IsInPlace};
+ghost use Rattle.stm_core.specs.Inner.{value_room_of};
+
+use rv_ledger::{StoredValue, add};
+use std::alloc::Global;
+
+/// Two lists for the bytes of the value that a read finds: one for the answer that the core keeps, and one for
+/// the answer that it hands out. A read of a value that is kept in place leaves them their room.
+#[derive(Drop)]
+pub(crate) struct ValueRooms {
+    /// The list for the value that is kept.
+    pub(crate) kept: Vec<u8>,
+    /// The list for the value that is handed out.
+    pub(crate) lent: Vec<u8>,
+}
+
+/// What a read found at a key, twice.
+#[derive(Drop)]
+pub(crate) struct Contents {
+    /// The value that is kept, or None for absence.
+    pub(crate) kept: Option<StoredValue>,
+    /// The value that is handed out, or None for absence.
+    pub(crate) lent: Option<StoredValue>,
+}
+
+impl ValueRooms {
+    /// Lists without room. Takes no memory.
+    pub(crate) fn new(alloc: Global) -> ValueRooms {
+        ValueRooms {
+            kept: Vec::new(alloc),
+            lent: Vec::new(alloc),
+        }
+    }
+
+    /// What a key has after an amount is added, if there is one, twice. Takes no memory.
+    pub(crate) fn contents(&mut self, content: Option<&[u8]>, sum: Option<u64>) -> Contents
+        requires short { IfSome content (λ bytes. length bytes.now ≤ 256) }
+        requires room { HasValueRoom (value_room_of self.old) }
+        ensures kept { result.kept ≡ with_amount (option_copied content.entry) sum }
+        ensures lent { result.lent ≡ with_amount (option_copied content.entry) sum }
+        ensures stay { IsInPlace (with_amount (option_copied content.entry) sum) → self.new ≡ self.old }
+    {
+        match sum {
+            Some(amount) => {
+                let value = add(content, amount);
+                self.copies(Some(value.bytes()))
+            }
+            None => self.copies(content),
+        }
+    }
+
+    /// A value, or None for None, twice. More than 16 bytes take the lists with them. Takes no memory.
+    fn copies(&mut self, content: Option<&[u8]>) -> Contents
+        requires short { IfSome content (λ bytes. length bytes.now ≤ 256) }
+        requires room { HasValueRoom (value_room_of self.old) }
+        ensures kept { result.kept ≡ option_copied content.entry }
+        ensures lent { result.lent ≡ option_copied content.entry }
+        ensures stay { IsInPlace (option_copied content.entry) → self.new ≡ self.old }
+    {
+        match content {
+            Some(bytes) => Contents {
+                kept: Some(StoredValue::of_room(bytes, &mut self.kept)),
+                lent: Some(StoredValue::of_room(bytes, &mut self.lent)),
+            },
+            None => Contents {
+                kept: None,
+                lent: None,
+            },
+        }
+    }
+}
