@@ -9,7 +9,7 @@ ghost use Rattle.std.specs.FinMap as finite;
 ghost use Rattle.rv_ledger.specs.declared.job.Job.{Job};
 
 use crate::fault::{OutsideFault, RunFault};
-use rv_ledger::{Job, Key, StoredValue, Value};
+use rv_ledger::{Job, Key, StoredValue};
 use scheduler::COUNT_LIMIT;
 pub use share::Share;
 use std::marker::{Brand, Model, PhantomData};
@@ -56,7 +56,7 @@ impl<J: JobName, H: JobSource> Model for Book<J, H> {
 }
 
 impl<J: JobName, H: JobSource> Book<J, H> {
-    ghost use Rattle.std.specs.Prelude.{◌≡◌, ◌<◌, ◌↔◌, ⊤, None, Some, true, length, get_or, slice_get, IfErr, IfOk, OnOk};
+    ghost use Rattle.std.specs.Prelude.{◌≡◌, ◌<◌, ◌↔◌, ◌≤◌, ⊤, None, Some, true, length, get_or, slice_get, IfErr, IfOk, IfSome, OnOk};
     ghost use Rattle.std.specs.Option.{option_copied};
     ghost use Rattle.mvmap.specs.Reading.{reading};
     ghost use Rattle.stm_state.specs.Done.{Reached};
@@ -180,10 +180,17 @@ impl<J: JobName, H: JobSource> Book<J, H> {
         ensures { IsReadCall key.now call incarnation self.old self.new share.old share.new result }
     {
         let base = StoredValue::value_of(self.core.source().content(key));
-        self.read_over(share, call, incarnation, key, base.as_ref())
+        self.read_over(
+            share,
+            call,
+            incarnation,
+            key,
+            base.as_ref().map(|base| base.bytes()),
+        )
     }
 
-    /// The same, where the caller has looked up what the storage before the block has at the key.
+    /// The same, where the caller has looked up what the storage before the block has at the key, and lends its
+    /// bytes.
     #[tactic(auto, using(crate::proofs::Stays::stays, crate::proofs::Causes::unready_cause))]
     pub(crate) fn read_over(
         &mut self,
@@ -191,9 +198,10 @@ impl<J: JobName, H: JobSource> Book<J, H> {
         call: u16,
         incarnation: u16,
         key: &Key,
-        base: Option<&Value>,
+        base: Option<&[u8]>,
     ) -> Result<ReadResult, WrittenFault>
-        requires { option_copied base ≡ finite.get J.job.store key.now }
+        requires short { IfSome base (λ bytes. length bytes.now ≤ 256) }
+        requires base { option_copied base ≡ finite.get J.job.store key.now }
         ensures { IsReadCall key.now call incarnation self.old self.new share.old share.new result }
     {
         self.ready(share, NextStep::Run { call, incarnation })?;

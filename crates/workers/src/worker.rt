@@ -331,15 +331,17 @@ fn read<J: JobName, H: JobSource, R: Wait>(
     ensures pass { share.new.pass ≡ share.old.pass }
     ensures dones { OnOk result (share.new.dones ≡ share.old.dones) }
 {
-    let base = StoredValue::value_of(shared.job.content(key));
+    let base = StoredValue::bytes_of(shared.job.content(key));
     let answer = shared
         .hold(rt)
-        .read_over(share, call, incarnation, key, base.as_ref());
+        .read_over(share, call, incarnation, key, base);
     match answer {
-        Ok(ReadResult::Given(value, origin)) => match run.answer(value.as_ref(), origin) {
-            Ok(()) => Ok(true),
-            Err(_) => Err(WorkFault::Met(shared.refuse(rt, OutsideFault::Memory))),
-        },
+        Ok(ReadResult::Given(value, origin)) => {
+            match run.answer_bytes(StoredValue::bytes_of(value.as_ref()), origin) {
+                Ok(()) => Ok(true),
+                Err(_) => Err(WorkFault::Met(shared.refuse(rt, OutsideFault::Memory))),
+            }
+        }
         Ok(ReadResult::Blocked) => Ok(false),
         Err(written) => Err(WorkFault::Refused(written)),
     }
