@@ -68,8 +68,8 @@ fn answer_from(alloc: Global, run: &mut Run, key: &Key, store: &Store) -> Result
     ensures from { OnOk result (AreFrom store.now (replies_of run.old.answers) → AreFrom store.now (replies_of run.new.answers)) }
     ensures fewer { OnOk result (steps_left run.new < steps_left run.old) }
 {
-    let content = StoredValue::value_of(store.get(key));
-    run.answer(content.as_ref(), Origin::base(alloc))
+    let content = StoredValue::bytes_of(store.get(key));
+    run.answer_bytes(content, Origin::base(alloc))
 }
 
 /// The keys of some answers. Refused where memory ran out.

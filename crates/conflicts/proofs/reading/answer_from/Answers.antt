@@ -5,5 +5,5 @@ use Rattle.conflicts.proofs.reading.answer_from.Goals as goal
 
 pub returns-clause-from : goal.returns-clause-from
 returns-clause-from c =
-    from_answered c.answer.result c.args.store.now c.args.run.now c.answer.new.self c.args.key.now (option_copied c.as_ref.result) c.base.result c.requires
-    (c.as_ref.ensures.value ∙ c.value_of-content.ensures ∙ c.get.ensures) c.answer.ensures.ok
+    from_answered c.answer_bytes.result c.args.store.now c.args.run.now c.answer_bytes.new.self c.args.key.now (option_copied c.bytes_of-content.result) c.base.result c.requires
+    (c.bytes_of-content.ensures.value ∙ c.get.ensures) c.answer_bytes.ensures.ok
