@@ -33,8 +33,8 @@ fn answer_from(alloc: Global, run: &mut Run, store: &Store) -> Result<(), AllocE
 {
     if let Stage::Asked(key) = run.stage() {
         let key = *key;
-        let content = StoredValue::value_of(store.get(&key));
-        run.answer(content.as_ref(), Origin::base(alloc))?;
+        let content = StoredValue::bytes_of(store.get(&key));
+        run.answer_bytes(content, Origin::base(alloc))?;
     }
     Ok(())
 }
