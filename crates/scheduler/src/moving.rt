@@ -9,8 +9,9 @@ use rv_ledger::Key;
 use stm_state::Recorded;
 
 impl Scheduler {
-    ghost use Rattle.std.specs.Prelude.{◌≡◌, ◌≤◌, ◌<◌, ◌+◌, ◌∷◌, ℕ, [], Bool, List, map, get_or, length};
+    ghost use Rattle.std.specs.Prelude.{◌≡◌, ◌≤◌, ◌<◌, ◌+◌, ◌∷◌, ℕ, [], Bool, List, IsSome, map, get_or, length};
     ghost use Rattle.std.specs.FinMap.{len};
+    ghost use Rattle.std.specs.Option.{ForSome};
     ghost use Rattle.mvmap.specs.Versions.{Versions};
     ghost use Rattle.rv_step.specs.declared.answer.StorageAnswer.{StorageAnswer};
     ghost use Rattle.stm_state.specs.State.{fresh, with_task};
@@ -21,18 +22,30 @@ impl Scheduler {
     ghost use Rattle.scheduler.specs.Workers.{HasKeyLeft, HasNoKeys, NobodyMoves, task_with};
 
     /// Keeps the run of a call that a worker hands in, and gives the worker its keys to move: those that the
-    /// run wrote, then those that only the call's run before it wrote. Takes no memory.
-    pub fn keep_run(&mut self, worker: usize, call: u16, run: Recorded, keys: Vec<Key>)
+    /// run wrote, then those that only the call's run before it wrote. That run is handed out, and so are the
+    /// keys that the worker had before. Takes no memory.
+    pub fn keep_run(
+        &mut self,
+        worker: usize,
+        call: u16,
+        run: &mut Option<Recorded>,
+        keys: &mut Vec<Key>,
+    )
         requires counts { MayCount worker self.old }
         requires within { call < length self.old.calls }
         requires executing { (get_or self.old.calls call fresh).status ≡ Status.Executing }
         requires nobody { NobodyMoves call self.old.tasks }
-        requires keys { keys.items ≡ keys_to_move (get_or self.old.calls call fresh).last run.receipt.writes }
-        ensures state { (answers : List StorageAnswer) → run.reads ≡ map read_of answers → (v : Versions) (p : ℕ) → state_of v (p + len run.receipt.writes) self.new ≡ counted one_execution worker (after_record worker call answers run.receipt (state_of v p self.old)) }
+        requires run { IsSome run.old }
+        requires keys { ForSome run.old (λ run. keys.old.items ≡ keys_to_move (get_or self.old.calls call fresh).last run.receipt.writes) }
+        ensures state { ForSome run.old (λ run. (answers : List StorageAnswer) → run.reads ≡ map read_of answers → (v : Versions) (p : ℕ) → state_of v (p + len run.receipt.writes) self.new ≡ counted one_execution worker (after_record worker call answers run.receipt (state_of v p self.old))) }
+        ensures before { run.new ≡ (get_or self.old.calls call fresh).last }
         ensures rooms { KeepsRooms worker self.old.rooms self.new.rooms }
     {
         self.count_execution(worker);
-        let new_key = calls::has_new_key(&self.call(call).last, &run.receipt.writes);
+        let Some(kept) = run else {
+            unreachable!();
+        };
+        let new_key = calls::has_new_key(&self.call(call).last, &kept.receipt.writes);
         self.keep(call, run);
         self.begin_moving(worker, call, new_key, keys);
     }

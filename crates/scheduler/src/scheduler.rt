@@ -8,6 +8,7 @@ use rv_ledger::{CALL_LIMIT, Counts, Key};
 use rv_step::StorageAnswer;
 use std::alloc::{AllocError, Global};
 use std::marker::Model;
+use std::mem;
 use stm_state::{CallState, Recorded, Status};
 
 /// The scheduler of a block's run, of at most 1,024 calls.
@@ -304,14 +305,15 @@ impl Scheduler {
         parked.parked = Some(on);
     }
 
-    /// Keeps the run of a call as its last one; the call's status stays.
-    pub(crate) fn keep(&mut self, call: u16, run: Recorded)
+    /// Swaps the last run of a call with the one that is to be kept; the call's status stays.
+    pub(crate) fn keep(&mut self, call: u16, run: &mut Option<Recorded>)
         requires within { call < length self.old.calls }
         requires executing { (get_or self.old.calls call fresh).status ≡ Status.Executing }
         requires nobody { NobodyMoves call self.old.tasks }
-        ensures { self.new ≡ record self.old { calls = set self.old.calls call (record (get_or self.old.calls call fresh) { last = Some run }) } }
+        ensures kept { self.new ≡ record self.old { calls = set self.old.calls call (record (get_or self.old.calls call fresh) { last = run.old }) } }
+        ensures before { run.new ≡ (get_or self.old.calls call fresh).last }
     {
-        self.calls[usize::from(call)].last = Some(run);
+        mem::swap(&mut self.calls[usize::from(call)].last, run);
     }
 
     /// Readies a call.
@@ -357,11 +359,18 @@ impl Scheduler {
         self.workers[worker].begin(task_kind);
     }
 
-    /// Gives a worker the keys of a call's run to move, and drops its answers.
-    pub(crate) fn begin_moving(&mut self, worker: usize, call: u16, new_key: bool, keys: Vec<Key>)
+    /// Gives a worker the keys of a call's run to move, and drops its answers. The keys that it had before are
+    /// handed out.
+    pub(crate) fn begin_moving(
+        &mut self,
+        worker: usize,
+        call: u16,
+        new_key: bool,
+        keys: &mut Vec<Key>,
+    )
         requires within { worker < length self.old.tasks }
-        requires written { BeginWithWritten (get_or self.old.calls call fresh) keys.items }
-        ensures state { (v : Versions) (p : ℕ) → state_of v p self.new ≡ with_task worker (Task.Moving call keys.items new_key) (state_of v p self.old) }
+        requires written { BeginWithWritten (get_or self.old.calls call fresh) keys.old.items }
+        ensures state { (v : Versions) (p : ℕ) → state_of v p self.new ≡ with_task worker (Task.Moving call keys.old.items new_key) (state_of v p self.old) }
         ensures rooms { KeepsRooms worker self.old.rooms self.new.rooms }
     {
         self.workers[worker].begin_moving(call, new_key, keys);

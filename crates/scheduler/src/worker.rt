@@ -143,14 +143,16 @@ impl Worker {
         self.dropped = 0;
     }
 
-    /// Gives it the keys of a call's run to move, and drops its answers.
-    pub(crate) fn begin_moving(&mut self, call: u16, new_key: bool, keys: Vec<Key>)
-        ensures { self.new ≡ record self.old { task = task.Moving call keys.items new_key; keys = keys.items; room = self.new.room } }
+    /// Gives it the keys of a call's run to move, for those that it had before, and drops its answers. Takes no
+    /// memory.
+    pub(crate) fn begin_moving(&mut self, call: u16, new_key: bool, keys: &mut Vec<Key>)
+        ensures worker { self.new ≡ record self.old { task = task.Moving call keys.old.items new_key; keys = keys.old.items; room = self.new.room } }
+        ensures before { keys.new.items ≡ self.old.keys }
     {
         self.task_kind = TaskKind::Moving { call, new_key };
         self.answers.clear();
-        self.keys = keys;
         self.dropped = 0;
+        mem::swap(&mut self.keys, keys);
     }
 
     /// Gives it the keys of a call's slot to mark, and drops its answers. Takes no memory.

@@ -1,4 +1,4 @@
-use Rattle.std.proofs.Common.{◌≡◌, ◌<◌, ℕ, arith, length, length-set, map, get_or, Some, vec_items, sym, ap, ◌∙◌}
+use Rattle.std.proofs.Common.{◌≡◌, ◌<◌, ℕ, arith, length, length-set, map, get_or, vec_items, sym, ap, ◌∙◌}
 use Rattle.std.proofs.lemmas.List.{get_or_default}
 use Rattle.stm_state.specs.declared.state.CallState.{CallState}
 use Rattle.stm_state.specs.declared.state.Status.TheVariants.{Executing, Executed}
@@ -14,7 +14,7 @@ invariant_of-self c =
     let calls = c.self.inside.calls.items in
     let i = c.from.result in
     let old = c.index_mut.result.now in
-    let new : CallState = record old { last = Some c.args.run } in
+    let new : CallState = record old { last = c.swap.new.x } in
     let is = c.from.ensures in
     let lengths = ap (λ (t : Schedule). length t.calls) c.self.view_is in
     let within : i < length calls = omega (arith, is, lengths, c.requires.within) in
