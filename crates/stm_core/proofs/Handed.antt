@@ -1,20 +1,22 @@
 -- A run that is handed in, a key that is moved and a key that is marked, over the parts of a job's run.
-use Rattle.std.proofs.Common.{◌≡◌, ◌<◌, ◌≤◌, ◌+◌, ◌*◌, ℕ, Bool, true, IsSome, List, [], ◌∷◌, length, get_or, slice_get, None, Some, Ok, refl, sym, ap, subst, ◌∙◌}
+use Rattle.std.proofs.Common.{◌≡◌, ◌<◌, ◌≤◌, ◌+◌, ◌*◌, ℕ, Bool, true, IsSome, List, [], ◌∷◌, length, get_or, slice_get, Option, None, Some, Ok, vec_items, refl, sym, ap, subst, ◌∙◌}
 use Rattle.std.specs.FinMap.{get, len}
 use Rattle.rv_ledger.specs.declared.job.Job.{Job}
 use Rattle.rv_step.specs.declared.answer.StorageAnswer.{StorageAnswer}
 use Rattle.rv_step.specs.declared.ended_run.EndedRun.{EndedRun}
 use Rattle.mvmap.specs.Table.{Table}
 use Rattle.mvmap.specs.Versions.{Estimate, Versions, changed}
+use Rattle.stm_state.specs.declared.state.Recorded.{Recorded}
 use Rattle.stm_state.specs.declared.state.Task.{Task}
 use Rattle.stm_state.specs.declared.state.Task.TheVariants.{Idle, Running, Moving, Marking}
-use Rattle.stm_state.specs.State.{State, fresh, task_at}
+use Rattle.stm_state.specs.State.{State, call_at, fresh, task_at}
 use Rattle.stm_state.specs.Steps.{Record, MoveKey, MarkEstimate, counted, after_mark_estimate, after_move_key, one_execution, one_step, after_record, version_of, worker_step}
 use Rattle.stm_state.specs.Done.{block_of}
 use Rattle.stm_state.proofs.Invariant.{named_by}
-use Rattle.stm_state.proofs.Tests.{equal_itself}
+use Rattle.stm_state.proofs.Tests.{equal_itself, equal_says}
 use Rattle.scheduler.specs.Schedule.{KeepsRooms, Schedule}
-use Rattle.stm_core.specs.CoreState.{CoreState, IsDue, Makes, PassedRoom, ValueRoom, runs}
+use Rattle.stm_core.specs.CoreState.{CoreState, IsDue, IsReadyOf, Makes, PassedRoom, ValueRoom, runs}
+use Rattle.stm_core.specs.declared.ready_record.ReadyRecord.{ReadyRecord}
 use Rattle.stm_core.specs.Inner.{AreOpen, IsGrown, IsHanded, IsPromised, IsReached, KeepsPromises, core_state_of, state_in, writes_at}
 use Rattle.stm_core.proofs.Open.{Within, marked_within, moved_within}
 use Rattle.stm_core.proofs.Made.{due_at, goes_on, goes_on_quietly, invariant_at, makes, mark_has_place, mark_made, move_made, named_in, own_made}
@@ -29,6 +31,18 @@ module _ (job : Job) (table : Table) (promised : ℕ) (schedule : Schedule) (h :
   is_handed run answers at known same =
       let task : runs (get_or schedule.tasks w Idle) i ≡ true = ap (λ (t : Task). runs t i) at ∙ equal_itself i in
       (subst (λ (x : CoreState). slice_get x.job.block i ≡ Some run.call) (sym is) (known i (subst (λ (x : CoreState). runs (task_at x.state w) i ≡ true) is task)), same)
+
+  -- so is one that is ready to be recorded
+  pub is_ready_handed : (run : EndedRun) (ready : ReadyRecord) → IsReadyOf run ready → (answers : List StorageAnswer) → get_or schedule.tasks w Idle ≡ Running i answers None
+      → ((j : ℕ) → runs (task_at b.state w) j ≡ true → slice_get b.job.block j ≡ Some ready.call) → ready.answers.items ≡ answers → IsHanded job.block i answers run
+  is_ready_handed run ready made answers at known same =
+      is_handed run answers at (λ j r. known j r ∙ ap Some made.call) (ap vec_items (sym made.answers) ∙ same)
+
+  -- and what its call had before is what the call that the worker runs had
+  pub had_before : (last : Option Recorded) (answers : List StorageAnswer) → get_or schedule.tasks w Idle ≡ Running i answers None → last ≡ (get_or schedule.calls i fresh).last
+      → (j : ℕ) → runs (task_at b.state w) j ≡ true → last ≡ (call_at b.state j).last
+  had_before last answers at same j = subst (λ (x : CoreState). runs (task_at x.state w) j ≡ true → last ≡ (call_at x.state j).last) is
+      (λ r. same ∙ ap (λ k. (get_or schedule.calls k fresh).last) (equal_says i j (ap (λ (t : Task). runs t j) (sym at) ∙ r)))
 
   module _ (due : IsDue w Record b) (run : EndedRun) (answers : List StorageAnswer) (at : get_or schedule.tasks w Idle ≡ Running i answers None) (handed : IsHanded job.block i answers run) where
     -- a worker's own run within the limits leads on

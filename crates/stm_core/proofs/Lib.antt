@@ -1,3 +1,4 @@
+pub mod Readied
 pub mod Open
 pub mod Parted
 pub mod Made

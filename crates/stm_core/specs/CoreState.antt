@@ -20,7 +20,8 @@ use Rattle.stm_core.specs.declared.next_step.StepKind.{StepKind}
 use Rattle.stm_core.specs.declared.next_step.StepKind.TheVariants as kinds
 use Rattle.stm_core.specs.declared.next_step.ReadResult.{ReadResult}
 use Rattle.stm_core.specs.declared.next_step.ReadResult.TheVariants as read_result
-use Rattle.stm_core.specs.declared.record_parts.RecordParts.{RecordParts}
+use Rattle.stm_core.specs.declared.ready_record.ReadyRecord.{ReadyRecord}
+use Rattle.stm_core.specs.declared.ready_record.RecordParts.{RecordParts}
 
 -- how many versions a read may pass: in the list for the origin that is kept, and in the one for the origin that is handed
 -- out
@@ -192,3 +193,10 @@ pub record IsOwn (w : ℕ) (run : EndedRun) (b : CoreState) : Type 0 where
 pub record AreRecordParts (run : EndedRun) (record_parts : RecordParts) : Type 0 where
   pub reads : record_parts.reads ≡ (recorded_run run.answers.items run.receipt).reads
   pub keys : record_parts.keys.items ≡ keys_of (map.entries run.receipt.writes)
+
+-- a run is ready to be recorded: its call and its answers, its receipt with the reads that it made, and the keys that it wrote
+pub record IsReadyOf (run : EndedRun) (ready : ReadyRecord) : Type 0 where
+  pub call : ready.call ≡ run.call
+  pub answers : ready.answers ≡ run.answers
+  pub recorded : ready.recorded ≡ Some (recorded_run run.answers.items run.receipt)
+  pub keys : ready.keys.items ≡ keys_of (map.entries run.receipt.writes)

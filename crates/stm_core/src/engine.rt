@@ -14,7 +14,7 @@ ghost use Rattle.stm_core.specs.declared.engine.DriveFault.TheVariants.{Memory};
 
 use crate::fault::RecordFault;
 use crate::next_step::{NextStep, ReadResult, StepKind};
-use crate::record_parts::RecordParts;
+use crate::ready_record::{ReadyRecord, RecordParts};
 use crate::state::Core;
 use rv_ledger::{Job, Key, Outcome, StoredValue};
 use rv_step::{Pause, Run};
@@ -318,9 +318,10 @@ fn hand_in(alloc: Global, core: &mut Core, worker: usize, run: Run) -> Result<()
 {
     let run = run.finish();
     let record_parts = RecordParts::of(alloc, &run)?;
-    match core.record_known(alloc, worker, run, record_parts) {
-        Ok(_) => Ok(()),
-        Err(refused) => Err(match refused.fault {
+    let mut ready = ReadyRecord::of(run, record_parts);
+    match core.record_ready(alloc, worker, &mut ready) {
+        Ok(()) => Ok(()),
+        Err(fault) => Err(match fault {
             RecordFault::ArenaFull => DriveFault::ArenaFull,
             RecordFault::IncarnationLimit => DriveFault::IncarnationLimit,
             RecordFault::Memory => DriveFault::Memory,

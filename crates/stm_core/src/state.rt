@@ -12,7 +12,7 @@ use crate::outcome::{Finished, finished_of};
 use crate::passed_lists::PassedLists;
 use crate::reading::{make_read_room, next_step_of, read_at};
 use crate::reads::next_stands;
-use crate::record_parts::RecordParts;
+use crate::ready_record::{ReadyRecord, RecordParts};
 use crate::recording::{SpentRun, check_limits, has_own_answers, is_run_of, record_run};
 use crate::value_rooms::ValueRooms;
 use crate::versions::{mark_key, move_key};
@@ -68,13 +68,14 @@ impl<H: JobSource> Core<H> {
     ghost use Rattle.version_arena.specs.ArenaState.{emptied};
     ghost use Rattle.mvmap.specs.Reading.{passed_in, reading};
     ghost use Rattle.rv_step.specs.Fold.{receipts_of, store_after};
-    ghost use Rattle.stm_state.specs.State.{is_done, no_counts, start, task_at};
+    ghost use Rattle.rv_step.specs.declared.ended_run.EndedRun.{EndedRun};
+    ghost use Rattle.stm_state.specs.State.{call_at, is_done, no_counts, start, task_at};
     ghost use Rattle.stm_state.specs.Steps as steps;
     ghost use Rattle.stm_state.specs.Done.{Reached};
     ghost use Rattle.stm_state.specs.Parts.{CallsAreAttended, IsSized, OthersHaveEstimates, ReadsAreWatched, RunsAreBorneOut};
     ghost use Rattle.scheduler.specs.Schedule.{KeepsRooms};
     ghost use Rattle.stm_core.specs.declared.fault.RecordFault.TheVariants as fault;
-    ghost use Rattle.stm_core.specs.CoreState.{ask_result_of, GivesInPlace, HasReadRoom, IsDue, IsNoLess, IsNoLessForValues, IsOwn, AreRecordParts, IsRefused, IsTaken, IsWithin, Makes, block_in, next_step_of, runs, read_result_of, step_of};
+    ghost use Rattle.stm_core.specs.CoreState.{ask_result_of, GivesInPlace, HasReadRoom, IsDue, IsNoLess, IsNoLessForValues, IsOwn, IsReadyOf, IsRefused, IsTaken, IsWithin, Makes, block_in, next_step_of, runs, read_result_of, step_of};
 
     /// The state at the start of a job, whoever has it, over an arena that is used again: its records are dropped.
     /// Where memory ran out the arena is handed back, without records.
@@ -310,42 +311,48 @@ impl<H: JobSource> Core<H> {
         if let Err(fault) = check_limits(&self.map, self.promised, incarnation, writes) {
             return Err(Refused { fault, run });
         }
-        match RecordParts::of(alloc, &run) {
-            Ok(record_parts) => self.record_known(alloc, worker, run, record_parts),
-            Err(_) => Err(Refused {
+        let Ok(record_parts) = RecordParts::of(alloc, &run) else {
+            return Err(Refused {
                 fault: RecordFault::Memory,
                 run,
+            });
+        };
+        let mut ready = ReadyRecord::of(run, record_parts);
+        match self.record_ready(alloc, worker, &mut ready) {
+            Ok(()) => Ok(SpentRun { left: ready }),
+            Err(fault) => Err(Refused {
+                fault,
+                run: ready.into_run(),
             }),
         }
     }
 
-    /// The same, where the run is known to be a run of the job's call at that index, and where what its record takes is
-    /// made. Refused as `record` is, but the calls are not compared.
-    pub fn record_known(
+    /// The same, where the run is ready to be recorded, and known to be a run of the job's call at that index. Refused as
+    /// `record` is, but the calls are not compared; then the run is ready still. Else the run that was kept of the call
+    /// before is handed out in its place.
+    pub fn record_ready(
         &mut self,
         alloc: Global,
         worker: usize,
-        run: EndedRun,
-        record_parts: RecordParts,
-    ) -> Result<SpentRun, Refused>
+        ready: &mut ReadyRecord,
+    ) -> Result<(), RecordFault>
         requires due { IsDue worker steps.Record self.old }
-        requires record_parts { AreRecordParts run record_parts }
-        requires call { (i : ℕ) → runs (task_at self.old.state worker) i ≡ true → slice_get self.old.job.block i ≡ Some run.call }
+        requires ready { (run : EndedRun) × IsReadyOf run ready.old }
+        requires call { (i : ℕ) → runs (task_at self.old.state worker) i ≡ true → slice_get self.old.job.block i ≡ Some ready.old.call }
         ensures makes { OnOk result (Makes worker steps.Record self.old self.new) }
-        ensures own { (IfErr result (λ e. e.fault ≢ fault.Foreign)) ↔ IsOwn worker run self.old }
-        ensures full { IfErr result (λ e. e.fault ≡ fault.ArenaFull → IsRefused worker steps.Record steps.ArenaFull self.old) }
-        ensures limit { IfErr result (λ e. e.fault ≡ fault.IncarnationLimit → IsRefused worker steps.Record steps.IncarnationLimit self.old) }
-        ensures memory { IfErr result (λ e. e.fault ≡ fault.Memory → IsTaken worker steps.Record self.old) }
-        ensures back { IfErr result (λ e. (e.run ≡ run) × (self.new ≡ self.old)) }
+        ensures own { (run : EndedRun) → IsReadyOf run ready.old → (IfErr result (λ e. e ≢ fault.Foreign)) ↔ IsOwn worker run self.old }
+        ensures full { IfErr result (λ e. e ≡ fault.ArenaFull → IsRefused worker steps.Record steps.ArenaFull self.old) }
+        ensures limit { IfErr result (λ e. e ≡ fault.IncarnationLimit → IsRefused worker steps.Record steps.IncarnationLimit self.old) }
+        ensures memory { IfErr result (λ e. e ≡ fault.Memory → IsTaken worker steps.Record self.old) }
+        ensures back { OnErr result (self.new ≡ self.old) }
+        ensures kept { (run : EndedRun) → IsReadyOf run ready.old → OnErr result (IsReadyOf run ready.new) }
+        ensures before { OnOk result ((i : ℕ) → runs (task_at self.old.state worker) i ≡ true → ready.new.recorded ≡ (call_at self.old.state i).last) }
     {
         let TaskKind::Running { call, .. } = self.scheduler.task_kind(worker) else {
             unreachable!();
         };
-        if !has_own_answers(&self.scheduler, worker, &run.answers) {
-            return Err(Refused {
-                fault: RecordFault::Foreign,
-                run,
-            });
+        if !has_own_answers(&self.scheduler, worker, &ready.answers) {
+            return Err(RecordFault::Foreign);
         }
         record_run(
             alloc,
@@ -354,8 +361,7 @@ impl<H: JobSource> Core<H> {
             &mut self.scheduler,
             worker,
             call,
-            run,
-            record_parts,
+            ready,
         )
     }
 

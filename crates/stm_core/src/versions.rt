@@ -1,7 +1,7 @@
 //! The keys that a run moves or that an abort marks, and what is put at them: a version, an estimate or
 //! nothing.
 
-ghost use Rattle.std.specs.Prelude.{◌≡◌, ◌≤◌, ◌+◌, ◌*◌, ◌∷◌, ◌++◌, [], length, not, IfOk, IsTrue, OnOk, Some};
+ghost use Rattle.std.specs.Prelude.{◌≡◌, ◌≤◌, ◌+◌, ◌*◌, ◌∷◌, ◌++◌, [], length, not, take, IfOk, IsTrue, OnErr, OnOk, Some};
 ghost use Rattle.std.specs.List.{filter};
 ghost use Rattle.std.specs.Option.{option_copied};
 ghost use Rattle.std.specs.FinMap.{contains_key, entries};
@@ -36,24 +36,32 @@ pub(crate) fn written_keys(alloc: Global, writes: &Writes) -> Result<Vec<Key>, A
 }
 
 /// Adds to the keys that a run wrote those that only the call's last recorded run wrote: these are the keys that the run
-/// is to move. Refused where memory ran out.
+/// is to move. Refused where memory ran out; then the keys are as before.
 pub(crate) fn add_left_over(
     keys: &mut Vec<Key>,
     last: &Option<Recorded>,
     writes: &Writes,
 ) -> Result<(), AllocError>
     requires { keys.old.items ≡ keys_of (entries writes.now) }
-    ensures { OnOk result (keys.new.items ≡ keys_to_move last.now writes.now) }
+    ensures keys { OnOk result (keys.new.items ≡ keys_to_move last.now writes.now) }
+    ensures back { OnErr result (keys.new.items ≡ keys.old.items) }
 {
-    match last {
+    let count = keys.len();
+    let added = match last {
         Some(run) => push_left_over(keys, &run.receipt.writes, writes),
         None => Ok(()),
+    };
+    if added.is_err() {
+        keys.truncate(count);
     }
+    added
 }
 
-/// Adds the keys of `before` that `writes` does not have; refused where memory ran out.
+/// Adds the keys of `before` that `writes` does not have; refused where memory ran out, when some of them may stand
+/// behind the others.
 fn push_left_over(keys: &mut Vec<Key>, before: &Writes, writes: &Writes) -> Result<(), AllocError>
-    ensures { OnOk result (keys.new.items ≡ keys.old.items ++ keys_of (filter (λ write. not (contains_key writes.now write.0)) (entries before.now))) }
+    ensures keys { OnOk result (keys.new.items ≡ keys.old.items ++ keys_of (filter (λ write. not (contains_key writes.now write.0)) (entries before.now))) }
+    ensures first { take (length keys.old.items) keys.new.items ≡ keys.old.items }
 {
     for (key, _) in before.as_slice() {
         if writes.get(key).is_none() {

@@ -12,8 +12,8 @@ use Rattle.stm_core.proofs.state.Core.record.Goals as goal
 pub call-requires : goal.call-requires
 call-requires g c = named_in (g.H.JobSource.job c.self.inside.job) c.self.inside.map c.self.inside.promised c.self.inside.scheduler c.self.invariant c.args.worker c.in-Running.call (names_running (get_or c.self.inside.scheduler.tasks c.args.worker Idle) c.in-Running.call c.in-Running.blocked c.in-Running.ensures)
 
-pub returns-in-Err-of-clause-memory : goal.returns-in-Err-of-clause-memory
-returns-in-Err-of-clause-memory g c =
+pub returns-in_default-of-clause-memory : goal.returns-in_default-of-clause-memory
+returns-in_default-of-clause-memory g c =
     let due = due_at (g.H.JobSource.job c.self.inside.job) c.self.inside.map c.self.inside.promised c.self.inside.scheduler c.self.invariant c.args.self.now c.self.view_is c.args.worker Record c.requires in
     let runs = records_running (get_or c.self.inside.scheduler.tasks c.args.worker Idle) c.in-Running.call c.in-Running.blocked due.due_step c.in-Running.ensures in
     let s = state_in c.self.inside.map c.self.inside.promised c.self.inside.scheduler in
@@ -26,3 +26,9 @@ returns-in-Err-of-clause-memory g c =
       own_made (g.H.JobSource.job c.self.inside.job).block (g.H.JobSource.job c.self.inside.job).store c.args.worker c.in-Running.call runs.0 c.args.run s runs.1
           (own, (c.has_own_answers.ensures c.in-Running.call runs.0 runs.1).0 c.if-not-has_own_answers.false) within.0 (omega (arith, low, incarnation)),
     )
+
+pub into_run-requires : goal.into_run-requires
+into_run-requires g c = (c.args.run, c.in-Err-record_ready.ensures.kept c.args.run c.of-ready.ensures)
+
+pub returns-in-Err-record_ready-clause-own : goal.returns-in-Err-record_ready-clause-own
+returns-in-Err-record_ready-clause-own g c = c.in-Err-record_ready.ensures.own c.args.run c.of-ready.ensures
