@@ -5,7 +5,6 @@ use Rattle.stm_state.specs.Steps.{Record}
 use Rattle.stm_core.specs.CoreState.{next_step_of}
 use Rattle.stm_core.specs.declared.next_step.NextStep.{NextStep}
 use Rattle.stm_core.specs.declared.next_step.NextStep.TheVariants as next_step
-use Rattle.stm_core.specs.declared.recording.SpentRun.{SpentRun}
 use Rattle.workers.specs.declared.book.share.Share.{Share}
 use Rattle.workers.specs.declared.fault.RunFault.{RunFault}
 use Rattle.workers.specs.Book.{BookState, IsMade}
@@ -19,9 +18,8 @@ call_fault_of count call (Refused written) met = tt
 call_fault_of count call (Met fault) met = inl met
 
 -- a record that was taken is answered with the step that is owed after it
-
-pub is_record_answer : (call n : ℕ) (before after : BookState) (share counted : Share) (result : Result (NextStep × SpentRun) RunFault)
+pub is_record_answer : (call n : ℕ) (before after : BookState) (share counted : Share) (result : Result NextStep RunFault)
     → OnOk result (IsMade (next_step.Run call n) Record before after share counted)
-    → IfOk result (λ made. made.0 ≡ next_step_of after.core.state (task_at after.core.state counted.worker)) → IfOk result (λ made. IsRecordAnswer call n share counted made.0)
-is_record_answer call n before after share counted (Ok made) is next = (before, after, is, next)
+    → IfOk result (λ next. next ≡ next_step_of after.core.state (task_at after.core.state counted.worker)) → IfOk result (λ next. IsRecordAnswer call n share counted next)
+is_record_answer call n before after share counted (Ok step) is next = (before, after, is, next)
 is_record_answer call n before after share counted (Err fault) is next = tt

@@ -3,8 +3,9 @@
 ghost use Rattle.std.specs.Prelude.{◌≡◌, ◌+◌, None, Some, true, length, slice_get, IfErr, IfOk, MatchOption, OnOk};
 ghost use Rattle.crossbeam_utils.specs.Seq.{cell_view};
 ghost use Rattle.rv_step.specs.Run.{IsEnded};
+ghost use Rattle.rv_step.specs.declared.ended_run.EndedRun.{EndedRun};
 ghost use Rattle.rv_step.specs.declared.stage.Stage.TheVariants.{Asked};
-ghost use Rattle.stm_core.specs.CoreState.{AreRecordParts};
+ghost use Rattle.stm_core.specs.CoreState.{IsReadyOf};
 ghost use Rattle.workers.specs.DoneCell.{IsPassOf};
 ghost use Rattle.workers.specs.Work.{IsCallFault, IsMakeAnswer, IsMemoryOrRefused, IsRecordAnswer, IsRunAnswer, IsStepAnswer};
 
@@ -15,11 +16,11 @@ use crate::patience::Patience;
 use crate::shared::Shared;
 use rv_ledger::{Key, StoredValue};
 use rv_mem::PageRoom;
-use rv_step::{EndedRun, Pause, Run};
+use rv_step::{Pause, Run};
 use std::alloc::Global;
 use std::mem::replace;
 use std::sync::Wait;
-use stm_core::{JobSource, NextStep, ReadResult, RecordParts, SpentRun, StepKind};
+use stm_core::{JobSource, NextStep, ReadResult, ReadyRecord, RecordParts, StepKind};
 
 /// What a worker keeps from one step to the next: the room that the pages of one run leave to the next one, and how it
 /// spins between two looks at the cell.
@@ -245,22 +246,14 @@ fn run_call<J: JobName, H: JobSource, R: Wait, G: Gate>(
     let Ok(record_parts) = RecordParts::of(alloc, &ended) else {
         return Err(WorkFault::Met(shared.refuse(rt, OutsideFault::Memory)));
     };
-    // The spent run is dropped here, after the lock.
-    let (next, _spent) = record(
-        rt,
-        alloc,
-        shared,
-        share,
-        call,
-        incarnation,
-        ended,
-        record_parts,
-    )?;
+    let mut ready = ReadyRecord::of(ended, record_parts);
+    let next = record(rt, alloc, shared, share, call, incarnation, &mut ready)?;
+    // What the record left over in `ready` is dropped here, after the lock.
     Ok(next)
 }
 
-/// Hands in the ended run of a call, for which what its record takes is made. Returns the step that the worker owes
-/// then, as the book under the lock told it, and what is left over of the run.
+/// Hands in the ended run of a call, which is ready to be recorded. Returns the step that the worker owes then, as the
+/// book under the lock told it. What is left over of the run stands in its place then.
 fn record<J: JobName, H: JobSource, R: Wait>(
     rt: &R,
     alloc: Global,
@@ -268,19 +261,18 @@ fn record<J: JobName, H: JobSource, R: Wait>(
     share: &mut Share,
     call: u16,
     incarnation: u16,
-    run: EndedRun,
-    record_parts: RecordParts,
-) -> Result<(NextStep, SpentRun), WrittenFault>
-    requires record_parts { AreRecordParts run record_parts }
-    requires call { slice_get J.job.block call ≡ Some run.call }
-    ensures answer { IfOk result (λ made. IsRecordAnswer call incarnation share.old share.new made.0) }
+    ready: &mut ReadyRecord,
+) -> Result<NextStep, WrittenFault>
+    requires ready { (run : EndedRun) × IsReadyOf run ready.old }
+    requires call { slice_get J.job.block call ≡ Some ready.old.call }
+    ensures answer { IfOk result (λ next. IsRecordAnswer call incarnation share.old share.new next) }
     ensures worker { share.new.worker ≡ share.old.worker }
     ensures pass { share.new.pass ≡ share.old.pass }
     ensures dones { OnOk result (share.new.dones ≡ share.old.dones) }
 {
     shared
         .hold(rt)
-        .record_known(alloc, share, call, incarnation, run, record_parts)
+        .record_ready(alloc, share, call, incarnation, ready)
 }
 
 /// Takes a call's run on to its end. Returns false where it meets an estimate before that.

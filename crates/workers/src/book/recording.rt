@@ -7,13 +7,14 @@ use crate::book::{Book, JobName, Share, WrittenFault};
 use crate::fault::RunFault;
 use rv_step::EndedRun;
 use std::alloc::Global;
-use stm_core::{JobSource, NextStep, RecordFault, RecordParts, SpentRun};
+use stm_core::{JobSource, NextStep, ReadyRecord, RecordFault};
 
 impl<J: JobName, H: JobSource> Book<J, H> {
     ghost use Rattle.std.specs.Prelude.{◌≡◌, Some, true, slice_get, IfErr, IfOk, OnOk};
     ghost use Rattle.stm_state.specs.State.{task_at};
     ghost use Rattle.stm_state.specs.Steps as steps;
-    ghost use Rattle.stm_core.specs.CoreState.{IsOwn, AreRecordParts, IsTaken, next_step_of};
+    ghost use Rattle.rv_step.specs.declared.ended_run.EndedRun.{EndedRun};
+    ghost use Rattle.stm_core.specs.CoreState.{IsOwn, IsReadyOf, IsTaken, next_step_of};
     ghost use Rattle.stm_core.specs.declared.next_step.NextStep.TheVariants as next_step;
     ghost use Rattle.workers.specs.Book.{IsCause, IsMade, LeavesWritten, Owes};
 
@@ -48,38 +49,34 @@ impl<J: JobName, H: JobSource> Book<J, H> {
         }
     }
 
-    /// The same, where what the record takes is made, and where the run is known to be of that call. What the record
-    /// leaves over is handed out, so that it is dropped after the lock.
+    /// The same, where the run is ready to be recorded, and known to be of that call. What the record leaves over stands
+    /// in its place then, so that it is dropped after the lock.
     #[tactic(auto, using(crate::proofs::Stays::stays, crate::proofs::Causes::unready_cause))]
-    pub(crate) fn record_known(
+    pub(crate) fn record_ready(
         &mut self,
         alloc: Global,
         share: &mut Share,
         call: u16,
         incarnation: u16,
-        run: EndedRun,
-        record_parts: RecordParts,
-    ) -> Result<(NextStep, SpentRun), WrittenFault>
-        requires record_parts { AreRecordParts run record_parts }
-        requires call { slice_get J.job.block call ≡ Some run.call }
+        ready: &mut ReadyRecord,
+    ) -> Result<NextStep, WrittenFault>
+        requires ready { (run : EndedRun) × IsReadyOf run ready.old }
+        requires call { slice_get J.job.block call ≡ Some ready.old.call }
         ensures made { OnOk result (IsMade (next_step.Run call incarnation) steps.Record self.old self.new share.old share.new) }
-        ensures next { IfOk result (λ made. made.0 ≡ next_step_of self.new.core.state (task_at self.new.core.state share.new.worker)) }
-        ensures own { OnOk result (IsOwn share.old.worker run self.old.core) }
+        ensures next { IfOk result (λ next. next ≡ next_step_of self.new.core.state (task_at self.new.core.state share.new.worker)) }
+        ensures own { (run : EndedRun) → IsReadyOf run ready.old → OnOk result (IsOwn share.old.worker run self.old.core) }
         ensures dones { OnOk result (share.new.dones ≡ share.old.dones) }
         ensures refused { IfErr result (λ e. LeavesWritten e self.old self.new share.old share.new) }
-        ensures cause { IfErr result (λ e. IsCause (Owes (next_step.Run call incarnation) share.old self.old.core) (IsOwn share.old.worker run self.old.core) (IsTaken share.old.worker steps.Record self.old.core) steps.Record share.old.worker self.old e) }
+        ensures cause { (run : EndedRun) → IsReadyOf run ready.old → IfErr result (λ e. IsCause (Owes (next_step.Run call incarnation) share.old self.old.core) (IsOwn share.old.worker run self.old.core) (IsTaken share.old.worker steps.Record self.old.core) steps.Record share.old.worker self.old e) }
     {
         self.ready(share, NextStep::Run { call, incarnation })?;
         stm_state::dones_grow_at_done();
-        match self
-            .core
-            .record_known(alloc, share.worker, run, record_parts)
-        {
-            Ok(spent) => {
+        match self.core.record_ready(alloc, share.worker, ready) {
+            Ok(()) => {
                 self.update(share);
-                Ok((self.core.doing(share.worker), spent))
+                Ok(self.core.doing(share.worker))
             }
-            Err(refused) => Err(self.write(run_fault(refused.fault))),
+            Err(fault) => Err(self.write(run_fault(fault))),
         }
     }
 }
