@@ -1,5 +1,6 @@
 pub mod Layout
 pub mod Pages
+pub mod Places
 pub mod Header
 pub mod Extent
 pub mod Faults

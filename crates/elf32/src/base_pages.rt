@@ -7,6 +7,7 @@ ghost use Rattle.elf32.specs.Pages.{HoldSegments, bytes_of_page, segment_bytes, 
 
 use crate::bytes::put;
 use crate::extent::{FIRST_ADDRESS, PAGE_COUNT, PAGE_SIZE};
+use crate::page_place::PagePlace;
 use crate::rights::page_rights;
 use crate::segment::{Rights, Segment};
 use std::alloc::{AllocError, Global};
@@ -21,7 +22,7 @@ pub struct BasePages {
     pub pages: Vec<Page>,
     /// The place in `pages` of each of the 256 pages of memory, in order. Page k begins at the address
     /// 0x00010000 + 4096 k.
-    pub index: [u16; PAGE_COUNT],
+    pub index: [PagePlace; PAGE_COUNT],
     /// The rights of the 256 pages of memory, in order.
     pub rights: [Rights; PAGE_COUNT],
 }
@@ -94,10 +95,10 @@ pub(crate) fn base_pages(alloc: Global, segments: &[Segment]) -> Result<BasePage
 {
     let mut pages = Vec::with_capacity(alloc, 4)?;
     pages.push([0; PAGE_SIZE])?;
-    let mut index = [0; PAGE_COUNT];
+    let mut index = [PagePlace::of_program(0); PAGE_COUNT];
     for page in 0..PAGE_COUNT {
         if has_bytes(segments, page) {
-            index[page] = pages.len() as u16;
+            index[page] = PagePlace::of_program(pages.len());
             pages.push(page_with(segments, page))?;
         }
     }

@@ -4,15 +4,12 @@ use Rattle.std.specs.List.{sum_by}
 use Rattle.std.specs.Arc.{arc_value}
 use Rattle.elf32.specs.Extent.{memory_size, page_count, page_size}
 use Rattle.elf32.specs.Pages.{ArePages, page_at, zeros}
+use Rattle.elf32.specs.Places.{first_own}
 use Rattle.elf32.specs.declared.base_pages.BasePages.{BasePages}
 use Rattle.elf32.specs.declared.segment.Rights.{Rights}
 use Rattle.rv_mem.specs.declared.pages.Pages.{Pages}
 use Rattle.rv_mem.specs.Space.{Space, allows, no_rights}
 use Rattle.rv_mem.specs.declared.access.Access.{Access}
-
--- the place of the call's first page of its own
-abbrev pub first_own : ℕ
-first_own = 512
 
 -- the pages of the program
 abbrev pub base_of : Pages → BasePages

@@ -4,8 +4,9 @@ ghost use Rattle.std.specs.Prelude.{◌≡◌, ◌+◌, ◌/◌, ◌%◌, ◌-�
 ghost use Rattle.byteorder.specs.Endian.{little_number};
 ghost use Rattle.elf32.specs.Extent.{first_address, memory_size, page_count, page_size};
 ghost use Rattle.elf32.specs.Pages.{overwritten_at, page_at, page_rights, segment_bytes};
+ghost use Rattle.elf32.specs.Places.{first_own};
 ghost use Rattle.rv_mem.specs.Code.{IsCode, page_of};
-ghost use Rattle.rv_mem.specs.Paged.{IsPaged, AreOwn, base_of, first_own, memory_bytes, space_of};
+ghost use Rattle.rv_mem.specs.Paged.{IsPaged, AreOwn, base_of, memory_bytes, space_of};
 
 use crate::access::Access;
 use crate::code_page::CodePage;
@@ -13,13 +14,10 @@ use crate::rights::allows_at;
 use byteorder::{ByteOrder, LittleEndian};
 use elf32::bytes::put;
 use elf32::extent::{FIRST_ADDRESS, PAGE_SIZE};
-use elf32::{BasePages, Image, Page};
+use elf32::{BasePages, Image, Page, PagePlace};
 use std::alloc::{AllocError, Global};
 use std::slice::from_ref;
 use std::sync::Arc;
-
-/// The place of the first page of a call's own.
-const FIRST_OWN: usize = 512;
 
 /// How many pages of its own a call has room for at its start: that of its input, and that of its stack or data.
 const OWN_ROOM: usize = 2;
@@ -29,8 +27,8 @@ const OWN_ROOM: usize = 2;
 pub struct Pages {
     /// The pages of the program.
     pub base: Arc<BasePages>,
-    /// For each of the 256 pages of memory its place: in `base`, or `FIRST_OWN` and its place in `own`.
-    pub index: Vec<u16>,
+    /// For each of the 256 pages of memory its place, in `base` or in `own`.
+    pub index: Vec<PagePlace>,
     /// The pages that the call has written. Each is one page of memory.
     pub own: Vec<Page>,
 }
@@ -38,7 +36,7 @@ pub struct Pages {
 /// The lists of a call's pages, whose room the next call's pages can use.
 #[derive(Drop)]
 pub struct PageRoom {
-    index: Vec<u16>,
+    index: Vec<PagePlace>,
     own: Vec<Page>,
 }
 
@@ -72,27 +70,27 @@ pub fn program_pages(room: PageRoom, image: &Image) -> Result<Pages, AllocError>
     Ok(Pages { base, index, own })
 }
 
-/// Makes a list of these numbers in the room of another; refused where memory ran out.
-fn refill(list: &mut Vec<u16>, numbers: &[u16]) -> Result<(), AllocError>
-    ensures { OnOk result (list.new.items ≡ numbers.now) }
+/// Makes a list of these places in the room of another; refused where memory ran out.
+fn refill(list: &mut Vec<PagePlace>, places: &[PagePlace]) -> Result<(), AllocError>
+    ensures { OnOk result (list.new.items ≡ places.now) }
 {
     list.clear();
-    list.extend_from_slice(numbers)
+    list.extend_from_slice(places)
 }
 
-/// The page at a place: the program's where the place is below `FIRST_OWN`, else the call's own.
+/// The page at a place, among the program's or the call's own.
 #[inline(always)]
-fn page_at<'a>(base: &'a [Page], own: &'a [Page], place: usize) -> &'a Page
+fn page_at<'a>(base: &'a [Page], own: &'a [Page], place: PagePlace) -> &'a Page
     requires shared { place < first_own → place < length base.now }
     requires own { place < first_own + length own.now }
     requires few { length own.now ≤ first_own }
     ensures shared { place < first_own → result.now ≡ page_at base.now place }
     ensures own { first_own ≤ place → result.now ≡ page_at own.now (place - first_own) }
 {
-    if place < FIRST_OWN {
-        return &base[place];
+    if place.is_shared() {
+        return &base[place.in_program()];
     }
-    &own[place - FIRST_OWN]
+    &own[place.in_own()]
 }
 
 /// Makes a page the call's own; refused where memory ran out, and then nothing changes. It answers the
@@ -113,8 +111,8 @@ fn copy_page(pages: &mut Pages, page: usize) -> Result<usize, AllocError>
     let place = pages.own.len();
     pages
         .own
-        .extend_from_slice(from_ref(&shared[pages.index[page] as usize]))?;
-    pages.index[page] = (FIRST_OWN + place) as u16;
+        .extend_from_slice(from_ref(&shared[pages.index[page].in_program()]))?;
+    pages.index[page] = PagePlace::of_own(place);
     Ok(place)
 }
 
@@ -165,11 +163,11 @@ pub fn write_in_page(pages: &mut Pages, at: usize, new: &[u8]) -> Result<(), All
     ensures ok { OnOk result (memory_bytes pages.new ≡ overwritten_at (memory_bytes pages.old) at new.now) }
     ensures err { OnErr result (memory_bytes pages.new ≡ memory_bytes pages.old) }
 {
-    let place = pages.index[at / PAGE_SIZE] as usize;
-    if place < FIRST_OWN {
+    let place = pages.index[at / PAGE_SIZE];
+    if place.is_shared() {
         return copy_and_write(pages, at, new);
     }
-    put_own(pages, place - FIRST_OWN, at, new);
+    put_own(pages, place.in_own(), at, new);
     Ok(())
 }
 
@@ -184,7 +182,7 @@ fn own_pages(pages: &mut Pages, first: usize, last: usize) -> Result<(), AllocEr
     ensures own { OnOk result (AreOwn pages.new first (last + 1)) }
 {
     for page in first..last + 1 {
-        if (pages.index[page] as usize) < FIRST_OWN {
+        if pages.index[page].is_shared() {
             copy_page(pages, page)?;
         }
     }
@@ -202,7 +200,7 @@ fn put_in_pages(pages: &mut Pages, at: usize, new: &[u8])
     ensures index { pages.new.index.items ≡ pages.old.index.items }
     ensures bytes { memory_bytes pages.new ≡ overwritten_at (memory_bytes pages.old) at new.now }
 {
-    let place = pages.index[at / PAGE_SIZE] as usize - FIRST_OWN;
+    let place = pages.index[at / PAGE_SIZE].in_own();
     let room = PAGE_SIZE - at % PAGE_SIZE;
     if new.len() <= room {
         put_own(pages, place, at, new);
@@ -237,7 +235,7 @@ fn rest_of_page(pages: &Pages, at: usize) -> &[u8]
     ensures value { result.now ≡ take (page_size - at % page_size) (drop at (memory_bytes pages.now)) }
     ensures len { length result.now ≡ page_size - at % page_size }
 {
-    let place = pages.index[at / PAGE_SIZE] as usize;
+    let place = pages.index[at / PAGE_SIZE];
     &page_at(&pages.base.pages, &pages.own, place)[at % PAGE_SIZE..]
 }
 
@@ -283,11 +281,11 @@ pub fn code_page(pages: &Pages, address: u32) -> Option<CodePage>
     if !allows_at(rights, Access::Execute, address) || allows_at(rights, Access::Write, address) {
         return None;
     }
-    let place = pages.index[(address - FIRST_ADDRESS) as usize / PAGE_SIZE] as usize;
-    if place >= FIRST_OWN {
+    let place = pages.index[(address - FIRST_ADDRESS) as usize / PAGE_SIZE];
+    if !place.is_shared() {
         return None;
     }
-    CodePage::of(&pages.base, place)
+    CodePage::of(&pages.base, place.in_program())
 }
 
 /// Fills `out` with the bytes from a place in memory on.

@@ -11,8 +11,8 @@ returns-clause-paged c =
     let items = rw c.from_ref.ensures.value at c.in_ok-extend_from_slice.ensures.items in
     let len = c.requires.paged.placed.len in
     let there = get_or_read p.index.items c.args.page c.index.result.now (omega arith) c.index.ensures 0 in
-    let read = rw (c.deref.ensures, there) at c.index-2.ensures in
-    let end : 512 + c.len-place.result ≡ 512 + length p.own.items = omega arith in
+    let read = rw (c.deref.ensures, c.in_program.ensures, there) at c.index-2.ensures in
+    let end : c.of_own.result ≡ 512 + length p.own.items = omega (arith, c.of_own.ensures) in
     paged_more p _ c.args.page c.index-2.result.now c.requires.paged c.requires.page c.requires.shared refl items (ap (set p.index.items c.args.page) end) read
 
 pub returns-clause-bytes : goal.returns-clause-bytes
@@ -21,7 +21,7 @@ returns-clause-bytes c =
     let items = rw c.from_ref.ensures.value at c.in_ok-extend_from_slice.ensures.items in
     let len = c.requires.paged.placed.len in
     let there = get_or_read p.index.items c.args.page c.index.result.now (omega arith) c.index.ensures 0 in
-    let read = rw (c.deref.ensures, there) at c.index-2.ensures in
-    let end : 512 + c.len-place.result ≡ 512 + length p.own.items = omega arith in
-    let q : Pages = record { base = p.base; index = with_item p.index c.args.page (512 + c.len-place.result); own = c.extend_from_slice.new.self } in
+    let read = rw (c.deref.ensures, c.in_program.ensures, there) at c.index-2.ensures in
+    let end : c.of_own.result ≡ 512 + length p.own.items = omega (arith, c.of_own.ensures) in
+    let q : Pages = record { base = p.base; index = with_item p.index c.args.page c.of_own.result; own = c.extend_from_slice.new.self } in
     bytes_more p q c.args.page c.index-2.result.now c.requires.paged c.requires.page c.requires.shared refl items (ap (set p.index.items c.args.page) end) read
