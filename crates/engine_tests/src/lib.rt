@@ -35,6 +35,8 @@ mod fake_disk;
 #[cfg(test)]
 mod first_faults;
 #[cfg(test)]
+mod full_arena;
+#[cfg(test)]
 mod idling;
 #[cfg(test)]
 mod large_blocks;

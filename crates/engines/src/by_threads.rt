@@ -13,7 +13,7 @@ use sessions::CallRunner;
 use std::alloc::{AllocError, Global};
 use std::sync::Wait;
 use std::thread::Threads;
-use workers::{Executor, RunFault};
+use workers::{Executor, Gate, Open, RunFault};
 
 /// How many calls of a frame run in order, to show what a call takes.
 const FIRST_CALLS: usize = 8;
@@ -21,17 +21,19 @@ const FIRST_CALLS: usize = 8;
 /// Runs the first calls of a frame in order, and the others by threads where that pays by what the first ones took. Where
 /// a run by threads is refused for anything but memory, these calls run in order too.
 #[derive(Drop)]
-pub struct ByThreads<'a, R: Threads + Wait + Sync> {
+pub struct ByThreads<'a, R: Threads + Wait + Sync, G: Gate + Sync = Open> {
     /// What starts the threads.
     pub threads: &'a R,
     /// What runs blocks by threads.
     pub executor: Executor,
     /// The number of threads. Where it is not 1 to 32, all calls run in order.
     pub workers: usize,
+    /// What each thread passes between the end of a run and its record. Tests hold one there.
+    pub gate: G,
 }
 
 impl<'a, R: Threads + Wait + Sync> ByThreads<'a, R> {
-    /// What runs calls by so many threads. No call was run yet.
+    /// What runs calls by so many threads, which nothing holds. No call was run yet.
     pub fn new(threads: &'a R, alloc: Global, workers: usize) -> ByThreads<'a, R>
         ensures workers { result.workers ≡ workers }
         ensures shares { result.executor.shares.items ≡ [] }
@@ -40,9 +42,12 @@ impl<'a, R: Threads + Wait + Sync> ByThreads<'a, R> {
             threads,
             executor: Executor::new(alloc),
             workers,
+            gate: Open,
         }
     }
+}
 
+impl<R: Threads + Wait + Sync, G: Gate + Sync> ByThreads<'_, R, G> {
     /// Runs the calls of a frame behind those that were run, by threads where that pays.
     fn run_others(
         &mut self,
@@ -61,10 +66,15 @@ impl<'a, R: Threads + Wait + Sync> ByThreads<'a, R> {
         let Some(block) = block_of(alloc, calls)? else {
             return run_over(alloc, base, over, calls);
         };
-        match self
-            .executor
-            .run_over_changes(self.threads, alloc, base, over, block, self.workers)
-        {
+        match self.executor.run_over_changes_with(
+            self.threads,
+            alloc,
+            base,
+            over,
+            block,
+            self.workers,
+            &self.gate,
+        ) {
             Ok(receipts) => Ok(receipts),
             Err(RunFault::Memory) => Err(AllocError),
             Err(_) => run_over(alloc, base, over, calls),
@@ -72,8 +82,8 @@ impl<'a, R: Threads + Wait + Sync> ByThreads<'a, R> {
     }
 }
 
-impl<R: Threads + Wait + Sync> CallRunner for ByThreads<'_, R> {
-    ghost ready = { IsSync R.row };
+impl<R: Threads + Wait + Sync, G: Gate + Sync> CallRunner for ByThreads<'_, R, G> {
+    ghost ready = { IsSync R.row × IsSync G.row };
 
     #[tactic(auto, using(overlay::proofs::Receipts::receipts_append, overlay::proofs::Receipts::after_append))]
     fn run_calls(

@@ -2,7 +2,7 @@
 
 use crate::executor::Executor;
 use crate::fault::RunFault;
-use crate::gate::Open;
+use crate::gate::{Gate, Open};
 use overlay::{Layers, Overlay, apply_receipts, commit};
 use rv_ledger::{Block, Receipt, Store};
 use rv_step::Contents;
@@ -50,7 +50,6 @@ impl Executor {
 
     /// The same on a storage with changes over it. It adds the changes of the calls to these, and where it is refused
     /// it leaves these as they were.
-    #[tactic(auto, using(overlay::proofs::Receipts::receipts_applied))]
     pub fn run_over_changes<R: Threads + Wait + Sync>(
         &mut self,
         rt: &R,
@@ -70,7 +69,32 @@ impl Executor {
         ensures step_limit { IfErr result (λ e. e ≡ faults.StepLimit → HasStepLimit (record { block = block; store = with_changes base.now over.old }) workers) }
         ensures kept { result ≡ Err faults.BadCount → self.new ≡ self.old }
     {
-        let receipts = self.receipts_by(rt, alloc, &block, &Layers { base, over }, workers)?;
+        self.run_over_changes_with(rt, alloc, base, over, block, workers, &Open)
+    }
+
+    /// `run_over_changes` with a gate, as `run_block_with` has one.
+    #[tactic(auto, using(overlay::proofs::Receipts::receipts_applied))]
+    pub fn run_over_changes_with<R: Threads + Wait + Sync, G: Gate + Sync>(
+        &mut self,
+        rt: &R,
+        alloc: Global,
+        base: &Store,
+        over: &mut Overlay,
+        block: Block,
+        workers: usize,
+        gate: &G,
+    ) -> Result<Vec<Receipt>, RunFault>
+        ensures bad_count { (result ≡ Err faults.BadCount) ↔ ((workers ≡ 0) ⊎ (32 < workers)) }
+        ensures receipts { IfOk result (λ r. r.items ≡ receipts_of block (with_changes base.now over.old)) }
+        ensures store { OnOk result (with_changes base.now over.new ≡ store_after block (with_changes base.now over.old)) }
+        ensures err { OnErr result (over.new ≡ over.old) }
+        ensures history { OnOk result (IsRunWithShares (record { block = block; store = with_changes base.now over.old }) workers self.new.shares.items) }
+        ensures full { IfErr result (λ e. e ≡ faults.ArenaFull → HasLimit (record { block = block; store = with_changes base.now over.old }) workers steps.ArenaFull) }
+        ensures limit { IfErr result (λ e. e ≡ faults.IncarnationLimit → HasLimit (record { block = block; store = with_changes base.now over.old }) workers steps.IncarnationLimit) }
+        ensures step_limit { IfErr result (λ e. e ≡ faults.StepLimit → HasStepLimit (record { block = block; store = with_changes base.now over.old }) workers) }
+        ensures kept { result ≡ Err faults.BadCount → self.new ≡ self.old }
+    {
+        let receipts = self.receipts_by(rt, alloc, &block, &Layers { base, over }, workers, gate)?;
         match apply_receipts(base, over, receipts.as_slice()) {
             Ok(()) => Ok(receipts),
             Err(_) => Err(RunFault::Memory),
@@ -79,13 +103,14 @@ impl Executor {
 
     /// The receipts of a block by threads, over what is lent in place of a storage. Refused as `run_block` is.
     #[tactic(auto, using(crate::proofs::Runs::run_with_shares))]
-    fn receipts_by<S: Contents + Sync, R: Threads + Wait + Sync>(
+    fn receipts_by<S: Contents + Sync, R: Threads + Wait + Sync, G: Gate + Sync>(
         &mut self,
         rt: &R,
         alloc: Global,
         block: &Block,
         contents: &S,
         workers: usize,
+        gate: &G,
     ) -> Result<Vec<Receipt>, RunFault>
         ensures bad_count { (result ≡ Err faults.BadCount) ↔ ((workers ≡ 0) ⊎ (32 < workers)) }
         ensures receipts { IfOk result (λ r. r.items ≡ receipts_of block.now (S.storage contents.now)) }
@@ -95,7 +120,7 @@ impl Executor {
         ensures step_limit { IfErr result (λ e. e ≡ faults.StepLimit → HasStepLimit (record { block = block.now; store = S.storage contents.now }) workers) }
         ensures kept { result ≡ Err faults.BadCount → self.new ≡ self.old }
     {
-        let finished = self.run_lent(rt, alloc, block, contents, workers, &Open)?;
+        let finished = self.run_lent(rt, alloc, block, contents, workers, gate)?;
         let Finished {
             receipts,
             counts: _,
