@@ -66,7 +66,7 @@ where
     let mut errors = FallibleWriter { writer: errors };
     let words = match words_of(rt) {
         Ok(words) => words,
-        Err(error) => return refuse_line(text_of(&error), &mut errors),
+        Err(error) => return refuse_line(error_text(&error), &mut errors),
     };
     match read_request(rt.alloc(), words.as_slice(), &mut out, &mut errors) {
         Ok(request) => match answer(
@@ -142,7 +142,7 @@ fn words_of<R: Env + AllocGlobal>(rt: &R) -> io::Result<Vec<String>> {
 }
 
 /// The message for a command line that can't be read.
-fn text_of(error: &io::Error) -> &'static str {
+fn error_text(error: &io::Error) -> &'static str {
     match error.kind() {
         io::ErrorKind::InvalidData => "error: a word of the command line is not UTF-8",
         _ => "error: out of memory",

@@ -43,14 +43,14 @@ pub fn write_counts<W: Destination>(
     ensures cause { IfErr result (MayRefuse (W.may_fail out.old) (W.may_take_nothing out.old)) }
     ensures memory { IfErr result (λ e. e ≡ WriteFault.Memory → out.new ≡ out.old) }
 {
-    let Ok(text) = text_of(alloc, counts) else {
+    let Ok(text) = counts_text(alloc, counts) else {
         return Err(WriteFault::Memory);
     };
     write_whole(text.as_str().as_bytes(), out)
 }
 
 /// All lines; refused where memory ran out.
-fn text_of(alloc: Global, counts: &RunCounts) -> Result<String, AllocError>
+fn counts_text(alloc: Global, counts: &RunCounts) -> Result<String, AllocError>
     ensures { IfOk result (λ text. string_bytes text ≡ counts_text counts.now) }
 {
     let mut text = String::new(alloc);

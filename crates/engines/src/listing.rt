@@ -46,14 +46,14 @@ fn listing<R: Source>(alloc: Global, file: &mut R) -> Result<String, Refusal>
 {
     let bytes = read_elf(alloc, file)?;
     let image = load(alloc, bytes.as_slice()).map_err(Refusal::Elf)?;
-    match text_of(alloc, &image) {
+    match listing_text(alloc, &image) {
         Ok(text) => Ok(text),
         Err(_) => Err(Refusal::Elf(ElfError::Memory)),
     }
 }
 
 /// The lines of an image; refused where memory ran out.
-fn text_of(alloc: Global, image: &Image) -> Result<String, AllocError>
+fn listing_text(alloc: Global, image: &Image) -> Result<String, AllocError>
     ensures { IfOk result (λ t. string_bytes t ≡ listing_of image.now) }
 {
     let words = image.words(alloc)?;
