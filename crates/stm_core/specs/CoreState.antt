@@ -165,7 +165,7 @@ pub record HasValueRoom (room : ValueRoom) : Type 0 where
 abbrev pub IsInPlace : Option (List ℕ) → Type 0
 IsInPlace content = IfSome content (λ bytes. length bytes ≤ 16)
 
--- so does the content that a read gives, if it gives one
+-- nor does the content that a read gives, if it gives one
 abbrev pub GivesInPlace : ReadResult → Type 0
 GivesInPlace (read_result.Given content origin) = IsInPlace content
 GivesInPlace read_result.Blocked = Unit {0}

@@ -183,9 +183,9 @@ fn index_run(kind: TaskKind) -> usize
 }
 
 /// A worker's run reads a key for its call, in room that was made; the storage before the block has `base`
-/// at the key, lent by its bytes. From the highest call below downwards the read passes the versions that add an amount. What
-/// it then finds decides: the run is given the value that this version or the storage has, with the amounts
-/// added, or is blocked where it is an estimate. Takes no memory.
+/// at the key, whose bytes are lent. From the highest call below downwards the read passes the versions that
+/// add an amount. What it then finds decides: the run is given the value that this version or the storage has,
+/// with the amounts added, or is blocked where it is an estimate. Takes no memory.
 pub(crate) fn read_at(
     base: Option<&[u8]>,
     map: &MvMap,

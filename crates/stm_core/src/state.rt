@@ -208,8 +208,7 @@ impl<H: JobSource> Core<H> {
         self.read_over(worker, key, base.as_ref().map(|base| base.bytes()))
     }
 
-    /// The same, where the caller has looked up what the storage before the block has at the key, and lends its
-    /// bytes.
+    /// The same, where the caller lends the bytes that the storage before the block has at the key.
     pub fn read_over(&mut self, worker: usize, key: &Key, base: Option<&[u8]>) -> ReadResult
         requires due { IsDue worker (steps.ReadKey key.now) self.old }
         requires room { HasReadRoom worker self.old }
