@@ -1,10 +1,14 @@
 //! A frame whose run by threads is refused, since the arena is full: it is answered in order.
 
+ghost use Rattle.std.specs.Thread.{IsSync};
+
 use crate::block_after_block::printed_by;
 use crate::sources::assembled;
 use engines::ByThreads;
-use sessions::InOrder;
-use std::alloc::Global;
+use overlay::Overlay;
+use rv_ledger::{Call, Receipt, Store};
+use sessions::{CallRunner, InOrder};
+use std::alloc::{AllocError, Global};
 use std::process::Abort;
 use std::sync::Wait;
 use std::sync::atomic::{AtomicU64, Ordering};
@@ -107,6 +111,26 @@ fn flood(alloc: Global) -> Result<String, Fail> {
     Ok(frame)
 }
 
+/// What runs the calls of a frame by threads that are held.
+#[derive(Drop)]
+struct Flooded<'a, R: Threads + Wait + Sync> {
+    runner: ByThreads<'a, R, Rounds>,
+}
+
+impl<R: Threads + Wait + Sync> CallRunner for Flooded<'_, R> {
+    ghost ready = { IsSync R.row };
+
+    fn run_calls(
+        &mut self,
+        alloc: Global,
+        base: &Store,
+        over: &mut Overlay,
+        calls: &[Call],
+    ) -> Result<Vec<Receipt>, AllocError> {
+        self.runner.run_frame(alloc, base, over, calls)
+    }
+}
+
 /// Whether a session by threads, one more than are held, prints a text; its run by threads was refused, and it was
 /// refused when the arena was full.
 fn is_answered_in_order<R: Threads + Wait + Sync>(
@@ -115,16 +139,18 @@ fn is_answered_in_order<R: Threads + Wait + Sync>(
     input: &str,
     wanted: &[u8],
 ) -> Result<bool, Fail> {
-    let mut runner = ByThreads {
-        threads: rt,
-        executor: Executor::new(alloc),
-        workers: 6,
-        gate: Rounds::new(),
+    let mut flooded = Flooded {
+        runner: ByThreads {
+            threads: rt,
+            executor: Executor::new(alloc),
+            workers: 6,
+            gate: Rounds::new(),
+        },
     };
     let file = assembled(alloc, &mut FLOOD.as_bytes())?;
-    let text = printed_by(alloc, file, &mut runner, input)?;
-    let runs = runner.gate.passed.load(Ordering::SeqCst);
-    let is_refused = runner.executor.shares().is_empty() && runs >= RUNS;
+    let text = printed_by(alloc, file, &mut flooded, input)?;
+    let runs = flooded.runner.gate.passed.load(Ordering::SeqCst);
+    let is_refused = flooded.runner.executor.shares().is_empty() && runs >= RUNS;
     Ok(is_refused && text.as_slice() == wanted)
 }
 

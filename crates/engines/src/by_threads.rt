@@ -48,6 +48,25 @@ impl<'a, R: Threads + Wait + Sync> ByThreads<'a, R> {
 }
 
 impl<R: Threads + Wait + Sync, G: Gate + Sync> ByThreads<'_, R, G> {
+    /// Runs the calls of a frame on a storage with changes over it, as `CallRunner::run_calls` does.
+    #[tactic(auto, using(overlay::proofs::Receipts::receipts_append, overlay::proofs::Receipts::after_append))]
+    pub fn run_frame(
+        &mut self,
+        alloc: Global,
+        base: &Store,
+        over: &mut Overlay,
+        calls: &[Call],
+    ) -> Result<Vec<Receipt>, AllocError>
+        ensures receipts { IfOk result (λ r. r.items ≡ receipts_of calls.now (with_changes base.now over.old)) }
+        ensures store { OnOk result (with_changes base.now over.new ≡ store_after calls.now (with_changes base.now over.old)) }
+    {
+        let (first, others) = calls.split_at(calls.len().min(FIRST_CALLS));
+        let mut receipts = run_over(alloc, base, over, first)?;
+        let mut more = self.run_others(alloc, base, over, receipts.as_slice(), others)?;
+        receipts.append(&mut more)?;
+        Ok(receipts)
+    }
+
     /// Runs the calls of a frame behind those that were run, by threads where that pays.
     fn run_others(
         &mut self,
@@ -82,10 +101,9 @@ impl<R: Threads + Wait + Sync, G: Gate + Sync> ByThreads<'_, R, G> {
     }
 }
 
-impl<R: Threads + Wait + Sync, G: Gate + Sync> CallRunner for ByThreads<'_, R, G> {
-    ghost ready = { IsSync R.row × IsSync G.row };
+impl<R: Threads + Wait + Sync> CallRunner for ByThreads<'_, R> {
+    ghost ready = { IsSync R.row };
 
-    #[tactic(auto, using(overlay::proofs::Receipts::receipts_append, overlay::proofs::Receipts::after_append))]
     fn run_calls(
         &mut self,
         alloc: Global,
@@ -93,11 +111,7 @@ impl<R: Threads + Wait + Sync, G: Gate + Sync> CallRunner for ByThreads<'_, R, G
         over: &mut Overlay,
         calls: &[Call],
     ) -> Result<Vec<Receipt>, AllocError> {
-        let (first, others) = calls.split_at(calls.len().min(FIRST_CALLS));
-        let mut receipts = run_over(alloc, base, over, first)?;
-        let mut more = self.run_others(alloc, base, over, receipts.as_slice(), others)?;
-        receipts.append(&mut more)?;
-        Ok(receipts)
+        self.run_frame(alloc, base, over, calls)
     }
 }
 
