@@ -27,6 +27,14 @@ each_false access rights a (suc n) (suc i) l h =
     let e : a + suc i ≡ (a + 1) + i = omega arith in
     and_right _ _ (each_false access rights (a + 1) n i (omega arith) (rw e at h))
 
+-- each byte of a range that may be used
+pub each_of : (access : Access) (rights : List Rights) (a n : ℕ) → allows_range access rights a n ≡ true → (i : ℕ) → i < n → allows_at access rights (a + i) ≡ true
+each_of access rights a n may i l = by_byte (allows_at access rights (a + i)) refl
+  where
+    by_byte : (b : Bool) → allows_at access rights (a + i) ≡ b → allows_at access rights (a + i) ≡ true
+    by_byte true e = e
+    by_byte false e = absurd (cc (each_false access rights a n i l e, may))
+
 -- two bytes of one page
 pub may_same : (access : Access) (rights : List Rights) (a b : ℕ) → a / 4096 ≡ b / 4096 → allows_at access rights a ≡ allows_at access rights b
 may_same access rights a b h =

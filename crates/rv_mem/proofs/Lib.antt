@@ -5,3 +5,4 @@ mod Placed
 mod Pools
 mod Calls
 pub mod PageOfCode
+pub mod ProgramCode

@@ -1,5 +1,5 @@
 -- The instructions of a page of code, and what a store leaves of it.
-use Rattle.std.proofs.Common.{◌≡◌, ◌≢◌, ℕ, ◌+◌, ◌-◌, ◌/◌, ◌%◌, ◌<◌, ◌≤◌, Bool, true, false, List, ◌++◌, length, take, drop, Result, Ok, Err, Option, Some, None, IfSome, refl, sym, ap, ◌∙◌, arith, IsTrue, ◌==◌, if◌then◌else◌, length-append, length-drop, append_assoc}
+use Rattle.std.proofs.Common.{◌≡◌, ℕ, ◌+◌, ◌-◌, ◌/◌, ◌%◌, ◌<◌, ◌≤◌, Bool, true, false, List, [], ◌∷◌, ◌++◌, length, take, drop, Ok, Err, refl, sym, ap, ◌∙◌, arith, ◌==◌, if◌then◌else◌, length-append, length-drop, append_assoc}
 use native.Mathlib.Decide.{dec_lt}
 use Rattle.std.proofs.lemmas.Bool.Decides.{nat_tests}
 use Rattle.std.proofs.Math.Seq.{drop-append-add}
@@ -8,14 +8,10 @@ use Rattle.byteorder.specs.Endian.{little_bytes, little_number}
 use Rattle.byteorder.specs.Numbers.{little_from-take, length-bytes_low_first}
 use Rattle.elf32.specs.Pages.{overwritten_at}
 use Rattle.rv_mem.specs.Code.{IsCode}
-use Rattle.rv_mem.specs.Space.{AccessFault, Misaligned, MemoryFault, Space, allows_at, allows_range, from_place, loaded, place_of, stored, written}
+use Rattle.rv_mem.specs.Space.{Misaligned, MemoryFault, Space, allows_at, allows_range, copied, from_place, loaded, stored, written}
 use Rattle.rv_mem.specs.declared.access.Access.TheVariants.{Write, Execute}
-use Rattle.rv_mem.proofs.Each.{is_size, each_aligned, may_same}
-
--- what holds of a value holds of it also by what follows
-pub some_map : {X : Type 0} {P Q : X → Type 0} → (r : Option X) → ((x : X) → P x → Q x) → IfSome r P → IfSome r Q
-some_map None f h = tt
-some_map (Some x) f h = f x h
+use Rattle.rv_mem.proofs.Copied.{over_nothing}
+use Rattle.rv_mem.proofs.Each.{each_aligned, each_of, may_same}
 
 -- ---- the words of a page
 
@@ -73,56 +69,89 @@ write_before bytes new f n at h inside =
     ∙ ap (take n) (drop-drop (f - (at + length new)) (at + length new) bytes)
     ∙ ap (λ (k : ℕ). take n (drop k bytes)) same
 
--- ---- a store beside a page
+-- ---- a write beside a page
 
--- a place, where it is not refused
-abbrev bounds : Bool → Bool → ℕ → Result ℕ AccessFault
-bounds aligned allowed place = if aligned then (if allowed then Ok place else Err MemoryFault) else Err Misaligned
-
--- where it is not refused its first byte may be written
-placed : (a n : ℕ) (aligned allowed : Bool) (place : ℕ) → bounds aligned allowed (a - 65536) ≡ Ok place → (aligned ≡ true) × (allowed ≡ true) × (place ≡ a - 65536)
-placed a n true true place e = (refl, refl, cc)
-placed a n true false place e = absurd (cc)
-placed a n false allowed place e = absurd (cc)
-
--- a write keeps the number of bytes
-length_written : (bytes new : List ℕ) (at : ℕ) → at + length new ≤ length bytes → length (overwritten_at bytes at new) ≡ length bytes
+-- a write leaves no fewer bytes
+pub length_written : (bytes new : List ℕ) (at : ℕ) → at ≤ length bytes → length bytes ≤ length (overwritten_at bytes at new)
 unfolding overwritten_at
 length_written bytes new at h =
-    let size : length (take at bytes) ≡ at = length-take-le at bytes (omega arith) in
-    length-append (take at bytes ++ new) (drop (at + length new) bytes)
-    ∙ omega (arith, length-append (take at bytes) new, length-drop (at + length new) bytes)
+    let size : length (take at bytes) ≡ at = length-take-le at bytes h in
+    omega (arith, length-append (take at bytes ++ new) (drop (at + length new) bytes), length-append (take at bytes) new, length-drop (at + length new) bytes)
 
--- a store leaves a page of code
-stays_at : (n : ℕ) (memory after : Space) (a first : ℕ) (new code : List ℕ) (r : Result ℕ AccessFault) → IsTrue (is_size n) → length new ≡ n → place_of n Write memory.rights a ≡ r → from_place (written memory new) r ≡ Ok after → IsCode memory first code → IsCode after first code
-stays_at n memory after a first new code (Err cause) size new_len e h code_is = absurd (cc)
-stays_at n memory after a first new code (Ok place) size new_len e h code_is =
-    let start = code_is.start in
-    let inside : 65536 ≤ first = grind (arith, nat_tests, code_is.executable) in
-    let at = placed a n (a % n == 0) (allows_range Write memory.rights a n) place e in
-    let even : a % n ≡ 0 = grind (arith, nat_tests, at) in
-    let may : allows_at Write memory.rights a ≡ true = sym (each_aligned Write memory.rights a n size even) ∙ at.1 in
-    let low : 65536 ≤ a = grind (arith, nat_tests, may) in
-    let high : a < 1114112 = grind (arith, nat_tests, may) in
-    let apart : a / 4096 ≢ first / 4096 = λ same. absurd (cc (sym (may_same Write memory.rights a first same) ∙ may, code_is.fixed)) in
-    let fits : a % 4096 + n ≤ 4096 = grind (arith, nat_tests) in
-    let some : 0 < n = grind (arith, nat_tests) in
-    let where_is : place ≡ a - 65536 = at.2 in
-    let long = code_is.size in
-    let same : take 4096 (drop (first - 65536) (overwritten_at memory.bytes place new)) ≡ take 4096 (drop (first - 65536) memory.bytes) =
+-- a write leaves a page of code where it leaves its bytes
+beside : (memory : Space) (first place : ℕ) (new code : List ℕ) → place ≤ length memory.bytes → IsCode memory first code → take 4096 (drop (first - 65536) (overwritten_at memory.bytes place new)) ≡ take 4096 (drop (first - 65536) memory.bytes) → IsCode (written memory new place) first code
+beside memory first place new code inside is same =
+    let long : 1048576 ≤ length memory.bytes = is.size in
+    let more = length_written memory.bytes new place inside in
+    record {
+      size = omega (arith, long, more);
+      start = is.start;
+      executable = is.executable;
+      fixed = is.fixed;
+      bytes = is.bytes ∙ sym same;
+    }
+
+-- so does a write of which each byte may be stored to
+pub write_stays : (memory : Space) (a first : ℕ) (new code : List ℕ) → allows_range Write memory.rights a (length new) ≡ true → IsCode memory first code → IsCode (written memory new (a - 65536)) first code
+write_stays memory a first [] code may is = rw (over_nothing memory.bytes (a - 65536) [] refl) is
+write_stays memory a first (x ∷ xs) code may is =
+    let new : List ℕ = x ∷ xs in
+    let start = is.start in
+    let inside : 65536 ≤ first = grind (arith, nat_tests, is.executable) in
+    let each : (i : ℕ) → i < length new → allows_at Write memory.rights (a + i) ≡ true = each_of Write memory.rights a (length new) may in
+    let begin : a + 0 ≡ a = omega arith in
+    let here : allows_at Write memory.rights a ≡ true = rw begin at (each 0 (omega arith)) in
+    let low : 65536 ≤ a = grind (arith, nat_tests, here) in
+    let high : a < 1114112 = grind (arith, nat_tests, here) in
+    let long : 1048576 ≤ length memory.bytes = is.size in
     elim (dec_lt a first) [
-      | yes below ↦ write_before memory.bytes new (first - 65536) 4096 place (omega arith) (omega arith)
-      | no above ↦ write_after memory.bytes new (first - 65536) 4096 place (omega arith) (omega arith)
-    ] in
-    let is : after ≡ written memory new place = cc in
-    rw is (record {
-      size = length_written memory.bytes new place (omega arith) ∙ long;
-      start = code_is.start;
-      executable = code_is.executable;
-      fixed = code_is.fixed;
-      bytes = code_is.bytes ∙ sym same;
-    })
+      | yes below ↦ elim (dec_lt first (a + length new)) [
+        | yes over ↦
+            let place : a + (first - a) ≡ first = omega arith in
+            absurd (cc (rw place at (each (first - a) (omega arith)), is.fixed))
+        | no under ↦ beside memory first (a - 65536) new code (omega arith) is (write_before memory.bytes new (first - 65536) 4096 (a - 65536) (omega arith) (omega arith))
+      ]
+      | no above ↦ elim (dec_lt a (first + 4096)) [
+        | yes in_page ↦
+            let page : a / 4096 ≡ first / 4096 = omega arith in
+            absurd (cc (sym (may_same Write memory.rights a first page) ∙ here, is.fixed))
+        | no past ↦ beside memory first (a - 65536) new code (omega arith) is (write_after memory.bytes new (first - 65536) 4096 (a - 65536) (omega arith) (omega arith))
+      ]
+    ]
 
-pub code_stays : (n : ℕ) (memory after : Space) (a value first : ℕ) (code : List ℕ) → IsTrue (is_size n) → stored n memory a value ≡ Ok after → IsCode memory first code → IsCode after first code
-code_stays n memory after a value first code size h code_is =
-    stays_at n memory after a first (little_bytes n value) code (place_of n Write memory.rights a) size (length-bytes_low_first 0 n value) refl h code_is
+-- ---- stores and copies
+
+-- memory after a change that leaves its rights and its pages of code
+pub record Keeps (memory after : Space) : Type 0 where
+  pub rights : after.rights ≡ memory.rights
+  pub code : (first : ℕ) (code : List ℕ) → IsCode memory first code → IsCode after first code
+
+pub keeps_same : (memory : Space) → Keeps memory memory
+keeps_same memory = record { rights = refl; code = λ first code is. is }
+
+pub keeps_written : (memory : Space) (a : ℕ) (new : List ℕ) → allows_range Write memory.rights a (length new) ≡ true → Keeps memory (written memory new (a - 65536))
+keeps_written memory a new may = record { rights = refl; code = λ first code is. write_stays memory a first new code may is }
+
+-- a store that is not refused
+stored_cases : (memory after : Space) (a : ℕ) (new : List ℕ) (aligned allowed : Bool) → allows_range Write memory.rights a (length new) ≡ allowed → from_place (written memory new) (if aligned then (if allowed then Ok (a - 65536) else Err MemoryFault) else Err Misaligned) ≡ Ok after → Keeps memory after
+stored_cases memory after a new true true may e = let is : after ≡ written memory new (a - 65536) = cc in rw is (keeps_written memory a new may)
+stored_cases memory after a new true false may e = absurd (cc)
+stored_cases memory after a new false allowed may e = absurd (cc)
+
+pub keeps_stored : (n : ℕ) (memory after : Space) (a value : ℕ) → stored n memory a value ≡ Ok after → Keeps memory after
+keeps_stored n memory after a value e =
+    let size : length (little_bytes n value) ≡ n = length-bytes_low_first 0 n value in
+    stored_cases memory after a (little_bytes n value) (a % n == 0) (allows_range Write memory.rights a n) (rw size refl) e
+
+-- a copy that is not refused
+copied_cases : (memory after : Space) (a : ℕ) (new : List ℕ) (allowed : Bool) → allows_range Write memory.rights a (length new) ≡ allowed → copied memory a new ≡ Ok after → Keeps memory after
+copied_cases memory after a new true may e =
+    let done : Ok (written memory new (a - 65536)) ≡ Ok after = rw may at e in
+    let is : after ≡ written memory new (a - 65536) = cc in
+    rw is (keeps_written memory a new may)
+copied_cases memory after a new false may e =
+    let refused : Err MemoryFault ≡ Ok after = rw may at e in
+    absurd (cc)
+
+pub keeps_copied : (memory after : Space) (a : ℕ) (new : List ℕ) → copied memory a new ≡ Ok after → Keeps memory after
+keeps_copied memory after a new e = copied_cases memory after a new (allows_range Write memory.rights a (length new)) refl e

@@ -3,14 +3,14 @@
 #![tactic(auto)]
 
 mod access;
-mod code_page;
+mod code;
 mod fault;
 mod memory;
 mod pages;
 mod rights;
 
 pub use access::Access;
-pub use code_page::{CodePage, word_in};
+pub use code::{code_page, word_in};
 pub use fault::Fault;
 pub use memory::Memory;
 pub use pages::PageRoom;

@@ -1,9 +1,8 @@
 //! The memory of one call.
 
-ghost use Rattle.std.specs.Prelude.{◌≡◌, ◌<◌, ◌≤◌, ◌+◌, ◌-◌, ◌^◌, ◌↔◌, true, length, Ok, IfOk, OnOk, IsOk, IfErr, IfSome};
+ghost use Rattle.std.specs.Prelude.{◌≡◌, ◌<◌, ◌≤◌, ◌+◌, ◌-◌, ◌^◌, ◌↔◌, true, length, Ok, IfOk, OnOk, IsOk, IfErr};
 ghost use Rattle.elf32.specs.Extent.{end_address, first_address, input_address};
 ghost use Rattle.elf32.specs.Pages.{overwritten_at};
-ghost use Rattle.rv_mem.specs.Code.{IsCode, page_of};
 ghost use Rattle.rv_mem.specs.Paged.{IsPaged, base_of, memory_bytes};
 ghost use Rattle.rv_mem.specs.Space.{as_answer, bytes_at, allows_range, loaded, stored, copied, LeavesMemory};
 ghost use Rattle.rv_mem.specs.Start.{start_space};
@@ -11,11 +10,9 @@ ghost use Rattle.rv_mem.specs.declared.access.Access.TheVariants.{Read, Write, E
 ghost use Rattle.rv_mem.specs.declared.fault.Fault.TheVariants.{MemoryFault};
 
 use crate::access::Access;
-use crate::code_page::CodePage;
 use crate::fault::Fault;
 use crate::pages::{
-    PageRoom, Pages, byte_at, code_page, halfword_at, program_pages, read, word_at, write,
-    write_in_page,
+    PageRoom, Pages, byte_at, halfword_at, program_pages, read, word_at, write, write_in_page,
 };
 use crate::rights::{place, range_has};
 use byteorder::{ByteOrder, LittleEndian};
@@ -93,15 +90,6 @@ impl Memory {
     {
         let at = place(&self.pages.base.rights, Access::Execute, address, 4)?;
         Ok(word_at(&self.pages, at))
-    }
-
-    /// The page of the address, if its instructions can be taken from there as long as the call runs: the page is the
-    /// program's, and may be executed and not stored to. None else, and where the program has as many owners as it
-    /// can have.
-    pub fn code_page(&self, address: u32) -> Option<CodePage>
-        ensures { IfSome result (λ page. IsCode self.now (page_of address) page) }
-    {
-        code_page(&self.pages, address)
     }
 
     /// The byte at the address, or MemoryFault where it may not be loaded.

@@ -1,19 +1,15 @@
 //! Reads and writes of bytes that stand in pages. A page is shared with the program until it is written.
 
-ghost use Rattle.std.specs.Prelude.{◌≡◌, ◌+◌, ◌/◌, ◌%◌, ◌-◌, ◌^◌, ◌≤◌, ◌<◌, ◌++◌, ℕ, length, take, drop, slice_index, OnOk, OnErr, IfOk, IfSome};
+ghost use Rattle.std.specs.Prelude.{◌≡◌, ◌+◌, ◌/◌, ◌%◌, ◌-◌, ◌^◌, ◌≤◌, ◌<◌, ◌++◌, ℕ, length, take, drop, slice_index, OnOk, OnErr, IfOk};
 ghost use Rattle.byteorder.specs.Endian.{little_number};
 ghost use Rattle.elf32.specs.Extent.{first_address, memory_size, page_count, page_size};
 ghost use Rattle.elf32.specs.Pages.{overwritten_at, page_at, page_rights, segment_bytes};
 ghost use Rattle.elf32.specs.Places.{first_own};
-ghost use Rattle.rv_mem.specs.Code.{IsCode, page_of};
-ghost use Rattle.rv_mem.specs.Paged.{IsPaged, AreOwn, base_of, memory_bytes, space_of};
+ghost use Rattle.rv_mem.specs.Paged.{IsPaged, AreOwn, base_of, memory_bytes};
 
-use crate::access::Access;
-use crate::code_page::CodePage;
-use crate::rights::allows_at;
 use byteorder::{ByteOrder, LittleEndian};
 use elf32::bytes::put;
-use elf32::extent::{FIRST_ADDRESS, PAGE_SIZE};
+use elf32::extent::PAGE_SIZE;
 use elf32::{BasePages, Image, Page, PagePlace};
 use std::alloc::{AllocError, Global};
 use std::slice::from_ref;
@@ -269,23 +265,6 @@ pub fn word_at(pages: &Pages, at: usize) -> u32
     ensures { result ≡ little_number 4 (drop at (memory_bytes pages.now)) }
 {
     LittleEndian::read_u32(rest_of_page(pages, at))
-}
-
-/// The page of the address where it is one of the program's, and may be executed and not stored to. None else, and
-/// where the program has as many owners as it can have.
-pub fn code_page(pages: &Pages, address: u32) -> Option<CodePage>
-    requires { IsPaged pages.now }
-    ensures { IfSome result (λ page. IsCode (space_of pages.now) (page_of address) page) }
-{
-    let rights = &pages.base.rights;
-    if !allows_at(rights, Access::Execute, address) || allows_at(rights, Access::Write, address) {
-        return None;
-    }
-    let place = pages.index[(address - FIRST_ADDRESS) as usize / PAGE_SIZE];
-    if !place.is_shared() {
-        return None;
-    }
-    CodePage::of(&pages.base, place.in_program())
 }
 
 /// Fills `out` with the bytes from a place in memory on.

@@ -3,7 +3,7 @@
 ghost use Rattle.std.specs.Prelude.{◌≡◌, ◌+◌, ◌%◌, ◌≤◌, ◌<◌, ◌==◌, ◌||◌, length, IfOk, IsTrue};
 ghost use Rattle.elf32.specs.Extent.{end_address, first_address, memory_size, page_count, page_size};
 ghost use Rattle.rv_mem.specs.Paged.{is_open};
-ghost use Rattle.rv_mem.specs.Space.{allows_at, allows_range, as_answer, place_of};
+ghost use Rattle.rv_mem.specs.Space.{allows_range, as_answer, place_of};
 
 use crate::access::Access;
 use crate::fault::Fault;
@@ -15,17 +15,6 @@ const PAGE: u32 = PAGE_SIZE as u32;
 
 /// The number of bytes of memory.
 const MEMORY_SIZE: u32 = END_ADDRESS - FIRST_ADDRESS;
-
-/// Whether the byte at the address lies in memory and its page allows the access.
-#[inline(always)]
-pub fn allows_at(rights: &[Rights], access: Access, address: u32) -> bool
-    requires { length rights.now ≡ page_count }
-    ensures { result ≡ allows_at access rights.now address }
-{
-    FIRST_ADDRESS <= address
-        && address < END_ADDRESS
-        && access.is_allowed_by(rights[((address - FIRST_ADDRESS) / PAGE) as usize])
-}
 
 /// Whether each of the `len` bytes from the address on lies in memory and its page allows the access.
 /// Addresses do not wrap. For `len` 0 it is true at any address.

@@ -1,4 +1,5 @@
 mod PageSteps
+mod ProgramSteps
 mod Named
 mod Refused
 pub mod Falls

@@ -1,11 +1,10 @@
 -- Steps of a machine in a page of code.
-use Rattle.std.proofs.Common.{◌≡◌, ℕ, zero, suc, ◌+◌, ◌-◌, ◌%◌, ◌^◌, ◌<◌, ◌≤◌, ◌==◌, ◌||◌, pos, ◌+ℤ◌, Bool, true, false, nat_le, if◌then◌else◌, List, Option, Some, None, Result, Ok, Err, IsTrue, refl, sym, ap, ◌∙◌, arith}
+use Rattle.std.proofs.Common.{◌≡◌, ℕ, zero, suc, ◌+◌, ◌-◌, ◌%◌, ◌^◌, ◌<◌, ◌≤◌, ◌==◌, pos, ◌+ℤ◌, Bool, true, false, nat_le, if◌then◌else◌, List, Option, Some, None, Result, Ok, Err, IsTrue, refl, sym, ap, ◌∙◌, arith}
 use Rattle.std.proofs.lemmas.Bool.Decides.{nat_tests}
 use Rattle.std.proofs.lemmas.Int.{ints}
 use Rattle.rv_mem.specs.Code.{IsCode, word_in}
 use Rattle.ecalls.specs.StorageCalls.{ecall_charge}
 use Rattle.gas.specs.Costs.{cost_of}
-use Rattle.std.specs.Bool.{OnTrue}
 use Rattle.rv_alu.specs.Accesses.{extended_of, store_width, width_of}
 use Rattle.rv_alu.specs.Branches.{is_taken}
 use Rattle.rv_alu.specs.Effects.{effect_of, is_plain, jumped, onward, register_value}
@@ -17,12 +16,11 @@ use Rattle.rv_isa.specs.declared.instruction.Instr.{Instr}
 use Rattle.rv_isa.specs.declared.instruction.Instr.TheVariants.{Lui, Auipc, Jal, Jalr, Branch, Load, Store, ComputeImmediate, ShiftImmediate, Compute, Fence, Ecall, Ebreak}
 use Rattle.rv_isa.specs.declared.instruction.LoadKind.{LoadKind}
 use Rattle.rv_isa.specs.declared.instruction.StoreKind.{StoreKind}
-use Rattle.rv_isa.specs.declared.instruction.StoreKind.TheVariants.{Sb, Sh, Sw}
 use Rattle.rv_isa.specs.declared.operands.Immediate.{Immediate}
 use Rattle.rv_isa.specs.declared.register.Reg.{Reg}
 use Rattle.rv_mem.specs.Space.{AccessFault, Space, as_answer, loaded, stored}
 use Rattle.rv_mem.specs.declared.access.Access.TheVariants as access
-use Rattle.rv_mem.proofs.PageOfCode.{code_stays, code_word}
+use Rattle.rv_mem.proofs.PageOfCode.{code_word, keeps_stored}
 use Rattle.rv_step.specs.declared.machine.Machine.{Machine}
 use Rattle.rv_step.specs.PageSteps.{GoesOn}
 use Rattle.rv_step.specs.Step.{Progress, Going, Leads, address_of, charged, compute_result, decode_result, ecall_result, fetch_result, instruction_result, is_ecall, load_result, memory_result, step}
@@ -147,18 +145,13 @@ load_goes kind rd base offset s number enough e =
       even = next_even s.pc;
     }
 
-width_is : (kind : StoreKind) → IsTrue (store_width kind == 1 || store_width kind == 2 || store_width kind == 4)
-width_is Sb = refl
-width_is Sh = refl
-width_is Sw = refl
-
 pub store_goes : (kind : StoreKind) (source base : Reg) (offset : Immediate) (s : Machine) (memory : Space) → 2 ≤ s.gas → stored (store_width kind) s.memory (address_of s base offset) (register_value s.regs source) ≡ Ok memory → GoesOn (Some (Store kind source base offset)) s (record s { pc = (s.pc + 4) % 2 ^ 32; gas = s.gas - 2; memory = memory })
 unfolding instruction_result
 store_goes kind source base offset s memory enough e =
     let t : Machine = record s { gas = s.gas - 2 } in
     record {
       made = ap Leads (paid 2 s (instruction_result (Store kind source base offset)) enough ∙ ap (memory_result t s.regs) e ∙ ap (λ (pc : ℕ). Going (record t { pc = pc; memory = memory })) (next_pc s.pc));
-      stays = λ first code is. code_stays (store_width kind) s.memory memory (address_of s base offset) (register_value s.regs source) first code (width_is kind) e is;
+      stays = (keeps_stored (store_width kind) s.memory memory (address_of s base offset) (register_value s.regs source) e).code;
       even = next_even s.pc;
     }
 
@@ -194,11 +187,6 @@ pub reached_on : (m : ℕ) (r s t : Machine) → (n : ℕ) × Reaches n r s → 
 unfolding Reaches
 reached_on zero r s t before reached = rw reached before
 reached_on (suc m) r s t before reached = further r reached.0 t (reached_on m r s reached.0 before reached.1) reached.2
-
--- what is said of a test that holds
-pub when_true : {P : Type 0} → (b : Bool) → (b ≡ true → P) → OnTrue b P
-when_true true h = h refl
-when_true false h = tt
 
 -- instructions up to one with this result, after steps
 pub meets_on : (result : Result InstructionOutcome AllocError) (r s t : Machine) → (n : ℕ) × Reaches n r s → MeetsInstructions result s t → MeetsInstructions result r t

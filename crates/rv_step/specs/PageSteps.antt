@@ -1,9 +1,13 @@
 -- Private help of proofs; no public clause cites it. Steps of a machine in a page of code, which changes no byte of the page.
-use Rattle.std.specs.Prelude.{◌≡◌, ℕ, ◌+◌, ◌%◌, ◌^◌, Bool, true, false, List, Option}
+use Rattle.std.specs.Prelude.{◌≡◌, ◌<◌, ℕ, ◌+◌, ◌%◌, ◌^◌, Bool, true, false, List, Option, Some}
 use Rattle.rv_isa.specs.declared.instruction.Instr.{Instr}
+use Rattle.rv_isa.specs.declared.instruction.Instr.TheVariants as instruction
 use Rattle.rv_mem.specs.Code.{IsCode}
 use Rattle.rv_step.specs.declared.machine.Machine.{Machine}
 use Rattle.rv_step.specs.declared.page_loop.Position.{Position}
+use Rattle.rv_step.specs.declared.page_loop.PageEnd.{PageEnd}
+use Rattle.rv_step.specs.declared.page_loop.PageEnd.TheVariants.{Left, Ecall, Stopped}
+use Rattle.rv_step.specs.Growth.{instruction_at}
 use Rattle.rv_step.specs.Step.{Leads, Going, decode_result}
 
 -- a machine that has its pc and its gas in a position, in the page from `first` on
@@ -20,3 +24,9 @@ pub record GoesOn (instr : Option Instr) (s t : Machine) : Type 0 where
 abbrev pub MeetsTry : Bool → Option Instr → Machine → Machine → Type 0
 MeetsTry true instr s t = GoesOn instr s t
 MeetsTry false instr s t = t ≡ s
+
+-- how the loop over a page ends, from s at t: it leaves the page after a step, which takes gas, or t stands at an ECALL
+abbrev pub MeetsPageEnd : PageEnd → Machine → Machine → Type 0
+MeetsPageEnd Left s t = t.gas < s.gas
+MeetsPageEnd Ecall s t = instruction_at t ≡ Some instruction.Ecall
+MeetsPageEnd Stopped s t = Unit {0}

@@ -6,6 +6,7 @@ ghost use Rattle.rv_alu.specs.Effects.{effect_of, register_value, is_plain};
 ghost use Rattle.rv_ledger.specs.declared.end.End.TheVariants.{OutOfGas, Trapped};
 ghost use Rattle.rv_isa.specs.Decoded.{decoded};
 ghost use Rattle.rv_isa.specs.declared.instruction.Instr.TheVariants.{Load, Store};
+ghost use Rattle.rv_mem.specs.Code.{HasCode};
 ghost use Rattle.rv_mem.specs.Space.{LeavesMemory, as_answer, loaded, stored};
 ghost use Rattle.rv_mem.specs.declared.access.Access.TheVariants as access;
 
@@ -13,6 +14,7 @@ use crate::accesses::{number_at, store_number};
 use crate::faults::{refusal, trap_of};
 use crate::outcome::{InstructionOutcome, is_ecall};
 use ecalls::Trap;
+use elf32::BasePages;
 use elf32::extent::{END_ADDRESS, INPUT_ADDRESS};
 use gas::{Meter, cost};
 use rv_alu::{address, execute, extended};
@@ -66,13 +68,17 @@ impl Machine {
 
     /// Executes instructions up to and including the first one after which the machine does not go on. An
     /// ECALL is only found: the machine stops before it. Refused where memory ran out; then the machine
-    /// stands before the instruction that needed memory.
-    pub(crate) fn execute_until_stop(&mut self) -> Result<InstructionOutcome, AllocError>
+    /// stands before the instruction that needed memory. `program` has the pages of the machine's program.
+    pub(crate) fn execute_until_stop(
+        &mut self,
+        program: &BasePages,
+    ) -> Result<InstructionOutcome, AllocError>
+        requires { HasCode self.old.memory program.now }
         ensures did { MeetsInstructions result self.old self.new }
         ensures last { IfOk result (λ outcome. is_next outcome ≡ false) }
     {
         loop {
-            let outcome = match self.execute_next() {
+            let outcome = match self.execute_next(program) {
                 Ok(outcome) => outcome,
                 Err(refused) => return Err(refused),
             };

@@ -3,6 +3,7 @@
 ghost use Rattle.std.specs.FinMap as map;
 ghost use Rattle.std.specs.Option.{option_copied};
 ghost use Rattle.std.specs.Prelude.{◌≡◌, ◌<◌, IfOk, OnOk, false};
+ghost use Rattle.rv_mem.specs.Code.{HasCode};
 ghost use Rattle.rv_ledger.specs.Key.{Storage};
 ghost use Rattle.rv_ledger.specs.Call.{Invocation};
 ghost use Rattle.rv_step.specs.Chain.{ends};
@@ -12,6 +13,7 @@ ghost use Rattle.rv_step.specs.Run.{left_for};
 use crate::machine::Machine;
 use crate::run::{receipt, run_until_stop};
 use crate::stage::{Stage, is_ended};
+use elf32::BasePages;
 use rv_ledger::{Call, Key, Receipt, Store, StoredValue};
 use rv_mem::PageRoom;
 use std::alloc::{AllocError, Global};
@@ -45,9 +47,10 @@ pub fn receipt_over<S: Contents>(
     ensures { IfOk result (λ r. r ≡ ends call.now (S.storage store.now)) }
 {
     let mut machine = Machine::start(alloc, replace(room, PageRoom::new(alloc)), call)?;
+    let program: &BasePages = call.image().base();
     let mut stage = Stage::Running;
     while !is_ended(&stage) {
-        go_on_over(&mut machine, &mut stage, store)?;
+        go_on_over(&mut machine, program, &mut stage, store)?;
     }
     match stage {
         Stage::Ended(end, out) => {
@@ -60,18 +63,21 @@ pub fn receipt_over<S: Contents>(
 }
 
 /// Goes on with a call that has not ended: gives it what the storage has at the key that it asks for, or else
-/// makes steps up to the next ECALL or the end. Refused where memory ran out.
+/// makes steps up to the next ECALL or the end. Refused where memory ran out. `program` has the pages of the call's
+/// program.
 fn go_on_over<S: Contents>(
     machine: &mut Machine,
+    program: &BasePages,
     stage: &mut Stage,
     store: &S,
 ) -> Result<(), AllocError>
-    requires { is_ended stage.old ≡ false }
+    requires going { is_ended stage.old ≡ false }
+    requires code { HasCode machine.old.memory program.now }
     ensures over { OnOk result ((call : Invocation) → IsBeginningOver call (S.storage store.now) machine.old stage.old → IsBeginningOver call (S.storage store.now) machine.new stage.new) }
     ensures fewer { OnOk result (left_for machine.new.gas stage.new < left_for machine.old.gas stage.old) }
 {
     match stage {
-        Stage::Running => run_until_stop(machine, stage),
+        Stage::Running => run_until_stop(machine, program, stage),
         Stage::Asked(key) => {
             let key = *key;
             let content = StoredValue::bytes_of(store.get(&key));

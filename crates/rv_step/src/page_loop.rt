@@ -4,22 +4,22 @@
 ghost use Rattle.std.specs.Prelude.{◌≡◌, ◌≤◌, ◌<◌, ◌+◌, ◌-◌, ◌*◌, ◌%◌, ◌^◌, ℕ, IsTrue, Some};
 ghost use Rattle.rv_alu.specs.Effects.{is_plain};
 ghost use Rattle.rv_isa.specs.declared.instruction.Instr.TheVariants.{Load, Store, Ecall};
-ghost use Rattle.rv_mem.specs.Code.{IsCode};
+ghost use Rattle.rv_mem.specs.Code.{HasCode, IsCode, page_of};
 ghost use Rattle.rv_step.specs.Growth.{instruction_at};
 ghost use Rattle.rv_step.specs.Meets.{MeetsInstructions, Reaches};
-ghost use Rattle.rv_step.specs.PageSteps.{MeetsTry, machine_at};
+ghost use Rattle.rv_step.specs.PageSteps.{MeetsPageEnd, MeetsTry, machine_at};
 ghost use Rattle.std.specs.Bool.{OnTrue};
 
 use crate::accesses::{number_at, store_number};
 use crate::fields::ECALL;
 use crate::machine::Machine;
 use crate::outcome::InstructionOutcome;
-use elf32::Page;
 use elf32::extent::PAGE_SIZE;
+use elf32::{BasePages, Page};
 use gas::{Meter, cost};
 use rv_alu::{address, execute, extended};
 use rv_isa::{Immediate, Instr, LoadKind, Reg, StoreKind};
-use rv_mem::word_in;
+use rv_mem::{code_page, word_in};
 use std::alloc::AllocError;
 
 /// The number of bytes of a page.
@@ -33,6 +33,17 @@ pub struct Position {
     pub offset: u64,
     /// The gas that is left.
     pub gas: u32,
+}
+
+/// How the loop over a page ends.
+#[derive(Clone, Copy)]
+pub enum PageEnd {
+    /// The machine has made a step, and stands in another page.
+    Left,
+    /// It stands at an ECALL.
+    Ecall,
+    /// It stands at an instruction that is not made here.
+    Stopped,
 }
 
 impl Position {
@@ -137,15 +148,15 @@ impl Machine {
 }
 
 impl Machine {
-    /// Makes steps in a page of code, up to the first that leaves the page or is not made here. It says whether the
-    /// machine stands at an ECALL then. It is a function of its own, since its loop runs faster without the calls of
-    /// the machine's other loop.
+    /// Makes steps in the page of the pc, a page of code, up to the first that leaves the page or is not made here. It is a
+    /// function of its own, since its loop runs faster without the calls of the machine's other loop.
     #[inline(never)]
-    fn execute_in_page(&mut self, code: &Page, first: u32) -> bool
+    fn execute_in_page(&mut self, code: &Page, first: u32) -> PageEnd
         requires code { IsCode self.old.memory first code.now }
         requires even { self.old.pc % 4 ≡ 0 }
+        requires page { first ≡ page_of self.old.pc }
         ensures reached { (n : ℕ) × Reaches n self.old self.new }
-        ensures ecall { OnTrue result (instruction_at self.new ≡ Some Ecall) }
+        ensures end { MeetsPageEnd result self.old self.new }
     {
         let mut position = Position {
             offset: u64::from(self.pc.wrapping_sub(first)),
@@ -155,11 +166,15 @@ impl Machine {
             let word = word_in(code, position.offset as usize);
             if !self.step_word(word, first, &mut position) {
                 self.stand_at(first, position);
-                return word == ECALL;
+                return if word == ECALL {
+                    PageEnd::Ecall
+                } else {
+                    PageEnd::Stopped
+                };
             }
         }
         self.stand_at(first, position);
-        false
+        PageEnd::Left
     }
 
     /// Puts the machine where a position is in the page of this first address.
@@ -171,27 +186,37 @@ impl Machine {
         self.gas = Meter::new(position.gas);
     }
 
-    /// Makes steps in the page of the pc where that is a page of code, as `execute_in_page` does.
-    fn execute_in_code(&mut self) -> bool
+    /// Makes steps in the pages of code of the program, from page to page, up to the first that is not made there. It says
+    /// whether the machine stands at an ECALL then.
+    fn execute_in_code(&mut self, program: &BasePages) -> bool
+        requires { HasCode self.old.memory program.now }
         ensures reached { (n : ℕ) × Reaches n self.old self.new }
         ensures ecall { OnTrue result (instruction_at self.new ≡ Some Ecall) }
     {
-        let pc = self.pc;
-        if pc % 4 != 0 {
-            return false;
+        while self.pc % 4 == 0 {
+            let pc = self.pc;
+            let Some(page) = code_page(program, pc) else {
+                return false;
+            };
+            match self.execute_in_page(page, pc - pc % PAGE as u32) {
+                PageEnd::Left => {}
+                PageEnd::Ecall => return true,
+                PageEnd::Stopped => return false,
+            }
         }
-        match self.memory.code_page(pc) {
-            Some(page) => self.execute_in_page(page.bytes(), pc - pc % PAGE as u32),
-            None => false,
-        }
+        false
     }
 
-    /// Makes steps in the page of the pc, and then one more if the machine does not stand at an ECALL. Refused where
-    /// memory ran out; then the machine stands before the instruction that needed memory.
-    pub(crate) fn execute_next(&mut self) -> Result<InstructionOutcome, AllocError>
+    /// Makes steps in the pages of code of the program, and then one more if the machine does not stand at an ECALL. Refused
+    /// where memory ran out; then the machine stands before the instruction that needed memory.
+    pub(crate) fn execute_next(
+        &mut self,
+        program: &BasePages,
+    ) -> Result<InstructionOutcome, AllocError>
+        requires { HasCode self.old.memory program.now }
         ensures { MeetsInstructions result self.old self.new }
     {
-        if self.execute_in_code() {
+        if self.execute_in_code(program) {
             return Ok(InstructionOutcome::StorageCall);
         }
         self.execute_instruction()

@@ -2,6 +2,7 @@
 
 ghost use Rattle.std.specs.Prelude.{◌≡◌, ◌≤◌, IfOk, IfSome, length};
 ghost use Rattle.std.specs.Option.{option_copied};
+ghost use Rattle.rv_mem.specs.Code.{HasCode};
 ghost use Rattle.rv_step.specs.Chain.{receipt_of};
 ghost use Rattle.rv_step.specs.Meets.{MeetsSteps};
 ghost use Rattle.rv_step.specs.declared.stage.Stage.TheVariants.{Running};
@@ -12,6 +13,7 @@ use crate::machine::Machine;
 use crate::outcome::InstructionOutcome;
 use crate::stage::{Stage, end_with};
 use crate::storage_calls::bytes_of;
+use elf32::BasePages;
 use read_set::Origin;
 use rv_ledger::{Call, End, Key, Receipt, StoredOutput, StoredValue, Value};
 use rv_mem::PageRoom;
@@ -154,7 +156,7 @@ impl Run {
         ensures stopped { OnErr result (IsTrue (is_running self.new.stage)) }
         ensures grows { OnErr result (TakesMemory self.new.machine) }
     {
-        run_until_stop(&mut self.machine, &mut self.stage)
+        run_until_stop(&mut self.machine, self.call.image().base(), &mut self.stage)
     }
 
     /// Why the run stands still. It must not be running.
@@ -274,11 +276,17 @@ fn make_room(answers: &mut Vec<StorageAnswer>) -> Result<(), AllocError>
 
 /// Makes steps of a machine that is running, up to and including the first ECALL, or up to the end of the
 /// call. Refused where memory ran out; then the machine stands before the instruction that needed memory.
-pub(crate) fn run_until_stop(machine: &mut Machine, stage: &mut Stage) -> Result<(), AllocError>
-    requires { stage.old ≡ Running }
+/// `program` has the pages of the machine's program.
+pub(crate) fn run_until_stop(
+    machine: &mut Machine,
+    program: &BasePages,
+    stage: &mut Stage,
+) -> Result<(), AllocError>
+    requires running { stage.old ≡ Running }
+    requires code { HasCode machine.old.memory program.now }
     ensures { MeetsSteps result stage.new machine.old machine.new }
 {
-    match machine.execute_until_stop()? {
+    match machine.execute_until_stop(program)? {
         InstructionOutcome::Next => unreachable!(),
         InstructionOutcome::StorageCall => machine.execute_ecall(stage)?,
         InstructionOutcome::End(end) => end_with(stage, machine.own.allocator(), end),

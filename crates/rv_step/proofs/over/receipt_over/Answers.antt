@@ -1,15 +1,22 @@
+use Rattle.std.specs.Arc.{arc_value}
 use Rattle.rv_step.specs.declared.stage.Stage.TheVariants.{Ended}
 use Rattle.rv_step.specs.Over.{IsBeginningOver}
+use Rattle.rv_step.proofs.ProgramSteps.{over_code}
 use Rattle.rv_step.proofs.StorageRuns.{ended_over, starts_over}
 use Rattle.rv_step.proofs.over.receipt_over.Goals as goal
 
-pub loop-machine-init : goal.loop-machine-init
-loop-machine-init g c = rw c.in_ok-machine.ensures (starts_over c.args.call.now (g.S.Contents.storage c.args.store.now))
+pub loop-program-init : goal.loop-program-init
+loop-program-init g c = rw c.in_ok-machine.ensures (starts_over c.args.call.now (g.S.Contents.storage c.args.store.now))
 
-pub loop-machine-preserved : goal.loop-machine-preserved
-loop-machine-preserved g c = c.in_ok-go_on_over.ensures.over c.args.call.now c.loop-machine.invariant
+pub go_on_over-requires-clause-code : goal.go_on_over-requires-clause-code
+go_on_over-requires-clause-code g c =
+    rw c.deref-program.ensures
+    (over_code (arc_value c.base.result.now) c.args.call.now (g.S.Contents.storage c.args.store.now) c.loop-program.machine c.loop-program.stage c.loop-program.invariant (rw c.image.ensures at c.base.ensures))
+
+pub loop-program-preserved : goal.loop-program-preserved
+loop-program-preserved g c = c.in_ok-go_on_over.ensures.over c.args.call.now c.loop-program.invariant
 
 pub returns : goal.returns
 returns g c =
-    let over : IsBeginningOver c.args.call.now (g.S.Contents.storage c.args.store.now) c.loop-machine.machine (Ended c.in-Ended.end c.in-Ended.out) = rw c.in-Ended.is at c.loop-machine.invariant in
-    rw (c.receipt-receipt.ensures, c.gas.ensures.value) (ended_over c.args.call.now (g.S.Contents.storage c.args.store.now) c.loop-machine.machine c.in-Ended.end c.in-Ended.out over)
+    let over : IsBeginningOver c.args.call.now (g.S.Contents.storage c.args.store.now) c.loop-program.machine (Ended c.in-Ended.end c.in-Ended.out) = rw c.in-Ended.is at c.loop-program.invariant in
+    rw (c.receipt-receipt.ensures, c.gas.ensures.value) (ended_over c.args.call.now (g.S.Contents.storage c.args.store.now) c.loop-program.machine c.in-Ended.end c.in-Ended.out over)

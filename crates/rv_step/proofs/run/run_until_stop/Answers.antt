@@ -6,7 +6,7 @@ use Rattle.rv_step.proofs.run.run_until_stop.Goals as goal
 pub returns-in_err-execute_until_stop : goal.returns-in_err-execute_until_stop
 returns-in_err-execute_until_stop c =
     let refused = err_from_is_err_and c.from_residual.result c.from_residual.ensures.1 in
-    rw (refused.1, c.requires) (refused_stops _ _ _ c.in_err-execute_until_stop.ensures.did)
+    rw (refused.1, c.requires.running) (refused_stops _ _ _ c.in_err-execute_until_stop.ensures.did)
 
 pub returns-in_err-execute_ecall-in-StorageCall : goal.returns-in_err-execute_ecall-in-StorageCall
 returns-in_err-execute_ecall-in-StorageCall c =

@@ -1,4 +1,4 @@
-use Rattle.std.proofs.Common.{◌≡◌, ◌+◌, ◌-◌, ◌%◌, ◌^◌, ap, ◌∙◌, arith}
+use Rattle.std.proofs.Common.{◌≡◌, ◌<◌, ◌≤◌, ◌+◌, ◌-◌, ◌%◌, ◌^◌, inl, inr, ap, ◌∙◌, arith}
 use Rattle.std.proofs.lemmas.Bool.Decides.{nat_tests}
 use Rattle.rv_isa.specs.Decoded.{decoded}
 use Rattle.rv_mem.specs.Code.{word_in}
@@ -6,8 +6,8 @@ use Rattle.rv_step.specs.Growth.{instruction_at}
 use Rattle.rv_step.specs.PageSteps.{GoesOn, machine_at}
 use Rattle.rv_step.specs.Step.{Leads, Going, step}
 use Rattle.rv_step.specs.declared.machine.Machine.{Machine}
-use Rattle.rv_step.proofs.PageSteps.{ecall_word, page_instruction, page_step, when_true}
-use Rattle.rv_step.proofs.Reached.{further, here, next_takes_gas}
+use Rattle.rv_step.proofs.PageSteps.{ecall_word, page_instruction, page_step}
+use Rattle.rv_step.proofs.Reached.{further, here, next_takes_gas, reached_gas}
 use Rattle.rv_step.proofs.machine.Machine.execute_in_page.Goals as goal
 
 pub loop-position-init : goal.loop-position-init
@@ -17,6 +17,7 @@ loop-position-init c =
       reached = rw (same, c.left.ensures) (here c.args.self.now);
       code = c.requires.code;
       even = rw same c.requires.even;
+      inside = inl (omega (arith, c.from.ensures, c.requires.page));
     }
 
 pub loop-position-preserved : goal.loop-position-preserved
@@ -32,10 +33,13 @@ loop-position-preserved c =
     let place : (first + offset) % 2 ^ 32 - first ≡ offset = omega arith in
     let word : c.word_in-word.result ≡ word_in code (s.pc - first) = rw place c.word_in-word.ensures in
     let made : step s ≡ Leads (Going t) = page_step s first code c.word_in-word.result kept.code kept.even (omega arith) (omega arith) word ∙ goes.made in
+    let less : t.gas < s.gas = next_takes_gas s t made in
+    let before : s.gas ≤ c.args.self.now.gas = reached_gas kept.reached.0 c.args.self.now s kept.reached.1 in
     record {
       reached = further c.args.self.now s t kept.reached made;
       code = goes.stays first code kept.code;
       even = goes.even kept.even;
+      inside = inr (omega (arith, less, before));
     }
 
 pub loop-position-smaller : goal.loop-position-smaller
@@ -52,8 +56,8 @@ loop-position-smaller c =
     let word : c.word_in-word.result ≡ word_in code (s.pc - first) = rw place c.word_in-word.ensures in
     next_takes_gas s t (page_step s first code c.word_in-word.result kept.code kept.even (omega arith) (omega arith) word ∙ goes.made)
 
-pub returns-then-not-step_word-clause-ecall : goal.returns-then-not-step_word-clause-ecall
-returns-then-not-step_word-clause-ecall c =
+pub returns-then-word-eq-ECALL-clause-end : goal.returns-then-word-eq-ECALL-clause-end
+returns-then-word-eq-ECALL-clause-end c =
     let first = c.args.first in
     let code = c.args.code.now in
     let kept = c.loop-position.invariant in
@@ -64,9 +68,16 @@ returns-then-not-step_word-clause-ecall c =
     let same : t ≡ s = rw c.if-not-step_word.true at c.step_word.ensures in
     let place : (first + offset) % 2 ^ 32 - first ≡ offset = omega arith in
     let word : c.word_in-word.result ≡ word_in code (s.pc - first) = rw place c.word_in-word.ensures in
-    when_true _ (λ is.
-    let ecall : c.word_in-word.result ≡ 0x73 = grind (arith, nat_tests, is) in
+    let ecall : c.word_in-word.result ≡ 0x73 = grind (arith, nat_tests, c.if-word-eq-ECALL.true) in
     ap (λ (m : Machine). instruction_at m) (c.stand_at.ensures ∙ same)
     ∙ page_instruction s first code c.word_in-word.result kept.code kept.even (omega arith) (omega arith) word
     ∙ ap decoded ecall
-    ∙ ecall_word)
+    ∙ ecall_word
+
+pub returns-clause-end : goal.returns-clause-end
+returns-clause-end c =
+    let made : c.loop-position.position.gas < c.args.self.now.gas = elim c.loop-position.invariant.inside [
+      | inl within ↦ absurd (omega (arith, c.loop-position-test.false))
+      | inr less ↦ less
+    ] in
+    rw c.stand_at-2.ensures made

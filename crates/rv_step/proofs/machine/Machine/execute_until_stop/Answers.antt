@@ -2,11 +2,17 @@ use Rattle.std.proofs.Common.{◌<◌, ◌≤◌, Ok, arith}
 use Rattle.rv_step.specs.Meets.{MeetsInstructions}
 use Rattle.rv_step.specs.declared.outcome.InstructionOutcome.TheVariants as outcome
 use Rattle.rv_step.proofs.PageSteps.{meets_on, reached_on}
+use Rattle.rv_step.proofs.ProgramSteps.{reached_code}
 use Rattle.rv_step.proofs.Reached.{further, here, next_takes_gas, not_next, reached_gas}
 use Rattle.rv_step.proofs.machine.Machine.execute_until_stop.Goals as goal
 
 pub loop-outcome-init : goal.loop-outcome-init
 loop-outcome-init c = here _
+
+pub execute_next-requires : goal.execute_next-requires
+execute_next-requires c =
+    let before = c.loop-outcome.invariant in
+    reached_code c.args.program.now before.0 c.args.self.now c.loop-outcome.self before.1 c.requires
 
 pub loop-outcome-preserved : goal.loop-outcome-preserved
 loop-outcome-preserved c =

@@ -1,7 +1,14 @@
 use Rattle.std.proofs.Common.{◌≡◌, ◌∙◌, ap, true}
+use Rattle.std.specs.Arc.{arc_value}
 use Rattle.rv_step.specs.Run.{RunView, is_running}
+use Rattle.rv_step.proofs.ProgramSteps.{run_code}
 use Rattle.rv_step.proofs.Stops.{stops_after, stops_fewer, stops_keep, stops_left}
 use Rattle.rv_step.proofs.run.Run.step_until_stop.Goals as goal
+
+pub run_until_stop-requires-clause-code : goal.run_until_stop-requires-clause-code
+run_until_stop-requires-clause-code c =
+    let view : RunView = record { call = c.self.inside.call; machine = c.self.inside.machine; answers = c.self.inside.answers.items; stage = c.self.inside.stage } in
+    rw c.deref.ensures (run_code (arc_value c.base.result.now) view c.self.invariant (rw c.image.ensures at c.base.ensures))
 
 pub invariant_of-self : goal.invariant_of-self
 invariant_of-self c =
