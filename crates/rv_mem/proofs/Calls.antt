@@ -1,12 +1,13 @@
 -- The pages of a call under its steps.
-use Rattle.std.proofs.Common.{◌≡◌, ℕ, ◌+◌, ◌-◌, ◌*◌, ◌/◌, ◌%◌, ◌<◌, ◌≤◌, List, [], ◌∷◌, ◌++◌, length, get_or, set, replicate, All, refl, sym, ap, ◌∙◌, arith, length-append, append_assoc}
+use Rattle.std.proofs.Common.{◌≡◌, ℕ, ◌+◌, ◌-◌, ◌*◌, ◌/◌, ◌%◌, ◌<◌, ◌≤◌, List, [], ◌∷◌, ◌++◌, length, get_or, set, replicate, All, refl, sym, ap, ◌∙◌, arith, inl, inr, length-append, append_assoc}
 use native.Mathlib.Decide.{dec_lt}
-use Rattle.std.proofs.lemmas.List.{append-nil, get_or_append_left, get_or-append_right, get_or_default, get_or_read, length-replicate, length_push, length-set, set-append_right}
+use Rattle.std.proofs.lemmas.List.{append-nil, get_or_append_left, get_or-append_right, get_or_default, get_or_past, get_or_read, get_or-set_other, length-replicate, length_push, length-set, set-append_right}
+use Rattle.std.proofs.lemmas.Bool.{cases_eq}
 use Rattle.std.proofs.lemmas.List.Elements.{All-append, All-push, All-replicate, All-set}
 use Rattle.elf32.specs.declared.segment.Segment.{Segment}
 use Rattle.elf32.specs.Pages.{overwritten_at, page_at, segment_bytes, zeros, ArePages, HoldSegments}
 use Rattle.rv_mem.specs.declared.pages.Pages.{Pages}
-use Rattle.rv_mem.specs.Paged.{IsPaged, all_pages, base_of, base_pages, memory_bytes}
+use Rattle.rv_mem.specs.Paged.{IsPaged, IsWritable, all_pages, base_of, base_pages, memory_bytes}
 use Rattle.rv_mem.proofs.Flat.{length_pages}
 use Rattle.rv_mem.proofs.Placed.{placed_none, placed_more}
 use Rattle.rv_mem.proofs.Pools.{copied_bytes, put_bytes, same_flat, sized}
@@ -24,6 +25,13 @@ padded_sized : (pages : List (List ℕ)) (n : ℕ) → ArePages (λ q. q) pages 
 padded_sized pages n h =
     All-append (λ (q : List ℕ). length q ≡ 4096) pages (replicate n (zeros 4096)) h (All-replicate (λ (q : List ℕ). length q ≡ 4096) n (zeros 4096) (length_zeros 4096))
 
+-- where each page is the program's, none is the call's own
+none_own : (count : ℕ) (index : List ℕ) (k : ℕ) → All (λ i. i < count) index → count ≤ 512 → 512 ≤ get_or index k 0 → ⊥
+none_own count index k low few own = elim (dec_lt k (length index)) [
+  | yes inside ↦ let below = low k 0 inside in omega arith
+  | no past ↦ let none = get_or_past index k 0 (omega arith) in omega arith
+]
+
 -- the first: each page is the program's
 pub paged_none : (p : Pages) (segments : List Segment) → HoldSegments (base_of p) segments → p.own.items ≡ [] → p.index.items ≡ (base_of p).index → IsPaged p
 paged_none p segments h none same =
@@ -32,6 +40,7 @@ paged_none p segments h none same =
       sizes = rw (none, append-nil (base_pages p)) (padded_sized (base_of p).pages.items _ h.sizes);
       placed = rw (none, same) (placed_none (length (base_of p).pages.items) 512 (base_of p).index h.count (omega arith) h.index_len h.places);
       rights = h.rights_len;
+      writable = λ k own. absurd (none_own (length (base_of p).pages.items) p.index.items k (rw same h.places) (omega (arith, h.count)) own);
     }
 
 -- its bytes
@@ -83,7 +92,7 @@ module _ (p : Pages) (h : IsPaged p) where
       ∙ h.sizes (512 + place) [] (omega (arith, base_length, length-append (base_pages p) p.own.items))
 
 -- a page that is copied to the call's own
-module _ (p q : Pages) (page : ℕ) (x : List ℕ) (h : IsPaged p) (below : page < 256) (shared : get_or p.index.items page 0 < 512) (base : base_of q ≡ base_of p) (items : q.own.items ≡ p.own.items ++ x ∷ []) (index : q.index.items ≡ set p.index.items page (512 + length p.own.items)) (read : x ≡ get_or (base_of p).pages.items (get_or p.index.items page 0) x) where
+module _ (p q : Pages) (page : ℕ) (x : List ℕ) (h : IsPaged p) (below : page < 256) (shared : get_or p.index.items page 0 < 512) (base : base_of q ≡ base_of p) (items : q.own.items ≡ p.own.items ++ x ∷ []) (index : q.index.items ≡ set p.index.items page (512 + length p.own.items)) (read : x ≡ get_or (base_of p).pages.items (get_or p.index.items page 0) x) (open_ : IsWritable (base_of p) page) where
   is_page : x ≡ page_at (all_pages p) (get_or p.index.items page 0)
   is_page =
       let len = h.placed.len in
@@ -106,6 +115,10 @@ module _ (p q : Pages) (page : ℕ) (x : List ℕ) (h : IsPaged p) (below : page
         sizes = rw all_more (All-push (λ q. length q ≡ 4096) (all_pages p) x h.sizes size);
         placed = rw (base, count, index) (placed_more (length (base_of p).pages.items) 512 (length p.own.items) page p.index.items h.placed below shared);
         rights = rw base h.rights;
+        writable = λ k own. elim (cases_eq k page) [
+          | inl here ↦ rw (base, here) open_
+          | inr other ↦ rw base (h.writable k (let was = get_or-set_other p.index.items page k (512 + length p.own.items) 0 other in let now = rw index at own in omega arith))
+        ];
       }
 
   pub bytes_more : memory_bytes q ≡ memory_bytes p
@@ -130,6 +143,7 @@ module _ (p q : Pages) (place : ℕ) (x : List ℕ) (h : IsPaged p) (inside : pl
         sizes = rw all_put (All-set (λ q. length q ≡ 4096) (all_pages p) (512 + place) x size h.sizes);
         placed = rw (base, count, index) h.placed;
         rights = rw base h.rights;
+        writable = λ k own. rw base (h.writable k (rw index at own));
       }
 
   pub bytes_put : (old new : List ℕ) (at : ℕ) → at < 1048576 → get_or p.index.items (at / 4096) 0 ≡ 512 + place → at % 4096 + length new ≤ 4096 → old ≡ get_or p.own.items place old → x ≡ overwritten_at old (at % 4096) new → memory_bytes q ≡ overwritten_at (memory_bytes p) at new

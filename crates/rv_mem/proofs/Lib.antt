@@ -1,6 +1,7 @@
 mod Each
 mod Flat
 mod Copied
+mod InputPage
 mod Placed
 mod Pools
 mod Calls

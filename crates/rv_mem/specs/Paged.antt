@@ -1,5 +1,5 @@
 -- The pages of a call, and the bytes that stand in them. Private help of proofs; no public clause cites it.
-use Rattle.std.specs.Prelude.{◌≡◌, ℕ, ◌+◌, ◌-◌, ◌≤◌, ◌<◌, ◌%◌, ◌/◌, nat_lt, ◌==◌, Bool, ◌&&◌, if◌then◌else◌, List, ◌++◌, length, flat_map, replicate, slice_index, slice_index_or, All}
+use Rattle.std.specs.Prelude.{◌≡◌, ℕ, ◌+◌, ◌-◌, ◌≤◌, ◌<◌, ◌%◌, ◌/◌, nat_lt, ◌==◌, Bool, true, ◌&&◌, if◌then◌else◌, List, ◌++◌, length, flat_map, replicate, slice_index, slice_index_or, All}
 use Rattle.std.specs.List.{sum_by}
 use Rattle.std.specs.Arc.{arc_value}
 use Rattle.elf32.specs.Extent.{memory_size, page_count, page_size}
@@ -10,6 +10,7 @@ use Rattle.elf32.specs.declared.segment.Rights.{Rights}
 use Rattle.rv_mem.specs.declared.pages.Pages.{Pages}
 use Rattle.rv_mem.specs.Space.{Space, allows, no_rights}
 use Rattle.rv_mem.specs.declared.access.Access.{Access}
+use Rattle.rv_mem.specs.declared.access.Access.TheVariants.{Write}
 
 -- the pages of the program
 abbrev pub base_of : Pages → BasePages
@@ -46,11 +47,28 @@ pub record ArePlaced (base count own : ℕ) (index : List ℕ) : Type 0 where
   pub each : own + sum_by (is_shared count) index ≡ page_count
   pub alone : (i j : ℕ) → i < page_count → j < page_count → count ≤ slice_index index i → slice_index index i ≡ slice_index index j → i ≡ j
 
--- the pages of a call
+-- the page k has the right of an access
+abbrev pub IsAllowed : Access → List Rights → ℕ → Type 0
+IsAllowed access rights k = allows access (slice_index_or rights k no_rights) ≡ true
+
+-- the number of the page of the input
+abbrev pub input_page : ℕ
+input_page = 240
+
+-- the page k may be stored to
+abbrev pub IsWritable : BasePages → ℕ → Type 0
+IsWritable base k = IsAllowed Write base.rights k
+
+-- the pages of a call; those that are its own may be stored to
 pub record IsPaged (p : Pages) : Type 0 where
   pub sizes : ArePages (λ q. q) (all_pages p)
   pub placed : ArePlaced (length (base_of p).pages.items) first_own (length p.own.items) p.index.items
   pub rights : length (base_of p).rights ≡ page_count
+  pub writable : (k : ℕ) → first_own ≤ slice_index p.index.items k → IsWritable (base_of p) k
+
+-- the pages from one on and below another have the right of an access
+abbrev pub AreAllowed : Access → List Rights → ℕ → ℕ → Type 0
+AreAllowed access rights first end = (k : ℕ) → first ≤ k → k < end → IsAllowed access rights k
 
 -- the pages from one on and below another are the call's own
 abbrev pub AreOwn : Pages → ℕ → ℕ → Type 0

@@ -1,10 +1,10 @@
 //! The memory of one call.
 
-ghost use Rattle.std.specs.Prelude.{◌≡◌, ◌<◌, ◌≤◌, ◌+◌, ◌-◌, ◌^◌, ◌↔◌, true, length, Ok, IfOk, OnOk, IsOk, IfErr};
+ghost use Rattle.std.specs.Prelude.{◌≡◌, ◌<◌, ◌≤◌, ◌+◌, ◌-◌, ◌^◌, ◌↔◌, ◌==◌, ◌||◌, true, false, IsTrue, length, Ok, IfOk, OnOk, IsOk, IfErr};
 ghost use Rattle.elf32.specs.Extent.{end_address, first_address, input_address};
 ghost use Rattle.elf32.specs.Pages.{overwritten_at};
-ghost use Rattle.rv_mem.specs.Paged.{IsPaged, base_of, memory_bytes};
-ghost use Rattle.rv_mem.specs.Space.{as_answer, bytes_at, allows_range, loaded, stored, copied, LeavesMemory};
+ghost use Rattle.rv_mem.specs.Paged.{IsPaged, IsWritable, base_of, input_page, memory_bytes};
+ghost use Rattle.rv_mem.specs.Space.{as_answer, bytes_at, allows_range, from_place, loaded, place_of, stored, copied, written, LeavesMemory};
 ghost use Rattle.rv_mem.specs.Start.{start_space};
 ghost use Rattle.rv_mem.specs.declared.access.Access.TheVariants.{Read, Write, Execute};
 ghost use Rattle.rv_mem.specs.declared.fault.Fault.TheVariants.{MemoryFault};
@@ -12,9 +12,10 @@ ghost use Rattle.rv_mem.specs.declared.fault.Fault.TheVariants.{MemoryFault};
 use crate::access::Access;
 use crate::fault::Fault;
 use crate::pages::{
-    PageRoom, Pages, byte_at, halfword_at, program_pages, read, word_at, write, write_in_page,
+    PageRoom, Pages, byte_at, halfword_at, own_place, program_pages, put_own, read, word_at, write,
+    write_in_page,
 };
-use crate::rights::{place, range_has};
+use crate::rights::{aligned_place, place, range_has};
 use byteorder::{ByteOrder, LittleEndian};
 use elf32::Image;
 use elf32::extent::{FIRST_ADDRESS, INPUT_ADDRESS};
@@ -28,6 +29,7 @@ const INPUT: usize = (INPUT_ADDRESS - FIRST_ADDRESS) as usize;
 fn put_input(pages: &mut Pages, input: &[u8]) -> Result<(), AllocError>
     requires input { length input.now ≤ 4096 }
     requires paged { IsPaged pages.old }
+    requires writable { IsWritable (base_of pages.old) input_page }
     ensures ok { OnOk result (memory_bytes pages.new ≡ overwritten_at (memory_bytes pages.old) (input_address - first_address) input.now) }
     ensures base { base_of pages.new ≡ base_of pages.old }
     ensures paged { IsPaged pages.new }
@@ -126,8 +128,10 @@ impl Memory {
     pub fn store8(&mut self, address: u32, value: u8) -> Result<(), Fault>
         ensures { LeavesMemory result (stored 1 self.old address value) self.old self.new }
     {
-        let at = place(&self.pages.base.rights, Access::Write, address, 1)?;
-        write_in_page(&mut self.pages, at, &[value]).map_err(|_| Fault::Memory)
+        if self.put_in_own(address, &[value]) {
+            return Ok(());
+        }
+        self.store_byte(address, value)
     }
 
     /// Writes a halfword at the address, or refuses with Misaligned, MemoryFault or Memory and
@@ -136,16 +140,72 @@ impl Memory {
     pub fn store16(&mut self, address: u32, value: u16) -> Result<(), Fault>
         ensures { LeavesMemory result (stored 2 self.old address value) self.old self.new }
     {
-        let at = place(&self.pages.base.rights, Access::Write, address, 2)?;
         let mut halfword = [0; 2];
         LittleEndian::write_u16(&mut halfword, value);
-        write_in_page(&mut self.pages, at, &halfword).map_err(|_| Fault::Memory)
+        if self.put_in_own(address, &halfword) {
+            return Ok(());
+        }
+        self.store_halfword(address, value)
     }
 
     /// Writes a word at the address, or refuses with Misaligned, MemoryFault or Memory and changes
     /// nothing.
     #[inline(always)]
     pub fn store32(&mut self, address: u32, value: u32) -> Result<(), Fault>
+        ensures { LeavesMemory result (stored 4 self.old address value) self.old self.new }
+    {
+        let mut word = [0; 4];
+        LittleEndian::write_u32(&mut word, value);
+        if self.put_in_own(address, &word) {
+            return Ok(());
+        }
+        self.store_word(address, value)
+    }
+
+    /// Writes one, two or four bytes at the address where they are aligned in a page of the call's own, whose rights
+    /// need no test then. False where they are not; then nothing changes.
+    #[inline(always)]
+    fn put_in_own(&mut self, address: u32, bytes: &[u8]) -> bool
+        requires { IsTrue (length bytes.now == 1 || length bytes.now == 2 || length bytes.now == 4) }
+        ensures put { IsTrue result → from_place (written self.old bytes.now) (place_of (length bytes.now) Write self.old.rights address) ≡ Ok self.new }
+        ensures same { result ≡ false → self.new ≡ self.old }
+    {
+        let Some(at) = aligned_place(address, bytes.len() as u32) else {
+            return false;
+        };
+        let Some(own) = own_place(&self.pages, at) else {
+            return false;
+        };
+        put_own(&mut self.pages, own, at, bytes);
+        true
+    }
+
+    /// Writes a byte as `store8` does, where its page is tested for its rights, and copied where it is the program's.
+    #[cold]
+    #[inline(never)]
+    fn store_byte(&mut self, address: u32, value: u8) -> Result<(), Fault>
+        ensures { LeavesMemory result (stored 1 self.old address value) self.old self.new }
+    {
+        let at = place(&self.pages.base.rights, Access::Write, address, 1)?;
+        write_in_page(&mut self.pages, at, &[value]).map_err(|_| Fault::Memory)
+    }
+
+    /// The same for a halfword, as `store16` does.
+    #[cold]
+    #[inline(never)]
+    fn store_halfword(&mut self, address: u32, value: u16) -> Result<(), Fault>
+        ensures { LeavesMemory result (stored 2 self.old address value) self.old self.new }
+    {
+        let at = place(&self.pages.base.rights, Access::Write, address, 2)?;
+        let mut halfword = [0; 2];
+        LittleEndian::write_u16(&mut halfword, value);
+        write_in_page(&mut self.pages, at, &halfword).map_err(|_| Fault::Memory)
+    }
+
+    /// The same for a word, as `store32` does.
+    #[cold]
+    #[inline(never)]
+    fn store_word(&mut self, address: u32, value: u32) -> Result<(), Fault>
         ensures { LeavesMemory result (stored 4 self.old address value) self.old self.new }
     {
         let at = place(&self.pages.base.rights, Access::Write, address, 4)?;

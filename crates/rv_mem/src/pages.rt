@@ -1,11 +1,12 @@
 //! Reads and writes of bytes that stand in pages. A page is shared with the program until it is written.
 
-ghost use Rattle.std.specs.Prelude.{◌≡◌, ◌+◌, ◌/◌, ◌%◌, ◌-◌, ◌^◌, ◌≤◌, ◌<◌, ◌++◌, ℕ, length, take, drop, slice_index, OnOk, OnErr, IfOk};
+ghost use Rattle.std.specs.Prelude.{◌≡◌, ◌+◌, ◌/◌, ◌%◌, ◌-◌, ◌^◌, ◌≤◌, ◌<◌, ◌++◌, ℕ, length, take, drop, slice_index, OnOk, OnErr, IfOk, IfSome, None};
 ghost use Rattle.byteorder.specs.Endian.{little_number};
 ghost use Rattle.elf32.specs.Extent.{first_address, memory_size, page_count, page_size};
 ghost use Rattle.elf32.specs.Pages.{overwritten_at, page_at, page_rights, segment_bytes};
 ghost use Rattle.elf32.specs.Places.{first_own};
-ghost use Rattle.rv_mem.specs.Paged.{IsPaged, AreOwn, base_of, memory_bytes};
+ghost use Rattle.rv_mem.specs.declared.access.Access.TheVariants.{Write};
+ghost use Rattle.rv_mem.specs.Paged.{IsPaged, IsWritable, AreAllowed, AreOwn, base_of, input_page, memory_bytes};
 
 use byteorder::{ByteOrder, LittleEndian};
 use elf32::bytes::put;
@@ -57,7 +58,10 @@ pub fn program_pages(room: PageRoom, image: &Image) -> Result<Pages, AllocError>
     ensures bytes { IfOk result (λ p. memory_bytes p ≡ segment_bytes image.now.segments) }
     ensures rights { IfOk result (λ p. (base_of p).rights ≡ page_rights page_count image.now.segments) }
     ensures paged { IfOk result IsPaged }
+    ensures input { IfOk result (λ p. IsWritable (base_of p) input_page) }
 {
+    // For the proof alone: the segments end before the page of the input.
+    let _ = image.segments();
     let base = Arc::try_clone(image.base())?;
     let PageRoom { mut index, mut own } = room;
     refill(&mut index, &base.index)?;
@@ -97,6 +101,7 @@ fn copy_page(pages: &mut Pages, page: usize) -> Result<usize, AllocError>
     requires paged { IsPaged pages.old }
     requires page { page < page_count }
     requires shared { slice_index pages.old.index.items page < first_own }
+    requires writable { IsWritable (base_of pages.old) page }
     ensures paged { IsPaged pages.new }
     ensures base { base_of pages.new ≡ base_of pages.old }
     ensures bytes { memory_bytes pages.new ≡ memory_bytes pages.old }
@@ -115,7 +120,7 @@ fn copy_page(pages: &mut Pages, page: usize) -> Result<usize, AllocError>
 /// Writes the bytes, which lie in one page, at a place in memory. The page is the call's own, at this place
 /// among its own.
 #[inline(always)]
-fn put_own(pages: &mut Pages, place: usize, at: usize, new: &[u8])
+pub fn put_own(pages: &mut Pages, place: usize, at: usize, new: &[u8])
     requires paged { IsPaged pages.old }
     requires first { at < memory_size }
     requires room { at % page_size + length new.now ≤ page_size }
@@ -137,6 +142,7 @@ fn copy_and_write(pages: &mut Pages, at: usize, new: &[u8]) -> Result<(), AllocE
     requires first { at < memory_size }
     requires room { at % page_size + length new.now ≤ page_size }
     requires shared { slice_index pages.old.index.items (at / page_size) < first_own }
+    requires writable { IsWritable (base_of pages.old) (at / page_size) }
     ensures paged { IsPaged pages.new }
     ensures base { base_of pages.new ≡ base_of pages.old }
     ensures ok { OnOk result (memory_bytes pages.new ≡ overwritten_at (memory_bytes pages.old) at new.now) }
@@ -147,24 +153,41 @@ fn copy_and_write(pages: &mut Pages, at: usize, new: &[u8]) -> Result<(), AllocE
     Ok(())
 }
 
+/// The place of the page of a place in memory among the call's own pages; None where it is not its own.
+#[inline(always)]
+pub fn own_place(pages: &Pages, at: usize) -> Option<usize>
+    requires paged { IsPaged pages.now }
+    requires first { at < memory_size }
+    ensures place { IfSome result (λ place. slice_index pages.now.index.items (at / page_size) ≡ first_own + place) }
+    ensures writable { IfSome result (λ _. IsWritable (base_of pages.now) (at / page_size)) }
+    ensures shared { result ≡ None → slice_index pages.now.index.items (at / page_size) < first_own }
+{
+    let place = pages.index[at / PAGE_SIZE];
+    if place.is_shared() {
+        return None;
+    }
+    Some(place.in_own())
+}
+
 /// Writes the bytes, which lie in one page, at a place in memory; refused where memory ran out, and then
 /// nothing changes.
-#[inline(always)]
 pub fn write_in_page(pages: &mut Pages, at: usize, new: &[u8]) -> Result<(), AllocError>
     requires paged { IsPaged pages.old }
     requires first { at < memory_size }
     requires room { at % page_size + length new.now ≤ page_size }
+    requires writable { IsWritable (base_of pages.old) (at / page_size) }
     ensures paged { IsPaged pages.new }
     ensures base { base_of pages.new ≡ base_of pages.old }
     ensures ok { OnOk result (memory_bytes pages.new ≡ overwritten_at (memory_bytes pages.old) at new.now) }
     ensures err { OnErr result (memory_bytes pages.new ≡ memory_bytes pages.old) }
 {
-    let place = pages.index[at / PAGE_SIZE];
-    if place.is_shared() {
-        return copy_and_write(pages, at, new);
+    match own_place(pages, at) {
+        Some(place) => {
+            put_own(pages, place, at, new);
+            Ok(())
+        }
+        None => copy_and_write(pages, at, new),
     }
-    put_own(pages, place.in_own(), at, new);
-    Ok(())
 }
 
 /// Makes the pages from the first to the last the call's own; refused where memory ran out. No byte of
@@ -172,6 +195,7 @@ pub fn write_in_page(pages: &mut Pages, at: usize, new: &[u8]) -> Result<(), All
 fn own_pages(pages: &mut Pages, first: usize, last: usize) -> Result<(), AllocError>
     requires paged { IsPaged pages.old }
     requires last { last < page_count }
+    requires writable { AreAllowed Write (base_of pages.old).rights first (last + 1) }
     ensures paged { IsPaged pages.new }
     ensures base { base_of pages.new ≡ base_of pages.old }
     ensures bytes { memory_bytes pages.new ≡ memory_bytes pages.old }
@@ -213,6 +237,7 @@ pub fn write(pages: &mut Pages, at: usize, new: &[u8]) -> Result<(), AllocError>
     requires paged { IsPaged pages.old }
     requires some { 0 < length new.now }
     requires room { at + length new.now ≤ memory_size }
+    requires writable { AreAllowed Write (base_of pages.old).rights (at / page_size) ((at + length new.now - 1) / page_size + 1) }
     ensures paged { IsPaged pages.new }
     ensures base { base_of pages.new ≡ base_of pages.old }
     ensures ok { OnOk result (memory_bytes pages.new ≡ overwritten_at (memory_bytes pages.old) at new.now) }

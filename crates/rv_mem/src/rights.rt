@@ -1,8 +1,10 @@
 //! Tests of the rights of pages.
 
-ghost use Rattle.std.specs.Prelude.{◌≡◌, ◌+◌, ◌%◌, ◌≤◌, ◌<◌, ◌==◌, ◌||◌, length, IfOk, IsTrue};
+ghost use Rattle.std.specs.Prelude.{◌≡◌, ◌+◌, ◌%◌, ◌≤◌, ◌<◌, ◌-◌, ◌/◌, ◌==◌, ◌||◌, List, length, IfOk, IfSome, IsTrue, Ok};
+ghost use Rattle.elf32.specs.declared.segment.Rights.{Rights};
+ghost use Rattle.rv_mem.specs.declared.access.Access.{Access};
 ghost use Rattle.elf32.specs.Extent.{end_address, first_address, memory_size, page_count, page_size};
-ghost use Rattle.rv_mem.specs.Paged.{is_open};
+ghost use Rattle.rv_mem.specs.Paged.{AreAllowed, IsAllowed, is_open};
 ghost use Rattle.rv_mem.specs.Space.{allows_range, as_answer, place_of};
 
 use crate::access::Access;
@@ -22,6 +24,7 @@ pub fn range_has(rights: &[Rights], access: Access, address: u32, len: u32) -> b
     requires { length rights.now ≡ page_count }
     ensures value { result ≡ allows_range access rights.now address len }
     ensures room { IsTrue result → 0 < len → (first_address ≤ address) × (address + len ≤ end_address) }
+    ensures pages { IsTrue result → 0 < len → AreAllowed access rights.now ((address - first_address) / page_size) ((address - first_address + len - 1) / page_size + 1) }
 {
     if len == 0 {
         return true;
@@ -63,6 +66,7 @@ pub fn place(rights: &[Rights], access: Access, address: u32, size: u32) -> Resu
     ensures value { result ≡ as_answer (place_of size access rights.now address) }
     ensures room { IfOk result (λ k. k + size ≤ memory_size) }
     ensures page { IfOk result (λ k. k % page_size + size ≤ page_size) }
+    ensures allowed { IfOk result (λ k. IsAllowed access rights.now (k / page_size)) }
 {
     let at = address.wrapping_sub(FIRST_ADDRESS);
     if is_open(rights, access, at, size) {
@@ -72,4 +76,20 @@ pub fn place(rights: &[Rights], access: Access, address: u32, size: u32) -> Resu
         return Err(Fault::Misaligned);
     }
     Err(access.fault())
+}
+
+/// The place, from the start of memory, of an aligned number of `size` bytes at the address, whatever the rights of its
+/// page; None where the address is not aligned or not in memory.
+#[inline(always)]
+pub fn aligned_place(address: u32, size: u32) -> Option<usize>
+    requires size { IsTrue (size == 1 || size == 2 || size == 4) }
+    ensures room { IfSome result (λ k. k + size ≤ memory_size) }
+    ensures page { IfSome result (λ k. k % page_size + size ≤ page_size) }
+    ensures place { (access : Access) (rights : List Rights) → IfSome result (λ k. IsAllowed access rights (k / page_size) → place_of size access rights address ≡ Ok k) }
+{
+    let at = address.wrapping_sub(FIRST_ADDRESS);
+    if at < MEMORY_SIZE && at % size == 0 {
+        return Some(at as usize);
+    }
+    None
 }

@@ -13,7 +13,7 @@ returns-clause-paged c =
     let there = get_or_read p.index.items c.args.page c.index.result.now (omega arith) c.index.ensures 0 in
     let read = rw (c.deref.ensures, c.in_program.ensures, there) at c.index-2.ensures in
     let end : c.of_own.result ≡ 512 + length p.own.items = omega (arith, c.of_own.ensures) in
-    paged_more p _ c.args.page c.index-2.result.now c.requires.paged c.requires.page c.requires.shared refl items (ap (set p.index.items c.args.page) end) read
+    paged_more p _ c.args.page c.index-2.result.now c.requires.paged c.requires.page c.requires.shared refl items (ap (set p.index.items c.args.page) end) read c.requires.writable
 
 pub returns-clause-bytes : goal.returns-clause-bytes
 returns-clause-bytes c =
@@ -24,4 +24,4 @@ returns-clause-bytes c =
     let read = rw (c.deref.ensures, c.in_program.ensures, there) at c.index-2.ensures in
     let end : c.of_own.result ≡ 512 + length p.own.items = omega (arith, c.of_own.ensures) in
     let q : Pages = record { base = p.base; index = with_item p.index c.args.page c.of_own.result; own = c.extend_from_slice.new.self } in
-    bytes_more p q c.args.page c.index-2.result.now c.requires.paged c.requires.page c.requires.shared refl items (ap (set p.index.items c.args.page) end) read
+    bytes_more p q c.args.page c.index-2.result.now c.requires.paged c.requires.page c.requires.shared refl items (ap (set p.index.items c.args.page) end) read c.requires.writable

@@ -1,4 +1,5 @@
 use Rattle.std.proofs.Common.{◌≡◌, ℕ, ◌∙◌, ◌+◌, ◌-◌, ◌%◌, ◌^◌, ◌<◌, true, false, refl, sym, arith}
+use Rattle.std.proofs.lemmas.Bool.{and_parts}
 use Rattle.std.proofs.lemmas.Bool.Decides.{nat_tests}
 use Rattle.rv_mem.specs.Paged.{is_open}
 use Rattle.rv_mem.specs.Space.{allows_range}
@@ -18,6 +19,7 @@ returns-then-is_open c =
     let all : allows_range c.args.access c.args.rights.now a n ≡ true = by_place c.args.access c.args.rights.now a n at c.requires.size fits refl even ∙ open_there in
     let same : at ≡ a - 65536 = omega arith in
     record {
+      allowed = (and_parts _ _ (and_parts _ _ open_there).1).1;
       value = rw (even, all, same) refl;
       room = grind (arith, nat_tests, inside, whole);
       page = grind (arith, nat_tests, inside, whole);
