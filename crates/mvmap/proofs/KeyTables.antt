@@ -1,40 +1,115 @@
 -- A table of the slots at each key: where a key stands, and what an edit does to it.
-use Rattle.std.proofs.Common.{◌≡◌, ◌<◌, ◌⊎◌, ◌++◌, ℕ, suc, zero, Bool, true, false, cond, List, [], ◌∷◌, get_or, length, set, Option, None, Some, refl, sym, ap, subst, ◌∙◌, arith, inl, inr, slice_get}
+use Rattle.std.proofs.Common.{◌≡◌, ◌<◌, ◌+◌, ◌⊎◌, ◌++◌, ℕ, suc, zero, Bool, true, false, ◌&&◌, T, cond, List, [], ◌∷◌, get_or, length, set, Option, None, Some, refl, sym, ap, subst, ◌∙◌, arith, inl, inr, slice_get}
 use mathlib.Core.Bool.{false≢true}
 use Rattle.std.specs.BTreeMap.{is_at}
-use Rattle.std.specs.Cmp.{tied_itself}
+use Rattle.std.specs.Cmp.{eq_by_cmp_equiv, tied_itself}
 use Rattle.std.specs.Cmp.Lexicographic.{nat_list_cmp_total}
+use Rattle.std.specs.FinMap.{entries, find, len-empty, len-entries, from_entries, from_entries_push, entries_sorted, get, get-entries, get-from_entries, get-insert, insert, is_sorted, slice_cmp-IsAntisymmetric, nat_cmp-IsAntisymmetric}
+use Rattle.std.specs.FinMap.Entries.{below_all}
+use Rattle.std.specs.List.{AllByRecursion}
 use Rattle.std.specs.List.Sorted.{IsStrictlySortedBy}
 use Rattle.std.specs.Map.{keys_of, lookup}
 use Rattle.std.specs.Option.{option_map, unwrap_or}
-use Rattle.std.specs.Ordering.{is_eq}
+use Rattle.std.specs.Ordering.{is_eq, is_lt}
+use Rattle.std.specs.declared.cmp.Ordering.{Ordering}
+use Rattle.std.specs.declared.cmp.Ordering.TheVariants.{Less, Equal, Greater}
 use Rattle.std.proofs.lemmas.Bool.{cases_eq}
 use Rattle.std.proofs.lemmas.Map.Lookups.{exact_bytes}
 use Rattle.std.proofs.lemmas.Map.Views.{tells_apart}
 use Rattle.std.proofs.lemmas.Option.{slice_get-get_or}
 use Rattle.rv_ledger.specs.Key.{key_cmp}
 use Rattle.mvmap.specs.Hints.{hint_of, noted}
-use Rattle.mvmap.specs.KeyTable.{AreIndexed, IsSetAt, Positions, in_order, key_at, position_of, slots_in, writers_at}
+use Rattle.mvmap.specs.KeyTable.{AreFound, AreIndexed, IsSetAt, Positions, in_order, key_at, numbered, position_of, positions_of, slots_in, writers_at}
 use Rattle.mvmap.specs.Slots.{ByKey}
 use Rattle.mvmap.specs.Writers.{ByWriter}
-use Rattle.mvmap.specs.declared.hints.Hint.TheVariants.{Nothing}
+use Rattle.mvmap.specs.declared.hints.Hint.TheVariants.{At, Nothing}
 use Rattle.mvmap.specs.declared.key_table.KeySlots.{KeySlots}
-use Rattle.mvmap.proofs.Buckets.{get_set_apart, get_set_here, noted_empty, noted_found}
+use Rattle.mvmap.proofs.Buckets.{get_set_apart, get_set_here, noted_empty, noted_found, noted_kept}
 use Rattle.mvmap.proofs.Fills.{slice_get_before, slice_get_last}
 
 -- ---- keys
 
 -- a key is found alike to itself
-key_itself : (key : List ℕ) → is_at (key_cmp key) key ≡ true
+pub key_itself : (key : List ℕ) → is_at (key_cmp key) key ≡ true
 key_itself key = ap is_eq (tied_itself nat_list_cmp_total key)
 
 -- keys that a test finds alike are one
-same_key : (key q : List ℕ) → is_at (key_cmp key) q ≡ true → key ≡ q
+pub same_key : (key q : List ℕ) → is_at (key_cmp key) q ≡ true → key ≡ q
 same_key key q h = tells_apart exact_bytes key q h
 
 -- a key that a test finds different is another
 other_key : (key q : List ℕ) → is_at (key_cmp key) q ≡ false → key ≡ q → ⊥
 other_key key q h e = false≢true (sym h ∙ ap (is_at (key_cmp key)) (sym e) ∙ key_itself key)
+
+-- ---- the positions of a list's keys
+
+looked_up : (es : Positions) (q : List ℕ) → position_of es q ≡ find key_cmp q es
+looked_up [] q = refl
+looked_up (e ∷ es) q = ap (cond (is_at (key_cmp q) e.0) (Some e.1)) (looked_up es q)
+
+-- a key's position is the first at which it stands
+position_is : (list : List KeySlots) (q : List ℕ) → position_of (positions_of list) q ≡ find key_cmp q (numbered 0 list)
+unfolding positions_of
+position_is list q = looked_up (positions_of list) q ∙ sym (get-entries (from_entries (numbered 0 list)) q) ∙ get-from_entries nat_list_cmp_total (numbered 0 list) q
+
+both_true : (a b : Bool) → T (a && b) → (T a) × (T b)
+both_true true b h = (tt, h)
+both_true false b h = absurd h
+
+is_less : (r : Ordering) → T (is_lt r) → r ≡ Less
+is_less Less h = refl
+is_less Equal h = absurd h
+is_less Greater h = absurd h
+
+below_keys : (key : List ℕ) (es : Positions) → T (below_all key_cmp key es) → AllByRecursion (λ y. key_cmp key y ≡ Less) (keys_of es)
+below_keys key [] h = tt
+below_keys key (e ∷ es) h = let both = both_true (is_lt (key_cmp key e.0)) (below_all key_cmp key es) h in (is_less (key_cmp key e.0) both.0, below_keys key es both.1)
+
+rising : (es : Positions) → T (is_sorted key_cmp es) → IsStrictlySortedBy key_cmp (keys_of es)
+unfolding IsStrictlySortedBy
+rising [] h = tt
+rising (e ∷ es) h = let both = both_true (below_all key_cmp e.0 es) (is_sorted key_cmp es) h in (below_keys e.0 es both.0, rising es both.1)
+
+-- the keys ascend
+pub positions_sorted : (list : List KeySlots) → IsStrictlySortedBy key_cmp (keys_of (positions_of list))
+unfolding positions_of
+positions_sorted list = rising (positions_of list) (entries_sorted (from_entries (numbered 0 list)))
+
+none_of : (es : Positions) → length es ≡ 0 → es ≡ []
+none_of [] h = refl
+none_of (e ∷ es) h = absurd (omega arith)
+
+-- of no keys there are none
+pub no_positions : positions_of [] ≡ []
+unfolding positions_of
+no_positions = none_of (positions_of []) (sym (len-entries (from_entries {X = ℕ} {R = key_cmp} [])) ∙ len-empty key_cmp ℕ)
+
+numbered_push : (p : ℕ) (list : List KeySlots) (s : KeySlots) → numbered p (list ++ s ∷ []) ≡ numbered p list ++ (s.key, p + length list) ∷ []
+numbered_push p [] s = ap (λ (n : ℕ). (s.key, n) ∷ []) (omega arith)
+numbered_push p (x ∷ list) s = ap (λ (es : Positions). (x.key, p) ∷ es) (numbered_push (suc p) list s ∙ ap (λ (n : ℕ). numbered (suc p) list ++ (s.key, n) ∷ []) (omega arith))
+
+-- a key that was not there, added at the end, stands there, and the others where they stood
+pub position_pushed : (list : List KeySlots) (s : KeySlots) → position_of (positions_of list) s.key ≡ None → (q : List ℕ)
+    → position_of (positions_of (list ++ s ∷ [])) q ≡ cond (is_at (key_cmp s.key) q) (Some (length list)) (position_of (positions_of list) q)
+position_pushed list s absent q =
+    position_is (list ++ s ∷ []) q
+    ∙ ap (find key_cmp q) (numbered_push 0 list s)
+    ∙ sym (get-from_entries nat_list_cmp_total (numbered 0 list ++ (s.key, 0 + length list) ∷ []) q)
+    ∙ ap (λ m. get m q) (from_entries_push nat_list_cmp_total (slice_cmp-IsAntisymmetric nat_cmp-IsAntisymmetric) (numbered 0 list) s.key (0 + length list) (sym (position_is list s.key) ∙ absent))
+    ∙ get-insert nat_list_cmp_total (from_entries (numbered 0 list)) s.key (0 + length list) q
+    ∙ ap (λ b. cond b (Some (0 + length list)) (get (from_entries {R = key_cmp} (numbered 0 list)) q)) ((eq_by_cmp_equiv nat_list_cmp_total).symm q s.key)
+    ∙ ap (cond (is_at (key_cmp s.key) q) (Some (0 + length list))) (get-from_entries nat_list_cmp_total (numbered 0 list) q ∙ sym (position_is list q))
+    ∙ ap (λ (n : ℕ). cond (is_at (key_cmp s.key) q) (Some n) (position_of (positions_of list) q)) (omega arith)
+
+numbered_set : (n : ℕ) (list : List KeySlots) (p : ℕ) (s was : KeySlots) → was ≡ get_or list p was → s.key ≡ was.key → numbered n (set list p s) ≡ numbered n list
+numbered_set n [] p s was is same = refl
+numbered_set n (x ∷ list) zero s was is same = ap (λ (k : List ℕ). (k, n) ∷ numbered (suc n) list) (same ∙ ap (λ (y : KeySlots). y.key) is)
+numbered_set n (x ∷ list) (suc p) s was is same = ap (λ (es : Positions). (x.key, n) ∷ es) (numbered_set (suc n) list p s was is same)
+
+-- the keys stand where they stood, where the slots at one position are replaced
+pub positions_set : (list : List KeySlots) (p : ℕ) (s was : KeySlots) → was ≡ get_or list p was → s.key ≡ was.key → positions_of (set list p s) ≡ positions_of list
+unfolding positions_of
+positions_set list p s was is same = ap (λ (es : Positions). entries (from_entries {R = key_cmp} es)) (numbered_set 0 list p s was is same)
 
 -- ---- the slots by key
 
@@ -104,7 +179,10 @@ no_keys es list h empty key = by (position_of es key) refl
     by None e = refl
     by (Some p) e = let within = position_within es list h key p e in absurd (omega arith)
 
-module _ (es : Positions) (list : List KeySlots) (h : AreIndexed es list) (key : List ℕ) (p : ℕ) (at : position_of es key ≡ Some p) (was : KeySlots) (is : was ≡ get_or list p was) (ws : ByWriter) where
+module _ (list : List KeySlots) (h : AreIndexed (positions_of list) list) (key : List ℕ) (p : ℕ) (at : position_of (positions_of list) key ≡ Some p) (was : KeySlots) (is : was ≡ get_or list p was) (ws : ByWriter) where
+  abbrev positions : Positions
+  positions = positions_of list
+
   abbrev new : KeySlots
   new = record { key = was.key; writers = ws }
 
@@ -112,14 +190,14 @@ module _ (es : Positions) (list : List KeySlots) (h : AreIndexed es list) (key :
   now = set list p (record { key = was.key; writers = ws })
 
   here : slice_get list p ≡ Some was
-  here = slice_get-get_or list p was (position_within es list h key p at) ∙ ap Some (sym is)
+  here = slice_get-get_or list p was (position_within positions list h key p at) ∙ ap Some (sym is)
 
   here_now : slice_get now p ≡ Some new
-  here_now = get_set_here list p new (position_within es list h key p at)
+  here_now = get_set_here list p new (position_within positions list h key p at)
 
   -- they were the key's
-  pub slots_were : was.writers ≡ writers_at (in_order es list) key
-  slots_were = sym (writers_in_order es list key p at ∙ ap (λ (x : Option KeySlots). unwrap_or (option_map (λ (s : KeySlots). s.writers) x) []) here)
+  pub slots_were : was.writers ≡ writers_at (in_order (positions_of list) list) key
+  slots_were = sym (writers_in_order positions list key p at ∙ ap (λ (x : Option KeySlots). unwrap_or (option_map (λ (s : KeySlots). s.writers) x) []) here)
 
   key_kept : (q : ℕ) → key_at now q ≡ key_at list q
   key_kept q = elim (cases_eq p q) [
@@ -128,23 +206,31 @@ module _ (es : Positions) (list : List KeySlots) (h : AreIndexed es list) (key :
   ]
 
   -- the keys stand where they stood
-  pub set_indexed : AreIndexed es now
+  pub positions_kept : positions_of (set list p (record { key = was.key; writers = ws })) ≡ positions_of list
+  positions_kept = positions_set list p new was is refl
+
+  pub set_indexed : AreIndexed (positions_of (set list p (record { key = was.key; writers = ws }))) (set list p (record { key = was.key; writers = ws }))
   set_indexed = record {
-    ordered = h.ordered;
-    listed = λ k q e. key_kept q ∙ h.listed k q e;
-    indexed = λ k q e. h.indexed k q (sym (key_kept q) ∙ e);
+    ordered = positions_sorted now;
+    listed = λ k q e. key_kept q ∙ h.listed k q (ap (λ fs. position_of fs k) (sym positions_kept) ∙ e);
+    indexed = λ k q e. ap (λ fs. position_of fs k) positions_kept ∙ h.indexed k q (sym (key_kept q) ∙ e);
   }
 
+  -- so they are found as they were
+  pub set_found : (buckets : List ℕ) (others : Positions) → AreFound buckets others (positions_of list) → AreFound buckets others (positions_of (set list p (record { key = was.key; writers = ws })))
+  set_found buckets others = subst (AreFound buckets others) (sym positions_kept)
+
   -- that key's slots alone change
-  pub set_in_order : IsSetAt (in_order es list) (in_order es now) key ws
+  pub set_in_order : IsSetAt (in_order (positions_of list) list) (in_order (positions_of (set list p (record { key = was.key; writers = ws }))) (set list p (record { key = was.key; writers = ws }))) key ws
   set_in_order q =
-      lookup_in_order (is_at (key_cmp q)) es now
-      ∙ by (is_at (key_cmp key) q) refl (position_of es q) refl
-      ∙ ap (cond (is_at (key_cmp key) q) (Some ws)) (sym (lookup_in_order (is_at (key_cmp q)) es list))
+      ap (λ (fs : Positions). lookup (is_at (key_cmp q)) (in_order fs now)) positions_kept
+      ∙ lookup_in_order (is_at (key_cmp q)) positions now
+      ∙ by (is_at (key_cmp key) q) refl (position_of positions q) refl
+      ∙ ap (cond (is_at (key_cmp key) q) (Some ws)) (sym (lookup_in_order (is_at (key_cmp q)) positions list))
     where
-      by : (b : Bool) → is_at (key_cmp key) q ≡ b → (o : Option ℕ) → position_of es q ≡ o → option_map (slots_in now) o ≡ cond b (Some ws) (option_map (slots_in list) o)
+      by : (b : Bool) → is_at (key_cmp key) q ≡ b → (o : Option ℕ) → position_of positions q ≡ o → option_map (slots_in now) o ≡ cond b (Some ws) (option_map (slots_in list) o)
       by true t o e =
-          ap (option_map (slots_in now)) (sym e ∙ ap (position_of es) (sym (same_key key q t)) ∙ at)
+          ap (option_map (slots_in now)) (sym e ∙ ap (position_of positions) (sym (same_key key q t)) ∙ at)
           ∙ ap (λ (x : Option KeySlots). Some (unwrap_or (option_map (λ (s : KeySlots). s.writers) x) [])) here_now
       by false t None e = refl
       by false t (Some r) e =
@@ -166,14 +252,22 @@ set_twice es fs gs key vs ws first second q = second q ∙ ap (cond (is_at (key_
 
 -- ---- a key is added at the end
 
-module _ (es fs : Positions) (list : List KeySlots) (h : AreIndexed es list) (key : List ℕ) (absent : position_of es key ≡ None) (n : ℕ) (last : n ≡ length list)
-    (order : IsStrictlySortedBy key_cmp (keys_of fs)) (added : (q : List ℕ) → position_of fs q ≡ cond (is_at (key_cmp key) q) (Some n) (position_of es q)) where
+module _ (list : List KeySlots) (h : AreIndexed (positions_of list) list) (key : List ℕ) (absent : position_of (positions_of list) key ≡ None) (n : ℕ) (last : n ≡ length list) where
   abbrev empty : KeySlots
   empty = record { key = key; writers = [] }
 
+  abbrev old_positions : Positions
+  old_positions = positions_of list
+
+  abbrev new_positions : Positions
+  new_positions = positions_of (list ++ empty ∷ [])
+
+  added : (q : List ℕ) → position_of new_positions q ≡ cond (is_at (key_cmp key) q) (Some n) (position_of old_positions q)
+  added q = position_pushed list empty absent q ∙ ap (λ (p : ℕ). cond (is_at (key_cmp key) q) (Some p) (position_of old_positions q)) (sym last)
+
   -- its position is the last
-  pub added_at : position_of fs key ≡ Some n
-  added_at = added key ∙ ap (λ b. cond b (Some n) (position_of es key)) (key_itself key)
+  pub added_at : position_of (positions_of (list ++ record { key = key; writers = [] } ∷ [])) key ≡ Some n
+  added_at = added key ∙ ap (λ b. cond b (Some n) (position_of old_positions key)) (key_itself key)
 
   at_last : slice_get (list ++ empty ∷ []) n ≡ Some empty
   at_last = ap (slice_get (list ++ empty ∷ [])) last ∙ slice_get_last list empty
@@ -185,42 +279,97 @@ module _ (es fs : Positions) (list : List KeySlots) (h : AreIndexed es list) (ke
   was_or_last (x ∷ xs) (suc p) q e = elim (was_or_last xs p q e) [ inl was ↦ inl was | inr both ↦ inr (ap suc both.0, both.1) ]
 
   -- each key stands at its position
-  pub added_indexed : AreIndexed fs (list ++ record { key = key; writers = [] } ∷ [])
+  pub added_indexed : AreIndexed (positions_of (list ++ record { key = key; writers = [] } ∷ [])) (list ++ record { key = key; writers = [] } ∷ [])
   added_indexed = record {
-    ordered = order;
+    ordered = positions_sorted (list ++ empty ∷ []);
     listed = λ q p e. listed_by q p (is_at (key_cmp key) q) refl (sym (added q) ∙ e);
     indexed = λ q p e. elim (was_or_last list p q e) [
       | inl was ↦ indexed_by q p (is_at (key_cmp key) q) refl (h.indexed q p was)
-      | inr both ↦ ap (position_of fs) (sym both.1) ∙ added_at ∙ ap Some (last ∙ sym both.0)
+      | inr both ↦ ap (position_of new_positions) (sym both.1) ∙ added_at ∙ ap Some (last ∙ sym both.0)
     ];
   }
     where
-      listed_by : (q : List ℕ) (p : ℕ) (b : Bool) → is_at (key_cmp key) q ≡ b → cond b (Some n) (position_of es q) ≡ Some p → key_at (list ++ empty ∷ []) p ≡ Some q
+      listed_by : (q : List ℕ) (p : ℕ) (b : Bool) → is_at (key_cmp key) q ≡ b → cond b (Some n) (position_of old_positions q) ≡ Some p → key_at (list ++ empty ∷ []) p ≡ Some q
       listed_by q p true t e = let here : n ≡ p = cc in ap (key_at (list ++ empty ∷ [])) (sym here) ∙ ap (option_map (λ (s : KeySlots). s.key)) at_last ∙ ap Some (same_key key q t)
       listed_by q p false t e = ap (option_map (λ (s : KeySlots). s.key)) (slice_get_before list empty p (key_within list p q (h.listed q p e))) ∙ h.listed q p e
 
-      indexed_by : (q : List ℕ) (p : ℕ) (b : Bool) → is_at (key_cmp key) q ≡ b → position_of es q ≡ Some p → position_of fs q ≡ Some p
-      indexed_by q p true t was = let none : position_of es q ≡ None = ap (position_of es) (sym (same_key key q t)) ∙ absent in cc
-      indexed_by q p false t was = added q ∙ ap (λ b. cond b (Some n) (position_of es q)) t ∙ was
+      indexed_by : (q : List ℕ) (p : ℕ) (b : Bool) → is_at (key_cmp key) q ≡ b → position_of old_positions q ≡ Some p → position_of new_positions q ≡ Some p
+      indexed_by q p true t was = let none : position_of old_positions q ≡ None = ap (position_of old_positions) (sym (same_key key q t)) ∙ absent in cc
+      indexed_by q p false t was = added q ∙ ap (λ b. cond b (Some n) (position_of old_positions q)) t ∙ was
 
   -- it has no slots, and those at the other keys stay
-  pub added_in_order : IsSetAt (in_order es list) (in_order fs (list ++ record { key = key; writers = [] } ∷ [])) key []
+  pub added_in_order : IsSetAt (in_order (positions_of list) list) (in_order (positions_of (list ++ record { key = key; writers = [] } ∷ [])) (list ++ record { key = key; writers = [] } ∷ [])) key []
   added_in_order q =
-      lookup_in_order (is_at (key_cmp q)) fs (list ++ empty ∷ [])
+      lookup_in_order (is_at (key_cmp q)) new_positions (list ++ empty ∷ [])
       ∙ ap (option_map (slots_in (list ++ empty ∷ []))) (added q)
-      ∙ by (is_at (key_cmp key) q) (position_of es q) refl
-      ∙ ap (cond (is_at (key_cmp key) q) (Some [])) (sym (lookup_in_order (is_at (key_cmp q)) es list))
+      ∙ by (is_at (key_cmp key) q) (position_of old_positions q) refl
+      ∙ ap (cond (is_at (key_cmp key) q) (Some [])) (sym (lookup_in_order (is_at (key_cmp q)) old_positions list))
     where
-      by : (b : Bool) (o : Option ℕ) → position_of es q ≡ o → option_map (slots_in (list ++ empty ∷ [])) (cond b (Some n) o) ≡ cond b (Some []) (option_map (slots_in list) o)
+      by : (b : Bool) (o : Option ℕ) → position_of old_positions q ≡ o → option_map (slots_in (list ++ empty ∷ [])) (cond b (Some n) o) ≡ cond b (Some []) (option_map (slots_in list) o)
       by true o e = ap (λ (x : Option KeySlots). Some (unwrap_or (option_map (λ (s : KeySlots). s.writers) x) [])) at_last
       by false None e = refl
       by false (Some p) e =
           ap (λ (x : Option KeySlots). Some (unwrap_or (option_map (λ (s : KeySlots). s.writers) x) [])) (slice_get_before list empty p (key_within list p q (h.listed q p e)))
 
-  -- a key whose bucket is empty is none of them, after the key was noted
-  pub added_hinted : (buckets : List ℕ) (p : ℕ) → ((q : List ℕ) → hint_of buckets q ≡ Nothing → position_of es q ≡ None) → (q : List ℕ) → hint_of (noted buckets key p) q ≡ Nothing → position_of fs q ≡ None
-  added_hinted buckets p hinted q e = added q ∙ by (is_at (key_cmp key) q) refl
+  -- each key is found, where the added one was noted and is found, and the tree is unchanged at the others
+  pub added_found : (buckets : List ℕ) (others after : Positions) → AreFound buckets others (positions_of list)
+      → (hint_of (noted buckets key n) key ≡ At n) ⊎ (position_of after key ≡ Some n)
+      → ((q : List ℕ) → (position_of after q ≡ position_of others q) ⊎ ((key ≡ q) × (position_of after q ≡ Some n)))
+      → AreFound (noted buckets key n) after (positions_of (list ++ record { key = key; writers = [] } ∷ []))
+  added_found buckets others after was here tree = record {
+    hinted = λ q e. added q ∙ hinted_by q e (is_at (key_cmp key) q) refl;
+    found = λ q p e. found_by q p (is_at (key_cmp key) q) refl (sym (added q) ∙ e);
+    sound = λ q p e. elim (tree q) [
+      | inl same ↦ sound_by q p (is_at (key_cmp key) q) refl (was.sound q p (sym same ∙ e))
+      | inr both ↦ ap (position_of new_positions) (sym both.0) ∙ added_at ∙ sym both.1 ∙ e
+    ];
+  }
     where
-      by : (b : Bool) → is_at (key_cmp key) q ≡ b → cond b (Some n) (position_of es q) ≡ None
-      by true t = absurd (noted_found buckets key p (ap (hint_of (noted buckets key p)) (same_key key q t) ∙ e))
-      by false t = hinted q (noted_empty buckets key p q e)
+      hinted_by : (q : List ℕ) → hint_of (noted buckets key n) q ≡ Nothing → (b : Bool) → is_at (key_cmp key) q ≡ b → cond b (Some n) (position_of old_positions q) ≡ None
+      hinted_by q e true t = absurd (noted_found buckets key n (ap (hint_of (noted buckets key n)) (same_key key q t) ∙ e))
+      hinted_by q e false t = was.hinted q (noted_empty buckets key n q e)
+
+      found_by : (q : List ℕ) (p : ℕ) (b : Bool) → is_at (key_cmp key) q ≡ b → cond b (Some n) (position_of old_positions q) ≡ Some p → (hint_of (noted buckets key n) q ≡ At p) ⊎ (position_of after q ≡ Some p)
+      found_by q p true t e = elim here [
+        | inl hint ↦ inl (ap (hint_of (noted buckets key n)) (sym (same_key key q t)) ∙ hint ∙ ap At (let is : n ≡ p = cc in is))
+        | inr in_tree ↦ inr (ap (position_of after) (sym (same_key key q t)) ∙ in_tree ∙ e)
+      ]
+      found_by q p false t e = elim (was.found q p e) [
+        | inl hint ↦ inl (noted_kept buckets key n q p hint)
+        | inr in_tree ↦ inr (elim (tree q) [ inl same ↦ same ∙ in_tree | inr both ↦ absurd (other_key key q t both.0) ])
+      ]
+
+      sound_by : (q : List ℕ) (p : ℕ) (b : Bool) → is_at (key_cmp key) q ≡ b → position_of old_positions q ≡ Some p → position_of new_positions q ≡ Some p
+      sound_by q p true t e = let none : position_of old_positions q ≡ None = ap (position_of old_positions) (sym (same_key key q t)) ∙ absent in cc
+      sound_by q p false t e = added q ∙ ap (λ b. cond b (Some n) (position_of old_positions q)) t ∙ e
+
+-- ---- the buckets and the tree
+
+module _ (buckets : List ℕ) (others positions : Positions) (h : AreFound buckets others positions) where
+  -- the keys are found as they were, after a position was noted that none of them has
+  pub still_found : (key : List ℕ) (n : ℕ) (after : Positions) → after ≡ others → AreFound (noted buckets key n) after positions
+  still_found key n after same = record {
+    hinted = λ q e. h.hinted q (noted_empty buckets key n q e);
+    found = λ q p e. elim (h.found q p e) [
+      | inl hint ↦ inl (noted_kept buckets key n q p hint)
+      | inr in_tree ↦ inr (ap (λ es. position_of es q) same ∙ in_tree)
+    ];
+    sound = λ q p e. h.sound q p (ap (λ es. position_of es q) (sym same) ∙ e);
+  }
+
+  -- where no key is there, all buckets will do
+  pub none_found : ((key : List ℕ) → position_of positions key ≡ None) → (now : List ℕ) → AreFound now others positions
+  none_found none now = record {
+    hinted = λ q e. none q;
+    found = λ q p e. let nothing : position_of positions q ≡ None = none q in cc;
+    sound = h.sound;
+  }
+
+  -- a key whose bucket's hint is wrong is in the tree, where it is there
+  pub in_others : (key : List ℕ) → ((p : ℕ) → hint_of buckets key ≡ At p → position_of positions key ≡ Some p → ⊥) → position_of others key ≡ position_of positions key
+  in_others key wrong = by (position_of positions key) (position_of others key) refl refl
+    where
+      by : (o t : Option ℕ) → position_of positions key ≡ o → position_of others key ≡ t → t ≡ o
+      by (Some p) t e f = elim (h.found key p e) [ inl hint ↦ absurd (wrong p hint e) | inr in_tree ↦ sym f ∙ in_tree ]
+      by None None e f = refl
+      by None (Some p) e f = let there : position_of positions key ≡ Some p = h.sound key p f in cc

@@ -10,3 +10,4 @@ pub mod Storages
 pub mod Snapshots
 pub mod Walks
 pub mod Sums
+pub mod Applied

@@ -1,7 +1,8 @@
 //! Hints of where keys stand in a list.
 
-ghost use Rattle.std.specs.Prelude.{◌≡◌, ◌<◌, ◌⊎◌, [], replicate};
+ghost use Rattle.std.specs.Prelude.{◌≡◌, ◌<◌, ◌≤◌, ◌⊎◌, ◌↔◌, [], IsTrue, replicate};
 ghost use Rattle.mvmap.specs.Hints.{bucket_of, hint_of, noted, word_of};
+ghost use Rattle.mvmap.specs.declared.hints.Hint.TheVariants.{Nothing};
 
 use rv_ledger::Key;
 use std::alloc::Global;
@@ -75,15 +76,19 @@ impl Hints {
         let _ = self.buckets.resize(BUCKET_COUNT, NO_HINT);
     }
 
-    /// Notes the position of a key as its bucket's hint, unless the bucket has one. In place of a position past the last
-    /// that a hint can say, that last one is noted, which is a wrong hint.
-    pub(crate) fn note(&mut self, key: &Key, position: usize)
-        ensures { self.new.buckets.items ≡ noted self.old.buckets.items key.now position }
+    /// Notes the position of a key as its bucket's hint, unless the bucket has one, and answers whether it is that hint
+    /// now. In place of a position past the last that a hint can say, that last one is noted, which is a wrong hint.
+    #[inline(always)]
+    pub(crate) fn note(&mut self, key: &Key, position: usize) -> bool
+        ensures buckets { self.new.buckets.items ≡ noted self.old.buckets.items key.now position }
+        ensures noted { IsTrue result ↔ ((hint_of self.old.buckets.items key.now ≡ Nothing) × (position ≤ 4294967294)) }
     {
-        if let Some(bucket) = self.buckets.get_mut(bucket_of(key)) {
-            if *bucket == NO_HINT {
+        match self.buckets.get_mut(bucket_of(key)) {
+            Some(bucket) if *bucket == NO_HINT => {
                 *bucket = position.min(LAST_HINT) as u32;
+                position <= LAST_HINT
             }
+            _ => false,
         }
     }
 

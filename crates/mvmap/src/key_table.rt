@@ -1,9 +1,10 @@
-//! The slots at each key. A tree of the keys says where each one stands in a list. Hints spare most searches of the
-//! tree, for keys that are there and for keys that are not.
+//! The slots at each key, in a list. Hints say where most keys stand in it, and a tree says it of the others.
 
-ghost use Rattle.std.specs.Prelude.{◌≡◌, ◌↔◌, ℕ, [], IfOk, IsTrue, None, OnErr, OnOk, Some};
-ghost use Rattle.mvmap.specs.KeyTable.{IsIndexed, IsSetAt, by_key, key_at, position_of, slots_in, writers_at};
+ghost use Rattle.std.specs.Prelude.{◌≡◌, ◌≤◌, ◌↔◌, ◌⊎◌, ℕ, [], IfOk, IsTrue, List, None, OnErr, OnOk, Some};
+ghost use Rattle.mvmap.specs.Hints.{hint_of, noted};
+ghost use Rattle.mvmap.specs.KeyTable.{IsIndexed, IsSetAt, by_key, key_at, position_of, positions_of, slots_in, writers_at};
 ghost use Rattle.mvmap.specs.Writers.{AreAscending};
+ghost use Rattle.mvmap.specs.declared.hints.Hint.TheVariants.{At, Nothing};
 
 use crate::hints::{Hint, Hints};
 use crate::slot::Slot;
@@ -22,24 +23,26 @@ pub(crate) struct KeySlots {
 /// Keys with their slots.
 #[derive(Drop)]
 pub(crate) struct KeyTable {
-    /// The position of each key in the list.
-    pub(crate) positions: BTreeMap<Key, usize>,
     /// The slots, in the order in which their keys came first.
     pub(crate) list: Vec<KeySlots>,
+    /// For most keys, their position in the list.
     hints: Hints,
+    /// The position of each key that the hints do not find.
+    others: BTreeMap<Key, usize>,
     alloc: Global,
 }
 
 impl KeyTable {
     /// No keys. Takes no memory.
+    #[tactic(auto, using(crate::proofs::KeyTables::no_positions))]
     pub(crate) fn new(alloc: Global) -> KeyTable
         ensures none { by_key result ≡ [] }
         ensures indexed { IsIndexed result }
     {
         KeyTable {
-            positions: BTreeMap::new(alloc),
             list: Vec::new(alloc),
             hints: Hints::new(alloc),
+            others: BTreeMap::new(alloc),
             alloc,
         }
     }
@@ -60,7 +63,7 @@ impl KeyTable {
     #[inline(always)]
     pub(crate) fn find(&self, key: &Key) -> Option<usize>
         requires { IsIndexed self.now }
-        ensures { result ≡ position_of self.now.positions.entries key.now }
+        ensures { result ≡ position_of (positions_of self.now.list.items) key.now }
     {
         match self.hints.of(key) {
             Hint::Nothing => None,
@@ -83,9 +86,9 @@ impl KeyTable {
     /// The position that the tree says.
     #[inline(never)]
     fn search(&self, key: &Key) -> Option<usize>
-        ensures { result ≡ position_of self.now.positions.entries key.now }
+        ensures { result ≡ position_of self.now.others.entries key.now }
     {
-        match self.positions.get(key) {
+        match self.others.get(key) {
             Some(position) => Some(*position),
             None => None,
         }
@@ -96,9 +99,9 @@ impl KeyTable {
     pub(crate) fn position_for(&mut self, key: Key) -> Result<usize, AllocError>
         requires { IsIndexed self.old }
         ensures indexed { IsIndexed self.new }
-        ensures position { IfOk result (λ position. position_of self.new.positions.entries key ≡ Some position) }
+        ensures position { IfOk result (λ position. position_of (positions_of self.new.list.items) key ≡ Some position) }
         ensures set { OnOk result (IsSetAt (by_key self.old) (by_key self.new) key (writers_at (by_key self.old) key)) }
-        ensures absent { OnErr result (position_of self.old.positions.entries key ≡ None) }
+        ensures absent { OnErr result (position_of (positions_of self.old.list.items) key ≡ None) }
         ensures unchanged { OnErr result (by_key self.new ≡ by_key self.old) }
     {
         match self.find(&key) {
@@ -109,37 +112,55 @@ impl KeyTable {
 
     /// Adds a key that is not there, without slots, and answers its position. Room in the list is made first, so
     /// that nothing changes where memory ran out. The buckets of hints are made with the first key alone, so that no
-    /// key has an empty one. Where memory for them is refused, the tree decides everything until the table is cleared.
+    /// key has an empty one. Where memory for them is refused, the tree has all keys until the table is cleared.
     #[inline(never)]
     fn add(&mut self, key: Key) -> Result<usize, AllocError>
         requires indexed { IsIndexed self.old }
-        requires absent { position_of self.old.positions.entries key ≡ None }
+        requires absent { position_of (positions_of self.old.list.items) key ≡ None }
         ensures indexed { IsIndexed self.new }
-        ensures position { IfOk result (λ position. position_of self.new.positions.entries key ≡ Some position) }
+        ensures position { IfOk result (λ position. position_of (positions_of self.new.list.items) key ≡ Some position) }
         ensures set { OnOk result (IsSetAt (by_key self.old) (by_key self.new) key []) }
         ensures unchanged { OnErr result (by_key self.new ≡ by_key self.old) }
     {
         self.list.reserve(1)?;
         let position = self.list.len();
-        self.positions.insert(key, position)?;
+        if position == 0 {
+            self.hints.open();
+        }
+        self.place(&key, position)?;
         self.list.push_reserved(KeySlots {
             key,
             writers: WriterSlots::new(self.alloc),
         });
-        if position == 0 {
-            self.hints.open();
-        }
-        self.hints.note(&key, position);
         Ok(position)
     }
 
+    /// Notes where a key will stand: as the hint of its bucket, or in the tree where that bucket has a hint already,
+    /// where there are no buckets, or where the position is past the last that a hint can say. Refused where memory
+    /// for the tree ran out.
+    #[inline(always)]
+    fn place(&mut self, key: &Key, position: usize) -> Result<(), AllocError>
+        ensures list { self.new.list ≡ self.old.list }
+        ensures buckets { self.new.hints.buckets.items ≡ noted self.old.hints.buckets.items key.now position }
+        ensures found { OnOk result ((hint_of self.new.hints.buckets.items key.now ≡ At position) ⊎ (position_of self.new.others.entries key.now ≡ Some position)) }
+        ensures others { (q : List ℕ) → (position_of self.new.others.entries q ≡ position_of self.old.others.entries q) ⊎ ((key.now ≡ q) × (position_of self.new.others.entries q ≡ Some position)) }
+        ensures spared { hint_of self.old.hints.buckets.items key.now ≡ Nothing → position ≤ 4294967294 → self.new.others.entries ≡ self.old.others.entries }
+        ensures unchanged { OnErr result (self.new.others.entries ≡ self.old.others.entries) }
+    {
+        if !self.hints.note(key, position) {
+            self.others.insert(*key, position)?;
+        }
+        Ok(())
+    }
+
     /// Removes all keys. Room in the list stays. Takes no memory.
+    #[tactic(auto, using(crate::proofs::KeyTables::no_positions))]
     pub(crate) fn clear(&mut self)
         ensures none { by_key self.new ≡ [] }
         ensures indexed { IsIndexed self.new }
     {
-        self.positions.clear();
         self.list.clear();
         self.hints.clear();
+        self.others.clear();
     }
 }

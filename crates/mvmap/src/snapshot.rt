@@ -16,15 +16,15 @@ use rv_ledger::{Change, Key, Store};
 use std::alloc::AllocError;
 use version_arena::Arena;
 
-/// Applies the versions to a storage, by key and then by writer. Refused where memory ran out, and then
+/// Applies the versions to a storage, key by key, and at each key by writer. Refused where memory ran out, and then
 /// the storage is to be dropped.
 pub(crate) fn apply_slots(slots: &Slots, arena: &Arena, store: &mut Store) -> Result<(), AllocError>
     ensures values { OnOk result ((key : List ℕ) → map.get store.new key ≡ value_over_slots arena.now.records slots.now key (map.get store.old key)) }
     ensures ordered { OnOk result (IsStrictlySortedBy place_cmp (keys_of slots.now)) }
 {
     let table = &slots.table;
-    for (key, position) in &table.positions {
-        apply_at_key(table.slots_at(*position), arena, key, store)?;
+    for at_key in &table.list {
+        apply_at_key(at_key.writers.as_slice(), arena, &at_key.key, store)?;
     }
     Ok(())
 }

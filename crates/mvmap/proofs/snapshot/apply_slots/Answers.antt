@@ -1,33 +1,54 @@
-use Rattle.std.proofs.Common.{sym, ap, subst, ◌∙◌}
+use Rattle.std.proofs.Common.{◌≡◌, ◌∙◌, List, ap, arith, sym, subst, refl}
 use Rattle.std.specs.FinMap as map
 use Rattle.std.specs.List.Sorted.{IsStrictlySortedBy}
 use Rattle.std.specs.Map.{keys_of}
-use Rattle.mvmap.specs.KeyTable.{Positions, in_order, slots_in}
+use Rattle.mvmap.specs.KeyTable.{AreIndexed, by_key, in_order, positions_of}
 use Rattle.mvmap.specs.Slots.{Slots, at_places, flat, value_over_slots}
 use Rattle.mvmap.specs.Versions.{place_cmp}
 use Rattle.mvmap.specs.Writers.{AreAscending, ByWriter}
+use Rattle.mvmap.specs.declared.key_table.KeySlots.{KeySlots}
+use Rattle.mvmap.proofs.Applied.{all_ascending, all_before, next_applied, next_ascending, none_before}
 use Rattle.mvmap.proofs.KeyTables.{in_order_sorted}
-use Rattle.mvmap.proofs.Nests.{AreAllAscending, flat_sorted, value_over_both}
+use Rattle.mvmap.proofs.Nests.{AreAllAscending, flat_sorted}
 use Rattle.mvmap.proofs.snapshot.apply_slots.Goals as goal
 
-pub loop-key-preserved : goal.loop-key-preserved
-loop-key-preserved c =
+pub loop-at_key-init : goal.loop-at_key-init
+loop-at_key-init c = record {
+  values = λ k. ap (λ (ws : ByWriter). value_over_slots c.args.arena.now.records (at_places k ws) k (map.get c.args.store.now k)) (sym (none_before (positions_of c.deref-at_key-items.result.now) c.deref-at_key-items.result.now k));
+  ascending = λ p l. absurd (omega arith);
+}
+
+pub loop-at_key-preserved : goal.loop-at_key-preserved
+loop-at_key-preserved c =
     let rs = c.args.arena.now.records in
-    let list = c.slots.inside.table.list.items in
-    let ws = slots_in list c.in-Some.position.now in record {
+    let list = c.deref-at_key-items.result.now in
+    let h = subst (λ (xs : List KeySlots). AreIndexed (positions_of xs) xs) (sym c.deref-at_key-items.ensures.value) c.slots.invariant.positions in
+    let s = c.at_key-item.result in
+    let i = c.loop-at_key.at_key-index in
+    record {
       values = λ k.
-          let base = map.get c.loop-key.store k in
-          ap (value_over_slots rs (flat (in_order c.next.new.self list)) k) (c.in_ok-apply_at_key.ensures k ∙ ap (λ (us : ByWriter). value_over_slots rs (at_places c.in-Some.key.now us) k base) c.slots_at.ensures.all)
-          ∙ sym (value_over_both rs (at_places c.in-Some.key.now ws) (flat (in_order c.next.new.self list)) k base)
-          ∙ ap (λ (es : Positions). value_over_slots rs (flat (in_order es list)) k base) (sym c.in-Some.ensures.steps)
-          ∙ c.loop-key.invariant.values k;
-      ascending = λ up. c.loop-key.invariant.ascending (subst (λ (es : Positions). AreAllAscending (in_order es list)) (sym c.in-Some.ensures.steps) (subst AreAscending c.slots_at.ensures.all c.slots_at.ensures.ascending, up));
+          c.in_ok-apply_at_key.ensures k
+          ∙ ap (λ (ws : ByWriter). value_over_slots rs (at_places s.key ws) k (map.get c.loop-at_key.store k)) c.as_slice.ensures.all
+          ∙ ap (value_over_slots rs (at_places s.key s.writers) k) (c.loop-at_key.invariant.values k)
+          ∙ next_applied rs (positions_of list) list h i s c.loop-at_key-test.true c.at_key-item.is k (map.get c.args.store.now k);
+      ascending = next_ascending rs (positions_of list) list h i s c.loop-at_key-test.true c.at_key-item.is c.as_slice.ensures.ascending c.loop-at_key.invariant.ascending;
     }
+
+pub returns-clause-values : goal.returns-clause-values
+returns-clause-values c = λ k.
+    let rs = c.args.arena.now.records in
+    let list = c.deref-at_key-items.result.now in
+    let base = map.get c.args.store.now k in
+    let h = subst (λ (xs : List KeySlots). AreIndexed (positions_of xs) xs) (sym c.deref-at_key-items.ensures.value) c.slots.invariant.positions in
+    c.loop-at_key.invariant.values k
+    ∙ all_before rs (positions_of list) list h c.loop-at_key.at_key-index c.loop-at_key-test.false k base
+    ∙ ap (λ (xs : List KeySlots). value_over_slots rs (flat (in_order (positions_of xs) xs)) k base) c.deref-at_key-items.ensures.value
+    ∙ ap (λ (es : Slots). value_over_slots rs es k base) c.slots.view_is
 
 pub returns-clause-ordered : goal.returns-clause-ordered
 returns-clause-ordered c =
     let t = c.slots.inside.table in
-    let all = λ (es : Positions). AreAllAscending (in_order es t.list.items) in
+    let list = c.deref-at_key-items.result.now in
     subst (λ (es : Slots). IsStrictlySortedBy place_cmp (keys_of es)) c.slots.view_is
-    (flat_sorted (in_order t.positions.entries t.list.items) (in_order_sorted t.positions.entries t.list.items c.slots.invariant.positions)
-    (subst all c.into_iter-key-iterator.ensures.into_iter_gives.0 (c.loop-key.invariant.ascending (subst all (sym c.in-None.ensures.steps.0) tt))))
+    (flat_sorted (by_key t) (in_order_sorted (positions_of t.list.items) t.list.items c.slots.invariant.positions)
+    (subst (λ (xs : List KeySlots). AreAllAscending (in_order (positions_of xs) xs)) c.deref-at_key-items.ensures.value (all_ascending (positions_of list) list c.loop-at_key.at_key-index c.loop-at_key-test.false c.loop-at_key.invariant.ascending)))

@@ -1,43 +1,64 @@
-use Rattle.std.proofs.Common.{◌≡◌, ◌++◌, ◌∷◌, List, ℕ, None, [], ap, length, arith, refl}
-use Rattle.mvmap.specs.Hints.{hint_of}
-use Rattle.mvmap.specs.KeyTable.{position_of}
-use Rattle.mvmap.specs.declared.hints.Hint.TheVariants.{Nothing}
-use Rattle.mvmap.proofs.KeyTables.{added_hinted, added_in_order, added_indexed, no_keys}
+use Rattle.std.proofs.Common.{◌≡◌, ◌∙◌, ◌++◌, ◌∷◌, List, [], ap, arith, length, refl, sym, subst}
+use Rattle.mvmap.specs.Hints.{noted}
+use Rattle.mvmap.specs.KeyTable.{AreFound, AreIndexed, positions_of}
+use Rattle.mvmap.specs.declared.key_table.KeySlots.{KeySlots}
+use Rattle.mvmap.specs.declared.key_table.KeyTable.{KeyTable}
+use Rattle.mvmap.proofs.KeyTables.{added_at, added_found, added_in_order, added_indexed, no_keys, none_found, still_found}
 use Rattle.mvmap.proofs.key_table.KeyTable.add.Goals as goal
-use Rattle.mvmap.proofs.key_table.KeyTable.add.Goals.{then-position-eq0, else-position-eq0}
+use Rattle.mvmap.proofs.key_table.KeyTable.add.Goals.{After-place, After-push_reserved, then-position-eq0, else-position-eq0}
 
-last : (c : goal.After-note) → c.len-position.result ≡ length c.args.self.now.list.items
+last : (c : After-place) → c.len-position.result ≡ length c.args.self.now.list.items
 last c = omega (arith, c.reserve.new.self.ok.0, ap length c.reserve.ensures.items)
 
--- with the buckets made or not, the key is in the tree and in the list, and a key whose bucket is empty was not there
-joined : (c : goal.After-note) →
-    (c.if-position-eq0.self.positions.entries ≡ c.insert.new.self.entries)
-    × (c.if-position-eq0.self.list.items ≡ c.args.self.now.list.items ++ record { key = c.args.key; writers = [] } ∷ [])
-    × ((q : List ℕ) → hint_of c.if-position-eq0.self.hints.buckets.items q ≡ Nothing → position_of c.args.self.now.positions.entries q ≡ None)
-joined c =
+-- with the buckets made or not, the keys stand where they stood and are found
+opened : (c : After-place) → (c.if-position-eq0.self.list.items ≡ c.args.self.now.list.items)
+    × AreFound c.if-position-eq0.self.hints.buckets.items c.if-position-eq0.self.others.entries (positions_of c.args.self.now.list.items)
+opened c =
     let t = c.args.self.now in
-    let items : c.push_reserved.new.self.items ≡ t.list.items ++ record { key = c.args.key; writers = [] } ∷ [] =
-    rw (c.push_reserved.ensures.items, c.reserve.ensures.items, c.new.ensures) in
+    let was = c.requires.indexed.searched in
     elim c.if-position-eq0.branch [
-      | then-position-eq0 w ↦ rw w.self-is (refl, items, λ q e. no_keys t.positions.entries t.list.items c.requires.indexed.positions (omega (arith, last c)) q)
-      | else-position-eq0 w ↦ rw w.self-is (refl, items, c.requires.indexed.hinted)
+      | then-position-eq0 w ↦ rw w.self-is (c.reserve.ensures.items, none_found t.hints.buckets.items t.others.entries (positions_of t.list.items) was (no_keys (positions_of t.list.items) t.list.items c.requires.indexed.positions (omega (arith, last c))) w.open.new.self.buckets.items)
+      | else-position-eq0 w ↦ rw w.self-is (c.reserve.ensures.items, was)
     ]
+
+kept : (c : After-place) → c.place.new.self.list.items ≡ c.args.self.now.list.items
+kept c = let same = opened c in ap (λ l. l.items) c.place.ensures.list ∙ same.0
+
+pub returns-in_err-place-clause-indexed : goal.returns-in_err-place-clause-indexed
+returns-in_err-place-clause-indexed c =
+    let at = (goal.at.returns-in_err-place-clause-indexed c).After-place in
+    let t = c.args.self.now in
+    let b = c.if-position-eq0.self in
+    let same = opened at in
+    record {
+      positions = subst (λ (list : List KeySlots). AreIndexed (positions_of list) list) (sym (kept at)) c.requires.indexed.positions;
+      searched = rw (kept at, c.place.ensures.buckets) (still_found b.hints.buckets.items b.others.entries (positions_of t.list.items) same.1 c.args.key c.len-position.result c.place.new.self.others.entries c.in_err-place.ensures.unchanged);
+    }
+
+pushed : (c : After-push_reserved) → c.place.new.self.list.items ≡ c.args.self.now.list.items → c.push_reserved.new.self.items ≡ c.args.self.now.list.items ++ record { key = c.args.key; writers = [] } ∷ []
+pushed c same = rw (c.push_reserved.ensures.items, same, c.new.ensures)
 
 pub returns-clause-indexed : goal.returns-clause-indexed
 returns-clause-indexed c =
+    let at = (goal.at.returns-clause-indexed c).After-place in
     let t = c.args.self.now in
-    let order = c.insert.ensures.ordered in
-    let added = c.in_ok-insert.ensures.updates.0 in
-    let n = c.len-position.result in
-    let fs = c.insert.new.self.entries in
-    let same = joined c in
+    let b = c.if-position-eq0.self in
+    let same = opened at in
+    let items = pushed c (kept at) in
     record {
-      positions = rw (same.0, same.1) (added_indexed t.positions.entries fs t.list.items c.requires.indexed.positions c.args.key c.requires.absent n (last c) order added);
-      hinted = rw (same.0, c.note.ensures) (added_hinted t.positions.entries fs t.list.items c.requires.indexed.positions c.args.key c.requires.absent n (last c) order added c.if-position-eq0.self.hints.buckets.items n same.2);
+      positions = rw items (added_indexed t.list.items c.requires.indexed.positions c.args.key c.requires.absent c.len-position.result (last at));
+      searched = rw (items, c.place.ensures.buckets) (added_found t.list.items c.requires.indexed.positions c.args.key c.requires.absent c.len-position.result (last at) b.hints.buckets.items b.others.entries c.place.new.self.others.entries same.1
+          (rw (← c.place.ensures.buckets) c.in_ok-place.ensures.found) c.place.ensures.others);
     }
+
+pub returns-clause-position : goal.returns-clause-position
+returns-clause-position c =
+    let at = (goal.at.returns-clause-position c).After-place in
+    rw (pushed c (kept at)) (added_at c.args.self.now.list.items c.requires.indexed.positions c.args.key c.requires.absent c.len-position.result (last at))
 
 pub returns-clause-set : goal.returns-clause-set
 returns-clause-set c =
+    let at = (goal.at.returns-clause-set c).After-place in
     let t = c.args.self.now in
-    let same = joined c in
-    rw (same.0, same.1) (added_in_order t.positions.entries c.insert.new.self.entries t.list.items c.requires.indexed.positions c.args.key c.requires.absent c.len-position.result (last c) c.insert.ensures.ordered c.in_ok-insert.ensures.updates.0)
+    let items = pushed c (kept at) in
+    rw items (added_in_order t.list.items c.requires.indexed.positions c.args.key c.requires.absent c.len-position.result (last at))

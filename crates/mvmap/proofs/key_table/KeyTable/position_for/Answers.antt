@@ -1,5 +1,5 @@
 use Rattle.std.proofs.Common.{OnOk, subst, sym, ◌∙◌}
-use Rattle.mvmap.specs.KeyTable.{IsSetAt, by_key}
+use Rattle.mvmap.specs.KeyTable.{IsSetAt, by_key, positions_of}
 use Rattle.mvmap.specs.Writers.{ByWriter}
 use Rattle.mvmap.proofs.KeyTables.{no_writers_in_order, stays}
 use Rattle.mvmap.proofs.key_table.KeyTable.position_for.Goals as goal
@@ -7,10 +7,10 @@ use Rattle.mvmap.proofs.key_table.KeyTable.position_for.Goals as goal
 pub returns-in-Some-clause-set : goal.returns-in-Some-clause-set
 returns-in-Some-clause-set c =
     let t = c.args.self.now in
-    stays t.positions.entries t.list.items c.args.key c.in-Some.position (sym c.find.ensures ∙ c.in-Some.is)
+    stays (positions_of t.list.items) t.list.items c.args.key c.in-Some.position (sym c.find.ensures ∙ c.in-Some.is)
 
 pub returns-in-None-clause-set : goal.returns-in-None-clause-set
 returns-in-None-clause-set c =
     let t = c.args.self.now in
     subst (λ (ws : ByWriter). OnOk c.add.result (IsSetAt (by_key t) (by_key c.add.new.self) c.args.key ws))
-    (sym (no_writers_in_order t.positions.entries t.list.items c.args.key (sym c.find.ensures ∙ c.in-None.is))) c.add.ensures.set
+    (sym (no_writers_in_order (positions_of t.list.items) t.list.items c.args.key (sym c.find.ensures ∙ c.in-None.is))) c.add.ensures.set
