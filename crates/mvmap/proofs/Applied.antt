@@ -1,5 +1,5 @@
 -- What a value becomes where the slots of a table are applied to it one key after the other, in the order of the list.
-use Rattle.std.proofs.Common.{◌≡◌, ◌<◌, ◌≤◌, ◌+◌, ◌++◌, ◌⊎◌, ℕ, suc, zero, Bool, true, false, cond, List, [], ◌∷◌, take, get_or, length, slice_get, Option, None, Some, refl, sym, ap, subst, ◌∙◌, arith, inl, inr}
+use Rattle.std.proofs.Common.{◌≡◌, ◌<◌, ◌≤◌, ◌+◌, ℕ, suc, zero, Bool, true, false, cond, List, [], ◌∷◌, take, get_or, length, slice_get, Option, None, Some, refl, sym, ap, subst, ◌∙◌, arith, inl, inr}
 use Rattle.std.specs.BTreeMap.{is_at}
 use Rattle.std.specs.Cmp.{eq_by_cmp_equiv}
 use Rattle.std.specs.Cmp.Lexicographic.{nat_list_cmp_total}
@@ -17,10 +17,10 @@ use Rattle.rv_ledger.specs.Change.{Content}
 use Rattle.rv_ledger.specs.Key.{key_cmp}
 use Rattle.version_arena.specs.ArenaState.{Record}
 use Rattle.mvmap.specs.KeyTable.{AreIndexed, Positions, in_order, key_at, position_of, slots_in, writers_at}
-use Rattle.mvmap.specs.Slots.{ByKey, Slots, at_places, entry_of, flat, value_over, value_over_slots}
+use Rattle.mvmap.specs.Slots.{ByKey, at_places, entry_of, flat, value_over, value_over_slots}
 use Rattle.mvmap.specs.Writers.{AreAscending, ByWriter}
 use Rattle.mvmap.specs.declared.key_table.KeySlots.{KeySlots}
-use Rattle.mvmap.proofs.KeyTables.{in_order_sorted, key_found, key_itself, lookup_in_order, position_within, same_key}
+use Rattle.mvmap.proofs.KeyTables.{in_order_sorted, key_found, key_itself, lookup_in_order, same_key}
 use Rattle.mvmap.proofs.Buckets.{get_past}
 use Rattle.mvmap.proofs.Nests.{AreAllAscending, value_over_both}
 use Rattle.mvmap.proofs.Searches.{no_writers}
@@ -130,7 +130,7 @@ module _ (rs : List Record) (es : Positions) (list : List KeySlots) (h : AreInde
             at_it : (p : ℕ) → position_of es k ≡ Some p → (b : Bool) → is_at (key_cmp k) s.key ≡ b → p ≡ i → AreNext k b
             at_it p e true t same = (
               writers_are (i + 1) (Some p) e ∙ ap slots_if (get_in_part list (i + 1) p (omega (arith, same))) ∙ ap (slots_in list) same ∙ here,
-              λ yes. writers_are i (Some p) e ∙ ap slots_if (get_past_part list i p (omega (arith, same)))
+              λ yes. writers_are i (Some p) e ∙ ap slots_if (get_past_part list i p (omega (arith, same))),
             )
             at_it p e false t same = let yes : is_at (key_cmp k) s.key ≡ true = itself (e ∙ ap Some same) in cc
 
@@ -165,7 +165,10 @@ module _ (rs : List Record) (es : Positions) (list : List KeySlots) (h : AreInde
 -- where the writers rise at each position of the list, they rise at each key
 pub all_ascending : (es : Positions) (list : List KeySlots) (n : ℕ) → length list ≤ n → ((p : ℕ) → p < n → AreAscending (slots_in list p)) → AreAllAscending (in_order es list)
 all_ascending [] list n past up = tt
-all_ascending (e ∷ es) list n past up = (elim (cases_lt e.1 n) [
-  | inl l ↦ up e.1 l
-  | inr beyond ↦ subst AreAscending (sym (ap slots_if (get_past list e.1 (omega arith)))) no_writers
-], all_ascending es list n past up)
+all_ascending (e ∷ es) list n past up = (
+  elim (cases_lt e.1 n) [
+    | inl l ↦ up e.1 l
+    | inr beyond ↦ subst AreAscending (sym (ap slots_if (get_past list e.1 (omega arith)))) no_writers
+  ],
+  all_ascending es list n past up,
+)

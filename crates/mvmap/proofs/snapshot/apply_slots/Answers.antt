@@ -1,11 +1,11 @@
-use Rattle.std.proofs.Common.{◌≡◌, ◌∙◌, List, ap, arith, sym, subst, refl}
+use Rattle.std.proofs.Common.{◌∙◌, List, ap, arith, sym, subst}
 use Rattle.std.specs.FinMap as map
 use Rattle.std.specs.List.Sorted.{IsStrictlySortedBy}
 use Rattle.std.specs.Map.{keys_of}
 use Rattle.mvmap.specs.KeyTable.{AreIndexed, by_key, in_order, positions_of}
 use Rattle.mvmap.specs.Slots.{Slots, at_places, flat, value_over_slots}
 use Rattle.mvmap.specs.Versions.{place_cmp}
-use Rattle.mvmap.specs.Writers.{AreAscending, ByWriter}
+use Rattle.mvmap.specs.Writers.{ByWriter}
 use Rattle.mvmap.specs.declared.key_table.KeySlots.{KeySlots}
 use Rattle.mvmap.proofs.Applied.{all_ascending, all_before, next_applied, next_ascending, none_before}
 use Rattle.mvmap.proofs.KeyTables.{in_order_sorted}

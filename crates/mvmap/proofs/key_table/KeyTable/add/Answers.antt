@@ -1,8 +1,6 @@
-use Rattle.std.proofs.Common.{◌≡◌, ◌∙◌, ◌++◌, ◌∷◌, List, [], ap, arith, length, refl, sym, subst}
-use Rattle.mvmap.specs.Hints.{noted}
+use Rattle.std.proofs.Common.{◌≡◌, ◌∙◌, ◌++◌, ◌∷◌, List, [], ap, arith, length, sym, subst}
 use Rattle.mvmap.specs.KeyTable.{AreFound, AreIndexed, positions_of}
 use Rattle.mvmap.specs.declared.key_table.KeySlots.{KeySlots}
-use Rattle.mvmap.specs.declared.key_table.KeyTable.{KeyTable}
 use Rattle.mvmap.proofs.KeyTables.{added_at, added_found, added_in_order, added_indexed, no_keys, none_found, still_found}
 use Rattle.mvmap.proofs.key_table.KeyTable.add.Goals as goal
 use Rattle.mvmap.proofs.key_table.KeyTable.add.Goals.{After-place, After-push_reserved, then-position-eq0, else-position-eq0}
