@@ -76,8 +76,8 @@ impl Hints {
         let _ = self.buckets.resize(BUCKET_COUNT, NO_HINT);
     }
 
-    /// Notes the position of a key as its bucket's hint, unless the bucket has one, and answers whether it is that hint
-    /// now. In place of a position past the last that a hint can say, that last one is noted, which is a wrong hint.
+    /// Notes the position of a key as its bucket's hint, unless the bucket has one, and answers whether it
+    /// did. In place of a position past the last that a hint can say, that last one is noted, and the answer is no.
     #[inline(always)]
     pub(crate) fn note(&mut self, key: &Key, position: usize) -> bool
         ensures buckets { self.new.buckets.items ≡ noted self.old.buckets.items key.now position }
