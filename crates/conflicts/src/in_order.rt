@@ -16,8 +16,7 @@ use crate::reading::read_over;
 use crate::table::Table;
 use crate::wait::Wait;
 use rv_ledger::{Call, Job, Key, Store};
-use rv_mem::PageRoom;
-use rv_step::apply_writes;
+use rv_step::{RunRoom, apply_writes};
 use std::alloc::{AllocError, Global};
 use std::marker::Model;
 
@@ -81,8 +80,8 @@ struct Pass {
     table: Table,
     /// How many calls changed each key.
     writers: CallCounts,
-    /// Room for the pages of the next call.
-    room: PageRoom,
+    /// Room for the run of the next call.
+    room: RunRoom,
 }
 
 /// The same for some calls and a storage. Refused where memory ran out.
@@ -95,7 +94,7 @@ fn all_waits(alloc: Global, calls: &[Call], store: Store) -> Result<Found, Alloc
         store,
         table: Table::new(alloc),
         writers: CallCounts::new(alloc),
-        room: PageRoom::new(alloc),
+        room: RunRoom::new(alloc),
     };
     let mut all = Vec::with_capacity(alloc, calls.len())?;
     for (index, call) in calls.iter().enumerate() {

@@ -15,6 +15,7 @@ mod outcome;
 mod over;
 mod page_loop;
 mod run;
+mod run_room;
 mod stage;
 mod storage;
 mod storage_calls;
@@ -25,5 +26,6 @@ pub use laws::{call_ends, charged_steps_within_gas, each_step_takes_gas, one_rec
 pub use machine::Machine;
 pub use over::{Contents, receipt_over};
 pub use run::{Pause, Run};
+pub use run_room::RunRoom;
 pub use stage::Stage;
 pub use storage::apply_writes;

@@ -11,6 +11,7 @@ use crate::answer::StorageAnswer;
 use crate::ended_run::EndedRun;
 use crate::machine::Machine;
 use crate::outcome::InstructionOutcome;
+use crate::run_room::RunRoom;
 use crate::stage::{Stage, end_with};
 use crate::storage_calls::bytes_of;
 use elf32::BasePages;
@@ -69,18 +70,19 @@ impl Run {
     pub fn start(alloc: Global, call: &Call) -> Result<Run, AllocError>
         ensures { IfOk result (λ r. r ≡ run_at_start call.now) }
     {
-        Run::start_in(alloc, PageRoom::new(alloc), call)
+        Run::start_in(alloc, RunRoom::new(alloc), call)
     }
 
-    /// The same in the room of an earlier run's pages.
-    pub fn start_in(alloc: Global, room: PageRoom, call: &Call) -> Result<Run, AllocError>
+    /// The same in the room of an earlier run.
+    pub fn start_in(alloc: Global, room: RunRoom, call: &Call) -> Result<Run, AllocError>
         ensures { IfOk result (λ r. r ≡ run_at_start call.now) }
     {
-        let machine = Machine::start(alloc, room, call)?;
+        let RunRoom { pages, answers } = room;
+        let machine = Machine::start(alloc, pages, call)?;
         Ok(Run {
             call: call.copy()?,
             machine,
-            answers: Vec::new(alloc),
+            answers,
             stage: Stage::Running,
         })
     }
@@ -216,15 +218,16 @@ impl Run {
         ensures answers { result.answers.items ≡ self.answers }
         ensures receipt { IsReceiptOf result.receipt self }
     {
-        self.finish_with_room().0
+        let mut room = RunRoom::new(*self.answers.allocator());
+        self.finish_in(&mut room)
     }
 
-    /// The same, and the room of its pages beside it.
-    pub fn finish_with_room(self) -> (EndedRun, PageRoom)
+    /// The same, and the room of its pages is left in `room`.
+    pub fn finish_in(self, room: &mut RunRoom) -> EndedRun
         requires { IsEnded self.stage }
-        ensures call { result.0.call ≡ self.call }
-        ensures answers { result.0.answers.items ≡ self.answers }
-        ensures receipt { IsReceiptOf result.0.receipt self }
+        ensures call { result.call ≡ self.call }
+        ensures answers { result.answers.items ≡ self.answers }
+        ensures receipt { IsReceiptOf result.receipt self }
     {
         let Run {
             call,
@@ -234,22 +237,29 @@ impl Run {
         } = self;
         match stage {
             Stage::Ended(end, out) => {
-                let (receipt, room) = receipt(call.gas(), end, out, machine);
-                let ended = EndedRun {
+                let (receipt, pages) = receipt(call.gas(), end, out, machine);
+                room.pages = pages;
+                EndedRun {
                     call,
                     answers,
                     receipt,
-                };
-                (ended, room)
+                }
             }
             _ => unreachable!(),
         }
     }
 
-    /// The room of the pages of a run that is given up.
-    pub fn into_room(self) -> PageRoom {
-        let Run { machine, .. } = self;
-        machine.memory.into_room()
+    /// The room of a run that is given up.
+    pub fn into_room(self) -> RunRoom {
+        let Run {
+            machine,
+            answers,
+            ..
+        } = self;
+        let mut room = RunRoom::new(*answers.allocator());
+        room.pages = machine.memory.into_room();
+        room.keep_answers(answers);
+        room
     }
 }
 

@@ -84,6 +84,15 @@ impl Scheduler {
         self.workers[worker].swap_answers(list);
     }
 
+    /// Whether there is room for one more answer to a worker's run.
+    #[inline(always)]
+    pub fn has_answer_room(&self, worker: usize) -> bool
+        requires { worker < length self.now.tasks }
+        ensures { (result ≡ true) ↔ (1 ≤ get_or self.now.rooms worker 0) }
+    {
+        self.workers[worker].has_room()
+    }
+
     /// Adds an answer to those of a worker's run, in room that was made. Takes no memory.
     pub fn answer(&mut self, worker: usize, answer: StorageAnswer)
         requires counts { MayCount worker self.old }

@@ -202,6 +202,14 @@ impl Worker {
         mem::swap(&mut self.answers, list);
     }
 
+    /// Whether there is room for one more answer.
+    #[inline(always)]
+    pub(crate) fn has_room(&self) -> bool
+        ensures { (result ≡ true) ↔ (1 ≤ self.now.room) }
+    {
+        self.answers.len() < self.answers.capacity()
+    }
+
     /// Keeps one more answer in room that was made. Takes no memory.
     pub(crate) fn push(&mut self, answer: StorageAnswer)
         requires { 1 ≤ self.old.room }

@@ -132,6 +132,9 @@ pub(crate) fn make_answer_room(
     ensures unchanged { OnErr result (scheduler.new ≡ scheduler.old) }
     ensures succeeds { 1 ≤ get_or scheduler.old.rooms worker 0 → result ≡ Ok tt }
 {
+    if scheduler.has_answer_room(worker) {
+        return Ok(());
+    }
     scheduler.swap_answers(worker, spare);
     let made = spare.reserve(1);
     scheduler.swap_answers(worker, spare);

@@ -67,6 +67,12 @@ impl ReadyRecord {
         }
     }
 
+    /// The run's answers, whose room can be used again. What else is left over is dropped.
+    pub fn into_answers(self) -> Vec<StorageAnswer> {
+        let ReadyRecord { answers, .. } = self;
+        answers
+    }
+
     /// The run, where it was not recorded. Takes no memory.
     pub(crate) fn into_run(self) -> EndedRun
         requires { (run : EndedRun) × IsReadyOf run self }

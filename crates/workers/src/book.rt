@@ -331,6 +331,7 @@ impl<J: JobName, H: JobSource> Book<J, H> {
     }
 
     /// Checks that the share's worker may make a step now. Refused as `ask` is; the fault is written.
+    #[inline(always)]
     fn ready(&mut self, share: &Share, owed: NextStep) -> Result<(), WrittenFault>
         ensures ready { OnOk result (Owes owed share.now self.old.core × (self.old.fault ≡ None) × (share.now.counts.steps < count_limit) × (self.new ≡ self.old)) }
         ensures refused { IfErr result (λ e. self.new ≡ record self.old { fault = Some e }) }
@@ -349,6 +350,7 @@ impl<J: JobName, H: JobSource> Book<J, H> {
     }
 
     /// Whether the share's worker owes a step, and the share agrees with the core on its counts.
+    #[inline(always)]
     fn is_owed(&self, share: &Share, owed: NextStep) -> bool
         ensures { (result ≡ true) ↔ Owes owed share.now self.now.core }
     {

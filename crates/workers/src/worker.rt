@@ -15,18 +15,17 @@ use crate::gate::{Gate, Spin};
 use crate::patience::Patience;
 use crate::shared::Shared;
 use rv_ledger::{Key, StoredValue};
-use rv_mem::PageRoom;
-use rv_step::{Pause, Run};
+use rv_step::{Pause, Run, RunRoom};
 use std::alloc::Global;
 use std::mem::replace;
 use std::sync::Wait;
 use stm_core::{JobSource, NextStep, ReadResult, ReadyRecord, RecordParts, StepKind};
 
-/// What a worker keeps from one step to the next: the room that the pages of one run leave to the next one, and how it
-/// spins between two looks at the cell.
+/// What a worker keeps from one step to the next: the room that one run leaves to the next one, and how it spins between
+/// two looks at the cell.
 #[derive(Drop)]
 struct Kept<S: Spin + Drop> {
-    room: PageRoom,
+    room: RunRoom,
     spin: S,
 }
 
@@ -116,7 +115,7 @@ fn make_steps<J: JobName, H: JobSource, R: Wait, G: Gate, S: Spin + Drop>(
 {
     let mut next = NextStep::Ask;
     let mut kept = Kept {
-        room: PageRoom::new(alloc),
+        room: RunRoom::new(alloc),
         spin,
     };
     for _ in rt.forever() {
@@ -215,7 +214,7 @@ fn run_call<J: JobName, H: JobSource, R: Wait, G: Gate>(
     alloc: Global,
     shared: &Shared<J, H>,
     share: &mut Share,
-    room: &mut PageRoom,
+    room: &mut RunRoom,
     call: u16,
     incarnation: u16,
     gate: &G,
@@ -229,7 +228,7 @@ fn run_call<J: JobName, H: JobSource, R: Wait, G: Gate>(
     let Some(own) = shared.job.block().calls().get(usize::from(call)) else {
         return Err(WorkFault::Met(shared.refuse(rt, OutsideFault::Foreign)));
     };
-    let Ok(mut run) = Run::start_in(alloc, replace(room, PageRoom::new(alloc)), own) else {
+    let Ok(mut run) = Run::start_in(alloc, replace(room, RunRoom::new(alloc)), own) else {
         return Err(WorkFault::Met(shared.refuse(rt, OutsideFault::Memory)));
     };
     if !run_to_end(rt, shared, share, call, incarnation, &mut run)? {
@@ -241,14 +240,14 @@ fn run_call<J: JobName, H: JobSource, R: Wait, G: Gate>(
         });
     }
     gate.held(share.worker());
-    let (ended, left) = run.finish_with_room();
-    *room = left;
+    let ended = run.finish_in(room);
     let Ok(record_parts) = RecordParts::of(alloc, &ended) else {
         return Err(WorkFault::Met(shared.refuse(rt, OutsideFault::Memory)));
     };
     let mut ready = ReadyRecord::of(ended, record_parts);
     let next = record(rt, alloc, shared, share, call, incarnation, &mut ready)?;
-    // What the record left over in `ready` is dropped here, after the lock.
+    // What else the record left over in `ready` is dropped here, after the lock.
+    room.keep_answers(ready.into_answers());
     Ok(next)
 }
 
