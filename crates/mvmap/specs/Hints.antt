@@ -6,11 +6,11 @@ use Rattle.mvmap.specs.declared.hints.Hint.TheVariants.{Nothing, At, Unknown}
 
 -- the content of a bucket without a hint: 2^32 - 1
 abbrev pub no_hint : ℕ
-no_hint = 4294967295
+no_hint = 65535
 
 -- the last position that a hint can say
 abbrev pub last_hint : ℕ
-last_hint = 4294967294
+last_hint = 65534
 
 -- the eight bytes of a key from byte word * 8 on, as a number, the lowest first
 unfoldable pub word_of : List ℕ → ℕ → ℕ
@@ -20,9 +20,9 @@ word_of key word = from_le_bytes w64 (drop (word * 8) key)
 abbrev pub sum_of : List ℕ → ℕ
 sum_of key = (word_of key 0 + word_of key 1 + word_of key 2 + word_of key 3) % 2 ^ 64
 
--- the bucket of a key: the highest twelve bits of a product modulo 2^64, of its sum with the higher half mixed into the lower
+-- the bucket of a key: the highest fourteen bits of a product modulo 2^64, of its sum with the higher half mixed into the lower
 unfoldable pub bucket_of : List ℕ → ℕ
-bucket_of key = bit_xor (sum_of key) (sum_of key / 2 ^ 32) * 11400714819323198485 % 2 ^ 64 / 2 ^ 52
+bucket_of key = bit_xor (sum_of key) (sum_of key / 2 ^ 32) * 11400714819323198485 % 2 ^ 64 / 2 ^ 50
 
 -- what the content of a bucket says
 abbrev pub hint_in : Option ℕ → Hint

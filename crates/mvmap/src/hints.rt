@@ -8,13 +8,13 @@ use rv_ledger::Key;
 use std::alloc::Global;
 
 /// How many bits of a hash say the bucket of a key.
-const BUCKET_BITS: u32 = 12;
+const BUCKET_BITS: u32 = 14;
 
 /// The number of buckets.
-const BUCKET_COUNT: usize = 4096;
+const BUCKET_COUNT: usize = 16_384;
 
 /// The content of a bucket without a hint.
-const NO_HINT: u32 = u32::MAX;
+const NO_HINT: u16 = u16::MAX;
 
 /// The last position that a hint can say.
 const LAST_HINT: usize = NO_HINT as usize - 1;
@@ -43,7 +43,7 @@ pub(crate) enum Hint {
 /// the key that it looks for stands there. An empty bucket is to be believed: no key of it was noted.
 #[derive(Drop)]
 pub(crate) struct Hints {
-    buckets: Vec<u32>,
+    buckets: Vec<u16>,
 }
 
 impl Hints {
@@ -81,11 +81,11 @@ impl Hints {
     #[inline(always)]
     pub(crate) fn note(&mut self, key: &Key, position: usize) -> bool
         ensures buckets { self.new.buckets.items ≡ noted self.old.buckets.items key.now position }
-        ensures noted { IsTrue result ↔ ((hint_of self.old.buckets.items key.now ≡ Nothing) × (position ≤ 4294967294)) }
+        ensures noted { IsTrue result ↔ ((hint_of self.old.buckets.items key.now ≡ Nothing) × (position ≤ 65534)) }
     {
         match self.buckets.get_mut(bucket_of(key)) {
             Some(bucket) if *bucket == NO_HINT => {
-                *bucket = position.min(LAST_HINT) as u32;
+                *bucket = position.min(LAST_HINT) as u16;
                 position <= LAST_HINT
             }
             _ => false,

@@ -144,7 +144,7 @@ impl KeyTable {
         ensures buckets { self.new.hints.buckets.items ≡ noted self.old.hints.buckets.items key.now position }
         ensures found { OnOk result ((hint_of self.new.hints.buckets.items key.now ≡ At position) ⊎ (position_of self.new.others.entries key.now ≡ Some position)) }
         ensures others { (q : List ℕ) → (position_of self.new.others.entries q ≡ position_of self.old.others.entries q) ⊎ ((key.now ≡ q) × (position_of self.new.others.entries q ≡ Some position)) }
-        ensures spared { hint_of self.old.hints.buckets.items key.now ≡ Nothing → position ≤ 4294967294 → self.new.others.entries ≡ self.old.others.entries }
+        ensures spared { hint_of self.old.hints.buckets.items key.now ≡ Nothing → position ≤ 65534 → self.new.others.entries ≡ self.old.others.entries }
         ensures unchanged { OnErr result (self.new.others.entries ≡ self.old.others.entries) }
     {
         if !self.hints.note(key, position) {

@@ -12,4 +12,4 @@ unfolding bucket_of
 returns-clause-value c =
     let sum : (c.word_at.result + c.word_at-2.result + c.word_at-3.result + c.word_at-4.result) % 2 ^ 64 ≡ sum_of c.args.key.now =
     rw (c.word_at.ensures, c.word_at-2.ensures, c.word_at-3.ensures, c.word_at-4.ensures, c.bytes-bytes.ensures.value) in
-    ap (λ (s : ℕ). bit_xor s (s / 2 ^ 32) * 11400714819323198485 % 2 ^ 64 / 2 ^ 52) (reduced c.word_at.result c.word_at-2.result c.word_at-3.result c.word_at-4.result (2 ^ 64) ∙ sum)
+    ap (λ (s : ℕ). bit_xor s (s / 2 ^ 32) * 11400714819323198485 % 2 ^ 64 / 2 ^ 50) (reduced c.word_at.result c.word_at-2.result c.word_at-3.result c.word_at-4.result (2 ^ 64) ∙ sum)
