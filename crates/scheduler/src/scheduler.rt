@@ -88,7 +88,7 @@ impl Scheduler {
     #[inline(always)]
     pub fn has_answer_room(&self, worker: usize) -> bool
         requires { worker < length self.now.tasks }
-        ensures { (result ≡ true) ↔ (1 ≤ get_or self.now.rooms worker 0) }
+        ensures { result ≡ nat_lt 0 (get_or self.now.rooms worker 0) }
     {
         self.workers[worker].has_room()
     }

@@ -1,6 +1,6 @@
 //! What the scheduler keeps of a worker.
 
-ghost use Rattle.std.specs.Prelude.{◌≡◌, ◌≤◌, ◌<◌, ◌+◌, ◌-◌, ◌∷◌, ℕ, [], Bool, IfOk, List, OnErr, OnOk, Option, map, replicate, slice_get, take, vec_capacity, vec_len};
+ghost use Rattle.std.specs.Prelude.{◌≡◌, ◌≤◌, ◌<◌, ◌+◌, ◌-◌, ◌∷◌, ℕ, [], Bool, IfOk, List, OnErr, OnOk, Option, map, nat_lt, replicate, slice_get, take, vec_capacity, vec_len};
 ghost use Rattle.std.specs.Option.{option_copied};
 ghost use Rattle.std.specs.List.{list_all};
 ghost use Rattle.rv_step.specs.declared.answer.StorageAnswer.{StorageAnswer};
@@ -205,7 +205,7 @@ impl Worker {
     /// Whether there is room for one more answer.
     #[inline(always)]
     pub(crate) fn has_room(&self) -> bool
-        ensures { (result ≡ true) ↔ (1 ≤ self.now.room) }
+        ensures { result ≡ nat_lt 0 self.now.room }
     {
         self.answers.len() < self.answers.capacity()
     }
