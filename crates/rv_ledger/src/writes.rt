@@ -88,6 +88,13 @@ impl Writes {
         self.entries.len()
     }
 
+    /// For a caller's proof: at most 256 keys are written. Does nothing when it runs.
+    pub fn holds(&self)
+        ensures { map.len self.now ≤ 256 }
+    {
+        let _ = &self.entries;
+    }
+
     /// Whether a key may be written: it was written already, or fewer than 256 other keys were.
     pub fn has_room(&self, key: &Key) -> bool
         ensures { result ≡ has_room self.now key.now }
