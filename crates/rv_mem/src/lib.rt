@@ -13,4 +13,3 @@ pub use access::Access;
 pub use code::{code_page, word_in};
 pub use fault::Fault;
 pub use memory::Memory;
-pub use pages::PageRoom;

@@ -12,7 +12,7 @@ ghost use Rattle.rv_mem.specs.declared.fault.Fault.TheVariants.{MemoryFault};
 use crate::access::Access;
 use crate::fault::Fault;
 use crate::pages::{
-    PageRoom, Pages, byte_at, halfword_at, own_place, program_pages, put_own, read, word_at, write,
+    Pages, begin, byte_at, halfword_at, own_place, program_pages, put_own, read, word_at, write,
     write_in_page,
 };
 use crate::rights::{aligned_place, place, range_has};
@@ -66,22 +66,19 @@ impl Memory {
         requires { length input.now ≤ 4096 }
         ensures { IfOk result (λ m. m ≡ start_space image.now input.now) }
     {
-        Memory::in_room(PageRoom::new(alloc), image, input)
-    }
-
-    /// The same in the room of an earlier call's memory, so that the allocator has less to do.
-    pub fn in_room(room: PageRoom, image: &Image, input: &[u8]) -> Result<Memory, AllocError>
-        requires { length input.now ≤ 4096 }
-        ensures { IfOk result (λ m. m ≡ start_space image.now input.now) }
-    {
-        let mut pages = program_pages(room, image)?;
+        let mut pages = program_pages(alloc, image)?;
         put_input(&mut pages, input)?;
         Ok(Memory { pages })
     }
 
-    /// The room of a memory that nobody needs any more. Takes no memory.
-    pub fn into_room(self) -> PageRoom {
-        PageRoom::of(self.pages)
+    /// Makes it the memory of another call before its first instruction, as `of` does, in its own room. Refused where memory
+    /// ran out; then it is to be dropped or begun again.
+    pub fn begin(&mut self, image: &Image, input: &[u8]) -> Result<(), AllocError>
+        requires { length input.now ≤ 4096 }
+        ensures { OnOk result (self.new ≡ start_space image.now input.now) }
+    {
+        begin(&mut self.pages, image)?;
+        put_input(&mut self.pages, input)
     }
 
     /// The instruction word at the address, or Misaligned where the address is not a multiple of 4, or

@@ -30,31 +30,8 @@ pub struct Pages {
     pub own: Vec<Page>,
 }
 
-/// The lists of a call's pages, whose room the next call's pages can use.
-#[derive(Drop)]
-pub struct PageRoom {
-    index: Vec<PagePlace>,
-    own: Vec<Page>,
-}
-
-impl PageRoom {
-    /// No room yet. Takes no memory.
-    pub fn new(alloc: Global) -> PageRoom {
-        PageRoom {
-            index: Vec::new(alloc),
-            own: Vec::new(alloc),
-        }
-    }
-
-    /// The room of a call's pages.
-    pub(crate) fn of(pages: Pages) -> PageRoom {
-        let Pages { index, own, .. } = pages;
-        PageRoom { index, own }
-    }
-}
-
-/// The pages of a program before its first instruction, in the room of other pages; refused where memory ran out.
-pub fn program_pages(room: PageRoom, image: &Image) -> Result<Pages, AllocError>
+/// The pages of a program before its first instruction; refused where memory ran out.
+pub fn program_pages(alloc: Global, image: &Image) -> Result<Pages, AllocError>
     ensures bytes { IfOk result (λ p. memory_bytes p ≡ segment_bytes image.now.segments) }
     ensures rights { IfOk result (λ p. (base_of p).rights ≡ page_rights page_count image.now.segments) }
     ensures paged { IfOk result IsPaged }
@@ -63,19 +40,28 @@ pub fn program_pages(room: PageRoom, image: &Image) -> Result<Pages, AllocError>
     // For the proof alone: the segments end before the page of the input.
     let _ = image.segments();
     let base = Arc::try_clone(image.base())?;
-    let PageRoom { mut index, mut own } = room;
-    refill(&mut index, &base.index)?;
-    own.clear();
-    own.reserve(OWN_ROOM)?;
+    let mut index = Vec::new(alloc);
+    index.extend_from_slice(&base.index)?;
+    let own = Vec::with_capacity(alloc, OWN_ROOM)?;
     Ok(Pages { base, index, own })
 }
 
-/// Makes a list of these places in the room of another; refused where memory ran out.
-fn refill(list: &mut Vec<PagePlace>, places: &[PagePlace]) -> Result<(), AllocError>
-    ensures { OnOk result (list.new.items ≡ places.now) }
+/// Makes them the pages of a program before its first instruction, in their own room; refused where memory ran out, and
+/// then nothing changes.
+pub fn begin(pages: &mut Pages, image: &Image) -> Result<(), AllocError>
+    requires paged { IsPaged pages.old }
+    ensures bytes { OnOk result (memory_bytes pages.new ≡ segment_bytes image.now.segments) }
+    ensures rights { OnOk result ((base_of pages.new).rights ≡ page_rights page_count image.now.segments) }
+    ensures paged { IsPaged pages.new }
+    ensures input { OnOk result (IsWritable (base_of pages.new) input_page) }
 {
-    list.clear();
-    list.extend_from_slice(places)
+    // For the proof alone: the segments end before the page of the input.
+    let _ = image.segments();
+    let base = Arc::try_clone(image.base())?;
+    pages.index.as_mut_slice().copy_from_slice(&base.index);
+    pages.own.clear();
+    pages.base = base;
+    Ok(())
 }
 
 /// The page at a place, among the program's or the call's own.

@@ -1,6 +1,6 @@
 //! The machine of one call, and one step of it.
 
-ghost use Rattle.std.specs.Prelude.{◌≡◌, ◌<◌, ◌≤◌, ◌*◌, ◌%◌, ◌^◌, if◌then◌else◌, [], false, IfOk, IsTrue, None, Ok, length};
+ghost use Rattle.std.specs.Prelude.{◌≡◌, ◌<◌, ◌≤◌, ◌*◌, ◌%◌, ◌^◌, if◌then◌else◌, [], false, IfOk, IsTrue, None, Ok, OnOk, length};
 ghost use Rattle.rv_alu.specs.Accesses.{store_width, width_of};
 ghost use Rattle.rv_alu.specs.Effects.{effect_of, register_value, is_plain};
 ghost use Rattle.rv_ledger.specs.declared.end.End.TheVariants.{OutOfGas, Trapped};
@@ -9,6 +9,7 @@ ghost use Rattle.rv_isa.specs.declared.instruction.Instr.TheVariants.{Load, Stor
 ghost use Rattle.rv_mem.specs.Code.{HasCode};
 ghost use Rattle.rv_mem.specs.Space.{LeavesMemory, as_answer, loaded, stored};
 ghost use Rattle.rv_mem.specs.declared.access.Access.TheVariants as access;
+ghost use Rattle.rv_step.specs.Moment.{start_registers};
 
 use crate::accesses::{number_at, store_number};
 use crate::faults::{refusal, trap_of};
@@ -20,7 +21,7 @@ use gas::{Meter, cost};
 use rv_alu::{address, execute, extended};
 use rv_isa::{Immediate, Instr, LoadKind, Reg, Regs, StoreKind, decode};
 use rv_ledger::{Call, End, Rules, Writes};
-use rv_mem::{Memory, PageRoom};
+use rv_mem::Memory;
 use std::alloc::{AllocError, Global};
 
 /// The machine of one call between two instructions. What each instruction needs stands first: its code is shorter then.
@@ -46,24 +47,34 @@ impl Machine {
     ghost use Rattle.rv_step.specs.Growth.{instruction_at};
     ghost use Rattle.rv_step.specs.Meets.{MeetsEffect, MeetsInstruction, MeetsInstructions, is_next};
 
-    /// The machine of a call before its first instruction, in the room of other pages; refused where memory ran out.
+    /// The machine of a call before its first instruction; refused where memory ran out.
     #[tactic(auto, unfolding(crate::specs::Moment::start))]
-    pub(crate) fn start(alloc: Global, room: PageRoom, call: &Call) -> Result<Machine, AllocError>
+    pub(crate) fn start(alloc: Global, call: &Call) -> Result<Machine, AllocError>
         ensures { IfOk result (λ s. s ≡ start call.now) }
     {
-        let input = call.input();
-        let mut regs = Regs::zero();
-        regs.set(Reg::sp(), END_ADDRESS);
-        regs.set(Reg::a0(), INPUT_ADDRESS);
-        regs.set(Reg::a1(), input.len() as u32);
         Ok(Machine {
             pc: call.image().entry(),
             gas: Meter::new(call.gas()),
-            memory: Memory::in_room(room, call.image(), input)?,
-            regs,
+            memory: Memory::of(alloc, call.image(), call.input())?,
+            regs: start_registers(call),
             own: Writes::new(alloc),
             rules: call.rules(),
         })
+    }
+
+    /// Makes it the machine of another call before its first instruction, in its own place. Refused where memory ran out;
+    /// then it is to be dropped or begun again.
+    #[tactic(auto, unfolding(crate::specs::Moment::start))]
+    pub(crate) fn begin(&mut self, call: &Call) -> Result<(), AllocError>
+        ensures { OnOk result (self.new ≡ start call.now) }
+    {
+        self.memory.begin(call.image(), call.input())?;
+        self.pc = call.image().entry();
+        self.gas = Meter::new(call.gas());
+        self.regs = start_registers(call);
+        self.own.clear();
+        self.rules = call.rules();
+        Ok(())
     }
 
     /// Executes instructions up to and including the first one after which the machine does not go on. An
@@ -223,4 +234,15 @@ impl Machine {
     {
         self.pc = self.pc.wrapping_add(4);
     }
+}
+
+/// The registers of a call before its first instruction.
+fn start_registers(call: &Call) -> Regs
+    ensures { result ≡ start_registers (length call.now.input) }
+{
+    let mut regs = Regs::zero();
+    regs.set(Reg::sp(), END_ADDRESS);
+    regs.set(Reg::a0(), INPUT_ADDRESS);
+    regs.set(Reg::a1(), call.input().len() as u32);
+    regs
 }

@@ -11,13 +11,12 @@ ghost use Rattle.rv_step.specs.Over.{IsBeginningOver, is_ended};
 ghost use Rattle.rv_step.specs.Run.{left_for};
 
 use crate::machine::Machine;
+use crate::machine_room::MachineRoom;
 use crate::run::{receipt, run_until_stop};
 use crate::stage::{Stage, is_ended};
 use elf32::BasePages;
 use rv_ledger::{Call, Key, Receipt, Store, StoredValue};
-use rv_mem::PageRoom;
 use std::alloc::{AllocError, Global};
-use std::mem::replace;
 
 /// What a call reads: a storage, or what stands for one.
 pub trait Contents {
@@ -36,17 +35,17 @@ impl Contents for Store {
     }
 }
 
-/// The receipt of a call that is run over a storage. It takes no room for the storage's answers. The call's pages
-/// take the room of an earlier call's, and leave it to the next. Refused where memory ran out.
+/// The receipt of a call that is run over a storage. It takes no room for the storage's answers. The call's machine
+/// begins in the place of an earlier call's, and leaves it to the next. Refused where memory ran out.
 pub fn receipt_over<S: Contents>(
     alloc: Global,
-    room: &mut PageRoom,
+    room: &mut MachineRoom,
     call: &Call,
     store: &S,
 ) -> Result<Receipt, AllocError>
     ensures { IfOk result (λ r. r ≡ ends call.now (S.storage store.now)) }
 {
-    let mut machine = Machine::start(alloc, replace(room, PageRoom::new(alloc)), call)?;
+    let mut machine = room.start(alloc, call)?;
     let program: &BasePages = call.image().base();
     let mut stage = Stage::Running;
     while !is_ended(&stage) {
@@ -54,8 +53,8 @@ pub fn receipt_over<S: Contents>(
     }
     match stage {
         Stage::Ended(end, out) => {
-            let (receipt, left) = receipt(call.gas(), end, out, machine);
-            *room = left;
+            let receipt = receipt(call.gas(), end, out, &mut machine);
+            room.keep(machine);
             Ok(receipt)
         }
         _ => unreachable!(),

@@ -16,10 +16,10 @@ use crate::stage::{Stage, end_with};
 use crate::storage_calls::bytes_of;
 use elf32::BasePages;
 use read_set::Origin;
-use rv_ledger::{Call, End, Key, Receipt, StoredOutput, StoredValue, Value};
-use rv_mem::PageRoom;
+use rv_ledger::{Call, End, Key, Receipt, StoredOutput, StoredValue, Value, Writes};
 use std::alloc::{AllocError, Global};
 use std::marker::Model;
+use std::mem::replace;
 
 /// How many answers a run has room for once it has the first one. Most calls ask for no more, and the allocator is
 /// slower with a list of more than a kibibyte.
@@ -29,7 +29,7 @@ const FIRST_ROOM: usize = 2;
 #[derive(Drop)]
 pub struct Run {
     call: Call,
-    machine: Machine,
+    machine: Box<Machine>,
     answers: Vec<StorageAnswer>,
     stage: Stage,
 }
@@ -43,9 +43,9 @@ impl Model for Run {
 
     ghost coded = { Prim.hlevel (codes, machine_row.coded) };
 
-    ghost view = { λ r. record { call = r.call; machine = r.machine; answers = r.answers.items; stage = r.stage } };
+    ghost view = { λ r. record { call = r.call; machine = r.machine.value; answers = r.answers.items; stage = r.stage } };
 
-    ghost invariant = { λ r. IsBeginning (record { call = r.call; machine = r.machine; answers = r.answers.items; stage = r.stage }) };
+    ghost invariant = { λ r. IsBeginning (record { call = r.call; machine = r.machine.value; answers = r.answers.items; stage = r.stage }) };
 }
 
 /// Why a run stands still.
@@ -77,8 +77,11 @@ impl Run {
     pub fn start_in(alloc: Global, room: RunRoom, call: &Call) -> Result<Run, AllocError>
         ensures { IfOk result (λ r. r ≡ run_at_start call.now) }
     {
-        let RunRoom { pages, answers } = room;
-        let machine = Machine::start(alloc, pages, call)?;
+        let RunRoom {
+            mut machine,
+            answers,
+        } = room;
+        let machine = machine.start(alloc, call)?;
         Ok(Run {
             call: call.copy()?,
             machine,
@@ -222,7 +225,7 @@ impl Run {
         self.finish_in(&mut room)
     }
 
-    /// The same, and the room of its pages is left in `room`.
+    /// The same, and its machine is left in `room`.
     pub fn finish_in(self, room: &mut RunRoom) -> EndedRun
         requires { IsEnded self.stage }
         ensures call { result.call ≡ self.call }
@@ -231,14 +234,14 @@ impl Run {
     {
         let Run {
             call,
-            machine,
+            mut machine,
             answers,
             stage,
         } = self;
         match stage {
             Stage::Ended(end, out) => {
-                let (receipt, pages) = receipt(call.gas(), end, out, machine);
-                room.pages = pages;
+                let receipt = receipt(call.gas(), end, out, &mut machine);
+                room.machine.keep(machine);
                 EndedRun {
                     call,
                     answers,
@@ -249,7 +252,7 @@ impl Run {
         }
     }
 
-    /// The room of a run that is given up.
+    /// The room of a run that is given up: its machine, and the list of its answers.
     pub fn into_room(self) -> RunRoom {
         let Run {
             machine,
@@ -257,7 +260,7 @@ impl Run {
             ..
         } = self;
         let mut room = RunRoom::new(*answers.allocator());
-        room.pages = machine.memory.into_room();
+        room.machine.keep(machine);
         room.keep_answers(answers);
         room
     }
@@ -304,35 +307,22 @@ pub(crate) fn run_until_stop(
     Ok(())
 }
 
-/// The receipt of a call with this gas limit that ended so, and the room of its pages; only a call that returned keeps
-/// its writes.
-pub(crate) fn receipt(
-    limit: u32,
-    end: End,
-    out: StoredOutput,
-    machine: Machine,
-) -> (Receipt, PageRoom)
-    requires { machine.gas ≤ limit }
-    ensures { result.0 ≡ receipt_of limit end out machine }
+/// The receipt of a call with this gas limit that ended so; only a call that returned keeps its writes. They are taken from
+/// the machine, which nobody needs any more.
+pub(crate) fn receipt(limit: u32, end: End, out: StoredOutput, machine: &mut Machine) -> Receipt
+    requires { machine.old.gas ≤ limit }
+    ensures { result ≡ receipt_of limit end out machine.old }
 {
-    let Machine {
-        pc,
-        gas,
-        memory,
-        regs,
-        mut own,
-        rules: _,
-    } = machine;
+    let alloc = machine.own.allocator();
     if end != End::Returned {
-        own.clear();
+        machine.own.clear();
     }
-    let receipt = Receipt {
+    Receipt {
         end,
-        gas: limit - gas.left(),
-        pc,
+        gas: limit - machine.gas.left(),
+        pc: machine.pc,
         out,
-        regs,
-        writes: own,
-    };
-    (receipt, memory.into_room())
+        regs: machine.regs,
+        writes: replace(&mut machine.own, Writes::new(alloc)),
+    }
 }

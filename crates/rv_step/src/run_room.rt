@@ -3,14 +3,14 @@
 ghost use Rattle.std.specs.Prelude.{◌≡◌, []};
 
 use crate::answer::StorageAnswer;
-use rv_mem::PageRoom;
+use crate::machine_room::MachineRoom;
 use std::alloc::Global;
 
-/// The lists of an earlier run, whose room the next run can use, so that the allocator has less to do.
+/// The machine and the list of an earlier run, whose room the next run can use, so that the allocator has less to do.
 #[derive(Drop)]
 pub struct RunRoom {
-    /// The room of its pages.
-    pub(crate) pages: PageRoom,
+    /// The room of its machine.
+    pub(crate) machine: MachineRoom,
     /// The list of its answers, which has none.
     pub(crate) answers: Vec<StorageAnswer>,
     ghost none: { answers.items ≡ [] },
@@ -20,7 +20,7 @@ impl RunRoom {
     /// No room yet. Takes no memory.
     pub fn new(alloc: Global) -> RunRoom {
         RunRoom {
-            pages: PageRoom::new(alloc),
+            machine: MachineRoom::new(),
             answers: Vec::new(alloc),
         }
     }

@@ -8,8 +8,7 @@ ghost use Rattle.rv_step.specs.Fold.{receipts_of, store_after};
 
 pub use on_storage::{run_on, run_over};
 use rv_ledger::{Call, Job, Outcome, Receipt, Store};
-use rv_mem::PageRoom;
-use rv_step::{apply_writes, receipt_over};
+use rv_step::{MachineRoom, apply_writes, receipt_over};
 use std::alloc::{AllocError, Global};
 
 /// Runs the calls of a job one after another on one storage, which starts as the job's. The outcome has
@@ -48,7 +47,7 @@ fn run_all(alloc: Global, calls: &[Call], store: &mut Store) -> Result<Vec<Recei
     ensures store { OnOk result (store.new ≡ store_after calls.now store.old) }
 {
     let mut receipts = Vec::with_capacity(alloc, calls.len())?;
-    let mut room = PageRoom::new(alloc);
+    let mut room = MachineRoom::new();
     for call in calls {
         // A `?` would copy the receipt, which is large, once more.
         let Ok(receipt) = receipt_over(alloc, &mut room, call, store) else {

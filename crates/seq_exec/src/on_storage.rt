@@ -6,8 +6,7 @@ ghost use Rattle.overlay.specs.Overlay.{with_changes};
 
 use overlay::{Layers, Overlay, apply_writes, commit};
 use rv_ledger::{Call, Receipt, Store};
-use rv_mem::PageRoom;
-use rv_step::receipt_over;
+use rv_step::{MachineRoom, receipt_over};
 use std::alloc::{AllocError, Global};
 
 /// Runs calls in order on a storage, each on what the ones before it left. The cost does not grow with the storage.
@@ -37,7 +36,7 @@ pub fn run_over(
     ensures store { OnOk result (with_changes base.now over.new ≡ store_after calls.now (with_changes base.now over.old)) }
 {
     let mut receipts = Vec::with_capacity(alloc, calls.len())?;
-    let mut room = PageRoom::new(alloc);
+    let mut room = MachineRoom::new();
     for call in calls {
         // A `?` would copy the receipt, which is large, once more.
         let Ok(receipt) = receipt_over(alloc, &mut room, call, &Layers { base, over }) else {

@@ -1,4 +1,3 @@
-use Rattle.std.proofs.Common.{◌∙◌, refl}
 use Rattle.std.specs.Arc.{arc_value}
 use Rattle.elf32.specs.Pages.{HoldSegments}
 use Rattle.rv_mem.proofs.Calls.{bytes_none, paged_none}
@@ -7,12 +6,12 @@ use Rattle.rv_mem.proofs.pages.program_pages.Goals as goal
 
 pub returns-clause-bytes : goal.returns-clause-bytes
 returns-clause-bytes c =
-    bytes_none (record { base = c.in_ok-base.base; index = c.refill.new.list; own = c.reserve.new.self }) c.args.image.now.segments (rw c.in_ok-base.ensures c.base.ensures)
-    (c.in_ok-reserve.ensures.items ∙ c.clear.ensures.items) (c.in_ok-refill.ensures ∙ rw c.deref.ensures refl)
+    bytes_none (record { base = c.in_ok-base.base; index = c.extend_from_slice.new.self; own = c.in_ok-own.own }) c.args.image.now.segments (rw c.in_ok-base.ensures c.base.ensures)
+    c.in_ok-own.ensures.items (rw (c.new-index.ensures.items, c.deref.ensures) at c.in_ok-extend_from_slice.ensures.items)
 
 pub returns-clause-paged : goal.returns-clause-paged
 returns-clause-paged c =
-    paged_none _ c.args.image.now.segments (rw c.in_ok-base.ensures c.base.ensures) (c.in_ok-reserve.ensures.items ∙ c.clear.ensures.items) (c.in_ok-refill.ensures ∙ rw c.deref.ensures refl)
+    paged_none _ c.args.image.now.segments (rw c.in_ok-base.ensures c.base.ensures) c.in_ok-own.ensures.items (rw (c.new-index.ensures.items, c.deref.ensures) at c.in_ok-extend_from_slice.ensures.items)
 
 pub returns-clause-input : goal.returns-clause-input
 returns-clause-input c =
