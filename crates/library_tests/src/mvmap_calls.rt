@@ -3,7 +3,7 @@ ghost use Rattle.std.specs.Prelude.{OnOk};
 
 use mvmap::{Answer, MvMap};
 use read_set::Version;
-use rv_ledger::{Change, Key, Store, Value};
+use rv_ledger::{Change, Key, Store, StoredValue, Value};
 use std::alloc::{AllocError, Global};
 use std::process::Abort;
 use std::test::Fail;
@@ -38,7 +38,7 @@ fn set_value(
 ) -> Result<(), ReserveFault>
     ensures { OnOk result (HasNoEstimate map.old.versions → HasNoEstimate map.new.versions) }
 {
-    map.reserve_for(&[key], writer, 1, 256)?;
+    map.reserve_for(&[(key, Change::Gone)], writer, 1, 256)?;
     map.publish(&key, writer, incarnation, Change::Value(&value));
     Ok(())
 }
@@ -47,7 +47,7 @@ fn set_value(
 fn set_gone(map: &mut MvMap, key: Key, writer: u16, incarnation: u16) -> Result<(), ReserveFault>
     ensures { OnOk result (HasNoEstimate map.old.versions → HasNoEstimate map.new.versions) }
 {
-    map.reserve_for(&[key], writer, 1, 0)?;
+    map.reserve_for(&[(key, Change::Gone)], writer, 1, 0)?;
     map.publish(&key, writer, incarnation, Change::Gone);
     Ok(())
 }
@@ -60,7 +60,7 @@ fn set_sum(
     incarnation: u16,
     amount: u64,
 ) -> Result<(), ReserveFault> {
-    map.reserve_for(&[key], writer, 1, 0)?;
+    map.reserve_for(&[(key, Change::Gone)], writer, 1, 0)?;
     map.publish(&key, writer, incarnation, Change::Sum(amount));
     Ok(())
 }
@@ -83,7 +83,7 @@ fn set(
 
 // Makes the entry of a call at a key an estimate.
 fn estimate(map: &mut MvMap, key: Key, writer: u16) -> Result<(), ReserveFault> {
-    map.reserve_for(&[key], writer, 0, 0)?;
+    map.reserve_for(&[(key, Change::Gone)], writer, 0, 0)?;
     map.to_estimate(&key, writer);
     Ok(())
 }
@@ -238,25 +238,38 @@ fn changes(rt: HostRuntime) -> Result<(), Fail> {
 }
 
 // Asserts that a map has no room for this many records.
-fn assert_full(rt: &impl Abort, map: &mut MvMap, keys: &[Key], records: usize) {
+fn assert_full(
+    rt: &impl Abort,
+    map: &mut MvMap,
+    writes: &[(Key, Change<StoredValue>)],
+    records: usize,
+) {
     assert_eq!(rt;
-        map.reserve_for(keys, 0, records, 0),
+        map.reserve_for(writes, 0, records, 0),
         Err(ReserveFault::ArenaFull)
     );
 }
 
 // Reserves the same room twice, and publishes a version.
-fn reserve_twice(map: &mut MvMap, keys: &[Key]) -> Result<(), ReserveFault> {
-    map.reserve_for(keys, 0, 2, 512)?;
-    map.reserve_for(keys, 0, 2, 512)?;
+fn reserve_twice(
+    map: &mut MvMap,
+    writes: &[(Key, Change<StoredValue>)],
+) -> Result<(), ReserveFault> {
+    map.reserve_for(writes, 0, 2, 512)?;
+    map.reserve_for(writes, 0, 2, 512)?;
     set(map, key(1), 0, 0, Some(1))
 }
 
 // Asserts that a map refuses more records than an arena can have.
-fn assert_room(rt: &impl Abort, alloc: Global, map: &mut MvMap, keys: &[Key]) -> Result<(), Fail> {
-    assert_full(rt, map, keys, 1_048_577);
-    reserve_twice(map, keys)?;
-    assert_full(rt, map, keys, 1_048_576);
+fn assert_room(
+    rt: &impl Abort,
+    alloc: Global,
+    map: &mut MvMap,
+    writes: &[(Key, Change<StoredValue>)],
+) -> Result<(), Fail> {
+    assert_full(rt, map, writes, 1_048_577);
+    reserve_twice(map, writes)?;
+    assert_full(rt, map, writes, 1_048_576);
     assert_found(rt, alloc, map, 1, version(0, 0), Some(&[1]))?;
     assert_placed(rt, map, 1);
     Ok(())
@@ -265,7 +278,12 @@ fn assert_room(rt: &impl Abort, alloc: Global, map: &mut MvMap, keys: &[Key]) ->
 #[test]
 fn room(rt: HostRuntime) -> Result<(), Fail> {
     let mut map = empty(rt.alloc());
-    assert_room(&rt, rt.alloc(), &mut map, &[key(1), key(2), key(1)])
+    let writes = [
+        (key(1), Change::Gone),
+        (key(2), Change::Gone),
+        (key(1), Change::Gone),
+    ];
+    assert_room(&rt, rt.alloc(), &mut map, &writes)
 }
 
 // The first byte of the value that a storage has at the key with this last byte.

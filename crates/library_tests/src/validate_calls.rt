@@ -28,7 +28,7 @@ enum Entry {
 
 /// Publishes the empty value at a key.
 fn publish(map: &mut MvMap, key: Key, writer: u16, incarnation: u16) -> Result<(), ReserveFault> {
-    map.reserve_for(&[key], writer, 1, 256)?;
+    map.reserve_for(&[(key, Change::Gone)], writer, 1, 256)?;
     let value = Value::empty();
     map.publish(&key, writer, incarnation, Change::Value(&value));
     Ok(())
@@ -36,7 +36,7 @@ fn publish(map: &mut MvMap, key: Key, writer: u16, incarnation: u16) -> Result<(
 
 /// Makes the entry of a call at a key an estimate.
 fn estimate(map: &mut MvMap, key: Key, writer: u16) -> Result<(), ReserveFault> {
-    map.reserve_for(&[key], writer, 0, 0)?;
+    map.reserve_for(&[(key, Change::Gone)], writer, 0, 0)?;
     map.to_estimate(&key, writer);
     Ok(())
 }

@@ -5,6 +5,7 @@ use Rattle.std.specs.BTreeMap.{is_at}
 use Rattle.std.specs.FinMap.{get, same_map}
 use Rattle.std.specs.FinSet.{contains}
 use Rattle.std.specs.Cmp.{eq_by_cmp_equiv}
+use Rattle.std.proofs.lemmas.List.{get_or_default}
 use Rattle.std.specs.Option.{option_map, option_and_then}
 use Rattle.version_arena.specs.ArenaState.{Record}
 use Rattle.mvmap.specs.Versions.{Entry, Stands, Place, changed, place_cmp}
@@ -16,9 +17,13 @@ use Rattle.mvmap.proofs.Places.{place_total, exact_places, same_place, get_chang
 
 -- ---- slots that were made
 
--- what holds of all keys holds of one of them
-pub all_at : (P : List ℕ → Type 0) (keys : List (List ℕ)) (k : ℕ) (key : List ℕ) → All P keys → k < length keys → key ≡ get_or keys k key → P key
-all_at P keys k key all l is = subst P (sym is) (all k key l)
+-- what holds of all elements holds of one that was read
+pub all_at : {X : Type 0} (P : X → Type 0) (xs : List X) (k : ℕ) (x : X) → All P xs → k < length xs → x ≡ get_or xs k x → P x
+all_at P xs k x all l is = subst P (sym is) (all k x l)
+
+-- and what holds of one that was read holds of the element at its place, whatever stands for none
+pub at_place : {X : Type 0} (P : X → Type 0) (xs : List X) (k j : ℕ) (x d : X) → P x → k < length xs → x ≡ get_or xs k x → j ≡ k → P (get_or xs j d)
+at_place P xs k j x d holds l is same = subst P (is ∙ get_or_default xs k x d l ∙ ap (λ n. get_or xs n d) (sym same)) holds
 
 -- where slots were made, there is room at no other place
 pub opened_places : (es fs : Slots) (q : Place) → slot_at fs q ≡ slot_at es q → contains (places_of fs) q ≡ contains (places_of es) q

@@ -1,5 +1,5 @@
 -- The slots at one key: what is found among them, and what an edit does to them.
-use Rattle.std.proofs.Common.{◌≡◌, ◌==◌, ◌<◌, ℕ, Bool, true, false, cond, if◌then◌else◌, [], ◌∷◌, ◌++◌, take, length, get_or, set, Option, None, Some, is_some, IsSome, refl, sym, ap, ◌∙◌, arith}
+use Rattle.std.proofs.Common.{◌≡◌, ◌==◌, ◌-◌, ◌<◌, ◌≤◌, ℕ, Bool, true, false, cond, if◌then◌else◌, [], ◌∷◌, ◌++◌, take, length, get_or, set, slice_get, Option, None, Some, is_some, IsSome, refl, sym, ap, ◌∙◌, arith, inl, inr}
 use mathlib.Core.Bool.{false≢true}
 use Rattle.std.specs.BTreeMap.{is_at}
 use Rattle.std.specs.List.{insert, refill}
@@ -7,14 +7,17 @@ use Rattle.std.specs.List.Sorted.{IsStrictlySortedBy}
 use Rattle.std.specs.Map.{keys_of, lookup}
 use Rattle.std.specs.Option.{option_map, unwrap_or}
 use Rattle.std.specs.Ordering.{nat_cmp, is_eq}
-use Rattle.std.specs.Cmp.{nat_cmp_total, ranked}
+use Rattle.std.specs.declared.cmp.Ordering.TheVariants.{Greater}
+use Rattle.std.specs.Cmp.{nat_cmp_is, nat_cmp_total, ranked}
 use Rattle.std.specs.FinMap.{nat_cmp-IsAntisymmetric}
 use Rattle.std.proofs.Math.ListN.{get_or-map}
+use Rattle.std.proofs.lemmas.Bool.{cases_lt}
 use Rattle.std.proofs.lemmas.Bool.Decides.{nat_tests}
 use Rattle.std.proofs.lemmas.Cmp.{by_ranked}
-use Rattle.std.proofs.lemmas.List.{drop_all, take_at}
+use Rattle.std.proofs.lemmas.List.{drop_all, get_or_default, take_at}
 use Rattle.std.proofs.lemmas.Map.Entries.{length-keys_of}
 use Rattle.std.proofs.lemmas.Map.Keys.{below_from_sorted}
+use Rattle.std.proofs.lemmas.Option.{get_or_from_slice_get, slice_get_within}
 use Rattle.rv_ledger.specs.Entries.{IsAt}
 use Rattle.rv_ledger.proofs.Searches.{absent, lookup_insert, lookup_set, there}
 use Rattle.mvmap.specs.Writers.{ByWriter, AreAscending, IsGapFor, slot_of, writer_at}
@@ -59,6 +62,27 @@ pub ascending_at : (ws : ByWriter) → AreAscending ws → (i j : ℕ) → i < j
 ascending_at ws up i j lt in_range =
     let key_at = λ (k : ℕ). get_or-map (λ (e : ℕ × Slot). e.0) ws k (0, slot.Vacant) in
     omega (arith, key_at i, key_at j, below_from_sorted (keys_of ws) i j 0 up lt (omega (arith, length-keys_of ws, in_range)))
+
+-- where the slot that was read at a place is of a writer below n, so is each up to it
+pub lower_up_to : (ws : ByWriter) → AreAscending ws → (n place : ℕ) (e : ℕ × Slot) → place < length ws → e ≡ get_or ws place e → e.0 < n → (j : ℕ) → j ≤ place → writer_at ws j < n
+lower_up_to ws up n place e in_range is lower j upto =
+    let here : writer_at ws place ≡ e.0 = ap (λ (x : ℕ × Slot). x.0) (sym (is ∙ get_or_default ws place e (0, slot.Vacant) in_range)) in
+    elim (cases_lt j place) [
+      | inl sooner ↦ omega (arith, ascending_at ws up j place sooner in_range, here, lower)
+      | inr later ↦ let same : j ≡ place = omega (arith, later, upto) in omega (arith, ap (writer_at ws) same, here, lower)
+    ]
+
+-- a writer above the last one would go at the end
+pub gap_at_end : (ws : ByWriter) → AreAscending ws → (w : ℕ) (last : ℕ × Slot) → Some last ≡ slice_get ws (length ws - 1) → last.0 < w → IsGapFor ws w (length ws)
+gap_at_end ws up w last is lower = record {
+  in_range = omega arith;
+  lower_before = λ j e sooner at.
+      let below : writer_at ws j < w = lower_up_to ws up w (length ws - 1) last (slice_get_within ws (length ws - 1) last (sym is)) (sym (get_or_from_slice_get ws (length ws - 1) last last (sym is))) lower j (omega (arith, sooner)) in
+      let here : writer_at ws j ≡ e.0 = ap (λ (x : ℕ × Slot). x.0) (get_or_from_slice_get ws j e (0, slot.Vacant) at) in
+      let above : e.0 < w = omega (arith, below, here) in
+      sym (nat_cmp_is w e.0 Greater above);
+  higher_at = λ e at. absurd (omega (arith, slice_get_within ws (length ws) e at));
+}
 
 module _ (ws : ByWriter) (up : AreAscending ws) (w at : ℕ) (h : IsAt ws w at) where
   -- the writer's slot is the one at its place

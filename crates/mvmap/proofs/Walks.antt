@@ -1,11 +1,10 @@
 -- The slots at a key below those of a call, walked from the highest down.
 use Rattle.std.proofs.Common.{◌≡◌, ◌==◌, ◌-◌, ◌<◌, ◌≤◌, ℕ, suc, Bool, true, false, cond, [], ◌∷◌, length, get_or, ltb, List, Option, None, Some, refl, sym, ap, ◌∙◌, arith, inl, inr}
-use mathlib.Core.Bool.{false≢true}
 use Rattle.std.specs.List.Sorted.{IsPartitionPoint, IsPartitionedBy}
 use Rattle.std.specs.Option.{option_and_then}
 use Rattle.std.proofs.lemmas.List.{get_or_default}
 use Rattle.std.proofs.lemmas.List.Sorted.{IsNonDecreasingBy-from_default, IsPartitionedBy-ltb}
-use Rattle.std.proofs.lemmas.Bool.{cases_lt, lt-ltb, ltb-true}
+use Rattle.std.proofs.lemmas.Bool.{cases_lt, ltb-false, ltb-true}
 use Rattle.std.proofs.lemmas.Bool.Decides.{nat_tests}
 use Rattle.version_arena.specs.ArenaState.{Record}
 use Rattle.mvmap.specs.Reading.{Base, reading, visible_over}
@@ -63,12 +62,28 @@ module _ (rs : List Record) where
   pub walk_ends : (ws : ByWriter) (i place : ℕ) → IsWalked ws i place → place ≡ 0 → seen_in rs ws i ≡ Base
   walk_ends ws i place h e = seen_none (entries_in rs ws) i (λ w l. no_entry ws w (λ j in_range same. h.vacant j (omega arith) in_range (omega (arith, same, l))))
 
+-- the slots of lower calls end at a place
+abbrev pub IsCut : ByWriter → ℕ → ℕ → Type 0
+IsCut ws i place = record {
+  bound : place ≤ length ws;
+  below : (j : ℕ) → j < place → writer_at ws j < i;
+  above : (j : ℕ) → place ≤ j → j < length ws → i ≤ writer_at ws j;
+}
+
+-- they end where the search for those below a call ends
+pub cut_there : (ws : ByWriter) (i place : ℕ) → place ≤ length ws → IsPartitionPoint (λ e. ltb e.0 i ≡ true) (λ e. ltb e.0 i ≡ false) ws place → IsCut ws i place
+cut_there ws i place in_range cut = record {
+  bound = in_range;
+  below = λ j l. ltb-true _ _ (cut.0 j (0, slot.Vacant) (omega arith) l);
+  above = λ j l within. ltb-false _ _ (cut.1 j (0, slot.Vacant) l within);
+}
+
 -- at its start it is where the slots of lower calls end
-pub walk_starts : (ws : ByWriter) (i place : ℕ) → place ≤ length ws → IsPartitionPoint (λ e. ltb e.0 i ≡ true) (λ e. ltb e.0 i ≡ false) ws place → IsWalked ws i place
-walk_starts ws i place in_range cut = record {
-  in_range = in_range;
-  lower = λ j l. ltb-true _ _ (cut.0 j (0, slot.Vacant) (omega arith) l);
-  vacant = λ j l within lower. absurd (false≢true (sym (cut.1 j (0, slot.Vacant) l within) ∙ lt-ltb _ _ lower));
+pub walk_starts : (ws : ByWriter) (i place : ℕ) → IsCut ws i place → IsWalked ws i place
+walk_starts ws i place cut = record {
+  in_range = cut.bound;
+  lower = cut.below;
+  vacant = λ j l within lower. absurd (omega (arith, cut.above j l within, lower));
 }
 
 -- the writers do not fall, as the search for those below a call asks

@@ -4,7 +4,7 @@ use Rattle.std.specs.Int.{from_le_bytes, w64}
 use Rattle.mvmap.specs.declared.hints.Hint.{Hint}
 use Rattle.mvmap.specs.declared.hints.Hint.TheVariants.{Nothing, At, Unknown}
 
--- the content of a bucket without a hint: 2^32 - 1
+-- the content of a bucket without a hint: 2^16 - 1
 abbrev pub no_hint : ℕ
 no_hint = 65535
 
@@ -20,9 +20,13 @@ word_of key word = from_le_bytes w64 (drop (word * 8) key)
 abbrev pub sum_of : List ℕ → ℕ
 sum_of key = (word_of key 0 + word_of key 1 + word_of key 2 + word_of key 3) % 2 ^ 64
 
--- the bucket of a key: the highest fourteen bits of a product modulo 2^64, of its sum with the higher half mixed into the lower
+-- a number with its higher half mixed into the lower, times an odd number near 2^64 over the golden ratio, modulo 2^64
+unfoldable pub mixed : ℕ → ℕ
+mixed n = bit_xor n (n / 2 ^ 32) * 11400714819323198485 % 2 ^ 64
+
+-- the bucket of a key: the highest fourteen bits of its sum, mixed twice
 unfoldable pub bucket_of : List ℕ → ℕ
-bucket_of key = bit_xor (sum_of key) (sum_of key / 2 ^ 32) * 11400714819323198485 % 2 ^ 64 / 2 ^ 50
+bucket_of key = mixed (mixed (sum_of key)) / 2 ^ 50
 
 -- what the content of a bucket says
 abbrev pub hint_in : Option ℕ → Hint

@@ -1,7 +1,7 @@
 //! Hints of where keys stand in a list.
 
 ghost use Rattle.std.specs.Prelude.{◌≡◌, ◌<◌, ◌≤◌, ◌⊎◌, ◌↔◌, [], IsTrue, replicate};
-ghost use Rattle.mvmap.specs.Hints.{bucket_of, hint_of, noted, word_of};
+ghost use Rattle.mvmap.specs.Hints.{bucket_of, hint_of, mixed, noted, word_of};
 ghost use Rattle.mvmap.specs.declared.hints.Hint.TheVariants.{Nothing};
 
 use rv_ledger::Key;
@@ -111,8 +111,16 @@ fn bucket_of(key: &Key) -> usize
         .wrapping_add(word_at(bytes, 1))
         .wrapping_add(word_at(bytes, 2))
         .wrapping_add(word_at(bytes, 3));
-    let mixed = (sum ^ (sum >> 32)).wrapping_mul(MULTIPLIER);
-    (mixed >> (u64::BITS - BUCKET_BITS)) as usize
+    (mix(mix(sum)) >> (u64::BITS - BUCKET_BITS)) as usize
+}
+
+/// One round of mixing: the higher half of a number goes into the lower, and a product modulo 2^64 spreads both.
+#[tactic(auto, unfolding(crate::specs::Hints::mixed))]
+#[inline(always)]
+fn mix(number: u64) -> u64
+    ensures { result ≡ mixed number }
+{
+    (number ^ (number >> 32)).wrapping_mul(MULTIPLIER)
 }
 
 /// The eight bytes of a key from byte `word * 8` on, as a little-endian number.

@@ -127,7 +127,7 @@ impl KeyTable {
         if position == 0 {
             self.hints.open();
         }
-        self.place(&key, position)?;
+        self.note_position(&key, position)?;
         self.list.push_reserved(KeySlots {
             key,
             writers: WriterSlots::new(self.alloc),
@@ -139,7 +139,7 @@ impl KeyTable {
     /// where there are no buckets, or where the position is past the last that a hint can say. Refused where memory
     /// for the tree ran out.
     #[inline(always)]
-    fn place(&mut self, key: &Key, position: usize) -> Result<(), AllocError>
+    fn note_position(&mut self, key: &Key, position: usize) -> Result<(), AllocError>
         ensures list { self.new.list ≡ self.old.list }
         ensures buckets { self.new.hints.buckets.items ≡ noted self.old.hints.buckets.items key.now position }
         ensures found { OnOk result ((hint_of self.new.hints.buckets.items key.now ≡ At position) ⊎ (position_of self.new.others.entries key.now ≡ Some position)) }

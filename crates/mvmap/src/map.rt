@@ -6,7 +6,7 @@ use crate::slots::Slots;
 use crate::snapshot::apply_slots;
 use crate::walk::{has_walk, walk, with_amount};
 use read_set::{Origin, Version};
-use rv_ledger::{Change, Key, Store, Value};
+use rv_ledger::{Change, Key, Store, StoredValue, Value};
 use std::alloc::{AllocError, Global};
 use std::marker::Model;
 use version_arena::{Arena, ReserveFault, lend_bytes};
@@ -114,33 +114,33 @@ impl MvMap {
         has_walk(self.slots.at(key), &self.arena, i, origin)
     }
 
-    /// Makes room for an entry of call `i` at each of these keys, beside the room that was made before,
+    /// Makes room for an entry of call `i` at the key of each of these writes, beside the room that was made before,
     /// and for `records` more records with `bytes` bytes of values. Refused as ArenaFull exactly where
     /// there would be more than 1,048,576 records: this is tested first, and nothing changes. Refused as
     /// Memory where memory ran out: then some entries may have got room, and nothing else changes.
     pub fn reserve_for(
         &mut self,
-        keys: &[Key],
+        writes: &[(Key, Change<StoredValue>)],
         i: u16,
         records: usize,
         bytes: usize,
     ) -> Result<(), ReserveFault>
         ensures full { (result ≡ Err ArenaFull) ↔ (1048576 < length self.old.arena.records + records) }
-        ensures ok { OnOk result (All (λ key. IsTrue (set.contains self.new.places (key, i))) keys.now × (records ≤ self.new.arena.room) × (bytes ≤ self.new.arena.bytes)) }
+        ensures ok { OnOk result (All (λ write. IsTrue (set.contains self.new.places (write.0, i))) writes.now × (records ≤ self.new.arena.room) × (bytes ≤ self.new.arena.bytes)) }
         ensures versions { self.new.versions ≡ self.old.versions }
         ensures records { self.new.arena.records ≡ self.old.arena.records }
         ensures places { (place : Place) → IsTrue (set.contains self.old.places place) → IsTrue (set.contains self.new.places place) }
         ensures room { self.old.arena.room ≤ self.new.arena.room }
         ensures bytes { self.old.arena.bytes ≤ self.new.arena.bytes }
-        ensures elsewhere { (place : Place) → All (λ key. (key, i) ≢ place) keys.now → set.contains self.new.places place ≡ set.contains self.old.places place }
+        ensures elsewhere { (place : Place) → All (λ write. (write.0, i) ≢ place) writes.now → set.contains self.new.places place ≡ set.contains self.old.places place }
         ensures unchanged { result ≡ Err ArenaFull → self.new ≡ self.old }
         ensures refused { OnErr result (self.new ≡ record self.old { places = self.new.places }) }
-        ensures succeeds { All (λ key. IsTrue (set.contains self.old.places (key, i))) keys.now → records ≤ self.old.arena.room → bytes ≤ self.old.arena.bytes → result ≡ Ok tt }
+        ensures succeeds { All (λ write. IsTrue (set.contains self.old.places (write.0, i))) writes.now → records ≤ self.old.arena.room → bytes ≤ self.old.arena.bytes → result ≡ Ok tt }
     {
         if self.arena.is_full_for(records) {
             return Err(ReserveFault::ArenaFull);
         }
-        self.slots.open_all(keys, i)?;
+        self.slots.open_all(writes, i)?;
         self.arena.reserve(records, bytes)
     }
 

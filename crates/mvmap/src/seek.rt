@@ -1,10 +1,10 @@
 //! The search for the nearest entry below a call.
 
-ghost use Rattle.std.specs.Prelude.{◌≡◌, ◌≤◌, length};
+ghost use Rattle.std.specs.Prelude.{◌≡◌, ◌≤◌, ◌<◌, ℕ, length};
 ghost use Rattle.rv_ledger.specs.Change.{IfValue};
 ghost use Rattle.mvmap.specs.Answers.{IsNearest, IsShort};
 ghost use Rattle.mvmap.specs.Slots.{ArePlacedIn, seen_in};
-ghost use Rattle.mvmap.specs.Writers.{AreAscending};
+ghost use Rattle.mvmap.specs.Writers.{AreAscending, writer_at};
 ghost use Rattle.mvmap.specs.declared.seek.Nearest.TheVariants.{Standing};
 
 use crate::slot::Slot;
@@ -31,7 +31,7 @@ pub(crate) fn seek<'a>(at_key: &[(u16, Slot)], arena: &'a Arena, i: u16) -> Near
     ensures nearest { IsNearest result (seen_in arena.now.records at_key.now) i }
     ensures short { IsShort result }
 {
-    let mut place = at_key.partition_point(|slot| slot.0 < i);
+    let mut place = count_below(at_key, i);
     while place > 0 {
         place -= 1;
         let (writer, slot) = &at_key[place];
@@ -42,6 +42,21 @@ pub(crate) fn seek<'a>(at_key: &[(u16, Slot)], arena: &'a Arena, i: u16) -> Near
         }
     }
     Nearest::Nothing
+}
+
+/// How many slots at a key are of calls below the call of index `i`: they come first. The last two slots are looked
+/// at first: calls come for the most part in block order, so the slot that is looked for is one of the last.
+fn count_below(at_key: &[(u16, Slot)], i: u16) -> usize
+    requires { AreAscending at_key.now }
+    ensures bound { result ≤ length at_key.now }
+    ensures below { (place : ℕ) → place < result → writer_at at_key.now place < i }
+    ensures above { (place : ℕ) → result ≤ place → place < length at_key.now → i ≤ writer_at at_key.now place }
+{
+    match at_key {
+        [.., last] if last.0 < i => at_key.len(),
+        [.., before, _] if before.0 < i => at_key.len() - 1,
+        _ => at_key.partition_point(|slot| slot.0 < i),
+    }
 }
 
 /// The entry that a record of a call is: its version, with what it did to the key.

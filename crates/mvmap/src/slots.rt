@@ -10,7 +10,7 @@ ghost use Rattle.mvmap.specs.Writers.{AreAscending, slot_of};
 
 use crate::key_table::KeyTable;
 use crate::slot::Slot;
-use rv_ledger::Key;
+use rv_ledger::{Change, Key, StoredValue};
 use std::alloc::{AllocError, Global};
 use std::marker::Model;
 
@@ -53,15 +53,19 @@ impl Slots {
         }
     }
 
-    /// Makes a slot of a call at each of these keys that has none. Refused where memory ran out, and then
-    /// some of the slots may have been made.
-    pub(crate) fn open_all(&mut self, keys: &[Key], writer: u16) -> Result<(), AllocError>
+    /// Makes a slot of a call at the key of each of these writes, where it has none. Refused where memory ran out,
+    /// and then some of the slots may have been made.
+    pub(crate) fn open_all(
+        &mut self,
+        writes: &[(Key, Change<StoredValue>)],
+        writer: u16,
+    ) -> Result<(), AllocError>
         ensures opened { IsOpened self.old self.new }
-        ensures ok { OnOk result (All (λ key. IsSome (slot_at self.new (key, writer))) keys.now) }
-        ensures elsewhere { (place : Place) → All (λ key. (key, writer) ≢ place) keys.now → slot_at self.new place ≡ slot_at self.old place }
-        ensures succeeds { All (λ key. IsSome (slot_at self.old (key, writer))) keys.now → result ≡ Ok tt }
+        ensures ok { OnOk result (All (λ write. IsSome (slot_at self.new (write.0, writer))) writes.now) }
+        ensures elsewhere { (place : Place) → All (λ write. (write.0, writer) ≢ place) writes.now → slot_at self.new place ≡ slot_at self.old place }
+        ensures succeeds { All (λ write. IsSome (slot_at self.old (write.0, writer))) writes.now → result ≡ Ok tt }
     {
-        for key in keys {
+        for (key, _) in writes {
             self.open(*key, writer)?;
         }
         Ok(())

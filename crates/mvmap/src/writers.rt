@@ -69,13 +69,17 @@ impl WriterSlots {
         }
     }
 
-    /// Where the slot of a call is, or where it would go.
+    /// Where the slot of a call is, or where it would go. The last slot is looked at first: calls come for the most
+    /// part in block order, so the slot is the last one or goes after it.
     fn search(&self, writer: u16) -> Result<usize, usize>
         ensures found { IfOk result (IsAt self.now writer) }
         ensures absent { IfErr result (IsGapFor self.now writer) }
     {
-        self.slots
-            .as_slice()
-            .binary_search_by_key(&writer, |slot| slot.0)
+        let slots = self.slots.as_slice();
+        match slots.last() {
+            Some(slot) if slot.0 < writer => Err(slots.len()),
+            Some(slot) if slot.0 == writer => Ok(slots.len() - 1),
+            _ => slots.binary_search_by_key(&writer, |slot| slot.0),
+        }
     }
 }

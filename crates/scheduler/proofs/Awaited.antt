@@ -69,38 +69,6 @@ awaited_resumed on at calls new awaited named is lt e old left = record {
   ];
 }
 
--- one call is replaced: the flag of the call that it names is up
-pub awaited_at : (calls : List CallState) (awaited : List Bool) (i : ℕ) (new : CallState) → IsAwaited calls awaited → i < length calls → ((on : ℕ) → new.parked ≡ Some on → get_or awaited on false ≡ true) → IsAwaited (set calls i new) awaited
-awaited_at calls awaited i new old lt up = record {
-  flags = old.flags ∙ sym (length-set calls i new);
-  raised = λ j on h. elim (cases_eq j i) [
-    | inl p ↦ up on (ap (λ (c : CallState). c.parked) (sym (get_or-set_same calls i new fresh lt)) ∙ ap (λ (k : ℕ). (get_or (set calls i new) k fresh).parked) (sym p) ∙ h)
-    | inr q ↦ old.raised j on (ap (λ (c : CallState). c.parked) (sym (get_or-set_other calls i j new fresh q)) ∙ h)
-  ];
-}
-
--- by one that is parked as it was, or that is parked on none
-pub awaited_set : (calls : List CallState) (awaited : List Bool) (i : ℕ) (new : CallState) → IsAwaited calls awaited → i < length calls → new.parked ≡ (get_or calls i fresh).parked → IsAwaited (set calls i new) awaited
-awaited_set calls awaited i new old lt e = awaited_at calls awaited i new old lt (λ on h. old.raised i on (sym e ∙ h))
-
-pub awaited_free : (calls : List CallState) (awaited : List Bool) (i : ℕ) (new : CallState) → IsAwaited calls awaited → i < length calls → new.parked ≡ None → IsAwaited (set calls i new) awaited
-awaited_free calls awaited i new old lt e = awaited_at calls awaited i new old lt (λ on h. cc)
-
--- by one that is parked on a call whose flag is raised
-pub awaited_parked : (calls : List CallState) (awaited : List Bool) (i at on : ℕ) (new : CallState) → IsAwaited calls awaited → i < length calls → at < length calls → at ≡ on → new.parked ≡ Some on → IsAwaited (set calls i new) (set awaited at true)
-awaited_parked calls awaited i at on new old lt within is e =
-    let raised : get_or (set awaited at true) at false ≡ true = get_or-set_same awaited at true false (subst (λ (n : ℕ). at < n) (sym old.flags) within) in
-    let before : IsAwaited calls (set awaited at true) = record {
-      flags = length-set awaited at true ∙ old.flags;
-      raised = λ j k h. elim (cases_eq k at) [
-        | inl p ↦ ap (λ (m : ℕ). get_or (set awaited at true) m false) p ∙ raised
-        | inr q ↦ get_or-set_other awaited at k true false q ∙ old.raised j k h
-      ];
-    } in
-    awaited_at calls (set awaited at true) i new before lt (λ k h.
-    let same : k ≡ at = (let both : Some on ≡ Some k = sym e ∙ h in cc) in
-    ap (λ (m : ℕ). get_or (set awaited at true) m false) same ∙ raised)
-
 -- ---- nothing to ready
 
 and_right : (b c : Bool) → (c ≡ true → ⊥) → (b && c) ≡ false
@@ -127,9 +95,9 @@ none_lower on x p [] h = refl
 none_lower on x p (c ∷ calls) h = rw (h 0) (none_lower on x (p + 1) calls (λ i. h (suc i)))
 
 -- where none is parked on a call, to ready those changes nothing
-pub none_resumed : (on : ℕ) (calls : List CallState) (execution validation : ℕ) (workers : List WorkerState) (s : Schedule) → schedule_of calls execution validation workers ≡ s
+pub none_resumed : (on : ℕ) (calls : List CallState) (execution validation key_room : ℕ) (workers : List WorkerState) (s : Schedule) → schedule_of calls execution validation key_room workers ≡ s
     → ((i : ℕ) → is_parked_on on (get_or calls i fresh) ≡ false)
-    → schedule_of calls execution validation workers ≡ record s { calls = map (resume_if_parked on) s.calls; execution = least_parked_call on s.execution 0 s.calls }
-none_resumed on calls execution validation workers s was none =
+    → schedule_of calls execution validation key_room workers ≡ record s { calls = map (resume_if_parked on) s.calls; execution = least_parked_call on s.execution 0 s.calls }
+none_resumed on calls execution validation key_room workers s was none =
     sym (rw (none_readied on calls none, none_lower on execution 0 calls none) refl)
     ∙ ap (λ (t : Schedule). record t { calls = map (resume_if_parked on) t.calls; execution = least_parked_call on t.execution 0 t.calls }) was

@@ -61,7 +61,7 @@ finish_over : (w i : ℕ) (new : Bool) (task before : Task) (s : State) → to_v
 unfolding resume_dependents
 finish_over w i new task before s = again_over w i new task before (record s { calls = map (resume_if_parked i) s.calls; execution = least_parked_call i s.execution 0 s.calls })
 
--- the end of an execution: the worker hands its keys over, those that are parked are readied, and what is validated is settled
+-- the end of an execution: the worker has no task, those that are parked are readied, and what is validated is settled
 pub all_finished : (w i : ℕ) (new : Bool) (task : Task) (before ended resumed : State)
     → ended ≡ with_task w Idle (with_call i (record (call_at before i) { status = Executed }) (counted one_step w before))
     → resumed ≡ record ended { calls = map (resume_if_parked i) ended.calls; execution = least_parked_call i ended.execution 0 ended.calls }

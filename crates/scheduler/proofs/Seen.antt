@@ -2,13 +2,14 @@
 use Rattle.std.proofs.Common.{◌≡◌, ◌∷◌, ◌<◌, ℕ, List, length, map, set, get_or, refl, sym, subst, ap, ◌∙◌, length-set, replicate, zero, suc}
 use Rattle.std.proofs.lemmas.List.{length-map, map-set, get_or-map, get_or-set_same, get_or-set_other}
 use Rattle.std.proofs.Math.Seq.{map-set_same}
+use Rattle.std.proofs.lemmas.Simd.{map-map}
 use Rattle.rv_ledger.specs.declared.outcome.Counts.{Counts}
 use Rattle.mvmap.specs.Versions.{Versions}
 use Rattle.stm_state.specs.declared.state.CallState.{CallState}
 use Rattle.stm_state.specs.declared.state.Task.{Task}
 use Rattle.stm_state.specs.declared.state.Task.TheVariants.{Idle}
 use Rattle.stm_state.specs.State.{fresh, with_task}
-use Rattle.scheduler.specs.Workers.{WorkerState, counts_of, dones_of, room_of, task_of}
+use Rattle.scheduler.specs.Workers.{WorkerState, but_key_room, counts_of, dones_of, room_of, task_of}
 use Rattle.scheduler.specs.Schedule.{KeepsRooms, Schedule, schedule_of, state_of}
 
 -- where all workers are alike
@@ -33,27 +34,38 @@ module _ {X : Type 0} (f : WorkerState → X) (workers : List WorkerState) (w : 
   seen_new : (new : WorkerState) (d : X) → w < length workers → get_or (map f (set workers w new)) w d ≡ f new
   seen_new new d l = get_or-map f (set workers w new) w new d (subst (λ n. w < n) (sym (length-set workers w new)) l) ∙ ap f (get_or-set_same workers w new new l)
 
+-- and where they are alike but for the room of their lists of keys
+seen_but : {X : Type 0} (f : WorkerState → X) (workers new : List WorkerState) → map but_key_room new ≡ map but_key_room workers → map (λ w. f (but_key_room w)) new ≡ map (λ w. f (but_key_room w)) workers
+seen_but f workers new same = sym (map-map f but_key_room new) ∙ ap (map f) same ∙ map-map f but_key_room workers
+
 -- all that the scheduler keeps, where a call of an index is replaced
-pub call_changed : (calls : List CallState) (execution validation : ℕ) (workers : List WorkerState) (s : Schedule) → schedule_of calls execution validation workers ≡ s
+pub call_changed : (calls : List CallState) (execution validation key_room : ℕ) (workers : List WorkerState) (s : Schedule) → schedule_of calls execution validation key_room workers ≡ s
     → (g : CallState → CallState) (at i : ℕ) (old : CallState) → at ≡ i → old ≡ get_or calls at fresh
-    → schedule_of (set calls at (g old)) execution validation workers ≡ record s { calls = set s.calls i (g (get_or s.calls i fresh)) }
-call_changed calls execution validation workers s was g at i old e is =
-    ap (λ (c : CallState). schedule_of (set calls at (g c)) execution validation workers) is
+    → schedule_of (set calls at (g old)) execution validation key_room workers ≡ record s { calls = set s.calls i (g (get_or s.calls i fresh)) }
+call_changed calls execution validation key_room workers s was g at i old e is =
+    ap (λ (c : CallState). schedule_of (set calls at (g c)) execution validation key_room workers) is
     ∙ ap (λ (t : Schedule). record t { calls = set t.calls at (g (get_or t.calls at fresh)) }) was
     ∙ ap (λ (k : ℕ). record s { calls = set s.calls k (g (get_or s.calls k fresh)) }) e
 
+-- all that the scheduler keeps, where the lists of workers have more room for keys
+pub key_room_changed : (calls : List CallState) (execution validation key_room more : ℕ) (workers new : List WorkerState) (s : Schedule) → schedule_of calls execution validation key_room workers ≡ s
+    → map but_key_room new ≡ map but_key_room workers → schedule_of calls execution validation more new ≡ record s { key_room = more }
+key_room_changed calls execution validation key_room more workers new s was same =
+    rw (seen_but task_of workers new same, seen_but counts_of workers new same, seen_but dones_of workers new same, seen_but room_of workers new same) refl
+    ∙ ap (λ (t : Schedule). record t { key_room = more }) was
+
 -- all that the scheduler keeps, where worker w was the old one and is the new one
-module _ (calls : List CallState) (execution validation : ℕ) (workers : List WorkerState) (w : ℕ) (s : Schedule) (was : schedule_of calls execution validation workers ≡ s) (l : w < length s.tasks)
+module _ (calls : List CallState) (execution validation key_room : ℕ) (workers : List WorkerState) (w : ℕ) (s : Schedule) (was : schedule_of calls execution validation key_room workers ≡ s) (l : w < length s.tasks)
     (old new : WorkerState) (is : old ≡ get_or workers w old) where
   pub worker_within : w < length workers
   worker_within = subst (λ n. w < n) (ap (λ (t : Schedule). length t.tasks) (sym was) ∙ length-map workers task_of) l
 
   abbrev pub after : Schedule
-  after = schedule_of calls execution validation (set workers w new)
+  after = schedule_of calls execution validation key_room (set workers w new)
 
-  -- its task changes, and its keys and its room
-  pub task_changed : (g : Task → Task) (keys : List (List ℕ)) (room : ℕ) → new ≡ record old { task = g old.task; keys = keys; room = room } → (v : Versions) (p : ℕ) → state_of v p after ≡ with_task w (g (get_or s.tasks w Idle)) (state_of v p s)
-  task_changed g keys room e v p =
+  -- its task changes, and its room
+  pub task_changed : (g : Task → Task) (room : ℕ) → new ≡ record old { task = g old.task; room = room } → (v : Versions) (p : ℕ) → state_of v p after ≡ with_task w (g (get_or s.tasks w Idle)) (state_of v p s)
+  task_changed g room e v p =
       rw (seen_step task_of workers w g old new Idle worker_within is (ap task_of e), seen_same counts_of workers w old new is (ap counts_of e), seen_same dones_of workers w old new is (ap dones_of e)) refl
       ∙ ap (λ (t : Schedule). with_task w (g (get_or t.tasks w Idle)) (state_of v p t)) was
 

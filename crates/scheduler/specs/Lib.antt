@@ -1,4 +1,4 @@
 pub mod Workers
 pub mod Awaited
-pub mod Written
+pub mod KeyRoom
 pub mod Schedule

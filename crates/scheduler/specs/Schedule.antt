@@ -7,7 +7,8 @@ use Rattle.stm_state.specs.declared.state.Task.{Task}
 use Rattle.stm_state.specs.State.{State, no_counts}
 use Rattle.scheduler.specs.Workers.{WorkerState, counts_of, dones_of, room_of, task_of}
 
--- a state without its versions; and the number of further answers that each worker's run has room for
+-- a state without its versions; the number of further answers that each worker's run has room for; and the number of keys
+-- that the list of each worker has room for, at least
 pub record Schedule : Type 0 where
   pub calls : List CallState
   pub execution : ℕ
@@ -16,10 +17,11 @@ pub record Schedule : Type 0 where
   pub counts : List Counts
   pub dones : List ℕ
   pub rooms : List ℕ
+  pub key_room : ℕ
 
--- what the scheduler keeps, from its calls, indices and workers
-abbrev pub schedule_of : List CallState → ℕ → ℕ → List WorkerState → Schedule
-schedule_of calls execution validation workers = record {
+-- what the scheduler keeps, from its calls, its indices, the room for keys and its workers
+abbrev pub schedule_of : List CallState → ℕ → ℕ → ℕ → List WorkerState → Schedule
+schedule_of calls execution validation key_room workers = record {
   calls = calls;
   execution = execution;
   validation = validation;
@@ -27,6 +29,7 @@ schedule_of calls execution validation workers = record {
   counts = map counts_of workers;
   dones = map dones_of workers;
   rooms = map room_of workers;
+  key_room = key_room;
 }
 
 -- the state that it is with these versions and this number of placed records

@@ -16,14 +16,14 @@ task_with (task_kind.Moving call new) answers keys = task.Moving call keys new
 task_with (task_kind.Validating call incarnation left failed) answers keys = task.Validating call incarnation left failed
 task_with (task_kind.Marking call) answers keys = task.Marking call keys
 
--- a worker: its task, all keys that it was given, what it did, the number of its askings that were answered Done, and the
--- number of further answers that it has room for
+-- a worker: its task, what it did, the number of its askings that were answered Done, the number of further answers that it
+-- has room for, and the number of keys that its list has room for
 pub record WorkerState : Type 0 where
   pub task : Task
-  pub keys : List (List ℕ)
   pub counts : Counts
   pub dones : ℕ
   pub room : ℕ
+  pub key_room : ℕ
 
 abbrev pub task_of : WorkerState → Task
 task_of w = w.task
@@ -37,9 +37,16 @@ dones_of w = w.dones
 abbrev pub room_of : WorkerState → ℕ
 room_of w = w.room
 
+abbrev pub key_room_of : WorkerState → ℕ
+key_room_of w = w.key_room
+
+-- a worker but for the room of its list of keys
+abbrev pub but_key_room : WorkerState → WorkerState
+but_key_room w = record w { key_room = 0 }
+
 -- a worker without a task, which has done nothing yet
 abbrev pub idle_worker : WorkerState
-idle_worker = record { task = task.Idle; keys = []; counts = no_counts; dones = 0; room = 0 }
+idle_worker = record { task = task.Idle; counts = no_counts; dones = 0; room = 0; key_room = 0 }
 
 -- four changes of a task: a run gets one more answer, a run has other answers, a run is blocked on a call, and a validation fails; a task of another
 -- kind stays as it is

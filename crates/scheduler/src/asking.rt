@@ -2,11 +2,13 @@
 
 use crate::calls;
 use crate::scheduler::Scheduler;
+use crate::worker::TaskKind;
 use stm_state::Status;
 
 impl Scheduler {
-    ghost use Rattle.std.specs.Prelude.{◌≡◌, ◌≤◌, ◌<◌, ℕ, get_or, length};
+    ghost use Rattle.std.specs.Prelude.{◌≡◌, ◌≤◌, ◌<◌, ℕ, [], None, get_or, length};
     ghost use Rattle.mvmap.specs.Versions.{Versions};
+    ghost use Rattle.stm_state.specs.State.{with_task};
     ghost use Rattle.stm_state.specs.Steps.{ask_execution, ask_validation, after_ask, counted, one_asking};
     ghost use Rattle.stm_state.specs.declared.state.Task.TheVariants as Task;
     ghost use Rattle.scheduler.specs.Schedule.{KeepsRooms, MayCount, state_of};
@@ -61,5 +63,18 @@ impl Scheduler {
             self.set_status(index, Status::Executing);
             self.run_again(worker, index);
         }
+    }
+
+    /// Gives a worker a call to run from its start, without answers.
+    pub(crate) fn run_again(&mut self, worker: usize, call: u16)
+        requires { worker < length self.old.tasks }
+        ensures state { (v : Versions) (p : ℕ) → state_of v p self.new ≡ with_task worker (Task.Running call [] None) (state_of v p self.old) }
+        ensures rooms { KeepsRooms worker self.old.rooms self.new.rooms }
+    {
+        let task_kind = TaskKind::Running {
+            call,
+            blocked: None,
+        };
+        self.begin(worker, task_kind);
     }
 }

@@ -44,17 +44,6 @@ pub(crate) fn none_awaited(alloc: Global, count: usize) -> Result<Vec<bool>, All
     Ok(awaited)
 }
 
-/// An empty slot for the keys of each of `count` calls. Refused where memory ran out.
-pub(crate) fn empty_slots(alloc: Global, count: usize) -> Result<Vec<Vec<Key>>, AllocError>
-    ensures { IfOk result (λ slots. map vec_items slots.items ≡ replicate count []) }
-{
-    let mut slots = Vec::with_capacity(alloc, count)?;
-    for _ in 0..count {
-        slots.push(Vec::new(alloc))?;
-    }
-    Ok(slots)
-}
-
 /// Readies a call: it is READY at the next incarnation, and not parked.
 pub(crate) fn make_ready(call: &mut CallState)
     requires { call.old.incarnation < INCARNATION_LIMIT }
@@ -151,16 +140,6 @@ fn reads(last: &Option<Recorded>) -> usize
 {
     match last {
         Some(run) => run.reads.reads().len(),
-        None => 0,
-    }
-}
-
-/// The number of keys that a run wrote; 0 where there is no run.
-pub(crate) fn write_count(last: &Option<Recorded>) -> usize
-    ensures { result ≡ length (written_by last.now) }
-{
-    match last {
-        Some(run) => run.receipt.writes.len(),
         None => 0,
     }
 }

@@ -1,5 +1,5 @@
 //! The scheduler of a block's run (Block-STM): how far each call is, the execution index, the validation
-//! index, and each worker's task. Once it is made, it takes no memory.
+//! index, and each worker's task. Once it is made, it takes memory only to make room for keys.
 #![tactic(auto)]
 
 mod asking;

@@ -5,7 +5,6 @@ use crate::calls;
 use crate::calls::LAST_INCARNATION;
 use crate::scheduler::Scheduler;
 use crate::worker::TaskKind;
-use rv_ledger::Key;
 use stm_state::Recorded;
 
 impl Scheduler {
@@ -15,28 +14,21 @@ impl Scheduler {
     ghost use Rattle.mvmap.specs.Versions.{Versions};
     ghost use Rattle.rv_step.specs.declared.answer.StorageAnswer.{StorageAnswer};
     ghost use Rattle.stm_state.specs.State.{fresh, with_task};
-    ghost use Rattle.stm_state.specs.Steps.{counted, after_finish_execution, keys_to_move, one_execution, one_step, read_of, after_record, to_validate};
+    ghost use Rattle.stm_state.specs.Steps.{counted, after_finish_execution, one_execution, one_step, read_of, after_record, to_validate, written_by};
     ghost use Rattle.stm_state.specs.declared.state.Status.TheVariants as Status;
     ghost use Rattle.stm_state.specs.declared.state.Task.TheVariants as Task;
     ghost use Rattle.scheduler.specs.Schedule.{KeepsRooms, MayCount, state_of};
     ghost use Rattle.scheduler.specs.Workers.{HasKeyLeft, HasNoKeys, NobodyMoves, task_with};
 
     /// Keeps the run of a call that a worker hands in, and gives the worker its keys to move: those that the
-    /// run wrote, then those that only the call's run before it wrote. That run is handed out, and so are the
-    /// keys that the worker had before. Takes no memory.
-    pub fn keep_run(
-        &mut self,
-        worker: usize,
-        call: u16,
-        run: &mut Option<Recorded>,
-        keys: &mut Vec<Key>,
-    )
+    /// run wrote, then those that only the call's run before it wrote. That run is handed out. Takes no memory.
+    pub fn keep_run(&mut self, worker: usize, call: u16, run: &mut Option<Recorded>)
         requires counts { MayCount worker self.old }
         requires within { call < length self.old.calls }
         requires executing { (get_or self.old.calls call fresh).status ≡ Status.Executing }
         requires nobody { NobodyMoves call self.old.tasks }
         requires run { IsSome run.old }
-        requires keys { ForSome run.old (λ run. keys.old.items ≡ keys_to_move (get_or self.old.calls call fresh).last run.receipt.writes) }
+        requires room { ForSome run.old (λ run. len run.receipt.writes + length (written_by (get_or self.old.calls call fresh).last) ≤ self.old.key_room) }
         ensures state { ForSome run.old (λ run. (answers : List StorageAnswer) → run.reads ≡ map read_of answers → (v : Versions) (p : ℕ) → state_of v (p + len run.receipt.writes) self.new ≡ counted one_execution worker (after_record worker call answers run.receipt (state_of v p self.old))) }
         ensures before { run.new ≡ (get_or self.old.calls call fresh).last }
         ensures rooms { KeepsRooms worker self.old.rooms self.new.rooms }
@@ -47,7 +39,7 @@ impl Scheduler {
         };
         let new_key = calls::has_new_key(&self.call(call).last, &kept.receipt.writes);
         self.keep(call, run);
-        self.begin_moving(worker, call, new_key, keys);
+        self.begin_moving(worker, call, new_key, run);
     }
 
     /// Drops the next key of a worker, which the worker has moved or marked. Takes no memory.

@@ -20,41 +20,40 @@ pub struct Scheduler {
     workers: Vec<Worker>,
     /// For each call, whether another may be parked on it. Where this is false, none is.
     awaited: Vec<bool>,
-    /// For each call a slot for keys; that of an EXECUTED call has the keys that its run wrote.
-    written: Vec<Vec<Key>>,
+    /// The number of keys that each worker's list has room for, at least. No recorded run wrote more.
+    key_room: usize,
 }
 
 impl Model for Scheduler {
-    ghost use Rattle.std.specs.Prelude.{◌≤◌, length, map, vec_items};
+    ghost use Rattle.std.specs.Prelude.{◌≤◌, length};
     ghost use Rattle.std.specs.Coded.{codes};
     ghost use Rattle.stm_state.specs.contracts.state.CallState.{the_row as call_row};
     ghost use Rattle.stm_state.specs.contracts.state.Task.{the_row as task_row};
     ghost use Rattle.scheduler.specs.Awaited.{IsAwaited};
+    ghost use Rattle.scheduler.specs.KeyRoom.{HasKeyRoom};
     ghost use Rattle.scheduler.specs.Schedule.{Schedule, schedule_of};
-    ghost use Rattle.scheduler.specs.Written.{HasWrittenKeys};
 
     ghost Value = { Schedule };
 
     ghost coded = { Prim.hlevel (codes, call_row.coded, task_row.coded) };
 
-    ghost view = { λ s. schedule_of s.calls.items s.execution s.validation s.workers.items };
+    ghost view = { λ s. schedule_of s.calls.items s.execution s.validation s.key_room s.workers.items };
 
-    ghost invariant = { λ s. (length s.calls.items ≤ 1024) × IsAwaited s.calls.items s.awaited.items × HasWrittenKeys s.calls.items (map vec_items s.written.items) s.workers.items };
+    ghost invariant = { λ s. (length s.calls.items ≤ 1024) × IsAwaited s.calls.items s.awaited.items × HasKeyRoom s.key_room s.calls.items s.workers.items };
 }
 
 impl Scheduler {
-    ghost use Rattle.std.specs.Prelude.{◌≡◌, ◌≢◌, ◌≤◌, ◌<◌, ◌+◌, ◌∷◌, ℕ, [], Bool, List, Option, Some, None, IfOk, OnErr, OnOk, Ok, nat_lt, min, map, set, get_or, length, slice_get, ◌-◌, ◌==◌, ◌&&◌, vec_capacity, vec_len};
+    ghost use Rattle.std.specs.Prelude.{◌≡◌, ◌≢◌, ◌≤◌, ◌<◌, ◌+◌, ◌∷◌, ℕ, [], Bool, List, Option, Some, None, IsSome, IfOk, OnErr, OnOk, Ok, nat_lt, min, map, set, get_or, length, slice_get, ◌-◌, ◌==◌, ◌&&◌, vec_capacity, vec_len};
     ghost use Rattle.std.specs.List.{list_all};
-    ghost use Rattle.std.specs.Option.{option_copied};
+    ghost use Rattle.std.specs.Option.{ForSome, option_copied};
     ghost use Rattle.mvmap.specs.Versions.{Versions};
     ghost use Rattle.rv_step.specs.declared.answer.StorageAnswer.{StorageAnswer};
     ghost use Rattle.stm_state.specs.State.{fresh, is_done, is_idle, no_counts, start, with_call, with_task};
-    ghost use Rattle.stm_state.specs.Steps.{counted, keys_of, least_parked_call, one_step, after_park, next_incarnation, resume_if_parked, written_by};
+    ghost use Rattle.stm_state.specs.Steps.{counted, keys_of, keys_to_move, least_parked_call, one_step, after_park, next_incarnation, resume_if_parked, written_by};
     ghost use Rattle.stm_state.specs.declared.state.Status.TheVariants as Status;
     ghost use Rattle.stm_state.specs.declared.state.Task.TheVariants as Task;
     ghost use Rattle.scheduler.specs.Schedule.{KeepsRooms, MayCount, state_of};
     ghost use Rattle.scheduler.specs.Workers.{HasKeyLeft, HasKeys, HasNoKeys, IsTaskKindOf, IsRunning, NobodyMoves, with_answer, with_answers, blocked_on, failed_check, task_with};
-    ghost use Rattle.scheduler.specs.Written.{BeginWithWritten};
 
     /// The scheduler of `calls` calls, each READY at incarnation 0, and of `workers` workers without a task.
     /// Both indices are 0. Refused where memory ran out.
@@ -68,7 +67,7 @@ impl Scheduler {
             validation: 0,
             workers: worker::idle_workers(alloc, workers)?,
             awaited: calls::none_awaited(alloc, calls)?,
-            written: calls::empty_slots(alloc, calls)?,
+            key_room: 0,
         })
     }
 
@@ -82,6 +81,21 @@ impl Scheduler {
         ensures schedule { self.new ≡ record self.old { tasks = set self.old.tasks worker (with_answers list.old.items (get_or self.old.tasks worker Task.Idle)); rooms = set self.old.rooms worker (vec_capacity list.old - vec_len list.old) } }
     {
         self.workers[worker].swap_answers(list);
+    }
+
+    /// Makes room in each worker's list for `count` keys to move or to mark. This is not a step. Refused where
+    /// memory ran out, and then nothing changes.
+    pub fn reserve_keys(&mut self, count: usize) -> Result<(), AllocError>
+        ensures room { OnOk result (count ≤ self.new.key_room) }
+        ensures same { self.new ≡ record self.old { key_room = self.new.key_room } }
+        ensures unchanged { OnErr result (self.new ≡ self.old) }
+        ensures succeeds { count ≤ self.old.key_room → result ≡ Ok tt }
+    {
+        if count > self.key_room {
+            worker::reserve_keys(&mut self.workers, count)?;
+            self.key_room = count;
+        }
+        Ok(())
     }
 
     /// Whether there is room for one more answer to a worker's run.
@@ -319,10 +333,16 @@ impl Scheduler {
         requires within { call < length self.old.calls }
         requires executing { (get_or self.old.calls call fresh).status ≡ Status.Executing }
         requires nobody { NobodyMoves call self.old.tasks }
+        requires room { length (written_by run.old) ≤ self.old.key_room }
         ensures kept { self.new ≡ record self.old { calls = set self.old.calls call (record (get_or self.old.calls call fresh) { last = run.old }) } }
         ensures before { run.new ≡ (get_or self.old.calls call fresh).last }
     {
-        mem::swap(&mut self.calls[usize::from(call)].last, run);
+        let last = &mut self.calls[usize::from(call)].last;
+        if last.is_none() {
+            *last = run.take();
+        } else {
+            mem::swap(last, run);
+        }
     }
 
     /// Readies a call.
@@ -368,21 +388,25 @@ impl Scheduler {
         self.workers[worker].begin(task_kind);
     }
 
-    /// Gives a worker the keys of a call's run to move, and drops its answers. The keys that it had before are
-    /// handed out.
+    /// Gives a worker the keys of a call's last run to move, and drops its answers. `before` is the run that the
+    /// call had before.
     pub(crate) fn begin_moving(
         &mut self,
         worker: usize,
         call: u16,
         new_key: bool,
-        keys: &mut Vec<Key>,
+        before: &Option<Recorded>,
     )
-        requires within { worker < length self.old.tasks }
-        requires written { BeginWithWritten (get_or self.old.calls call fresh) keys.old.items }
-        ensures state { (v : Versions) (p : ℕ) → state_of v p self.new ≡ with_task worker (Task.Moving call keys.old.items new_key) (state_of v p self.old) }
+        requires within { (worker < length self.old.tasks) × (call < length self.old.calls) }
+        requires run { IsSome (get_or self.old.calls call fresh).last }
+        requires room { length (written_by (get_or self.old.calls call fresh).last) + length (written_by before.now) ≤ self.old.key_room }
+        ensures state { ForSome (get_or self.old.calls call fresh).last (λ run. (v : Versions) (p : ℕ) → state_of v p self.new ≡ with_task worker (Task.Moving call (keys_to_move before.now run.receipt.writes) new_key) (state_of v p self.old)) }
         ensures rooms { KeepsRooms worker self.old.rooms self.new.rooms }
     {
-        self.workers[worker].begin_moving(call, new_key, keys);
+        let Some(run) = &self.calls[usize::from(call)].last else {
+            unreachable!();
+        };
+        self.workers[worker].begin_moving(call, new_key, &run.receipt.writes, before);
     }
 
     /// Drops the next key of a worker.
@@ -396,19 +420,14 @@ impl Scheduler {
         self.workers[worker].drop_key();
     }
 
-    /// Ends a worker's moving of a call's keys: the call is EXECUTED, its slot gets the keys that its run
-    /// wrote, and the worker has no task.
+    /// Ends a worker's moving of a call's keys: the call is EXECUTED, and the worker has no task.
     pub(crate) fn end_moving(&mut self, worker: usize, call: u16)
         requires within { (worker < length self.old.tasks) × (call < length self.old.calls) }
-        requires moving { (keys : List (List ℕ)) × (new : Bool) × (get_or self.old.tasks worker Task.Idle ≡ Task.Moving call keys new) }
         ensures state { (v : Versions) (p : ℕ) → state_of v p self.new ≡ with_task worker Task.Idle (with_call call (record (get_or self.old.calls call fresh) { status = Status.Executed }) (state_of v p self.old)) }
         ensures rooms { KeepsRooms worker self.old.rooms self.new.rooms }
     {
-        let index = usize::from(call);
-        let executed = &mut self.calls[index];
-        executed.status = Status::Executed;
-        let count = calls::write_count(&executed.last);
-        self.workers[worker].hand_over(&mut self.written[index], count);
+        self.calls[usize::from(call)].status = Status::Executed;
+        self.workers[worker].begin(TaskKind::Idle);
     }
 
     /// Takes an EXECUTED call back: it is ABORTING, and a worker gets the keys that the call's run wrote, to
@@ -419,22 +438,9 @@ impl Scheduler {
         ensures state { (v : Versions) (p : ℕ) → state_of v p self.new ≡ with_task worker (Task.Marking call (keys_of (written_by (get_or self.old.calls call fresh).last))) (with_call call (record (get_or self.old.calls call fresh) { status = Status.Aborting }) (state_of v p self.old)) }
         ensures rooms { KeepsRooms worker self.old.rooms self.new.rooms }
     {
-        let index = usize::from(call);
-        self.calls[index].status = Status::Aborting;
-        self.workers[worker].begin_marking(call, &mut self.written[index]);
-    }
-
-    /// Gives a worker a call to run from its start, without answers.
-    pub(crate) fn run_again(&mut self, worker: usize, call: u16)
-        requires { worker < length self.old.tasks }
-        ensures state { (v : Versions) (p : ℕ) → state_of v p self.new ≡ with_task worker (Task.Running call [] None) (state_of v p self.old) }
-        ensures rooms { KeepsRooms worker self.old.rooms self.new.rooms }
-    {
-        let task_kind = TaskKind::Running {
-            call,
-            blocked: None,
-        };
-        self.begin(worker, task_kind);
+        let aborted = &mut self.calls[usize::from(call)];
+        aborted.status = Status::Aborting;
+        self.workers[worker].begin_marking(call, &aborted.last);
     }
 
     /// Adds an answer to those of a worker's run, without counting a step. Takes no memory.

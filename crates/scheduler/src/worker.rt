@@ -1,19 +1,22 @@
 //! What the scheduler keeps of a worker.
 
-ghost use Rattle.std.specs.Prelude.{◌≡◌, ◌≤◌, ◌<◌, ◌+◌, ◌-◌, ◌∷◌, ℕ, [], Bool, IfOk, List, OnErr, OnOk, Option, map, nat_lt, replicate, slice_get, take, vec_capacity, vec_len};
+ghost use Rattle.std.specs.Prelude.{◌≡◌, ◌≤◌, ◌<◌, ◌+◌, ◌-◌, ◌++◌, ◌∷◌, ℕ, [], Bool, IfOk, List, OnOk, Option, get_or, length, map, nat_lt, not, replicate, slice_get, vec_capacity, vec_len};
 ghost use Rattle.std.specs.Option.{option_copied};
-ghost use Rattle.std.specs.List.{list_all};
+ghost use Rattle.std.specs.FinMap.{contains_key, entries};
+ghost use Rattle.std.specs.List.{filter, list_all};
 ghost use Rattle.rv_step.specs.declared.answer.StorageAnswer.{StorageAnswer};
 ghost use Rattle.stm_state.specs.State.{is_idle};
+ghost use Rattle.stm_state.specs.Steps.{keys_of, keys_to_move, written_by};
 ghost use Rattle.stm_state.specs.declared.state.Task.TheVariants as task;
-ghost use Rattle.scheduler.specs.Workers.{HasKeyLeft, IsRunning, IsTaskKindOf, with_answer, with_answers, blocked_on, failed_check, idle_worker, task_of, task_with};
+ghost use Rattle.scheduler.specs.Workers.{HasKeyLeft, IsRunning, IsTaskKindOf, with_answer, with_answers, blocked_on, but_key_room, failed_check, idle_worker, task_of, task_with};
 
 use crate::counting::COUNT_LIMIT;
-use rv_ledger::{Counts, Key};
+use rv_ledger::{Counts, Key, Writes};
 use rv_step::StorageAnswer;
 use std::alloc::{AllocError, Global};
 use std::marker::Model;
 use std::mem;
+use stm_state::Recorded;
 
 /// What a worker is doing, without the answers and the keys of its task.
 #[derive(Clone, Copy, Debug, PartialEq, Eq)]
@@ -74,7 +77,7 @@ impl Model for Worker {
 
     ghost coded = { Prim.hlevel (codes, task_row.coded) };
 
-    ghost view = { λ w. record { task = task_with w.task_kind w.answers.items (drop w.dropped w.keys.items); keys = w.keys.items; counts = w.counts; dones = w.dones; room = vec_capacity w.answers - vec_len w.answers } };
+    ghost view = { λ w. record { task = task_with w.task_kind w.answers.items (drop w.dropped w.keys.items); counts = w.counts; dones = w.dones; room = vec_capacity w.answers - vec_len w.answers; key_room = vec_capacity w.keys } };
 }
 
 impl Worker {
@@ -135,7 +138,7 @@ impl Worker {
 
     /// Gives it a task without answers and keys.
     pub(crate) fn begin(&mut self, task_kind: TaskKind)
-        ensures { self.new ≡ record self.old { task = task_with task_kind [] []; keys = []; room = self.new.room } }
+        ensures { self.new ≡ record self.old { task = task_with task_kind [] []; room = self.new.room } }
     {
         self.task_kind = task_kind;
         self.answers.clear();
@@ -143,37 +146,50 @@ impl Worker {
         self.dropped = 0;
     }
 
-    /// Gives it the keys of a call's run to move, for those that it had before, and drops its answers. Takes no
-    /// memory.
-    pub(crate) fn begin_moving(&mut self, call: u16, new_key: bool, keys: &mut Vec<Key>)
-        ensures worker { self.new ≡ record self.old { task = task.Moving call keys.old.items new_key; keys = keys.old.items; room = self.new.room } }
-        ensures before { keys.new.items ≡ self.old.keys }
+    /// Gives it the keys of a call's run to move, which wrote `writes`, and drops its answers. `before` is the
+    /// run that the call had before. Takes no memory.
+    pub(crate) fn begin_moving(
+        &mut self,
+        call: u16,
+        new_key: bool,
+        writes: &Writes,
+        before: &Option<Recorded>,
+    )
+        requires { length (entries writes.now) + length (written_by before.now) ≤ self.old.key_room }
+        ensures { self.new ≡ record self.old { task = task.Moving call (keys_to_move before.now writes.now) new_key; room = self.new.room } }
     {
         self.task_kind = TaskKind::Moving { call, new_key };
         self.answers.clear();
+        self.keys.clear();
         self.dropped = 0;
-        mem::swap(&mut self.keys, keys);
+        push_keys(&mut self.keys, writes);
+        if let Some(run) = before {
+            push_left_over(&mut self.keys, &run.receipt.writes, writes);
+        }
     }
 
-    /// Gives it the keys of a call's slot to mark, and drops its answers. Takes no memory.
-    pub(crate) fn begin_marking(&mut self, call: u16, slot: &mut Vec<Key>)
-        ensures { self.new ≡ record self.old { task = task.Marking call slot.old.items; keys = slot.old.items; room = self.new.room } }
+    /// Gives it the keys that a call's last run wrote to mark, and drops its answers. Takes no memory.
+    pub(crate) fn begin_marking(&mut self, call: u16, last: &Option<Recorded>)
+        requires { length (written_by last.now) ≤ self.old.key_room }
+        ensures { self.new ≡ record self.old { task = task.Marking call (keys_of (written_by last.now)); room = self.new.room } }
     {
         self.task_kind = TaskKind::Marking { call };
         self.answers.clear();
         self.keys.clear();
         self.dropped = 0;
-        mem::swap(&mut self.keys, slot);
+        if let Some(run) = last {
+            push_keys(&mut self.keys, &run.receipt.writes);
+        }
     }
 
-    /// Puts its first `count` keys into a call's slot, and ends its task. Takes no memory.
-    pub(crate) fn hand_over(&mut self, slot: &mut Vec<Key>, count: usize)
-        ensures slot { slot.new.items ≡ take count self.old.keys }
-        ensures worker { self.new ≡ record self.old { task = task.Idle; keys = []; room = self.new.room } }
+    /// Makes room in its list for `count` keys. Refused where memory ran out.
+    fn reserve_keys(&mut self, count: usize) -> Result<(), AllocError>
+        ensures room { OnOk result (count ≤ self.new.key_room) }
+        ensures grown { self.old.key_room ≤ self.new.key_room }
+        ensures same { self.new ≡ record self.old { key_room = self.new.key_room } }
     {
-        mem::swap(&mut self.keys, slot);
-        slot.truncate(count);
-        self.begin(TaskKind::Idle);
+        let spare = count.saturating_sub(self.keys.len());
+        self.keys.reserve(spare)
     }
 
     /// The next key that it is to move or to mark; None where no key is left.
@@ -189,6 +205,7 @@ impl Worker {
         requires { HasKeyLeft self.old.task }
         ensures moving { (call : ℕ) (key : List ℕ) (keys : List (List ℕ)) (new : Bool) → self.old.task ≡ task.Moving call (key ∷ keys) new → self.new ≡ record self.old { task = task.Moving call keys new } }
         ensures marking { (call : ℕ) (key : List ℕ) (keys : List (List ℕ)) → self.old.task ≡ task.Marking call (key ∷ keys) → self.new ≡ record self.old { task = task.Marking call keys } }
+        ensures key_room { self.new.key_room ≡ self.old.key_room }
     {
         self.dropped += 1;
     }
@@ -287,4 +304,44 @@ pub(crate) fn all_idle(workers: &[Worker]) -> bool
         }
     }
     true
+}
+
+/// Makes room in each worker's list for `count` keys. Refused where memory ran out; then some lists may have
+/// more room than before.
+#[cold]
+#[inline(never)]
+pub(crate) fn reserve_keys(workers: &mut Vec<Worker>, count: usize) -> Result<(), AllocError>
+    ensures room { OnOk result ((w : ℕ) → w < length workers.new.items → count ≤ (get_or workers.new.items w idle_worker).key_room) }
+    ensures grown { (w : ℕ) → (get_or workers.old.items w idle_worker).key_room ≤ (get_or workers.new.items w idle_worker).key_room }
+    ensures same { map but_key_room workers.new.items ≡ map but_key_room workers.old.items }
+{
+    for index in 0..workers.len() {
+        workers[index].reserve_keys(count)?;
+    }
+    Ok(())
+}
+
+/// Adds the keys that are written, in room that was made. Takes no memory.
+fn push_keys(keys: &mut Vec<Key>, writes: &Writes)
+    requires { vec_len keys.old + length (entries writes.now) ≤ vec_capacity keys.old }
+    ensures keys { keys.new.items ≡ keys.old.items ++ keys_of (entries writes.now) }
+    ensures len { vec_len keys.new ≡ vec_len keys.old + length (entries writes.now) }
+    ensures capacity { vec_capacity keys.new ≡ vec_capacity keys.old }
+{
+    for (key, _) in writes.as_slice() {
+        keys.push_reserved(*key);
+    }
+}
+
+/// Adds the keys of `before` that `writes` does not have, in room that was made. Takes no memory.
+fn push_left_over(keys: &mut Vec<Key>, before: &Writes, writes: &Writes)
+    requires { vec_len keys.old + length (entries before.now) ≤ vec_capacity keys.old }
+    ensures keys { keys.new.items ≡ keys.old.items ++ keys_of (filter (λ write. not (contains_key writes.now write.0)) (entries before.now)) }
+    ensures capacity { vec_capacity keys.new ≡ vec_capacity keys.old }
+{
+    for (key, _) in before.as_slice() {
+        if writes.get(key).is_none() {
+            keys.push_reserved(*key);
+        }
+    }
 }

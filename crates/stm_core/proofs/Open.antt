@@ -45,10 +45,10 @@ module _ (places : FinSet place_cmp) where
   open_grown more grows i [] open_ = tt
   open_grown more grows i (e ∷ es) open_ = (grows (e.0, i) open_.0, open_grown more grows i es open_.1)
 
-  -- places at all keys are places at the writes
-  pub open_keys : (i : ℕ) (es : List (List ℕ × ContentChange)) → All (λ key. IsTrue (contains places (key, i))) (keys_of es) → AreOpen places i es
-  open_keys i [] h = tt
-  open_keys i (e ∷ es) h = (
-    All-head (λ key. IsTrue (contains places (key, i))) e.0 (keys_of es) h,
-    open_keys i es (All-tail (λ key. IsTrue (contains places (key, i))) e.0 (keys_of es) h),
+  -- places at the keys of all writes are open
+  pub open_writes : (i : ℕ) (es : List (List ℕ × ContentChange)) → All (λ write. IsTrue (contains places (write.0, i))) es → AreOpen places i es
+  open_writes i [] h = tt
+  open_writes i (e ∷ es) h = (
+    All-head (λ write. IsTrue (contains places (write.0, i))) e es h,
+    open_writes i es (All-tail (λ write. IsTrue (contains places (write.0, i))) e es h),
   )

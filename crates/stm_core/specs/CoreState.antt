@@ -9,7 +9,7 @@ use Rattle.mvmap.specs.Reading.{Visible, blocker, origin_in, value_seen}
 use Rattle.stm_state.specs.declared.state.Task.{Task}
 use Rattle.stm_state.specs.declared.state.Task.TheVariants.{Idle, Running, Moving, Validating, Marking}
 use Rattle.stm_state.specs.State.{State, call_at, task_at, no_counts}
-use Rattle.stm_state.specs.Steps.{Block, Step, Ask, ReadKey, Park, Record, MoveKey, FinishExecution, CheckRead, Decide, MarkEstimate, FinishAbort, Limit, keys_of, recorded_run, worker_step}
+use Rattle.stm_state.specs.Steps.{Block, Step, Ask, ReadKey, Park, Record, MoveKey, FinishExecution, CheckRead, Decide, MarkEstimate, FinishAbort, Limit, recorded_run, worker_step}
 use Rattle.stm_state.specs.Done.{block_of}
 use Rattle.scheduler.specs.Schedule.{KeepsRooms, count_limit}
 use Rattle.stm_core.specs.declared.next_step.AskResult.{AskResult}
@@ -21,7 +21,6 @@ use Rattle.stm_core.specs.declared.next_step.StepKind.TheVariants as kinds
 use Rattle.stm_core.specs.declared.next_step.ReadResult.{ReadResult}
 use Rattle.stm_core.specs.declared.next_step.ReadResult.TheVariants as read_result
 use Rattle.stm_core.specs.declared.ready_record.ReadyRecord.{ReadyRecord}
-use Rattle.stm_core.specs.declared.ready_record.RecordParts.{RecordParts}
 
 -- how many versions a read may pass: in the list for the origin that is kept, and in the one for the origin that is handed
 -- out
@@ -189,14 +188,8 @@ pub record IsOwn (w : ℕ) (run : EndedRun) (b : CoreState) : Type 0 where
   pub same_call : slice_get b.job.block call ≡ Some run.call
   pub same_answers : run.answers.items ≡ answers_of (task_at b.state w)
 
--- what is made for the record of a run: the reads that it keeps, and the keys that the run wrote, in their order
-pub record AreRecordParts (run : EndedRun) (record_parts : RecordParts) : Type 0 where
-  pub reads : record_parts.reads ≡ (recorded_run run.answers.items run.receipt).reads
-  pub keys : record_parts.keys.items ≡ keys_of (map.entries run.receipt.writes)
-
--- a run is ready to be recorded: its call and its answers, its receipt with the reads that it made, and the keys that it wrote
+-- a run is ready to be recorded: its call and its answers, and its receipt with the reads that it made
 pub record IsReadyOf (run : EndedRun) (ready : ReadyRecord) : Type 0 where
   pub call : ready.call ≡ run.call
   pub answers : ready.answers ≡ run.answers
   pub recorded : ready.recorded ≡ Some (recorded_run run.answers.items run.receipt)
-  pub keys : ready.keys.items ≡ keys_of (map.entries run.receipt.writes)

@@ -14,7 +14,7 @@ ghost use Rattle.stm_core.specs.declared.engine.DriveFault.TheVariants.{Memory};
 
 use crate::fault::RecordFault;
 use crate::next_step::{NextStep, ReadResult, StepKind};
-use crate::ready_record::{ReadyRecord, RecordParts};
+use crate::ready_record::{ReadyRecord, reads_made};
 use crate::state::Core;
 use rv_ledger::{Job, Key, Outcome, StoredValue};
 use rv_step::{Pause, Run};
@@ -317,9 +317,9 @@ fn hand_in(alloc: Global, core: &mut Core, worker: usize, run: Run) -> Result<()
     ensures refused { IfErr result (λ e. IsStepRefusal e (worker_step (block_in core.old) worker Record core.old.state)) }
 {
     let run = run.finish();
-    let record_parts = RecordParts::of(alloc, &run)?;
-    let mut ready = ReadyRecord::of(run, record_parts);
-    match core.record_ready(alloc, worker, &mut ready) {
+    let reads = reads_made(alloc, &run)?;
+    let mut ready = ReadyRecord::of(run, reads);
+    match core.record_ready(worker, &mut ready) {
         Ok(()) => Ok(()),
         Err(fault) => Err(match fault {
             RecordFault::ArenaFull => DriveFault::ArenaFull,

@@ -23,6 +23,6 @@ pub use fault::{IncarnationLimit, RecordFault, Refused};
 pub use job_source::{JobSource, LentJob};
 pub use next_step::{AskResult, NextStep, ReadResult, StepKind};
 pub use outcome::Finished;
-pub use ready_record::{ReadyRecord, RecordParts};
+pub use ready_record::{ReadyRecord, reads_made};
 pub use recording::SpentRun;
 pub use state::Core;

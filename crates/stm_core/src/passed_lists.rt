@@ -17,7 +17,7 @@ pub(crate) struct PassedLists {
 }
 
 impl PassedLists {
-    ghost use Rattle.std.specs.Prelude.{◌≡◌, ◌≤◌, [], length, vec_capacity};
+    ghost use Rattle.std.specs.Prelude.{◌≡◌, ◌≤◌, [], IsTrue, length, vec_capacity};
 
     /// Lists without room. Takes no memory.
     pub(crate) fn new(alloc: Global) -> PassedLists {
@@ -25,6 +25,13 @@ impl PassedLists {
             kept: Vec::new(alloc),
             lent: Vec::new(alloc),
         }
+    }
+
+    /// Whether each has room for `count` versions.
+    pub(crate) fn have_room(&self, count: usize) -> bool
+        ensures { IsTrue result → (count ≤ vec_capacity self.now.kept) × (count ≤ vec_capacity self.now.lent) }
+    {
+        count <= self.kept.capacity() && count <= self.lent.capacity()
     }
 
     /// The two origins of a read that wrote the versions that it passed into the list that is kept, and found

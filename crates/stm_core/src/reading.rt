@@ -1,6 +1,6 @@
 //! The step that a worker owes, and a read of its run.
 
-ghost use Rattle.std.specs.Prelude.{◌≡◌, ◌<◌, ◌≤◌, ℕ, [], Bool, List, length, get_or, vec_capacity, Option, None, Ok, IfSome, OnErr, OnOk};
+ghost use Rattle.std.specs.Prelude.{◌≡◌, ◌<◌, ◌≤◌, ℕ, [], Bool, IsTrue, List, length, get_or, vec_capacity, Option, None, Ok, IfSome, OnErr, OnOk};
 ghost use Rattle.std.specs.Option.{option_copied};
 ghost use Rattle.std.specs.FinMap as finite;
 ghost use Rattle.rv_ledger.specs.Key.{Storage};
@@ -163,6 +163,9 @@ pub(crate) fn make_read_room(
     ensures succeeds { 1 ≤ get_or scheduler.old.rooms worker 0 → IsRoomFor (get_or scheduler.old.tasks worker task.Idle) (room_of lists.old) → HasValueRoom (value_room_of values.old) → result ≡ Ok tt }
 {
     let count = index_run(scheduler.task_kind(worker));
+    if has_read_room(scheduler, worker, lists, values, count) {
+        return Ok(());
+    }
     let kept = larger(&lists.kept, count)?;
     let lent = larger(&lists.lent, count)?;
     let kept_value = larger(&values.kept, VALUE_LIMIT)?;
@@ -173,6 +176,22 @@ pub(crate) fn make_read_room(
     replace(&mut values.kept, kept_value);
     replace(&mut values.lent, lent_value);
     Ok(())
+}
+
+/// Whether there is room for one more answer to a worker's run, for `count` versions that a read passes, and for any value.
+fn has_read_room(
+    scheduler: &Scheduler,
+    worker: usize,
+    lists: &PassedLists,
+    values: &ValueRooms,
+    count: usize,
+) -> bool
+    requires { worker < length scheduler.now.tasks }
+    ensures answer { IsTrue result → 1 ≤ get_or scheduler.now.rooms worker 0 }
+    ensures passed { IsTrue result → (count ≤ vec_capacity lists.now.kept) × (count ≤ vec_capacity lists.now.lent) }
+    ensures values { IsTrue result → HasValueRoom (value_room_of values.now) }
+{
+    scheduler.has_answer_room(worker) && lists.have_room(count) && values.have_room()
 }
 
 /// The index of the call that a worker runs; 0 where it runs none.

@@ -1,32 +1,21 @@
-//! What the record of an ended run takes, made before the lock.
+//! An ended run that is ready to be recorded, made before the lock.
+
+ghost use Rattle.std.specs.Prelude.{◌≡◌, IfOk, map};
+ghost use Rattle.stm_state.specs.Steps.{read_of};
 
 use crate::reads::reads_in;
-use crate::versions::written_keys;
 use read_set::ReadSet;
-use rv_ledger::{Call, Key};
+use rv_ledger::Call;
 use rv_step::{EndedRun, StorageAnswer};
 use std::alloc::{AllocError, Global};
+use std::mem::replace;
 use stm_state::Recorded;
 
-/// What the record of an ended run takes beside the run: the reads that it made, and the keys that it wrote.
-#[derive(Drop)]
-pub struct RecordParts {
-    reads: ReadSet,
-    keys: Vec<Key>,
-}
-
-impl RecordParts {
-    ghost use Rattle.std.specs.Prelude.{IfOk};
-    ghost use Rattle.stm_core.specs.CoreState.{AreRecordParts};
-
-    /// What the record of a run takes; refused where memory ran out.
-    pub fn of(alloc: Global, run: &EndedRun) -> Result<RecordParts, AllocError>
-        ensures { IfOk result (λ made. AreRecordParts run.now made) }
-    {
-        let reads = reads_in(alloc, run.answers.as_slice())?;
-        let keys = written_keys(alloc, &run.receipt.writes)?;
-        Ok(RecordParts { reads, keys })
-    }
+/// The reads that an ended run made, as its record keeps them; refused where memory ran out.
+pub fn reads_made(alloc: Global, run: &EndedRun) -> Result<ReadSet, AllocError>
+    ensures { IfOk result (λ reads. reads ≡ map read_of run.now.answers.items) }
+{
+    reads_in(alloc, run.answers.as_slice())
 }
 
 /// An ended run that is ready to be recorded. A worker makes it before it takes the lock, and lends it to the record,
@@ -37,18 +26,17 @@ pub struct ReadyRecord {
     pub(crate) answers: Vec<StorageAnswer>,
     /// The run that is to be kept; after the record, the one that was kept before, or None.
     pub(crate) recorded: Option<Recorded>,
-    /// The keys that the run wrote; after the record, keys that nobody needs.
-    pub(crate) keys: Vec<Key>,
 }
 
 impl ReadyRecord {
-    ghost use Rattle.std.specs.Prelude.{◌≡◌};
+    ghost use Rattle.std.specs.Prelude.{◌≡◌, map};
     ghost use Rattle.rv_step.specs.declared.ended_run.EndedRun.{EndedRun};
-    ghost use Rattle.stm_core.specs.CoreState.{AreRecordParts, IsReadyOf};
+    ghost use Rattle.stm_state.specs.Steps.{read_of};
+    ghost use Rattle.stm_core.specs.CoreState.{IsReadyOf};
 
-    /// A run with what its record takes. Takes no memory.
-    pub fn of(run: EndedRun, record_parts: RecordParts) -> ReadyRecord
-        requires { AreRecordParts run record_parts }
+    /// A run with the reads that it made. Takes no memory.
+    pub fn of(run: EndedRun, reads: ReadSet) -> ReadyRecord
+        requires { reads ≡ map read_of run.answers.items }
         ensures { IsReadyOf run result }
     {
         let EndedRun {
@@ -57,20 +45,18 @@ impl ReadyRecord {
             receipt,
             ..
         } = run;
-        let RecordParts { reads, keys } = record_parts;
         let recorded = Some(Recorded { receipt, reads });
         ReadyRecord {
             call,
             answers,
             recorded,
-            keys,
         }
     }
 
-    /// The run's answers, whose room can be used again. What else is left over is dropped.
-    pub fn into_answers(self) -> Vec<StorageAnswer> {
-        let ReadyRecord { answers, .. } = self;
-        answers
+    /// Takes the run's answers, whose room can be used again.
+    pub fn take_answers(&mut self) -> Vec<StorageAnswer> {
+        let alloc = *self.answers.allocator();
+        replace(&mut self.answers, Vec::new(alloc))
     }
 
     /// The run, where it was not recorded. Takes no memory.

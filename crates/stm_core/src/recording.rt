@@ -7,7 +7,7 @@ ghost use Rattle.rv_step.specs.declared.ended_run.EndedRun.{EndedRun};
 ghost use Rattle.stm_state.specs.declared.state.Status.TheVariants.{Executing};
 ghost use Rattle.stm_state.specs.declared.state.Task.TheVariants as task;
 ghost use Rattle.stm_state.specs.State.{fresh};
-ghost use Rattle.stm_state.specs.Steps.{counted, keys_of, keys_to_move, one_execution, after_record};
+ghost use Rattle.stm_state.specs.Steps.{counted, one_execution, after_record};
 ghost use Rattle.scheduler.specs.Schedule.{KeepsRooms, MayCount};
 ghost use Rattle.scheduler.specs.Workers.{IsRunning, NobodyMoves};
 ghost use Rattle.stm_core.specs.declared.fault.RecordFault.TheVariants as fault;
@@ -17,13 +17,11 @@ ghost use Rattle.stm_core.specs.Inner.{AreOpen, IsGrown, IsPromised, state_in};
 use crate::fault::RecordFault;
 use crate::ready_record::ReadyRecord;
 use crate::same::same_answers;
-use crate::versions::{add_left_over, written_count};
+use crate::versions::{recorded_count, written_count};
 use mvmap::MvMap;
-use rv_ledger::{Block, Key, VALUE_LIMIT, Writes, same_call};
+use rv_ledger::{Block, VALUE_LIMIT, Writes, same_call};
 use rv_step::{EndedRun, StorageAnswer};
 use scheduler::{INCARNATION_LIMIT, Scheduler};
-use std::alloc::Global;
-use stm_state::Recorded;
 use version_arena::{RECORD_LIMIT, ReserveFault};
 
 /// What a record leaves over, so that it can be dropped after a lock: the call and the answers of the run that was
@@ -62,7 +60,6 @@ pub(crate) fn has_own_answers(
 /// comes before any change. After a refusal the run is ready still, and nothing has changed, except that the map
 /// may have more room.
 pub(crate) fn record_run(
-    alloc: Global,
     map: &mut MvMap,
     promised: &mut usize,
     scheduler: &mut Scheduler,
@@ -95,15 +92,14 @@ pub(crate) fn record_run(
     let writes = &kept.receipt.writes;
     let state = scheduler.call(call);
     check_limits(map, *promised, state.incarnation, writes)?;
-    let keys = &mut ready.keys;
-    let count = keys.len();
+    let count = written_count(writes);
+    let keys = count + recorded_count(&state.last);
     let records = *promised + count;
-    let last = &state.last;
-    let Ok(()) = make_record_room(alloc, map, records, call, last, writes, keys) else {
+    let Ok(()) = make_record_room(map, scheduler, records, call, writes, keys) else {
         return Err(RecordFault::Memory);
     };
     *promised += count;
-    scheduler.keep_run(worker, call, &mut ready.recorded, keys);
+    scheduler.keep_run(worker, call, &mut ready.recorded);
     Ok(())
 }
 
@@ -130,27 +126,26 @@ pub(crate) fn check_limits(
     Ok(())
 }
 
-/// Makes room for `records` records and places for what a run wrote, and adds to its keys those that only the
-/// call's last recorded run wrote. Refused where memory ran out; then the keys are as before. The versions stay.
+/// Makes room for `records` records, places for what a run wrote, and room for `keys` keys to move. Refused where memory ran
+/// out; then only the map may have more room. The versions stay.
 fn make_record_room(
-    alloc: Global,
     map: &mut MvMap,
+    scheduler: &mut Scheduler,
     records: usize,
     call: u16,
-    last: &Option<Recorded>,
     writes: &Writes,
-    keys: &mut Vec<Key>,
+    keys: usize,
 ) -> Result<(), ReserveFault>
-    requires limit { length map.old.arena.records + records ≤ RECORD_LIMIT }
-    requires written { keys.old.items ≡ keys_of (entries writes.now) }
-    ensures keys { OnOk result (keys.new.items ≡ keys_to_move last.now writes.now) }
+    requires { length map.old.arena.records + records ≤ RECORD_LIMIT }
+    ensures keys { OnOk result (keys ≤ scheduler.new.key_room) }
+    ensures same { scheduler.new ≡ record scheduler.old { key_room = scheduler.new.key_room } }
+    ensures back { OnErr result (scheduler.new ≡ scheduler.old) }
     ensures open_ { OnOk result (AreOpen map.new.places call (entries writes.now)) }
     ensures room { OnOk result (records ≤ map.new.arena.room) }
     ensures bytes { OnOk result (records * VALUE_LIMIT ≤ map.new.arena.bytes) }
-    ensures back { OnErr result (keys.new.items ≡ keys.old.items) }
     ensures grown { IsGrown map.old map.new }
 {
-    map.reserve_for(keys.as_slice(), call, records, records * VALUE_LIMIT)?;
-    add_left_over(keys, last, writes)?;
+    map.reserve_for(writes.as_slice(), call, records, records * VALUE_LIMIT)?;
+    scheduler.reserve_keys(keys)?;
     Ok(())
 }

@@ -12,7 +12,7 @@ use crate::outcome::{Finished, finished_of};
 use crate::passed_lists::PassedLists;
 use crate::reading::{make_read_room, next_step_of, read_at};
 use crate::reads::next_stands;
-use crate::ready_record::{ReadyRecord, RecordParts};
+use crate::ready_record::{ReadyRecord, reads_made};
 use crate::recording::{SpentRun, check_limits, has_own_answers, is_run_of, record_run};
 use crate::value_rooms::ValueRooms;
 use crate::versions::{mark_key, move_key};
@@ -310,14 +310,14 @@ impl<H: JobSource> Core<H> {
         if let Err(fault) = check_limits(&self.map, self.promised, incarnation, writes) {
             return Err(Refused { fault, run });
         }
-        let Ok(record_parts) = RecordParts::of(alloc, &run) else {
+        let Ok(reads) = reads_made(alloc, &run) else {
             return Err(Refused {
                 fault: RecordFault::Memory,
                 run,
             });
         };
-        let mut ready = ReadyRecord::of(run, record_parts);
-        match self.record_ready(alloc, worker, &mut ready) {
+        let mut ready = ReadyRecord::of(run, reads);
+        match self.record_ready(worker, &mut ready) {
             Ok(()) => Ok(SpentRun { left: ready }),
             Err(fault) => Err(Refused {
                 fault,
@@ -331,7 +331,6 @@ impl<H: JobSource> Core<H> {
     /// before is handed out in its place.
     pub fn record_ready(
         &mut self,
-        alloc: Global,
         worker: usize,
         ready: &mut ReadyRecord,
     ) -> Result<(), RecordFault>
@@ -354,7 +353,6 @@ impl<H: JobSource> Core<H> {
             return Err(RecordFault::Foreign);
         }
         record_run(
-            alloc,
             &mut self.map,
             &mut self.promised,
             &mut self.scheduler,

@@ -1,12 +1,12 @@
 //! The lists that a read writes the bytes of a long value into.
 
-ghost use Rattle.std.specs.Prelude.{◌≡◌, ◌≤◌, IfSome, None, length};
+ghost use Rattle.std.specs.Prelude.{◌≡◌, ◌≤◌, IfSome, IsTrue, None, length};
 ghost use Rattle.std.specs.Option.{option_copied};
 ghost use Rattle.mvmap.specs.Answers.{with_amount};
 ghost use Rattle.stm_core.specs.CoreState.{HasValueRoom, IsInPlace};
 ghost use Rattle.stm_core.specs.Inner.{value_room_of};
 
-use rv_ledger::{StoredValue, add};
+use rv_ledger::{StoredValue, VALUE_LIMIT, add};
 use std::alloc::Global;
 
 /// Two lists for the bytes of the value that a read finds: one for the answer that the core keeps, and one for
@@ -35,6 +35,13 @@ impl ValueRooms {
             kept: Vec::new(alloc),
             lent: Vec::new(alloc),
         }
+    }
+
+    /// Whether each has room for any value.
+    pub(crate) fn have_room(&self) -> bool
+        ensures { IsTrue result → HasValueRoom (value_room_of self.now) }
+    {
+        VALUE_LIMIT <= self.kept.capacity() && VALUE_LIMIT <= self.lent.capacity()
     }
 
     /// What a key has after an amount is added, if there is one, twice. Takes no memory.

@@ -1,74 +1,38 @@
 //! The keys that a run moves or that an abort marks, and what is put at them: a version, an estimate or
 //! nothing.
 
-ghost use Rattle.std.specs.Prelude.{◌≡◌, ◌≤◌, ◌+◌, ◌*◌, ◌∷◌, ◌++◌, [], length, not, take, IfOk, IsTrue, OnErr, OnOk, Some};
-ghost use Rattle.std.specs.List.{filter};
+ghost use Rattle.std.specs.Prelude.{◌≡◌, ◌≤◌, ◌+◌, ◌*◌, ◌∷◌, [], length, IsTrue, Some};
 ghost use Rattle.std.specs.Option.{option_copied};
-ghost use Rattle.std.specs.FinMap.{contains_key, entries};
+ghost use Rattle.std.specs.FinMap.{entries};
 ghost use Rattle.std.specs.FinSet.{contains};
 ghost use Rattle.rv_ledger.specs.Change.{IfValue, change_copied};
 ghost use Rattle.version_arena.specs.ArenaState.{bytes_of};
 ghost use Rattle.mvmap.specs.Versions.{Estimate, changed};
-ghost use Rattle.stm_state.specs.Steps.{keys_of, keys_to_move, version_of, write_of};
+ghost use Rattle.stm_state.specs.Steps.{version_of, write_of, written_by};
 ghost use Rattle.stm_core.specs.Inner.{AreOpen, writes_at};
 
 use mvmap::MvMap;
 use rv_ledger::{Change, Key, StoredValue, VALUE_LIMIT, Writes};
-use std::alloc::{AllocError, Global};
 use stm_state::{CallState, Recorded};
 
 /// The number of keys that are written.
 pub(crate) fn written_count(writes: &Writes) -> usize
-    ensures { result ≡ length (entries writes.now) }
+    ensures count { result ≡ length (entries writes.now) }
+    ensures limit { result ≤ 256 }
 {
+    writes.holds();
     writes.len()
 }
 
-/// The keys that are written; refused where memory ran out.
-pub(crate) fn written_keys(alloc: Global, writes: &Writes) -> Result<Vec<Key>, AllocError>
-    ensures { IfOk result (λ keys. keys.items ≡ keys_of (entries writes.now)) }
+/// The number of keys that a call's last recorded run wrote; 0 where there is none.
+pub(crate) fn recorded_count(last: &Option<Recorded>) -> usize
+    ensures count { result ≡ length (written_by last.now) }
+    ensures limit { result ≤ 256 }
 {
-    let mut keys = Vec::with_capacity(alloc, written_count(writes))?;
-    for (key, _) in writes.as_slice() {
-        keys.push(*key)?;
+    match last {
+        Some(run) => written_count(&run.receipt.writes),
+        None => 0,
     }
-    Ok(keys)
-}
-
-/// Adds to the keys that a run wrote those that only the call's last recorded run wrote: these are the keys that the run
-/// is to move. Refused where memory ran out; then the keys are as before.
-pub(crate) fn add_left_over(
-    keys: &mut Vec<Key>,
-    last: &Option<Recorded>,
-    writes: &Writes,
-) -> Result<(), AllocError>
-    requires { keys.old.items ≡ keys_of (entries writes.now) }
-    ensures keys { OnOk result (keys.new.items ≡ keys_to_move last.now writes.now) }
-    ensures back { OnErr result (keys.new.items ≡ keys.old.items) }
-{
-    let count = keys.len();
-    let added = match last {
-        Some(run) => push_left_over(keys, &run.receipt.writes, writes),
-        None => Ok(()),
-    };
-    if added.is_err() {
-        keys.truncate(count);
-    }
-    added
-}
-
-/// Adds the keys of `before` that `writes` does not have; refused where memory ran out, when some of them may stand
-/// behind the others.
-fn push_left_over(keys: &mut Vec<Key>, before: &Writes, writes: &Writes) -> Result<(), AllocError>
-    ensures keys { OnOk result (keys.new.items ≡ keys.old.items ++ keys_of (filter (λ write. not (contains_key writes.now write.0)) (entries before.now))) }
-    ensures first { take (length keys.old.items) keys.new.items ≡ keys.old.items }
-{
-    for (key, _) in before.as_slice() {
-        if writes.get(key).is_none() {
-            keys.push(*key)?;
-        }
-    }
-    Ok(())
 }
 
 /// Publishes what a call's run wrote at a key, in room that was promised, or withdraws the key where the

@@ -19,7 +19,7 @@ use rv_step::{Pause, Run, RunRoom};
 use std::alloc::Global;
 use std::mem::replace;
 use std::sync::Wait;
-use stm_core::{JobSource, NextStep, ReadResult, ReadyRecord, RecordParts, StepKind};
+use stm_core::{JobSource, NextStep, ReadResult, ReadyRecord, StepKind, reads_made};
 
 /// What a worker keeps from one step to the next: the room that one run leaves to the next one, and how it spins between
 /// two looks at the cell.
@@ -241,13 +241,13 @@ fn run_call<J: JobName, H: JobSource, R: Wait, G: Gate>(
     }
     gate.held(share.worker());
     let ended = run.finish_in(room);
-    let Ok(record_parts) = RecordParts::of(alloc, &ended) else {
+    let Ok(reads) = reads_made(alloc, &ended) else {
         return Err(WorkFault::Met(shared.refuse(rt, OutsideFault::Memory)));
     };
-    let mut ready = ReadyRecord::of(ended, record_parts);
-    let next = record(rt, alloc, shared, share, call, incarnation, &mut ready)?;
+    let mut ready = ReadyRecord::of(ended, reads);
+    let next = record(rt, shared, share, call, incarnation, &mut ready)?;
     // What else the record left over in `ready` is dropped here, after the lock.
-    room.keep_answers(ready.into_answers());
+    room.keep_answers(ready.take_answers());
     Ok(next)
 }
 
@@ -255,7 +255,6 @@ fn run_call<J: JobName, H: JobSource, R: Wait, G: Gate>(
 /// book under the lock told it. What is left over of the run stands in its place then.
 fn record<J: JobName, H: JobSource, R: Wait>(
     rt: &R,
-    alloc: Global,
     shared: &Shared<J, H>,
     share: &mut Share,
     call: u16,
@@ -271,7 +270,7 @@ fn record<J: JobName, H: JobSource, R: Wait>(
 {
     shared
         .hold(rt)
-        .record_ready(alloc, share, call, incarnation, ready)
+        .record_ready(share, call, incarnation, ready)
 }
 
 /// Takes a call's run on to its end. Returns false where it meets an estimate before that.

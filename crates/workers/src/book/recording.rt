@@ -54,7 +54,6 @@ impl<J: JobName, H: JobSource> Book<J, H> {
     #[tactic(auto, using(crate::proofs::Stays::stays, crate::proofs::Causes::unready_cause))]
     pub(crate) fn record_ready(
         &mut self,
-        alloc: Global,
         share: &mut Share,
         call: u16,
         incarnation: u16,
@@ -71,7 +70,7 @@ impl<J: JobName, H: JobSource> Book<J, H> {
     {
         self.ready(share, NextStep::Run { call, incarnation })?;
         stm_state::dones_grow_at_done();
-        match self.core.record_ready(alloc, share.worker, ready) {
+        match self.core.record_ready(share.worker, ready) {
             Ok(()) => {
                 self.update(share);
                 Ok(self.core.doing(share.worker))

@@ -1,5 +1,12 @@
+use Rattle.std.proofs.Common.{ℕ, List, [], IsTrue}
+use Rattle.std.specs.FinSet.{contains}
+use Rattle.rv_ledger.specs.Change.{ContentChange}
+use Rattle.std.proofs.lemmas.List.Elements.{All-head}
 use Rattle.library_tests.proofs.Estimates.{no_estimate_set}
 use Rattle.library_tests.proofs.mvmap_calls.set_value.Goals as goal
 
 pub returns : goal.returns
 returns c = no_estimate_set c.args.map.now.versions c.reserve_for.new.self.versions c.publish.new.self.versions (c.args.key, c.args.writer) c.args.incarnation _ c.in_ok-reserve_for.ensures.versions c.publish.ensures.versions
+
+pub publish-requires-clause-place : goal.publish-requires-clause-place
+publish-requires-clause-place c = All-head (λ (write : List ℕ × ContentChange). IsTrue (contains c.reserve_for.new.self.places (write.0, c.args.writer))) _ [] c.in_ok-reserve_for.ensures.ok.0

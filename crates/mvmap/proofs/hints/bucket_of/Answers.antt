@@ -1,6 +1,6 @@
-use Rattle.std.proofs.Common.{◌≡◌, ℕ, ◌+◌, ◌/◌, ◌%◌, ◌*◌, ◌^◌, ap, ◌∙◌, bit_xor}
+use Rattle.std.proofs.Common.{◌≡◌, ℕ, ◌+◌, ◌/◌, ◌%◌, ◌^◌, ap, ◌∙◌}
 use Rattle.std.proofs.Math.Nat.{mod-add-mod}
-use Rattle.mvmap.specs.Hints.{bucket_of, sum_of}
+use Rattle.mvmap.specs.Hints.{bucket_of, mixed, sum_of}
 use Rattle.mvmap.proofs.hints.bucket_of.Goals as goal
 
 -- a sum that is reduced at each step is the sum reduced once
@@ -12,4 +12,4 @@ unfolding bucket_of
 returns-clause-value c =
     let sum : (c.word_at.result + c.word_at-2.result + c.word_at-3.result + c.word_at-4.result) % 2 ^ 64 ≡ sum_of c.args.key.now =
     rw (c.word_at.ensures, c.word_at-2.ensures, c.word_at-3.ensures, c.word_at-4.ensures, c.bytes-bytes.ensures.value) in
-    ap (λ (s : ℕ). bit_xor s (s / 2 ^ 32) * 11400714819323198485 % 2 ^ 64 / 2 ^ 50) (reduced c.word_at.result c.word_at-2.result c.word_at-3.result c.word_at-4.result (2 ^ 64) ∙ sum)
+    rw (c.mix-2.ensures, c.mix.ensures) (ap (λ s. mixed (mixed s) / 2 ^ 50) (reduced c.word_at.result c.word_at-2.result c.word_at-3.result c.word_at-4.result (2 ^ 64) ∙ sum))

@@ -1,6 +1,5 @@
-use Rattle.std.proofs.Common.{arith, ltb, rules, sym, ap, ◌∙◌, Some}
+use Rattle.std.proofs.Common.{arith, sym, ap, ◌∙◌, Some}
 use Rattle.std.specs.Option.{option_map}
-use Rattle.std.proofs.lemmas.List.Sorted.{IsPartitionPoint-from_clause}
 use Rattle.version_arena.specs.ArenaState.{Record}
 use Rattle.version_arena.specs.Lent.{lent}
 use Rattle.mvmap.specs.Versions.{Stands}
@@ -8,14 +7,11 @@ use Rattle.mvmap.specs.Reading.{visible_over}
 use Rattle.mvmap.specs.Slots.{entry_of, seen_in}
 use Rattle.mvmap.specs.declared.slot.Slot.{Slot}
 use Rattle.mvmap.proofs.Fills.{lent_within}
-use Rattle.mvmap.proofs.Walks.{parted, walk_ends, walk_starts, walk_stops}
+use Rattle.mvmap.proofs.Walks.{walk_ends, walk_starts, walk_stops}
 use Rattle.mvmap.proofs.seek.seek.Goals as goal
 
 pub loop-place-init : goal.loop-place-init
-loop-place-init c =
-    let ws = c.args.at_key.now in
-    walk_starts ws c.args.i c.partition_point-place.result c.partition_point-place.ensures.bound
-    (IsPartitionPoint-from_clause (λ e. ltb e.0 c.args.i) ws _ c.partition_point-place.ensures.partitioned (parted ws c.args.i c.requires.ascending) (λ a r q k. search rules))
+loop-place-init c = walk_starts c.args.at_key.now c.args.i c.count_below-place.result c.count_below-place.ensures
 
 pub returns-in-Estimate-clause-nearest : goal.returns-in-Estimate-clause-nearest
 returns-in-Estimate-clause-nearest c =

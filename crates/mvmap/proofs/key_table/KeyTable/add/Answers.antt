@@ -3,13 +3,13 @@ use Rattle.mvmap.specs.KeyTable.{AreFound, AreIndexed, positions_of}
 use Rattle.mvmap.specs.declared.key_table.KeySlots.{KeySlots}
 use Rattle.mvmap.proofs.KeyTables.{added_at, added_found, added_in_order, added_indexed, no_keys, none_found, still_found}
 use Rattle.mvmap.proofs.key_table.KeyTable.add.Goals as goal
-use Rattle.mvmap.proofs.key_table.KeyTable.add.Goals.{After-place, After-push_reserved, then-position-eq0, else-position-eq0}
+use Rattle.mvmap.proofs.key_table.KeyTable.add.Goals.{After-note_position, After-push_reserved, then-position-eq0, else-position-eq0}
 
-last : (c : After-place) → c.len-position.result ≡ length c.args.self.now.list.items
+last : (c : After-note_position) → c.len-position.result ≡ length c.args.self.now.list.items
 last c = omega (arith, c.reserve.new.self.ok.0, ap length c.reserve.ensures.items)
 
 -- with the buckets made or not, the keys stand where they stood and are found
-opened : (c : After-place) → (c.if-position-eq0.self.list.items ≡ c.args.self.now.list.items)
+opened : (c : After-note_position) → (c.if-position-eq0.self.list.items ≡ c.args.self.now.list.items)
     × AreFound c.if-position-eq0.self.hints.buckets.items c.if-position-eq0.self.others.entries (positions_of c.args.self.now.list.items)
 opened c =
     let t = c.args.self.now in
@@ -19,44 +19,44 @@ opened c =
       | else-position-eq0 w ↦ rw w.self-is (c.reserve.ensures.items, was)
     ]
 
-kept : (c : After-place) → c.place.new.self.list.items ≡ c.args.self.now.list.items
-kept c = let same = opened c in ap (λ l. l.items) c.place.ensures.list ∙ same.0
+kept : (c : After-note_position) → c.note_position.new.self.list.items ≡ c.args.self.now.list.items
+kept c = let same = opened c in ap (λ l. l.items) c.note_position.ensures.list ∙ same.0
 
-pub returns-in_err-place-clause-indexed : goal.returns-in_err-place-clause-indexed
-returns-in_err-place-clause-indexed c =
-    let at = (goal.at.returns-in_err-place-clause-indexed c).After-place in
+pub returns-in_err-note_position-clause-indexed : goal.returns-in_err-note_position-clause-indexed
+returns-in_err-note_position-clause-indexed c =
+    let at = (goal.at.returns-in_err-note_position-clause-indexed c).After-note_position in
     let t = c.args.self.now in
     let b = c.if-position-eq0.self in
     let same = opened at in
     record {
       positions = subst (λ (list : List KeySlots). AreIndexed (positions_of list) list) (sym (kept at)) c.requires.indexed.positions;
-      searched = rw (kept at, c.place.ensures.buckets) (still_found b.hints.buckets.items b.others.entries (positions_of t.list.items) same.1 c.args.key c.len-position.result c.place.new.self.others.entries c.in_err-place.ensures.unchanged);
+      searched = rw (kept at, c.note_position.ensures.buckets) (still_found b.hints.buckets.items b.others.entries (positions_of t.list.items) same.1 c.args.key c.len-position.result c.note_position.new.self.others.entries c.in_err-note_position.ensures.unchanged);
     }
 
-pushed : (c : After-push_reserved) → c.place.new.self.list.items ≡ c.args.self.now.list.items → c.push_reserved.new.self.items ≡ c.args.self.now.list.items ++ record { key = c.args.key; writers = [] } ∷ []
+pushed : (c : After-push_reserved) → c.note_position.new.self.list.items ≡ c.args.self.now.list.items → c.push_reserved.new.self.items ≡ c.args.self.now.list.items ++ record { key = c.args.key; writers = [] } ∷ []
 pushed c same = rw (c.push_reserved.ensures.items, same, c.new.ensures)
 
 pub returns-clause-indexed : goal.returns-clause-indexed
 returns-clause-indexed c =
-    let at = (goal.at.returns-clause-indexed c).After-place in
+    let at = (goal.at.returns-clause-indexed c).After-note_position in
     let t = c.args.self.now in
     let b = c.if-position-eq0.self in
     let same = opened at in
     let items = pushed c (kept at) in
     record {
       positions = rw items (added_indexed t.list.items c.requires.indexed.positions c.args.key c.requires.absent c.len-position.result (last at));
-      searched = rw (items, c.place.ensures.buckets) (added_found t.list.items c.requires.indexed.positions c.args.key c.requires.absent c.len-position.result (last at) b.hints.buckets.items b.others.entries c.place.new.self.others.entries same.1
-          (rw (← c.place.ensures.buckets) c.in_ok-place.ensures.found) c.place.ensures.others);
+      searched = rw (items, c.note_position.ensures.buckets) (added_found t.list.items c.requires.indexed.positions c.args.key c.requires.absent c.len-position.result (last at) b.hints.buckets.items b.others.entries c.note_position.new.self.others.entries same.1
+          (rw (← c.note_position.ensures.buckets) c.in_ok-note_position.ensures.found) c.note_position.ensures.others);
     }
 
 pub returns-clause-position : goal.returns-clause-position
 returns-clause-position c =
-    let at = (goal.at.returns-clause-position c).After-place in
+    let at = (goal.at.returns-clause-position c).After-note_position in
     rw (pushed c (kept at)) (added_at c.args.self.now.list.items c.requires.indexed.positions c.args.key c.requires.absent c.len-position.result (last at))
 
 pub returns-clause-set : goal.returns-clause-set
 returns-clause-set c =
-    let at = (goal.at.returns-clause-set c).After-place in
+    let at = (goal.at.returns-clause-set c).After-note_position in
     let t = c.args.self.now in
     let items = pushed c (kept at) in
     rw items (added_in_order t.list.items c.requires.indexed.positions c.args.key c.requires.absent c.len-position.result (last at))

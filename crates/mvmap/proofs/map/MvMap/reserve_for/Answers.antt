@@ -31,7 +31,8 @@ returns-in_err-open_all-clause-refused c =
 pub returns-in_err-open_all-clause-succeeds : goal.returns-in_err-open_all-clause-succeeds
 returns-in_err-open_all-clause-succeeds c = λ there fits.
     let ok : c.open_all.result ≡ Ok tt = c.open_all.ensures.succeeds (λ k d l.
-    let place : Place = (get_or c.args.keys.now k d, c.args.i) in
+    let write = get_or c.args.writes.now k d in
+    let place : Place = (write.0, c.args.i) in
     there_at_place c.self.inside.slots place (ap (λ (t : Table). set.contains t.places place) c.self.view_is ∙ there k d l)) in
     let err : c.open_all.result ≡ Err c.in_err-open_all.field-0.0 = c.in_err-open_all.was in
     cc

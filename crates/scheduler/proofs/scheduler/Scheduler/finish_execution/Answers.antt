@@ -30,9 +30,6 @@ executed_within calls at limit within before new is i h =
           subst (λ (k : CallState). k.incarnation ≤ limit) (sym same) (before i (ap (λ (k : CallState). k.status) (sym same) ∙ h))
     ]
 
-pub end_moving-requires-clause-moving : goal.end_moving-requires-clause-moving
-end_moving-requires-clause-moving c = ([], c.args.new_key, ap (λ (t : Schedule). get_or t.tasks c.args.worker Idle) c.count_step.ensures ∙ c.requires.moving)
-
 pub resume_dependents-requires-clause-within : goal.resume_dependents-requires-clause-within
 resume_dependents-requires-clause-within c =
     let after = ap (λ (s : State). length s.calls) (c.end_moving.ensures.state empty 0) in

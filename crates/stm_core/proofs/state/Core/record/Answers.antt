@@ -12,8 +12,8 @@ use Rattle.stm_core.proofs.state.Core.record.Goals as goal
 pub call-requires : goal.call-requires
 call-requires g c = named_in (g.H.JobSource.job c.self.inside.job) c.self.inside.map c.self.inside.promised c.self.inside.scheduler c.self.invariant c.args.worker c.in-Running.call (names_running (get_or c.self.inside.scheduler.tasks c.args.worker Idle) c.in-Running.call c.in-Running.blocked c.in-Running.ensures)
 
-pub returns-in_default-of-clause-memory : goal.returns-in_default-of-clause-memory
-returns-in_default-of-clause-memory g c =
+pub returns-in_default-reads_made-clause-memory : goal.returns-in_default-reads_made-clause-memory
+returns-in_default-reads_made-clause-memory g c =
     let due = due_at (g.H.JobSource.job c.self.inside.job) c.self.inside.map c.self.inside.promised c.self.inside.scheduler c.self.invariant c.args.self.now c.self.view_is c.args.worker Record c.requires in
     let runs = records_running (get_or c.self.inside.scheduler.tasks c.args.worker Idle) c.in-Running.call c.in-Running.blocked due.due_step c.in-Running.ensures in
     let s = state_in c.self.inside.map c.self.inside.promised c.self.inside.scheduler in

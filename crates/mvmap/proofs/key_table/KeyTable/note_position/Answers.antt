@@ -3,7 +3,7 @@ use Rattle.std.specs.BTreeMap.{is_at}
 use Rattle.rv_ledger.specs.Key.{key_cmp}
 use Rattle.mvmap.proofs.Buckets.{noted_at}
 use Rattle.mvmap.proofs.KeyTables.{same_key}
-use Rattle.mvmap.proofs.key_table.KeyTable.place.Goals as goal
+use Rattle.mvmap.proofs.key_table.KeyTable.note_position.Goals as goal
 
 -- a key's position in the tree after one key was put into it
 put_in : (key q : List ℕ) (n : ℕ) (now was : Option ℕ) (b : Bool) → is_at (key_cmp key) q ≡ b → now ≡ cond b (Some n) was → (now ≡ was) ⊎ ((key ≡ q) × (now ≡ Some n))

@@ -1,0 +1,11 @@
+use Rattle.std.proofs.Common.{◌≡◌, ◌+◌, ◌++◌, take, vec_capacity, vec_len}
+use Rattle.std.specs.FinMap.{entries}
+use Rattle.stm_state.specs.Steps.{keys_of}
+use Rattle.scheduler.proofs.worker.push_keys.Given as goal
+
+abbrev pub invariant-loop-key : goal.invariant-loop-key
+invariant-loop-key l = record {
+  pushed : l.keys.items ≡ l.fn.keys.items ++ keys_of (take l.key-index (entries l.writes));
+  count : vec_len l.keys ≡ vec_len l.fn.keys + l.key-index;
+  capacity : vec_capacity l.keys ≡ vec_capacity l.fn.keys;
+}
