@@ -1,11 +1,13 @@
 //! The reads that a run of a call made of the storage, in order, with where each answer came from.
 #![tactic(auto)]
 
+mod items;
 mod origin;
 
 ghost use Rattle.std.specs.Prelude.{◌≡◌, ◌++◌, ◌∷◌, [], List, IfOk, OnOk, OnErr};
 ghost use Rattle.read_set.specs.declared.Read.{Read};
 
+use items::Items;
 pub use origin::{Origin, Version};
 use rv_ledger::Key;
 use std::alloc::{AllocError, Global};
@@ -20,29 +22,44 @@ pub struct Read {
     pub origin: Origin,
 }
 
+impl Read {
+    /// An equal read; refused where memory ran out. Where nothing was passed this takes no memory.
+    fn copy(&self) -> Result<Read, AllocError>
+        ensures { IfOk result (λ read. read ≡ self.now) }
+    {
+        Ok(Read {
+            key: self.key,
+            origin: self.origin.copy()?,
+        })
+    }
+}
+
 /// The reads of one run, in the order in which they were made. A key that is read twice is listed
 /// twice.
 #[derive(Debug, Drop)]
 pub struct ReadSet {
-    items: Vec<Read>,
+    items: Items,
+    alloc: Global,
 }
 
 impl Model for ReadSet {
     ghost use Rattle.std.specs.Prelude.{List};
+    ghost use Rattle.read_set.specs.Items.{reads_of};
     ghost use Rattle.read_set.specs.declared.Read.{Read};
 
     ghost Value = { List Read };
 
-    ghost view = { λ s. s.items.items };
+    ghost view = { λ s. reads_of s.items };
 }
 
 impl ReadSet {
-    /// No reads.
+    /// No reads. Takes no memory.
     pub fn new(alloc: Global) -> ReadSet
         ensures { result ≡ [] }
     {
         ReadSet {
-            items: Vec::new(alloc),
+            items: Items::Many(Vec::new(alloc)),
+            alloc,
         }
     }
 
@@ -50,8 +67,30 @@ impl ReadSet {
     pub fn with_capacity(alloc: Global, count: usize) -> Result<ReadSet, AllocError>
         ensures { IfOk result (λ s. s ≡ []) }
     {
-        let items = Vec::with_capacity(alloc, count)?;
-        Ok(ReadSet { items })
+        let items = Items::Many(Vec::with_capacity(alloc, count)?);
+        Ok(ReadSet { items, alloc })
+    }
+
+    /// One read. Takes no memory.
+    #[inline(always)]
+    pub fn one(alloc: Global, read: Read) -> ReadSet
+        ensures { result ≡ read ∷ [] }
+    {
+        ReadSet {
+            items: Items::One([read]),
+            alloc,
+        }
+    }
+
+    /// Two reads, in order. Takes no memory.
+    #[inline(always)]
+    pub fn two(alloc: Global, first: Read, second: Read) -> ReadSet
+        ensures { result ≡ first ∷ second ∷ [] }
+    {
+        ReadSet {
+            items: Items::Two([first, second]),
+            alloc,
+        }
     }
 
     /// Adds a read at the end; refused where memory ran out, and then nothing changes.
@@ -59,8 +98,7 @@ impl ReadSet {
         ensures ok { OnOk result (self.new ≡ self.old ++ read ∷ []) }
         ensures err { OnErr result (self.new ≡ self.old) }
     {
-        self.items.push(read)?;
-        Ok(())
+        self.items.push(self.alloc, read)
     }
 
     /// The reads in order.
