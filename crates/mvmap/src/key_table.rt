@@ -13,6 +13,9 @@ use rv_ledger::Key;
 use std::alloc::{AllocError, Global};
 use std::collections::BTreeMap;
 
+/// How many keys the list has room for, once it has one. So the keys of most blocks are never moved.
+const FIRST_ROOM: usize = 1024;
+
 /// A key with its slots.
 #[derive(Drop)]
 pub(crate) struct KeySlots {
@@ -96,15 +99,15 @@ impl KeyTable {
 
     /// The position of a key, which is added without slots where it is new. Refused where memory ran out, and
     /// then nothing changes.
-    pub(crate) fn position_for(&mut self, key: Key) -> Result<usize, AllocError>
+    pub(crate) fn position_for(&mut self, key: &Key) -> Result<usize, AllocError>
         requires { IsIndexed self.old }
         ensures indexed { IsIndexed self.new }
-        ensures position { IfOk result (λ position. position_of (positions_of self.new.list.items) key ≡ Some position) }
-        ensures set { OnOk result (IsSetAt (by_key self.old) (by_key self.new) key (writers_at (by_key self.old) key)) }
-        ensures absent { OnErr result (position_of (positions_of self.old.list.items) key ≡ None) }
+        ensures position { IfOk result (λ position. position_of (positions_of self.new.list.items) key.now ≡ Some position) }
+        ensures set { OnOk result (IsSetAt (by_key self.old) (by_key self.new) key.now (writers_at (by_key self.old) key.now)) }
+        ensures absent { OnErr result (position_of (positions_of self.old.list.items) key.now ≡ None) }
         ensures unchanged { OnErr result (by_key self.new ≡ by_key self.old) }
     {
-        match self.find(&key) {
+        match self.find(key) {
             Some(position) => Ok(position),
             None => self.add(key),
         }
@@ -114,22 +117,23 @@ impl KeyTable {
     /// that nothing changes where memory ran out. The buckets of hints are made with the first key alone, so that no
     /// key has an empty one. Where memory for them is refused, the tree has all keys until the table is cleared.
     #[inline(never)]
-    fn add(&mut self, key: Key) -> Result<usize, AllocError>
+    fn add(&mut self, key: &Key) -> Result<usize, AllocError>
         requires indexed { IsIndexed self.old }
-        requires absent { position_of (positions_of self.old.list.items) key ≡ None }
+        requires absent { position_of (positions_of self.old.list.items) key.now ≡ None }
         ensures indexed { IsIndexed self.new }
-        ensures position { IfOk result (λ position. position_of (positions_of self.new.list.items) key ≡ Some position) }
-        ensures set { OnOk result (IsSetAt (by_key self.old) (by_key self.new) key []) }
+        ensures position { IfOk result (λ position. position_of (positions_of self.new.list.items) key.now ≡ Some position) }
+        ensures set { OnOk result (IsSetAt (by_key self.old) (by_key self.new) key.now []) }
         ensures unchanged { OnErr result (by_key self.new ≡ by_key self.old) }
     {
-        self.list.reserve(1)?;
+        self.list
+            .reserve(if self.list.is_empty() { FIRST_ROOM } else { 1 })?;
         let position = self.list.len();
         if position == 0 {
             self.hints.open();
         }
-        self.note_position(&key, position)?;
+        self.note_position(key, position)?;
         self.list.push_reserved(KeySlots {
-            key,
+            key: *key,
             writers: WriterSlots::new(self.alloc),
         });
         Ok(position)

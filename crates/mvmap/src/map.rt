@@ -15,8 +15,8 @@ use version_arena::{Arena, ReserveFault, lend_bytes};
 /// and estimates.
 #[derive(Drop)]
 pub struct MvMap {
-    slots: Slots,
     arena: Arena,
+    slots: Slots,
 }
 
 impl Model for MvMap {

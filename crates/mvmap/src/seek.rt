@@ -25,6 +25,7 @@ pub(crate) enum Nearest<'a> {
 
 /// The nearest entry below the call of index `i` among the slots at a key: what is in the highest slot of a
 /// lower call that is not vacant. It searches for the lower calls once, and walks down from there.
+#[inline(always)]
 pub(crate) fn seek<'a>(at_key: &[(u16, Slot)], arena: &'a Arena, i: u16) -> Nearest<'a>
     requires ascending { AreAscending at_key.now }
     requires placed { ArePlacedIn arena.now.records at_key.now }

@@ -43,6 +43,7 @@ impl Slots {
 
     /// The slots at a key, each after the index of its call, and ascending by it.
     #[tactic(auto, using(crate::proofs::Searches::no_writers))]
+    #[inline(always)]
     pub(crate) fn at(&self, key: &Key) -> &[(u16, Slot)]
         ensures slots { (w : ℕ) → slot_at self.now (key.now, w) ≡ slot_of result.now w }
         ensures ascending { AreAscending result.now }
@@ -66,23 +67,24 @@ impl Slots {
         ensures succeeds { All (λ write. IsSome (slot_at self.old (write.0, writer))) writes.now → result ≡ Ok tt }
     {
         for (key, _) in writes {
-            self.open(*key, writer)?;
+            self.open(key, writer)?;
         }
         Ok(())
     }
 
     /// Makes a vacant slot of a call at a key, if none is there; refused where memory ran out.
-    fn open(&mut self, key: Key, writer: u16) -> Result<(), AllocError>
+    fn open(&mut self, key: &Key, writer: u16) -> Result<(), AllocError>
         ensures opened { IsOpened self.old self.new }
-        ensures ok { OnOk result (IsSome (slot_at self.new (key, writer))) }
-        ensures elsewhere { (place : Place) → (key, writer) ≢ place → slot_at self.new place ≡ slot_at self.old place }
-        ensures succeeds { IsSome (slot_at self.old (key, writer)) → result ≡ Ok tt }
+        ensures ok { OnOk result (IsSome (slot_at self.new (key.now, writer))) }
+        ensures elsewhere { (place : Place) → (key.now, writer) ≢ place → slot_at self.new place ≡ slot_at self.old place }
+        ensures succeeds { IsSome (slot_at self.old (key.now, writer)) → result ≡ Ok tt }
     {
         let position = self.table.position_for(key)?;
         self.table.list[position].writers.open(writer)
     }
 
     /// Writes into the slot of a call at a key; nothing changes where there is none.
+    #[inline(always)]
     pub(crate) fn put(&mut self, key: &Key, writer: u16, slot: Slot)
         ensures { (place : Place) → slot_at self.new place ≡ cond (is_at (place_cmp (key.now, writer)) place) (option_map (λ _. slot) (slot_at self.old place)) (slot_at self.old place) }
     {

@@ -1,6 +1,6 @@
 //! The slots at one key.
 
-ghost use Rattle.std.specs.Prelude.{◌≡◌, ◌==◌, ℕ, [], IfErr, IfOk, IsSome, Ok, OnErr, OnOk, Some, if◌then◌else◌};
+ghost use Rattle.std.specs.Prelude.{◌≡◌, ◌≤◌, ◌==◌, ℕ, [], IfErr, IfOk, IsSome, Ok, OnErr, OnOk, Some, insert, length, if◌then◌else◌};
 ghost use Rattle.std.specs.Option.{option_map, unwrap_or};
 ghost use Rattle.rv_ledger.specs.Entries.{IsAt};
 ghost use Rattle.mvmap.specs.Writers.{AreAscending, IsGapFor, slot_of};
@@ -11,10 +11,13 @@ use smallvec::SmallVec;
 use std::alloc::{AllocError, Global};
 use std::marker::Model;
 
-/// The slots at one key, ascending by the index of the call. A single one takes no memory.
+/// How many slots take no memory of their own. Most keys are written by one call or two.
+const IN_PLACE: usize = 2;
+
+/// The slots at one key, ascending by the index of the call. Up to two take no memory of their own.
 #[derive(Drop)]
 pub(crate) struct WriterSlots {
-    slots: SmallVec<(u16, Slot), 1>,
+    slots: SmallVec<(u16, Slot), IN_PLACE>,
 }
 
 impl Model for WriterSlots {
@@ -55,7 +58,7 @@ impl WriterSlots {
     {
         match self.search(writer) {
             Ok(_) => Ok(()),
-            Err(at) => Ok(self.slots.insert(at, (writer, Slot::Vacant))?),
+            Err(at) => Ok(insert_vacant(&mut self.slots, at, writer)?),
         }
     }
 
@@ -82,4 +85,24 @@ impl WriterSlots {
             _ => slots.binary_search_by_key(&writer, |slot| slot.0),
         }
     }
+}
+
+/// Inserts a vacant slot of a call before the slot at a place, or at the end, where most go and none is moved. Refused where
+/// memory ran out, and then nothing changes.
+fn insert_vacant(
+    slots: &mut SmallVec<(u16, Slot), IN_PLACE>,
+    at: usize,
+    writer: u16,
+) -> Result<(), AllocError>
+    requires { at ≤ length slots.old.items }
+    ensures ok { OnOk result (slots.new.items ≡ insert slots.old.items at (writer, Vacant)) }
+    ensures err { OnErr result (slots.new ≡ slots.old) }
+{
+    let slot = (writer, Slot::Vacant);
+    if at == slots.len() {
+        slots.push(slot)?;
+    } else {
+        slots.insert(at, slot)?;
+    }
+    Ok(())
 }

@@ -18,14 +18,17 @@ use std::marker::Model;
 /// The greatest number of records of one block.
 pub const RECORD_LIMIT: usize = 1_048_576;
 
+/// How many records the list has room for, once it has room for one. So the records of most blocks are never moved.
+const FIRST_ROOM: usize = 1024;
+
 /// The records of one block, in the order in which they were placed, at most 1,048,576; and room
 /// for more: for so many records, and for so many bytes of their values.
 #[derive(Drop)]
 pub struct Arena {
-    stored: Vec<StoredRecord>,
     len: usize,
     bytes: usize,
     pool: Pool,
+    stored: Vec<StoredRecord>,
 }
 
 impl Model for Arena {
@@ -109,7 +112,7 @@ impl Arena {
         self.stored[place] = StoredRecord::of(&mut self.pool, writer, incarnation, change);
         self.len += 1;
         self.bytes -= bytes;
-        VersionId { place }
+        VersionId::at(place)
     }
 
     /// The record that has a name, or None where none has it.
@@ -117,10 +120,11 @@ impl Arena {
         ensures record { option_map lent result ≡ slice_get self.now.records id }
         ensures short { IfSome result (λ r. IfValue r.change (λ bytes. length bytes.now ≤ 256)) }
     {
-        if id.place >= self.len {
+        let place = id.place();
+        if place >= self.len {
             return None;
         }
-        let stored = &self.stored[id.place];
+        let stored = &self.stored[place];
         Some(stored.record(&self.pool))
     }
 
@@ -151,7 +155,10 @@ fn grow(stored: &mut Vec<StoredRecord>, count: usize) -> Result<(), AllocError>
     ensures unchanged { OnErr result (stored.new.items ≡ stored.old.items) }
     ensures succeeds { count ≤ length stored.old.items → result ≡ Ok tt }
 {
-    stored.reserve(count.saturating_sub(stored.len()))?;
+    if count <= stored.len() {
+        return Ok(());
+    }
+    stored.reserve(count.max(FIRST_ROOM) - stored.len())?;
     while stored.len() < count {
         stored.push_reserved(StoredRecord::vacant());
     }

@@ -28,9 +28,9 @@ pub(crate) struct Span {
 /// There is room for `room` bytes of values, and for `capacity` when the chunks are empty.
 #[derive(Drop)]
 pub(crate) struct Pool {
-    chunks: Vec<Chunk>,
-    current: usize,
     room: usize,
+    current: usize,
+    chunks: Vec<Chunk>,
     capacity: usize,
     alloc: Global,
 }

@@ -30,10 +30,10 @@ returns-in_err-note_position-clause-indexed c =
     let same = opened at in
     record {
       positions = subst (λ (list : List KeySlots). AreIndexed (positions_of list) list) (sym (kept at)) c.requires.indexed.positions;
-      searched = rw (kept at, c.note_position.ensures.buckets) (still_found b.hints.buckets.items b.others.entries (positions_of t.list.items) same.1 c.args.key c.len-position.result c.note_position.new.self.others.entries c.in_err-note_position.ensures.unchanged);
+      searched = rw (kept at, c.note_position.ensures.buckets) (still_found b.hints.buckets.items b.others.entries (positions_of t.list.items) same.1 c.args.key.now c.len-position.result c.note_position.new.self.others.entries c.in_err-note_position.ensures.unchanged);
     }
 
-pushed : (c : After-push_reserved) → c.note_position.new.self.list.items ≡ c.args.self.now.list.items → c.push_reserved.new.self.items ≡ c.args.self.now.list.items ++ record { key = c.args.key; writers = [] } ∷ []
+pushed : (c : After-push_reserved) → c.note_position.new.self.list.items ≡ c.args.self.now.list.items → c.push_reserved.new.self.items ≡ c.args.self.now.list.items ++ record { key = c.args.key.now; writers = [] } ∷ []
 pushed c same = rw (c.push_reserved.ensures.items, same, c.new.ensures)
 
 pub returns-clause-indexed : goal.returns-clause-indexed
@@ -44,19 +44,19 @@ returns-clause-indexed c =
     let same = opened at in
     let items = pushed c (kept at) in
     record {
-      positions = rw items (added_indexed t.list.items c.requires.indexed.positions c.args.key c.requires.absent c.len-position.result (last at));
-      searched = rw (items, c.note_position.ensures.buckets) (added_found t.list.items c.requires.indexed.positions c.args.key c.requires.absent c.len-position.result (last at) b.hints.buckets.items b.others.entries c.note_position.new.self.others.entries same.1
+      positions = rw items (added_indexed t.list.items c.requires.indexed.positions c.args.key.now c.requires.absent c.len-position.result (last at));
+      searched = rw (items, c.note_position.ensures.buckets) (added_found t.list.items c.requires.indexed.positions c.args.key.now c.requires.absent c.len-position.result (last at) b.hints.buckets.items b.others.entries c.note_position.new.self.others.entries same.1
           (rw (← c.note_position.ensures.buckets) c.in_ok-note_position.ensures.found) c.note_position.ensures.others);
     }
 
 pub returns-clause-position : goal.returns-clause-position
 returns-clause-position c =
     let at = (goal.at.returns-clause-position c).After-note_position in
-    rw (pushed c (kept at)) (added_at c.args.self.now.list.items c.requires.indexed.positions c.args.key c.requires.absent c.len-position.result (last at))
+    rw (pushed c (kept at)) (added_at c.args.self.now.list.items c.requires.indexed.positions c.args.key.now c.requires.absent c.len-position.result (last at))
 
 pub returns-clause-set : goal.returns-clause-set
 returns-clause-set c =
     let at = (goal.at.returns-clause-set c).After-note_position in
     let t = c.args.self.now in
     let items = pushed c (kept at) in
-    rw items (added_in_order t.list.items c.requires.indexed.positions c.args.key c.requires.absent c.len-position.result (last at))
+    rw items (added_in_order t.list.items c.requires.indexed.positions c.args.key.now c.requires.absent c.len-position.result (last at))

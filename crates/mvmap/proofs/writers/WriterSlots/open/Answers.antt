@@ -10,10 +10,10 @@ pub returns-in-Ok-clause-ok : goal.returns-in-Ok-clause-ok
 returns-in-Ok-clause-ok c = there_already _ (subst AreAscending c.self.view_is c.self.invariant) _ _ c.in-Ok.ensures.found
 
 pub invariant_of-self-in-Err : goal.invariant_of-self-in-Err
-invariant_of-self-in-Err c = rw c.in_ok-insert-in-Err.ensures.ok (ascending_insert nat_cmp_total nat_cmp-IsAntisymmetric _ _ _ _ c.self.invariant (rw c.self.view_is c.in-Err.ensures.absent))
+invariant_of-self-in-Err c = rw c.in_ok-insert_vacant-in-Err.ensures.ok (ascending_insert nat_cmp_total nat_cmp-IsAntisymmetric _ _ _ _ c.self.invariant (rw c.self.view_is c.in-Err.ensures.absent))
 
-pub returns-in_ok-insert-in-Err-clause-ok : goal.returns-in_ok-insert-in-Err-clause-ok
-returns-in_ok-insert-in-Err-clause-ok c = rw (c.in_ok-insert-in-Err.ensures.ok, c.self.view_is) (made_in_gap _ (subst AreAscending c.self.view_is c.self.invariant) _ _ c.in-Err.ensures.absent)
+pub returns-in_ok-insert_vacant-in-Err-clause-ok : goal.returns-in_ok-insert_vacant-in-Err-clause-ok
+returns-in_ok-insert_vacant-in-Err-clause-ok c = rw (c.in_ok-insert_vacant-in-Err.ensures.ok, c.self.view_is) (made_in_gap _ (subst AreAscending c.self.view_is c.self.invariant) _ _ c.in-Err.ensures.absent)
 
-pub returns-in_err-insert-in-Err-clause-succeeds : goal.returns-in_err-insert-in-Err-clause-succeeds
-returns-in_err-insert-in-Err-clause-succeeds c there = grind (arith, none_in_gap _ (subst AreAscending c.self.view_is c.self.invariant) _ _ c.in-Err.ensures.absent)
+pub returns-in_err-insert_vacant-in-Err-clause-succeeds : goal.returns-in_err-insert_vacant-in-Err-clause-succeeds
+returns-in_err-insert_vacant-in-Err-clause-succeeds c there = grind (arith, none_in_gap _ (subst AreAscending c.self.view_is c.self.invariant) _ _ c.in-Err.ensures.absent)

@@ -7,7 +7,7 @@ use Rattle.version_arena.proofs.StoredRecords.{all_stored, map_push, records_sam
 use Rattle.version_arena.proofs.arena.Arena.place_bytes.Goals as goal
 
 -- there is a place
-there : (c : goal.After-self-3-1) → c.self.inside.len < length c.self.inside.stored.items
+there : (c : goal.After-at) → c.self.inside.len < length c.self.inside.stored.items
 there c = omega (arith, c.requires.room, ap (λ (a : ArenaState). a.room) c.self.view_is)
 
 pub invariant_of-self : goal.invariant_of-self
