@@ -74,6 +74,7 @@ impl Run {
     }
 
     /// The same in the room of an earlier run.
+    #[inline(always)]
     pub fn start_in(alloc: Global, room: RunRoom, call: &Call) -> Result<Run, AllocError>
         ensures { IfOk result (λ r. r ≡ run_at_start call.now) }
     {
@@ -226,6 +227,7 @@ impl Run {
     }
 
     /// The same, and its machine is left in `room`.
+    #[inline(always)]
     pub fn finish_in(self, room: &mut RunRoom) -> EndedRun
         requires { IsEnded self.stage }
         ensures call { result.call ≡ self.call }
@@ -309,6 +311,7 @@ pub(crate) fn run_until_stop(
 
 /// The receipt of a call with this gas limit that ended so; only a call that returned keeps its writes. They are taken from
 /// the machine, which nobody needs any more.
+#[inline(always)]
 pub(crate) fn receipt(limit: u32, end: End, out: StoredOutput, machine: &mut Machine) -> Receipt
     requires { machine.old.gas ≤ limit }
     ensures { result ≡ receipt_of limit end out machine.old }

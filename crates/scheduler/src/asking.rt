@@ -17,6 +17,7 @@ impl Scheduler {
     /// an asking answered Done. Else the validation index goes up if it is behind the execution index, or
     /// the execution index if a call is left. The worker gets the call there to validate or to run, or no
     /// task where that call needs neither now. Takes no memory.
+    #[inline(always)]
     pub fn ask(&mut self, worker: usize)
         requires counts { MayCount worker self.old }
         requires idle { get_or self.old.tasks worker Task.Idle ≡ Task.Idle }

@@ -57,6 +57,7 @@ impl Scheduler {
     /// Ends the record of a call whose keys a worker has moved (Block-STM, `finish_execution`): the call is
     /// EXECUTED, all calls that are parked on it are readied, and it is settled what is validated again.
     /// Takes no memory.
+    #[inline(always)]
     pub fn finish_execution(&mut self, worker: usize, call: u16, new_key: bool)
         requires counts { MayCount worker self.old }
         requires within { call < length self.old.calls }
@@ -76,6 +77,7 @@ impl Scheduler {
     /// all calls from it on if the run wrote a new key, else the call alone, as this worker's task. Where it
     /// is not: nothing, since the index still comes to the call.
     #[tactic(auto, unfolding(stm_state::specs::Steps::to_validate))]
+    #[inline(always)]
     fn to_validate(&mut self, worker: usize, call: u16, new_key: bool, task_kind: TaskKind)
         requires within { worker < length self.old.tasks }
         requires no_keys { HasNoKeys task_kind }

@@ -14,9 +14,9 @@ use stm_state::{CallState, Recorded, Status};
 /// The scheduler of a block's run, of at most 1,024 calls.
 #[derive(Drop)]
 pub struct Scheduler {
-    calls: Vec<CallState>,
     execution: u16,
     validation: u16,
+    calls: Vec<CallState>,
     workers: Vec<Worker>,
     /// For each call, whether another may be parked on it. Where this is false, none is.
     awaited: Vec<bool>,

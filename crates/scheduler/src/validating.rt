@@ -17,6 +17,7 @@ impl Scheduler {
     /// stood, and `left` is the number of reads after it. Where the call is no longer EXECUTED at the
     /// incarnation, the worker's task ends. Otherwise a read that did not stand fails the validation. Takes no
     /// memory.
+    #[inline(always)]
     pub fn finish_validation(
         &mut self,
         worker: usize,
@@ -50,6 +51,7 @@ impl Scheduler {
     /// Decides a worker's validation of a call (Block-STM, `try_validation_abort`). If a read did not stand
     /// and the call is EXECUTED at the incarnation, the call is taken back, and the worker gets the keys that
     /// it wrote to mark. Else the worker's task ends. Takes no memory.
+    #[inline(always)]
     pub fn try_abort(&mut self, worker: usize, call: u16, incarnation: u16, failed: bool)
         requires counts { MayCount worker self.old }
         requires within { call < length self.old.calls }

@@ -65,6 +65,8 @@ pub(crate) struct Worker {
     dropped: usize,
     counts: Counts,
     dones: u64,
+    /// Unused bytes, so that two workers have no line of the processor's cache together.
+    apart: [u64; 9],
 }
 
 impl Model for Worker {
@@ -97,6 +99,7 @@ impl Worker {
                 validations: 0,
             },
             dones: 0,
+            apart: [0; 9],
         }
     }
 

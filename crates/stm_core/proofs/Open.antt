@@ -10,7 +10,7 @@ use Rattle.rv_ledger.specs.Change.{ContentChange}
 use Rattle.mvmap.specs.Versions.{Entry, Stands, Estimate, Place, Versions, changed, place_cmp}
 use Rattle.mvmap.proofs.Places.{get_changed, same_place}
 use Rattle.stm_state.specs.declared.state.CallState.{CallState}
-use Rattle.stm_state.specs.Steps.{keys_of, version_of, write_of}
+use Rattle.stm_state.specs.Steps.{version_of, write_of}
 use Rattle.stm_core.specs.Inner.{AreOpen, with_write, writes_at}
 
 -- each entry of versions has one of these places

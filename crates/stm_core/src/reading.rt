@@ -143,6 +143,8 @@ pub(crate) fn make_answer_room(
 
 /// Makes room for one more answer to a worker's run, and for a read of its call that passes as many versions as
 /// the call's index and finds any value. Refused where memory ran out, and then nothing changes.
+#[cold]
+#[inline(never)]
 pub(crate) fn make_read_room(
     scheduler: &mut Scheduler,
     worker: usize,
@@ -163,9 +165,6 @@ pub(crate) fn make_read_room(
     ensures succeeds { 1 ≤ get_or scheduler.old.rooms worker 0 → IsRoomFor (get_or scheduler.old.tasks worker task.Idle) (room_of lists.old) → HasValueRoom (value_room_of values.old) → result ≡ Ok tt }
 {
     let count = index_run(scheduler.task_kind(worker));
-    if has_read_room(scheduler, worker, lists, values, count) {
-        return Ok(());
-    }
     let kept = larger(&lists.kept, count)?;
     let lent = larger(&lists.lent, count)?;
     let kept_value = larger(&values.kept, VALUE_LIMIT)?;
@@ -178,19 +177,21 @@ pub(crate) fn make_read_room(
     Ok(())
 }
 
-/// Whether there is room for one more answer to a worker's run, for `count` versions that a read passes, and for any value.
-fn has_read_room(
+/// Whether there is room for one more answer to a worker's run, and for a read of its call that passes as many
+/// versions as the call's index and finds any value.
+#[inline(always)]
+pub(crate) fn has_read_room(
     scheduler: &Scheduler,
     worker: usize,
     lists: &PassedLists,
     values: &ValueRooms,
-    count: usize,
 ) -> bool
     requires { worker < length scheduler.now.tasks }
     ensures answer { IsTrue result → 1 ≤ get_or scheduler.now.rooms worker 0 }
-    ensures passed { IsTrue result → (count ≤ vec_capacity lists.now.kept) × (count ≤ vec_capacity lists.now.lent) }
+    ensures passed { IsTrue result → IsRoomFor (get_or scheduler.now.tasks worker task.Idle) (room_of lists.now) }
     ensures values { IsTrue result → HasValueRoom (value_room_of values.now) }
 {
+    let count = index_run(scheduler.task_kind(worker));
     scheduler.has_answer_room(worker) && lists.have_room(count) && values.have_room()
 }
 
@@ -249,6 +250,7 @@ pub(crate) fn read_at(
 
 /// Keeps an answer to a worker's run, in room that was made, and returns it. Its origin has the versions that
 /// stand in the list that is kept, and the one that was found below them.
+#[inline(always)]
 fn give(
     scheduler: &mut Scheduler,
     lists: &mut PassedLists,

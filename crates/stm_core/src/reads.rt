@@ -10,23 +10,43 @@ use std::alloc::{AllocError, Global};
 use stm_state::Recorded;
 use validate::next_read;
 
-/// The reads of a run that was given these answers; refused where memory ran out.
+/// The reads of a run that was given these answers; refused where memory ran out. One or two take none.
+#[inline(always)]
 pub(crate) fn reads_in(alloc: Global, answers: &[StorageAnswer]) -> Result<ReadSet, AllocError>
+    ensures { IfOk result (λ reads. reads ≡ map read_of answers.now) }
+{
+    match answers {
+        [only] => Ok(ReadSet::one(alloc, read_of(only)?)),
+        [first, second] => Ok(ReadSet::two(alloc, read_of(first)?, read_of(second)?)),
+        _ => many_reads_in(alloc, answers),
+    }
+}
+
+/// The same, in memory of their own.
+fn many_reads_in(alloc: Global, answers: &[StorageAnswer]) -> Result<ReadSet, AllocError>
     ensures { IfOk result (λ reads. reads ≡ map read_of answers.now) }
 {
     let mut reads = ReadSet::with_capacity(alloc, answers.len())?;
     for answer in answers {
-        reads.push(Read {
-            key: answer.key,
-            origin: answer.origin.copy()?,
-        })?;
+        reads.push(read_of(answer)?)?;
     }
     Ok(reads)
+}
+
+/// The read that was given an answer; refused where memory ran out.
+fn read_of(answer: &StorageAnswer) -> Result<Read, AllocError>
+    ensures { IfOk result (λ read. read ≡ read_of answer.now) }
+{
+    Ok(Read {
+        key: answer.key,
+        origin: answer.origin.copy()?,
+    })
 }
 
 /// Whether the first of the last `left` reads of the call's last recorded run stands. A run that was
 /// recorded since may have fewer reads; then the first of all is checked. True where there is no run
 /// and where there is no such read. Takes no memory.
+#[inline(always)]
 pub(crate) fn next_stands(map: &MvMap, call: u16, last: &Option<Recorded>, left: usize) -> bool
     ensures { result ≡ read_stands map.now.versions call (slice_get (reads_of last.now) (length (reads_of last.now) - left)) }
 {

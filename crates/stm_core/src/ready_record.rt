@@ -12,6 +12,7 @@ use std::mem::replace;
 use stm_state::Recorded;
 
 /// The reads that an ended run made, as its record keeps them; refused where memory ran out.
+#[inline(always)]
 pub fn reads_made(alloc: Global, run: &EndedRun) -> Result<ReadSet, AllocError>
     ensures { IfOk result (λ reads. reads ≡ map read_of run.now.answers.items) }
 {
@@ -35,6 +36,7 @@ impl ReadyRecord {
     ghost use Rattle.stm_core.specs.CoreState.{IsReadyOf};
 
     /// A run with the reads that it made. Takes no memory.
+    #[inline(always)]
     pub fn of(run: EndedRun, reads: ReadSet) -> ReadyRecord
         requires { reads ≡ map read_of run.answers.items }
         ensures { IsReadyOf run result }

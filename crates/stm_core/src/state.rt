@@ -10,7 +10,7 @@ use crate::job_source::JobSource;
 use crate::next_step::{AskResult, NextStep, ReadResult, StepKind};
 use crate::outcome::{Finished, finished_of};
 use crate::passed_lists::PassedLists;
-use crate::reading::{make_read_room, next_step_of, read_at};
+use crate::reading::{has_read_room, make_read_room, next_step_of, read_at};
 use crate::reads::next_stands;
 use crate::ready_record::{ReadyRecord, reads_made};
 use crate::recording::{SpentRun, check_limits, has_own_answers, is_run_of, record_run};
@@ -28,17 +28,19 @@ use version_arena::Arena;
 /// to it from the job's start, so the scheduler's invariant holds.
 #[derive(Drop)]
 pub struct Core<H: JobSource = Job> {
-    pub(crate) job: H,
-    pub(crate) map: MvMap,
+    // What changes with each step comes first, side by side: a thread that takes the lock finds it in another processor's
+    // cache, line by line.
     pub(crate) scheduler: Scheduler,
     /// The number of records that are promised to runs whose keys are being moved.
     promised: usize,
-    /// A list that takes the place of a run's answers while room is made for one more.
-    spare_answers: Vec<StorageAnswer>,
+    pub(crate) map: MvMap,
     /// The lists of the versions that a read passes.
     passed: PassedLists,
     /// The lists of the bytes of a value that a read finds.
     values: ValueRooms,
+    /// A list that takes the place of a run's answers while room is made for one more.
+    spare_answers: Vec<StorageAnswer>,
+    pub(crate) job: H,
 }
 
 impl<H: JobSource> Model for Core<H> {
@@ -175,6 +177,9 @@ impl<H: JobSource> Core<H> {
         ensures unchanged { OnErr result (self.new ≡ self.old) }
         ensures succeeds { HasReadRoom worker self.old → result ≡ Ok tt }
     {
+        if has_read_room(&self.scheduler, worker, &self.passed, &self.values) {
+            return Ok(());
+        }
         make_read_room(
             &mut self.scheduler,
             worker,

@@ -45,6 +45,7 @@ impl ValueRooms {
     }
 
     /// What a key has after an amount is added, if there is one, twice. Takes no memory.
+    #[inline(always)]
     pub(crate) fn contents(&mut self, content: Option<&[u8]>, sum: Option<u64>) -> Contents
         requires short { IfSome content (λ bytes. length bytes.now ≤ 256) }
         requires room { HasValueRoom (value_room_of self.old) }
@@ -62,6 +63,7 @@ impl ValueRooms {
     }
 
     /// A value, or None for None, twice. More than 16 bytes take the lists with them. Takes no memory.
+    #[inline(always)]
     fn copies(&mut self, content: Option<&[u8]>) -> Contents
         requires short { IfSome content (λ bytes. length bytes.now ≤ 256) }
         requires room { HasValueRoom (value_room_of self.old) }

@@ -38,6 +38,7 @@ pub(crate) fn recorded_count(last: &Option<Recorded>) -> usize
 /// Publishes what a call's run wrote at a key, in room that was promised, or withdraws the key where the
 /// run did not write it. `promised` is the number of records that are promised; a publication lowers it
 /// by one. Takes no memory.
+#[inline(always)]
 pub(crate) fn move_key(
     map: &mut MvMap,
     promised: &mut usize,
