@@ -34,6 +34,10 @@ struct Looks<'a> {
 }
 
 impl Spin for Looks<'_> {
+    fn looks(&mut self) -> usize {
+        LOOK_LIMIT
+    }
+
     fn spin(&self) {
         let _ = self.count.fetch_add(1, Ordering::SeqCst);
     }
@@ -47,7 +51,7 @@ fn count_looks<R: Wait>(rt: &R, cell: &DoneCell, pass: &mut DonePass) -> u64
     ensures { IsPassOf cell.now pass.new }
 {
     let count = AtomicU64::new(0);
-    cell.look(rt, pass, &Looks { count: &count });
+    cell.look(rt, pass, &mut Looks { count: &count });
     count.load(Ordering::SeqCst)
 }
 

@@ -31,8 +31,11 @@ impl JobName for Brand {
 /// StepLimit: some worker has made 2^64 - 1 steps. A written fault is never BadCount.
 #[derive(Drop)]
 pub struct Book<J: JobName = Brand, H: JobSource = Job> {
-    core: Core<H>,
+    /// Unused bytes, so that the word of the lock has a line of the processor's cache to itself: threads that wait for the
+    /// lock take that line away from the thread that has it.
+    apart: [u64; 16],
     fault: Option<RunFault>,
+    core: Core<H>,
     of: PhantomData<J>,
 }
 
@@ -73,8 +76,9 @@ impl<J: JobName, H: JobSource> Book<J, H> {
         ensures { result ≡ record { core = core; fault = None } }
     {
         Book {
-            core,
+            apart: [0; 16],
             fault: None,
+            core,
             of: PhantomData,
         }
     }

@@ -85,19 +85,22 @@ impl DoneCell {
         let _ = self.cell.swap_as::<Sees, R>(rt, pass, [DONE]);
     }
 
-    /// Looks at the cell up to 64 times, and spins after each look that does not show done. Returns at once after a
-    /// look that shows done. After 64 others it lets another thread run.
-    pub fn look<R: Wait, S: Spin>(&self, rt: &R, pass: &mut DonePass, spin: &S)
+    /// Looks at the cell as often as `spin` says, at most 64 times, and spins after each look that does not show done.
+    /// Returns at once after a look that shows done. After 64 others it lets another thread run.
+    pub fn look<R: Wait, S: Spin>(&self, rt: &R, pass: &mut DonePass, spin: &mut S)
         requires cell { IsPassOf self.now pass.old }
         ensures cell { IsSamePass pass.old pass.new }
         ensures stays { cell_view pass.old ≡ 1 → cell_view pass.new ≡ 1 }
     {
-        for _ in 0..LOOK_LIMIT {
+        let looks = spin.looks();
+        for _ in 0..looks.min(LOOK_LIMIT) {
             if self.shows_done(rt, pass) {
                 return;
             }
             spin.spin();
         }
-        yield_now();
+        if looks >= LOOK_LIMIT {
+            yield_now();
+        }
     }
 }

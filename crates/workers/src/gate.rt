@@ -18,11 +18,15 @@ impl Gate for Open {
     fn held(&self, _worker: usize) {}
 }
 
-/// How an idle worker spins between two looks at a cell that does not show done. Tests count its looks there.
+/// How often an idle worker looks at its block's cell, and how it spins between two looks that do not show done. Tests count
+/// its looks there.
 pub trait Spin {
+    /// How often it looks now that an ask gave no task, before it asks again; more than 64 are 64. Promises nothing.
+    fn looks(&mut self) -> usize;
+
     /// The cell did not show done. Promises nothing.
     fn spin(&self);
 
-    /// After a step of its task the worker owes this one. Promises nothing.
+    /// After a step the worker owes this one. Promises nothing.
     fn learn(&mut self, owed: NextStep);
 }

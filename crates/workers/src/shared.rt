@@ -90,15 +90,25 @@ impl<J: JobName, H: JobSource> Shared<J, H> {
         lock.into_inner()
     }
 
-    /// Takes the lock. It is tried for a while before the thread waits for it, since a thread that waits
-    /// sleeps, and waking it takes longer than a step under the lock. Between two tries the thread spins,
-    /// since each try takes the lock's cache line away from the thread that has the lock.
+    /// Takes the lock.
+    #[inline(always)]
     pub(crate) fn hold<R: Wait>(&self, rt: &R) -> MutexGuard<'_, Book<J, H>> {
+        match self.lock.try_lock() {
+            Some(guard) => guard,
+            None => self.wait_for(rt),
+        }
+    }
+
+    /// Takes the lock, which another thread had. It is tried for a while before the thread waits for it, since a
+    /// thread that waits sleeps, and waking it takes longer than a step under the lock. Before each try the thread
+    /// spins, since a try takes the lock's cache line away from the thread that has the lock.
+    #[inline(never)]
+    fn wait_for<R: Wait>(&self, rt: &R) -> MutexGuard<'_, Book<J, H>> {
         for _ in 0..TRIES {
+            spin_for(SPINS);
             if let Some(guard) = self.lock.try_lock() {
                 return guard;
             }
-            spin_for(SPINS);
         }
         self.lock.lock(rt)
     }

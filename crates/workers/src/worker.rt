@@ -146,7 +146,7 @@ fn make_step<J: JobName, H: JobSource, R: Wait, G: Gate, S: Spin + Drop>(
     ensures shown { IfOk result (λ next. next ≡ None → cell_view share.new.pass ≡ 1) }
 {
     match step {
-        NextStep::Ask => Ok(ask(rt, shared, share, &kept.spin)?),
+        NextStep::Ask => Ok(ask(rt, shared, share, &mut kept.spin)?),
         NextStep::Run { call, incarnation } => {
             let room = &mut kept.room;
             let next = run_call(rt, alloc, shared, share, room, call, incarnation, gate)?;
@@ -189,7 +189,7 @@ fn ask<J: JobName, H: JobSource, R: Wait, S: Spin>(
     rt: &R,
     shared: &Shared<J, H>,
     share: &mut Share,
-    spin: &S,
+    spin: &mut S,
 ) -> Result<Option<NextStep>, WrittenFault>
     requires cell { IsPassOf shared.now.cell share.old.pass }
     ensures cell { IsPassOf shared.now.cell share.new.pass }
@@ -201,7 +201,7 @@ fn ask<J: JobName, H: JobSource, R: Wait, S: Spin>(
     match asked {
         None => shared.cell.set_done(rt, &mut share.pass),
         Some(NextStep::Ask) => shared.cell.look(rt, &mut share.pass, spin),
-        Some(_) => {}
+        Some(next) => spin.learn(next),
     }
     Ok(asked)
 }
