@@ -43,8 +43,11 @@ impl Patience {
 
 impl Spin for Patience {
     /// As often as its patience says, and twice as often the next time, at most 64 times, unless it is to run a call
-    /// before that.
+    /// before that. As long as it spins more often than at the least, it looks 64 times.
     fn looks(&mut self) -> usize {
+        if self.spins > LEAST_SPINS {
+            return LOOK_LIMIT;
+        }
         let looks = self.looks;
         self.looks = looks.saturating_mul(2).min(LOOK_LIMIT);
         looks
