@@ -10,7 +10,8 @@ use std::alloc::{AllocError, Global};
 use stm_state::Recorded;
 use validate::next_read;
 
-/// The reads of a run that was given these answers; refused where memory ran out. One or two take none.
+/// The reads of a run that was given these answers; refused where memory ran out. One or two take only what their
+/// origins do.
 #[inline(always)]
 pub(crate) fn reads_in(alloc: Global, answers: &[StorageAnswer]) -> Result<ReadSet, AllocError>
     ensures { IfOk result (λ reads. reads ≡ map read_of answers.now) }
