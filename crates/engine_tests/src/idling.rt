@@ -42,6 +42,12 @@ impl Spin for Looks<'_> {
         let _ = self.count.fetch_add(1, Ordering::SeqCst);
     }
 
+    fn backs_off(&mut self) -> bool {
+        false
+    }
+
+    fn meet_lock(&mut self) {}
+
     fn learn(&mut self, _owed: NextStep) {}
 }
 

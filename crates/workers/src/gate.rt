@@ -18,14 +18,20 @@ impl Gate for Open {
     fn held(&self, _worker: usize) {}
 }
 
-/// How often an idle worker looks at its block's cell, and how it spins between two looks that do not show done. Tests count
-/// its looks there.
+/// How long a worker without a task stays away from the lock: how often it looks at its block's cell, how it spins between two
+/// looks that do not show done, and what it learns from its steps and from the lock. Tests count its looks there.
 pub trait Spin {
     /// How often it looks now that an ask gave no task, before it asks again; more than 64 are 64. Promises nothing.
     fn looks(&mut self) -> usize;
 
     /// The cell did not show done. Promises nothing.
     fn spin(&self);
+
+    /// Whether it looks before the ask that it is to make now. Promises nothing.
+    fn backs_off(&mut self) -> bool;
+
+    /// Another thread has the lock, so it waits for it. Promises nothing.
+    fn meet_lock(&mut self);
 
     /// After a step the worker owes this one. Promises nothing.
     fn learn(&mut self, owed: NextStep);

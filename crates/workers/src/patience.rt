@@ -3,6 +3,7 @@
 use crate::done_cell::LOOK_LIMIT;
 use crate::gate::Spin;
 use std::hint::spin_loop;
+use std::mem::replace;
 use stm_core::{NextStep, StepKind};
 
 /// Spins so many times, with the processor's hint for a thread that spins.
@@ -22,30 +23,54 @@ const LEAST_SPINS: u32 = 8;
 /// How often a worker spins between two looks at the most.
 const MOST_SPINS: u32 = 512;
 
+/// How often a worker spins between two looks when it begins to back off.
+const FIRST_BACKOFF: u32 = 2;
+
+/// How often a worker spins between two looks when it backs off, at the most.
+const MOST_BACKOFF: u32 = 256;
+
+/// What a step counts for before which the worker waited for the lock. The end of a task takes a quarter of the count away,
+/// so that it is 256 for each such step of a task.
+const WAIT: u32 = 64;
+
+/// From this count on a worker backs off after a task.
+const CROWDED: u32 = 448;
+
 /// How long a worker without a task stays away from the lock: how often it looks at the block's cell, and how often it spins
 /// between two looks. It stays away for longer where one ask after the other gives no task. Where runs meet one another's
 /// writes a worker that comes back soon runs calls that are to be run again, so it stays away for longer there, too.
+///
+/// Where it often waits for the lock the calls are short, and each worker more makes the others slower. So it then backs off
+/// after each task: it stays away before it asks for the next one. Worker 0 never does, so that one works on.
 #[derive(Clone, Copy, Debug)]
 pub(crate) struct Patience {
     looks: usize,
     spins: u32,
+    waits: u32,
+    backoff: u32,
+    most_backoff: u32,
+    is_after_task: bool,
 }
 
 impl Patience {
-    /// The least patience.
-    pub(crate) fn new() -> Patience {
+    /// The least patience, for a worker with this number.
+    pub(crate) fn of(worker: usize) -> Patience {
         Patience {
             looks: FIRST_LOOKS,
             spins: LEAST_SPINS,
+            waits: 0,
+            backoff: 0,
+            most_backoff: if worker == 0 { 0 } else { MOST_BACKOFF },
+            is_after_task: false,
         }
     }
 }
 
 impl Spin for Patience {
     /// As often as its patience says, and twice as often the next time, at most 64 times, unless it is to run a call
-    /// before that. As long as it spins more often than at the least, it looks 64 times.
+    /// before that. As long as it spins more often than at the least, or backs off, it looks 64 times.
     fn looks(&mut self) -> usize {
-        if self.spins > LEAST_SPINS {
+        if self.spins > LEAST_SPINS || self.backoff > 0 {
             return LOOK_LIMIT;
         }
         let looks = self.looks;
@@ -55,14 +80,26 @@ impl Spin for Patience {
 
     /// Spins as often as its patience says.
     fn spin(&self) {
-        spin_for(self.spins);
+        spin_for(self.spins.max(self.backoff));
+    }
+
+    /// After a task, where it often waited for the lock of late.
+    fn backs_off(&mut self) -> bool {
+        let is_after_task = replace(&mut self.is_after_task, false);
+        is_after_task && self.backoff > 0
+    }
+
+    /// Counts how often it waited of late.
+    fn meet_lock(&mut self) {
+        self.waits = self.waits.saturating_add(WAIT);
     }
 
     /// Where it is to run a call, it looks as seldom as at first. It spins four times as often from now on where a run met an
-    /// estimate and where a call is aborted, and a quarter less often where a run was recorded.
+    /// estimate and where a call is aborted, and a quarter less often where a run was recorded. After a task it backs off four
+    /// times as long as after the one before where it often waited for the lock, and else half as long.
     fn learn(&mut self, owed: NextStep) {
         match owed {
-            NextStep::Ask => {}
+            NextStep::Ask => self.end_task(),
             NextStep::Run { .. } => self.looks = FIRST_LOOKS,
             NextStep::Make { kind, .. } => self.learn_of(kind),
         }
@@ -81,5 +118,17 @@ impl Patience {
             }
             _ => {}
         }
+    }
+
+    /// A task of the worker has ended.
+    fn end_task(&mut self) {
+        self.is_after_task = true;
+        self.backoff = if self.waits >= CROWDED {
+            let longer = self.backoff.saturating_mul(4).max(FIRST_BACKOFF);
+            longer.min(self.most_backoff)
+        } else {
+            self.backoff / 2
+        };
+        self.waits -= self.waits / 4;
     }
 }

@@ -9,6 +9,7 @@ ghost use Rattle.workers.specs.DoneCell.{IsPassOf};
 use crate::book::{Book, JobName, MetFault, Share};
 use crate::done_cell::DoneCell;
 use crate::fault::OutsideFault;
+use crate::gate::Spin;
 use crate::patience::spin_for;
 use rv_ledger::Job;
 use std::alloc::{AllocError, Global};
@@ -90,16 +91,23 @@ impl<J: JobName, H: JobSource> Shared<J, H> {
         lock.into_inner()
     }
 
-    /// Takes the lock.
+    /// Takes the lock for a step of a worker.
     #[inline(always)]
-    pub(crate) fn hold<R: Wait>(&self, rt: &R) -> MutexGuard<'_, Book<J, H>> {
+    pub(crate) fn hold<R: Wait, S: Spin>(
+        &self,
+        rt: &R,
+        spin: &mut S,
+    ) -> MutexGuard<'_, Book<J, H>> {
         match self.lock.try_lock() {
             Some(guard) => guard,
-            None => self.wait_for(rt),
+            None => {
+                spin.meet_lock();
+                self.wait_for(rt)
+            }
         }
     }
 
-    /// Takes the lock, which another thread had. It is tried for a while before the thread waits for it, since a
+    /// Takes the lock, which another thread may have. It is tried for a while before the thread waits for it, since a
     /// thread that waits sleeps, and waking it takes longer than a step under the lock. Before each try the thread
     /// spins, since a try takes the lock's cache line away from the thread that has the lock.
     #[inline(never)]
@@ -118,7 +126,7 @@ impl<J: JobName, H: JobSource> Shared<J, H> {
     pub(crate) fn refuse<R: Wait>(&self, rt: &R, fault: OutsideFault) -> MetFault
         ensures { result.met ≡ fault }
     {
-        self.hold(rt).write_outside(fault)
+        self.wait_for(rt).write_outside(fault)
     }
 }
 

@@ -21,8 +21,8 @@ use std::mem::replace;
 use std::sync::Wait;
 use stm_core::{JobSource, NextStep, ReadResult, ReadyRecord, StepKind, reads_made};
 
-/// What a worker keeps from one step to the next: the room that one run leaves to the next one, and how it spins between
-/// two looks at the cell.
+/// What a worker keeps from one step to the next: the room that one run leaves to the next one, and how long it stays away
+/// from the lock without a task.
 #[derive(Drop)]
 struct Kept<S: Spin + Drop> {
     room: RunRoom,
@@ -75,10 +75,11 @@ pub fn work<J: JobName, H: JobSource, R: Wait, G: Gate>(
     ensures dones { IfOk result (λ back. back.dones ≡ share.dones + 1) }
     ensures shown { IfOk result (λ back. cell_view back.pass ≡ 1) }
 {
-    work_spinning(rt, alloc, shared, share, gate, Patience::new())
+    let patience = Patience::of(share.worker());
+    work_spinning(rt, alloc, shared, share, gate, patience)
 }
 
-/// `work` with what the worker does between two looks at the cell.
+/// `work` with how long the worker stays away from the lock without a task.
 pub fn work_spinning<J: JobName, H: JobSource, R: Wait, G: Gate, S: Spin + Drop>(
     rt: &R,
     alloc: Global,
@@ -148,8 +149,7 @@ fn make_step<J: JobName, H: JobSource, R: Wait, G: Gate, S: Spin + Drop>(
     match step {
         NextStep::Ask => Ok(ask(rt, shared, share, &mut kept.spin)?),
         NextStep::Run { call, incarnation } => {
-            let room = &mut kept.room;
-            let next = run_call(rt, alloc, shared, share, room, call, incarnation, gate)?;
+            let next = run_call(rt, alloc, shared, share, kept, call, incarnation, gate)?;
             kept.spin.learn(next);
             Ok(Some(next))
         }
@@ -158,7 +158,8 @@ fn make_step<J: JobName, H: JobSource, R: Wait, G: Gate, S: Spin + Drop>(
             call,
             incarnation,
         } => {
-            let next = make(rt, shared, share, kind, call, incarnation)?;
+            let spin = &mut kept.spin;
+            let next = make(rt, shared, share, spin, kind, call, incarnation)?;
             kept.spin.learn(next);
             Ok(Some(next))
         }
@@ -167,10 +168,11 @@ fn make_step<J: JobName, H: JobSource, R: Wait, G: Gate, S: Spin + Drop>(
 
 /// Makes a step of a worker's task that takes nothing else. Returns the step that the worker owes then, as the book
 /// under the lock told it.
-fn make<J: JobName, H: JobSource, R: Wait>(
+fn make<J: JobName, H: JobSource, R: Wait, S: Spin>(
     rt: &R,
     shared: &Shared<J, H>,
     share: &mut Share,
+    spin: &mut S,
     kind: StepKind,
     call: u16,
     incarnation: u16,
@@ -180,11 +182,11 @@ fn make<J: JobName, H: JobSource, R: Wait>(
     ensures pass { share.new.pass ≡ share.old.pass }
     ensures dones { OnOk result (share.new.dones ≡ share.old.dones) }
 {
-    shared.hold(rt).make(share, kind, call, incarnation)
+    shared.hold(rt, spin).make(share, kind, call, incarnation)
 }
 
 /// Asks for work, and returns the step that the worker owes then. Returns None where all is done, and then
-/// the cell shows it. A worker that gets no task looks at the cell before it asks again.
+/// the cell shows it. A worker that gets no task looks at the cell before it asks again, and one that backs off before it asks.
 fn ask<J: JobName, H: JobSource, R: Wait, S: Spin>(
     rt: &R,
     shared: &Shared<J, H>,
@@ -197,7 +199,8 @@ fn ask<J: JobName, H: JobSource, R: Wait, S: Spin>(
     ensures dones { IfOk result (λ next. MatchOption next (share.new.dones ≡ share.old.dones + 1) (λ _. share.new.dones ≡ share.old.dones)) }
     ensures shown { IfOk result (λ next. next ≡ None → cell_view share.new.pass ≡ 1) }
 {
-    let asked = shared.hold(rt).ask(share)?;
+    back_off(rt, shared, share, spin);
+    let asked = shared.hold(rt, spin).ask(share)?;
     match asked {
         None => shared.cell.set_done(rt, &mut share.pass),
         Some(NextStep::Ask) => shared.cell.look(rt, &mut share.pass, spin),
@@ -206,15 +209,32 @@ fn ask<J: JobName, H: JobSource, R: Wait, S: Spin>(
     Ok(asked)
 }
 
+/// Looks at the cell where the worker backs off before an ask.
+fn back_off<J: JobName, H: JobSource, R: Wait, S: Spin>(
+    rt: &R,
+    shared: &Shared<J, H>,
+    share: &mut Share,
+    spin: &mut S,
+)
+    requires cell { IsPassOf shared.now.cell share.old.pass }
+    ensures cell { IsPassOf shared.now.cell share.new.pass }
+    ensures worker { share.new.worker ≡ share.old.worker }
+    ensures dones { share.new.dones ≡ share.old.dones }
+{
+    if spin.backs_off() {
+        shared.cell.look(rt, &mut share.pass, spin);
+    }
+}
+
 /// Runs a call outside the lock up to a read that meets an estimate, or up to its end; then it passes the gate, and
 /// hands the run in. Returns the step that the worker owes then. A run is large, so it stays here until it is finished.
 #[tactic(auto, using(crate::proofs::Working::call_fault_of))]
-fn run_call<J: JobName, H: JobSource, R: Wait, G: Gate>(
+fn run_call<J: JobName, H: JobSource, R: Wait, G: Gate, S: Spin + Drop>(
     rt: &R,
     alloc: Global,
     shared: &Shared<J, H>,
     share: &mut Share,
-    room: &mut RunRoom,
+    kept: &mut Kept<S>,
     call: u16,
     incarnation: u16,
     gate: &G,
@@ -228,11 +248,19 @@ fn run_call<J: JobName, H: JobSource, R: Wait, G: Gate>(
     let Some(own) = shared.job.block().calls().get(usize::from(call)) else {
         return Err(WorkFault::Met(shared.refuse(rt, OutsideFault::Foreign)));
     };
-    let Ok(mut run) = Run::start_in(alloc, replace(room, RunRoom::new(alloc)), own) else {
+    let Ok(mut run) = Run::start_in(alloc, replace(&mut kept.room, RunRoom::new(alloc)), own) else {
         return Err(WorkFault::Met(shared.refuse(rt, OutsideFault::Memory)));
     };
-    if !run_to_end(rt, shared, share, call, incarnation, &mut run)? {
-        *room = run.into_room();
+    if !run_to_end(
+        rt,
+        shared,
+        share,
+        &mut kept.spin,
+        call,
+        incarnation,
+        &mut run,
+    )? {
+        kept.room = run.into_room();
         return Ok(NextStep::Make {
             kind: StepKind::Park,
             call,
@@ -240,23 +268,25 @@ fn run_call<J: JobName, H: JobSource, R: Wait, G: Gate>(
         });
     }
     gate.held(share.worker());
-    let ended = run.finish_in(room);
+    let ended = run.finish_in(&mut kept.room);
     let Ok(reads) = reads_made(alloc, &ended) else {
         return Err(WorkFault::Met(shared.refuse(rt, OutsideFault::Memory)));
     };
     let mut ready = ReadyRecord::of(ended, reads);
-    let next = record(rt, shared, share, call, incarnation, &mut ready)?;
+    let spin = &mut kept.spin;
+    let next = record(rt, shared, share, spin, call, incarnation, &mut ready)?;
     // What else the record left over in `ready` is dropped here, after the lock.
-    room.keep_answers(ready.take_answers());
+    kept.room.keep_answers(ready.take_answers());
     Ok(next)
 }
 
 /// Hands in the ended run of a call, which is ready to be recorded. Returns the step that the worker owes then, as the
 /// book under the lock told it. What is left over of the run stands in its place then.
-fn record<J: JobName, H: JobSource, R: Wait>(
+fn record<J: JobName, H: JobSource, R: Wait, S: Spin>(
     rt: &R,
     shared: &Shared<J, H>,
     share: &mut Share,
+    spin: &mut S,
     call: u16,
     incarnation: u16,
     ready: &mut ReadyRecord,
@@ -269,15 +299,16 @@ fn record<J: JobName, H: JobSource, R: Wait>(
     ensures dones { OnOk result (share.new.dones ≡ share.old.dones) }
 {
     shared
-        .hold(rt)
+        .hold(rt, spin)
         .record_ready(share, call, incarnation, ready)
 }
 
 /// Takes a call's run on to its end. Returns false where it meets an estimate before that.
-fn run_to_end<J: JobName, H: JobSource, R: Wait>(
+fn run_to_end<J: JobName, H: JobSource, R: Wait, S: Spin>(
     rt: &R,
     shared: &Shared<J, H>,
     share: &mut Share,
+    spin: &mut S,
     call: u16,
     incarnation: u16,
     run: &mut Run,
@@ -296,7 +327,7 @@ fn run_to_end<J: JobName, H: JobSource, R: Wait>(
         let Pause::Ask(key) = pause else {
             return Ok(true);
         };
-        if !read(rt, shared, share, call, incarnation, run, &key)? {
+        if !read(rt, shared, share, spin, call, incarnation, run, &key)? {
             return Ok(false);
         }
     }
@@ -305,10 +336,11 @@ fn run_to_end<J: JobName, H: JobSource, R: Wait>(
 
 /// Reads the key that a call's run asks for, and answers the run. Returns false where the read meets an estimate. The
 /// storage before the block is searched before the lock is taken.
-fn read<J: JobName, H: JobSource, R: Wait>(
+fn read<J: JobName, H: JobSource, R: Wait, S: Spin>(
     rt: &R,
     shared: &Shared<J, H>,
     share: &mut Share,
+    spin: &mut S,
     call: u16,
     incarnation: u16,
     run: &mut Run,
@@ -323,7 +355,7 @@ fn read<J: JobName, H: JobSource, R: Wait>(
 {
     let base = StoredValue::bytes_of(shared.job.content(key));
     let answer = shared
-        .hold(rt)
+        .hold(rt, spin)
         .read_over(share, call, incarnation, key, base);
     match answer {
         Ok(ReadResult::Given(value, origin)) => {
