@@ -42,7 +42,7 @@ impl Spin for Looks<'_> {
         let _ = self.count.fetch_add(1, Ordering::SeqCst);
     }
 
-    fn backs_off(&mut self) -> bool {
+    fn backs_off(&self) -> bool {
         false
     }
 

@@ -1,5 +1,6 @@
 -- What a worker meets outside the lock, and what a book answers it.
-use Rattle.std.proofs.Common.{◌≡◌, ℕ, Result, Ok, Err, IfOk, OnOk, inl}
+use Rattle.std.proofs.Common.{◌≡◌, ℕ, List, length, slice_get, Some, Result, Ok, Err, IfOk, OnOk, inl}
+use Rattle.std.proofs.lemmas.Option.{slice_get_within}
 use Rattle.stm_state.specs.State.{task_at}
 use Rattle.stm_state.specs.Steps.{Record}
 use Rattle.stm_core.specs.CoreState.{next_step_of}
@@ -12,10 +13,11 @@ use Rattle.workers.specs.declared.worker.WorkFault.{WorkFault}
 use Rattle.workers.specs.declared.worker.WorkFault.TheVariants.{Met, Refused}
 use Rattle.workers.specs.Work.{IsCallFault, IsMemoryOrRefused, IsRecordAnswer}
 
--- what a read meets is one of the faults of a call's run
-pub call_fault_of : (count call : ℕ) (fault : WorkFault) → IsMemoryOrRefused fault → IsCallFault count call fault
-call_fault_of count call (Refused written) met = tt
-call_fault_of count call (Met fault) met = inl met
+-- what the run of a call of the block meets is one of the faults of a call's run
+pub call_fault_of : {X : Type 0} (block : List X) (call : ℕ) (own : X) → slice_get block call ≡ Some own
+    → (fault : WorkFault) → IsMemoryOrRefused fault → IsCallFault (length block) call fault
+call_fault_of block call own is (Refused written) met = tt
+call_fault_of block call own is (Met fault) met = inl (slice_get_within block call own is, met)
 
 -- a record that was taken is answered with the step that is owed after it
 pub is_record_answer : (call n : ℕ) (before after : BookState) (share counted : Share) (result : Result NextStep RunFault)

@@ -1,5 +1,5 @@
 -- What a worker's thread meets outside the lock, and what a book under the lock answered it, for the private functions.
-use Rattle.std.specs.Prelude.{◌≡◌, ◌≤◌, ◌⊎◌, ℕ, Option, None, Some, Result, Ok}
+use Rattle.std.specs.Prelude.{◌≡◌, ◌≤◌, ◌<◌, ◌⊎◌, ℕ, Option, None, Some, Result, Ok}
 use Rattle.stm_state.specs.State.{task_at}
 use Rattle.stm_state.specs.Steps.{Record}
 use Rattle.stm_core.specs.CoreState.{next_step_of}
@@ -19,10 +19,10 @@ abbrev pub IsMemoryOrRefused : WorkFault → Type 0
 IsMemoryOrRefused (Refused written) = Unit {0}
 IsMemoryOrRefused (Met fault) = fault.met ≡ outside.Memory
 
--- the same, or there are this many calls, and none of this index
+-- a worker was refused by a book, or met Memory at a call that is one of so many, or Foreign at one that is none of them
 abbrev pub IsCallFault : ℕ → ℕ → WorkFault → Type 0
 IsCallFault count call (Refused written) = Unit {0}
-IsCallFault count call (Met fault) = (fault.met ≡ outside.Memory) ⊎ ((fault.met ≡ outside.Foreign) × (count ≤ call))
+IsCallFault count call (Met fault) = ((call < count) × (fault.met ≡ outside.Memory)) ⊎ ((count ≤ call) × (fault.met ≡ outside.Foreign))
 
 -- some book was asked for a step of a task by its kind, and this is its answer
 abbrev pub IsMakeAnswer : StepKind → ℕ → ℕ → Share → Share → Result NextStep RunFault → Type 0

@@ -28,7 +28,7 @@ pub trait Spin {
     fn spin(&self);
 
     /// Whether it looks before the ask that it is to make now. Promises nothing.
-    fn backs_off(&mut self) -> bool;
+    fn backs_off(&self) -> bool;
 
     /// Another thread has the lock, so it waits for it. Promises nothing.
     fn meet_lock(&mut self);

@@ -3,7 +3,6 @@
 use crate::done_cell::LOOK_LIMIT;
 use crate::gate::Spin;
 use std::hint::spin_loop;
-use std::mem::replace;
 use stm_core::{NextStep, StepKind};
 
 /// Spins so many times, with the processor's hint for a thread that spins.
@@ -24,13 +23,13 @@ const LEAST_SPINS: u32 = 8;
 const MOST_SPINS: u32 = 512;
 
 /// How often a worker spins between two looks when it begins to back off.
-const FIRST_BACKOFF: u32 = 2;
+const FIRST_BACKOFF: u32 = LEAST_SPINS;
 
 /// How often a worker spins between two looks when it backs off, at the most.
 const MOST_BACKOFF: u32 = 256;
 
 /// What a step counts for before which the worker waited for the lock. The end of a task takes a quarter of the count away,
-/// so that it is 256 for each such step of a task.
+/// so where each task has one such step the count comes to 256.
 const WAIT: u32 = 64;
 
 /// From this count on a worker backs off after a task.
@@ -49,7 +48,7 @@ pub(crate) struct Patience {
     waits: u32,
     backoff: u32,
     most_backoff: u32,
-    is_after_task: bool,
+    has_looked: bool,
 }
 
 impl Patience {
@@ -61,7 +60,7 @@ impl Patience {
             waits: 0,
             backoff: 0,
             most_backoff: if worker == 0 { 0 } else { MOST_BACKOFF },
-            is_after_task: false,
+            has_looked: false,
         }
     }
 }
@@ -70,6 +69,7 @@ impl Spin for Patience {
     /// As often as its patience says, and twice as often the next time, at most 64 times, unless it is to run a call
     /// before that. As long as it spins more often than at the least, or backs off, it looks 64 times.
     fn looks(&mut self) -> usize {
+        self.has_looked = true;
         if self.spins > LEAST_SPINS || self.backoff > 0 {
             return LOOK_LIMIT;
         }
@@ -83,10 +83,9 @@ impl Spin for Patience {
         spin_for(self.spins.max(self.backoff));
     }
 
-    /// After a task, where it often waited for the lock of late.
-    fn backs_off(&mut self) -> bool {
-        let is_after_task = replace(&mut self.is_after_task, false);
-        is_after_task && self.backoff > 0
+    /// Where it often waited for the lock of late, and has not looked since its last task.
+    fn backs_off(&self) -> bool {
+        self.backoff > 0 && !self.has_looked
     }
 
     /// Counts how often it waited of late.
@@ -121,13 +120,16 @@ impl Patience {
     }
 
     /// A task of the worker has ended.
+    #[inline(never)]
     fn end_task(&mut self) {
-        self.is_after_task = true;
+        self.has_looked = false;
         self.backoff = if self.waits >= CROWDED {
             let longer = self.backoff.saturating_mul(4).max(FIRST_BACKOFF);
             longer.min(self.most_backoff)
-        } else {
+        } else if self.backoff > FIRST_BACKOFF {
             self.backoff / 2
+        } else {
+            0
         };
         self.waits -= self.waits / 4;
     }
