@@ -25,6 +25,9 @@ mod steps;
 /// The room that is left to a block whose threads are refused.
 const RESERVE: usize = 1 << 20;
 
+/// The room that is left to a core and to the worker who works over it. A new core takes more than a half of a MiB.
+const WORK_ROOM: usize = 1 << 21;
+
 /// What the memory that is left to a worker grows by from one try to the next.
 const STEP: usize = 32;
 
@@ -276,7 +279,7 @@ fn refusals_of<R: Wait + Abort>(
     first: usize,
 ) -> Result<(usize, Result<Outcome, RunFault>), NotMade> {
     let (mut space, mut rest) = (no_blocks(alloc)?, no_blocks(alloc)?);
-    let reserve = reserve_of(alloc, RESERVE)?;
+    let reserve = reserve_of(alloc, WORK_ROOM)?;
     take_space(alloc, &mut space);
     drop(reserve);
     for step in 0..STEPS {
