@@ -25,7 +25,8 @@ mod steps;
 /// The room that is left to a block whose threads are refused.
 const RESERVE: usize = 1 << 20;
 
-/// The room that is left to a core and to the worker who works over it. A new core takes more than a half of a MiB.
+/// The room that is left to a core and to the worker who works over it. Of 1 MiB the heap had too little in one piece at some of
+/// the random addresses that the system gives.
 const WORK_ROOM: usize = 1 << 21;
 
 /// What the memory that is left to a worker grows by from one try to the next.
