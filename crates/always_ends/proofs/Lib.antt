@@ -1,0 +1,15 @@
+pub mod Sums
+pub mod Measure
+pub mod Finished
+pub mod UsedUp
+pub mod WorkOfLists
+pub mod IdleWorkers
+pub mod Walks
+pub mod Prices
+pub mod Changes
+pub mod Causes
+pub mod Powers
+pub mod SmallBlocks
+pub mod Stretches
+pub mod FairSchedules
+pub mod EndlessRuns
