@@ -3,6 +3,7 @@
 #![tactic(auto)]
 
 #[cfg(test)]
+mod adversary;
 mod areas;
 #[cfg(test)]
 mod assembled;

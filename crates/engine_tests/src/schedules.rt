@@ -1,6 +1,7 @@
 //! Lists of worker numbers, over blocks whose calls meet each other's writes: what is printed is what
 //! running the calls in order prints.
 
+use crate::adversary::{ADVERSARY, SEVEN_READERS};
 use crate::asserts::assert_right;
 use crate::blocks::{BlockInMemory, forty_counts_block, is_forty_counts};
 use crate::calls::{job_of, job_of_inputs, text_of};
@@ -163,6 +164,13 @@ const SCHEDULES: &[Schedule] = &[
         workers: 1,
         turns: &[(0, 23)],
         executions: &[3],
+    },
+    Schedule {
+        name: "adversary: the last of seven calls comes to incarnation 120",
+        row: SEVEN_READERS,
+        workers: 7,
+        turns: ADVERSARY,
+        executions: &[14, 24, 31, 29, 21, 7, 1],
     },
 ];
 
