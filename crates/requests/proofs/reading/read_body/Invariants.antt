@@ -1,0 +1,12 @@
+use Rattle.requests.specs.Reading.{WhereKnown}
+use Rattle.requests.proofs.Taken.{Passes}
+use Rattle.requests.proofs.reading.read_body.Given as goal
+
+abbrev pub invariant-loop-left : goal.invariant-loop-left
+invariant-loop-left g l = record {
+  passes : WhereKnown (g.R.Read.remaining l.fn.input) (g.R.Read.remaining l.input) (Passes l.size l.left l.kept);
+  same : g.R.BufferedSource.may_fail l.input → g.R.BufferedSource.may_fail l.fn.input;
+}
+
+abbrev pub decreases-loop-left : goal.decreases-loop-left
+decreases-loop-left g l = l.left

@@ -1,0 +1,4 @@
+pub mod Requests
+pub mod Written
+pub mod Reading
+pub mod Examples

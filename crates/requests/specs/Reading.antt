@@ -1,0 +1,91 @@
+-- What is read of an input.
+use Rattle.std.specs.Prelude.{◌≡◌, ⊤, ℕ, ◌<◌, ◌≤◌, nat_lt, Bool, true, false, List, [], ◌∷◌, ◌++◌, length, Option, Some, None, OnSome, Vec, take}
+use Rattle.std.specs.declared.alloc.Global.{Global}
+use Rattle.std.specs.Io.KnownBytes.{Consumes, IsAtEnd}
+use Rattle.requests.specs.declared.reading.LineEnd.{LineEnd}
+use Rattle.requests.specs.declared.reading.LineEnd.TheVariants as end
+use Rattle.requests.specs.declared.reading.Body.{Body}
+use Rattle.requests.specs.declared.reading.Body.TheVariants as body
+use Rattle.requests.specs.declared.request.Asked.{Asked}
+use Rattle.requests.specs.declared.request.Asked.TheVariants as asked
+use Rattle.requests.specs.declared.request.Request.{Request}
+use Rattle.requests.specs.declared.request.Request.TheVariants as request
+use Rattle.requests.specs.declared.request.RequestLine.{RequestLine}
+use Rattle.requests.specs.declared.request.RequestLine.TheVariants as line
+use Rattle.requests.specs.Requests.{Ask, Program, Forget, Programs, Frame, Try, Last, Get, ListEntries, Dump, Begin, State, Quit, Is, Ends, behind_line, first_part, line_limit, request_of, with_body}
+use Rattle.requests.specs.Written.{line_for}
+
+-- of the bytes before and after, where those before are known
+abbrev pub WhereKnown : Option (List ℕ) → Option (List ℕ) → (List ℕ → List ℕ → Type 0) → Type 0
+WhereKnown None after P = ⊤
+WhereKnown (Some xs) None P = ⊥
+WhereKnown (Some xs) (Some ys) P = P xs ys
+
+-- the bytes so far, if they are kept
+abbrev pub IsKept : Option (Vec ℕ Global) → List ℕ → Type 0
+IsKept None whole = ⊤
+IsKept (Some bytes) whole = bytes.items ≡ whole
+
+-- the request that a value is
+abbrev pub ask_of : Request → Ask
+ask_of (request.Program bytes) = Program bytes.items
+ask_of (request.Forget name) = Forget name
+ask_of request.Programs = Programs
+ask_of (request.Frame bytes) = Frame bytes.items
+ask_of (request.Try bytes) = Try bytes.items
+ask_of request.Last = Last
+ask_of (request.Get key) = Get key
+ask_of (request.List key count) = ListEntries key count
+ask_of request.Dump = Dump
+ask_of (request.Begin height digest bytes) = Begin height digest bytes.items
+ask_of request.State = State
+ask_of request.Quit = Quit
+
+-- whether more bytes follow than may: 131,072 of a program, `frame_limit` of a frame
+abbrev pub is_too_long : ℕ → RequestLine → Bool
+is_too_long frame_limit (line.Program length) = nat_lt 131072 length
+is_too_long frame_limit (line.Frame length) = nat_lt frame_limit length
+is_too_long frame_limit (line.Try length) = nat_lt frame_limit length
+is_too_long frame_limit other = false
+
+-- a request with this line comes first in xs, and ys is behind it
+abbrev pub IsPassed : RequestLine → List ℕ → List ℕ → Type 0
+IsPassed said xs ys = (bytes : List ℕ) × (request_of xs ≡ Is (with_body said bytes) ys)
+
+-- what a reader answers is what comes first in xs, and it leaves ys
+abbrev pub Tells : ℕ → Asked → List ℕ → List ℕ → Type 0
+Tells frame_limit (asked.Whole request) xs ys = (request_of xs ≡ Is (ask_of request) ys) × (is_too_long frame_limit (line_for (ask_of request)) ≡ false)
+Tells frame_limit (asked.TooLong said) xs ys = IsPassed said xs ys × (is_too_long frame_limit said ≡ true)
+Tells frame_limit (asked.Unkept said) xs ys = IsPassed said xs ys × (is_too_long frame_limit said ≡ false)
+Tells frame_limit (asked.Broken fault) xs ys = request_of xs ≡ Ends (Some fault)
+Tells frame_limit asked.End xs ys = request_of xs ≡ Ends None
+
+-- the same behind a line
+abbrev pub TellsBehind : ℕ → Asked → RequestLine → List ℕ → List ℕ → Type 0
+TellsBehind frame_limit (asked.Whole request) said xs ys = (behind_line (Some said) xs ≡ Is (ask_of request) ys) × (is_too_long frame_limit (line_for (ask_of request)) ≡ false)
+TellsBehind frame_limit (asked.TooLong other) said xs ys = (other ≡ said) × ((bytes : List ℕ) × (behind_line (Some said) xs ≡ Is (with_body said bytes) ys)) × (is_too_long frame_limit said ≡ true)
+TellsBehind frame_limit (asked.Unkept other) said xs ys = (other ≡ said) × ((bytes : List ℕ) × (behind_line (Some said) xs ≡ Is (with_body said bytes) ys)) × (is_too_long frame_limit said ≡ false)
+TellsBehind frame_limit (asked.Broken fault) said xs ys = behind_line (Some said) xs ≡ Ends (Some fault)
+TellsBehind frame_limit asked.End said xs ys = ⊥
+
+-- what a read of one byte gives
+abbrev pub GivesByte : Option (List ℕ) → Option (List ℕ) → Option ℕ → Type 0
+GivesByte before after None = Consumes before after [] × OnSome before (IsAtEnd after)
+GivesByte before after (Some byte) = Consumes before after (byte ∷ [])
+
+-- what a read of a line gives, which is put into `room`
+abbrev pub GivesLine : List ℕ → LineEnd → List ℕ → List ℕ → Type 0
+GivesLine room (end.Whole count) xs ys = first_part 10 line_limit xs ≡ Some (take count room, ys)
+GivesLine room end.Nothing xs ys = xs ≡ []
+GivesLine room end.Broken xs ys = (first_part 10 line_limit xs ≡ None) × (0 < length xs)
+
+-- a line is within the room
+abbrev pub IsWithin : LineEnd → Type 0
+IsWithin (end.Whole count) = count ≤ 128
+IsWithin other = ⊤
+
+-- what a read of so many bytes gives
+abbrev pub GivesBody : ℕ → Body → List ℕ → List ℕ → Type 0
+GivesBody size (body.Whole bytes) xs ys = (bs : List ℕ) × (xs ≡ bs ++ ys) × (length bs ≡ size) × (bytes.items ≡ bs)
+GivesBody size body.Unkept xs ys = (bs : List ℕ) × (xs ≡ bs ++ ys) × (length bs ≡ size)
+GivesBody size body.Cut xs ys = length xs < size
