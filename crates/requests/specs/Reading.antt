@@ -12,7 +12,7 @@ use Rattle.requests.specs.declared.request.Request.{Request}
 use Rattle.requests.specs.declared.request.Request.TheVariants as request
 use Rattle.requests.specs.declared.request.RequestLine.{RequestLine}
 use Rattle.requests.specs.declared.request.RequestLine.TheVariants as line
-use Rattle.requests.specs.Requests.{Ask, Program, Forget, Programs, Frame, Try, Last, Get, ListEntries, Dump, Begin, State, Quit, Is, Ends, behind_line, first_part, line_limit, request_of, with_body}
+use Rattle.requests.specs.Requests.{Ask, Program, Forget, Programs, Frame, Try, Last, Get, ListEntries, Dump, Begin, State, Quit, Is, Ends, behind_line, body_length, first_part, line_limit, request_of, with_body}
 use Rattle.requests.specs.Written.{line_for}
 
 -- of the bytes before and after, where those before are known
@@ -48,9 +48,9 @@ is_too_long frame_limit (line.Frame length) = nat_lt frame_limit length
 is_too_long frame_limit (line.Try length) = nat_lt frame_limit length
 is_too_long frame_limit other = false
 
--- a request with this line comes first in xs, and ys is behind it
+-- a request with this line, and as many bytes as it says, comes first in xs, and ys is behind it
 abbrev pub IsPassed : RequestLine → List ℕ → List ℕ → Type 0
-IsPassed said xs ys = (bytes : List ℕ) × (request_of xs ≡ Is (with_body said bytes) ys)
+IsPassed said xs ys = (bytes : List ℕ) × (request_of xs ≡ Is (with_body said bytes) ys) × (length bytes ≡ body_length said)
 
 -- what a reader answers is what comes first in xs, and it leaves ys
 abbrev pub Tells : ℕ → Asked → List ℕ → List ℕ → Type 0
@@ -63,8 +63,8 @@ Tells frame_limit asked.End xs ys = request_of xs ≡ Ends None
 -- the same behind a line
 abbrev pub TellsBehind : ℕ → Asked → RequestLine → List ℕ → List ℕ → Type 0
 TellsBehind frame_limit (asked.Whole request) said xs ys = (behind_line (Some said) xs ≡ Is (ask_of request) ys) × (is_too_long frame_limit (line_for (ask_of request)) ≡ false)
-TellsBehind frame_limit (asked.TooLong other) said xs ys = (other ≡ said) × ((bytes : List ℕ) × (behind_line (Some said) xs ≡ Is (with_body said bytes) ys)) × (is_too_long frame_limit said ≡ true)
-TellsBehind frame_limit (asked.Unkept other) said xs ys = (other ≡ said) × ((bytes : List ℕ) × (behind_line (Some said) xs ≡ Is (with_body said bytes) ys)) × (is_too_long frame_limit said ≡ false)
+TellsBehind frame_limit (asked.TooLong other) said xs ys = (other ≡ said) × ((bytes : List ℕ) × (behind_line (Some said) xs ≡ Is (with_body said bytes) ys) × (length bytes ≡ body_length said)) × (is_too_long frame_limit said ≡ true)
+TellsBehind frame_limit (asked.Unkept other) said xs ys = (other ≡ said) × ((bytes : List ℕ) × (behind_line (Some said) xs ≡ Is (with_body said bytes) ys) × (length bytes ≡ body_length said)) × (is_too_long frame_limit said ≡ false)
 TellsBehind frame_limit (asked.Broken fault) said xs ys = behind_line (Some said) xs ≡ Ends (Some fault)
 TellsBehind frame_limit asked.End said xs ys = ⊥
 
