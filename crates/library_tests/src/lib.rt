@@ -28,6 +28,8 @@ mod program_file;
 #[cfg(test)]
 mod receipts_calls;
 #[cfg(test)]
+mod requests_calls;
+#[cfg(test)]
 mod rv_alu_calls;
 #[cfg(test)]
 mod rv_isa_calls;
