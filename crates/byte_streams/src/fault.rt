@@ -1,6 +1,6 @@
 //! Why a write is refused.
 
-ghost use Rattle.std.specs.Prelude.{◌≡◌};
+ghost use Rattle.std.specs.Prelude.{◌≡◌, ◌≤◌, length};
 ghost use Rattle.byte_streams.specs.Faults.{name_of, number_of};
 
 use std::fmt;
@@ -27,7 +27,8 @@ impl WriteFault {
 
     /// The name in the refusal's line.
     pub fn name(self) -> &'static str
-        ensures { result.now ≡ name_of self }
+        ensures text { result.now ≡ name_of self }
+        ensures short { length result.now ≤ 16 }
     {
         match self {
             WriteFault::Io => "Io",

@@ -1,6 +1,6 @@
 //! Why a replay or a session is refused.
 
-ghost use Rattle.std.specs.Prelude.{◌≡◌};
+ghost use Rattle.std.specs.Prelude.{◌≡◌, ◌≤◌, length};
 ghost use Rattle.debugger.specs.Faults.{name_of, number_of};
 
 use byte_streams::WriteFault;
@@ -32,7 +32,8 @@ impl ReplayFault {
 
     /// The name in the refusal's line.
     pub fn name(self) -> &'static str
-        ensures { result.now ≡ name_of self }
+        ensures text { result.now ≡ name_of self }
+        ensures short { length result.now ≤ 16 }
     {
         match self {
             ReplayFault::NoSuchCall => "NoSuchCall",

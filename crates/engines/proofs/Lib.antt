@@ -5,4 +5,4 @@ pub mod ProgramFiles
 pub mod LaterFaults
 pub mod DriveFaults
 pub mod Sessions
-pub mod RefusalParts
+pub mod ShortNames

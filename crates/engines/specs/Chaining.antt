@@ -1,15 +1,12 @@
 -- The programs of a session, and how it is refused.
 use Rattle.std.specs.Prelude.{ℕ, List, Option, Result}
-use Rattle.std.specs.FinMap.{empty}
 use Rattle.std.specs.Option.{option_map}
 use Rattle.std.specs.Result.{result_map_both}
 use Rattle.elf32.specs.Layout.{Layout}
-use Rattle.rv_ledger.specs.declared.rules.Rules.TheVariants.{One}
 use Rattle.sessions.specs.declared.fault.ProgramFault.{ProgramFault}
 use Rattle.sessions.specs.declared.fault.ProgramFault.TheVariants as program
 use Rattle.sessions.specs.declared.serving.ServeFault.{ServeFault}
 use Rattle.sessions.specs.declared.serving.ServeFault.TheVariants as serve
-use Rattle.sessions.specs.declared.state.State.{State}
 use Rattle.engines.specs.declared.fault.FileFault.TheVariants.{TooLong, Unreadable}
 use Rattle.engines.specs.declared.fault.Refusal.{Refusal}
 use Rattle.engines.specs.declared.fault.Refusal.TheVariants.{Elf, File, Output}
@@ -28,10 +25,6 @@ program_of_file bytes = result_map_both (λ image. image) fault_of (layout_of_fi
 -- the programs of the files at paths, where these are known
 abbrev pub programs_in : (List ℕ → Option (List ℕ)) → List ℕ → Option (Result Layout ProgramFault)
 programs_in content path = option_map program_of_file (content path)
-
--- where a session begins: an empty storage, and the lowest rules
-abbrev pub start : State
-start = record { store = empty; rules = One }
 
 -- why the command is refused where its session was cut short
 abbrev pub cut_of : ServeFault → Refusal

@@ -1,11 +1,13 @@
 -- What a refusal prints.
-use Rattle.std.specs.Prelude.{List, ℕ, ◌++◌, codes}
+use Rattle.std.specs.Prelude.{List, ℕ, ◌++◌, Option, Some, None, codes}
 use Rattle.std.specs.Fmt.{decimal}
-use Rattle.block_file.specs.Faults as block
-use Rattle.debugger.specs.Faults as debug
-use Rattle.elf32.specs.Refusals as elf
 use Rattle.byte_streams.specs.Faults as output
+use Rattle.byte_streams.specs.Refusals.{Parts, line_text, without_line}
+use Rattle.debugger.specs.Faults as debug
 use Rattle.rv_text.specs.Faults as asm
+use Rattle.rv_text.specs.declared.fault.AsmCause.{AsmCause}
+use Rattle.rv_text.specs.declared.fault.AsmCause.TheVariants as asm_cause
+use Rattle.sessions.specs.Faults.{block_parts, elf_parts}
 use Rattle.stm_core.specs.Faults as drive
 use Rattle.workers.specs.Faults as run
 use Rattle.engines.specs.declared.fault.FileFault.{FileFault}
@@ -41,19 +43,29 @@ seq_name Memory = codes "Memory"
 unfoldable pub seq_text : SeqFault → List ℕ
 seq_text fault = seq_name fault ++ codes " " ++ decimal (seq_number fault)
 
--- the area, the line where it has one, the name and the number
-abbrev pub refusal_text : Refusal → List ℕ
-refusal_text (File fault) = codes "file " ++ file_text fault
-refusal_text (Block fault) = codes "block " ++ block.fault_text fault
-refusal_text (Elf fault) = codes "elf " ++ elf.error_text fault
-refusal_text (Asm fault) = codes "asm " ++ asm.fault_text fault
-refusal_text (Seq fault) = codes "seq " ++ seq_text fault
-refusal_text (Schedule fault) = codes "schedule " ++ block.fault_text fault
-refusal_text (Run fault) = codes "run " ++ run.fault_text fault
-refusal_text (Drive fault) = codes "drive " ++ drive.fault_text fault
-refusal_text (Debug fault) = codes "debug " ++ debug.fault_text fault
-refusal_text (Output fault) = codes "output " ++ output.fault_text fault
+-- the number of the line of a cause; running out of memory has none
+abbrev pub asm_line : ℕ → AsmCause → Option ℕ
+asm_line line asm_cause.Memory = None
+asm_line line _ = Some line
+
+-- the parts of what a refusal prints
+abbrev pub parts_of : Refusal → Parts
+parts_of (File fault) = without_line (codes "file") (file_name fault) (file_number fault)
+parts_of (Block fault) = block_parts (codes "block") fault
+parts_of (Elf fault) = elf_parts fault
+parts_of (Asm fault) = record {
+  area = codes "asm";
+  line = asm_line fault.line fault.cause;
+  name = asm.name_of fault.cause;
+  number = asm.number_of fault.cause;
+}
+parts_of (Seq fault) = without_line (codes "seq") (seq_name fault) (seq_number fault)
+parts_of (Schedule fault) = block_parts (codes "schedule") fault
+parts_of (Run fault) = without_line (codes "run") (run.name_of fault) (run.number_of fault)
+parts_of (Drive fault) = without_line (codes "drive") (drive.name_of fault) (drive.number_of fault)
+parts_of (Debug fault) = without_line (codes "debug") (debug.name_of fault) (debug.number_of fault)
+parts_of (Output fault) = without_line (codes "output") (output.name_of fault) (output.number_of fault)
 
 -- the line of a refusal
-abbrev pub refusal_line : List ℕ → List ℕ
-refusal_line text = codes "rvstm: " ++ text ++ codes "\n"
+abbrev pub refusal_line : Refusal → List ℕ
+refusal_line refusal = line_text (codes "rvstm: ") (parts_of refusal)

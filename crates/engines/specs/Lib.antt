@@ -8,4 +8,3 @@ pub mod Finding
 pub mod Running
 pub mod Counts
 pub mod Debugging
-pub mod RefusalParts

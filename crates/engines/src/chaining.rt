@@ -4,9 +4,9 @@ ghost use Rattle.std.specs.Prelude.{◌≡◌, ℕ, List, IfErr, IfOk, IfSome, O
 ghost use Rattle.std.specs.Io.KnownBytes.{Appends};
 ghost use Rattle.std.specs.Option.{option_map};
 ghost use Rattle.frames.specs.Frames.{requests_of};
-ghost use Rattle.engines.specs.Chaining.{cut_of, fault_of, program_of_file, programs_in, start};
+ghost use Rattle.engines.specs.Chaining.{cut_of, fault_of, program_of_file, programs_in};
 ghost use Rattle.sessions.specs.Serving.{AreAnswered, IsCutShort, MayEnd};
-ghost use Rattle.sessions.specs.Session.{IsAnswer};
+ghost use Rattle.sessions.specs.Session.{IsAnswer, new_session};
 ghost use Rattle.sessions.specs.declared.serving.ServeFault.{ServeFault};
 ghost use Rattle.sessions.specs.declared.state.State.{State};
 
@@ -64,10 +64,10 @@ pub fn chain_to<R: BufRead, P: Programs + Drop, W: Destination>(
 ) -> Result<(), Refusal>
     ensures ok { OnOk result (IfSome (R.remaining input.old) (λ bytes. (text : List ℕ) × (after : State)
         × Appends (W.contents out.old) (W.contents out.new) text
-        × AreAnswered (IsAnswer (programs_in (P.content programs))) start (requests_of bytes) text after)) }
+        × AreAnswered (IsAnswer (programs_in (P.content programs))) new_session (requests_of bytes) text after)) }
     ensures err { IfErr result (λ e. IfSome (R.remaining input.old) (λ bytes. (fault : ServeFault) × (after : State)
         × (e ≡ cut_of fault)
-        × IsCutShort (IsAnswer (programs_in (P.content programs))) fault start (requests_of bytes) after (W.contents out.old) (W.contents out.new))) }
+        × IsCutShort (IsAnswer (programs_in (P.content programs))) fault new_session (requests_of bytes) after (W.contents out.old) (W.contents out.new))) }
     ensures refused { IfErr result (λ e. (fault : ServeFault) × (e ≡ cut_of fault) × MayEnd (W.may_fail out.old) (W.may_take_nothing out.old) fault) }
 {
     chain_with(alloc, input, programs, &mut InOrder, out)
@@ -84,10 +84,10 @@ pub fn chain_with<R: BufRead, P: Programs + Drop, C: CallRunner, W: Destination>
     requires ready { C.ready }
     ensures ok { OnOk result (IfSome (R.remaining input.old) (λ bytes. (text : List ℕ) × (after : State)
         × Appends (W.contents out.old) (W.contents out.new) text
-        × AreAnswered (IsAnswer (programs_in (P.content programs))) start (requests_of bytes) text after)) }
+        × AreAnswered (IsAnswer (programs_in (P.content programs))) new_session (requests_of bytes) text after)) }
     ensures err { IfErr result (λ e. IfSome (R.remaining input.old) (λ bytes. (fault : ServeFault) × (after : State)
         × (e ≡ cut_of fault)
-        × IsCutShort (IsAnswer (programs_in (P.content programs))) fault start (requests_of bytes) after (W.contents out.old) (W.contents out.new))) }
+        × IsCutShort (IsAnswer (programs_in (P.content programs))) fault new_session (requests_of bytes) after (W.contents out.old) (W.contents out.new))) }
     ensures refused { IfErr result (λ e. (fault : ServeFault) × (e ≡ cut_of fault) × MayEnd (W.may_fail out.old) (W.may_take_nothing out.old) fault) }
 {
     let mut session = Session::new(alloc, FileLoader { alloc, programs });

@@ -1,8 +1,6 @@
 //! Why a command is refused.
 
-ghost use Rattle.std.specs.Prelude.{◌≡◌, ◌++◌};
-ghost use Rattle.std.specs.Fmt.{DisplaysOnOk};
-ghost use Rattle.std.specs.Option.{option_map};
+ghost use Rattle.std.specs.Prelude.{◌≡◌, ◌≤◌, length};
 ghost use Rattle.engines.specs.Faults.{file_name, file_number, seq_name, seq_number};
 
 use block_file::BlockFault;
@@ -36,7 +34,8 @@ impl FileFault {
 
     /// The name in the refusal's line.
     pub fn name(self) -> &'static str
-        ensures { result.now ≡ file_name self }
+        ensures text { result.now ≡ file_name self }
+        ensures short { length result.now ≤ 16 }
     {
         match self {
             FileFault::Unreadable => "Unreadable",
@@ -76,7 +75,8 @@ impl SeqFault {
 
     /// The name in the refusal's line.
     pub fn name(self) -> &'static str
-        ensures { result.now ≡ seq_name self }
+        ensures text { result.now ≡ seq_name self }
+        ensures short { length result.now ≤ 16 }
     {
         match self {
             SeqFault::Memory => "Memory",
@@ -99,7 +99,7 @@ impl fmt::Display for SeqFault {
 
 /// Why a command is refused: the area, and the refusal in it. A refusal of a block file, a schedule
 /// file or a source has a line too.
-#[derive(Clone, Copy, Debug, PartialEq, Eq, Error)]
+#[derive(Clone, Copy, Debug, PartialEq, Eq)]
 pub enum Refusal {
     /// A file.
     File(FileFault),
@@ -121,39 +121,4 @@ pub enum Refusal {
     Debug(ReplayFault),
     /// The output.
     Output(WriteFault),
-}
-
-impl fmt::Display for Refusal {
-    ghost use Rattle.std.specs.Prelude.{Some};
-    ghost use Rattle.engines.specs.Faults.{refusal_text};
-
-    ghost output = { λ refusal. Some (refusal_text refusal) };
-
-    /// The area, and what the refusal in it prints.
-    fn fmt<W: fmt::Write>(&self, f: &mut fmt::Formatter<W>) -> fmt::Result {
-        let area = self.area();
-        match self {
-            Refusal::File(fault) => write_fault(f, area, fault),
-            Refusal::Block(fault) => write_fault(f, area, fault),
-            Refusal::Elf(fault) => write_fault(f, area, fault),
-            Refusal::Asm(fault) => write_fault(f, area, fault),
-            Refusal::Seq(fault) => write_fault(f, area, fault),
-            Refusal::Schedule(fault) => write_fault(f, area, fault),
-            Refusal::Run(fault) => write_fault(f, area, fault),
-            Refusal::Drive(fault) => write_fault(f, area, fault),
-            Refusal::Debug(fault) => write_fault(f, area, fault),
-            Refusal::Output(fault) => write_fault(f, area, fault),
-        }
-    }
-}
-
-/// Writes the text of an area, then what a refusal in it prints.
-fn write_fault<F: fmt::Display, W: fmt::Write>(
-    f: &mut fmt::Formatter<W>,
-    area: &str,
-    fault: &F,
-) -> fmt::Result
-    ensures { DisplaysOnOk W.write_str_gives f.old result (option_map (λ text. area.now ++ text) (F.output fault.now)) f.new }
-{
-    write!(f, "{area}{fault}")
 }

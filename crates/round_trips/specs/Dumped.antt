@@ -1,12 +1,10 @@
 -- A session's storage, as another session begins with it.
 use Rattle.std.specs.Prelude.{◌≡◌, ◌++◌, ℕ, List, [], ◌∷◌, codes, Option, Some, None, Result}
-use Rattle.std.specs.FinMap.{empty}
 use Rattle.elf32.specs.Layout.{Layout}
 use Rattle.frames.specs.Frames.{Frame, requests_of}
 use Rattle.rv_ledger.specs.Key.{Storage}
 use Rattle.rv_ledger.specs.declared.rules.Rules.{Rules}
-use Rattle.rv_ledger.specs.declared.rules.Rules.TheVariants.{One}
-use Rattle.sessions.specs.Session.{answers_of, line_answer, state_after, turn}
+use Rattle.sessions.specs.Session.{answers_of, line_answer, new_session, state_after, turn}
 use Rattle.sessions.specs.declared.fault.ProgramFault.{ProgramFault}
 use Rattle.sessions.specs.declared.state.State.{State}
 use Rattle.round_trips.specs.Chained.{store_lines}
@@ -14,10 +12,6 @@ use Rattle.round_trips.specs.Chained.{store_lines}
 -- the answer to the line `dump`
 abbrev pub dump : Storage → List ℕ
 dump store = line_answer store (codes "dump")
-
--- a session before its first frame
-abbrev pub new_session : State
-new_session = record { store = empty; rules = One }
 
 -- a session that has this storage, and whose last frame had these rules
 abbrev pub session_with : Rules → Storage → State

@@ -1,12 +1,10 @@
 -- What the calls on a handle answer, and what they make of its session.
 use Rattle.std.specs.Prelude.{◌≡◌, ◌⊎◌, ℕ, Bool, true, false, List, [], ◌∷◌, ◌++◌, drop, length, nat_lt, Option, Some, None, Result, Ok, Err, Vec}
-use Rattle.std.specs.FinMap.{empty}
 use Rattle.std.specs.declared.alloc.Global.{Global}
 use Rattle.elf32.specs.Layout.{Layout}
 use Rattle.frames.specs.Frames.{Ask}
-use Rattle.rv_ledger.specs.declared.rules.Rules.TheVariants.{One}
 use Rattle.sessions.specs.Programs.{IsProgramFault}
-use Rattle.sessions.specs.Session.{IsRefusedAs, IsTurn, Turn, answer_text, turn}
+use Rattle.sessions.specs.Session.{IsRefusedAs, IsTurn, Turn, answer_text, new_session, turn}
 use Rattle.sessions.specs.declared.fault.FrameFault.{FrameFault}
 use Rattle.sessions.specs.declared.fault.FrameFault.TheVariants.{Program}
 use Rattle.sessions.specs.declared.fault.ProgramFault.{ProgramFault}
@@ -18,7 +16,7 @@ use Rattle.rvstm_c.specs.declared.session.EmbeddedSession.{EmbeddedSession}
 -- a session before its first call: an empty storage, the lowest rules, no program, and an empty answer
 abbrev pub IsNew : EmbeddedSession → Type 0
 IsNew session =
-    (session.state ≡ record { store = empty; rules = One }) × (session.programs.items ≡ []) × (status_of session.answer ≡ done)
+    (session.state ≡ new_session) × (session.programs.items ≡ []) × (status_of session.answer ≡ done)
     × (answer_text session.answer ≡ [])
 
 -- a handle was opened

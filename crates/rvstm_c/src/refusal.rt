@@ -1,11 +1,13 @@
 //! The parts of a refusal, as C is handed them.
 
 ghost use Rattle.std.specs.Prelude.{◌≡◌, ◌≤◌, length};
-ghost use Rattle.rvstm_c.specs.Refusals.{area_name, padded, parts_of};
+ghost use Rattle.byte_streams.specs.Refusals.{parts_in};
+ghost use Rattle.rvstm_c.specs.Refusals.{handed_out, padded, parts_of};
 
-use sessions::{FrameFault, ProgramFault};
+use byte_streams::LineParts;
+use sessions::FrameFault;
 
-/// The room for an area, in bytes: no area has more than six.
+/// The room for an area, in bytes: no area has more.
 const AREA_ROOM: usize = 8;
 
 /// The room for a name, in bytes: no name has more than 16.
@@ -39,27 +41,19 @@ pub(crate) fn parts_of(answer: &Result<Vec<u8>, FrameFault>) -> Refusal
 {
     match answer {
         Ok(_) => NO_REFUSAL,
-        Err(fault) => Refusal {
-            line: fault.line().unwrap_or(0),
-            number: u32::from(fault.number()),
-            area: padded(area_name(*fault)),
-            name: padded(fault.name()),
-        },
+        Err(fault) => handed_out(fault.parts()),
     }
 }
 
-/// The area of a refusal.
-fn area_name(fault: FrameFault) -> &'static str
-    ensures text { result.now ≡ area_name fault }
-    ensures fits { length result.now ≤ AREA_ROOM }
+/// The parts of a refusal.
+fn handed_out(parts: LineParts) -> Refusal
+    ensures { result ≡ handed_out (parts_in parts) }
 {
-    match fault {
-        FrameFault::Block(_) => "block",
-        FrameFault::Program(ProgramFault::Elf(_)) => "elf",
-        FrameFault::Program(_) => "file",
-        FrameFault::NoEnd | FrameFault::OlderRules => "frame",
-        FrameFault::RunMemory => "seq",
-        FrameFault::AnswerMemory => "output",
+    Refusal {
+        line: parts.line.unwrap_or(0),
+        number: u32::from(parts.number),
+        area: padded(parts.area),
+        name: padded(parts.name),
     }
 }
 

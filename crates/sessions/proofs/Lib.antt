@@ -1,6 +1,6 @@
 pub mod Answers
 pub mod Entries
-pub mod FaultParts
+pub mod ShortNames
 pub mod Folds
 pub mod LoadedTrue
 pub mod Loads

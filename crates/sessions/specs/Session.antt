@@ -23,6 +23,10 @@ use Rattle.sessions.specs.declared.fault.FrameFault.TheVariants.{Block, Program,
 use Rattle.sessions.specs.declared.fault.ProgramFault.{ProgramFault}
 use Rattle.sessions.specs.declared.state.State.{State}
 
+-- a session before its first frame: an empty storage, and the lowest rules
+abbrev pub new_session : State
+new_session = record { store = fin.empty; rules = rules.One }
+
 -- entries put over a storage, one after another
 abbrev pub put_each : Storage → List (List ℕ × List ℕ) → Storage
 put_each store entries = fold (λ s e. fin.insert s e.0 e.1) store entries

@@ -1,70 +1,64 @@
 //! The parts of what a refusal prints.
 
 ghost use Rattle.std.specs.Prelude.{◌≡◌, ◌≤◌, length};
-ghost use Rattle.sessions.specs.FaultParts.{area_of, line_in, name_in, number_in};
+ghost use Rattle.byte_streams.specs.Refusals.{parts_in};
+ghost use Rattle.sessions.specs.Faults.{block_line, block_parts, elf_parts, parts_of};
 
 use crate::fault::{FrameFault, ProgramFault};
-use block_file::Cause;
+use block_file::{BlockFault, Cause};
+use byte_streams::LineParts;
+use elf32::ElfError;
 
 impl FrameFault {
-    /// The area, with a blank behind it.
-    pub fn area(self) -> &'static str
-        ensures text { result.now ≡ area_of self }
-        ensures fits { length result.now ≤ 9 }
+    /// The parts of what it prints.
+    pub fn parts(self) -> LineParts
+        ensures { parts_in result ≡ parts_of self }
     {
         match self {
-            FrameFault::Block(_) => "block ",
-            FrameFault::Program(ProgramFault::Elf(_)) => "elf ",
-            FrameFault::Program(_) => "file ",
-            FrameFault::NoEnd | FrameFault::OlderRules => "frame ",
-            FrameFault::RunMemory => "seq ",
-            FrameFault::AnswerMemory => "output ",
+            FrameFault::Block(fault) => block_parts("block", fault),
+            FrameFault::Program(ProgramFault::Unreadable) => {
+                LineParts::without_line("file", "Unreadable", 1)
+            }
+            FrameFault::Program(ProgramFault::TooLong) => {
+                LineParts::without_line("file", "TooLong", 3)
+            }
+            FrameFault::Program(ProgramFault::Elf(fault)) => elf_parts(fault),
+            FrameFault::NoEnd => LineParts::without_line("frame", "NoEnd", 1),
+            FrameFault::OlderRules => LineParts::without_line("frame", "OlderRules", 2),
+            FrameFault::RunMemory => LineParts::without_line("seq", "Memory", 1),
+            FrameFault::AnswerMemory => LineParts::without_line("output", "Memory", 3),
         }
     }
+}
 
-    /// The number of the line, which only a fault of the text has. Running out of memory has none.
-    pub fn line(self) -> Option<usize>
-        ensures { result ≡ line_in self }
-    {
-        match self {
-            FrameFault::Block(fault) => match fault.cause {
-                Cause::Memory => None,
-                _ => Some(fault.line),
-            },
-            _ => None,
-        }
+/// The parts of a fault of a text, in its area. Running out of memory has no line.
+#[tactic(auto, using(crate::proofs::ShortNames::short_cause))]
+pub fn block_parts(area: &'static str, fault: BlockFault) -> LineParts
+    requires { length area.now ≤ 8 }
+    ensures { parts_in result ≡ block_parts area.now fault }
+{
+    LineParts {
+        area,
+        line: block_line(fault),
+        name: fault.cause.name(),
+        number: fault.cause.number(),
     }
+}
 
-    /// The name.
-    #[tactic(auto, using(crate::proofs::FaultParts::short_name))]
-    pub fn name(self) -> &'static str
-        ensures text { result.now ≡ name_in self }
-        ensures fits { length result.now ≤ 16 }
-    {
-        match self {
-            FrameFault::Block(fault) => fault.cause.name(),
-            FrameFault::Program(ProgramFault::Unreadable) => "Unreadable",
-            FrameFault::Program(ProgramFault::TooLong) => "TooLong",
-            FrameFault::Program(ProgramFault::Elf(fault)) => fault.name(),
-            FrameFault::NoEnd => "NoEnd",
-            FrameFault::OlderRules => "OlderRules",
-            FrameFault::RunMemory | FrameFault::AnswerMemory => "Memory",
-        }
+/// The number of the line of a fault of a text.
+fn block_line(fault: BlockFault) -> Option<usize>
+    ensures { result ≡ block_line fault.line fault.cause }
+{
+    match fault.cause {
+        Cause::Memory => None,
+        _ => Some(fault.line),
     }
+}
 
-    /// The number, 1 to 16.
-    pub fn number(self) -> u8
-        ensures { result ≡ number_in self }
-    {
-        match self {
-            FrameFault::Block(fault) => fault.cause.number(),
-            FrameFault::Program(ProgramFault::Unreadable) => 1,
-            FrameFault::Program(ProgramFault::TooLong) => 3,
-            FrameFault::Program(ProgramFault::Elf(fault)) => fault.number(),
-            FrameFault::NoEnd => 1,
-            FrameFault::OlderRules => 2,
-            FrameFault::RunMemory => 1,
-            FrameFault::AnswerMemory => 3,
-        }
-    }
+/// The parts of a fault of a program.
+#[tactic(auto, using(crate::proofs::ShortNames::short_elf))]
+pub fn elf_parts(fault: ElfError) -> LineParts
+    ensures { parts_in result ≡ elf_parts fault }
+{
+    LineParts::without_line("elf", fault.name(), fault.number())
 }

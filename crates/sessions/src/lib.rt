@@ -18,11 +18,12 @@ mod state;
 
 pub use call_runner::{CallRunner, InOrder};
 pub use fault::{FrameFault, ProgramFault};
+pub use fault_parts::{block_parts, elf_parts};
 pub use laws::{frame_answers_as_seq, session_is_a_fold};
 pub use line_texts::line_text;
 pub use loaded::{LoadedProgram, LoadedPrograms, program_at};
 pub use loader::Loader;
-pub use refusing::{LINE_ROOM, refused_line};
+pub use refusing::refused_line;
 pub use serving::{ServeFault, serve, serve_with};
 pub use session::{Session, answer_frame};
 pub use state::State;

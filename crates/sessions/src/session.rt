@@ -2,13 +2,11 @@
 
 ghost use Rattle.std.specs.Prelude.{◌≡◌, ◌<◌, [], All, Ok, IfErr, IfSome, length, map, nat_lt};
 ghost use Rattle.std.specs.Arc.{arc_value};
-ghost use Rattle.std.specs.FinMap as finite;
 ghost use Rattle.std.specs.String.{string_bytes};
 ghost use Rattle.block_file.specs.Block.{block_of, block_value, call_value};
-ghost use Rattle.rv_ledger.specs.declared.rules.Rules.TheVariants.{One};
 ghost use Rattle.sessions.specs.Faults.{IsWantOfMemory};
 ghost use Rattle.sessions.specs.Programs.{programs_of};
-ghost use Rattle.sessions.specs.Session.{IsRefusedAs, IsTurn, answer_text, block_turn, loaded_turn, ran, rules_number};
+ghost use Rattle.sessions.specs.Session.{IsRefusedAs, IsTurn, answer_text, block_turn, loaded_turn, new_session, ran, rules_number};
 
 use crate::block_run::run_block;
 use crate::call_runner::{CallRunner, InOrder};
@@ -35,7 +33,7 @@ pub struct Session<L: Loader> {
 impl<L: Loader> Session<L> {
     /// A session before its first frame, over an empty storage.
     pub fn new(alloc: Global, loader: L) -> Session<L>
-        ensures state { result.state ≡ record { store = finite.empty; rules = One } }
+        ensures state { result.state ≡ new_session }
         ensures loader { result.programs.loader ≡ loader }
     {
         Session {

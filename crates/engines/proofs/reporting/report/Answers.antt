@@ -6,7 +6,7 @@ use Rattle.debugger.specs.Session.{AppendsBeginning}
 use Rattle.byte_streams.specs.Written.{AppendsPart, MayRefuse}
 use Rattle.byte_streams.specs.declared.fault.WriteFault.{WriteFault}
 use Rattle.byte_streams.specs.declared.fault.WriteFault.TheVariants.{Io, WroteNothing, Memory}
-use Rattle.engines.specs.Faults.{refusal_line, refusal_text}
+use Rattle.engines.specs.Faults.{refusal_line}
 use Rattle.engines.proofs.reporting.report.Goals as goal
 
 -- all of a text is a beginning of it, and so is a part
@@ -16,7 +16,7 @@ beginning (Err e) old new text all part = (take part.0 text, drop part.0 text, s
 
 pub returns-clause-line : goal.returns-clause-line
 returns-clause-line g c =
-    beginning c.write_refusal.result (g.W.Write.contents c.args.out.now) (g.W.Write.contents c.write_refusal.new.out) (refusal_line (refusal_text c.args.refusal.now)) c.write_refusal.ensures.written c.write_refusal.ensures.cut
+    beginning c.write_refusal.result (g.W.Write.contents c.args.out.now) (g.W.Write.contents c.write_refusal.new.out) (refusal_line c.args.refusal.now) c.write_refusal.ensures.written c.write_refusal.ensures.cut
 
 -- where no write may be refused, all of it is written
 whole : {X : Type 0} (r : Result X WriteFault) (may_fail may_take_nothing : Type 0) (old new : Option (List ℕ)) (text : List ℕ) → OnOk r (Appends old new text) → IfErr r (MayRefuse may_fail may_take_nothing) → IfErr r (λ e. e ≢ Memory) → ¬ may_fail → ¬ may_take_nothing → Appends old new text
@@ -27,4 +27,4 @@ whole (Err Memory) may_fail may_take_nothing old new text all told room fails no
 
 pub returns-clause-whole : goal.returns-clause-whole
 returns-clause-whole g c fails nothing =
-    whole c.write_refusal.result (g.W.Destination.may_fail c.args.out.now) (g.W.Destination.may_take_nothing c.args.out.now) (g.W.Write.contents c.args.out.now) (g.W.Write.contents c.write_refusal.new.out) (refusal_line (refusal_text c.args.refusal.now)) c.write_refusal.ensures.written c.write_refusal.ensures.cause c.write_refusal.ensures.room fails nothing
+    whole c.write_refusal.result (g.W.Destination.may_fail c.args.out.now) (g.W.Destination.may_take_nothing c.args.out.now) (g.W.Write.contents c.args.out.now) (g.W.Write.contents c.write_refusal.new.out) (refusal_line c.args.refusal.now) c.write_refusal.ensures.written c.write_refusal.ensures.cause c.write_refusal.ensures.room fails nothing
