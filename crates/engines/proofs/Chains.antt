@@ -12,7 +12,7 @@ use Rattle.sessions.specs.declared.serving.ServeFault.{ServeFault}
 use Rattle.sessions.specs.declared.state.State.{State}
 use Rattle.engines.specs.Chaining.{cut_of, fault_of, program_of_file}
 use Rattle.engines.specs.Engine.{layout_of_file}
-use Rattle.engines.specs.StageFaults as stage
+use Rattle.engines.specs.Engine as engine
 use Rattle.engines.specs.declared.fault.FileFault.TheVariants.{TooLong, Unreadable, Unwritable}
 use Rattle.engines.specs.declared.fault.Refusal.{Refusal}
 use Rattle.engines.specs.declared.fault.Refusal.TheVariants.{File, Block, Elf, Asm, Seq, Schedule, Run, Drive, Debug, Output}
@@ -33,7 +33,7 @@ met None e h = inr tt
 met (Some bytes) e h = inr (refused bytes e h)
 
 -- and one that was refused
-pub session_fault : (content : Option (List ℕ)) (e : Refusal) → stage.IsProgramFault (content ≡ None) (option_map layout_of_file content) e → IsProgramFault (option_map program_of_file content) (fault_of e)
+pub session_fault : (content : Option (List ℕ)) (e : Refusal) → engine.IsProgramFault (content ≡ None) (option_map layout_of_file content) e → IsProgramFault (option_map program_of_file content) (fault_of e)
 session_fault content (Elf fault) (inl memory) = inl (ap (λ f. fault_of (Elf f)) memory)
 session_fault content (Elf fault) (inr w) = met content (Elf fault) w
 session_fault content (File TooLong) w = met content (File TooLong) w

@@ -7,8 +7,7 @@ use Rattle.elf32.specs.Layout.{Layout}
 use Rattle.engines.specs.declared.fault.Refusal.{Refusal}
 use Rattle.engines.specs.declared.fault.Refusal.TheVariants.{File, Block, Elf, Asm, Seq, Schedule, Run, Drive, Debug, Output}
 use Rattle.engines.specs.declared.fault.FileFault.TheVariants.{Unreadable, Unwritable, TooLong}
-use Rattle.engines.specs.Engine.{layout_of_file, with_program, programs_of}
-use Rattle.engines.specs.StageFaults.{IsProgramFault}
+use Rattle.engines.specs.Engine.{layout_of_file, with_program, programs_of, IsProgramFault}
 
 -- the programs of the first files, before those of the rest
 abbrev pub with_programs : List Layout → Result (List Layout) Refusal → Result (List Layout) Refusal

@@ -1,6 +1,6 @@
 -- What a refusal of a session over a call says of the job, and what it leaves of the output.
-use Rattle.std.proofs.Common.{◌≡◌, ℕ, List, refl, inr}
-use Rattle.std.specs.Prelude.{Option, Some, None, Result, Ok, Err, IfErr, IfSome, IsOk, IsOkAnd, IsSome, OnErr, slice_get}
+use Rattle.std.proofs.Common.{◌≡◌, ℕ, List, refl}
+use Rattle.std.specs.Prelude.{Option, Some, None, Result, Ok, Err, IfSome, OnErr, slice_get}
 use Rattle.std.specs.Option.{option_map}
 use Rattle.block_file.specs.Block.{block_of}
 use Rattle.byte_streams.specs.Written.{MayRefuse}
@@ -9,14 +9,11 @@ use Rattle.byte_streams.specs.declared.fault.WriteFault.TheVariants as output
 use Rattle.debugger.specs.Replay.{ReplayState}
 use Rattle.debugger.specs.Session.{IsPossibleFault}
 use Rattle.debugger.specs.declared.fault.DebugFault.TheVariants as session
-use Rattle.debugger.specs.declared.fault.ReplayFault.TheVariants as debug
 use Rattle.rv_ledger.specs.declared.job.Job.{Job}
 use Rattle.engines.specs.declared.fault.Refusal.{Refusal}
-use Rattle.engines.specs.declared.fault.Refusal.TheVariants.{File, Block, Elf, Asm, Seq, Schedule, Run, Drive, Debug, Output}
-use Rattle.engines.specs.declared.fault.FileFault.TheVariants.{Unreadable, Unwritable, TooLong}
-use Rattle.engines.specs.Debugging.{first_moment, IsFaultOfDebug, StaysWithoutSession}
+use Rattle.engines.specs.declared.fault.Refusal.TheVariants.{Output}
+use Rattle.engines.specs.Debugging.{first_moment, IsSessionFault, StaysWithoutSession}
 use Rattle.engines.specs.Engine.{loaded_job}
-use Rattle.engines.specs.StageFaults.{IsSessionFault}
 
 job_stays : (wanted : Option (Result Job Refusal)) (call : ℕ) (out : Option (List ℕ)) → IfSome wanted (λ job. StaysWithoutSession job call out out)
 job_stays None call out = tt
@@ -35,21 +32,9 @@ of_output lines_may_fail may_fail may_take_nothing output.WroteNothing h = h
 of_output lines_may_fail may_fail may_take_nothing output.Memory h = h
 
 module _ (job : Job) (call : ℕ) (replay : ReplayState) (first : first_moment job call ≡ Some replay) where
-  some_call : {X : Type 0} (o : Option X) (f : X → ReplayState) → option_map f o ≡ Some replay → IsSome o
-  some_call None f h = cc
-  some_call (Some x) f h = refl
-
   no_call : {X : Type 0} (o : Option X) (f : X → ReplayState) → option_map f o ≡ Some replay → o ≡ None → ⊥
   no_call None f h is = cc
   no_call (Some x) f h is = cc
-
-  has_call : (wanted : Option (Result Job Refusal)) → IfSome wanted (λ w. w ≡ Ok job) → IfSome wanted (λ w. IsOkAnd w (λ job. IsSome (slice_get job.block call)))
-  has_call None made = tt
-  has_call (Some w) made = rw made (some_call (slice_get job.block call) _ first)
-
-  was_made : (wanted : Option (Result Job Refusal)) → IfSome wanted (λ w. w ≡ Ok job) → IfSome wanted (λ w. IsOk w)
-  was_made None made = tt
-  was_made (Some w) made = rw made refl
 
   no_refusal : (wanted : Option (Result Job Refusal)) (old new : Option (List ℕ)) → IfSome wanted (λ w. w ≡ Ok job) → IfSome wanted (λ w. StaysWithoutSession w call old new)
   no_refusal None old new made = tt
@@ -61,27 +46,3 @@ module _ (job : Job) (call : ℕ) (replay : ReplayState) (first : first_moment j
   has_session (Ok x) input content old new made = tt
   has_session (Err e) None content old new made = tt
   has_session (Err e) (Some bytes) content old new made = no_refusal (loaded_job content (block_of bytes)) old new made
-
-  -- a refusal of the session is one of the whole
-  pub in_session : {X : Type 0} (may_fail lines_may_fail : Type 0) (may_refuse : WriteFault → Type 0) (input : Option (List ℕ)) (content : List ℕ → Option (List ℕ)) (old new : Option (List ℕ)) (r : Result X Refusal) → IfSome input (λ bytes. IfSome (loaded_job content (block_of bytes)) (λ w. w ≡ Ok job))
-      → IfErr r (IsSessionFault lines_may_fail may_refuse) → IfErr r (λ e. IfSome input (λ bytes. IsFaultOfDebug may_fail lines_may_fail may_refuse content (block_of bytes) call old new e))
-  in_session may_fail lines_may_fail may_refuse input content old new (Ok x) made h = tt
-  in_session may_fail lines_may_fail may_refuse None content old new (Err e) made h = tt
-  in_session may_fail lines_may_fail may_refuse (Some bytes) content old new (Err (File Unreadable)) made h = inr (h, has_call (loaded_job content (block_of bytes)) made)
-  in_session may_fail lines_may_fail may_refuse (Some bytes) content old new (Err (Output output.Io)) made h = (h, has_call (loaded_job content (block_of bytes)) made)
-  in_session may_fail lines_may_fail may_refuse (Some bytes) content old new (Err (Output output.WroteNothing)) made h = (h, has_call (loaded_job content (block_of bytes)) made)
-  in_session may_fail lines_may_fail may_refuse (Some bytes) content old new (Err (Output output.Memory)) made h = absurd h
-  in_session may_fail lines_may_fail may_refuse (Some bytes) content old new (Err (Debug debug.Memory)) made h = was_made (loaded_job content (block_of bytes)) made
-  in_session may_fail lines_may_fail may_refuse (Some bytes) content old new (Err (Debug debug.NoSuchCall)) made h = absurd h
-  in_session may_fail lines_may_fail may_refuse (Some bytes) content old new (Err (Debug debug.AtEnd)) made h = absurd h
-  in_session may_fail lines_may_fail may_refuse (Some bytes) content old new (Err (Debug debug.AtStart)) made h = absurd h
-  in_session may_fail lines_may_fail may_refuse (Some bytes) content old new (Err (Debug debug.BadRange)) made h = absurd h
-  in_session may_fail lines_may_fail may_refuse (Some bytes) content old new (Err (File Unwritable)) made h = absurd h
-  in_session may_fail lines_may_fail may_refuse (Some bytes) content old new (Err (File TooLong)) made h = absurd h
-  in_session may_fail lines_may_fail may_refuse (Some bytes) content old new (Err (Block fault)) made h = absurd h
-  in_session may_fail lines_may_fail may_refuse (Some bytes) content old new (Err (Elf fault)) made h = absurd h
-  in_session may_fail lines_may_fail may_refuse (Some bytes) content old new (Err (Asm fault)) made h = absurd h
-  in_session may_fail lines_may_fail may_refuse (Some bytes) content old new (Err (Seq fault)) made h = absurd h
-  in_session may_fail lines_may_fail may_refuse (Some bytes) content old new (Err (Schedule fault)) made h = absurd h
-  in_session may_fail lines_may_fail may_refuse (Some bytes) content old new (Err (Run fault)) made h = absurd h
-  in_session may_fail lines_may_fail may_refuse (Some bytes) content old new (Err (Drive fault)) made h = absurd h

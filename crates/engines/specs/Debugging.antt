@@ -1,8 +1,6 @@
 -- What the engine of `rvstm debug` writes, and what it refuses.
-use Rattle.std.specs.Prelude.{ℕ, List, ◌≡◌, ◌⊎◌, ⊤, Option, Some, None, IfSome, Result, Ok, Err, IsOk, IsOkAnd, IsSome, slice_get}
+use Rattle.std.specs.Prelude.{ℕ, List, ◌≡◌, ⊤, Option, Some, None, Result, Ok, Err, slice_get}
 use Rattle.std.specs.Option.{option_map}
-use Rattle.block_file.specs.Block.{BlockValue}
-use Rattle.block_file.specs.declared.fault.BlockFault.{BlockFault}
 use Rattle.byte_streams.specs.declared.fault.WriteFault.{WriteFault}
 use Rattle.byte_streams.specs.declared.fault.WriteFault.TheVariants as output
 use Rattle.debugger.specs.Replay.{ReplayState}
@@ -10,9 +8,9 @@ use Rattle.debugger.specs.Session.{lines_of, session}
 use Rattle.debugger.specs.declared.fault.ReplayFault.TheVariants as debug
 use Rattle.rv_ledger.specs.declared.job.Job.{Job}
 use Rattle.rv_step.specs.Fold.{store_before}
-use Rattle.engines.specs.Engine.{loaded_job, IsFaultOf, MayBeUnreadable}
+use Rattle.engines.specs.Engine.{IsRefused}
 use Rattle.engines.specs.declared.fault.Refusal.{Refusal}
-use Rattle.engines.specs.declared.fault.Refusal.TheVariants.{File, Debug, Output}
+use Rattle.engines.specs.declared.fault.Refusal.TheVariants.{File, Seq, Debug, Output}
 use Rattle.engines.specs.declared.fault.FileFault.TheVariants.{Unreadable}
 
 -- the first moment of the call at an index, over the storage that the calls before it left; None without such a call
@@ -29,22 +27,24 @@ abbrev pub replayed_text : Result Job Refusal → ℕ → List ℕ → Result (L
 replayed_text (Err fault) index typed = Err fault
 replayed_text (Ok job) index typed = session_text (first_moment job index) typed
 
--- nothing in the files has a fault, and their job has a call at an index, where the files are known
-abbrev pub HasCall : (List ℕ → Option (List ℕ)) → Result BlockValue BlockFault → ℕ → Type 0
-HasCall content block index = IfSome (loaded_job content block) (λ wanted. IsOkAnd wanted (λ job. IsSome (slice_get job.block index)))
+-- a refusal before a session over the call at an index: Memory, or NoSuchCall where there is no such call
+abbrev pub IsReplayFault : Job → ℕ → Refusal → Type 0
+IsReplayFault job index (Seq fault) = ⊤
+IsReplayFault job index (Debug debug.Memory) = ⊤
+IsReplayFault job index (Debug debug.NoSuchCall) = slice_get job.block index ≡ None
+IsReplayFault job index _ = ⊥
 
--- a refusal: NoSuchCall only where the job of the files has no such call; a fault of the files is as in a run in order;
--- Memory of the session comes only where nothing that was read has a fault, and a refusal of its writes or reads only
--- where the call is there; all these at any line. A refusal of its writes comes only where a write may be refused so, and
--- Memory of the output does not come
-abbrev pub IsFaultOfDebug : Type 0 → Type 0 → (WriteFault → Type 0) → (List ℕ → Option (List ℕ)) → Result BlockValue BlockFault → ℕ → Option (List ℕ) → Option (List ℕ) → Refusal → Type 0
-IsFaultOfDebug may_fail lines_may_fail may_refuse content block index old new (Debug debug.NoSuchCall) = IfSome (loaded_job content block) (λ wanted. IsOkAnd wanted (λ job. slice_get job.block index ≡ None))
-IsFaultOfDebug may_fail lines_may_fail may_refuse content block index old new (Debug debug.Memory) = IfSome (loaded_job content block) (λ wanted. IsOk wanted)
-IsFaultOfDebug may_fail lines_may_fail may_refuse content block index old new (Debug fault) = ⊥
-IsFaultOfDebug may_fail lines_may_fail may_refuse content block index old new (Output output.Memory) = ⊥
-IsFaultOfDebug may_fail lines_may_fail may_refuse content block index old new (Output fault) = may_refuse fault × HasCall content block index
-IsFaultOfDebug may_fail lines_may_fail may_refuse content block index old new (File Unreadable) = MayBeUnreadable may_fail content block ⊎ (lines_may_fail × HasCall content block index)
-IsFaultOfDebug may_fail lines_may_fail may_refuse content block index old new fault = IsFaultOf may_fail may_refuse content block old new fault
+-- a refusal of a session: a failed read where a read may fail, a write that may be refused so, or Memory
+abbrev pub IsSessionFault : Type 0 → (WriteFault → Type 0) → Refusal → Type 0
+IsSessionFault may_fail may_refuse (File Unreadable) = may_fail
+IsSessionFault may_fail may_refuse (Output output.Memory) = ⊥
+IsSessionFault may_fail may_refuse (Output fault) = may_refuse fault
+IsSessionFault may_fail may_refuse (Debug debug.Memory) = ⊤
+IsSessionFault may_fail may_refuse _ = ⊥
+
+-- a refusal of a replay of the call at an index: one before the session, or, where there is such a call, one of the session
+abbrev pub IsReplayedFault : Type 0 → (WriteFault → Type 0) → ℕ → Job → Refusal → Type 0
+IsReplayedFault may_fail may_refuse index job = IsRefused (IsReplayFault job index) (λ first. first_moment job index ≡ Some first) (λ first. IsSessionFault may_fail may_refuse)
 
 -- where no session is wanted, the output stays as it was
 abbrev pub StaysWithoutSession : Result Job Refusal → ℕ → Option (List ℕ) → Option (List ℕ) → Type 0

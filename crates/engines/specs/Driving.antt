@@ -1,11 +1,11 @@
 -- What the engine of `rvstm drive` writes, and what it refuses.
-use Rattle.std.specs.Prelude.{ℕ, List, ◌≡◌, ◌⊎◌, ◌≤◌, map, Option, Some, IfSome, Result, Ok, Err, IfErr, IsOk, IsOkAnd, option_and_then}
+use Rattle.std.specs.Prelude.{ℕ, List, ◌≡◌, ◌⊎◌, map, Option, Some, IfSome, Result, Ok, Err, IsOkAnd, option_and_then}
 use Rattle.std.specs.Option.{option_map}
 use Rattle.std.specs.Result.{result_map_both}
 use Rattle.elf32.specs.Layout.{Layout}
-use Rattle.elf32.specs.declared.error.ElfError.TheVariants as elf
 use Rattle.rv_ledger.specs.Call.{Invocation}
 use Rattle.rv_ledger.specs.Key.{Storage}
+use Rattle.rv_ledger.specs.declared.job.Job.{Job}
 use Rattle.rv_step.specs.Fold.{receipts_of, store_after}
 use Rattle.stm_state.specs.Drive as list
 use Rattle.stm_state.specs.Steps.{ArenaFull, IncarnationLimit}
@@ -16,11 +16,10 @@ use Rattle.byte_streams.specs.Written.{AppendsPart}
 use Rattle.byte_streams.specs.declared.fault.WriteFault.{WriteFault}
 use Rattle.block_file.specs.Block.{BlockValue}
 use Rattle.block_file.specs.declared.fault.BlockFault.{BlockFault}
-use Rattle.block_file.specs.declared.fault.Cause.TheVariants as cause
-use Rattle.engines.specs.Engine.{call_over, loaded_job, programs_of, IsTextFault, MayBeUnreadable}
+use Rattle.engines.specs.Engine.{call_over, programs_of, IsRefused, IsTextFault}
 use Rattle.engines.specs.declared.fault.Refusal.{Refusal}
-use Rattle.engines.specs.declared.fault.Refusal.TheVariants.{File, Block, Elf, Schedule, Drive, Output}
-use Rattle.engines.specs.declared.fault.FileFault.TheVariants.{Unreadable, TooLong}
+use Rattle.engines.specs.declared.fault.Refusal.TheVariants.{File, Block, Schedule, Drive, Output}
+use Rattle.engines.specs.declared.fault.FileFault.TheVariants.{Unreadable}
 
 -- the refusal of a list of worker numbers
 abbrev pub drive_fault : list.Refusal → DriveFault
@@ -52,21 +51,21 @@ abbrev pub driven_answer : (List ℕ → Option (List ℕ)) → Result BlockValu
 driven_answer content (Err fault) workers schedule = Some (Err (Block fault))
 driven_answer content (Ok block) workers schedule = option_and_then (text_over block workers schedule) (programs_of content block.programs)
 
--- a refusal met in the schedule file: Memory on a line with no fault before it
-abbrev pub IsScheduleMemory : Option (Result (List ℕ) BlockFault) → BlockFault → Type 0
-IsScheduleMemory schedule fault = (fault.cause ≡ cause.Memory) × IfSome schedule (λ s. IfErr s (λ first. fault.line ≤ first.line))
+-- a refusal met in the schedule file: the wanted one, Memory with no fault before it, or Unreadable where a read may fail
+abbrev pub IsScheduleFault : Type 0 → Option (Result (List ℕ) BlockFault) → Refusal → Type 0
+IsScheduleFault may_fail wanted (Schedule fault) = IfSome wanted (λ w. IsTextFault w fault)
+IsScheduleFault may_fail wanted (File Unreadable) = may_fail
+IsScheduleFault may_fail wanted _ = ⊥
 
--- a refusal: a fault of what was read or of the run along the schedule is the first one. Memory for a program comes
--- only where the block file has no fault, and Memory for the schedule or of the run only where the programs have none
--- either. Unreadable comes only where a file of the job may be unreadable, or where the job's files have no fault and a
--- read of the schedule may fail. Where the output was refused, a beginning of the wanted text was written, and a write may
--- be refused so
-abbrev pub IsFaultOfDrive : Type 0 → Type 0 → (WriteFault → Type 0) → (List ℕ → Option (List ℕ)) → Result BlockValue BlockFault → ℕ → Option (Result (List ℕ) BlockFault) → Option (List ℕ) → Option (List ℕ) → Refusal → Type 0
-IsFaultOfDrive may_fail schedule_may_fail may_refuse content block workers schedule old new (Block fault) = IsTextFault block fault
-IsFaultOfDrive may_fail schedule_may_fail may_refuse content block workers schedule old new (Elf fault) = ((fault ≡ elf.Memory) × IsOk block) ⊎ IfSome (driven_answer content block workers schedule) (λ a. a ≡ Err (Elf fault))
-IsFaultOfDrive may_fail schedule_may_fail may_refuse content block workers schedule old new (File TooLong) = IfSome (driven_answer content block workers schedule) (λ a. a ≡ Err (File TooLong))
-IsFaultOfDrive may_fail schedule_may_fail may_refuse content block workers schedule old new (File Unreadable) = MayBeUnreadable may_fail content block ⊎ (schedule_may_fail × IfSome (loaded_job content block) (λ wanted. IsOk wanted))
-IsFaultOfDrive may_fail schedule_may_fail may_refuse content block workers schedule old new (Schedule fault) = (IsScheduleMemory schedule fault × IfSome (loaded_job content block) (λ wanted. IsOk wanted)) ⊎ IfSome (driven_answer content block workers schedule) (λ a. a ≡ Err (Schedule fault))
-IsFaultOfDrive may_fail schedule_may_fail may_refuse content block workers schedule old new (Drive fault) = ((fault ≡ drive.Memory) × IfSome (loaded_job content block) (λ wanted. IsOk wanted)) ⊎ IfSome (driven_answer content block workers schedule) (λ a. a ≡ Err (Drive fault))
-IsFaultOfDrive may_fail schedule_may_fail may_refuse content block workers schedule old new (Output fault) = may_refuse fault × IfSome (driven_answer content block workers schedule) (λ a. IsOkAnd a (AppendsPart old new))
-IsFaultOfDrive may_fail schedule_may_fail may_refuse content block workers schedule old new _ = ⊥
+-- a refusal of a run along a list: the wanted one, Memory, or one of the output
+abbrev pub IsDriveFault : (WriteFault → Type 0) → Result (List ℕ) Refusal → Option (List ℕ) → Option (List ℕ) → Refusal → Type 0
+IsDriveFault may_refuse wanted old new (Drive fault) = (fault ≡ drive.Memory) ⊎ (wanted ≡ Err (Drive fault))
+IsDriveFault may_refuse wanted old new (Output fault) = may_refuse fault × IsOkAnd wanted (AppendsPart old new)
+IsDriveFault may_refuse wanted old new _ = ⊥
+
+-- a refusal of a run along a schedule file: one met in this file, or one of the run along its list, which is any list
+-- where the file is unknown
+abbrev pub IsScheduledFault : Type 0 → (WriteFault → Type 0) → ℕ → Option (Result (List ℕ) BlockFault) → Option (List ℕ) → Option (List ℕ) → Job → Refusal → Type 0
+IsScheduledFault may_fail may_refuse workers schedule old new job =
+    IsRefused (IsScheduleFault may_fail schedule) (λ entries. IfSome schedule (λ wanted. wanted ≡ Ok entries))
+    (λ entries. IsDriveFault may_refuse (text_along job.block job.store workers entries) old new)

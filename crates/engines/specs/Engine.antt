@@ -1,5 +1,5 @@
 -- What the engine of `rvstm seq` writes, and what it refuses.
-use Rattle.std.specs.Prelude.{ℕ, List, [], ◌∷◌, ◌≡◌, ◌⊎◌, ◌≤◌, ⊤, map, length, nat_lt, slice_index_or, Option, Some, None, IfSome, Result, Ok, Err, IfErr, IsOk, IsOkAnd, if◌then◌else◌}
+use Rattle.std.specs.Prelude.{ℕ, List, [], ◌∷◌, ◌≡◌, ◌⊎◌, ◌≤◌, ⊤, map, length, nat_lt, slice_index_or, Option, Some, None, IfSome, Result, Ok, Err, IfErr, IsOk, if◌then◌else◌}
 use Rattle.std.specs.Option.{option_map}
 use Rattle.std.specs.Result.{result_map_both}
 use Rattle.elf32.specs.Layout.{Layout}
@@ -19,6 +19,7 @@ use Rattle.block_file.specs.declared.fault.Cause.TheVariants as cause
 use Rattle.engines.specs.declared.fault.Refusal.{Refusal}
 use Rattle.engines.specs.declared.fault.Refusal.TheVariants.{File, Block, Elf, Seq, Output}
 use Rattle.engines.specs.declared.fault.FileFault.TheVariants.{TooLong, Unreadable}
+use Rattle.engines.specs.declared.fault.SeqFault.TheVariants.{Memory}
 
 -- the program of a file of at most 131,072 bytes, or its fault
 abbrev pub layout_of_file : List ℕ → Result Layout Refusal
@@ -55,15 +56,14 @@ abbrev pub loaded_job : (List ℕ → Option (List ℕ)) → Result BlockValue B
 loaded_job content (Err fault) = Some (Err (Block fault))
 loaded_job content (Ok block) = option_map (result_map_both (job_over block) (λ fault. fault)) (programs_of content block.programs)
 
--- the text of the result of a block: its calls are run in order, each over the storage that the ones before it left
-abbrev pub result_of : BlockValue → List Layout → List ℕ
-result_of block images = result_text (receipts_of (map (call_over block.rules images) block.calls) block.store) (store_after (map (call_over block.rules images) block.calls) block.store)
+-- the text of the result of a job: its calls are run in order, each over the storage that the ones before it left
+abbrev pub text_of : Job → List ℕ
+text_of job = result_text (receipts_of job.block job.store) (store_after job.block job.store)
 
 -- what is to be written for a block file, or the first fault in it or in the files of its programs; None where the
 -- bytes that decide this are unknown
 abbrev pub answer_of : (List ℕ → Option (List ℕ)) → Result BlockValue BlockFault → Option (Result (List ℕ) Refusal)
-answer_of content (Err fault) = Some (Err (Block fault))
-answer_of content (Ok block) = option_map (result_map_both (result_of block) (λ fault. fault)) (programs_of content block.programs)
+answer_of content block = option_map (result_map_both text_of (λ fault. fault)) (loaded_job content block)
 
 -- a fault of a text is its first one, or Memory on a line with no fault before it
 abbrev pub IsTextFault : {X : Type 0} → Result X BlockFault → BlockFault → Type 0
@@ -79,18 +79,43 @@ IsBlockFault may_fail text _ = ⊥
 abbrev pub MayBeUnreadable : Type 0 → (List ℕ → Option (List ℕ)) → Result BlockValue BlockFault → Type 0
 MayBeUnreadable may_fail content block = may_fail ⊎ (loaded_job content block ≡ None)
 
--- a refusal: a fault of the block file or of its programs is the first one. Memory for a program comes only where the
--- block file has no fault, and Memory of the run only where its programs have none either. Unreadable comes only where a
--- file of the job may be unreadable. Where the output was refused, a beginning of the wanted text was written, and a write
--- may be refused so
-abbrev pub IsFaultOf : Type 0 → (WriteFault → Type 0) → (List ℕ → Option (List ℕ)) → Result BlockValue BlockFault → Option (List ℕ) → Option (List ℕ) → Refusal → Type 0
-IsFaultOf may_fail may_refuse content block old new (Block fault) = IsTextFault block fault
-IsFaultOf may_fail may_refuse content block old new (Elf fault) = ((fault ≡ elf.Memory) × IsOk block) ⊎ IfSome (answer_of content block) (λ answer. answer ≡ Err (Elf fault))
-IsFaultOf may_fail may_refuse content block old new (File TooLong) = IfSome (answer_of content block) (λ answer. answer ≡ Err (File TooLong))
-IsFaultOf may_fail may_refuse content block old new (Output fault) = may_refuse fault × IfSome (answer_of content block) (λ answer. IsOkAnd answer (AppendsPart old new))
-IsFaultOf may_fail may_refuse content block old new (File Unreadable) = MayBeUnreadable may_fail content block
-IsFaultOf may_fail may_refuse content block old new (Seq fault) = IfSome (answer_of content block) (λ answer. IsOk answer)
-IsFaultOf may_fail may_refuse content block old new _ = ⊥
+-- a refusal met in the files of programs: the wanted one, Memory, or Unreadable where one may be unreadable
+abbrev pub IsProgramFault : {X : Type 0} → Type 0 → Option (Result X Refusal) → Refusal → Type 0
+IsProgramFault may_fail wanted (Elf fault) = (fault ≡ elf.Memory) ⊎ IfSome wanted (λ w. w ≡ Err (Elf fault))
+IsProgramFault may_fail wanted (File TooLong) = IfSome wanted (λ w. w ≡ Err (File TooLong))
+IsProgramFault may_fail wanted (File Unreadable) = may_fail
+IsProgramFault may_fail wanted _ = ⊥
+
+-- a refusal met before a job is made: a fault of the block file or of its programs is the first one. Memory for a program
+-- comes only where the block file has no fault, and Unreadable only where a file of the job may be unreadable
+abbrev pub IsJobFault : Type 0 → (List ℕ → Option (List ℕ)) → Result BlockValue BlockFault → Refusal → Type 0
+IsJobFault may_fail content block (Block fault) = IsTextFault block fault
+IsJobFault may_fail content block (Elf fault) = ((fault ≡ elf.Memory) × IsOk block) ⊎ IfSome (loaded_job content block) (λ wanted. wanted ≡ Err (Elf fault))
+IsJobFault may_fail content block (File TooLong) = IfSome (loaded_job content block) (λ wanted. wanted ≡ Err (File TooLong))
+IsJobFault may_fail content block (File Unreadable) = MayBeUnreadable may_fail content block
+IsJobFault may_fail content block _ = ⊥
+
+-- the same, or want of memory for the job, which comes only where nothing that was read has a fault
+abbrev pub IsLoadFault : Type 0 → (List ℕ → Option (List ℕ)) → Result BlockValue BlockFault → Refusal → Refusal → Type 0
+IsLoadFault may_fail content block memory e = ((e ≡ memory) × IfSome (loaded_job content block) (λ wanted. IsOk wanted)) ⊎ IsJobFault may_fail content block e
+
+-- a refusal of what gets something and then uses it: one of the getting, or one of the use of what can have been got
+abbrev pub IsRefused : {X : Type 0} → (Refusal → Type 0) → (X → Type 0) → (X → Refusal → Type 0) → Refusal → Type 0
+IsRefused {X} got is used e = got e ⊎ ((x : X) × is x × used x e)
+
+-- a refusal of a command over a job: one met before the job is made, `memory` too, or one of the stage over the job of
+-- the files, which is any job where the files are unknown
+abbrev pub IsRefusedJob : Refusal → (Job → Refusal → Type 0) → Type 0 → (List ℕ → Option (List ℕ)) → Result BlockValue BlockFault → Refusal → Type 0
+IsRefusedJob memory stage may_fail content block = IsRefused (IsLoadFault may_fail content block memory) (λ job. IfSome (loaded_job content block) (λ wanted. wanted ≡ Ok job)) stage
+
+-- a refusal of the output: a beginning of the text was written, and a write may be refused so
+abbrev pub IsOutputFault : (WriteFault → Type 0) → List ℕ → Option (List ℕ) → Option (List ℕ) → Refusal → Type 0
+IsOutputFault may_refuse text old new (Output fault) = may_refuse fault × AppendsPart old new text
+IsOutputFault may_refuse text old new _ = ⊥
+
+-- a refusal of a run in order: Memory, or one of the output
+abbrev pub IsRunFault : (WriteFault → Type 0) → Option (List ℕ) → Option (List ℕ) → Job → Refusal → Type 0
+IsRunFault may_refuse old new job e = (e ≡ Seq Memory) ⊎ IsOutputFault may_refuse (text_of job) old new e
 
 -- a refused command wrote nothing, unless a write failed
 abbrev pub IsUnwritten : Option (List ℕ) → Option (List ℕ) → Refusal → Type 0

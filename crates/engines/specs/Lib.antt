@@ -1,7 +1,6 @@
 pub mod Chaining
 pub mod Engine
 pub mod Listing
-pub mod StageFaults
 pub mod Driving
 pub mod Faults
 pub mod Finding

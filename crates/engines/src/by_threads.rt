@@ -13,13 +13,13 @@ use sessions::CallRunner;
 use std::alloc::{AllocError, Global};
 use std::sync::Wait;
 use std::thread::Threads;
-use workers::{Executor, Gate, Open, RunFault};
+use workers::{Executor, Gate, Open};
 
 /// How many calls of a frame run in order, to show what a call takes.
 const FIRST_CALLS: usize = 8;
 
 /// Runs the first calls of a frame in order, and the others by threads where that pays by what the first ones took. Where
-/// a run by threads is refused for anything but memory, these calls run in order too.
+/// a run by threads is refused, as where it wants more memory than there is, these calls run in order too.
 #[derive(Drop)]
 pub struct ByThreads<'a, R: Threads + Wait + Sync, G: Gate + Sync = Open> {
     /// What starts the threads.
@@ -82,7 +82,7 @@ impl<R: Threads + Wait + Sync, G: Gate + Sync> ByThreads<'_, R, G> {
         if !pays(self.workers, shown, calls.len()) {
             return run_over(alloc, base, over, calls);
         }
-        let Some(block) = block_of(alloc, calls)? else {
+        let Ok(Some(block)) = block_of(alloc, calls) else {
             return run_over(alloc, base, over, calls);
         };
         match self.executor.run_over_changes_with(
@@ -95,7 +95,6 @@ impl<R: Threads + Wait + Sync, G: Gate + Sync> ByThreads<'_, R, G> {
             &self.gate,
         ) {
             Ok(receipts) => Ok(receipts),
-            Err(RunFault::Memory) => Err(AllocError),
             Err(_) => run_over(alloc, base, over, calls),
         }
     }

@@ -5,9 +5,8 @@ ghost use Rattle.std.specs.Io.KnownBytes.{Appends};
 ghost use Rattle.block_file.specs.Block.{block_of};
 ghost use Rattle.debugger.specs.Session.{AppendsBeginning, MayBeCutOff, lines_of, session};
 ghost use Rattle.byte_streams.specs.Written.{MayRefuse};
-ghost use Rattle.engines.specs.Debugging.{first_moment, replayed_text, IsFaultOfDebug, IsUnwrittenBefore, StaysWithoutSession};
-ghost use Rattle.engines.specs.Engine.{loaded_job};
-ghost use Rattle.engines.specs.StageFaults.{IsReplayFault, IsSessionFault};
+ghost use Rattle.engines.specs.Debugging.{first_moment, replayed_text, IsReplayFault, IsReplayedFault, IsSessionFault, IsUnwrittenBefore, StaysWithoutSession};
+ghost use Rattle.engines.specs.Engine.{loaded_job, IsRefusedJob};
 
 use crate::fault::{FileFault, Refusal, SeqFault};
 use crate::loading::load_job;
@@ -34,8 +33,8 @@ pub fn debug_block_to<R: Source, P: Programs, L: Source, W: Destination>(
         IfSome (loaded_job (P.content programs.old) (block_of input)) (λ job.
         IsOkAnd (replayed_text job call typed) (Appends (W.contents out.old) (W.contents out.new)))))) }
     ensures refused { IfErr result (λ e. IfSome (R.remaining block.old) (λ input.
-        IsFaultOfDebug (R.may_fail block.old) (MayBeCutOff (L.may_fail lines.old) (L.remaining lines.old))
-        (MayRefuse (W.may_fail out.old) (W.may_take_nothing out.old)) (P.content programs.old) (block_of input) call (W.contents out.old) (W.contents out.new) e)) }
+        IsRefusedJob (Refusal.Seq SeqFault.Memory) (IsReplayedFault (MayBeCutOff (L.may_fail lines.old) (L.remaining lines.old)) (MayRefuse (W.may_fail out.old) (W.may_take_nothing out.old)) call)
+        (R.may_fail block.old) (P.content programs.old) (block_of input) e)) }
     ensures unwritten { IfErr result (λ e. IsUnwrittenBefore (W.contents out.old) (W.contents out.new) e) }
     ensures untouched { OnErr result (IfSome (R.remaining block.old) (λ input.
         IfSome (loaded_job (P.content programs.old) (block_of input)) (λ job.

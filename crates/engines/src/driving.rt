@@ -7,9 +7,8 @@ ghost use Rattle.block_file.specs.Block.{block_of};
 ghost use Rattle.block_file.specs.Schedule.{schedule_of};
 ghost use Rattle.byte_streams.specs.Written.{MayRefuse};
 ghost use Rattle.engines.specs.Counts.{AreCountsAlong};
-ghost use Rattle.engines.specs.Driving.{IsFaultOfDrive, driven_answer, text_along};
-ghost use Rattle.engines.specs.Engine.{loaded_job, IsUnwritten};
-ghost use Rattle.engines.specs.StageFaults.{IsDriveFault, IsScheduleFault};
+ghost use Rattle.engines.specs.Driving.{driven_answer, text_along, IsDriveFault, IsScheduleFault, IsScheduledFault};
+ghost use Rattle.engines.specs.Engine.{loaded_job, IsRefusedJob, IsUnwritten};
 
 use crate::counts::RunCounts;
 use crate::fault::Refusal;
@@ -40,9 +39,9 @@ pub fn drive_to<R: Source, P: Programs, S: Source, W: Destination>(
         IfSome (driven_answer (P.content programs.old) (block_of input) workers (option_map schedule_of (S.remaining schedule.old))) (λ answer.
         IsOkAnd answer (Appends (W.contents out.old) (W.contents out.new))))) }
     ensures refused { IfErr result (λ e. IfSome (R.remaining block.old) (λ input.
-        IsFaultOfDrive (R.may_fail block.old) (S.may_fail schedule.old) (MayRefuse (W.may_fail out.old) (W.may_take_nothing out.old))
-        (P.content programs.old) (block_of input) workers
-        (option_map schedule_of (S.remaining schedule.old)) (W.contents out.old) (W.contents out.new) e)) }
+        IsRefusedJob (Refusal.Drive DriveFault.Memory)
+        (IsScheduledFault (S.may_fail schedule.old) (MayRefuse (W.may_fail out.old) (W.may_take_nothing out.old)) workers (option_map schedule_of (S.remaining schedule.old)) (W.contents out.old) (W.contents out.new))
+        (R.may_fail block.old) (P.content programs.old) (block_of input) e)) }
     ensures unwritten { IfErr result (λ e. IsUnwritten (W.contents out.old) (W.contents out.new) e) }
     ensures counts { IfOk result (λ counts. IfSome (R.remaining block.old) (λ input. IfSome (S.remaining schedule.old) (λ bytes.
         IfSome (loaded_job (P.content programs.old) (block_of input)) (λ wanted. IsOkAnd wanted (λ job.

@@ -5,9 +5,8 @@ ghost use Rattle.std.specs.Io.KnownBytes.{Appends};
 ghost use Rattle.block_file.specs.Block.{block_of};
 ghost use Rattle.byte_streams.specs.Written.{MayRefuse};
 ghost use Rattle.conflicts.specs.Text.{conflicts_text};
-ghost use Rattle.engines.specs.Engine.{loaded_job, IsUnwritten};
-ghost use Rattle.engines.specs.Finding.{AppendsConflicts, IsFaultOfConflicts};
-ghost use Rattle.engines.specs.StageFaults.{IsConflictsFault, IsOutputFault};
+ghost use Rattle.engines.specs.Engine.{loaded_job, IsOutputFault, IsRefusedJob, IsUnwritten};
+ghost use Rattle.engines.specs.Finding.{AppendsConflicts, IsConflictsFault};
 
 use crate::fault::{Refusal, SeqFault};
 use crate::loading::load_job;
@@ -31,21 +30,17 @@ pub fn conflicts_to<R: Source, P: Programs, W: Destination>(
         IfSome (loaded_job (P.content programs.old) (block_of input)) (λ wanted.
         IsOkAnd wanted (λ job. AppendsConflicts job (W.contents out.old) (W.contents out.new))))) }
     ensures refused { IfErr result (λ e. IfSome (R.remaining block.old) (λ input.
-        IsFaultOfConflicts (R.may_fail block.old) (MayRefuse (W.may_fail out.old) (W.may_take_nothing out.old)) (P.content programs.old) (block_of input) (W.contents out.old) (W.contents out.new) e)) }
+        IsRefusedJob (Refusal.Seq SeqFault.Memory) (IsConflictsFault (MayRefuse (W.may_fail out.old) (W.may_take_nothing out.old)) (W.contents out.old) (W.contents out.new)) (R.may_fail block.old) (P.content programs.old) (block_of input) e)) }
     ensures unwritten { IfErr result (λ e. IsUnwritten (W.contents out.old) (W.contents out.new) e) }
 {
-    // Not by `?`: the proof answers this arm.
-    let job = match load_job(alloc, block, programs, Refusal::Seq(SeqFault::Memory)) {
-        Ok(job) => job,
-        Err(refusal) => return Err(refusal),
-    };
+    let job = load_job(alloc, block, programs, Refusal::Seq(SeqFault::Memory))?;
     conflicts_job(alloc, &job, out)
 }
 
 /// Finds the conflicts of a job and writes them.
 fn conflicts_job<W: Destination>(alloc: Global, job: &Job, out: &mut W) -> Result<(), Refusal>
     ensures written { OnOk result (AppendsConflicts job.now (W.contents out.old) (W.contents out.new)) }
-    ensures refused { IfErr result (λ e. IsConflictsFault (MayRefuse (W.may_fail out.old) (W.may_take_nothing out.old)) job.now (W.contents out.old) (W.contents out.new) e) }
+    ensures refused { IfErr result (IsConflictsFault (MayRefuse (W.may_fail out.old) (W.may_take_nothing out.old)) (W.contents out.old) (W.contents out.new) job.now) }
     ensures unwritten { IfErr result (λ e. IsUnwritten (W.contents out.old) (W.contents out.new) e) }
 {
     let Ok(conflicts) = find_conflicts(alloc, job) else {

@@ -5,9 +5,8 @@ ghost use Rattle.std.specs.Io.KnownBytes.{Appends};
 ghost use Rattle.std.specs.Option.{option_map};
 ghost use Rattle.std.specs.String.{string_bytes};
 ghost use Rattle.byte_streams.specs.Written.{MayRefuse};
-ghost use Rattle.engines.specs.Engine.{IsUnwritten, layout_of_file};
+ghost use Rattle.engines.specs.Engine.{IsProgramFault, IsUnwritten, layout_of_file};
 ghost use Rattle.engines.specs.Listing.{IsListingFault, listing_line, listing_of, listing_of_file};
-ghost use Rattle.engines.specs.StageFaults.{IsProgramFault};
 ghost use Rattle.receipts.specs.Text.{word_text};
 
 use crate::fault::Refusal;

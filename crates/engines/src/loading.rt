@@ -5,8 +5,7 @@ ghost use Rattle.std.specs.Arc.{arc_value};
 ghost use Rattle.std.specs.Option.{option_map};
 ghost use Rattle.std.specs.String.{string_bytes};
 ghost use Rattle.block_file.specs.Block.{block_of, block_value, call_value};
-ghost use Rattle.engines.specs.Engine.{IsBlockFault, call_over, loaded_job, layout_of_file, programs_of};
-ghost use Rattle.engines.specs.StageFaults.{IsLoadFault, IsProgramFault};
+ghost use Rattle.engines.specs.Engine.{IsBlockFault, IsLoadFault, IsProgramFault, call_over, loaded_job, layout_of_file, programs_of};
 
 use crate::fault::{FileFault, Refusal};
 use crate::programs::Programs;

@@ -2,8 +2,7 @@
 
 ghost use Rattle.std.specs.Prelude.{◌≡◌, ◌⊎◌, ◌<◌, ◌≤◌, length, vec_len, IfOk, IfErr, IfSome};
 ghost use Rattle.std.specs.Option.{option_map};
-ghost use Rattle.engines.specs.Engine.{layout_of_file};
-ghost use Rattle.engines.specs.StageFaults.{IsProgramFault};
+ghost use Rattle.engines.specs.Engine.{IsProgramFault, layout_of_file};
 
 use crate::fault::{FileFault, Refusal};
 use byte_streams::Source;

@@ -4,8 +4,7 @@ ghost use Rattle.std.specs.Prelude.{◌≡◌, IfErr, IfOk, OnOk, length};
 ghost use Rattle.std.specs.Io.KnownBytes.{Appends};
 ghost use Rattle.byte_streams.specs.Written.{MayRefuse};
 ghost use Rattle.receipts.specs.Text.{result_text};
-ghost use Rattle.engines.specs.Engine.{IsUnwritten};
-ghost use Rattle.engines.specs.StageFaults.{IsOutputFault};
+ghost use Rattle.engines.specs.Engine.{IsOutputFault, IsUnwritten};
 
 use crate::counts::RunCounts;
 use crate::fault::Refusal;

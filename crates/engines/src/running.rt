@@ -5,9 +5,8 @@ ghost use Rattle.std.specs.Io.KnownBytes.{Appends};
 ghost use Rattle.block_file.specs.Block.{block_of};
 ghost use Rattle.byte_streams.specs.Written.{MayRefuse};
 ghost use Rattle.engines.specs.Counts.{AreCountsOfRun};
-ghost use Rattle.engines.specs.Engine.{answer_of, loaded_job, IsUnwritten};
-ghost use Rattle.engines.specs.StageFaults.{IsWorkersFault, text_of};
-ghost use Rattle.engines.specs.Running.{IsFaultOfRun, IsRefusalOf};
+ghost use Rattle.engines.specs.Engine.{answer_of, loaded_job, text_of, IsRefusedJob, IsUnwritten};
+ghost use Rattle.engines.specs.Running.{IsRefusalOf, IsWorkersFault};
 ghost use Rattle.rv_step.specs.Fold.{receipts_of, store_after};
 ghost use Rattle.workers.specs.History.{AreOneWorkerCounts, HasHistory};
 
@@ -40,17 +39,13 @@ pub fn run_to<T: Threads + Wait + Sync, R: Source, P: Programs, W: Destination>(
         IfSome (answer_of (P.content programs.old) (block_of input)) (λ answer.
         IsOkAnd answer (Appends (W.contents out.old) (W.contents out.new))))) }
     ensures refused { IfErr result (λ e. IfSome (R.remaining block.old) (λ input.
-        IsFaultOfRun (R.may_fail block.old) (MayRefuse (W.may_fail out.old) (W.may_take_nothing out.old)) (P.content programs.old) (block_of input) workers (W.contents out.old) (W.contents out.new) e)) }
+        IsRefusedJob (Refusal.Run RunFault.Memory) (IsWorkersFault (MayRefuse (W.may_fail out.old) (W.may_take_nothing out.old)) workers (W.contents out.old) (W.contents out.new)) (R.may_fail block.old) (P.content programs.old) (block_of input) e)) }
     ensures unwritten { IfErr result (λ e. IsUnwritten (W.contents out.old) (W.contents out.new) e) }
     ensures workers { OnOk result ((1 ≤ workers) × (workers ≤ 32)) }
     ensures history { IfOk result (λ counts. IfSome (R.remaining block.old) (λ input.
         IfSome (loaded_job (P.content programs.old) (block_of input)) (λ wanted. IsOkAnd wanted (λ job. AreCountsOfRun job workers counts)))) }
 {
-    // Not by `?`: the proof answers this arm.
-    let job = match load_job(alloc, block, programs, Refusal::Run(RunFault::Memory)) {
-        Ok(job) => job,
-        Err(refusal) => return Err(refusal),
-    };
+    let job = load_job(alloc, block, programs, Refusal::Run(RunFault::Memory))?;
     run_threads(threads, alloc, job, workers, out)
 }
 
@@ -63,7 +58,7 @@ fn run_threads<T: Threads + Wait + Sync, W: Destination>(
     out: &mut W,
 ) -> Result<RunCounts, Refusal>
     ensures written { OnOk result (Appends (W.contents out.old) (W.contents out.new) (text_of job)) }
-    ensures refused { IfErr result (λ e. IsWorkersFault (MayRefuse (W.may_fail out.old) (W.may_take_nothing out.old)) job workers (W.contents out.old) (W.contents out.new) e) }
+    ensures refused { IfErr result (IsWorkersFault (MayRefuse (W.may_fail out.old) (W.may_take_nothing out.old)) workers (W.contents out.old) (W.contents out.new) job) }
     ensures unwritten { IfErr result (λ e. IsUnwritten (W.contents out.old) (W.contents out.new) e) }
     ensures workers { OnOk result ((1 ≤ workers) × (workers ≤ 32)) }
     ensures history { IfOk result (AreCountsOfRun job workers) }

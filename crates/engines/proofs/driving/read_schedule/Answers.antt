@@ -8,7 +8,7 @@ use Rattle.block_file.proofs.Lines.{later}
 use Rattle.engines.specs.declared.fault.FileFault.TheVariants.{Unreadable}
 use Rattle.engines.specs.declared.fault.Refusal.{Refusal}
 use Rattle.engines.specs.declared.fault.Refusal.TheVariants.{File, Schedule}
-use Rattle.engines.specs.StageFaults.{IsScheduleFault}
+use Rattle.engines.specs.Driving.{IsScheduleFault}
 use Rattle.engines.proofs.driving.read_schedule.Goals as goal
 
 -- no fault of a schedule file is before line 1
