@@ -2,8 +2,8 @@
 
 use crate::asserts::{assert_right, has_pieces};
 use crate::blocks::{InMemory, count_lines, elf_of, forty_count_lines};
+use crate::command_lines::{BLOCK, RESULT, disk_of_echo};
 use crate::fake_disk::is_answered;
-use crate::programs::{BLOCK, RESULT, disk_of_echo};
 use crate::rows::COUNT;
 use byte_streams::FallibleWriter;
 use engines::{chain_to, chain_with};

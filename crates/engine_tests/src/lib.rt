@@ -18,6 +18,8 @@ mod calls;
 #[cfg(test)]
 mod chains;
 #[cfg(test)]
+mod command_lines;
+#[cfg(test)]
 mod conflict_rows;
 #[cfg(test)]
 mod counts;
@@ -47,8 +49,6 @@ mod large_inputs;
 mod migrated;
 #[cfg(test)]
 mod outside;
-#[cfg(test)]
-mod programs;
 #[cfg(test)]
 mod reports;
 #[cfg(test)]

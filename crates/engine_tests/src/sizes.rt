@@ -1,8 +1,8 @@
 //! Files of programs at the greatest size.
 
 use crate::blocks::elf_of;
+use crate::command_lines::{BLOCK, RESULT};
 use crate::fake_disk::{Stored, is_answered, is_refused};
-use crate::programs::{BLOCK, RESULT};
 use crate::rows::ECHO;
 use crate::sources::ECHO_LISTING;
 use std::alloc::{AllocError, Global};

@@ -4,10 +4,10 @@ use Rattle.std.specs.Io.KnownBytes.{Appends}
 use Rattle.std.specs.Option.{option_map}
 use Rattle.elf32.specs.Layout.{Layout}
 use Rattle.frames.specs.Frames.{requests_of}
-use Rattle.sessions.specs.Programs.{IsProgramFault}
+use Rattle.programs.specs.Programs.{IsProgramFault}
 use Rattle.sessions.specs.Serving.{AreAnswered, IsCutShort}
 use Rattle.sessions.specs.Session.{IsAnswer, new_session}
-use Rattle.sessions.specs.declared.fault.ProgramFault.{ProgramFault}
+use Rattle.programs.specs.declared.fault.ProgramFault.{ProgramFault}
 use Rattle.sessions.specs.declared.serving.ServeFault.{ServeFault}
 use Rattle.sessions.specs.declared.state.State.{State}
 use Rattle.engines.specs.Chaining.{cut_of, fault_of, program_of_file}

@@ -3,8 +3,8 @@ use Rattle.std.specs.Prelude.{ℕ, List, Option, Result}
 use Rattle.std.specs.Option.{option_map}
 use Rattle.std.specs.Result.{result_map_both}
 use Rattle.elf32.specs.Layout.{Layout}
-use Rattle.sessions.specs.declared.fault.ProgramFault.{ProgramFault}
-use Rattle.sessions.specs.declared.fault.ProgramFault.TheVariants as program
+use Rattle.programs.specs.declared.fault.ProgramFault.{ProgramFault}
+use Rattle.programs.specs.declared.fault.ProgramFault.TheVariants as program
 use Rattle.sessions.specs.declared.serving.ServeFault.{ServeFault}
 use Rattle.sessions.specs.declared.serving.ServeFault.TheVariants as serve
 use Rattle.engines.specs.declared.fault.FileFault.TheVariants.{TooLong, Unreadable}

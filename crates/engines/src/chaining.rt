@@ -12,10 +12,11 @@ ghost use Rattle.sessions.specs.declared.state.State.{State};
 
 use crate::fault::{FileFault, Refusal};
 use crate::loading::load_one;
-use crate::programs::Programs;
+use crate::program_source::Programs;
 use byte_streams::Destination;
 use elf32::Image;
-use sessions::{CallRunner, InOrder, Loader, ProgramFault, ServeFault, Session, serve_with};
+use programs::{Loader, ProgramFault};
+use sessions::{CallRunner, InOrder, ServeFault, Session, serve_with};
 use std::alloc::Global;
 use std::io::BufRead;
 use std::sync::Arc;

@@ -10,7 +10,7 @@ ghost use Rattle.engines.specs.Engine.{loaded_job, IsRefusedJob};
 
 use crate::fault::{FileFault, Refusal, SeqFault};
 use crate::loading::load_job;
-use crate::programs::Programs;
+use crate::program_source::Programs;
 use byte_streams::{Destination, Source};
 use debugger::{DebugFault, Replay, ReplayFault, debug_to, opens_over_its_storage};
 use rv_ledger::Job;

@@ -2,7 +2,7 @@
 
 ghost use Rattle.std.specs.Prelude.{None};
 
-use crate::programs::Programs;
+use crate::program_source::Programs;
 use byte_streams::FallibleReader;
 use std::fs::File;
 use std::io::Read;

@@ -13,7 +13,7 @@ ghost use Rattle.engines.specs.Engine.{loaded_job, IsRefusedJob, IsUnwritten};
 use crate::counts::RunCounts;
 use crate::fault::Refusal;
 use crate::loading::load_job;
-use crate::programs::Programs;
+use crate::program_source::Programs;
 use crate::reading::read_text;
 use crate::results::write_counted;
 use block_file::{BlockFault, Cause, parse_schedule};

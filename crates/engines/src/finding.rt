@@ -10,7 +10,7 @@ ghost use Rattle.engines.specs.Finding.{AppendsConflicts, IsConflictsFault};
 
 use crate::fault::{Refusal, SeqFault};
 use crate::loading::load_job;
-use crate::programs::Programs;
+use crate::program_source::Programs;
 use byte_streams::{Destination, Source};
 use conflicts::{Conflicts, find_conflicts, write_conflicts};
 use rv_ledger::Job;

@@ -8,7 +8,7 @@ ghost use Rattle.engines.specs.Engine.{answer_of, text_of, IsRefusedJob, IsRunFa
 
 use crate::fault::{Refusal, SeqFault};
 use crate::loading::load_job;
-use crate::programs::Programs;
+use crate::program_source::Programs;
 use crate::results::write_result;
 use byte_streams::{Destination, Source};
 use rv_ledger::Job;

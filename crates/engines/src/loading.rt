@@ -8,7 +8,7 @@ ghost use Rattle.block_file.specs.Block.{block_of, block_value, call_value};
 ghost use Rattle.engines.specs.Engine.{IsBlockFault, IsLoadFault, IsProgramFault, call_over, loaded_job, layout_of_file, programs_of};
 
 use crate::fault::{FileFault, Refusal};
-use crate::programs::Programs;
+use crate::program_source::Programs;
 use crate::reading::{read_elf, read_text};
 use block_file::{BlockFault, BlockText, CallLine, Cause, parse};
 use byte_streams::Source;

@@ -13,7 +13,7 @@ ghost use Rattle.workers.specs.History.{AreOneWorkerCounts, HasHistory};
 use crate::counts::RunCounts;
 use crate::fault::Refusal;
 use crate::loading::load_job;
-use crate::programs::Programs;
+use crate::program_source::Programs;
 use crate::results::write_counted;
 use byte_streams::{Destination, Source};
 use rv_ledger::{Job, Outcome};

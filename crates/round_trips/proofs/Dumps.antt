@@ -13,7 +13,7 @@ use Rattle.block_file.specs.Block.{block_of}
 use Rattle.frames.specs.Frames.{Frame, closes, lines_of, onto_line, requests, requests_of}
 use Rattle.frames.proofs.LineReads.{begins, in_frame_on, in_frame_end, nothing_more}
 use Rattle.sessions.specs.Session.{Turn, after_turn, answers_of, block_turn, new_session, put_each, ran, state_after, text_of_turn}
-use Rattle.sessions.specs.declared.fault.ProgramFault.{ProgramFault}
+use Rattle.programs.specs.declared.fault.ProgramFault.{ProgramFault}
 use Rattle.round_trips.specs.Chained.{IsEntry, block_with, beginnings, store_lines}
 use Rattle.round_trips.specs.Dumped.{IsContinued, IsOneFrame, IsRestored, dump, session_with}
 use Rattle.round_trips.proofs.Sorted.{Entry, none, stored, stored_again}

@@ -5,7 +5,7 @@ use Rattle.frames.specs.Frames.{Frame, requests_of}
 use Rattle.rv_ledger.specs.Key.{Storage}
 use Rattle.rv_ledger.specs.declared.rules.Rules.{Rules}
 use Rattle.sessions.specs.Session.{answers_of, line_answer, new_session, state_after, turn}
-use Rattle.sessions.specs.declared.fault.ProgramFault.{ProgramFault}
+use Rattle.programs.specs.declared.fault.ProgramFault.{ProgramFault}
 use Rattle.sessions.specs.declared.state.State.{State}
 use Rattle.round_trips.specs.Chained.{store_lines}
 

@@ -8,14 +8,13 @@ use Rattle.block_file.specs.declared.fault.BlockFault.{BlockFault}
 use Rattle.elf32.specs.Layout.{Layout}
 use Rattle.frames.specs.Frames.{Ask, Frame, Line}
 use Rattle.sessions.specs.Faults.{IsWantOfMemory}
-use Rattle.sessions.specs.Programs.{programs_of, with_program}
+use Rattle.programs.specs.Programs.{programs_of, with_program}
 use Rattle.sessions.specs.Session.{IsRefusedAs, IsTurn, Turn, answer_text, block_turn, line_answer, loaded_turn, refused, rules_number, turn}
 use Rattle.sessions.specs.declared.fault.FrameFault.{FrameFault}
 use Rattle.sessions.specs.declared.fault.FrameFault.TheVariants.{AnswerMemory, OlderRules}
-use Rattle.sessions.specs.declared.fault.ProgramFault.{ProgramFault}
+use Rattle.programs.specs.declared.fault.ProgramFault.{ProgramFault}
 use Rattle.sessions.specs.declared.state.State.{State}
-use Rattle.rvstm_c.specs.Programs.{given, given_at, program_at, read_as}
-use Rattle.rvstm_c.specs.declared.programs.GivenProgram.{GivenProgram}
+use Rattle.programs.specs.Tables.{program_in, program_named, read_as}
 
 -- it is there
 abbrev IsKnown : {X : Type 0} → Option X → Type 0
@@ -25,9 +24,9 @@ next_known : (next : Result Layout ProgramFault) (rest : Option (Result (List La
 next_known (Err fault) rest known = (Err fault, refl)
 next_known (Ok image) rest (wanted, is) = subst (λ r. IsKnown (with_program (Some (Ok image)) r)) (sym is) (_, refl)
 
-programs_known : (programs : List (List ℕ × Layout)) (paths : List (List ℕ)) → IsKnown (programs_of (program_at programs) paths)
+programs_known : (programs : List (List ℕ × Layout)) (paths : List (List ℕ)) → IsKnown (programs_of (program_in programs) paths)
 programs_known programs [] = (Ok [], refl)
-programs_known programs (path ∷ paths) = next_known (read_as (given_at programs path)) (programs_of (program_at programs) paths) (programs_known programs paths)
+programs_known programs (path ∷ paths) = next_known (read_as (program_named programs path)) (programs_of (program_in programs) paths) (programs_known programs paths)
 
 loaded_known : (state : State) (block : BlockValue) (wanted : Option (Result (List Layout) ProgramFault)) → IsKnown wanted → IsKnown (loaded_turn state block wanted)
 loaded_known state block None (wanted, is) = cc
@@ -38,25 +37,24 @@ older_known : (b : Bool) (state : State) (rest : Option Turn) → IsKnown rest �
 older_known true state rest known = (_, refl)
 older_known false state rest known = known
 
-block_known : (programs : List (List ℕ × Layout)) (state : State) (wanted : Result BlockValue BlockFault) → IsKnown (block_turn (program_at programs) state wanted)
+block_known : (programs : List (List ℕ × Layout)) (state : State) (wanted : Result BlockValue BlockFault) → IsKnown (block_turn (program_in programs) state wanted)
 block_known programs state (Err fault) = (_, refl)
 block_known programs state (Ok block) =
-    older_known (nat_lt (rules_number block.rules) (rules_number state.rules)) state _ (loaded_known state block (programs_of (program_at programs) block.programs) (programs_known programs block.programs))
+    older_known (nat_lt (rules_number block.rules) (rules_number state.rules)) state _ (loaded_known state block (programs_of (program_in programs) block.programs) (programs_known programs block.programs))
 
 if_known : (o : Option Turn) (want : Turn) (P : Turn → Type 0) → o ≡ Some want → IfSome o P → P want
 if_known o want P is h = subst (λ r. IfSome r P) is h
 
 -- what was answered, where it is known
 abbrev pub Answers : (List (List ℕ × Layout)) → State → Ask → Result (Vec ℕ Global) FrameFault → State → Type 0
-Answers programs state ask result after = (want : Turn) × (turn (program_at programs) state ask ≡ Some want) × IsTurn state want (answer_text result) after × IsRefusedAs want.refusal result
+Answers programs state ask result after = (want : Turn) × (turn (program_in programs) state ask ≡ Some want) × IsTurn state want (answer_text result) after × IsRefusedAs want.refusal result
 
-pub frame_answered : (shown programs : List GivenProgram) (state after : State) (bytes : List ℕ) (result : Result (Vec ℕ Global) FrameFault) → shown ≡ programs
-    → IfSome (block_turn (program_at (given shown)) state (block_of bytes)) (λ want. IsTurn state want (answer_text result) after)
-    → IfSome (block_turn (program_at (given shown)) state (block_of bytes)) (λ want. IsRefusedAs want.refusal result)
-    → Answers (given programs) state (Frame bytes) result after
-frame_answered shown programs state after bytes result same turned refusal =
-    let known = block_known (given shown) state (block_of bytes) in
-    subst (λ ps. Answers (given ps) state (Frame bytes) result after) same
+pub frame_answered : (programs : List (List ℕ × Layout)) (state after : State) (bytes : List ℕ) (result : Result (Vec ℕ Global) FrameFault)
+    → IfSome (block_turn (program_in programs) state (block_of bytes)) (λ want. IsTurn state want (answer_text result) after)
+    → IfSome (block_turn (program_in programs) state (block_of bytes)) (λ want. IsRefusedAs want.refusal result)
+    → Answers programs state (Frame bytes) result after
+frame_answered programs state after bytes result turned refusal =
+    let known = block_known programs state (block_of bytes) in
     (known.0, known.1, if_known _ known.0 (λ want. IsTurn state want (answer_text result) after) known.1 turned, if_known _ known.0 (λ want. IsRefusedAs want.refusal result) known.1 refusal)
 
 pub line_answered : (programs : List (List ℕ × Layout)) (state : State) (line : List ℕ) (result : Result (Vec ℕ Global) FrameFault)

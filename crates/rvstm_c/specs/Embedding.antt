@@ -3,20 +3,20 @@ use Rattle.std.specs.Prelude.{◌≡◌, ◌⊎◌, ℕ, Bool, true, false, List
 use Rattle.std.specs.declared.alloc.Global.{Global}
 use Rattle.elf32.specs.Layout.{Layout}
 use Rattle.frames.specs.Frames.{Ask}
-use Rattle.sessions.specs.Programs.{IsProgramFault}
+use Rattle.programs.specs.Programs.{IsProgramFault, program_of_file}
+use Rattle.programs.specs.Tables.{named, program_in, program_named}
 use Rattle.sessions.specs.Session.{IsRefusedAs, IsTurn, Turn, answer_text, new_session, turn}
 use Rattle.sessions.specs.declared.fault.FrameFault.{FrameFault}
 use Rattle.sessions.specs.declared.fault.FrameFault.TheVariants.{Program}
-use Rattle.sessions.specs.declared.fault.ProgramFault.{ProgramFault}
-use Rattle.rvstm_c.specs.Programs.{given, given_at, program_at, program_of_file}
+use Rattle.programs.specs.declared.fault.ProgramFault.{ProgramFault}
 use Rattle.rvstm_c.specs.Statuses.{already_given, already_open, closed, done, no_memory, short_buffer, status_of}
-use Rattle.rvstm_c.specs.declared.programs.GivenProgram.{GivenProgram}
+use Rattle.programs.specs.declared.table.NamedProgram.{NamedProgram}
 use Rattle.rvstm_c.specs.declared.session.EmbeddedSession.{EmbeddedSession}
 
 -- a session before its first call: an empty storage, the lowest rules, no program, and an empty answer
 abbrev pub IsNew : EmbeddedSession → Type 0
 IsNew session =
-    (session.state ≡ new_session) × (session.programs.items ≡ []) × (status_of session.answer ≡ done)
+    (session.state ≡ new_session) × (session.programs.entries.items ≡ []) × (status_of session.answer ≡ done)
     × (answer_text session.answer ≡ [])
 
 -- a handle was opened
@@ -34,14 +34,14 @@ OnSession call (Some before) status after = (session : EmbeddedSession) × (afte
 -- it was given; or memory ran out, which is the answer, and all is as it was. The programs stay
 abbrev pub IsAnswered : Ask → EmbeddedSession → ℕ → EmbeddedSession → Type 0
 IsAnswered ask before status after =
-    (want : Turn) × (turn (program_at (given before.programs.items)) before.state ask ≡ Some want)
+    (want : Turn) × (turn (program_in (named before.programs.entries.items)) before.state ask ≡ Some want)
     × IsTurn before.state want (answer_text after.answer) after.state × IsRefusedAs want.refusal after.answer
     × (status ≡ status_of after.answer) × (after.programs ≡ before.programs)
 
 -- a file was taken for the program of a path, behind the programs before it; or it was refused, and they stay
-abbrev pub IsTaken : List ℕ → Result Layout ProgramFault → List GivenProgram → List GivenProgram → Result (Vec ℕ Global) FrameFault → Type 0
+abbrev pub IsTaken : List ℕ → Result Layout ProgramFault → List NamedProgram → List NamedProgram → Result (Vec ℕ Global) FrameFault → Type 0
 IsTaken path wanted before after (Ok text) =
-    (text.items ≡ []) × (image : Layout) × (wanted ≡ Ok image) × (given after ≡ given before ++ (path, image) ∷ [])
+    (text.items ≡ []) × (image : Layout) × (wanted ≡ Ok image) × (named after ≡ named before ++ (path, image) ∷ [])
 IsTaken path wanted before after (Err (Program fault)) = IsProgramFault (Some wanted) fault × (after ≡ before)
 IsTaken path wanted before after (Err fault) = ⊥
 
@@ -49,12 +49,12 @@ IsTaken path wanted before after (Err fault) = ⊥
 abbrev pub IsGivenAt : Option Layout → List ℕ → List ℕ → EmbeddedSession → ℕ → EmbeddedSession → Type 0
 IsGivenAt (Some image) path file before status after = (status ≡ already_given) × (after ≡ before)
 IsGivenAt None path file before status after =
-    IsTaken path (program_of_file file) before.programs.items after.programs.items after.answer
+    IsTaken path (program_of_file file) before.programs.entries.items after.programs.entries.items after.answer
     × (status ≡ status_of after.answer) × (after.state ≡ before.state)
 
 -- a program was handed in for a path
 abbrev pub IsGiven : List ℕ → List ℕ → EmbeddedSession → ℕ → EmbeddedSession → Type 0
-IsGiven path file before status after = IsGivenAt (given_at (given before.programs.items) path) path file before status after
+IsGiven path file before status after = IsGivenAt (program_named (named before.programs.entries.items) path) path file before status after
 
 -- a handle was closed
 abbrev pub IsClosed : Option EmbeddedSession → ℕ → Type 0

@@ -1,5 +1,4 @@
 pub mod Held
 pub mod Statuses
-pub mod Programs
 pub mod Embedding
 pub mod Refusals

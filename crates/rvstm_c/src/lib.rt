@@ -4,7 +4,6 @@
 mod answer;
 mod handle;
 mod loose;
-mod programs;
 mod refusal;
 mod session;
 mod status;
@@ -17,7 +16,6 @@ ghost use Rattle.rvstm_c.specs.Refusals.{IsRefusalOf};
 use answer::{answer_length, copy_answer, status_of};
 pub use handle::Handle;
 use handle::{put_session, take_session};
-pub use programs::GivenProgram;
 pub use refusal::Refusal;
 use refusal::{NO_REFUSAL, parts_of};
 pub use session::EmbeddedSession;

@@ -3,16 +3,15 @@
 ghost use Rattle.std.specs.Prelude.{◌≡◌, ◌++◌, [], ◌∷◌, IfErr, Ok, OnErr, OnOk, Some};
 ghost use Rattle.elf32.specs.Layout.{Layout};
 ghost use Rattle.frames.specs.Frames.{Frame, Line};
-ghost use Rattle.sessions.specs.Programs.{IsProgramFault};
+ghost use Rattle.programs.specs.Programs.{IsProgramFault, program_of_file};
+ghost use Rattle.programs.specs.Tables.{named};
 ghost use Rattle.rvstm_c.specs.Embedding.{IsAnswered, IsGiven, IsNew};
-ghost use Rattle.rvstm_c.specs.Programs.{given, program_of_file};
 
 use crate::answer::status_of;
-use crate::programs::{GivenProgram, GivenPrograms, find, given_program};
 use crate::status::ALREADY_GIVEN;
-use elf32::ElfError;
+use programs::{ProgramFault, ProgramTable, load_file};
 use rv_ledger::{Rules, Store};
-use sessions::{FrameFault, LoadedPrograms, ProgramFault, State, answer_frame, line_text};
+use sessions::{FrameFault, State, answer_frame, line_text};
 use std::alloc::Global;
 
 /// A session that a handle has.
@@ -21,7 +20,7 @@ pub struct EmbeddedSession {
     /// What the frames left.
     pub state: State,
     /// The programs that were handed in.
-    pub programs: Vec<GivenProgram>,
+    pub programs: ProgramTable,
     /// The answer to the last request.
     pub answer: Result<Vec<u8>, FrameFault>,
 }
@@ -36,7 +35,7 @@ impl EmbeddedSession {
                 store: Store::new(alloc),
                 rules: Rules::One,
             },
-            programs: Vec::new(alloc),
+            programs: ProgramTable::new(alloc),
             answer: Ok(Vec::new(alloc)),
         }
     }
@@ -45,17 +44,9 @@ impl EmbeddedSession {
     pub(crate) fn run_block(&mut self, alloc: Global, block: &[u8]) -> u32
         ensures { IsAnswered (Frame block.now) self.old result self.new }
     {
-        let EmbeddedSession {
-            state,
-            programs,
-            answer,
-        } = self;
-        let given = GivenPrograms {
-            programs: programs.as_slice(),
-        };
-        let mut loaded = LoadedPrograms::new(alloc, given);
-        *answer = answer_frame(alloc, state, &mut loaded, block);
-        status_of(answer)
+        let mut programs = &self.programs;
+        self.answer = answer_frame(alloc, &mut self.state, &mut programs, block);
+        status_of(&self.answer)
     }
 
     /// Answers a line between frames. Returns the status.
@@ -70,7 +61,7 @@ impl EmbeddedSession {
     pub(crate) fn give_program(&mut self, alloc: Global, path: &[u8], file: &[u8]) -> u32
         ensures { IsGiven path.now file.now self.old result self.new }
     {
-        if find(self.programs.as_slice(), path).is_some() {
+        if self.programs.get(path).is_some() {
             return ALREADY_GIVEN;
         }
         self.answer = match keep_program(alloc, &mut self.programs, path, file) {
@@ -85,17 +76,15 @@ impl EmbeddedSession {
 /// out; then none is added.
 fn keep_program(
     alloc: Global,
-    programs: &mut Vec<GivenProgram>,
+    programs: &mut ProgramTable,
     path: &[u8],
     file: &[u8],
 ) -> Result<(), ProgramFault>
-    ensures ok { OnOk result ((image : Layout) × (program_of_file file.now ≡ Ok image) × (given programs.new.items ≡ given programs.old.items ++ (path.now, image) ∷ [])) }
+    ensures ok { OnOk result ((image : Layout) × (program_of_file file.now ≡ Ok image) × (named programs.new.entries.items ≡ named programs.old.entries.items ++ (path.now, image) ∷ [])) }
     ensures err { IfErr result (λ fault. IsProgramFault (Some (program_of_file file.now)) fault) }
-    ensures same { OnErr result (programs.new.items ≡ programs.old.items) }
+    ensures same { OnErr result (programs.new.entries.items ≡ programs.old.entries.items) }
 {
-    let program = given_program(alloc, path, file)?;
-    match programs.push(program) {
-        Ok(()) => Ok(()),
-        Err(_) => Err(ProgramFault::Elf(ElfError::Memory)),
-    }
+    let image = load_file(alloc, file)?;
+    programs.insert(alloc, path, image)?;
+    Ok(())
 }

@@ -12,10 +12,10 @@ use Rattle.elf32.specs.Layout.{Layout}
 use Rattle.frames.specs.Frames.{Ask}
 use Rattle.receipts.specs.Text.{call_lines, result_text, store_line}
 use Rattle.rv_step.specs.Fold.{receipts_of, store_after}
-use Rattle.sessions.specs.Programs.{calls_over}
+use Rattle.programs.specs.Programs.{calls_over}
 use Rattle.sessions.specs.Serving.{AreAnswered}
 use Rattle.sessions.specs.Session.{IsWanted, after_turn, answers_of, over_storage, ran, state_after, text_of_turn, turn}
-use Rattle.sessions.specs.declared.fault.ProgramFault.{ProgramFault}
+use Rattle.programs.specs.declared.fault.ProgramFault.{ProgramFault}
 use Rattle.sessions.specs.declared.state.State.{State}
 
 pub wanted_fold : (program_at : List ℕ → Option (Result Layout ProgramFault)) (state after : State) (asks : List Ask) (text : List ℕ) → AreAnswered (IsWanted program_at) state asks text after → (text ≡ answers_of program_at state asks) × (after ≡ state_after program_at state asks)

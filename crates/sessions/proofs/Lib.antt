@@ -2,7 +2,5 @@ pub mod Answers
 pub mod Entries
 pub mod ShortNames
 pub mod Folds
-pub mod LoadedTrue
-pub mod Loads
 pub mod Serves
 pub mod Turns

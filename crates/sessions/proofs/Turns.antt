@@ -8,11 +8,11 @@ use Rattle.elf32.specs.Layout.{Layout}
 use Rattle.frames.specs.Frames.{Ask, CutOff, Frame, Line}
 use Rattle.std.specs.Io.BufRead.{strip_last}
 use Rattle.sessions.specs.Faults.{IsWantOfMemory, refused_line}
-use Rattle.sessions.specs.Programs.{IsProgramFault, programs_of}
+use Rattle.programs.specs.Programs.{IsProgramFault, programs_of}
 use Rattle.sessions.specs.Session.{IsAnswer, IsRefusedAs, IsTurn, IsWant, Turn, block_turn, line_answer, loaded_turn, refused, rules_number}
 use Rattle.sessions.specs.declared.fault.FrameFault.{FrameFault}
 use Rattle.sessions.specs.declared.fault.FrameFault.TheVariants.{Block, NoEnd, OlderRules, Program}
-use Rattle.sessions.specs.declared.fault.ProgramFault.{ProgramFault}
+use Rattle.programs.specs.declared.fault.ProgramFault.{ProgramFault}
 use Rattle.sessions.specs.declared.state.State.{State}
 
 -- where memory ran out

@@ -8,7 +8,7 @@ use Rattle.byte_streams.specs.Refusals.{Parts, line_text, without_line}
 use Rattle.elf32.specs.Refusals as elf
 use Rattle.elf32.specs.declared.error.ElfError.{ElfError}
 use Rattle.elf32.specs.declared.error.ElfError.TheVariants as elf_fault
-use Rattle.sessions.specs.declared.fault.ProgramFault.TheVariants.{Unreadable, TooLong, Elf}
+use Rattle.programs.specs.declared.fault.ProgramFault.TheVariants.{Unreadable, TooLong, Elf}
 use Rattle.sessions.specs.declared.fault.FrameFault.{FrameFault}
 use Rattle.sessions.specs.declared.fault.FrameFault.TheVariants.{Block, Program, NoEnd, OlderRules, RunMemory, AnswerMemory}
 

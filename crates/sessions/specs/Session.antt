@@ -17,10 +17,10 @@ use Rattle.rv_ledger.specs.declared.rules.Rules.{Rules}
 use Rattle.rv_ledger.specs.declared.rules.Rules.TheVariants as rules
 use Rattle.rv_step.specs.Fold.{receipts_of, store_after}
 use Rattle.sessions.specs.Faults.{IsWantOfMemory, refused_line}
-use Rattle.sessions.specs.Programs.{calls_over, programs_of}
+use Rattle.programs.specs.Programs.{calls_over, programs_of}
 use Rattle.sessions.specs.declared.fault.FrameFault.{FrameFault}
 use Rattle.sessions.specs.declared.fault.FrameFault.TheVariants.{Block, Program, NoEnd, OlderRules}
-use Rattle.sessions.specs.declared.fault.ProgramFault.{ProgramFault}
+use Rattle.programs.specs.declared.fault.ProgramFault.{ProgramFault}
 use Rattle.sessions.specs.declared.state.State.{State}
 
 -- a session before its first frame: an empty storage, and the lowest rules

@@ -14,12 +14,12 @@ ghost use Rattle.sessions.specs.Session.{IsAnswer, IsWant, answer_text, content_
 
 use crate::call_runner::CallRunner;
 use crate::fault::FrameFault;
-use crate::loader::Loader;
 use crate::refusing::refused_line;
 use crate::session::{Session, answer_frame_with};
 use block_file::{BlockFault, Cause, fields};
 use byte_streams::{Destination, WriteFault, write_whole};
 use frames::SessionRequest;
+use programs::Loader;
 use receipts::{bytes_text, write_outcome};
 use rv_ledger::{Job, Key, Outcome, Store};
 use std::alloc::{AllocError, Global};

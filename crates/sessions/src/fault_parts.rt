@@ -4,10 +4,11 @@ ghost use Rattle.std.specs.Prelude.{◌≡◌, ◌≤◌, length};
 ghost use Rattle.byte_streams.specs.Refusals.{parts_in};
 ghost use Rattle.sessions.specs.Faults.{block_line, block_parts, elf_parts, parts_of};
 
-use crate::fault::{FrameFault, ProgramFault};
+use crate::fault::FrameFault;
 use block_file::{BlockFault, Cause};
 use byte_streams::LineParts;
 use elf32::ElfError;
+use programs::ProgramFault;
 
 impl FrameFault {
     /// The parts of what it prints.

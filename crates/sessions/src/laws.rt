@@ -8,10 +8,10 @@ ghost use Rattle.elf32.specs.Layout.{Layout};
 ghost use Rattle.frames.specs.Frames.{Ask};
 ghost use Rattle.receipts.specs.Text.{result_text, store_line};
 ghost use Rattle.rv_step.specs.Fold.{receipts_of, store_after};
-ghost use Rattle.sessions.specs.Programs.{calls_over};
+ghost use Rattle.programs.specs.Programs.{calls_over};
 ghost use Rattle.sessions.specs.Serving.{AreAnswered};
 ghost use Rattle.sessions.specs.Session.{IsWanted, answers_of, over_storage, ran, state_after};
-ghost use Rattle.sessions.specs.declared.fault.ProgramFault.{ProgramFault};
+ghost use Rattle.programs.specs.declared.fault.ProgramFault.{ProgramFault};
 ghost use Rattle.sessions.specs.declared.state.State.{State};
 
 /// A law, and no code: where memory did not run out, what a session wrote is the answers one after another, each over what

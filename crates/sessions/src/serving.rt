@@ -8,10 +8,10 @@ ghost use Rattle.sessions.specs.Session.{IsAnswer};
 
 use crate::answering::answer;
 use crate::call_runner::{CallRunner, InOrder};
-use crate::loader::Loader;
 use crate::session::Session;
 use byte_streams::{Destination, WriteFault};
 use frames::next_request;
+use programs::Loader;
 use std::alloc::Global;
 use std::io::BufRead;
 

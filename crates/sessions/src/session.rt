@@ -5,18 +5,16 @@ ghost use Rattle.std.specs.Arc.{arc_value};
 ghost use Rattle.std.specs.String.{string_bytes};
 ghost use Rattle.block_file.specs.Block.{block_of, block_value, call_value};
 ghost use Rattle.sessions.specs.Faults.{IsWantOfMemory};
-ghost use Rattle.sessions.specs.Programs.{programs_of};
+ghost use Rattle.programs.specs.Programs.{programs_of};
 ghost use Rattle.sessions.specs.Session.{IsRefusedAs, IsTurn, answer_text, block_turn, loaded_turn, new_session, ran, rules_number};
 
 use crate::block_run::run_block;
 use crate::call_runner::{CallRunner, InOrder};
 use crate::fault::FrameFault;
-use crate::loaded::LoadedPrograms;
-use crate::loader::Loader;
-use crate::loading::{calls_over, programs_at};
 use crate::state::State;
 use block_file::{BlockText, CallLine, parse};
 use elf32::Image;
+use programs::{Loader, ProgramCache, calls_over, programs_at};
 use rv_ledger::{Rules, Store};
 use std::alloc::Global;
 use std::sync::Arc;
@@ -27,7 +25,7 @@ pub struct Session<L: Loader> {
     /// What the frames left.
     pub state: State,
     /// The programs that they loaded.
-    pub programs: LoadedPrograms<L>,
+    pub programs: ProgramCache<L>,
 }
 
 impl<L: Loader> Session<L> {
@@ -41,7 +39,7 @@ impl<L: Loader> Session<L> {
                 store: Store::new(alloc),
                 rules: Rules::One,
             },
-            programs: LoadedPrograms::new(alloc, loader),
+            programs: ProgramCache::new(alloc, loader),
         }
     }
 }
@@ -51,15 +49,15 @@ impl<L: Loader> Session<L> {
 pub fn answer_frame<L: Loader>(
     alloc: Global,
     state: &mut State,
-    programs: &mut LoadedPrograms<L>,
+    loader: &mut L,
     bytes: &[u8],
 ) -> Result<Vec<u8>, FrameFault>
-    ensures turn { IfSome (block_turn (L.program_at programs.old.loader) state.old (block_of bytes.now)) (λ want.
+    ensures turn { IfSome (block_turn (L.program_at loader.old) state.old (block_of bytes.now)) (λ want.
         IsTurn state.old want (answer_text result) state.new) }
-    ensures refusal { IfSome (block_turn (L.program_at programs.old.loader) state.old (block_of bytes.now)) (λ want. IsRefusedAs want.refusal result) }
-    ensures same { L.program_at programs.new.loader ≡ L.program_at programs.old.loader }
+    ensures refusal { IfSome (block_turn (L.program_at loader.old) state.old (block_of bytes.now)) (λ want. IsRefusedAs want.refusal result) }
+    ensures same { L.program_at loader.new ≡ L.program_at loader.old }
 {
-    answer_frame_with(alloc, &mut InOrder, state, programs, bytes)
+    answer_frame_with(alloc, &mut InOrder, state, loader, bytes)
 }
 
 /// The same, but a runner runs the calls.
@@ -67,14 +65,14 @@ pub(crate) fn answer_frame_with<L: Loader, C: CallRunner>(
     alloc: Global,
     runner: &mut C,
     state: &mut State,
-    programs: &mut LoadedPrograms<L>,
+    loader: &mut L,
     bytes: &[u8],
 ) -> Result<Vec<u8>, FrameFault>
     requires ready { C.ready }
-    ensures turn { IfSome (block_turn (L.program_at programs.old.loader) state.old (block_of bytes.now)) (λ want.
+    ensures turn { IfSome (block_turn (L.program_at loader.old) state.old (block_of bytes.now)) (λ want.
         IsTurn state.old want (answer_text result) state.new) }
-    ensures refusal { IfSome (block_turn (L.program_at programs.old.loader) state.old (block_of bytes.now)) (λ want. IsRefusedAs want.refusal result) }
-    ensures same { L.program_at programs.new.loader ≡ L.program_at programs.old.loader }
+    ensures refusal { IfSome (block_turn (L.program_at loader.old) state.old (block_of bytes.now)) (λ want. IsRefusedAs want.refusal result) }
+    ensures same { L.program_at loader.new ≡ L.program_at loader.old }
 {
     let block = match parse(alloc, bytes) {
         Ok(block) => block,
@@ -83,7 +81,7 @@ pub(crate) fn answer_frame_with<L: Loader, C: CallRunner>(
     if number_of(block.rules) < number_of(state.rules) {
         return Err(FrameFault::OlderRules);
     }
-    answer_block(alloc, runner, state, programs, block)
+    answer_block(alloc, runner, state, loader, block)
 }
 
 /// The number of rules, 1 to 3.
@@ -98,15 +96,15 @@ fn answer_block<L: Loader, C: CallRunner>(
     alloc: Global,
     runner: &mut C,
     state: &mut State,
-    programs: &mut LoadedPrograms<L>,
+    loader: &mut L,
     block: BlockText,
 ) -> Result<Vec<u8>, FrameFault>
     requires ready { C.ready }
-    ensures turn { IfSome (loaded_turn state.old (block_value block) (programs_of (L.program_at programs.old.loader) (map string_bytes block.programs.items))) (λ want.
+    ensures turn { IfSome (loaded_turn state.old (block_value block) (programs_of (L.program_at loader.old) (map string_bytes block.programs.items))) (λ want.
         IsTurn state.old want (answer_text result) state.new) }
-    ensures refusal { IfSome (loaded_turn state.old (block_value block) (programs_of (L.program_at programs.old.loader) (map string_bytes block.programs.items))) (λ want.
+    ensures refusal { IfSome (loaded_turn state.old (block_value block) (programs_of (L.program_at loader.old) (map string_bytes block.programs.items))) (λ want.
         IsRefusedAs want.refusal result) }
-    ensures same { L.program_at programs.new.loader ≡ L.program_at programs.old.loader }
+    ensures same { L.program_at loader.new ≡ L.program_at loader.old }
 {
     let BlockText {
         rules,
@@ -114,7 +112,7 @@ fn answer_block<L: Loader, C: CallRunner>(
         store,
         calls,
     } = block;
-    let images = match programs_at(alloc, programs, paths.as_slice()) {
+    let images = match programs_at(alloc, loader, paths.as_slice()) {
         Ok(images) => images,
         Err(fault) => return Err(FrameFault::Program(fault)),
     };

@@ -4,8 +4,8 @@ use Rattle.std.proofs.Math.Seq.{drop-cons}
 use Rattle.std.specs.Prelude.{Option, Some, None, Result, Ok, Err, IfSome}
 use Rattle.std.specs.Option.{option_map}
 use Rattle.elf32.specs.Layout.{Layout}
-use Rattle.sessions.specs.declared.fault.ProgramFault.{ProgramFault}
-use Rattle.sessions.specs.Programs.{IsProgramFault, programs_of, with_program}
+use Rattle.programs.specs.declared.fault.ProgramFault.{ProgramFault}
+use Rattle.programs.specs.Programs.{IsProgramFault, programs_of, with_program}
 
 -- the first programs, before those of the rest
 abbrev pub with_programs : List Layout → Result (List Layout) ProgramFault → Result (List Layout) ProgramFault

@@ -3,8 +3,8 @@
 ghost use Rattle.std.specs.Prelude.{◌≡◌, ℕ, List, Option, Result, Ok, IfErr, IfOk, IfSome};
 ghost use Rattle.std.specs.Arc.{arc_value};
 ghost use Rattle.elf32.specs.Layout.{Layout};
-ghost use Rattle.sessions.specs.Programs.{IsProgramFault};
-ghost use Rattle.sessions.specs.declared.fault.ProgramFault.{ProgramFault};
+ghost use Rattle.programs.specs.Programs.{IsProgramFault};
+ghost use Rattle.programs.specs.declared.fault.ProgramFault.{ProgramFault};
 
 use crate::fault::ProgramFault;
 use elf32::Image;

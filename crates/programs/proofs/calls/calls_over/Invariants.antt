@@ -2,8 +2,8 @@ use Rattle.std.proofs.Common.{◌≡◌, ◌++◌, vec_len, length, map}
 use Rattle.std.specs.Arc.{arc_value}
 use Rattle.std.specs.Vec.Iter.{into_iter_items, into_iter_len}
 use Rattle.block_file.specs.Block.{call_value}
-use Rattle.sessions.specs.Programs.{call_over}
-use Rattle.sessions.proofs.loading.calls_over.Given as goal
+use Rattle.programs.specs.Programs.{call_over}
+use Rattle.programs.proofs.calls.calls_over.Given as goal
 
 abbrev pub invariant-loop-line : goal.invariant-loop-line
 invariant-loop-line l = record {
