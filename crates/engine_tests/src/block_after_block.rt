@@ -6,7 +6,7 @@ use crate::command_lines::{BLOCK, RESULT, disk_of_echo};
 use crate::fake_disk::is_answered;
 use crate::rows::COUNT;
 use byte_streams::FallibleWriter;
-use engines::{chain_to, chain_with};
+use engines::chain_to;
 use sessions::{CallRunner, InOrder};
 use std::alloc::Global;
 use std::io;
@@ -130,7 +130,7 @@ pub fn printed_by<C: CallRunner>(
     let programs = InMemory { files: &files };
     let mut lines = BufReader::new(alloc, input.as_bytes())?;
     let mut text = Vec::new(alloc);
-    chain_with(alloc, &mut lines, programs, runner, &mut text)?;
+    chain_to(alloc, &mut lines, programs, runner, &mut text)?;
     Ok(text)
 }
 
@@ -262,7 +262,7 @@ fn each_answer_is_shown_before_more_is_read(rt: HostRuntime) -> Result<(), Fail>
     };
     let mut lines = BufReader::new(rt.alloc(), typist)?;
     let programs = InMemory { files: &[] };
-    chain_to(rt.alloc(), &mut lines, programs, &mut screen)?;
+    chain_to(rt.alloc(), &mut lines, programs, &mut InOrder, &mut screen)?;
     assert!(rt; screen.writer.written == 13);
     Ok(())
 }

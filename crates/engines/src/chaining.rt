@@ -16,7 +16,7 @@ use crate::program_source::Programs;
 use byte_streams::Destination;
 use elf32::Image;
 use programs::{Loader, ProgramFault};
-use sessions::{CallRunner, InOrder, ServeFault, Session, serve_with};
+use sessions::{CallRunner, ServeFault, Session, serve};
 use std::alloc::Global;
 use std::io::BufRead;
 use std::sync::Arc;
@@ -54,28 +54,10 @@ fn fault_of(refusal: Refusal) -> ProgramFault
 }
 
 /// Answers each request of an input in a session that begins with an empty storage, up to a line `q` or the end of the
-/// input. The calls of its frames run in order. Each answer is written and flushed before more is read. Refused as Unreadable
+/// input. A runner runs the calls of its frames, which changes no answer. Each answer is written and flushed before more is read. Refused as Unreadable
 /// where a read failed, or memory for a line ran out, which comes between two requests. Refused as Output where a write failed:
 /// a beginning of the answer was written.
-pub fn chain_to<R: BufRead, P: Programs + Drop, W: Destination>(
-    alloc: Global,
-    input: &mut R,
-    programs: P,
-    out: &mut W,
-) -> Result<(), Refusal>
-    ensures ok { OnOk result (IfSome (R.remaining input.old) (λ bytes. (text : List ℕ) × (after : State)
-        × Appends (W.contents out.old) (W.contents out.new) text
-        × AreAnswered (IsAnswer (programs_in (P.content programs))) new_session (requests_of bytes) text after)) }
-    ensures err { IfErr result (λ e. IfSome (R.remaining input.old) (λ bytes. (fault : ServeFault) × (after : State)
-        × (e ≡ cut_of fault)
-        × IsCutShort (IsAnswer (programs_in (P.content programs))) fault new_session (requests_of bytes) after (W.contents out.old) (W.contents out.new))) }
-    ensures refused { IfErr result (λ e. (fault : ServeFault) × (e ≡ cut_of fault) × MayEnd (W.may_fail out.old) (W.may_take_nothing out.old) fault) }
-{
-    chain_with(alloc, input, programs, &mut InOrder, out)
-}
-
-/// The same, but a runner runs the calls, which changes no answer.
-pub fn chain_with<R: BufRead, P: Programs + Drop, C: CallRunner, W: Destination>(
+pub fn chain_to<R: BufRead, P: Programs + Drop, C: CallRunner, W: Destination>(
     alloc: Global,
     input: &mut R,
     programs: P,
@@ -92,7 +74,7 @@ pub fn chain_with<R: BufRead, P: Programs + Drop, C: CallRunner, W: Destination>
     ensures refused { IfErr result (λ e. (fault : ServeFault) × (e ≡ cut_of fault) × MayEnd (W.may_fail out.old) (W.may_take_nothing out.old) fault) }
 {
     let mut session = Session::new(alloc, FileLoader { alloc, programs });
-    match serve_with(alloc, input, runner, &mut session, out) {
+    match serve(alloc, input, runner, &mut session, out) {
         Ok(()) => Ok(()),
         Err(fault) => Err(cut_of(fault)),
     }

@@ -4,7 +4,7 @@ ghost use Rattle.std.specs.Prelude.{◌≡◌};
 
 use crate::assembling::{SOURCE_MEMORY, file_of_source};
 use crate::by_threads::ByThreads;
-use crate::chaining::chain_with;
+use crate::chaining::chain_to;
 use crate::counts::{RunCounts, write_counts};
 use crate::debugging::debug_block_to;
 use crate::disk::{Disk, LateFile, ProgramFiles};
@@ -44,8 +44,9 @@ where
 }
 
 /// Does what the command line asks for, and returns the exit status: 0 where it is done, 1 where it is
-/// refused, 2 where the line is wrong. The lines of `debug` are read from `input`. Results, help and the
-/// version are written to `out`. Refusals, what is wrong with the line, and counts are written to `errors`.
+/// refused, 2 where the line is wrong. The lines of `debug` and the requests of `chain` are read from `input`. Results,
+/// answers, help and the version are written to `out`. Refusals, what is wrong with the line, and counts are written to
+/// `errors`.
 pub fn status<R, T, D, I, W, E>(
     rt: &R,
     threads: &T,
@@ -386,7 +387,7 @@ fn chain_by<D: Disk, C: CallRunner, I: Read, W: Destination>(
     let Ok(mut lines) = BufReader::new(alloc, input) else {
         return Err(Refusal::Seq(SeqFault::Memory));
     };
-    chain_with(alloc, &mut lines, ProgramFiles { disk }, runner, out)
+    chain_to(alloc, &mut lines, ProgramFiles { disk }, runner, out)
 }
 
 /// Opens a file to read it.

@@ -26,7 +26,7 @@ mod thread_costs;
 
 pub use assembling::file_of_source;
 pub use by_threads::ByThreads;
-pub use chaining::{FileLoader, chain_to, chain_with};
+pub use chaining::{FileLoader, chain_to};
 pub use commands::{exit_code, status};
 pub use counts::{RunCounts, write_counts};
 pub use debugging::debug_block_to;

@@ -6,7 +6,7 @@ mod on_storage;
 ghost use Rattle.std.specs.Prelude.{◌≡◌, [], IfOk, OnOk};
 ghost use Rattle.rv_step.specs.Fold.{receipts_of, store_after};
 
-pub use on_storage::{run_on, run_over};
+pub use on_storage::run_over;
 use rv_ledger::{Call, Job, Outcome, Receipt, Store};
 use rv_step::{MachineRoom, apply_writes, receipt_over};
 use std::alloc::{AllocError, Global};

@@ -1,27 +1,13 @@
 //! Running calls on a storage that stays, at a cost in proportion to what the calls do.
 
-ghost use Rattle.std.specs.Prelude.{◌≡◌, IfOk, OnErr, OnOk};
+ghost use Rattle.std.specs.Prelude.{◌≡◌, IfOk, OnOk};
 ghost use Rattle.rv_step.specs.Fold.{receipts_of, store_after};
 ghost use Rattle.overlay.specs.Overlay.{with_changes};
 
-use overlay::{Layers, Overlay, apply_writes, commit};
+use overlay::{Layers, Overlay, apply_writes};
 use rv_ledger::{Call, Receipt, Store};
 use rv_step::{MachineRoom, receipt_over};
 use std::alloc::{AllocError, Global};
-
-/// Runs calls in order on a storage, each on what the ones before it left. The cost does not grow with the storage.
-/// Refused where memory ran out, and then the storage is as it was.
-#[tactic(auto, using(overlay::proofs::WithChanges::without_changes))]
-pub fn run_on(alloc: Global, store: &mut Store, calls: &[Call]) -> Result<Vec<Receipt>, AllocError>
-    ensures receipts { IfOk result (λ r. r.items ≡ receipts_of calls.now store.old) }
-    ensures store { OnOk result (store.new ≡ store_after calls.now store.old) }
-    ensures err { OnErr result (store.new ≡ store.old) }
-{
-    let mut changes = Overlay::new(alloc);
-    let receipts = run_over(alloc, store, &mut changes, calls)?;
-    commit(store, changes)?;
-    Ok(receipts)
-}
 
 /// Runs calls in order on a storage with changes over it, and adds theirs to the changes. Refused where memory ran out,
 /// and then some of theirs may be added.

@@ -19,6 +19,6 @@ pub use fault_parts::{block_parts, elf_parts};
 pub use laws::{frame_answers_as_seq, session_is_a_fold};
 pub use line_texts::line_text;
 pub use refusing::refused_line;
-pub use serving::{ServeFault, serve, serve_with};
+pub use serving::{ServeFault, serve};
 pub use session::{Session, answer_frame};
 pub use state::State;

@@ -7,7 +7,7 @@ ghost use Rattle.sessions.specs.Serving.{AreAnswered, IsCutShort, MayEnd};
 ghost use Rattle.sessions.specs.Session.{IsAnswer};
 
 use crate::answering::answer;
-use crate::call_runner::{CallRunner, InOrder};
+use crate::call_runner::CallRunner;
 use crate::session::Session;
 use byte_streams::{Destination, WriteFault};
 use frames::next_request;
@@ -24,30 +24,11 @@ pub enum ServeFault {
     Output(WriteFault),
 }
 
-/// Answers each request of an input, up to a line `q` or its end. The calls of its frames run in order. Each answer is
+/// Answers each request of an input, up to a line `q` or its end. A runner runs the calls of its frames. Each answer is
 /// written and flushed before more is read. The first fault ends the session. Unreadable comes between two requests, and
 /// also behind 2^64 - 1 of them. Output comes where an answer was being written: a beginning of it was written, and what it
 /// says was done.
-pub fn serve<R: BufRead, L: Loader, W: Destination>(
-    alloc: Global,
-    input: &mut R,
-    session: &mut Session<L>,
-    out: &mut W,
-) -> Result<(), ServeFault>
-    ensures ok { OnOk result (IfSome (R.remaining input.old) (λ bytes. (text : List ℕ)
-        × Appends (W.contents out.old) (W.contents out.new) text
-        × AreAnswered (IsAnswer (L.program_at session.old.programs.loader)) session.old.state (requests_of bytes) text session.new.state)) }
-    ensures err { IfErr result (λ fault. IfSome (R.remaining input.old) (λ bytes.
-        IsCutShort (IsAnswer (L.program_at session.old.programs.loader)) fault session.old.state (requests_of bytes) session.new.state
-        (W.contents out.old) (W.contents out.new))) }
-    ensures refused { IfErr result (MayEnd (W.may_fail out.old) (W.may_take_nothing out.old)) }
-    ensures same { L.program_at session.new.programs.loader ≡ L.program_at session.old.programs.loader }
-{
-    serve_with(alloc, input, &mut InOrder, session, out)
-}
-
-/// The same, but a runner runs the calls.
-pub fn serve_with<R: BufRead, L: Loader, C: CallRunner, W: Destination>(
+pub fn serve<R: BufRead, L: Loader, C: CallRunner, W: Destination>(
     alloc: Global,
     input: &mut R,
     runner: &mut C,

@@ -4,7 +4,7 @@ use Rattle.frames.specs.Frames.{AreAsked, WhereKnown, requests_of}
 use Rattle.sessions.specs.Session.{IsAnswer}
 use Rattle.byte_streams.proofs.Taken.{may_come_before}
 use Rattle.sessions.proofs.Serves.{Answered, serve_cut, serve_end, serve_next, serve_start, serve_unread}
-use Rattle.sessions.proofs.serving.serve_with.Goals as goal
+use Rattle.sessions.proofs.serving.serve.Goals as goal
 
 pub loop-init : goal.loop-init
 loop-init g c = record {

@@ -2,7 +2,7 @@ use Rattle.std.specs.Prelude.{◌≡◌}
 use Rattle.frames.specs.Frames.{WhereKnown}
 use Rattle.sessions.specs.Session.{IsAnswer}
 use Rattle.sessions.proofs.Serves.{IsServing}
-use Rattle.sessions.proofs.serving.serve_with.Given as goal
+use Rattle.sessions.proofs.serving.serve.Given as goal
 
 abbrev pub invariant-loop : goal.invariant-loop
 invariant-loop g l = record {
