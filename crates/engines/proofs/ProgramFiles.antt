@@ -1,53 +1,75 @@
--- Loading the programs of a block one after another.
-use Rattle.std.proofs.Common.{◌≡◌, ◌<◌, ◌++◌, List, ℕ, suc, ◌∷◌, map, drop, length, get_or, sym, refl, subst, inl, inr}
-use Rattle.std.proofs.Math.Seq.{drop-cons}
-use Rattle.std.specs.Prelude.{Option, Some, None, Result, Ok, Err, IfSome}
+-- The programs of files.
+use Rattle.std.proofs.Common.{◌≡◌, ℕ, List, [], ◌∷◌, Bool, true, false, cond, ap, refl, subst, inl, inr}
+use Rattle.std.specs.Prelude.{Option, Some, None, Result, Ok, Err, IfSome, length, nat_lt}
 use Rattle.std.specs.Option.{option_map}
+use Rattle.std.specs.Result.{result_map_both}
+use Rattle.block_file.specs.Block.{BlockValue}
+use Rattle.byte_streams.specs.declared.fault.WriteFault.{WriteFault}
+use Rattle.elf32.specs.Image.{image_of}
 use Rattle.elf32.specs.Layout.{Layout}
-use Rattle.engines.specs.declared.fault.Refusal.{Refusal}
-use Rattle.engines.specs.declared.fault.Refusal.TheVariants.{File, Block, Elf, Asm, Seq, Schedule, Run, Drive, Debug, Output}
-use Rattle.engines.specs.declared.fault.FileFault.TheVariants.{Unreadable, Unwritable, TooLong}
-use Rattle.engines.specs.Engine.{layout_of_file, with_program, programs_of, IsProgramFault}
+use Rattle.elf32.specs.declared.error.ElfError.{ElfError}
+use Rattle.programs.specs.Programs.{IsProgramFault, file_limit, program_of_file, programs_of, with_program}
+use Rattle.programs.specs.declared.fault.ProgramFault.{ProgramFault}
+use Rattle.programs.specs.declared.fault.ProgramFault.TheVariants.{Elf, TooLong, Unreadable}
+use Rattle.engines.specs.Engine.{IsFileFault, IsJobFault, job_over, programs_in, refusal_of}
+use Rattle.engines.specs.Listing.{IsListingFault, listing_of, listing_of_file}
 
--- the programs of the first files, before those of the rest
-abbrev pub with_programs : List Layout → Result (List Layout) Refusal → Result (List Layout) Refusal
-with_programs done (Ok images) = Ok (done ++ images)
-with_programs done (Err fault) = Err fault
+-- a program that was loaded from an open file
+pub file_program : (content remaining : Option (List ℕ)) (read : List ℕ) (image : Layout) → IfSome content (λ bytes. remaining ≡ Some bytes) → IfSome remaining (λ bytes. read ≡ bytes) → program_of_file read ≡ Ok image → IfSome (option_map program_of_file content) (λ wanted. wanted ≡ Ok image)
+file_program None remaining read image opened is loaded = tt
+file_program (Some bytes) remaining read image opened is loaded =
+    subst (λ b. program_of_file b ≡ Ok image) (subst (λ r. IfSome r (λ b. read ≡ b)) opened is) loaded
 
--- the programs so far and those of the paths that are left are the programs of all paths, where these are known
-abbrev pub Loaded : (List ℕ → Option (List ℕ)) → List (List ℕ) → List (List ℕ) → List Layout → Type 0
-Loaded content paths rest done = IfSome (programs_of content paths) (λ all. option_map (with_programs done) (programs_of content rest) ≡ Some all)
+-- and one that was refused
+pub file_fault : (content remaining : Option (List ℕ)) (may_fail : Type 0) (fault : ProgramFault) → IfSome content (λ bytes. remaining ≡ Some bytes) → (may_fail → content ≡ None) → IsFileFault may_fail (option_map program_of_file remaining) fault → IsProgramFault (option_map program_of_file content) fault
+file_fault None remaining may_fail fault opened readable h = inr tt
+file_fault (Some bytes) remaining may_fail Unreadable opened readable h = let none = readable h in cc
+file_fault (Some bytes) remaining may_fail TooLong opened readable h = subst (λ r. IsProgramFault (option_map program_of_file r) TooLong) opened h
+file_fault (Some bytes) remaining may_fail (Elf fault) opened readable h = subst (λ r. IsProgramFault (option_map program_of_file r) (Elf fault)) opened h
 
-met : (all : Option (Result (List Layout) Refusal)) (file : Option (Result Layout Refusal)) (rest : Option (Result (List Layout) Refusal)) (done : List Layout) (e : Refusal) → IfSome all (λ a. option_map (with_programs done) (with_program file rest) ≡ Some a) → IfSome file (λ w. w ≡ Err e) → IfSome all (λ w. w ≡ Err e)
-met None file rest done e h w = tt
-met (Some a) None rest done e h w = cc
-met (Some a) (Some (Ok image)) rest done e h w = cc
-met (Some a) (Some (Err fault)) rest done e h w = cc
+-- no file that was read is unreadable
+read_file : (is_long : Bool) (image : Result Layout ElfError) → cond is_long (Err TooLong) (result_map_both (λ i. i) Elf image) ≡ Err Unreadable → ⊥
+read_file true image is = cc
+read_file false (Ok i) is = cc
+read_file false (Err fault) is = cc
 
-unknown : (all : Option (Result (List Layout) Refusal)) (bytes : Option (List ℕ)) (rest : Option (Result (List Layout) Refusal)) (done : List Layout) → IfSome all (λ a. option_map (with_programs done) (with_program (option_map layout_of_file bytes) rest) ≡ Some a) → bytes ≡ None → all ≡ None
-unknown None bytes rest done h is = refl
-unknown (Some a) None rest done h is = cc
-unknown (Some a) (Some bytes) rest done h is = cc
+next_readable : (next : Result Layout ProgramFault) (rest : Option (Result (List Layout) ProgramFault)) → (next ≡ Err Unreadable → ⊥) → (rest ≡ Some (Err Unreadable) → ⊥) → with_program (Some next) rest ≡ Some (Err Unreadable) → ⊥
+next_readable (Err fault) rest never others is = never cc
+next_readable (Ok image) None never others is = cc
+next_readable (Ok image) (Some (Ok images)) never others is = cc
+next_readable (Ok image) (Some (Err fault)) never others is = others cc
 
-met_fault : (all : Option (Result (List Layout) Refusal)) (bytes : Option (List ℕ)) (rest : Option (Result (List Layout) Refusal)) (done : List Layout) (e : Refusal) → IfSome all (λ a. option_map (with_programs done) (with_program (option_map layout_of_file bytes) rest) ≡ Some a) → IsProgramFault (bytes ≡ None) (option_map layout_of_file bytes) e → IsProgramFault (all ≡ None) all e
-met_fault all bytes rest done (Elf fault) h (inl memory) = inl memory
-met_fault all bytes rest done (Elf fault) h (inr w) = inr (met all (option_map layout_of_file bytes) rest done (Elf fault) h w)
-met_fault all bytes rest done (File Unreadable) h w = unknown all bytes rest done h w
-met_fault all bytes rest done (File Unwritable) h w = w
-met_fault all bytes rest done (File TooLong) h w = met all (option_map layout_of_file bytes) rest done (File TooLong) h w
-met_fault all bytes rest done (Block fault) h w = w
-met_fault all bytes rest done (Asm fault) h w = w
-met_fault all bytes rest done (Seq fault) h w = w
-met_fault all bytes rest done (Schedule fault) h w = w
-met_fault all bytes rest done (Run fault) h w = w
-met_fault all bytes rest done (Drive fault) h w = w
-met_fault all bytes rest done (Debug fault) h w = w
-met_fault all bytes rest done (Output fault) h w = w
+at_path : (content : Option (List ℕ)) (rest : Option (Result (List Layout) ProgramFault)) → (rest ≡ Some (Err Unreadable) → ⊥) → with_program (option_map program_of_file content) rest ≡ Some (Err Unreadable) → ⊥
+at_path None rest others is = cc
+at_path (Some bytes) rest others is = next_readable (program_of_file bytes) rest (read_file (nat_lt file_limit (length bytes)) (image_of bytes)) others is
 
--- a refusal of the next program is the one of all programs
-pub next_fault : {S : Type 0} (content known : List ℕ → Option (List ℕ)) (bytes_of : S → List ℕ) (paths : List S) (i : ℕ) (path : S) (text : List ℕ) (done : List Layout) (e : Refusal) → known ≡ content → i < length paths → path ≡ get_or paths i path → text ≡ bytes_of path → Loaded content (map bytes_of paths) (map bytes_of (drop i paths)) done → IsProgramFault (known text ≡ None) (option_map layout_of_file (known text)) e → IsProgramFault (programs_of content (map bytes_of paths) ≡ None) (programs_of content (map bytes_of paths)) e
-next_fault content known bytes_of paths i path text done e same below is named loaded fault =
-    let cut : drop i paths ≡ path ∷ drop (suc i) paths = subst (λ p. drop i paths ≡ p ∷ drop (suc i) paths) (sym is) (drop-cons paths i path below) in
-    met_fault (programs_of content (map bytes_of paths)) (content (bytes_of path)) (programs_of content (map bytes_of (drop (suc i) paths))) done e
-    (subst (λ rest. Loaded content (map bytes_of paths) (map bytes_of rest) done) cut loaded)
-    (subst (λ t. IsProgramFault (content t ≡ None) (option_map layout_of_file (content t)) e) named (subst (λ k. IsProgramFault (k text ≡ None) (option_map layout_of_file (k text)) e) same fault))
+readable : (content : List ℕ → Option (List ℕ)) (paths : List (List ℕ)) → programs_of (programs_in content) paths ≡ Some (Err Unreadable) → ⊥
+readable content [] is = cc
+readable content (path ∷ paths) is = at_path (content path) (programs_of (programs_in content) paths) (readable content paths) is
+
+of_programs : (block : BlockValue) (programs : Option (Result (List Layout) ProgramFault)) (fault : ProgramFault) → IfSome programs (λ w. w ≡ Err fault) → IfSome (option_map (result_map_both (job_over block) refusal_of) programs) (λ w. w ≡ Err (refusal_of fault))
+of_programs block None fault h = tt
+of_programs block (Some (Ok images)) fault h = cc
+of_programs block (Some (Err first)) fault h = cc
+
+unknown : (block : BlockValue) (programs : Option (Result (List Layout) ProgramFault)) → (programs ≡ Some (Err Unreadable) → ⊥) → IfSome programs (λ w. w ≡ Err Unreadable) → option_map (result_map_both (job_over block) refusal_of) programs ≡ None
+unknown block None never h = refl
+unknown block (Some w) never h = absurd (never cc)
+
+-- a fault of the programs of a block is one of its job
+pub job_fault : (content : List ℕ → Option (List ℕ)) (block : BlockValue) (fault : ProgramFault) → IsProgramFault (programs_of (programs_in content) block.programs) fault → IsJobFault ⊥ content (Ok block) (refusal_of fault)
+job_fault content block (Elf fault) (inl memory) = inl (cc, refl)
+job_fault content block (Elf fault) (inr w) = inr (of_programs block (programs_of (programs_in content) block.programs) (Elf fault) w)
+job_fault content block TooLong (inl memory) = cc
+job_fault content block TooLong (inr w) = of_programs block (programs_of (programs_in content) block.programs) TooLong w
+job_fault content block Unreadable (inl memory) = cc
+job_fault content block Unreadable (inr w) = inr (unknown block (programs_of (programs_in content) block.programs) (readable content block.programs) w)
+
+-- a fault of a file is one of its listing
+pub listing_fault : (may_fail : Type 0) (may_refuse : WriteFault → Type 0) (input : Option (List ℕ)) (old new : Option (List ℕ)) (fault : ProgramFault) → IsFileFault may_fail (option_map program_of_file input) fault → IfSome input (λ bytes. IsListingFault may_fail may_refuse (listing_of_file bytes) old new (refusal_of fault))
+listing_fault may_fail may_refuse None old new fault h = tt
+listing_fault may_fail may_refuse (Some bytes) old new Unreadable h = h
+listing_fault may_fail may_refuse (Some bytes) old new TooLong (inl memory) = cc
+listing_fault may_fail may_refuse (Some bytes) old new TooLong (inr w) = ap (result_map_both listing_of refusal_of) w
+listing_fault may_fail may_refuse (Some bytes) old new (Elf fault) (inl memory) = inl cc
+listing_fault may_fail may_refuse (Some bytes) old new (Elf fault) (inr w) = inr (ap (result_map_both listing_of refusal_of) w)

@@ -1,5 +1,5 @@
 -- What the engine of `rvstm drive` writes, and what it refuses.
-use Rattle.std.specs.Prelude.{ℕ, List, ◌≡◌, ◌⊎◌, map, Option, Some, IfSome, Result, Ok, Err, IsOkAnd, option_and_then}
+use Rattle.std.specs.Prelude.{ℕ, List, ◌≡◌, ◌⊎◌, Option, Some, IfSome, Result, Ok, Err, IsOkAnd, option_and_then}
 use Rattle.std.specs.Option.{option_map}
 use Rattle.std.specs.Result.{result_map_both}
 use Rattle.elf32.specs.Layout.{Layout}
@@ -16,7 +16,9 @@ use Rattle.byte_streams.specs.Written.{AppendsPart}
 use Rattle.byte_streams.specs.declared.fault.WriteFault.{WriteFault}
 use Rattle.block_file.specs.Block.{BlockValue}
 use Rattle.block_file.specs.declared.fault.BlockFault.{BlockFault}
-use Rattle.engines.specs.Engine.{call_over, programs_of, IsRefused, IsTextFault}
+use Rattle.programs.specs.Programs.{calls_over, programs_of}
+use Rattle.programs.specs.declared.fault.ProgramFault.{ProgramFault}
+use Rattle.engines.specs.Engine.{programs_in, refusal_of, IsRefused, IsTextFault}
 use Rattle.engines.specs.declared.fault.Refusal.{Refusal}
 use Rattle.engines.specs.declared.fault.Refusal.TheVariants.{File, Block, Schedule, Drive, Output}
 use Rattle.engines.specs.declared.fault.FileFault.TheVariants.{Unreadable}
@@ -37,19 +39,19 @@ text_along calls store workers entries = result_map_both (λ s. result_text (rec
 -- the same for a schedule file; its first fault comes before those of the list
 abbrev pub text_by : BlockValue → List Layout → ℕ → Result (List ℕ) BlockFault → Result (List ℕ) Refusal
 text_by block images workers (Err fault) = Err (Schedule fault)
-text_by block images workers (Ok entries) = text_along (map (call_over block.rules images) block.calls) block.store workers entries
+text_by block images workers (Ok entries) = text_along (calls_over block images) block.store workers entries
 
 -- the same over the files of programs; their first fault comes before those of the schedule. None where they have no
 -- fault and the schedule's bytes are unknown
-abbrev pub text_over : BlockValue → ℕ → Option (Result (List ℕ) BlockFault) → Result (List Layout) Refusal → Option (Result (List ℕ) Refusal)
-text_over block workers schedule (Err fault) = Some (Err fault)
+abbrev pub text_over : BlockValue → ℕ → Option (Result (List ℕ) BlockFault) → Result (List Layout) ProgramFault → Option (Result (List ℕ) Refusal)
+text_over block workers schedule (Err fault) = Some (Err (refusal_of fault))
 text_over block workers schedule (Ok images) = option_map (text_by block images workers) schedule
 
 -- what is to be written for a block file and a schedule file, or the first fault: in the block file, in the files of
 -- its programs, in the schedule file, then along the schedule. None where the bytes that decide this are unknown
 abbrev pub driven_answer : (List ℕ → Option (List ℕ)) → Result BlockValue BlockFault → ℕ → Option (Result (List ℕ) BlockFault) → Option (Result (List ℕ) Refusal)
 driven_answer content (Err fault) workers schedule = Some (Err (Block fault))
-driven_answer content (Ok block) workers schedule = option_and_then (text_over block workers schedule) (programs_of content block.programs)
+driven_answer content (Ok block) workers schedule = option_and_then (text_over block workers schedule) (programs_of (programs_in content) block.programs)
 
 -- a refusal met in the schedule file: the wanted one, Memory with no fault before it, or Unreadable where a read may fail
 abbrev pub IsScheduleFault : Type 0 → Option (Result (List ℕ) BlockFault) → Refusal → Type 0

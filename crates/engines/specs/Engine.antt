@@ -1,60 +1,45 @@
 -- What the engine of `rvstm seq` writes, and what it refuses.
-use Rattle.std.specs.Prelude.{ℕ, List, [], ◌∷◌, ◌≡◌, ◌⊎◌, ◌≤◌, ⊤, map, length, nat_lt, slice_index_or, Option, Some, None, IfSome, Result, Ok, Err, IfErr, IsOk, if◌then◌else◌}
+use Rattle.std.specs.Prelude.{ℕ, List, ◌≡◌, ◌⊎◌, ◌≤◌, ⊤, Option, Some, None, IfSome, Result, Ok, Err, IfErr, IsOk}
 use Rattle.std.specs.Option.{option_map}
 use Rattle.std.specs.Result.{result_map_both}
 use Rattle.elf32.specs.Layout.{Layout}
-use Rattle.elf32.specs.Image.{image_of}
 use Rattle.elf32.specs.declared.error.ElfError.TheVariants as elf
-use Rattle.rv_ledger.specs.Call.{Invocation}
-use Rattle.rv_ledger.specs.declared.rules.Rules.{Rules}
 use Rattle.rv_ledger.specs.declared.job.Job.{Job}
 use Rattle.rv_step.specs.Fold.{receipts_of, store_after}
 use Rattle.receipts.specs.Text.{result_text}
 use Rattle.byte_streams.specs.Written.{AppendsPart}
 use Rattle.byte_streams.specs.declared.fault.WriteFault.{WriteFault}
 use Rattle.byte_streams.specs.declared.fault.WriteFault.TheVariants as output
-use Rattle.block_file.specs.Block.{BlockValue, CallValue}
+use Rattle.block_file.specs.Block.{BlockValue}
 use Rattle.block_file.specs.declared.fault.BlockFault.{BlockFault}
 use Rattle.block_file.specs.declared.fault.Cause.TheVariants as cause
+use Rattle.programs.specs.Programs.{IsProgramFault, calls_over, program_of_file, programs_of}
+use Rattle.programs.specs.declared.fault.ProgramFault.{ProgramFault}
+use Rattle.programs.specs.declared.fault.ProgramFault.TheVariants as program
 use Rattle.engines.specs.declared.fault.Refusal.{Refusal}
 use Rattle.engines.specs.declared.fault.Refusal.TheVariants.{File, Block, Elf, Seq, Output}
 use Rattle.engines.specs.declared.fault.FileFault.TheVariants.{TooLong, Unreadable}
 use Rattle.engines.specs.declared.fault.SeqFault.TheVariants.{Memory}
 
--- the program of a file of at most 131,072 bytes, or its fault
-abbrev pub layout_of_file : List ℕ → Result Layout Refusal
-layout_of_file bytes = if nat_lt 131072 (length bytes) then Err (File TooLong) else result_map_both (λ image. image) Elf (image_of bytes)
+-- how a command is refused where a program is
+abbrev pub refusal_of : ProgramFault → Refusal
+refusal_of program.Unreadable = File Unreadable
+refusal_of program.TooLong = File TooLong
+refusal_of (program.Elf fault) = Elf fault
 
--- a program before others, or the first fault; None where what decides this is unknown
-abbrev pub with_program : Option (Result Layout Refusal) → Option (Result (List Layout) Refusal) → Option (Result (List Layout) Refusal)
-with_program None rest = None
-with_program (Some (Err fault)) rest = Some (Err fault)
-with_program (Some (Ok image)) rest = option_map (result_map_both (λ images. image ∷ images) (λ fault. fault)) rest
-
--- the programs of the files at some paths, or the fault of the first faulty one, whatever comes after it; None where a
--- file before the first faulty one is unknown
-abbrev pub programs_of : (List ℕ → Option (List ℕ)) → List (List ℕ) → Option (Result (List Layout) Refusal)
-programs_of content [] = Some (Ok [])
-programs_of content (path ∷ paths) = with_program (option_map layout_of_file (content path)) (programs_of content paths)
-
--- the call of a line under the rules of its block, over the program that has its number
-abbrev pub call_over : Rules → List Layout → CallValue → Invocation
-call_over rules images line = record {
-  rules = rules;
-  image = slice_index_or images line.program (record { entry = 0; segments = [] });
-  gas = line.gas;
-  input = line.input;
-}
+-- the programs of the files at paths, where these are known
+abbrev pub programs_in : (List ℕ → Option (List ℕ)) → List ℕ → Option (Result Layout ProgramFault)
+programs_in content path = option_map program_of_file (content path)
 
 -- the job of a block over the programs of its files
 abbrev pub job_over : BlockValue → List Layout → Job
-job_over block images = record { block = map (call_over block.rules images) block.calls; store = block.store }
+job_over block images = record { block = calls_over block images; store = block.store }
 
 -- the job of a block file, or the first fault in it or in the files of its programs; None where the bytes that decide
 -- this are unknown
 abbrev pub loaded_job : (List ℕ → Option (List ℕ)) → Result BlockValue BlockFault → Option (Result Job Refusal)
 loaded_job content (Err fault) = Some (Err (Block fault))
-loaded_job content (Ok block) = option_map (result_map_both (job_over block) (λ fault. fault)) (programs_of content block.programs)
+loaded_job content (Ok block) = option_map (result_map_both (job_over block) refusal_of) (programs_of (programs_in content) block.programs)
 
 -- the text of the result of a job: its calls are run in order, each over the storage that the ones before it left
 abbrev pub text_of : Job → List ℕ
@@ -79,12 +64,10 @@ IsBlockFault may_fail text _ = ⊥
 abbrev pub MayBeUnreadable : Type 0 → (List ℕ → Option (List ℕ)) → Result BlockValue BlockFault → Type 0
 MayBeUnreadable may_fail content block = may_fail ⊎ (loaded_job content block ≡ None)
 
--- a refusal met in the files of programs: the wanted one, Memory, or Unreadable where one may be unreadable
-abbrev pub IsProgramFault : {X : Type 0} → Type 0 → Option (Result X Refusal) → Refusal → Type 0
-IsProgramFault may_fail wanted (Elf fault) = (fault ≡ elf.Memory) ⊎ IfSome wanted (λ w. w ≡ Err (Elf fault))
-IsProgramFault may_fail wanted (File TooLong) = IfSome wanted (λ w. w ≡ Err (File TooLong))
-IsProgramFault may_fail wanted (File Unreadable) = may_fail
-IsProgramFault may_fail wanted _ = ⊥
+-- a fault met in the file of a program: Unreadable where it may be unreadable, else as where its bytes are in memory
+abbrev pub IsFileFault : {X : Type 0} → Type 0 → Option (Result X ProgramFault) → ProgramFault → Type 0
+IsFileFault may_fail wanted program.Unreadable = may_fail
+IsFileFault may_fail wanted fault = IsProgramFault wanted fault
 
 -- a refusal met before a job is made: a fault of the block file or of its programs is the first one. Memory for a program
 -- comes only where the block file has no fault, and Unreadable only where a file of the job may be unreadable

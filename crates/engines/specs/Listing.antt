@@ -18,7 +18,8 @@ use Rattle.rv_text.specs.declared.fault.AsmCause.TheVariants as cause
 use Rattle.engines.specs.declared.fault.Refusal.{Refusal}
 use Rattle.engines.specs.declared.fault.Refusal.TheVariants.{File, Elf, Output, Asm}
 use Rattle.engines.specs.declared.fault.FileFault.TheVariants.{Unreadable, TooLong}
-use Rattle.engines.specs.Engine.{layout_of_file}
+use Rattle.engines.specs.Engine.{refusal_of}
+use Rattle.programs.specs.Programs.{program_of_file}
 
 -- a line of the listing: the address and the word in eight hex digits each, and the word's text
 abbrev pub listing_line : PlacedWord → List ℕ
@@ -30,7 +31,7 @@ listing_of image = flat_map listing_line (words_of image)
 
 -- what `dis` prints of a file, or its fault
 abbrev pub listing_of_file : List ℕ → Result (List ℕ) Refusal
-listing_of_file bytes = result_map_both listing_of (λ fault. fault) (layout_of_file bytes)
+listing_of_file bytes = result_map_both listing_of refusal_of (program_of_file bytes)
 
 -- a refusal of `dis`: a fault of the file is the wanted one, or Memory; where the output was refused, a beginning of
 -- the wanted text was written, and a write may be refused so. Unreadable comes only where a read may fail, and Memory of

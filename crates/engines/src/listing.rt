@@ -5,14 +5,17 @@ ghost use Rattle.std.specs.Io.KnownBytes.{Appends};
 ghost use Rattle.std.specs.Option.{option_map};
 ghost use Rattle.std.specs.String.{string_bytes};
 ghost use Rattle.byte_streams.specs.Written.{MayRefuse};
-ghost use Rattle.engines.specs.Engine.{IsProgramFault, IsUnwritten, layout_of_file};
+ghost use Rattle.engines.specs.Engine.{IsFileFault, IsUnwritten};
 ghost use Rattle.engines.specs.Listing.{IsListingFault, listing_line, listing_of, listing_of_file};
+ghost use Rattle.programs.specs.Programs.{program_of_file};
 ghost use Rattle.receipts.specs.Text.{word_text};
 
 use crate::fault::Refusal;
-use crate::reading::read_elf;
+use crate::loading::refusal_of;
+use crate::reading::read_program;
 use byte_streams::{Destination, Source, write_whole};
-use elf32::{ElfError, Image, PlacedWord, load};
+use elf32::{Image, PlacedWord};
+use programs::{ProgramFault, load_file};
 use receipts::word_text;
 use rv_text::disassemble;
 use std::alloc::{AllocError, Global};
@@ -31,7 +34,11 @@ pub fn dis_to<R: Source, W: Destination>(
         IsListingFault (R.may_fail file.old) (MayRefuse (W.may_fail out.old) (W.may_take_nothing out.old)) (listing_of_file bytes) (W.contents out.old) (W.contents out.new) e)) }
     ensures unwritten { IfErr result (λ e. IsUnwritten (W.contents out.old) (W.contents out.new) e) }
 {
-    let listing = listing(alloc, file)?;
+    // Not by `?`: the proof answers this arm.
+    let listing = match listing(alloc, file) {
+        Ok(listing) => listing,
+        Err(fault) => return Err(refusal_of(fault)),
+    };
     match write_whole(listing.as_bytes(), out) {
         Ok(()) => Ok(()),
         Err(fault) => Err(Refusal::Output(fault)),
@@ -39,16 +46,13 @@ pub fn dis_to<R: Source, W: Destination>(
 }
 
 /// The lines of an ELF file.
-fn listing<R: Source>(alloc: Global, file: &mut R) -> Result<String, Refusal>
+fn listing<R: Source>(alloc: Global, file: &mut R) -> Result<String, ProgramFault>
     ensures ok { IfOk result (λ t. IfSome (R.remaining file.old) (λ bytes. listing_of_file bytes ≡ Ok (string_bytes t))) }
-    ensures err { IfErr result (λ e. IsProgramFault (R.may_fail file.old) (option_map layout_of_file (R.remaining file.old)) e) }
+    ensures err { IfErr result (λ fault. IsFileFault (R.may_fail file.old) (option_map program_of_file (R.remaining file.old)) fault) }
 {
-    let bytes = read_elf(alloc, file)?;
-    let image = load(alloc, bytes.as_slice()).map_err(Refusal::Elf)?;
-    match listing_text(alloc, &image) {
-        Ok(text) => Ok(text),
-        Err(_) => Err(Refusal::Elf(ElfError::Memory)),
-    }
+    let bytes = read_program(alloc, file)?;
+    let image = load_file(alloc, bytes.as_slice())?;
+    Ok(listing_text(alloc, &image)?)
 }
 
 /// The lines of an image; refused where memory ran out.

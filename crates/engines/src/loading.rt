@@ -1,19 +1,20 @@
 //! The job of a block file and the files of its programs.
 
-ghost use Rattle.std.specs.Prelude.{◌≡◌, ◌⊎◌, ◌<◌, ◌≤◌, length, map, vec_len, All, IfOk, IfErr, IfSome, None, Ok, Some};
+ghost use Rattle.std.specs.Prelude.{◌≡◌, ◌<◌, ◌≤◌, length, map, vec_len, All, IfOk, IfErr, IfSome, Ok};
 ghost use Rattle.std.specs.Arc.{arc_value};
-ghost use Rattle.std.specs.Option.{option_map};
-ghost use Rattle.std.specs.String.{string_bytes};
 ghost use Rattle.block_file.specs.Block.{block_of, block_value, call_value};
-ghost use Rattle.engines.specs.Engine.{IsBlockFault, IsLoadFault, IsProgramFault, call_over, loaded_job, layout_of_file, programs_of};
+ghost use Rattle.engines.specs.Engine.{IsBlockFault, IsLoadFault, loaded_job, refusal_of};
+ghost use Rattle.programs.specs.Programs.{call_over};
 
 use crate::fault::{FileFault, Refusal};
+use crate::file_loader::FileLoader;
 use crate::program_source::Programs;
-use crate::reading::{read_elf, read_text};
+use crate::reading::read_text;
 use block_file::{BlockFault, BlockText, CallLine, Cause, parse};
 use byte_streams::Source;
-use elf32::{ElfError, Image, load};
-use rv_ledger::{Call, Job, Rules, Store};
+use elf32::Image;
+use programs::{ProgramFault, calls_over, programs_at};
+use rv_ledger::{Job, Rules, Store};
 use std::alloc::{AllocError, Global};
 use std::sync::Arc;
 
@@ -73,80 +74,26 @@ fn load_text<P: Programs>(
         store,
         calls,
     } = text;
-    let images = load_all(alloc, programs, paths.as_slice())?;
+    let mut loader = FileLoader { alloc, programs };
+    // Not by `?`: the proof answers this arm.
+    let images = match programs_at(alloc, &mut loader, paths.as_slice()) {
+        Ok(images) => images,
+        Err(fault) => return Err(refusal_of(fault)),
+    };
     match job_of(alloc, rules, images.as_slice(), calls, store) {
         Ok(job) => Ok(job),
-        Err(_) => Err(memory),
+        Err(AllocError) => Err(memory),
     }
 }
 
-/// Opens, reads and loads the programs in the order of their numbers.
-fn load_all<P: Programs>(
-    alloc: Global,
-    programs: &mut P,
-    paths: &[String],
-) -> Result<Vec<Arc<Image>>, Refusal>
-    ensures all { IfOk result (λ v. vec_len v ≡ length paths.now) }
-    ensures ok { IfOk result (λ v. IfSome (programs_of (P.content programs.old) (map string_bytes paths.now)) (λ wanted.
-        wanted ≡ Ok (map arc_value v.items))) }
-    ensures err { IfErr result (λ e. let wanted = programs_of (P.content programs.old) (map string_bytes paths.now) in
-        IsProgramFault (wanted ≡ None) wanted e) }
+/// How a command is refused where a program is.
+pub(crate) fn refusal_of(fault: ProgramFault) -> Refusal
+    ensures { result ≡ refusal_of fault }
 {
-    let mut images = Vec::new(alloc);
-    for path in paths {
-        // Not by `?`: the proof answers this arm.
-        let image = match load_one(alloc, programs, path.as_str()) {
-            Ok(image) => image,
-            Err(refusal) => return Err(refusal),
-        };
-        if images.push(image).is_err() {
-            return Err(Refusal::Elf(ElfError::Memory));
-        }
-    }
-    Ok(images)
-}
-
-/// Opens, reads and loads a program.
-pub(crate) fn load_one<P: Programs>(
-    alloc: Global,
-    programs: &mut P,
-    path: &str,
-) -> Result<Arc<Image>, Refusal>
-    ensures same { P.content programs.new ≡ P.content programs.old }
-    ensures ok { IfOk result (λ i. IfSome (P.content programs.old path.now) (λ bytes. layout_of_file bytes ≡ Ok (arc_value i))) }
-    ensures err { IfErr result (λ e. IsProgramFault (P.content programs.old path.now ≡ None) (option_map layout_of_file (P.content programs.old path.now)) e) }
-{
-    let bytes = read_program(alloc, programs, path)?;
-    load_program(alloc, bytes.as_slice())
-}
-
-/// Opens and reads the file of a program.
-fn read_program<P: Programs>(
-    alloc: Global,
-    programs: &mut P,
-    path: &str,
-) -> Result<Vec<u8>, Refusal>
-    ensures same { P.content programs.new ≡ P.content programs.old }
-    ensures ok { IfOk result (λ v. IfSome (P.content programs.old path.now) (λ bytes. v.items ≡ bytes)) }
-    ensures short { IfOk result (λ v. vec_len v ≤ 131072) }
-    ensures err { IfErr result (λ e. IsProgramFault (P.content programs.old path.now ≡ None) (option_map layout_of_file (P.content programs.old path.now)) e) }
-{
-    let Ok(mut file) = programs.open(path) else {
-        return Err(Refusal::File(FileFault::Unreadable));
-    };
-    read_elf(alloc, &mut file)
-}
-
-/// Loads the program of a file of at most 131,072 bytes.
-fn load_program(alloc: Global, bytes: &[u8]) -> Result<Arc<Image>, Refusal>
-    requires { length bytes.now ≤ 131072 }
-    ensures ok { IfOk result (λ i. layout_of_file bytes.now ≡ Ok (arc_value i)) }
-    ensures err { IfErr result (λ e. IsProgramFault ⊥ (Some (layout_of_file bytes.now)) e) }
-{
-    let image = load(alloc, bytes).map_err(Refusal::Elf)?;
-    match Arc::new(alloc, image) {
-        Ok(image) => Ok(image),
-        Err(_) => Err(Refusal::Elf(ElfError::Memory)),
+    match fault {
+        ProgramFault::Unreadable => Refusal::File(FileFault::Unreadable),
+        ProgramFault::TooLong => Refusal::File(FileFault::TooLong),
+        ProgramFault::Elf(fault) => Refusal::Elf(fault),
     }
 }
 
@@ -162,29 +109,9 @@ fn job_of(
     requires known { All (λ line. line.program < length images.now) lines.items }
     ensures { IfOk result (λ j. j ≡ record { block = map (call_over rules (map arc_value images.now)) (map call_value lines.items); store = store }) }
 {
-    let mut calls = Vec::with_capacity(alloc, lines.len())?;
-    for line in lines {
-        calls.push(call_on_line(rules, images, line)?)?;
-    }
+    let calls = calls_over(alloc, rules, images, lines)?;
     let Ok(job) = Job::new(calls, store) else {
         unreachable!()
     };
     Ok(job)
-}
-
-/// The call of a line over the loaded programs; refused where memory ran out.
-fn call_on_line(rules: Rules, images: &[Arc<Image>], line: CallLine) -> Result<Call, AllocError>
-    requires { line.program < length images.now }
-    ensures { IfOk result (λ c. c ≡ call_over rules (map arc_value images.now) (call_value line)) }
-{
-    let CallLine {
-        program,
-        gas,
-        input,
-    } = line;
-    let image = Arc::try_clone(&images[program])?;
-    let Ok(call) = Call::under(rules, image, gas, input) else {
-        unreachable!()
-    };
-    Ok(call)
 }

@@ -2,15 +2,14 @@
 
 ghost use Rattle.std.specs.Prelude.{◌≡◌, ◌⊎◌, ◌<◌, ◌≤◌, length, vec_len, IfOk, IfErr, IfSome};
 ghost use Rattle.std.specs.Option.{option_map};
-ghost use Rattle.engines.specs.Engine.{IsProgramFault, layout_of_file};
+ghost use Rattle.engines.specs.Engine.{IsFileFault};
+ghost use Rattle.programs.specs.Programs.{program_of_file};
 
 use crate::fault::{FileFault, Refusal};
 use byte_streams::Source;
 use elf32::ElfError;
+use programs::{FILE_LIMIT, ProgramFault};
 use std::alloc::Global;
-
-/// The greatest length of a program file, in bytes.
-const PROGRAM_FILE_LIMIT: usize = 131_072;
 
 /// The greatest number of bytes that one read asks for.
 const PART_BYTES: usize = 32_768;
@@ -71,15 +70,17 @@ pub(crate) fn read_text<R: Source>(
 
 /// All the bytes that a reader of a program file has left. Refused as TooLong where there are more than
 /// 131,072, as Unreadable where a read failed, and as Memory where memory ran out.
-pub(crate) fn read_elf<R: Source>(alloc: Global, reader: &mut R) -> Result<Vec<u8>, Refusal>
+pub(crate) fn read_program<R: Source>(
+    alloc: Global,
+    reader: &mut R,
+) -> Result<Vec<u8>, ProgramFault>
     ensures ok { IfOk result (λ v. IfSome (R.remaining reader.old) (λ bytes. v.items ≡ bytes)) }
-    ensures short { IfOk result (λ v. vec_len v ≤ 131072) }
-    ensures err { IfErr result (λ e. IsProgramFault (R.may_fail reader.old) (option_map layout_of_file (R.remaining reader.old)) e) }
+    ensures err { IfErr result (λ fault. IsFileFault (R.may_fail reader.old) (option_map program_of_file (R.remaining reader.old)) fault) }
 {
-    match read_whole(alloc, reader, PROGRAM_FILE_LIMIT) {
+    match read_whole(alloc, reader, FILE_LIMIT) {
         Ok(bytes) => Ok(bytes),
-        Err(ReadFault::Memory) => Err(Refusal::Elf(ElfError::Memory)),
-        Err(ReadFault::TooLong) => Err(Refusal::File(FileFault::TooLong)),
-        Err(ReadFault::Unreadable) => Err(Refusal::File(FileFault::Unreadable)),
+        Err(ReadFault::Memory) => Err(ProgramFault::Elf(ElfError::Memory)),
+        Err(ReadFault::TooLong) => Err(ProgramFault::TooLong),
+        Err(ReadFault::Unreadable) => Err(ProgramFault::Unreadable),
     }
 }
