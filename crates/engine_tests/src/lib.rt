@@ -4,6 +4,7 @@
 
 #[cfg(test)]
 mod adversary;
+#[cfg(test)]
 mod areas;
 #[cfg(test)]
 mod assembled;
