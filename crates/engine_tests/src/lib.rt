@@ -63,6 +63,8 @@ mod schedules;
 #[cfg(test)]
 mod session_threads;
 #[cfg(test)]
+mod session_turns;
+#[cfg(test)]
 mod sizes;
 #[cfg(test)]
 mod sources;

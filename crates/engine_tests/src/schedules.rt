@@ -1,7 +1,6 @@
 //! Lists of worker numbers, over blocks whose calls meet each other's writes: what is printed is what
 //! running the calls in order prints.
 
-use crate::adversary::{ADVERSARY, SEVEN_READERS};
 use crate::asserts::assert_right;
 use crate::blocks::{BlockInMemory, forty_counts_block, is_forty_counts};
 use crate::calls::{job_of, job_of_inputs, text_of};
@@ -165,13 +164,6 @@ const SCHEDULES: &[Schedule] = &[
         turns: &[(0, 23)],
         executions: &[3],
     },
-    Schedule {
-        name: "adversary: the last of seven calls comes to incarnation 120",
-        row: SEVEN_READERS,
-        workers: 7,
-        turns: ADVERSARY,
-        executions: &[14, 24, 31, 29, 21, 7, 1],
-    },
 ];
 
 /// The entries of a list.
@@ -186,7 +178,7 @@ fn entries_of(alloc: Global, turns: &[(u16, usize)]) -> Result<Vec<u16>, AllocEr
 }
 
 /// Whether each worker recorded so many runs.
-fn are_executions(found: &[Counts], wanted: &[u64]) -> bool {
+pub fn are_executions(found: &[Counts], wanted: &[u64]) -> bool {
     let mut is_right = found.len() == wanted.len();
     for (counts, executions) in found.iter().zip(wanted) {
         is_right = is_right && counts.executions == *executions;

@@ -1,3 +1,4 @@
 pub mod Text
 pub mod Buffer
 pub mod Ranges
+pub mod Brief

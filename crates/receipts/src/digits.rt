@@ -140,7 +140,7 @@ fn push_pairs<W: Destination>(text: &mut TextBuffer, bytes: &[u8], out: &mut W)
 }
 
 /// Appends bytes in hex, or a dash where there are none.
-pub(crate) fn push_bytes<W: Destination>(text: &mut TextBuffer, bytes: &[u8], out: &mut W)
+pub fn push_bytes<W: Destination>(text: &mut TextBuffer, bytes: &[u8], out: &mut W)
     ensures { Appended W.contents W.may_fail W.may_take_nothing text.old out.old text.new out.new (bytes_text bytes.now) }
 {
     if bytes.is_empty() {

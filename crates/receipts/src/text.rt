@@ -67,7 +67,7 @@ fn push_call<W: Destination>(text: &mut TextBuffer, index: usize, receipt: &Rece
 }
 
 /// Appends the line that says how the call at an index ended.
-fn push_call_line<W: Destination>(
+pub(crate) fn push_call_line<W: Destination>(
     text: &mut TextBuffer,
     index: usize,
     receipt: &Receipt,
@@ -103,7 +103,7 @@ fn push_gas_and_pc<W: Destination>(text: &mut TextBuffer, gas: u32, pc: u32, out
 }
 
 /// Appends the line of the 32 registers, x0 first.
-fn push_regs<W: Destination>(text: &mut TextBuffer, regs: &Regs, out: &mut W)
+pub(crate) fn push_regs<W: Destination>(text: &mut TextBuffer, regs: &Regs, out: &mut W)
     ensures { Appended W.contents W.may_fail W.may_take_nothing text.old out.old text.new out.new (regs_line regs.now) }
 {
     text.push(b"regs", out);
@@ -121,7 +121,12 @@ fn push_words<W: Destination>(text: &mut TextBuffer, words: &[u32; 32], out: &mu
 }
 
 /// Appends the lines of the writes of the call at an index.
-fn push_writes<W: Destination>(text: &mut TextBuffer, index: usize, writes: &Writes, out: &mut W)
+pub(crate) fn push_writes<W: Destination>(
+    text: &mut TextBuffer,
+    index: usize,
+    writes: &Writes,
+    out: &mut W,
+)
     ensures { Appended W.contents W.may_fail W.may_take_nothing text.old out.old text.new out.new (flat_map (write_line index) (entries writes.now)) }
 {
     for (key, change) in writes.as_slice() {
@@ -177,7 +182,12 @@ fn push_store<W: Destination>(text: &mut TextBuffer, store: &Store, out: &mut W)
 }
 
 /// Appends the line of one key of the storage.
-fn push_entry<W: Destination>(text: &mut TextBuffer, key: &Key, value: &StoredValue, out: &mut W)
+pub fn push_entry<W: Destination>(
+    text: &mut TextBuffer,
+    key: &Key,
+    value: &StoredValue,
+    out: &mut W,
+)
     ensures { Appended W.contents W.may_fail W.may_take_nothing text.old out.old text.new out.new (store_line (key.now, value.now)) }
 {
     text.push(b"store ", out);

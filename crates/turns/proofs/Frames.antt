@@ -1,0 +1,194 @@
+-- A frame, stage by stage.
+use Rattle.std.proofs.Common.{◌≡◌, ◌⊎◌, ◌<◌, ◌≤◌, ℕ, List, Bool, true, false, length, nat_lt, nat_le, Result, Ok, Err, inl, inr, rules, refl, sym, ap, subst, ◌∙◌, arith, [], ◌∷◌, if◌then◌else◌}
+use Rattle.std.specs.Prelude.{IfErr, IsOk, Vec}
+use Rattle.std.specs.declared.alloc.Global.{Global}
+use Rattle.std.specs.Result.{result_map_both}
+use Rattle.std.proofs.lemmas.Bool.Decides.{nat_tests}
+use Rattle.block_file.specs.Block.{BlockValue, block_of}
+use Rattle.block_file.specs.declared.fault.BlockFault.{BlockFault}
+use Rattle.elf32.specs.Layout.{Layout}
+use Rattle.rv_ledger.specs.declared.rules.Rules.{Rules}
+use Rattle.turns.specs.Failures.{MayFailFrame}
+use Rattle.turns.specs.Programs.{ProgramsByName, before, program_named, programs_of}
+use Rattle.turns.specs.Replies.{Done, Refused}
+use Rattle.turns.specs.Stages.{Answers, FailsOnlyWhere, IsAccepted, IsAnswered, IsRan, IsStopped, StopsAt, accepted_value, left_of, stopped_answer}
+use Rattle.turns.specs.Telling.{rules_number}
+use Rattle.turns.specs.Turn.{Accepted, Turn, ◌>>=◌, accepted, accepted_block, counted, frame_answer, frame_turn, gas_of, is_above, try_turn, unless}
+use Rattle.turns.specs.declared.answer.Answer.{Answer}
+use Rattle.turns.specs.declared.answer.Answer.TheVariants as answer
+use Rattle.turns.specs.declared.refusal.Failure.{Failure}
+use Rattle.turns.specs.declared.refusal.Failure.TheVariants as want
+use Rattle.turns.specs.declared.refusal.Refusal.{Refusal}
+use Rattle.turns.specs.declared.refusal.Refusal.TheVariants.{Block, NoProgram, OlderRules, TooLong, TooMuchGas}
+use Rattle.turns.specs.declared.run.Left.{Left}
+use Rattle.turns.specs.declared.settings.Settings.{Settings}
+use Rattle.turns.specs.declared.stages.AcceptedFrame.{AcceptedFrame}
+use Rattle.turns.specs.declared.stages.Stop.{Stop}
+use Rattle.turns.specs.declared.stages.Stop.TheVariants as stop
+use Rattle.turns.specs.declared.state.State.{State}
+
+-- ---- stops
+
+-- where memory may run out by one condition, it may by a weaker one
+pub fails_weaker : {X : Type 0} (P Q : Failure → Type 0) (given : Result X Stop) → ((f : Failure) → P f → Q f) → FailsOnlyWhere P given → FailsOnlyWhere Q given
+fails_weaker P Q (Ok x) h p = tt
+fails_weaker P Q (Err (stop.Failed f)) h p = h f p
+fails_weaker P Q (Err (stop.Refused r)) h p = tt
+
+-- memory may run out whatever is wanted
+pub answers_failed : {A X : Type 0} (is : A → X → Type 0) (wanted : Result A Refusal) (f : Failure) → Answers is wanted (Err (stop.Failed f))
+answers_failed is (Ok w) f = tt
+answers_failed is (Err w) f = tt
+
+-- ---- the text
+
+text_is : (b : Bool) (text : Result BlockValue BlockFault) (block : BlockValue) (f : BlockValue → Result Accepted Refusal) → b ≡ false → text ≡ Ok block → unless b TooLong (result_map_both (λ x. x) Block text >>= f) ≡ f block
+text_is false text block f short is = ap (λ (t : Result BlockValue BlockFault). result_map_both (λ x. x) Block t >>= f) is
+text_is true text block f short is = cc
+
+text_stops : (b : Bool) (text : Result BlockValue BlockFault) (f : BlockValue → Result Accepted Refusal) (why : Stop) → b ≡ false → StopsAt text why → Answers IsAccepted (unless b TooLong (result_map_both (λ x. x) Block text >>= f)) (Err why)
+text_stops true text f why short is = cc
+text_stops false text f (stop.Failed failure) short is = answers_failed IsAccepted (result_map_both (λ x. x) Block text >>= f) failure
+text_stops false (Err fault) f (stop.Refused refusal) short is = is
+text_stops false (Ok block) f (stop.Refused refusal) short is = absurd is
+
+accepted_is : (settings : Settings) (s : State) (bytes : List ℕ) (block : BlockValue) → length bytes ≤ settings.frame_limit → block_of bytes ≡ Ok block → accepted settings s bytes ≡ accepted_block settings s block
+accepted_is settings s bytes block short is =
+    let test : nat_lt settings.frame_limit (length bytes) ≡ false = grind (arith, nat_tests) in
+    text_is (nat_lt settings.frame_limit (length bytes)) (block_of bytes) block (accepted_block settings s) test is
+
+-- behind a text that was read
+pub says_block : (settings : Settings) (s : State) (bytes : List ℕ) (block : BlockValue) (given : Result AcceptedFrame Stop) → length bytes ≤ settings.frame_limit → block_of bytes ≡ Ok block
+    → Answers IsAccepted (accepted_block settings s block) given → Answers IsAccepted (accepted settings s bytes) given
+says_block settings s bytes block given short is says = subst (λ (r : Result Accepted Refusal). Answers IsAccepted r given) (sym (accepted_is settings s bytes block short is)) says
+
+pub fails_block : (settings : Settings) (s : State) (bytes : List ℕ) (block : BlockValue) (given : Result AcceptedFrame Stop) → length bytes ≤ settings.frame_limit → block_of bytes ≡ Ok block
+    → FailsOnlyWhere (λ failure. (failure ≡ want.Program) × IfErr (accepted_block settings s block) (λ refusal. refusal ≡ NoProgram)) given → FailsOnlyWhere (MayFailFrame settings s bytes) given
+fails_block settings s bytes block given short is fails = fails_weaker _ (MayFailFrame settings s bytes) given
+    (λ f p. subst (MayFailFrame settings s bytes) (sym p.0) (subst (λ (r : Result Accepted Refusal). IfErr r (λ refusal. refusal ≡ NoProgram)) (sym (accepted_is settings s bytes block short is)) p.1)) fails
+
+-- where it was not read
+pub says_stopped : (settings : Settings) (s : State) (bytes : List ℕ) (why : Stop) → length bytes ≤ settings.frame_limit → StopsAt (block_of bytes) why → Answers IsAccepted (accepted settings s bytes) (Err why)
+says_stopped settings s bytes why short is =
+    let test : nat_lt settings.frame_limit (length bytes) ≡ false = grind (arith, nat_tests) in
+    text_stops (nat_lt settings.frame_limit (length bytes)) (block_of bytes) (accepted_block settings s) why test is
+
+pub fails_stopped : (settings : Settings) (s : State) (bytes : List ℕ) (why : Stop) → length bytes ≤ settings.frame_limit → StopsAt (block_of bytes) why → FailsOnlyWhere {X = AcceptedFrame} (MayFailFrame settings s bytes) (Err why)
+fails_stopped settings s bytes (stop.Refused refusal) short is = tt
+fails_stopped settings s bytes (stop.Failed failure) short is =
+    let test : nat_lt settings.frame_limit (length bytes) ≡ false = grind (arith, nat_tests) in
+    subst (MayFailFrame settings s bytes) (sym is) test
+
+-- ---- the programs
+
+-- a program that is not here is the only fault of programs
+before_refuses : (first : Result Layout Refusal) (rest : Result (List Layout) Refusal) → IfErr first (λ r. r ≡ NoProgram) → IfErr rest (λ r. r ≡ NoProgram) → IfErr (before first rest) (λ r. r ≡ NoProgram)
+before_refuses (Err r) rest p q = p
+before_refuses (Ok image) (Err r) p q = q
+before_refuses (Ok image) (Ok images) p q = tt
+
+named_refuses : (programs : ProgramsByName) (path : List ℕ) → IfErr (program_named programs path) (λ r. r ≡ NoProgram)
+named_refuses programs path = search rules
+
+programs_refuse : (programs : ProgramsByName) (paths : List (List ℕ)) → IfErr (programs_of programs paths) (λ r. r ≡ NoProgram)
+programs_refuse programs [] = tt
+programs_refuse programs (path ∷ paths) = before_refuses (program_named programs path) (programs_of programs paths) (named_refuses programs path) (programs_refuse programs paths)
+
+map_refuses : (block : BlockValue) (images : Result (List Layout) Refusal) → IfErr images (λ r. r ≡ NoProgram) → IfErr {T = Accepted} (result_map_both (λ images. record { block = block; images = images }) (λ refusal. refusal) images) (λ r. r ≡ NoProgram)
+map_refuses block (Ok images) h = tt
+map_refuses block (Err r) h = h
+
+tests_refuse : (a b : Bool) (rest : Result Accepted Refusal) → a ≡ false → b ≡ false → IfErr rest (λ r. r ≡ NoProgram) → IfErr (unless a TooMuchGas (unless b OlderRules rest)) (λ r. r ≡ NoProgram)
+tests_refuse false false rest p q h = h
+tests_refuse true b rest p q h = cc
+tests_refuse false true rest p q h = cc
+
+-- where the programs stop
+pub fails_programs : (settings : Settings) (s : State) (block : BlockValue) (why : Stop) → is_above settings.frame_gas (gas_of block) ≡ false → nat_lt (rules_number block.rules) (rules_number s.rules) ≡ false
+    → (why ≡ stop.Failed want.Program) ⊎ ((programs_of s.programs block.programs ≡ Err NoProgram) × (why ≡ stop.Refused NoProgram))
+    → FailsOnlyWhere {X = AcceptedFrame} (λ failure. (failure ≡ want.Program) × IfErr (accepted_block settings s block) (λ refusal. refusal ≡ NoProgram)) (Err why)
+fails_programs settings s block why gas rules (inl e) = subst
+    (λ (w : Stop). FailsOnlyWhere {X = AcceptedFrame} (λ failure. (failure ≡ want.Program) × IfErr (accepted_block settings s block) (λ refusal. refusal ≡ NoProgram)) (Err w)) (sym e)
+    (refl, tests_refuse (is_above settings.frame_gas (gas_of block)) (nat_lt (rules_number block.rules) (rules_number s.rules)) _ gas rules (map_refuses block (programs_of s.programs block.programs) (programs_refuse s.programs block.programs)))
+fails_programs settings s block why gas rules (inr p) = subst
+    (λ (w : Stop). FailsOnlyWhere {X = AcceptedFrame} (λ failure. (failure ≡ want.Program) × IfErr (accepted_block settings s block) (λ refusal. refusal ≡ NoProgram)) (Err w)) (sym p.1) tt
+
+-- ---- the run
+
+-- what a frame that ran gives
+abbrev pub Ran : Type 0
+Ran = Vec ℕ Global × Rules × Left
+
+accepted_ok : (wanted : Result Accepted Refusal) (frame : AcceptedFrame) → Answers IsAccepted wanted (Ok frame) → IsOk wanted
+accepted_ok (Ok w) frame is = refl
+accepted_ok (Err r) frame is = absurd is
+
+ran_ok : (settings : Settings) (s : State) (wanted : Result Accepted Refusal) (ran : Ran) → Answers (IsRan settings s) wanted (Ok ran) → IsOk wanted
+ran_ok settings s (Ok w) ran is = refl
+ran_ok settings s (Err r) ran is = absurd is
+
+pub ran_answers : (settings : Settings) (s : State) (wanted : Result Accepted Refusal) (frame : AcceptedFrame) (ran : Ran) → Answers IsAccepted wanted (Ok frame) → IsRan settings s (accepted_value frame) ran → Answers (IsRan settings s) wanted (Ok ran)
+ran_answers settings s (Err r) frame ran is done = absurd is
+ran_answers settings s (Ok w) frame ran is done =
+    let same : accepted_value frame ≡ w = λ j. record { block = is.0 j; images = is.1 j } in
+    subst (λ (a : Accepted). IsRan settings s a ran) same done
+
+-- a run fails where the frame was accepted
+pub run_fails : (settings : Settings) (s : State) (bytes : List ℕ) (frame : AcceptedFrame) (failure : Failure) → Answers IsAccepted (accepted settings s bytes) (Ok frame) → (failure ≡ want.Run) ⊎ (failure ≡ want.Answer) → MayFailFrame settings s bytes failure
+run_fails settings s bytes frame failure is (inl e) = subst (MayFailFrame settings s bytes) (sym e) (accepted_ok (accepted settings s bytes) frame is)
+run_fails settings s bytes frame failure is (inr e) = subst (MayFailFrame settings s bytes) (sym e) (accepted_ok (accepted settings s bytes) frame is)
+
+-- ---- the turn
+
+pub answered_weaker : (P Q : Failure → Type 0) (s : State) (wanted : Turn) (given : Answer) (after : State) → ((f : Failure) → P f → Q f) → IsAnswered P s wanted given after → IsAnswered Q s wanted given after
+answered_weaker P Q s wanted (answer.Done bytes) after h is = is
+answered_weaker P Q s wanted answer.Last after h is = is
+answered_weaker P Q s wanted answer.Storage after h is = is
+answered_weaker P Q s wanted (answer.Refused r) after h is = is
+answered_weaker P Q s wanted (answer.Failed f) after h is = (h f is.0, is.1)
+
+turn_is : (settings : Settings) (s : State) (bytes : List ℕ) → s.height < 9999999999 → frame_answer settings s (accepted settings s bytes) ≡ frame_turn settings s bytes
+turn_is settings s bytes low =
+    let test : nat_le 9999999999 s.height ≡ false = grind (arith, nat_tests) in
+    by_test (nat_le 9999999999 s.height) _ _ test
+  where
+    by_test : (b : Bool) (x y : Turn) → b ≡ false → y ≡ (if b then x else y)
+    by_test false x y e = refl
+    by_test true x y e = cc
+
+answer_kept : (settings : Settings) (s : State) (wanted : Result Accepted Refusal) (ran : Ran) → Answers (IsRan settings s) wanted (Ok ran) → counted (record s { store = left_of s.store ran.2; rules = ran.1 }) (Done ran.0.items) ≡ frame_answer settings s wanted
+answer_kept settings s (Ok w) ran is = λ j. counted (record s { store = is.2 j; rules = is.1 j }) (Done (is.0 j))
+answer_kept settings s (Err r) ran is = absurd is
+
+-- a frame that ran is kept
+pub frame_kept : (settings : Settings) (s : State) (bytes : List ℕ) (ran : Ran) (given : Answer) (after : State) → s.height < 9999999999 → Answers (IsRan settings s) (accepted settings s bytes) (Ok ran)
+    → IsAnswered (λ failure. failure ≡ want.Run) s (counted (record s { store = left_of s.store ran.2; rules = ran.1 }) (Done ran.0.items)) given after
+    → IsAnswered (λ failure. (s.height < 9999999999) × MayFailFrame settings s bytes failure) s (frame_turn settings s bytes) given after
+frame_kept settings s bytes ran given after low is done =
+    answered_weaker (λ failure. failure ≡ want.Run) _ s (frame_turn settings s bytes) given after
+    (λ f e. (low, subst (MayFailFrame settings s bytes) (sym e) (ran_ok settings s (accepted settings s bytes) ran is)))
+    (subst (λ (t : Turn). IsAnswered (λ failure. failure ≡ want.Run) s t given after) (answer_kept settings s (accepted settings s bytes) ran is ∙ turn_is settings s bytes low) done)
+
+stop_refused : (settings : Settings) (s : State) (wanted : Result Accepted Refusal) (refusal : Refusal) → Answers (IsRan settings s) wanted (Err (stop.Refused refusal)) → counted s (Refused refusal) ≡ frame_answer settings s wanted
+stop_refused settings s (Ok w) refusal is = absurd is
+stop_refused settings s (Err r) refusal is = ap (λ (x : Refusal). counted s (Refused x)) is
+
+-- one that stopped before is refused, or fails
+pub frame_stopped : (settings : Settings) (s : State) (bytes : List ℕ) (why : Stop) (given : Answer) (after : State) → s.height < 9999999999 → Answers (IsRan settings s) (accepted settings s bytes) (Err why)
+    → FailsOnlyWhere {X = Ran} (MayFailFrame settings s bytes) (Err why) → IsStopped s why given after
+    → IsAnswered (λ failure. (s.height < 9999999999) × MayFailFrame settings s bytes failure) s (frame_turn settings s bytes) given after
+frame_stopped settings s bytes (stop.Refused refusal) given after low is fails done =
+    answered_weaker (λ _. ⊥) _ s (frame_turn settings s bytes) given after (λ f none. absurd none)
+    (subst (λ (t : Turn). IsAnswered (λ _. ⊥) s t given after) (stop_refused settings s (accepted settings s bytes) refusal is ∙ turn_is settings s bytes low) done)
+frame_stopped settings s bytes (stop.Failed failure) given after low is fails done =
+    subst (λ (a : Answer). IsAnswered (λ failure. (s.height < 9999999999) × MayFailFrame settings s bytes failure) s (frame_turn settings s bytes) a after) (sym done.0) ((low, fails), done.1)
+
+-- the same of a frame that is only tried
+pub try_done : (settings : Settings) (s : State) (bytes : List ℕ) (ran : Ran) → s.height < 9999999999 → Answers (IsRan settings s) (accepted settings s bytes) (Ok ran) → Done ran.0.items ≡ (frame_turn settings s bytes).reply
+try_done settings s bytes ran low is = ap (λ (t : Turn). t.reply) (answer_kept settings s (accepted settings s bytes) ran is ∙ turn_is settings s bytes low)
+
+pub try_stopped : (settings : Settings) (s : State) (bytes : List ℕ) (why : Stop) → s.height < 9999999999 → Answers (IsRan settings s) (accepted settings s bytes) (Err why)
+    → FailsOnlyWhere {X = Ran} (MayFailFrame settings s bytes) (Err why)
+    → IsAnswered (λ failure. (s.height < 9999999999) × MayFailFrame settings s bytes failure) s (try_turn settings s bytes) (stopped_answer why) s
+try_stopped settings s bytes (stop.Refused refusal) low is fails = (ap (λ (t : Turn). t.reply) (stop_refused settings s (accepted settings s bytes) refusal is ∙ turn_is settings s bytes low), refl)
+try_stopped settings s bytes (stop.Failed failure) low is fails = ((low, fails), refl)

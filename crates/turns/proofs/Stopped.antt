@@ -1,0 +1,31 @@
+-- What a request is answered where a stage stopped.
+use Rattle.std.proofs.Common.{◌≡◌, ℕ, List, Option, Result, Ok, Err, not, refl, ap}
+use Rattle.std.specs.Result.{result_map_both}
+use Rattle.block_file.specs.Block.{BlockValue, block_of}
+use Rattle.block_file.specs.declared.fault.BlockFault.{BlockFault}
+use Rattle.turns.specs.Replies.{Refused}
+use Rattle.turns.specs.Stages.{IsAnswered, StopsAt, stopped_answer}
+use Rattle.turns.specs.Turn.{Turn, ◌>>=◌, agree, begin_turn, begun_with, is_dump, unless}
+use Rattle.turns.specs.declared.refusal.Failure.TheVariants as want
+use Rattle.turns.specs.declared.refusal.Refusal.TheVariants.{Block, NotADump, OtherDigest}
+use Rattle.turns.specs.declared.stages.Stop.{Stop}
+use Rattle.turns.specs.declared.stages.Stop.TheVariants as stop
+use Rattle.turns.specs.declared.state.State.{State}
+
+-- what `begin` does with a text that was read, or with its first fault
+abbrev begun_by : State → ℕ → Option (List ℕ) → Result BlockValue BlockFault → Turn
+begun_by s height digest text = begun_with s height digest (
+    result_map_both (λ block. block) Block text >>= (λ block.
+    unless (not (is_dump block)) NotADump (
+    unless (not (agree digest s.digest)) OtherDigest (Ok block))))
+
+begun_stopped : (s : State) (height : ℕ) (digest : Option (List ℕ)) (text : Result BlockValue BlockFault) (why : Stop) → StopsAt text why
+    → IsAnswered (λ failure. failure ≡ want.Block) s (begun_by s height digest text) (stopped_answer why) s
+begun_stopped s height digest text (stop.Failed failure) is = (is, refl)
+begun_stopped s height digest (Err fault) (stop.Refused refusal) is = (ap Refused is, refl)
+begun_stopped s height digest (Ok block) (stop.Refused refusal) is = absurd is
+
+-- where the text of `begin` is not read
+pub begin_stopped : (s : State) (height : ℕ) (digest : Option (List ℕ)) (bytes : List ℕ) (why : Stop) → StopsAt (block_of bytes) why
+    → IsAnswered (λ failure. failure ≡ want.Block) s (begin_turn s height digest bytes) (stopped_answer why) s
+begin_stopped s height digest bytes why is = begun_stopped s height digest (block_of bytes) why is

@@ -1,0 +1,6 @@
+pub mod Failures
+pub mod Programs
+pub mod Replies
+pub mod Telling
+pub mod Turn
+pub mod Stages

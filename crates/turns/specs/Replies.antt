@@ -1,0 +1,61 @@
+-- What a request is answered, as bytes.
+use Rattle.std.specs.Prelude.{ℕ, List, [], ◌++◌, codes, length, Option, Some, None}
+use Rattle.std.specs.Fmt.{decimal}
+use Rattle.byte_streams.specs.Refusals.{Parts, line_text, without_line}
+use Rattle.block_file.specs.Faults as block
+use Rattle.elf32.specs.Refusals as elf
+use Rattle.turns.specs.declared.kept.KeptAnswer.{KeptAnswer}
+use Rattle.turns.specs.declared.refusal.Refusal.{Refusal}
+use Rattle.turns.specs.declared.refusal.Refusal.TheVariants.{Block, Elf, FileTooLong, OlderRules, NoProgram, TooLong, TooMuchGas, NotADump, NoFrame, OtherDigest, TooHigh}
+use Rattle.turns.specs.declared.refusal.Failure.{Failure}
+use Rattle.turns.specs.declared.refusal.Failure.TheVariants as want
+
+-- a request is done, and these are the bytes of its answer; or it is refused; or this machine failed
+pub data Reply : Type 0 where
+  Done : List ℕ → Reply
+  Refused : Refusal → Reply
+  Failed : Failure → Reply
+
+-- the parts of what a refusal prints
+abbrev pub parts_of : Refusal → Parts
+parts_of (Block fault) = record { area = codes "block"; line = Some fault.line; name = block.name_of fault.cause; number = block.number_of fault.cause }
+parts_of (Elf fault) = without_line (codes "elf") (elf.name_of fault) (elf.number_of fault)
+parts_of FileTooLong = without_line (codes "file") (codes "TooLong") 3
+parts_of OlderRules = without_line (codes "frame") (codes "OlderRules") 2
+parts_of NoProgram = without_line (codes "frame") (codes "NoProgram") 3
+parts_of TooLong = without_line (codes "frame") (codes "TooLong") 4
+parts_of TooMuchGas = without_line (codes "frame") (codes "TooMuchGas") 5
+parts_of NotADump = without_line (codes "frame") (codes "NotADump") 6
+parts_of NoFrame = without_line (codes "frame") (codes "NoFrame") 7
+parts_of OtherDigest = without_line (codes "frame") (codes "OtherDigest") 8
+parts_of TooHigh = without_line (codes "frame") (codes "TooHigh") 9
+
+-- of a failure: want of memory for a body or a text, a program, a run or what it leaves, an answer
+abbrev pub parts_of_failure : Failure → Parts
+parts_of_failure want.Block = without_line (codes "block") (codes "Memory") 8
+parts_of_failure want.Program = without_line (codes "elf") (codes "Memory") 16
+parts_of_failure want.Run = without_line (codes "seq") (codes "Memory") 1
+parts_of_failure want.Answer = without_line (codes "output") (codes "Memory") 3
+
+-- the line of an answer, with its LF
+abbrev pub answer_line : Reply → List ℕ
+answer_line (Done bytes) = codes "ok " ++ decimal (length bytes) ++ codes "\n"
+answer_line (Refused refusal) = line_text (codes "refused ") (parts_of refusal)
+answer_line (Failed failure) = line_text (codes "failed ") (parts_of_failure failure)
+
+-- the bytes behind it
+abbrev pub answer_bytes : Reply → List ℕ
+answer_bytes (Done bytes) = bytes
+answer_bytes _ = []
+
+-- an answer: its line, and as many bytes as the line says
+abbrev pub answer_text : Reply → List ℕ
+answer_text reply = answer_line reply ++ answer_bytes reply
+
+-- the answer that is kept of a frame
+abbrev pub refused_or_done : Option Refusal → List ℕ → Reply
+refused_or_done None bytes = Done bytes
+refused_or_done (Some refusal) bytes = Refused refusal
+
+abbrev pub kept_reply : KeptAnswer → Reply
+kept_reply kept = refused_or_done kept.refusal kept.bytes

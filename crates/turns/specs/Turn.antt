@@ -1,0 +1,195 @@
+-- The turn of each request: what it is answered, and what it leaves.
+use Rattle.std.specs.Prelude.{ℕ, List, [], ◌∷◌, ◌++◌, ◌+◌, ◌==◌, map, length, nat_le, nat_lt, fold, Bool, true, false, not, ◌&&◌, Option, Some, None, Result, Ok, Err, replicate, if◌then◌else◌}
+use Rattle.std.specs.FinMap as fin
+use Rattle.std.specs.Option.{option_map}
+use Rattle.std.specs.Result.{result_map_both}
+use Rattle.std.specs.List.{sum_by}
+use Rattle.sha2.specs.Sha256.{sha256}
+use Rattle.block_file.specs.Block.{BlockValue, block_of}
+use Rattle.elf32.specs.Layout.{Layout}
+use Rattle.elf32.specs.Image.{image_of}
+use Rattle.requests.specs.Requests.{Ask, Program, Forget, Programs, Frame, Try, Last, Get, ListEntries, Dump, Begin, State as AskState, Quit}
+use Rattle.rv_ledger.specs.Key.{Storage}
+use Rattle.rv_ledger.specs.declared.rules.Rules.TheVariants as rules
+use Rattle.rv_step.specs.Fold.{receipts_of, store_after}
+use Rattle.receipts.specs.Brief.{receipts_text}
+use Rattle.turns.specs.Replies.{Reply, Done, Refused, Failed, answer_text, kept_reply}
+use Rattle.turns.specs.Telling.{content_line, dump_text, listed, names_text, rules_number, state_text}
+use Rattle.programs.specs.Programs.{calls_over}
+use Rattle.turns.specs.Programs.{programs_of}
+use Rattle.turns.specs.declared.kept.KeptAnswer.{KeptAnswer}
+use Rattle.turns.specs.declared.refusal.Refusal.{Refusal}
+use Rattle.turns.specs.declared.refusal.Refusal.TheVariants.{Block, Elf, FileTooLong, OlderRules, NoProgram, TooLong, TooMuchGas, NotADump, NoFrame, OtherDigest, TooHigh}
+use Rattle.turns.specs.declared.settings.Settings.{Settings}
+use Rattle.turns.specs.declared.state.State.{State}
+
+-- what a request is answered, and what it leaves
+pub record Turn : Type 0 where
+  pub reply : Reply
+  pub after : State
+
+-- a request that changes nothing
+abbrev pub told : State → Reply → Turn
+told s reply = record { reply = reply; after = s }
+
+-- ---- the session before its first request
+
+abbrev pub first_digest : Bool → Option (List ℕ)
+first_digest false = None
+first_digest true = Some (replicate 32 0)
+
+abbrev pub new_session : Settings → State
+new_session settings = record {
+  store = fin.empty;
+  rules = rules.One;
+  height = 0;
+  digest = first_digest settings.keeps_digest;
+  programs = fin.empty;
+  last = None;
+}
+
+-- ---- frames
+
+-- the gas limits of a block's calls together
+abbrev pub gas_of : BlockValue → ℕ
+gas_of block = sum_by (λ call. call.gas) block.calls
+
+abbrev pub is_above : Option ℕ → ℕ → Bool
+is_above None gas = false
+is_above (Some most) gas = nat_lt most gas
+
+-- the second step, where the first gave a value, else its refusal
+infixl 10 ◌>>=◌
+abbrev pub ◌>>=◌ : {A B : Type 0} → Result A Refusal → (A → Result B Refusal) → Result B Refusal
+(Ok x) >>= f = f x
+(Err refusal) >>= f = Err refusal
+
+abbrev pub unless : Bool → Refusal → {A : Type 0} → Result A Refusal → Result A Refusal
+unless holds refusal rest = if holds then Err refusal else rest
+
+-- a frame's block over the programs that it names, or its first fault: its text, the gas of its calls, its rules, its programs
+pub record Accepted : Type 0 where
+  pub block : BlockValue
+  pub images : List Layout
+
+abbrev pub accepted_block : Settings → State → BlockValue → Result Accepted Refusal
+accepted_block settings s block =
+    unless (is_above settings.frame_gas (gas_of block)) TooMuchGas (
+    unless (nat_lt (rules_number block.rules) (rules_number s.rules)) OlderRules (
+    result_map_both (λ images. record { block = block; images = images }) (λ refusal. refusal) (programs_of s.programs block.programs)))
+
+abbrev pub accepted : Settings → State → List ℕ → Result Accepted Refusal
+accepted settings s bytes =
+    unless (nat_lt settings.frame_limit (length bytes)) TooLong (
+    result_map_both (λ block. block) Block (block_of bytes) >>= accepted_block settings s)
+
+-- the storage that its calls run over: its own entries are put over the session's
+abbrev pub put_over : Storage → Storage → Storage
+put_over store entries = fold (λ s e. fin.insert s e.0 e.1) store (fin.entries entries)
+
+abbrev pub storage_for : State → Accepted → Storage
+storage_for s frame = put_over s.store frame.block.store
+
+-- the receipts of a frame, and the storage that it leaves
+abbrev pub receipts_reply : Settings → State → Accepted → Reply
+receipts_reply settings s frame = Done (receipts_text settings.is_brief (receipts_of (calls_over frame.block frame.images) (storage_for s frame)))
+
+abbrev pub after_run : State → Accepted → State
+after_run s frame = record s { store = store_after (calls_over frame.block frame.images) (storage_for s frame); rules = frame.block.rules }
+
+-- a frame that counts: the height goes up, its answer is kept, and the digest is that of the one before and of the answer
+abbrev pub next_digest : Option (List ℕ) → Reply → Option (List ℕ)
+next_digest digest reply = option_map (λ d. sha256 (d ++ answer_text reply)) digest
+
+abbrev pub kept_of : Reply → KeptAnswer
+kept_of (Done bytes) = record { refusal = None; bytes = bytes }
+kept_of (Refused refusal) = record { refusal = Some refusal; bytes = [] }
+kept_of (Failed failure) = record { refusal = None; bytes = [] }
+
+abbrev pub counted : State → Reply → Turn
+counted s reply = record {
+  reply = reply;
+  after = record s { height = s.height + 1; digest = next_digest s.digest reply; last = Some (kept_of reply) };
+}
+
+abbrev pub frame_answer : Settings → State → Result Accepted Refusal → Turn
+frame_answer settings s (Err refusal) = counted s (Refused refusal)
+frame_answer settings s (Ok frame) = counted (after_run s frame) (receipts_reply settings s frame)
+
+-- a frame that is refused for what is known of it before its text
+abbrev pub refused_frame : State → Refusal → Turn
+refused_frame s refusal = if nat_le 9999999999 s.height then told s (Refused TooHigh) else counted s (Refused refusal)
+
+-- at the greatest height no frame is run, and none counts
+abbrev pub frame_turn : Settings → State → List ℕ → Turn
+frame_turn settings s bytes =
+    if nat_le 9999999999 s.height then told s (Refused TooHigh) else frame_answer settings s (accepted settings s bytes)
+
+-- `try`: the answer to the same frame, and nothing is kept
+abbrev pub try_turn : Settings → State → List ℕ → Turn
+try_turn settings s bytes = told s (frame_turn settings s bytes).reply
+
+-- ---- other requests
+
+-- a program's file has at most 131,072 bytes; its name is its SHA-256
+abbrev pub program_of_file : List ℕ → Result Layout Refusal
+program_of_file file = result_map_both (λ image. image) Elf (image_of file)
+
+abbrev pub with_program : State → List ℕ → Result Layout Refusal → Turn
+with_program s name (Err refusal) = told s (Refused refusal)
+with_program s name (Ok image) = record { reply = Done (names_text (name ∷ [])); after = record s { programs = fin.insert s.programs name image } }
+
+-- one that is here already is not loaded again
+abbrev pub named_turn : State → List ℕ → List ℕ → Turn
+named_turn s name file =
+    if fin.contains_key s.programs name then told s (Done (names_text (name ∷ []))) else with_program s name (program_of_file file)
+
+abbrev pub program_turn : State → List ℕ → Turn
+program_turn s file = if nat_lt 131072 (length file) then told s (Refused FileTooLong) else named_turn s (sha256 file) file
+
+abbrev pub forget_turn : State → List ℕ → Turn
+forget_turn s name =
+    if fin.contains_key s.programs name then record { reply = Done []; after = record s { programs = fin.remove s.programs name } }
+    else told s (Refused NoProgram)
+
+abbrev pub last_reply : Option KeptAnswer → Reply
+last_reply None = Refused NoFrame
+last_reply (Some kept) = kept_reply kept
+
+-- `begin`: the text of a storage, without programs and calls, takes the place of the session's
+abbrev pub is_dump : BlockValue → Bool
+is_dump block = length block.programs == 0 && length block.calls == 0
+
+-- a digest comes where one is kept, and none where none is
+abbrev pub agree : Option (List ℕ) → Option (List ℕ) → Bool
+agree None None = true
+agree (Some one) (Some other) = true
+agree one other = false
+
+abbrev pub begun_with : State → ℕ → Option (List ℕ) → Result BlockValue Refusal → Turn
+begun_with s height digest (Err refusal) = told s (Refused refusal)
+begun_with s height digest (Ok block) = record {
+  reply = Done [];
+  after = record s { store = block.store; rules = block.rules; height = height; digest = digest; last = None };
+}
+
+abbrev pub begin_turn : State → ℕ → Option (List ℕ) → List ℕ → Turn
+begin_turn s height digest bytes = begun_with s height digest (
+    result_map_both (λ block. block) Block (block_of bytes) >>= (λ block.
+    unless (not (is_dump block)) NotADump (
+    unless (not (agree digest s.digest)) OtherDigest (Ok block))))
+
+-- the turn of a request
+abbrev pub turn : Settings → State → Ask → Turn
+turn settings s (Program file) = program_turn s file
+turn settings s (Forget name) = forget_turn s name
+turn settings s Programs = told s (Done (names_text (map (λ e. e.0) (fin.entries s.programs))))
+turn settings s (Frame bytes) = frame_turn settings s bytes
+turn settings s (Try bytes) = try_turn settings s bytes
+turn settings s Last = told s (last_reply s.last)
+turn settings s (Get key) = told s (Done (content_line (fin.get s.store key)))
+turn settings s (ListEntries from count) = told s (Done (listed s.store from count))
+turn settings s Dump = told s (Done (dump_text s.rules s.store))
+turn settings s (Begin height digest bytes) = begin_turn s height digest bytes
+turn settings s AskState = told s (Done (state_text settings s))
+turn settings s Quit = told s (Done [])

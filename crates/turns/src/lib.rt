@@ -1,0 +1,34 @@
+//! The turn of each request of a session: what it is answered, and what it leaves.
+#![tactic(auto)]
+
+mod accepting;
+mod answer;
+mod begin;
+mod digest;
+mod dump;
+mod frame;
+mod handed_in;
+mod kept;
+mod new_session;
+mod program_table;
+mod refusal;
+mod refusal_parts;
+mod run;
+mod runner;
+mod settings;
+mod stages;
+mod state;
+mod state_lines;
+mod telling;
+mod texts;
+mod turn;
+
+pub use answer::{Answer, AnswerLine, done_line, failed_line, refused_line};
+pub use dump::{dump_length, push_dump};
+pub use kept::{KeptAnswer, KeptBytes};
+pub use program_table::{ProgramTable, SharedImage};
+pub use refusal::{Failure, Refusal};
+pub use runner::{CallRunner, InOrder};
+pub use settings::Settings;
+pub use state::State;
+pub use turn::{fail_unkept, refuse_long, take_turn};

@@ -1,0 +1,103 @@
+//! The turn of a request.
+
+ghost use Rattle.std.specs.Prelude.{◌≡◌, ◌<◌, IfOk, List, OnErr, false, length, true, ℕ};
+ghost use Rattle.requests.specs.Reading.{ask_of, is_too_long};
+ghost use Rattle.requests.specs.Requests.{body_length, with_body};
+ghost use Rattle.turns.specs.Stages.{IsAnswered, IsTurn};
+ghost use Rattle.turns.specs.Turn.{last_reply, told, turn};
+ghost use Rattle.turns.specs.declared.settings.Settings.{Settings};
+
+use crate::answer::Answer;
+use crate::begin::begin;
+use crate::frame::{frame, long_frame, long_try, try_frame, unkept_frame};
+use crate::handed_in::{forget, hand_in, names};
+use crate::refusal::{Failure, Refusal};
+use crate::runner::CallRunner;
+use crate::settings::Settings;
+use crate::state::State;
+use crate::telling::{content, listed, state_text};
+use requests::{Request, RequestLine};
+use rv_ledger::Key;
+use std::alloc::{AllocError, Global};
+
+/// Does what a request asks for, and answers it. A request that is refused or fails changes nothing but that a refused frame
+/// counts.
+pub fn take_turn<C: CallRunner>(
+    alloc: Global,
+    runner: &mut C,
+    settings: Settings,
+    state: &mut State,
+    request: &Request,
+) -> Answer
+    requires ready { C.ready }
+    ensures { IsTurn settings state.old (ask_of request.now) result state.new }
+{
+    match request {
+        Request::Program(file) => hand_in(alloc, state, file.as_slice()),
+        Request::Forget(name) => forget(alloc, state, &Key::new(*name)),
+        Request::Programs => text_answer(names(alloc, &state.programs)),
+        Request::Frame(bytes) => frame(alloc, runner, settings, state, bytes.as_slice()),
+        Request::Try(bytes) => try_frame(alloc, runner, settings, state, bytes.as_slice()),
+        Request::Last => last(state),
+        Request::Get(key) => text_answer(content(alloc, &state.store, &Key::new(*key))),
+        Request::List(from, count) => {
+            text_answer(listed(alloc, &state.store, &Key::new(*from), *count))
+        }
+        Request::Dump => Answer::Storage,
+        Request::Begin(height, digest, bytes) => begin(
+            alloc,
+            state,
+            *height,
+            *digest,
+            bytes.as_slice(),
+        ),
+        Request::State => text_answer(state_text(alloc, settings, state)),
+        Request::Quit => Answer::Done(Vec::new(alloc)),
+    }
+}
+
+/// The answer that a text is.
+fn text_answer(text: Result<Vec<u8>, AllocError>) -> Answer
+    ensures ok { IfOk text (λ bytes. result ≡ Answer.Done bytes) }
+    ensures err { OnErr text (result ≡ Answer.Failed Failure.Answer) }
+{
+    match text {
+        Ok(text) => Answer::Done(text),
+        Err(AllocError) => Answer::Failed(Failure::Answer),
+    }
+}
+
+/// The last answer again; refused before the first one.
+fn last(state: &State) -> Answer
+    ensures { IsAnswered (λ _. ⊥) state.now (told state.now (last_reply state.now.last)) result state.now }
+{
+    match state.last {
+        Some(_) => Answer::Last,
+        None => Answer::Refused(Refusal::NoFrame),
+    }
+}
+
+/// Answers a request with more bytes behind its line than may be, which were passed over: a program, a frame, or one that is
+/// only tried.
+pub fn refuse_long(alloc: Global, state: &mut State, line: RequestLine) -> Answer
+    ensures { (settings : Settings) (bytes : List ℕ) → length bytes ≡ body_length line → is_too_long settings.frame_limit line ≡ true
+        → IsAnswered (λ _. ⊥) state.old (turn settings state.old (with_body line bytes)) result state.new }
+{
+    match line {
+        RequestLine::Frame(_) => long_frame(alloc, state),
+        RequestLine::Try(_) => long_try(state),
+        _ => Answer::Refused(Refusal::FileTooLong),
+    }
+}
+
+/// Answers a request for whose bytes memory ran out, which were passed over. Nothing changes.
+pub fn fail_unkept(state: &State, line: RequestLine) -> Answer
+    ensures { (settings : Settings) (bytes : List ℕ) → length bytes ≡ body_length line → is_too_long settings.frame_limit line ≡ false → 0 < body_length line
+        → IsTurn settings state.now (with_body line bytes) result state.now }
+{
+    match line {
+        RequestLine::Frame(_) | RequestLine::Try(_) => unkept_frame(state),
+        RequestLine::Program(_) => Answer::Failed(Failure::Program),
+        _ => Answer::Failed(Failure::Block),
+    }
+}
