@@ -36,7 +36,7 @@ const READ_ALL: &[u32] = &[
 ];
 
 /// Seven calls of it, each of which reads the keys of all calls before it.
-const SEVEN_READERS: Row = Row {
+const SEVEN_READERS: &Row = &Row {
     name: "seven readers",
     programs: &[READ_ALL],
     lines: "\
@@ -106,7 +106,7 @@ fn the_last_of_seven_calls_comes_to_incarnation_120(rt: HostRuntime) -> Result<(
     let schedule = worker_numbers(rt.alloc(), ADVERSARY)?;
     let outcome = drive(rt.alloc(), &job, 7, schedule.as_slice())?;
     let text = text_of(rt.alloc(), &outcome)?;
-    assert!(rt; is_in_order(rt.alloc(), &SEVEN_READERS, text.as_bytes())?);
+    assert!(rt; is_in_order(rt.alloc(), SEVEN_READERS, text.as_bytes())?);
     assert!(rt; are_executions(outcome.counts.as_slice(), EXECUTIONS));
     Ok(())
 }
