@@ -14,7 +14,7 @@ use Rattle.stm_state.proofs.Whole.{invariant_kept}
 use Rattle.never_stuck.proofs.IdleStates.{done_is}
 use Rattle.always_ends.specs.Work.{is_idle_asking, most_incarnations, work_of}
 use Rattle.always_ends.specs.Schedules.{IsFair}
-use Rattle.always_ends.specs.Laws.{EndlessRunsComeToDone}
+use Rattle.always_ends.specs.Laws.{EndlessRunsReachTheEnd}
 use Rattle.always_ends.proofs.Measure.{Bounds, cost, left, brought, Uses}
 use Rattle.always_ends.proofs.UsedUp.{made_uses, work_in}
 use Rattle.always_ends.proofs.WorkOfLists.{start_left}
@@ -138,11 +138,11 @@ module _ (b : Bounds) (some : 0 < b.workers) (counts : b.counts_reads ≡ true) 
   abbrev begins_with : ℕ
   begins_with = b.block.count * cost b
 
-  abbrev ComesToDone : (ℕ → State) → Type 0
-  ComesToDone states = (k : ℕ) × (is_done (states k) ≡ true)
+  abbrev ReachesDone : (ℕ → State) → Type 0
+  ReachesDone states = (k : ℕ) × (is_done (states k) ≡ true)
 
   comes_on : (bound fuel : ℕ) (steps : ℕ → ℕ × Step) (states : ℕ → State) → IsRunOn steps states → is_done (states 0) ≡ false → left b (states 0) + top ≤ fuel + (begins_with + brought b (states 0)) → fuel < suc bound
-      → ((n more : ℕ) → left b (later n states 0) + top ≤ more + (begins_with + brought b (later n states 0)) → more < bound → ComesToDone (later n states)) → ComesToDone states
+      → ((n more : ℕ) → left b (later n states 0) + top ≤ more + (begins_with + brought b (later n states 0)) → more < bound → ReachesDone (later n states)) → ReachesDone states
   comes_on bound fuel steps states h not_yet enough long rest =
       let c = covers b.workers b.workers (λ k. (steps k).0) h.fair (omega arith) in
       let used = stretch_works steps states h not_yet c (stretch c.number steps states h) in
@@ -155,14 +155,14 @@ module _ (b : Bounds) (some : 0 < b.workers) (counts : b.counts_reads ≡ true) 
       plus_none n = omega arith
 
   comes_by : (bound fuel : ℕ) (steps : ℕ → ℕ × Step) (states : ℕ → State) → IsRunOn steps states → left b (states 0) + top ≤ fuel + (begins_with + brought b (states 0)) → fuel < suc bound
-      → ((n more : ℕ) → left b (later n states 0) + top ≤ more + (begins_with + brought b (later n states 0)) → more < bound → ComesToDone (later n states)) → (over : Bool) → is_done (states 0) ≡ over → ComesToDone states
+      → ((n more : ℕ) → left b (later n states 0) + top ≤ more + (begins_with + brought b (later n states 0)) → more < bound → ReachesDone (later n states)) → (over : Bool) → is_done (states 0) ≡ over → ReachesDone states
   comes_by bound fuel steps states h enough long rest true over = (0, over)
   comes_by bound fuel steps states h enough long rest false over = comes_on bound fuel steps states h over enough long rest
 
-  comes_to_done : (bound fuel : ℕ) (steps : ℕ → ℕ × Step) (states : ℕ → State) → IsRunOn steps states → left b (states 0) + top ≤ fuel + (begins_with + brought b (states 0)) → fuel < bound → ComesToDone states
-  comes_to_done zero fuel steps states h enough long = absurd (omega (arith, long))
-  comes_to_done (suc bound) fuel steps states h enough long =
-      comes_by bound fuel steps states h enough long (λ n more left_more fewer. comes_to_done bound more (later n steps) (later n states) (later_run n steps states h) left_more fewer) (is_done (states 0)) refl
+  reaches_done : (bound fuel : ℕ) (steps : ℕ → ℕ × Step) (states : ℕ → State) → IsRunOn steps states → left b (states 0) + top ≤ fuel + (begins_with + brought b (states 0)) → fuel < bound → ReachesDone states
+  reaches_done zero fuel steps states h enough long = absurd (omega (arith, long))
+  reaches_done (suc bound) fuel steps states h enough long =
+      comes_by bound fuel steps states h enough long (λ n more left_more fewer. reaches_done bound more (later n steps) (later n states) (later_run n steps states h) left_more fewer) (is_done (states 0)) refl
 
   -- ---- where workers are done each is told so
 
@@ -207,7 +207,7 @@ module _ (b : Bounds) (some : 0 < b.workers) (counts : b.counts_reads ≡ true) 
   comes_and_tells : (steps : ℕ → ℕ × Step) (states : ℕ → State) → IsRunOn steps states → states 0 ≡ start b.block.count b.workers → (k : ℕ) × ((w : ℕ) → w < b.workers → 0 < dones_of w (states k))
   comes_and_tells steps states h first =
       let enough = start_left b in
-      let comes = comes_to_done (suc top) top steps states h (subst (λ s. left b s + top ≤ top + (begins_with + brought b s)) (sym first) (omega (arith, enough))) (omega arith) in
+      let comes = reaches_done (suc top) top steps states h (subst (λ s. left b s + top ≤ top + (begins_with + brought b s)) (sym first) (omega (arith, enough))) (omega arith) in
       let over : is_done (later comes.0 states 0) ≡ true = ap is_done (later_at comes.0 0 states ∙ ap states (plus_nothing comes.0)) ∙ comes.1 in
       let tells = all_told (later comes.0 steps) (later comes.0 states) (later_run comes.0 steps states h) over in
       (comes.0 + tells.0, λ w w_in. subst (λ s. 0 < dones_of w s) (later_at comes.0 tells.0 states) (tells.1 w w_in))
@@ -215,8 +215,8 @@ module _ (b : Bounds) (some : 0 < b.workers) (counts : b.counts_reads ≡ true) 
       plus_nothing : (n : ℕ) → n + 0 ≡ n
       plus_nothing n = omega arith
 
-pub endless_runs_come_to_done : EndlessRunsComeToDone
-endless_runs_come_to_done block workers reads writes steps states some small run short =
+pub endless_runs_reach_the_end : EndlessRunsReachTheEnd
+endless_runs_reach_the_end block workers reads writes steps states some small run short =
     let b : Bounds = record { block = block; workers = workers; reads = reads + 1; writes = writes; small = λ i replies r e. let bound = small i replies r e in (bound.0, (let few = bound.1 in omega (arith, few))); counts_reads = true } in
     comes_and_tells b some refl steps states (record {
       reached = subst (Reached block workers) (sym run.first) started;

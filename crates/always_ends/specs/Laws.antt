@@ -69,8 +69,8 @@ FairScheduleEnds = (calls : List Invocation) (store : Storage) (workers : ℕ) (
 
 -- and an endless run of any steps, whatever keys its runs read, if none of them has more than so many answers: it comes to a state
 -- where each worker was told that all is done
-abbrev pub EndlessRunsComeToDone : Type 0
-EndlessRunsComeToDone = (block : Block) (workers reads writes : ℕ) (steps : ℕ → ℕ × Step) (states : ℕ → State) → 0 < workers → HasAtMost reads writes block → IsEndlessRun block workers steps states → HasShortRuns reads states
+abbrev pub EndlessRunsReachTheEnd : Type 0
+EndlessRunsReachTheEnd = (block : Block) (workers reads writes : ℕ) (steps : ℕ → ℕ × Step) (states : ℕ → State) → 0 < workers → HasAtMost reads writes block → IsEndlessRun block workers steps states → HasShortRuns reads states
     → (k : ℕ) × ((w : ℕ) → w < workers → 0 < dones_of w (states k))
 
 -- as where workers take turns
