@@ -8,12 +8,12 @@ _rvstm() {
     fi
     case $before in
     --workers) COMPREPLY=($(compgen -W "$(seq 32)" -- "$word")) && return ;;
-    --call) return ;;
+    --call | --frame-limit | --frame-gas) return ;;
     esac
     case $command in
     run) options="--workers --counts" ;;
     drive) options="--workers --schedule --counts" ;;
-    chain) options="--workers" ;;
+    chain) options="--workers --frame-limit --frame-gas --digest --brief" ;;
     asm | migrate) options="--out" ;;
     debug) options="--call" ;;
     help) COMPREPLY=($(compgen -W "run seq conflicts drive asm dis debug migrate chain" -- "$word")) && return ;;

@@ -11,7 +11,7 @@
 
 #include "rvstm.h"
 
-/* Bytes and their number. */
+/* Bytes, a zero behind them, and their number without it. */
 typedef struct {
     uint8_t *bytes;
     size_t length;
@@ -23,17 +23,25 @@ static void stop(const char *reason)
     exit(1);
 }
 
+static text text_of(size_t length)
+{
+    text room = {calloc(length + 1, 1), length};
+    if (!room.bytes) stop("no memory");
+    return room;
+}
+
 /* All that a stream has. */
 static text read_all(FILE *stream)
 {
-    text all = {malloc(1), 0};
+    text all = text_of(0);
     int byte;
     if (!stream) stop("a file can't be read");
-    while (all.bytes && (byte = getc(stream)) != EOF) {
-        uint8_t *longer = realloc(all.bytes, all.length + 1);
-        if (!longer) break;
+    while ((byte = getc(stream)) != EOF) {
+        uint8_t *longer = realloc(all.bytes, all.length + 2);
+        if (!longer) stop("no memory");
         all.bytes = longer;
         all.bytes[all.length++] = (uint8_t)byte;
+        all.bytes[all.length] = 0;
     }
     return all;
 }
@@ -46,40 +54,63 @@ static text read_file(const char *path)
     return all;
 }
 
-/* The answer to the last request. It is an error where that was refused. */
+/* The answer to the last request. It is an error where that is not done. */
 static text answer(rvstm_session *session, uint32_t status)
 {
-    text copy;
-    copy.length = rvstm_answer_length(session);
-    copy.bytes = malloc(copy.length + 1);
-    if (!copy.bytes || rvstm_answer(session, copy.bytes, copy.length) != RVSTM_DONE) stop("no answer");
-    if (status == RVSTM_REFUSED) {
+    if (status == RVSTM_REFUSED || status == RVSTM_FAILED) {
         rvstm_refusal_parts parts;
         rvstm_refusal(session, &parts);
         fprintf(stderr, "embed: %s %s %u, line %zu\n", (char *)parts.area, (char *)parts.name, parts.number, parts.line);
         exit(1);
     }
+    if (status != RVSTM_DONE) stop("the session is closed");
+    text copy = text_of(rvstm_answer_length(session));
+    if (rvstm_answer(session, copy.bytes, copy.length) != RVSTM_DONE) stop("no answer");
     return copy;
+}
+
+/* A block with a program's name in the place of its path. */
+static text named(text block, const char *path, text name)
+{
+    char *place = strstr((char *)block.bytes, path);
+    if (!place) stop("the block has no such program");
+    size_t before = (size_t)(place - (char *)block.bytes), behind = block.length - before - strlen(path);
+    text whole = text_of(before + name.length + behind);
+    memcpy(whole.bytes, block.bytes, before);
+    memcpy(whole.bytes + before, name.bytes, name.length);
+    memcpy(whole.bytes + before + name.length, place + strlen(path), behind);
+    return whole;
+}
+
+/* What stands behind the first two lines. */
+static text behind_head(text dump)
+{
+    char *first = strchr((char *)dump.bytes, '\n'), *second = first ? strchr(first + 1, '\n') : NULL;
+    if (!second) stop("a dump without its head");
+    size_t head = (size_t)(second + 1 - (char *)dump.bytes);
+    return (text){dump.bytes + head, dump.length - head};
 }
 
 int main(int count, char **words)
 {
-    static const char path[] = "token.elf", dump[] = "dump";
+    static const char path[] = "token.elf";
     rvstm_session session = {0};
-    text program = read_file(path), block = read_file("token.block"), frame, store, in_order;
+    text program = read_file(path), block = read_file("token.block"), name, frame, store, in_order;
     char command[4096];
     if (count != 2) stop("usage: embed RVSTM");
     if (rvstm_open(&session) != RVSTM_DONE) stop("no memory");
-    answer(&session, rvstm_program(&session, (const uint8_t *)path, strlen(path), program.bytes, program.length));
+    name = answer(&session, rvstm_program(&session, program.bytes, program.length));
+    name.length -= strlen("\n");
+    block = named(block, path, name);
     frame = answer(&session, rvstm_frame(&session, block.bytes, block.length));
-    store = answer(&session, rvstm_line(&session, (const uint8_t *)dump, strlen(dump)));
+    frame.length -= strlen("end\n");
+    store = behind_head(answer(&session, rvstm_dump(&session)));
     rvstm_close(&session);
 
     /* The result of `seq` has the storage before its line `end`. */
     snprintf(command, sizeof command, "'%s' seq token.block", words[1]);
     in_order = read_all(popen(command, "r"));
-    frame.length -= strlen("end\n");
-    if (in_order.length != frame.length + store.length || memcmp(in_order.bytes, frame.bytes, frame.length)
+    if (in_order.length != frame.length + store.length + strlen("end\n") || memcmp(in_order.bytes, frame.bytes, frame.length)
         || memcmp(in_order.bytes + frame.length, store.bytes, store.length))
         stop("the session and seq differ");
     printf("%zu bytes, as seq\n", in_order.length);

@@ -7,17 +7,29 @@ LIBRARY is librvstm.so as scripts/library makes it, and RVSTM the built program.
 """
 
 import ctypes
+import re
 import subprocess
 import sys
 from pathlib import Path
 
-DONE, REFUSED = 0, 1
+DONE, REFUSED, FAILED = 0, 1, 4
+NO_LIMIT = 2**64 - 1
+PROGRAM = re.compile(rb"^(program \d+) (\S+)$", re.M)
 
 
 class Handle(ctypes.Structure):
     """An rvstm_session. ctypes makes all its bytes zero."""
 
     _fields_ = [("at", ctypes.c_void_p), ("full", ctypes.c_bool)]
+
+
+class Settings(ctypes.Structure):
+    """An rvstm_settings."""
+
+    _fields_ = [
+        ("frame_limit", ctypes.c_uint64), ("frame_gas", ctypes.c_uint64),
+        ("digest", ctypes.c_bool), ("brief", ctypes.c_bool),
+    ]
 
 
 class Parts(ctypes.Structure):
@@ -30,13 +42,15 @@ class Parts(ctypes.Structure):
 
 
 class Session:
-    """A session of the library. Its answers are bytes, and a refusal is a ValueError."""
+    """A session of the library. Its answers are bytes; a refusal is a ValueError, and want of memory a MemoryError."""
 
-    def __init__(self, library):
+    def __init__(self, library, frame_limit=64 << 20, frame_gas=NO_LIMIT, digest=False, brief=False):
         self.library, self.handle = ctypes.CDLL(library), Handle()
         self.library.rvstm_answer_length.restype = ctypes.c_size_t
-        if self.library.rvstm_open(ctypes.byref(self.handle)) != DONE:
-            raise MemoryError
+        settings = Settings(frame_limit, frame_gas, digest, brief)
+        status = self.library.rvstm_open_with(ctypes.byref(self.handle), ctypes.byref(settings))
+        if status != DONE:
+            raise ValueError(f"rvstm_open_with answers {status}")
 
     def __enter__(self):
         return self
@@ -45,16 +59,22 @@ class Session:
         self.library.rvstm_close(ctypes.byref(self.handle))
 
     def ask(self, name, *given):
-        """Makes a call that is given some bytes, and returns its answer."""
-        words = [word for data in given for word in (data, ctypes.c_size_t(len(data)))]
+        """Makes a call that is given bytes and numbers, and returns its answer."""
+        words = []
+        for value in given:
+            words += [ctypes.c_uint64(value)] if isinstance(value, int) else [value, ctypes.c_size_t(len(value))]
         status = self.library[name](ctypes.byref(self.handle), *words)
-        if status == REFUSED:
-            parts = Parts()
-            self.library.rvstm_refusal(ctypes.byref(self.handle), ctypes.byref(parts))
-            raise ValueError(f"{parts.area.decode()} {parts.name.decode()} {parts.number}, line {parts.line}")
+        if status in (REFUSED, FAILED):
+            raise (MemoryError if status == FAILED else ValueError)(self.reason())
         if status != DONE:
             raise ValueError(f"{name} answers {status}")
         return self.answer()
+
+    def reason(self):
+        parts = Parts()
+        self.library.rvstm_refusal(ctypes.byref(self.handle), ctypes.byref(parts))
+        line = f", line {parts.line}" if parts.line else ""
+        return f"{parts.area.decode()} {parts.name.decode()} {parts.number}{line}"
 
     def answer(self):
         length = self.library.rvstm_answer_length(ctypes.byref(self.handle))
@@ -63,16 +83,27 @@ class Session:
         return buffer.raw[:length]
 
 
+def named(session, block):
+    """A block file whose programs are handed in, with their names in the place of their paths."""
+    def name_of(program):
+        name = session.ask("rvstm_program", Path(program[2].decode()).read_bytes())
+        return program[1] + b" " + name.strip()
+
+    return PROGRAM.sub(name_of, block)
+
+
 def main():
     if len(sys.argv) != 3:
         sys.exit(__doc__)
     library, rvstm = sys.argv[1:]
     with Session(library) as session:
-        session.ask("rvstm_program", b"token.elf", Path("token.elf").read_bytes())
-        frame = session.ask("rvstm_frame", Path("token.block").read_bytes())
-        store = session.ask("rvstm_line", b"dump")
+        block = named(session, Path("token.block").read_bytes())
+        frame = session.ask("rvstm_frame", block)
+        dump = session.ask("rvstm_dump")
     in_order = subprocess.run([rvstm, "seq", "token.block"], capture_output=True, check=True).stdout
-    if frame.removesuffix(b"end\n") + store != in_order:
+    # The result of `seq` has the storage before its line `end`; a dump has two lines before it.
+    store = dump.split(b"\n", 2)[2]
+    if frame.removesuffix(b"end\n") + store + b"end\n" != in_order:
         sys.exit("the session and seq differ")
     print(f"{len(in_order)} bytes, as seq")
 

@@ -11,6 +11,7 @@ use std::{env, fs, ptr, str};
 /// What a call answers, as in include/rvstm.h.
 const DONE: u32 = 0;
 const REFUSED: u32 = 1;
+const FAILED: u32 = 4;
 
 #[repr(C)]
 struct Handle {
@@ -29,9 +30,9 @@ struct Parts {
 
 extern "C" {
     fn rvstm_open(handle: *mut Handle) -> u32;
-    fn rvstm_program(handle: *mut Handle, path: *const u8, path_length: usize, file: *const u8, file_length: usize) -> u32;
+    fn rvstm_program(handle: *mut Handle, file: *const u8, file_length: usize) -> u32;
     fn rvstm_frame(handle: *mut Handle, block: *const u8, block_length: usize) -> u32;
-    fn rvstm_line(handle: *mut Handle, line: *const u8, line_length: usize) -> u32;
+    fn rvstm_dump(handle: *mut Handle) -> u32;
     fn rvstm_answer_length(handle: *mut Handle) -> usize;
     fn rvstm_answer(handle: *mut Handle, buffer: *mut u8, buffer_length: usize) -> u32;
     fn rvstm_refusal(handle: *mut Handle, parts: *mut Parts) -> u32;
@@ -50,9 +51,11 @@ impl Session {
         }
     }
 
-    fn program(&mut self, path: &[u8], file: &[u8]) -> Result<Vec<u8>, String> {
-        let status = unsafe { rvstm_program(&mut self.0, path.as_ptr(), path.len(), file.as_ptr(), file.len()) };
-        self.answer(status)
+    /// Hands in a program, and returns its name.
+    fn program(&mut self, file: &[u8]) -> Result<String, String> {
+        let status = unsafe { rvstm_program(&mut self.0, file.as_ptr(), file.len()) };
+        let line = self.answer(status)?;
+        Ok(text(&line).trim_end().to_owned())
     }
 
     fn frame(&mut self, block: &[u8]) -> Result<Vec<u8>, String> {
@@ -60,23 +63,22 @@ impl Session {
         self.answer(status)
     }
 
-    fn line(&mut self, line: &[u8]) -> Result<Vec<u8>, String> {
-        let status = unsafe { rvstm_line(&mut self.0, line.as_ptr(), line.len()) };
+    fn dump(&mut self) -> Result<Vec<u8>, String> {
+        let status = unsafe { rvstm_dump(&mut self.0) };
         self.answer(status)
     }
 
-    /// The answer to the last request, or why it was refused.
+    /// The answer to the last request, or why it was refused or failed.
     fn answer(&mut self, status: u32) -> Result<Vec<u8>, String> {
         match status {
             DONE => {
-                let mut text = vec![0; unsafe { rvstm_answer_length(&mut self.0) }];
-                unsafe { rvstm_answer(&mut self.0, text.as_mut_ptr(), text.len()) };
-                Ok(text)
+                let mut bytes = vec![0; unsafe { rvstm_answer_length(&mut self.0) }];
+                unsafe { rvstm_answer(&mut self.0, bytes.as_mut_ptr(), bytes.len()) };
+                Ok(bytes)
             }
-            REFUSED => {
+            REFUSED | FAILED => {
                 let mut parts = Parts::default();
                 unsafe { rvstm_refusal(&mut self.0, &mut parts) };
-                let text = |bytes: &[u8]| str::from_utf8(bytes).unwrap().trim_end_matches('\0').to_owned();
                 Err(format!("{} {} {}, line {}", text(&parts.area), text(&parts.name), parts.number, parts.line))
             }
             _ => Err(format!("a call answers {status}")),
@@ -90,15 +92,23 @@ impl Drop for Session {
     }
 }
 
+/// A text, without the zeros behind it.
+fn text(bytes: &[u8]) -> &str {
+    str::from_utf8(bytes).unwrap_or_default().trim_end_matches('\0')
+}
+
 fn main() -> Result<(), Box<dyn std::error::Error>> {
     let rvstm = env::args().nth(1).ok_or("usage: embed RVSTM")?;
     let mut session = Session::open()?;
-    session.program(b"token.elf", &fs::read("token.elf")?)?;
-    let frame = session.frame(&fs::read("token.block")?)?;
-    let store = session.line(b"dump")?;
+    let name = session.program(&fs::read("token.elf")?)?;
+    let block = fs::read_to_string("token.block")?.replace("program 0 token.elf\n", &format!("program 0 {name}\n"));
+    let frame = session.frame(block.as_bytes())?;
+    let dump = session.dump()?;
     let in_order = Command::new(rvstm).args(["seq", "token.block"]).output()?.stdout;
+    // The result of `seq` has the storage before its line `end`; a dump has two lines before it.
     let receipts = frame.strip_suffix(b"end\n").ok_or("an answer without its end")?;
-    if [receipts, &store].concat() != in_order {
+    let store = text(&dump).splitn(3, '\n').nth(2).ok_or("a dump without its head")?;
+    if [receipts, store.as_bytes(), b"end\n"].concat() != in_order {
         return Err("the session and seq differ".into());
     }
     println!("{} bytes, as seq", in_order.len());

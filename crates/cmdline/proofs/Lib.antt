@@ -3,3 +3,4 @@ pub mod Operands
 pub mod FileWords
 pub mod Lines
 pub mod DriveLine
+pub mod ChainLine

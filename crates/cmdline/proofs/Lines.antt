@@ -1,17 +1,16 @@
 -- What clap finds on the lines of `rvstm`.
-use Rattle.std.proofs.Common.{◌≡◌, ◌&&◌, ◌∙◌, Bool, true, false, not, ℕ, [], ◌∷◌, Option, Some, None, option_map, refl, sym, ap, codes, get_or}
+use Rattle.std.proofs.Common.{◌≡◌, ◌&&◌, ◌∙◌, Bool, true, false, not, ℕ, [], ◌∷◌, Some, option_map, refl, sym, ap, codes, get_or}
 use Rattle.std.proofs.lemmas.Bool.{and_from}
 use Rattle.clap.specs.Simple.{Shape, built, built_leaf, inherited}
 use Rattle.clap.specs.Takes.{level_passes, turn_passes}
-use Rattle.clap.specs.Walk.{Walk, idle, nothing_held, walk, walked}
+use Rattle.clap.specs.Walk.{Walk, nothing_held, walk, walked}
 use Rattle.clap.specs.Words.{Text, first_of, first_value, is_simple, is_simple_and_free, rows_of, takes}
 use Rattle.clap.specs.declared.parser.matches.Found.{Found}
 use Rattle.clap.proofs.OnLiterals.{clap_on_literals}
 use Rattle.clap.proofs.WalkLemmas.{first_value-rows}
-use Rattle.cmdline.specs.Line.{AsmOf, Asked, ChainOf, ConflictsOf, DebugOf, DisOf, MigrateOf, RunOf, SeqOf, requested, is_call_number, is_operand, is_worker_number, last_call, max_workers, number_at, number_in, run_of, rvstm_app, top_app, written_app, written_of}
-use Rattle.cmdline.proofs.FileWords.{after_option, after_value, file_level, file_walked, may_end, number_asked, number_level, option_level, option_passes, option_walked, rows_at_end}
+use Rattle.cmdline.specs.Line.{AsmOf, Asked, ConflictsOf, DebugOf, DisOf, MigrateOf, RunOf, SeqOf, requested, is_call_number, is_operand, is_worker_number, last_call, max_workers, number_in, run_of, rvstm_app, top_app, written_app, written_of}
+use Rattle.cmdline.proofs.FileWords.{after_option, file_level, file_walked, may_end, number_asked, number_level, option_level, option_passes, option_walked, rows_at_end}
 use Rattle.cmdline.proofs.Numbers.{is_no_flag, number_is_read}
-use Rattle.cmdline.proofs.Operands.{at, value_passes, value_walked}
 
 -- `get_str` reads the rows
 pub first_in_rows : (f : Found) (id : Text) → first_value f id ≡ first_of id (rows_of f)
@@ -190,40 +189,3 @@ pub migrate_is_asked : (program file out : Text) → is_operand file ≡ true �
     → requested (program ∷ codes "migrate" ∷ file ∷ codes "--out" ∷ out ∷ []) ≡ Some (MigrateOf file out)
 unfolding clap_on_literals
 migrate_is_asked program file out o p = written_asked (codes "migrate") file out o p MigrateOf
-
--- the same of `chain`
-pub chain_is_taken : (program : Text) → takes rvstm_app (program ∷ codes "chain" ∷ []) ≡ true
-unfolding clap_on_literals
-chain_is_taken program = refl
-
-pub chain_is_asked : (program : Text) → requested (program ∷ codes "chain" ∷ []) ≡ Some (ChainOf None)
-unfolding clap_on_literals
-chain_is_asked program = refl
-
--- the same of `chain --workers N`
-abbrev chain_shape : Shape
-chain_shape = shape_at 8
-
-abbrev at_workers : Walk
-at_workers = walked chain_shape.rules [] (at nothing_held idle 1) (codes "--workers")
-
-chain_walked : (word : Text) → is_operand word ≡ true → walk chain_shape.rules [] nothing_held (codes "--workers" ∷ word ∷ []) ≡ after_value chain_shape (codes "workers") word at_workers
-unfolding clap_on_literals
-chain_walked word p = value_walked chain_shape.rules at_workers.held (codes "workers") at_workers.position word p
-
-pub chain_workers_is_taken : (program word : Text) → is_worker_number word ≡ true → takes rvstm_app (program ∷ codes "chain" ∷ codes "--workers" ∷ word ∷ []) ≡ true
-unfolding clap_on_literals
-chain_workers_is_taken program word n =
-    let p : is_operand word ≡ true = is_no_flag 1 max_workers word n in
-    and_from _ _
-    (and_from _ _
-    (and_from _ _ refl (and_from _ _ (value_passes chain_shape at_workers.held (codes "workers") at_workers.position word p) refl))
-    (ap (may_end chain_shape) (chain_walked word p) ∙ and_from _ _ (and_from _ _ n refl) refl))
-    refl
-
-pub chain_workers_is_asked : (program word : Text) → is_worker_number word ≡ true
-    → requested (program ∷ codes "chain" ∷ codes "--workers" ∷ word ∷ []) ≡ Some (ChainOf (Some (number_in word)))
-unfolding clap_on_literals
-chain_workers_is_asked program word n =
-    ap (λ (w : Walk). Some (ChainOf (number_at (codes "workers") (rows_at_end chain_shape w)))) (chain_walked word (is_no_flag 1 max_workers word n))
-    ∙ ap (λ (number : Option ℕ). Some (ChainOf number)) (number_is_read 1 max_workers word n)

@@ -108,9 +108,40 @@ debug_app = with_rule (with_rule (new_app (codes "debug")) file_rule) call_rule
 abbrev pub migrate_app : App
 migrate_app = written_app (codes "migrate")
 
--- `chain`, and `--workers N` behind it, which may stand or not
+-- the largest number of a setting of `chain`
+abbrev pub most_setting : ℕ
+most_setting = 9999999999
+
+-- the option `--frame-limit BYTES`, which may stand or not: BYTES is a whole number of 0 to `most_setting`
+abbrev pub frame_limit_rule : Rule
+frame_limit_rule = record (new_rule (codes "frame-limit")) {
+  long = Some (codes "frame-limit");
+  action = Some action.Set;
+  value_names = 1;
+  parser = Some (parser.Unsigned 0 most_setting);
+}
+
+-- the option `--frame-gas N`, which may stand or not: N is a whole number of 0 to `most_setting`
+abbrev pub frame_gas_rule : Rule
+frame_gas_rule = record (new_rule (codes "frame-gas")) {
+  long = Some (codes "frame-gas");
+  action = Some action.Set;
+  value_names = 1;
+  parser = Some (parser.Unsigned 0 most_setting);
+}
+
+-- the option `--digest`, a word that may stand or not
+abbrev pub digest_rule : Rule
+digest_rule = record (new_rule (codes "digest")) { long = Some (codes "digest"); action = Some action.SetTrue }
+
+-- the option `--brief`, a word that may stand or not
+abbrev pub brief_rule : Rule
+brief_rule = record (new_rule (codes "brief")) { long = Some (codes "brief"); action = Some action.SetTrue }
+
+-- `chain`, and behind it `--workers N` and the settings of a session, each of which may stand or not
 abbrev pub chain_app : App
-chain_app = with_rule (new_app (codes "chain")) (record workers_rule { required = false })
+chain_app = with_rule (with_rule (with_rule (with_rule (with_rule (new_app (codes "chain"))
+    (record workers_rule { required = false })) frame_limit_rule) frame_gas_rule) digest_rule) brief_rule
 
 -- `rvstm`, which has a version and requires a subcommand
 abbrev pub top_app : App
@@ -134,7 +165,7 @@ pub data Asked : Type 0 where
   DisOf : Text → Asked
   DebugOf : Text → ℕ → Asked
   MigrateOf : Text → Text → Asked
-  ChainOf : Option ℕ → Asked
+  ChainOf : Option ℕ → Option ℕ → Option ℕ → Bool → Bool → Asked
 
 abbrev pub asked_by : Request → Asked
 asked_by (Run file workers counts) = RunOf file.now workers counts
@@ -145,7 +176,7 @@ asked_by (Asm file out) = AsmOf file.now out.now
 asked_by (Dis file) = DisOf file.now
 asked_by (Debug file call) = DebugOf file.now call
 asked_by (Migrate file out) = MigrateOf file.now out.now
-asked_by (Chain workers) = ChainOf workers
+asked_by (Chain workers limit gas digest brief) = ChainOf workers limit gas digest brief
 
 -- the number that a word gives
 abbrev pub number_in : Text → ℕ
@@ -180,6 +211,11 @@ drive_of rows = option_and_then (λ file. option_and_then (λ workers. option_ma
 abbrev pub written_of : (Text → Text → Asked) → List Row → Option Asked
 written_of ask rows = option_and_then (λ file. option_map (ask file) (first_of (codes "out") rows)) (first_of (codes "file") rows)
 
+-- what `chain` asks for, from what clap found
+abbrev pub chain_of : List Row → Asked
+chain_of rows = ChainOf (number_at (codes "workers") rows) (number_at (codes "frame-limit") rows) (number_at (codes "frame-gas") rows)
+    (flag_at (codes "digest") rows) (flag_at (codes "brief") rows)
+
 -- what a subcommand asks for, from its name and what clap found for its arguments
 abbrev pub asked_in : Text × List Row → Option Asked
 asked_in found = if bytes_eq found.0 (codes "run")
@@ -199,7 +235,7 @@ asked_in found = if bytes_eq found.0 (codes "run")
     else if bytes_eq found.0 (codes "migrate")
     then written_of MigrateOf found.1
     else if bytes_eq found.0 (codes "chain")
-    then Some (ChainOf (number_at (codes "workers") found.1))
+    then Some (chain_of found.1)
     else None
 
 -- what a whole line, with the program's name first, asks for, where clap accepts it
@@ -218,6 +254,10 @@ is_worker_number word = is_unsigned_in 1 max_workers word
 -- the word gives a whole number of 0 to `last_call`
 abbrev pub is_call_number : Text → Bool
 is_call_number word = is_unsigned_in 0 last_call word
+
+-- the word gives a whole number of 0 to `most_setting`
+abbrev pub is_setting_number : Text → Bool
+is_setting_number word = is_unsigned_in 0 most_setting word
 
 -- the answer is this request, or memory ran out
 abbrev pub AnswersUnlessMemory : Result (Option Request) Error → Asked → Type 0

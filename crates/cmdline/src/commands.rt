@@ -1,8 +1,8 @@
 //! The command of `rvstm` and its subcommands, as they are built for clap.
 
-ghost use Rattle.std.specs.Prelude.{◌≡◌, IfOk, Some, false, true};
+ghost use Rattle.std.specs.Prelude.{◌≡◌, IfOk, Some, codes, false, true};
 ghost use Rattle.clap.specs.Words.{App, app_of, new_app, rule_of, with_rule, with_subcommand};
-ghost use Rattle.cmdline.specs.Line.{asm_app, call_rule, chain_app, conflicts_app, counts_rule, debug_app, dis_app, drive_app, file_rule, migrate_app, out_rule, run_app, rvstm_app, schedule_rule, seq_app, top_app, workers_rule};
+ghost use Rattle.cmdline.specs.Line.{asm_app, brief_rule, call_rule, chain_app, conflicts_app, counts_rule, debug_app, digest_rule, dis_app, drive_app, file_rule, frame_gas_rule, frame_limit_rule, migrate_app, out_rule, run_app, rvstm_app, schedule_rule, seq_app, top_app, workers_rule};
 
 use clap::{Arg, ArgAction, Command, value_parser};
 use std::alloc::{AllocError, Global};
@@ -12,6 +12,9 @@ const WORKER_LIMIT: i64 = 32;
 
 /// The largest number of calls in a block.
 const CALL_LIMIT: i64 = 1024;
+
+/// The largest number of a setting of `chain`.
+const SETTING_LIMIT: i64 = 9_999_999_999;
 
 /// The whole command, with a subcommand for each request; refused where memory ran out.
 pub(crate) fn rvstm<'a>(alloc: Global) -> Result<Command<'a>, AllocError>
@@ -138,15 +141,28 @@ fn migrate<'a>(alloc: Global) -> Result<Command<'a>, AllocError>
     option_command(alloc, "migrate", about, "The block file", option)
 }
 
-/// `chain --workers N`
+/// `chain --workers N --frame-limit BYTES --frame-gas N --digest --brief`
 fn chain<'a>(alloc: Global) -> Result<Command<'a>, AllocError>
     ensures { IfOk result (λ c. app_of c ≡ chain_app) }
 {
-    let about = "Runs block after block from the standard input on one storage and answers each";
+    chain_of_numbers(alloc)?
+        .arg(digest(alloc))?
+        .arg(brief(alloc))
+}
+
+/// `chain --workers N --frame-limit BYTES --frame-gas N`
+fn chain_of_numbers<'a>(alloc: Global) -> Result<Command<'a>, AllocError>
+    ensures { IfOk result (λ c. app_of c ≡ with_rule (with_rule (with_rule (new_app (codes "chain"))
+        (record workers_rule { required = false })) frame_limit_rule) frame_gas_rule) }
+{
+    let about =
+        "Answers the requests of the standard input in one session, whose frames run on one storage";
     let help = "By how many workers calls run where that pays, 1 to 32; else all run in order";
     Command::new(alloc, "chain")
         .about(about)
-        .arg(workers(alloc).help(help).required(false))
+        .arg(workers(alloc).help(help).required(false))?
+        .arg(frame_limit(alloc))?
+        .arg(frame_gas(alloc))
 }
 
 /// The subcommand `NAME FILE` with one option.
@@ -215,9 +231,70 @@ fn counts<'a>(alloc: Global) -> Arg<'a>
     ensures rule { rule_of result ≡ counts_rule }
     ensures local { result.global ≡ false }
 {
-    Arg::new(alloc, "counts")
-        .long("counts")
-        .help("Print on standard error what each worker did")
+    flag(
+        alloc,
+        "counts",
+        "Print on standard error what each worker did",
+    )
+}
+
+/// The option `--frame-limit BYTES`.
+fn frame_limit<'a>(alloc: Global) -> Arg<'a>
+    ensures rule { rule_of result ≡ frame_limit_rule }
+    ensures local { result.global ≡ false }
+{
+    let help = "The most bytes of a frame, 0 to 9999999999; 67108864 where not given";
+    setting(alloc, "frame-limit", "BYTES", help)
+}
+
+/// The option `--frame-gas N`.
+fn frame_gas<'a>(alloc: Global) -> Arg<'a>
+    ensures rule { rule_of result ≡ frame_gas_rule }
+    ensures local { result.global ≡ false }
+{
+    let help =
+        "The most gas that the calls of a frame may have together, 0 to 9999999999; without a bound where not given";
+    setting(alloc, "frame-gas", "N", help)
+}
+
+/// The option `--digest`.
+fn digest<'a>(alloc: Global) -> Arg<'a>
+    ensures rule { rule_of result ≡ digest_rule }
+    ensures local { result.global ≡ false }
+{
+    flag(alloc, "digest", "Keep a digest of the answers")
+}
+
+/// The option `--brief`.
+fn brief<'a>(alloc: Global) -> Arg<'a>
+    ensures rule { rule_of result ≡ brief_rule }
+    ensures local { result.global ≡ false }
+{
+    flag(
+        alloc,
+        "brief",
+        "Print receipts without the lines of registers",
+    )
+}
+
+/// The option `--NAME VALUE`, which may stand or not, of a number of 0 to 9,999,999,999.
+fn setting<'a>(alloc: Global, name: &'a str, value_name: &'a str, help: &'a str) -> Arg<'a>
+    ensures rule { rule_of result ≡ record frame_limit_rule { id = name.now; long = Some name.now } }
+    ensures local { result.global ≡ false }
+{
+    option(alloc, name, value_name, help)
+        .required(false)
+        .value_parser(value_parser!(usize).range(0..=SETTING_LIMIT))
+}
+
+/// The option `--NAME`, a word that may stand or not.
+fn flag<'a>(alloc: Global, name: &'a str, help: &'a str) -> Arg<'a>
+    ensures rule { rule_of result ≡ record counts_rule { id = name.now; long = Some name.now } }
+    ensures local { result.global ≡ false }
+{
+    Arg::new(alloc, name)
+        .long(name)
+        .help(help)
         .action(ArgAction::SetTrue)
 }
 

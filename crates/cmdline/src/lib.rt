@@ -8,7 +8,7 @@ ghost use Rattle.std.specs.Prelude.{◌≡◌, ◌∷◌, [], List, ℕ, IfErr, 
 ghost use Rattle.std.specs.String.{string_bytes};
 ghost use Rattle.clap.specs.Words.{FailsBy, HasMatchesOf, fault_of, kind_of, takes};
 ghost use Rattle.clap.specs.declared.error.ErrorKind.TheVariants as kind;
-ghost use Rattle.cmdline.specs.Line.{AnswersUnlessMemory, AsmOf, ChainOf, ConflictsOf, DebugOf, DisOf, DriveOf, MigrateOf, RunOf, SeqOf, requested, asked_by, is_call_number, is_operand, is_worker_number, number_in, rvstm_app};
+ghost use Rattle.cmdline.specs.Line.{AnswersUnlessMemory, AsmOf, ChainOf, ConflictsOf, DebugOf, DisOf, DriveOf, MigrateOf, RunOf, SeqOf, requested, asked_by, is_call_number, is_operand, is_setting_number, is_worker_number, number_in, rvstm_app};
 
 use crate::commands::rvstm;
 use crate::requests::request_in;
@@ -75,18 +75,26 @@ pub enum Request<'a> {
         /// The path of the new block file.
         out: &'a str,
     },
-    /// Answer the requests of the standard input: blocks one after another on one storage, and lines between them.
+    /// Answer the requests of the standard input in one session, whose frames run on one storage.
     Chain {
         /// The number of workers, 1 to 32, where the calls of a block may run on several at the same time.
         workers: Option<usize>,
+        /// The greatest length of a frame in bytes, 0 to 9,999,999,999, where one is given.
+        frame_limit: Option<usize>,
+        /// The greatest sum of the gas limits of a frame's calls, 0 to 9,999,999,999, where one is given.
+        frame_gas: Option<usize>,
+        /// Whether to keep a digest of the answers.
+        digest: bool,
+        /// Whether receipts have no `regs` lines.
+        brief: bool,
     },
 }
 
 /// Reads a command line, whose first word is the program's name. Refused where the subcommand is missing
 /// or unknown, a word is missing or surplus, an option is unknown or repeated, the number of workers is
-/// not 1 to 32, the number of the call is not 0 to 1023, or memory ran out. Help and the version are
-/// errors too; for them `use_stderr` is false. `None` where clap accepts a line but gives no value that
-/// it demands.
+/// not 1 to 32, the number of the call is not 0 to 1023, a number of `--frame-limit` or `--frame-gas` is
+/// not 0 to 9,999,999,999, or memory ran out. Help and the version are errors too; for them `use_stderr`
+/// is false. `None` where clap accepts a line but gives no value that it demands.
 pub fn request_of<'a>(alloc: Global, words: &'a [String]) -> Result<Option<Request<'a>>, Error>
     // an accepted line asks for exactly this
     ensures answer { IfOk result (λ r.
@@ -140,12 +148,22 @@ pub fn request_of<'a>(alloc: Global, words: &'a [String]) -> Result<Option<Reque
         → AnswersUnlessMemory result (MigrateOf file out) }
     // so is `chain`
     ensures chain { (program : List ℕ) → map string_bytes words.now ≡ program ∷ codes "chain" ∷ []
-        → AnswersUnlessMemory result (ChainOf None) }
+        → AnswersUnlessMemory result (ChainOf None None None false false) }
     // and `chain --workers N`, where N is a whole number of 1 to 32
     ensures chain_workers { (program word : List ℕ)
         → map string_bytes words.now ≡ program ∷ codes "chain" ∷ codes "--workers" ∷ word ∷ []
         → is_worker_number word ≡ true
-        → AnswersUnlessMemory result (ChainOf (Some (number_in word))) }
+        → AnswersUnlessMemory result (ChainOf (Some (number_in word)) None None false false) }
+    // so is `chain --frame-limit A --frame-gas B --digest --brief`, where A and B are whole numbers of 0 to 9,999,999,999
+    ensures chain_settings { (program limit gas : List ℕ)
+        → map string_bytes words.now ≡ program ∷ codes "chain" ∷ codes "--frame-limit" ∷ limit ∷ codes "--frame-gas" ∷ gas ∷ codes "--digest" ∷ codes "--brief" ∷ []
+        → is_setting_number limit ≡ true → is_setting_number gas ≡ true
+        → AnswersUnlessMemory result (ChainOf None (Some (number_in limit)) (Some (number_in gas)) true true) }
+    // and the same with `--workers N` before
+    ensures chain_all { (program word limit gas : List ℕ)
+        → map string_bytes words.now ≡ program ∷ codes "chain" ∷ codes "--workers" ∷ word ∷ codes "--frame-limit" ∷ limit ∷ codes "--frame-gas" ∷ gas ∷ codes "--digest" ∷ codes "--brief" ∷ []
+        → is_worker_number word ≡ true → is_setting_number limit ≡ true → is_setting_number gas ≡ true
+        → AnswersUnlessMemory result (ChainOf (Some (number_in word)) (Some (number_in limit)) (Some (number_in gas)) true true) }
 {
     let matches = matches_of(alloc, words)?;
     Ok(request_in(&matches))

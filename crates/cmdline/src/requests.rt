@@ -2,7 +2,7 @@
 
 ghost use Rattle.std.specs.Prelude.{◌≡◌, option_and_then, option_map, codes};
 ghost use Rattle.clap.specs.Words.{Text, first_of, found_of, rows_of, subcommand_rows_of};
-ghost use Rattle.cmdline.specs.Line.{AsmOf, Asked, ChainOf, ConflictsOf, DebugOf, DisOf, MigrateOf, SeqOf, asked_by, asked_in, drive_of, flag_at, number_at, numbered_of, run_of, written_of};
+ghost use Rattle.cmdline.specs.Line.{AsmOf, Asked, ConflictsOf, DebugOf, DisOf, MigrateOf, SeqOf, asked_by, asked_in, chain_of, drive_of, flag_at, number_at, numbered_of, run_of, written_of};
 
 use crate::Request;
 use clap::ArgMatches;
@@ -117,10 +117,15 @@ fn migrate_in<'a>(found: &ArgMatches<'a>) -> Option<Request<'a>>
 
 /// The request of what clap found for `chain`.
 fn chain_in<'a>(found: &ArgMatches<'a>) -> Request<'a>
-    ensures { asked_by result ≡ ChainOf (number_at (codes "workers") (rows_of (found_of found.now))) }
+    ensures { asked_by result ≡ chain_of (rows_of (found_of found.now)) }
 {
-    let workers = number_found(found, "workers");
-    Request::Chain { workers }
+    Request::Chain {
+        workers: number_found(found, "workers"),
+        frame_limit: number_found(found, "frame-limit"),
+        frame_gas: number_found(found, "frame-gas"),
+        digest: flag_found(found, "digest"),
+        brief: flag_found(found, "brief"),
+    }
 }
 
 /// The FILE and the FILE of `--out` that clap found.

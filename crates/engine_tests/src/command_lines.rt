@@ -68,6 +68,12 @@ const LINES: &[(&str, u8, &str, &str)] = &[
     ("rvstm run echo.block --workers 4", 0, RESULT, ""),
     ("rvstm debug echo.block --call 0", 0, "", ""),
     (
+        "rvstm chain --workers 4 --frame-limit 0 --frame-gas 9999999999 --digest --brief",
+        0,
+        "",
+        "",
+    ),
+    (
         "rvstm conflicts echo.block",
         0,
         "call 0 gas 13 path 13\nall calls 1 gas 13 path 13\n",
@@ -252,6 +258,8 @@ const WRONG_LINES: &[(&[u8], &str)] = &[
     (b"rvstm run echo.block --workers 33", "error: "),
     (b"rvstm debug echo.block", "error: "),
     (b"rvstm debug echo.block --call 1024", "error: "),
+    (b"rvstm chain --frame-gas 10000000000", "error: "),
+    (b"rvstm chain --digest --digest", "error: "),
     (
         b"rvstm seq \xff.block",
         "error: a word of the command line is not UTF-8\n",

@@ -2,18 +2,18 @@
 
 ghost use Rattle.std.specs.Thread.{IsSync};
 
-use crate::block_after_block::printed_by;
+use crate::session_inputs::{printed_by, session_over};
 use crate::sources::assembled;
 use engines::ByThreads;
 use overlay::Overlay;
 use rv_ledger::{Call, Receipt, Store};
-use sessions::{CallRunner, InOrder};
 use std::alloc::{AllocError, Global};
 use std::process::Abort;
 use std::sync::Wait;
 use std::sync::atomic::{AtomicU64, Ordering};
 use std::test::Fail;
 use std::thread::{Threads, yield_now};
+use turns::{CallRunner, InOrder, Settings};
 use workers::{Executor, Gate};
 
 /// Reads the keys 0 to 4, and writes an empty value at each key from the first word of its input on, up to the second.
@@ -93,9 +93,12 @@ impl Gate for Rounds {
     }
 }
 
+/// What is asked behind the frame.
+const GET: &[u8] = b"get 0000000000000000000000000000000000000000000000000000000000000000\n";
+
 /// A frame of some calls of 256 writes, calls that write the keys 0 to 4, and a thousand calls of 256 writes.
-fn flood(alloc: Global) -> Result<String, Fail> {
-    let mut frame = String::from_str(alloc, "rvblock 1\nprogram 0 0\n")?;
+fn flood(alloc: Global) -> Result<Vec<u8>, Fail> {
+    let mut frame = String::new(alloc);
     for _ in 0..FIRST {
         frame.push_str(MANY)?;
     }
@@ -107,8 +110,10 @@ fn flood(alloc: Global) -> Result<String, Fail> {
     for _ in 0..ROUND {
         frame.push_str(MANY)?;
     }
-    frame.push_str("end\nget 0000000000000000000000000000000000000000000000000000000000000000\n")?;
-    Ok(frame)
+    let file = assembled(alloc, &mut FLOOD.as_bytes())?;
+    let mut input = session_over(alloc, file.as_slice(), &[frame.as_str()])?;
+    input.extend_from_slice(GET)?;
+    Ok(input)
 }
 
 /// What runs the calls of a frame by threads that are held.
@@ -136,7 +141,7 @@ impl<R: Threads + Wait + Sync> CallRunner for Flooded<'_, R> {
 fn is_answered_in_order<R: Threads + Wait + Sync>(
     rt: &R,
     alloc: Global,
-    input: &str,
+    input: &[u8],
     wanted: &[u8],
 ) -> Result<bool, Fail> {
     let mut flooded = Flooded {
@@ -147,8 +152,7 @@ fn is_answered_in_order<R: Threads + Wait + Sync>(
             gate: Rounds::new(),
         },
     };
-    let file = assembled(alloc, &mut FLOOD.as_bytes())?;
-    let text = printed_by(alloc, file, &mut flooded, input)?;
+    let text = printed_by(alloc, &mut flooded, Settings::new(), input)?;
     let runs = flooded.runner.gate.passed.load(Ordering::SeqCst);
     let is_refused = flooded.runner.executor.shares().is_empty() && runs >= RUNS;
     Ok(is_refused && text.as_slice() == wanted)
@@ -157,9 +161,9 @@ fn is_answered_in_order<R: Threads + Wait + Sync>(
 #[test]
 fn a_frame_of_too_many_versions(rt: HostRuntime) -> Result<(), Fail> {
     let input = flood(rt.alloc())?;
-    let file = assembled(rt.alloc(), &mut FLOOD.as_bytes())?;
-    let wanted = printed_by(rt.alloc(), file, &mut InOrder, input.as_str())?;
-    assert!(rt; wanted.ends_with(b"\nend\nvalue -\n"));
-    assert!(rt; is_answered_in_order(&rt, rt.alloc(), input.as_str(), wanted.as_slice())?);
+    let input = input.as_slice();
+    let wanted = printed_by(rt.alloc(), &mut InOrder, Settings::new(), input)?;
+    assert!(rt; wanted.ends_with(b"\nend\nok 8\nvalue -\n"));
+    assert!(rt; is_answered_in_order(&rt, rt.alloc(), input, wanted.as_slice())?);
     Ok(())
 }

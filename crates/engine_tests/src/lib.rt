@@ -11,8 +11,6 @@ mod assembled;
 #[cfg(test)]
 mod asserts;
 #[cfg(test)]
-mod block_after_block;
-#[cfg(test)]
 mod blocks;
 #[cfg(test)]
 mod calls;
@@ -60,6 +58,16 @@ mod rules_three;
 mod rules_two;
 #[cfg(test)]
 mod schedules;
+#[cfg(test)]
+mod session_ends;
+#[cfg(test)]
+mod session_frames;
+#[cfg(test)]
+mod session_inputs;
+#[cfg(test)]
+mod session_rows;
+#[cfg(test)]
+mod session_storages;
 #[cfg(test)]
 mod session_threads;
 #[cfg(test)]

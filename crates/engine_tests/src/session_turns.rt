@@ -2,15 +2,12 @@
 
 use crate::blocks::elf_of;
 use crate::rows::ECHO;
-use receipts::TextBuffer;
-use requests::{Asked, next_request};
+use crate::session_inputs::push_request;
+use serving::serve;
 use std::alloc::Global;
 use std::process::Abort;
 use std::test::Fail;
-use turns::{
-    Answer, InOrder, KeptAnswer, Settings, State, done_line, dump_length, failed_line, push_dump,
-    refuse_long, refused_line, take_turn,
-};
+use turns::{InOrder, Settings, State};
 
 /// Frames of at most 300 bytes and 5,000 gas, with a digest, and receipts without registers.
 const SETTINGS: Settings = Settings {
@@ -314,70 +311,20 @@ fn request_bytes(alloc: Global, request: &str) -> Result<Vec<u8>, Fail> {
     let mut bytes = Vec::new(alloc);
     if request == PROGRAM {
         let file = elf_of(alloc, ECHO)?;
-        bytes.extend_from_slice(format!(in alloc; "program {}\n", file.len())?.as_bytes())?;
-        bytes.extend_from_slice(file.as_slice())?;
+        push_request(alloc, &mut bytes, "program", file.as_slice())?;
     } else {
         bytes.extend_from_slice(request.as_bytes())?;
     }
     Ok(bytes)
 }
 
-/// Appends an answer that is done.
-fn push_done(text: &mut Vec<u8>, bytes: &[u8]) -> Result<(), Fail> {
-    text.extend_from_slice(done_line(bytes.len() as u128).as_str().as_bytes())?;
-    text.extend_from_slice(bytes)?;
-    Ok(())
-}
-
-/// Appends the answer that a session keeps.
-fn push_last(text: &mut Vec<u8>, last: &KeptAnswer) -> Result<(), Fail> {
-    match last.refusal {
-        Some(refusal) => Ok(text.extend_from_slice(refused_line(refusal).as_str().as_bytes())?),
-        None => push_done(text, last.bytes.as_slice()),
-    }
-}
-
-/// Appends the text of a session's storage, with its length before it.
-fn push_storage(alloc: Global, text: &mut Vec<u8>, state: &State) -> Result<(), Fail> {
-    let length = dump_length(state.rules, &state.store);
-    text.extend_from_slice(done_line(length).as_str().as_bytes())?;
-    let mut waiting = TextBuffer::new(alloc)?;
-    push_dump(&mut waiting, state.rules, &state.store, text);
-    waiting.finish(text)?;
-    Ok(())
-}
-
-/// The text of an answer of a session in this state.
-fn answer_text(alloc: Global, state: &State, answer: &Answer) -> Result<Vec<u8>, Fail> {
-    let mut text = Vec::new(alloc);
-    match answer {
-        Answer::Done(bytes) => push_done(&mut text, bytes.as_slice())?,
-        Answer::Last => {
-            if let Some(last) = &state.last {
-                push_last(&mut text, last)?;
-            }
-        }
-        Answer::Storage => push_storage(alloc, &mut text, state)?,
-        Answer::Refused(refusal) => {
-            text.extend_from_slice(refused_line(*refusal).as_str().as_bytes())?
-        }
-        Answer::Failed(failure) => text.extend_from_slice(
-            failed_line(*failure).as_str().as_bytes(),
-        )?,
-    }
-    Ok(text)
-}
-
-/// The answer to a request that stands alone in an input; empty where there is none.
+/// What a session writes for a request that stands alone in an input.
 fn answered(alloc: Global, state: &mut State, request: &str) -> Result<Vec<u8>, Fail> {
     let bytes = request_bytes(alloc, request)?;
     let mut input = bytes.as_slice();
-    let answer = match next_request(alloc, &mut input, SETTINGS.frame_limit)? {
-        Asked::Whole(request) => take_turn(alloc, &mut InOrder, SETTINGS, state, &request),
-        Asked::TooLong(line) => refuse_long(alloc, state, line),
-        _ => return Ok(Vec::new(alloc)),
-    };
-    answer_text(alloc, state, &answer)
+    let mut text = Vec::new(alloc);
+    serve(alloc, &mut input, &mut InOrder, SETTINGS, state, &mut text)?;
+    Ok(text)
 }
 
 #[test]

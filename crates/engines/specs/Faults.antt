@@ -1,21 +1,29 @@
 -- What a refusal prints.
 use Rattle.std.specs.Prelude.{List, ℕ, ◌++◌, Option, Some, None, codes}
 use Rattle.std.specs.Fmt.{decimal}
+use Rattle.block_file.specs.Faults as block
+use Rattle.block_file.specs.declared.fault.BlockFault.{BlockFault}
+use Rattle.block_file.specs.declared.fault.Cause.{Cause}
+use Rattle.block_file.specs.declared.fault.Cause.TheVariants as cause
 use Rattle.byte_streams.specs.Faults as output
 use Rattle.byte_streams.specs.Refusals.{Parts, line_text, without_line}
 use Rattle.debugger.specs.Faults as debug
+use Rattle.elf32.specs.Refusals as elf
+use Rattle.elf32.specs.declared.error.ElfError.{ElfError}
 use Rattle.rv_text.specs.Faults as asm
 use Rattle.rv_text.specs.declared.fault.AsmCause.{AsmCause}
 use Rattle.rv_text.specs.declared.fault.AsmCause.TheVariants as asm_cause
-use Rattle.sessions.specs.Faults.{block_parts, elf_parts}
 use Rattle.stm_core.specs.Faults as drive
 use Rattle.workers.specs.Faults as run
 use Rattle.engines.specs.declared.fault.FileFault.{FileFault}
 use Rattle.engines.specs.declared.fault.FileFault.TheVariants.{Unreadable, Unwritable, TooLong}
 use Rattle.engines.specs.declared.fault.SeqFault.{SeqFault}
 use Rattle.engines.specs.declared.fault.SeqFault.TheVariants.{Memory}
+use Rattle.engines.specs.declared.fault.InputFault.{InputFault}
+use Rattle.engines.specs.declared.fault.InputFault.TheVariants as input
+use Rattle.engines.specs.declared.fault.InputFault.TheVariants.{BadLine, Cut}
 use Rattle.engines.specs.declared.fault.Refusal.{Refusal}
-use Rattle.engines.specs.declared.fault.Refusal.TheVariants.{File, Block, Elf, Asm, Seq, Schedule, Run, Drive, Debug, Output}
+use Rattle.engines.specs.declared.fault.Refusal.TheVariants.{File, Block, Elf, Asm, Seq, Schedule, Run, Drive, Debug, Request, Output}
 
 -- the number of a refusal of a file
 abbrev pub file_number : FileFault → ℕ
@@ -43,7 +51,39 @@ seq_name Memory = codes "Memory"
 unfoldable pub seq_text : SeqFault → List ℕ
 seq_text fault = seq_name fault ++ codes " " ++ decimal (seq_number fault)
 
--- the number of the line of a cause; running out of memory has none
+-- the same for the input of a session
+abbrev pub input_number : InputFault → ℕ
+input_number BadLine = 1
+input_number Cut = 2
+input_number input.Unreadable = 3
+
+abbrev pub input_name : InputFault → List ℕ
+input_name BadLine = codes "BadLine"
+input_name Cut = codes "Cut"
+input_name input.Unreadable = codes "Unreadable"
+
+unfoldable pub input_text : InputFault → List ℕ
+input_text fault = input_name fault ++ codes " " ++ decimal (input_number fault)
+
+-- the number of the line of a cause of a text; running out of memory has none
+abbrev pub block_line : ℕ → Cause → Option ℕ
+block_line line cause.Memory = None
+block_line line _ = Some line
+
+-- the parts of a fault of a text, in its area
+abbrev pub block_parts : List ℕ → BlockFault → Parts
+block_parts area fault = record {
+  area = area;
+  line = block_line fault.line fault.cause;
+  name = block.name_of fault.cause;
+  number = block.number_of fault.cause;
+}
+
+-- the parts of a fault of a program
+abbrev pub elf_parts : ElfError → Parts
+elf_parts fault = without_line (codes "elf") (elf.name_of fault) (elf.number_of fault)
+
+-- the number of the line of a cause of a source; running out of memory has none
 abbrev pub asm_line : ℕ → AsmCause → Option ℕ
 asm_line line asm_cause.Memory = None
 asm_line line _ = Some line
@@ -64,6 +104,7 @@ parts_of (Schedule fault) = block_parts (codes "schedule") fault
 parts_of (Run fault) = without_line (codes "run") (run.name_of fault) (run.number_of fault)
 parts_of (Drive fault) = without_line (codes "drive") (drive.name_of fault) (drive.number_of fault)
 parts_of (Debug fault) = without_line (codes "debug") (debug.name_of fault) (debug.number_of fault)
+parts_of (Request fault) = without_line (codes "request") (input_name fault) (input_number fault)
 parts_of (Output fault) = without_line (codes "output") (output.name_of fault) (output.number_of fault)
 
 -- the line of a refusal

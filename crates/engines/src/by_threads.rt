@@ -9,10 +9,10 @@ use crate::thread_costs::pays;
 use overlay::Overlay;
 use rv_ledger::{Block, Call, Job, Receipt, Store};
 use seq_exec::run_over;
-use sessions::CallRunner;
 use std::alloc::{AllocError, Global};
 use std::sync::Wait;
 use std::thread::Threads;
+use turns::CallRunner;
 use workers::{Executor, Gate, Open};
 
 /// How many calls of a frame run in order, to show what a call takes.

@@ -1,6 +1,7 @@
 //! What the program does for a command line, over any files, input and writers.
 
 ghost use Rattle.std.specs.Prelude.{◌≡◌};
+ghost use Rattle.std.specs.Option.{unwrap_or};
 
 use crate::assembling::{SOURCE_MEMORY, file_of_source};
 use crate::by_threads::ByThreads;
@@ -17,9 +18,10 @@ use crate::loading::BLOCK_MEMORY;
 use crate::migrating::migrated_file;
 use crate::reporting::report;
 use crate::running::run_to;
-use byte_streams::{Destination, FallibleReader, FallibleWriter, WriteFault, write_whole};
+use byte_streams::{
+    Destination, FallibleBuffer, FallibleReader, FallibleWriter, WriteFault, write_whole,
+};
 use cmdline::{Request, request_of};
-use sessions::{CallRunner, InOrder};
 use std::alloc::Global;
 use std::fs::File;
 use std::io::{BufReader, Read, Stderr, Stdin, Stdout, Write};
@@ -29,6 +31,7 @@ use std::sync::Wait;
 use std::thread::Threads;
 use std::{env, io};
 use system_files::{OutputDisk, ReplaceFault, SystemDisk, replace};
+use turns::{CallRunner, InOrder, Settings};
 
 /// The exit status of a wrong command line.
 const WRONG_LINE: u8 = 2;
@@ -184,7 +187,16 @@ fn answer<T: Threads + Wait + Sync, D: Disk, I: Read, W: Destination, E: Destina
         Request::Dis { file } => dis(alloc, disk, file, out),
         Request::Migrate { file, out } => migrate(alloc, disk, file, out),
         Request::Debug { file, call } => debug(alloc, disk, file, call, input, out),
-        Request::Chain { workers } => chain(threads, alloc, disk, workers, input, out),
+        Request::Chain {
+            workers,
+            frame_limit,
+            frame_gas,
+            digest,
+            brief,
+        } => {
+            let settings = settings_of(frame_limit, frame_gas, digest, brief);
+            chain(threads, alloc, workers, settings, input, out)
+        }
     }
 }
 
@@ -355,39 +367,61 @@ fn debug<D: Disk, I: Read, W: Destination>(
     debug_block_to(alloc, &mut block, &mut programs, call, &mut lines, out)
 }
 
-/// Answers the requests of the input in one session, whose blocks run one after another on one storage: by threads where
+/// The settings of a session, by the options of `chain`.
+fn settings_of(
+    frame_limit: Option<usize>,
+    frame_gas: Option<usize>,
+    digest: bool,
+    brief: bool,
+) -> Settings
+    ensures { result ≡ record { frame_limit = unwrap_or frame_limit 67108864; frame_gas = frame_gas; keeps_digest = digest; is_brief = brief } }
+{
+    let mut settings = Settings::new();
+    if let Some(most) = frame_limit {
+        settings.frame_limit = most as u64;
+    }
+    if let Some(most) = frame_gas {
+        settings.frame_gas = Some(most as u64);
+    }
+    settings.keeps_digest = digest;
+    settings.is_brief = brief;
+    settings
+}
+
+/// Answers the requests of the input in one session, whose frames run one after another on one storage: by threads where
 /// a number of workers is given and that pays, and else in order.
-fn chain<T: Threads + Wait + Sync, D: Disk, I: Read, W: Destination>(
+fn chain<T: Threads + Wait + Sync, I: Read, W: Destination>(
     threads: &T,
     alloc: Global,
-    disk: &D,
     workers: Option<usize>,
+    settings: Settings,
     input: &mut I,
     out: &mut W,
 ) -> Result<(), Refusal> {
     match workers {
-        None => chain_by(alloc, disk, &mut InOrder, input, out),
+        None => chain_by(alloc, &mut InOrder, settings, input, out),
         Some(workers) => {
             let mut runner = ByThreads::new(threads, alloc, workers);
-            chain_by(alloc, disk, &mut runner, input, out)
+            chain_by(alloc, &mut runner, settings, input, out)
         }
     }
 }
 
 /// Answers the requests of the input in one session, whose calls are run by `runner`.
-fn chain_by<D: Disk, C: CallRunner, I: Read, W: Destination>(
+fn chain_by<C: CallRunner, I: Read, W: Destination>(
     alloc: Global,
-    disk: &D,
     runner: &mut C,
+    settings: Settings,
     input: &mut I,
     out: &mut W,
 ) -> Result<(), Refusal>
     requires ready { C.ready }
 {
-    let Ok(mut lines) = BufReader::new(alloc, input) else {
+    let Ok(reader) = BufReader::new(alloc, input) else {
         return Err(Refusal::Seq(SeqFault::Memory));
     };
-    chain_to(alloc, &mut lines, ProgramFiles { disk }, runner, out)
+    let mut requests = FallibleBuffer { reader };
+    chain_to(alloc, &mut requests, runner, settings, out)
 }
 
 /// Opens a file to read it.

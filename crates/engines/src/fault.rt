@@ -1,7 +1,7 @@
 //! Why a command is refused.
 
 ghost use Rattle.std.specs.Prelude.{◌≡◌, ◌≤◌, length};
-ghost use Rattle.engines.specs.Faults.{file_name, file_number, seq_name, seq_number};
+ghost use Rattle.engines.specs.Faults.{file_name, file_number, input_name, input_number, seq_name, seq_number};
 
 use block_file::BlockFault;
 use byte_streams::WriteFault;
@@ -97,6 +97,51 @@ impl fmt::Display for SeqFault {
     }
 }
 
+/// Why the input of a session ends it.
+#[derive(Clone, Copy, Debug, PartialEq, Eq, Error)]
+pub enum InputFault {
+    /// The next line has none of the forms of a request, or no LF is among its first 128 bytes.
+    BadLine = 1,
+    /// The input ends before a request's bytes do.
+    Cut = 2,
+    /// A read failed.
+    Unreadable = 3,
+}
+
+impl InputFault {
+    /// The number in the refusal's line, 1 to 3.
+    pub fn number(self) -> u8
+        ensures { result ≡ input_number self }
+    {
+        self as u8
+    }
+
+    /// The name in the refusal's line.
+    pub fn name(self) -> &'static str
+        ensures text { result.now ≡ input_name self }
+        ensures short { length result.now ≤ 16 }
+    {
+        match self {
+            InputFault::BadLine => "BadLine",
+            InputFault::Cut => "Cut",
+            InputFault::Unreadable => "Unreadable",
+        }
+    }
+}
+
+impl fmt::Display for InputFault {
+    ghost use Rattle.std.specs.Prelude.{Some};
+    ghost use Rattle.engines.specs.Faults.{input_text};
+
+    ghost output = { λ fault. Some (input_text fault) };
+
+    /// The name and the number.
+    #[tactic(auto, unfolding(crate::specs::Faults::input_text))]
+    fn fmt<W: fmt::Write>(&self, f: &mut fmt::Formatter<W>) -> fmt::Result {
+        write!(f, "{} {}", self.name(), self.number())
+    }
+}
+
 /// Why a command is refused: the area, and the refusal in it. A refusal of a block file, a schedule
 /// file or a source has a line too.
 #[derive(Clone, Copy, Debug, PartialEq, Eq)]
@@ -119,6 +164,8 @@ pub enum Refusal {
     Drive(DriveFault),
     /// The replay of a call.
     Debug(ReplayFault),
+    /// The input of a session.
+    Request(InputFault),
     /// The output.
     Output(WriteFault),
 }

@@ -33,7 +33,7 @@ pub use counts::{RunCounts, write_counts};
 pub use debugging::debug_block_to;
 pub use disk::Disk;
 pub use driving::drive_to;
-pub use fault::{FileFault, Refusal, SeqFault};
+pub use fault::{FileFault, InputFault, Refusal, SeqFault};
 pub use file_loader::FileLoader;
 pub use finding::conflicts_to;
 pub use in_order::seq_to;

@@ -104,6 +104,16 @@ const LINES: &[(&str, Request<'static>)] = &[
             call: 1023,
         },
     ),
+    (
+        "rvstm chain --workers 4 --frame-limit 0 --frame-gas 9999999999 --digest --brief",
+        Request::Chain {
+            workers: Some(4),
+            frame_limit: Some(0),
+            frame_gas: Some(9_999_999_999),
+            digest: true,
+            brief: true,
+        },
+    ),
 ];
 
 /// Whether a line is this request.
@@ -165,6 +175,8 @@ const WRONG_LINES: &[&str] = &[
     "rvstm drive a.block --workers -1 --schedule b.schedule",
     "rvstm drive a.block --workers two --schedule b.schedule",
     "rvstm drive a.block --workers 2 --workers 2 --schedule b.schedule",
+    "rvstm chain --frame-gas 10000000000",
+    "rvstm chain --digest --digest",
 ];
 
 #[test]

@@ -1,2 +1,1 @@
 mod Loads
-mod TrueTables

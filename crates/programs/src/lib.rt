@@ -1,18 +1,14 @@
 //! The programs of blocks: of the bytes of files, by paths, and under the calls of a block.
 #![tactic(auto)]
 
-mod cache;
 mod calls;
 mod fault;
 mod files;
 mod loader;
 mod paths;
-mod table;
 
-pub use cache::ProgramCache;
 pub use calls::calls_over;
 pub use fault::ProgramFault;
 pub use files::{FILE_LIMIT, load_file};
 pub use loader::Loader;
 pub use paths::programs_at;
-pub use table::{NamedProgram, ProgramTable};

@@ -16,8 +16,8 @@ use Rattle.requests.proofs.Taken.{IsBroken, known_map, known_then}
 behind_whole : (said : RequestLine) (xs bs ys : List ℕ) → xs ≡ bs ++ ys → length bs ≡ body_length said → behind_line (Some said) xs ≡ Is (with_body said bs) ys
 behind_whole said xs bs ys e h = ap (behind_line (Some said)) e ∙ body_read said bs ys h
 
-pub tells_unkept : (frame_limit : ℕ) (said : RequestLine) (a b : Option (List ℕ)) → is_too_long frame_limit said ≡ false → WhereKnown a b (GivesBody (body_length said) body.Unkept) → WhereKnown a b (TellsBehind frame_limit (asked.Unkept said) said)
-tells_unkept frame_limit said a b fits gives = known_map _ (TellsBehind frame_limit (asked.Unkept said) said) a b gives (λ xs ys (bs, whole, long). (refl, (bs, behind_whole said xs bs ys whole long, long), fits))
+pub tells_unkept : (frame_limit : ℕ) (said : RequestLine) (a b : Option (List ℕ)) → is_too_long frame_limit said ≡ false → 0 < body_length said → WhereKnown a b (GivesBody (body_length said) body.Unkept) → WhereKnown a b (TellsBehind frame_limit (asked.Unkept said) said)
+tells_unkept frame_limit said a b fits some gives = known_map _ (TellsBehind frame_limit (asked.Unkept said) said) a b gives (λ xs ys (bs, whole, long). (refl, (bs, behind_whole said xs bs ys whole long, long), fits, some))
 
 -- ---- with the line
 
@@ -27,7 +27,7 @@ at_line text xs ys o h e = by_found xs (text, ys) h ∙ ap (λ o. behind_line o 
 with_line : (frame_limit : ℕ) (said : RequestLine) (text : List ℕ) → line_of text ≡ Some said → (answer : Asked) (xs ys zs : List ℕ) → first_part 10 128 xs ≡ Some (text, ys) → TellsBehind frame_limit answer said ys zs → Tells frame_limit answer xs zs
 with_line frame_limit said text e (asked.Whole request) xs ys zs h (is, fits) = (at_line text xs ys (Some said) h e ∙ is, fits)
 with_line frame_limit said text e (asked.TooLong other) xs ys zs h (same, (bytes, is, size), long) = rw same ((bytes, at_line text xs ys (Some said) h e ∙ is, size), long)
-with_line frame_limit said text e (asked.Unkept other) xs ys zs h (same, (bytes, is, size), fits) = rw same ((bytes, at_line text xs ys (Some said) h e ∙ is, size), fits)
+with_line frame_limit said text e (asked.Unkept other) xs ys zs h (same, (bytes, is, size), fits, some) = rw same ((bytes, at_line text xs ys (Some said) h e ∙ is, size), fits, some)
 with_line frame_limit said text e (asked.Broken fault) xs ys zs h is = at_line text xs ys (Some said) h e ∙ is
 with_line frame_limit said text e asked.End xs ys zs h is = absurd is
 

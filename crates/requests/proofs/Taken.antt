@@ -1,12 +1,13 @@
 -- What reads of single bytes and of pieces give.
 use Rattle.std.proofs.Common.{◌≡◌, ◌<◌, ◌≤◌, ◌+◌, ◌-◌, ◌==◌, ℕ, zero, suc, true, false, List, [], ◌∷◌, ◌++◌, length, get_or, take, set, Option, Some, None, refl, sym, ap, ◌∙◌, arith, append_assoc, append-nil, length-append}
-use Rattle.std.specs.Prelude.{OnSome, Vec}
+use Rattle.std.specs.Prelude.{⊤, OnSome, Vec}
 use Rattle.std.specs.Option.{option_map}
 use Rattle.std.specs.Io.KnownBytes.{Consumes, IsAtEnd}
 use Rattle.std.specs.declared.alloc.Global.{Global}
 use Rattle.std.proofs.lemmas.List.{length-take, take_more_set}
 use Rattle.requests.specs.Requests.{first_part}
-use Rattle.requests.specs.Reading.{IsKept, WhereKnown}
+use Rattle.requests.specs.Reading.{IsKept, LosesSome, WhereKnown}
+use Rattle.requests.specs.declared.reading.Body.TheVariants as body
 use Rattle.requests.proofs.Parts.{before, no_front, none_left, scan_end, scan_hit, scan_on}
 
 -- two such facts, one after the other
@@ -111,6 +112,24 @@ passes_more size left count kept longer bytes a b c so read long few keeps = kno
 pub passes_cut : (size left : ℕ) (kept : Option (Vec ℕ Global)) (bytes : List ℕ) (a b c : Option (List ℕ)) → 0 < left → WhereKnown a b (Passes size left kept) → Consumes b c bytes → length bytes ≡ 0 → OnSome b (IsAtEnd c) → WhereKnown a c (λ xs ys. length xs < size)
 passes_cut size left kept bytes a b c some so read none end = known_then (Passes size left kept) _ (λ xs ys. length xs < size) a b c so (took_last bytes b c read end) (λ xs ys zs (bs, whole, sum, is) e.
     omega (arith, some, ap length whole, length-append bs ys, ap length e, none, sum))
+
+-- bytes that were kept before and are not now
+abbrev pub IsLost : Option (Vec ℕ Global) → Option (Vec ℕ Global) → ℕ → Type 0
+IsLost (Some before) None size = 0 < size
+IsLost before now size = ⊤
+
+pub none_lost : (kept : Option (Vec ℕ Global)) (size : ℕ) → IsLost kept kept size
+none_lost None size = tt
+none_lost (Some bytes) size = tt
+
+pub some_lost : (before now : Option (Vec ℕ Global)) (size : ℕ) → 0 < size → IsLost before now size
+some_lost None now size some = tt
+some_lost (Some bytes) None size some = some
+some_lost (Some bytes) (Some more) size some = tt
+
+pub loses : (before now : Option (Vec ℕ Global)) (size : ℕ) → now ≡ None → IsLost before now size → LosesSome before size body.Unkept
+loses None now size none lost = tt
+loses (Some bytes) now size none lost = rw none at lost
 
 -- ---- what a buffer shows
 

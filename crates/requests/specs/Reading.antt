@@ -56,7 +56,7 @@ IsPassed said xs ys = (bytes : List ℕ) × (request_of xs ≡ Is (with_body sai
 abbrev pub Tells : ℕ → Asked → List ℕ → List ℕ → Type 0
 Tells frame_limit (asked.Whole request) xs ys = (request_of xs ≡ Is (ask_of request) ys) × (is_too_long frame_limit (line_for (ask_of request)) ≡ false)
 Tells frame_limit (asked.TooLong said) xs ys = IsPassed said xs ys × (is_too_long frame_limit said ≡ true)
-Tells frame_limit (asked.Unkept said) xs ys = IsPassed said xs ys × (is_too_long frame_limit said ≡ false)
+Tells frame_limit (asked.Unkept said) xs ys = IsPassed said xs ys × (is_too_long frame_limit said ≡ false) × (0 < body_length said)
 Tells frame_limit (asked.Broken fault) xs ys = request_of xs ≡ Ends (Some fault)
 Tells frame_limit asked.End xs ys = request_of xs ≡ Ends None
 
@@ -64,7 +64,7 @@ Tells frame_limit asked.End xs ys = request_of xs ≡ Ends None
 abbrev pub TellsBehind : ℕ → Asked → RequestLine → List ℕ → List ℕ → Type 0
 TellsBehind frame_limit (asked.Whole request) said xs ys = (behind_line (Some said) xs ≡ Is (ask_of request) ys) × (is_too_long frame_limit (line_for (ask_of request)) ≡ false)
 TellsBehind frame_limit (asked.TooLong other) said xs ys = (other ≡ said) × ((bytes : List ℕ) × (behind_line (Some said) xs ≡ Is (with_body said bytes) ys) × (length bytes ≡ body_length said)) × (is_too_long frame_limit said ≡ true)
-TellsBehind frame_limit (asked.Unkept other) said xs ys = (other ≡ said) × ((bytes : List ℕ) × (behind_line (Some said) xs ≡ Is (with_body said bytes) ys) × (length bytes ≡ body_length said)) × (is_too_long frame_limit said ≡ false)
+TellsBehind frame_limit (asked.Unkept other) said xs ys = (other ≡ said) × ((bytes : List ℕ) × (behind_line (Some said) xs ≡ Is (with_body said bytes) ys) × (length bytes ≡ body_length said)) × (is_too_long frame_limit said ≡ false) × (0 < body_length said)
 TellsBehind frame_limit (asked.Broken fault) said xs ys = behind_line (Some said) xs ≡ Ends (Some fault)
 TellsBehind frame_limit asked.End said xs ys = ⊥
 
@@ -89,3 +89,8 @@ abbrev pub GivesBody : ℕ → Body → List ℕ → List ℕ → Type 0
 GivesBody size (body.Whole bytes) xs ys = (bs : List ℕ) × (xs ≡ bs ++ ys) × (length bs ≡ size) × (bytes.items ≡ bs)
 GivesBody size body.Unkept xs ys = (bs : List ℕ) × (xs ≡ bs ++ ys) × (length bs ≡ size)
 GivesBody size body.Cut xs ys = length xs < size
+
+-- bytes that were to be kept and are not: some, since none take no memory
+abbrev pub LosesSome : Option (Vec ℕ Global) → ℕ → Body → Type 0
+LosesSome (Some bytes) size body.Unkept = 0 < size
+LosesSome kept size other = ⊤

@@ -3,7 +3,7 @@
 ghost use Rattle.std.specs.Prelude.{◌≡◌, ◌≤◌, ◌<◌, ◌++◌, [], ℕ, List, length, IfOk, OnErr, OnSome};
 ghost use Rattle.std.specs.Io.KnownBytes.{Consumes, IsAtEnd};
 ghost use Rattle.requests.specs.Requests.{Is, with_body};
-ghost use Rattle.requests.specs.Reading.{GivesByte, GivesBody, GivesLine, IsKept, IsWithin, Tells, TellsBehind, WhereKnown, ask_of};
+ghost use Rattle.requests.specs.Reading.{GivesByte, GivesBody, GivesLine, IsKept, IsWithin, LosesSome, Tells, TellsBehind, WhereKnown, ask_of};
 
 use crate::line::line_of;
 use crate::request::{Asked, Request, RequestFault, RequestLine};
@@ -157,6 +157,7 @@ fn next_byte<R: BufferedSource>(input: &mut R) -> io::Result<Option<u8>>
 fn read_body<R: BufferedSource>(input: &mut R, size: u64, kept: Option<Vec<u8>>) -> io::Result<Body>
     requires { IsKept kept [] }
     ensures bytes { IfOk result (λ body. WhereKnown (R.remaining input.old) (R.remaining input.new) (GivesBody size body)) }
+    ensures lost { IfOk result (LosesSome kept size) }
     ensures fails { OnErr result (R.may_fail input.old) }
     ensures same { R.may_fail input.new → R.may_fail input.old }
 {

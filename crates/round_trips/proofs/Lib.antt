@@ -6,3 +6,5 @@ pub mod LineKinds
 pub mod Behind
 pub mod Between
 pub mod Dumps
+pub mod Alike
+pub mod Begins

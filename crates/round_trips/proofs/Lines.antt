@@ -21,7 +21,7 @@ use Rattle.round_trips.proofs.Sorted.{Entry}
 
 -- ---- places to cut at
 
-abbrev pub Lacks : ℕ → List ℕ → Type 0
+abbrev Lacks : ℕ → List ℕ → Type 0
 Lacks c xs = All (λ b. (b == c) ≡ false) xs
 
 apart : (c x : ℕ) → c ≤ 32 → nat_lt 32 x ≡ true → (x == c) ≡ false
@@ -40,7 +40,7 @@ content e = codes "store" ++ 32 ∷ (encode_lower e.0 ++ 32 ∷ bytes_text e.1)
 ended : (e : Entry) (rest : List ℕ) → store_line e ++ rest ≡ content e ++ 10 ∷ rest
 ended e rest = simp append_assoc
 
-pub no_end : {rules : Rules} (e : Entry) → IsEntry rules e → Lacks 10 (content e)
+no_end : {rules : Rules} (e : Entry) → IsEntry rules e → Lacks 10 (content e)
 no_end e h =
     All-append (λ b. (b == 10) ≡ false) (codes "store") (32 ∷ (encode_lower e.0 ++ 32 ∷ bytes_text e.1)) (lacks 10 (omega arith) (codes "store") refl)
     (All-cons (λ b. (b == 10) ≡ false) 32 (encode_lower e.0 ++ 32 ∷ bytes_text e.1) refl

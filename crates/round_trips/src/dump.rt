@@ -1,33 +1,30 @@
-//! What a session dumps, as the first frame of another session.
+//! The text of a session's storage, read back as a block file.
 
-ghost use Rattle.std.specs.Prelude.{All};
+ghost use Rattle.std.specs.Prelude.{◌≡◌, All, Ok};
 ghost use Rattle.std.specs.FinMap.{entries};
+ghost use Rattle.block_file.specs.Block.{block_of};
 ghost use Rattle.rv_ledger.specs.Key.{Storage};
 ghost use Rattle.rv_ledger.specs.declared.rules.Rules.{Rules};
 ghost use Rattle.rv_ledger.specs.declared.rules.Rules.TheVariants.{Two};
-ghost use Rattle.round_trips.specs.Chained.{AreShort, IsEntry, beginnings};
-ghost use Rattle.round_trips.specs.Dumped.{IsContinued, IsOneFrame, IsRestored};
+ghost use Rattle.round_trips.specs.Chained.{AreShort, IsEntry, block_with};
+ghost use Rattle.turns.specs.Telling.{dump_text};
 
 use crate::storage::are_entries;
 use rv_ledger::Store;
 
-/// A law, and no code: what a session answers to `dump`, put behind a beginning of a block file, is one frame. A new session
-/// answers it by `end`, whatever its programs, and has then the storage that was dumped and the rules of that beginning. So it
-/// answers what follows as the first session would that had these rules (`sessions::session_is_a_fold`). This holds where the
-/// storage's keys have 32 bytes and its values at most what these rules allow, 64 or 256.
-pub fn dump_begins_session()
-    ensures frame { (rules : Rules) (store : Storage) → All (IsEntry rules) (entries store) → All (IsOneFrame store) (beginnings rules) }
-    ensures restored { (rules : Rules) (store : Storage) → All (IsEntry rules) (entries store) → All (IsRestored rules store) (beginnings rules) }
-    ensures continued { (rules : Rules) (store : Storage) → All (IsEntry rules) (entries store) → All (IsContinued rules store) (beginnings rules) }
+/// A law, and no code: what a session answers to `dump` is read as a block file of the session's rules, with its storage, and
+/// with neither programs nor calls. This holds where the storage's keys have 32 bytes and its values at most what the rules
+/// allow, 64 or 256.
+#[tactic(auto, using(crate::proofs::Dumps::dump_read))]
+pub fn dump_is_read_back()
+    ensures { (rules : Rules) (store : Storage) → All (IsEntry rules) (entries store) → block_of (dump_text rules store) ≡ Ok (block_with rules store) }
 {}
 
 /// The same law for a storage that a program holds: rules two and three allow each such storage, and rules one those whose
 /// values have at most 64 bytes. It walks over the storage and changes nothing.
-pub fn dump_begins_session_of(store: &Store)
+pub fn dump_is_read_back_of(store: &Store)
     ensures short { AreShort Two store.now }
-    ensures frame { (rules : Rules) → AreShort rules store.now → All (IsOneFrame store.now) (beginnings rules) }
-    ensures restored { (rules : Rules) → AreShort rules store.now → All (IsRestored rules store.now) (beginnings rules) }
-    ensures continued { (rules : Rules) → AreShort rules store.now → All (IsContinued rules store.now) (beginnings rules) }
+    ensures read { (rules : Rules) → AreShort rules store.now → block_of (dump_text rules store.now) ≡ Ok (block_with rules store.now) }
 {
     are_entries(store);
 }

@@ -1,9 +1,11 @@
-//! What one crate writes, read by another: the storage after a block is the storage before the next one, and what a session
-//! dumps is where another session begins.
+//! What one crate writes, read by another: the storage after a block is the storage before the next one, and a session that
+//! begins with what another one dumps goes on as that one.
 #![tactic(auto)]
 
+mod begin;
 mod dump;
 mod storage;
 
-pub use dump::{dump_begins_session, dump_begins_session_of};
+pub use begin::{begin_after_dump, begun_answers_alike, begun_session_answers_alike};
+pub use dump::{dump_is_read_back, dump_is_read_back_of};
 pub use storage::{storage_is_read_back, storage_is_read_back_of};

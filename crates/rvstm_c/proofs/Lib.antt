@@ -1,4 +1,5 @@
 pub mod Values
 pub mod Handles
-pub mod Turns
+pub mod Answers
 pub mod Calls
+pub mod Texts

@@ -1,11 +1,14 @@
--- The parts of a refusal, as C is handed them.
-use Rattle.std.specs.Prelude.{◌≡◌, ℕ, List, ◌++◌, ◌-◌, length, replicate, Option, Some, None, Result, Ok, Err, Vec}
-use Rattle.std.specs.declared.alloc.Global.{Global}
-use Rattle.byte_streams.specs.Refusals.{Parts}
-use Rattle.sessions.specs.Faults as sessions
-use Rattle.sessions.specs.declared.fault.FrameFault.{FrameFault}
-use Rattle.rvstm_c.specs.Statuses.{closed, status_of}
-use Rattle.rvstm_c.specs.declared.refusal.Refusal.{Refusal}
+-- The parts of a refusal or a failure, as C is handed them.
+use Rattle.std.specs.Prelude.{◌≡◌, ℕ, List, ◌++◌, ◌-◌, codes, length, replicate, Option, Some, None}
+use Rattle.byte_streams.specs.Refusals.{Parts, without_line}
+use Rattle.turns.specs.Replies.{Reply, Done, Refused, Failed, parts_of, parts_of_failure}
+use Rattle.turns.specs.Stages.{reply_in}
+use Rattle.turns.specs.declared.state.State.{State}
+use Rattle.rvstm_c.specs.Given.{status_given}
+use Rattle.rvstm_c.specs.Statuses.{closed}
+use Rattle.rvstm_c.specs.declared.given.Given.{Given}
+use Rattle.rvstm_c.specs.declared.given.Given.TheVariants.{Answered, BadLine}
+use Rattle.rvstm_c.specs.declared.refusal.RefusalParts.{RefusalParts}
 use Rattle.rvstm_c.specs.declared.session.EmbeddedSession.{EmbeddedSession}
 
 -- a text, and zeros behind it up to a length
@@ -18,7 +21,7 @@ number_or_none None = 0
 number_or_none (Some line) = line
 
 -- the parts of a refusal
-abbrev pub handed_out : Parts → Refusal
+abbrev pub handed_out : Parts → RefusalParts
 handed_out parts = record {
   line = number_or_none parts.line;
   number = parts.number;
@@ -26,12 +29,22 @@ handed_out parts = record {
   name = padded 24 parts.name;
 }
 
--- the parts of the refusal that an answer is; zeros where nothing was refused
-abbrev pub parts_of : Result (Vec ℕ Global) FrameFault → Refusal
-parts_of (Ok text) = record { line = 0; number = 0; area = replicate 8 0; name = replicate 24 0 }
-parts_of (Err fault) = handed_out (sessions.parts_of fault)
+-- zeros, where nothing was refused and nothing failed
+abbrev pub no_parts : RefusalParts
+no_parts = record { line = 0; number = 0; area = replicate 8 0; name = replicate 24 0 }
 
--- the parts of the refusal that is the answer of a handle's session were handed out
-abbrev pub IsRefusalOf : Option EmbeddedSession → ℕ → Refusal → Type 0
-IsRefusalOf None status parts = (status ≡ closed) × (parts ≡ record { line = 0; number = 0; area = replicate 8 0; name = replicate 24 0 })
-IsRefusalOf (Some session) status parts = (status ≡ status_of session.answer) × (parts ≡ parts_of session.answer)
+-- the parts of a reply
+abbrev pub parts_of_reply : Reply → RefusalParts
+parts_of_reply (Done bytes) = no_parts
+parts_of_reply (Refused refusal) = handed_out (parts_of refusal)
+parts_of_reply (Failed failure) = handed_out (parts_of_failure failure)
+
+-- the parts of what the last request was answered
+abbrev pub parts_given : State → Given → RefusalParts
+parts_given s (Answered given) = parts_of_reply (reply_in s given)
+parts_given s BadLine = handed_out (without_line (codes "request") (codes "BadLine") 1)
+
+-- those of the last answer of a handle's session were handed out
+abbrev pub ArePartsOf : Option EmbeddedSession → ℕ → RefusalParts → Type 0
+ArePartsOf None status parts = (status ≡ closed) × (parts ≡ no_parts)
+ArePartsOf (Some session) status parts = (status ≡ status_given session.state session.given) × (parts ≡ parts_given session.state session.given)

@@ -1,13 +1,12 @@
 -- What a call answers.
-use Rattle.std.specs.Prelude.{ℕ, Result, Ok, Err, Vec}
-use Rattle.std.specs.declared.alloc.Global.{Global}
-use Rattle.sessions.specs.declared.fault.FrameFault.{FrameFault}
+use Rattle.std.specs.Prelude.{ℕ}
+use Rattle.turns.specs.Replies.{Reply, Done, Refused, Failed}
 
 -- it was done
 abbrev pub done : ℕ
 done = 0
 
--- it was refused, and the session's answer is the line that says why
+-- the request was refused
 abbrev pub refused : ℕ
 refused = 1
 
@@ -19,9 +18,9 @@ closed = 2
 abbrev pub already_open : ℕ
 already_open = 3
 
--- a program was handed in for the path before
-abbrev pub already_given : ℕ
-already_given = 4
+-- this machine ran out of memory for the request
+abbrev pub failed : ℕ
+failed = 4
 
 -- memory for the session ran out
 abbrev pub no_memory : ℕ
@@ -31,7 +30,12 @@ no_memory = 5
 abbrev pub short_buffer : ℕ
 short_buffer = 6
 
--- what a call answers after which this is the session's answer
-abbrev pub status_of : Result (Vec ℕ Global) FrameFault → ℕ
-status_of (Ok text) = done
-status_of (Err fault) = refused
+-- no session has such settings
+abbrev pub bad_settings : ℕ
+bad_settings = 7
+
+-- what a call answers whose request is answered so
+abbrev pub status_of : Reply → ℕ
+status_of (Done bytes) = done
+status_of (Refused refusal) = refused
+status_of (Failed failure) = failed

@@ -1,22 +1,24 @@
-//! The parts of a refusal, as C is handed them.
+//! The parts of a refusal or a failure, as C is handed them.
 
 ghost use Rattle.std.specs.Prelude.{◌≡◌, ◌≤◌, length};
 ghost use Rattle.byte_streams.specs.Refusals.{parts_in};
-ghost use Rattle.rvstm_c.specs.Refusals.{handed_out, padded, parts_of};
+ghost use Rattle.turns.specs.Turn.{last_reply};
+ghost use Rattle.rvstm_c.specs.Refusals.{handed_out, padded, parts_given, parts_of_reply};
 
+use crate::given::Given;
 use byte_streams::LineParts;
-use sessions::FrameFault;
+use turns::{Answer, KeptAnswer, Refusal, State};
 
-/// The room for an area, in bytes: no area has more.
+/// The room for an area, in bytes: no area has more than 7.
 const AREA_ROOM: usize = 8;
 
 /// The room for a name, in bytes: no name has more than 16.
 const NAME_ROOM: usize = 24;
 
-/// The parts of a refusal; zeros where nothing was refused.
+/// The parts of a refusal or a failure; zeros where a request is done.
 #[repr(C)]
 #[derive(Clone, Copy)]
-pub struct Refusal {
+pub struct RefusalParts {
     /// The number of the block's line, from 1; 0 where there is none.
     pub line: usize,
     /// The number within the area, from 1.
@@ -27,29 +29,45 @@ pub struct Refusal {
     pub name: [u8; NAME_ROOM],
 }
 
-/// What is handed out where nothing was refused.
-pub(crate) const NO_REFUSAL: Refusal = Refusal {
+/// What is handed out where a request is done.
+pub(crate) const NO_PARTS: RefusalParts = RefusalParts {
     line: 0,
     number: 0,
     area: [0; AREA_ROOM],
     name: [0; NAME_ROOM],
 };
 
-/// The parts of the refusal that is an answer.
-pub(crate) fn parts_of(answer: &Result<Vec<u8>, FrameFault>) -> Refusal
-    ensures { result ≡ parts_of answer.now }
+/// The parts of what the last request was answered.
+pub(crate) fn parts_of(state: &State, given: &Given) -> RefusalParts
+    ensures { result ≡ parts_given state.now given.now }
 {
-    match answer {
-        Ok(_) => NO_REFUSAL,
-        Err(fault) => handed_out(fault.parts()),
+    match given {
+        Given::Answered(Answer::Done(_) | Answer::Storage(_)) => NO_PARTS,
+        Given::Answered(Answer::Last) => parts_of_last(&state.last),
+        Given::Answered(Answer::Refused(refusal)) => handed_out(refusal.parts()),
+        Given::Answered(Answer::Failed(failure)) => handed_out(failure.parts()),
+        Given::BadLine => handed_out(LineParts::without_line("request", "BadLine", 1)),
+    }
+}
+
+/// The same of the answer that is kept of a frame.
+fn parts_of_last(last: &Option<KeptAnswer>) -> RefusalParts
+    ensures { result ≡ parts_of_reply (last_reply last.now) }
+{
+    match last {
+        Some(kept) => match kept.refusal {
+            Some(refusal) => handed_out(refusal.parts()),
+            None => NO_PARTS,
+        },
+        None => handed_out(Refusal::NoFrame.parts()),
     }
 }
 
 /// The parts of a refusal.
-fn handed_out(parts: LineParts) -> Refusal
+fn handed_out(parts: LineParts) -> RefusalParts
     ensures { result ≡ handed_out (parts_in parts) }
 {
-    Refusal {
+    RefusalParts {
         line: parts.line.unwrap_or(0),
         number: u32::from(parts.number),
         area: padded(parts.area),

@@ -143,7 +143,7 @@ run_fails settings s bytes frame failure is (inr e) = subst (MayFailFrame settin
 pub answered_weaker : (P Q : Failure → Type 0) (s : State) (wanted : Turn) (given : Answer) (after : State) → ((f : Failure) → P f → Q f) → IsAnswered P s wanted given after → IsAnswered Q s wanted given after
 answered_weaker P Q s wanted (answer.Done bytes) after h is = is
 answered_weaker P Q s wanted answer.Last after h is = is
-answered_weaker P Q s wanted answer.Storage after h is = is
+answered_weaker P Q s wanted (answer.Storage buffer) after h is = is
 answered_weaker P Q s wanted (answer.Refused r) after h is = is
 answered_weaker P Q s wanted (answer.Failed f) after h is = (h f is.0, is.1)
 

@@ -1,8 +1,8 @@
 -- Where this machine may run out of memory: for a stage of a request only where no stage before it refuses.
-use Rattle.std.specs.Prelude.{◌≡◌, ◌≢◌, ◌<◌, ⊤, ℕ, List, false, nat_lt, length, IfErr, IsOk}
-use Rattle.requests.specs.Requests.{Ask, Program, Programs, Frame, Try, Get, ListEntries, Begin, State as AskState}
-use Rattle.turns.specs.Turn.{accepted, program_turn}
-use Rattle.turns.specs.Replies.{Refused}
+use Rattle.std.specs.Prelude.{◌≡◌, ◌≢◌, ◌<◌, ◌⊎◌, ⊤, ℕ, List, false, nat_lt, length, IfErr, IsOk}
+use Rattle.requests.specs.Requests.{Ask, Program, Programs, Frame, Try, Get, ListEntries, Dump, Begin, State as AskState}
+use Rattle.turns.specs.Turn.{Turn, accepted, program_turn, turn}
+use Rattle.turns.specs.Replies.{Failed, Refused, answer_text}
 use Rattle.turns.specs.declared.refusal.Failure.{Failure}
 use Rattle.turns.specs.declared.refusal.Failure.TheVariants as want
 use Rattle.turns.specs.declared.refusal.Refusal.{Refusal}
@@ -28,4 +28,14 @@ MayFail settings s Programs want.Answer = ⊤
 MayFail settings s (Get key) want.Answer = ⊤
 MayFail settings s (ListEntries from count) want.Answer = ⊤
 MayFail settings s AskState want.Answer = ⊤
+MayFail settings s Dump want.Answer = ⊤
 MayFail settings s ask failure = ⊥
+
+-- a request was answered as its turn says
+abbrev pub IsWanted : Settings → State → Ask → List ℕ → State → Type 0
+IsWanted settings s ask text after = (text ≡ answer_text (turn settings s ask).reply) × (after ≡ (turn settings s ask).after)
+
+-- so it was; or memory ran out where it may, which is told, and all is as it was
+abbrev pub IsAnswer : Settings → State → Ask → List ℕ → State → Type 0
+IsAnswer settings s ask text after =
+    IsWanted settings s ask text after ⊎ ((failure : Failure) × MayFail settings s ask failure × (text ≡ answer_text (Failed failure)) × (after ≡ s))

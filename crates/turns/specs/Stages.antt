@@ -39,7 +39,7 @@ use Rattle.turns.specs.declared.state.State.{State}
 abbrev pub reply_in : State → Answer → Reply
 reply_in s (answer.Done bytes) = Done bytes.items
 reply_in s answer.Last = last_reply s.last
-reply_in s answer.Storage = Done (dump_text s.rules s.store)
+reply_in s (answer.Storage buffer) = Done (dump_text s.rules s.store)
 reply_in s (answer.Refused refusal) = Refused refusal
 reply_in s (answer.Failed failure) = Failed failure
 

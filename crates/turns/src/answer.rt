@@ -4,6 +4,7 @@ ghost use Rattle.std.specs.Prelude.{◌≡◌, ◌++◌, codes};
 ghost use Rattle.std.specs.Fmt.{decimal};
 ghost use Rattle.turns.specs.Replies.{Done, Failed, Refused, answer_bytes, answer_line, kept_reply};
 
+use crate::dump::EmptyBuffer;
 use crate::kept::KeptAnswer;
 use crate::refusal::{Failure, Refusal};
 use arrayvec::ArrayString;
@@ -16,8 +17,8 @@ pub enum Answer {
     Done(Vec<u8>),
     /// What the session keeps as its last answer.
     Last,
-    /// It is done, and the answer's bytes are the text of the session's storage.
-    Storage,
+    /// It is done, and the answer's bytes are the text of the session's storage, which goes through this buffer.
+    Storage(EmptyBuffer),
     /// It is refused.
     Refused(Refusal),
     /// This machine ran out of memory.
@@ -53,7 +54,7 @@ pub fn failed_line(failure: Failure) -> AnswerLine
 }
 
 /// The line of an answer that is kept.
-pub(crate) fn line_of_kept(kept: &KeptAnswer) -> AnswerLine
+pub fn line_of_kept(kept: &KeptAnswer) -> AnswerLine
     ensures { result.bytes ≡ answer_line (kept_reply kept.now) }
 {
     match kept.refusal {
@@ -63,7 +64,7 @@ pub(crate) fn line_of_kept(kept: &KeptAnswer) -> AnswerLine
 }
 
 /// The bytes behind that line.
-pub(crate) fn bytes_of_kept(kept: &KeptAnswer) -> &[u8]
+pub fn bytes_of_kept(kept: &KeptAnswer) -> &[u8]
     ensures { result.now ≡ answer_bytes (kept_reply kept.now) }
 {
     match kept.refusal {

@@ -1,16 +1,35 @@
 //! The text of a storage.
 
-ghost use Rattle.std.specs.Prelude.{◌≡◌, ◌<◌, ◌≤◌, ◌^◌, length};
+ghost use Rattle.std.specs.Prelude.{◌≡◌, ◌≢◌, ◌<◌, ◌≤◌, ◌^◌, IfErr, OnOk, OnErr, [], None, length};
+ghost use Rattle.std.specs.Io.KnownBytes.{Appends};
 ghost use Rattle.std.specs.FinMap.{entries};
 ghost use Rattle.std.specs.List.{flat_map};
+ghost use Rattle.byte_streams.specs.Written.{AppendsPart, MayRefuse};
 ghost use Rattle.receipts.specs.Buffer.{Appended};
 ghost use Rattle.receipts.specs.Text.{bytes_text, store_line};
 ghost use Rattle.turns.specs.Telling.{dump_head, dump_text};
 
 use crate::accepting::number_of;
-use byte_streams::Destination;
+use byte_streams::{Destination, WriteFault};
 use receipts::{TextBuffer, push_decimal, push_entry};
 use rv_ledger::{Key, Rules, Store, StoredValue};
+use std::alloc::{AllocError, Global};
+
+/// A buffer in which nothing waits, for the text of a storage on its way to a writer.
+#[derive(Drop)]
+pub struct EmptyBuffer {
+    buffer: TextBuffer,
+    ghost is_whole: { buffer.refused ≡ None },
+    ghost is_empty: { buffer.waiting.items ≡ [] },
+}
+
+impl EmptyBuffer {
+    /// A buffer in which nothing waits; refused where memory ran out.
+    pub fn new(alloc: Global) -> Result<EmptyBuffer, AllocError> {
+        let buffer = TextBuffer::new(alloc)?;
+        Ok(EmptyBuffer { buffer })
+    }
+}
 
 /// The length of the text of a storage, in bytes.
 pub fn dump_length(rules: Rules, store: &Store) -> u128
@@ -58,8 +77,28 @@ fn digit_count(bytes: &[u8]) -> usize
     if bytes.is_empty() { 1 } else { 2 * bytes.len() }
 }
 
+/// Writes the text of a storage: a block file of the session's rules. Takes no memory. Refused as the first write that was
+/// refused; then a beginning of the text was written, and not all of it.
+pub fn write_dump<W: Destination>(
+    buffer: EmptyBuffer,
+    rules: Rules,
+    store: &Store,
+    out: &mut W,
+) -> Result<(), WriteFault>
+    ensures ok { OnOk result (Appends (W.contents out.old) (W.contents out.new) (dump_text rules store.now)) }
+    ensures err { OnErr result (AppendsPart (W.contents out.old) (W.contents out.new) (dump_text rules store.now)) }
+    ensures fault { IfErr result (λ fault. fault ≢ WriteFault.Memory) }
+    ensures cause { IfErr result (MayRefuse (W.may_fail out.old) (W.may_take_nothing out.old)) }
+    ensures same { (W.may_fail out.new → W.may_fail out.old) × (W.may_take_nothing out.new → W.may_take_nothing out.old) }
+{
+    let EmptyBuffer { buffer } = buffer;
+    let mut text = buffer;
+    push_dump(&mut text, rules, store, out);
+    text.finish(out)
+}
+
 /// Appends the text of a storage: a block file of the session's rules.
-pub fn push_dump<W: Destination>(text: &mut TextBuffer, rules: Rules, store: &Store, out: &mut W)
+fn push_dump<W: Destination>(text: &mut TextBuffer, rules: Rules, store: &Store, out: &mut W)
     ensures { Appended W.contents W.may_fail W.may_take_nothing text.old out.old text.new out.new (dump_text rules store.now) }
 {
     push_head(text, rules, out);

@@ -4,6 +4,7 @@
 mod accepting;
 mod answer;
 mod begin;
+mod bodies;
 mod digest;
 mod dump;
 mod frame;
@@ -23,8 +24,11 @@ mod telling;
 mod texts;
 mod turn;
 
-pub use answer::{Answer, AnswerLine, done_line, failed_line, refused_line};
-pub use dump::{dump_length, push_dump};
+pub use answer::{
+    Answer, AnswerLine, bytes_of_kept, done_line, failed_line, line_of_kept, refused_line,
+};
+pub use bodies::{take_begin, take_frame, take_program, take_try};
+pub use dump::{EmptyBuffer, dump_length, write_dump};
 pub use kept::{KeptAnswer, KeptBytes};
 pub use program_table::{ProgramTable, SharedImage};
 pub use refusal::{Failure, Refusal};

@@ -3,13 +3,17 @@
 ghost use Rattle.std.specs.Prelude.{◌≡◌, ◌<◌, IfOk, List, OnErr, false, length, true, ℕ};
 ghost use Rattle.requests.specs.Reading.{ask_of, is_too_long};
 ghost use Rattle.requests.specs.Requests.{body_length, with_body};
+ghost use Rattle.turns.specs.Replies.{Done};
 ghost use Rattle.turns.specs.Stages.{IsAnswered, IsTurn};
+ghost use Rattle.turns.specs.Telling.{dump_text};
 ghost use Rattle.turns.specs.Turn.{last_reply, told, turn};
 ghost use Rattle.turns.specs.declared.settings.Settings.{Settings};
 
 use crate::answer::Answer;
 use crate::begin::begin;
-use crate::frame::{frame, long_frame, long_try, try_frame, unkept_frame};
+use crate::bodies::{take_frame, take_try};
+use crate::dump::EmptyBuffer;
+use crate::frame::{long_frame, long_try, unkept_frame};
 use crate::handed_in::{forget, hand_in, names};
 use crate::refusal::{Failure, Refusal};
 use crate::runner::CallRunner;
@@ -36,14 +40,14 @@ pub fn take_turn<C: CallRunner>(
         Request::Program(file) => hand_in(alloc, state, file.as_slice()),
         Request::Forget(name) => forget(alloc, state, &Key::new(*name)),
         Request::Programs => text_answer(names(alloc, &state.programs)),
-        Request::Frame(bytes) => frame(alloc, runner, settings, state, bytes.as_slice()),
-        Request::Try(bytes) => try_frame(alloc, runner, settings, state, bytes.as_slice()),
+        Request::Frame(bytes) => take_frame(alloc, runner, settings, state, bytes.as_slice()),
+        Request::Try(bytes) => take_try(alloc, runner, settings, state, bytes.as_slice()),
         Request::Last => last(state),
         Request::Get(key) => text_answer(content(alloc, &state.store, &Key::new(*key))),
         Request::List(from, count) => {
             text_answer(listed(alloc, &state.store, &Key::new(*from), *count))
         }
-        Request::Dump => Answer::Storage,
+        Request::Dump => dump(alloc, state),
         Request::Begin(height, digest, bytes) => begin(
             alloc,
             state,
@@ -63,6 +67,16 @@ fn text_answer(text: Result<Vec<u8>, AllocError>) -> Answer
 {
     match text {
         Ok(text) => Answer::Done(text),
+        Err(AllocError) => Answer::Failed(Failure::Answer),
+    }
+}
+
+/// The answer that is the text of the storage; it fails where memory for its buffer runs out.
+fn dump(alloc: Global, state: &State) -> Answer
+    ensures { IsAnswered (λ failure. failure ≡ Failure.Answer) state.now (told state.now (Done (dump_text state.now.rules state.now.store))) result state.now }
+{
+    match EmptyBuffer::new(alloc) {
+        Ok(buffer) => Answer::Storage(buffer),
         Err(AllocError) => Answer::Failed(Failure::Answer),
     }
 }

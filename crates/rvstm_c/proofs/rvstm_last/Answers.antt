@@ -1,0 +1,11 @@
+use Rattle.std.proofs.Common.{◌≡◌, Some, rules}
+use Rattle.requests.specs.Requests.{Last}
+use Rattle.rvstm_c.specs.Embedding.{IsCalled}
+use Rattle.rvstm_c.proofs.Calls.{on_session}
+use Rattle.rvstm_c.proofs.rvstm_last.Goals as goal
+
+pub returns : goal.returns
+returns c =
+    let had : Some c.deref_mut.result.now ≡ c.args.handle.now.value = search rules in
+    let has : c.put_session.new.handle.value ≡ Some c.tell_last-status.new.self = search rules in
+    on_session (IsCalled (Some Last)) c.args.handle.now.value c.put_session.new.handle.value c.deref_mut.result.now c.tell_last-status.new.self c.tell_last-status.result had has c.tell_last-status.ensures

@@ -1,0 +1,12 @@
+use Rattle.std.proofs.Common.{◌≡◌, Some, rules}
+use Rattle.requests.specs.Requests.{Try}
+use Rattle.rvstm_c.specs.Asked.{with_bytes}
+use Rattle.rvstm_c.specs.Embedding.{IsCalled}
+use Rattle.rvstm_c.proofs.Calls.{on_session}
+use Rattle.rvstm_c.proofs.rvstm_try.Goals as goal
+
+pub returns : goal.returns
+returns c =
+    let had : Some c.deref_mut.result.now ≡ c.args.handle.now.value = search rules in
+    let has : c.put_session.new.handle.value ≡ Some c.try_frame-status.new.self = search rules in
+    on_session (IsCalled (with_bytes c.args.block.now (Try c.args.block.now))) c.args.handle.now.value c.put_session.new.handle.value c.deref_mut.result.now c.try_frame-status.new.self c.try_frame-status.result had has c.try_frame-status.ensures

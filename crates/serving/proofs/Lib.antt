@@ -1,0 +1,7 @@
+pub mod Answers
+pub mod Comes
+pub mod Courses
+pub mod Failed
+pub mod Folds
+pub mod Serves
+pub mod Writes

@@ -1,0 +1,101 @@
+-- What a session writes for the requests of an input, and why it ends.
+use Rattle.std.specs.Prelude.{◌≡◌, ◌⊎◌, ⊤, ℕ, List, [], ◌∷◌, ◌++◌, codes, length, Bool, true, false, Option, Some, None, if◌then◌else◌}
+use Rattle.std.specs.Io.KnownBytes.{Appends}
+use Rattle.byte_streams.specs.Refusals.{Parts, line_text, without_line}
+use Rattle.byte_streams.specs.Written.{MayRefuse}
+use Rattle.requests.specs.Requests.{AllRequests, Ask, Quit, requests_of}
+use Rattle.requests.specs.declared.request.RequestFault.{RequestFault}
+use Rattle.requests.specs.declared.request.RequestFault.TheVariants.{BadLine, Cut}
+use Rattle.serving.specs.declared.serving.ServeFault.{ServeFault}
+use Rattle.serving.specs.declared.serving.ServeFault.TheVariants.{Broken, Unreadable, Output}
+use Rattle.turns.specs.Failures.{IsAnswer}
+use Rattle.turns.specs.Replies.{answer_text}
+use Rattle.turns.specs.Turn.{turn}
+use Rattle.turns.specs.declared.settings.Settings.{Settings}
+use Rattle.turns.specs.declared.state.State.{State}
+
+-- ---- requests one after another
+
+-- requests were answered one after another: `answers s ask text next` says that from s on an answer to `ask` may be `text`,
+-- which leads to `next`
+unfoldable pub AreAnswered : (State → Ask → List ℕ → State → Type 0) → State → List Ask → List ℕ → State → Type 0
+AreAnswered answers s [] text after = (text ≡ []) × (after ≡ s)
+AreAnswered answers s (ask ∷ asks) text after =
+    (answer : List ℕ) × (next : State) × (rest : List ℕ)
+    × (text ≡ answer ++ rest) × answers s ask answer next × AreAnswered answers next asks rest after
+
+-- the answers where memory never runs out, each over what the ones before it left
+abbrev pub answers_of : Settings → State → List Ask → List ℕ
+answers_of settings s [] = []
+answers_of settings s (ask ∷ asks) = answer_text (turn settings s ask).reply ++ answers_of settings (turn settings s ask).after asks
+
+-- what they leave: a left fold
+abbrev pub state_after : Settings → State → List Ask → State
+state_after settings s [] = s
+state_after settings s (ask ∷ asks) = state_after settings (turn settings s ask).after asks
+
+-- ---- all of an input
+
+-- the requests before the first `q`, which has no answer, and behind which nothing is read
+abbrev pub until_quit : List Ask → List Ask
+until_quit [] = []
+until_quit (Quit ∷ asks) = []
+until_quit (ask ∷ asks) = ask ∷ until_quit asks
+
+-- whether a `q` comes
+abbrev pub quits : List Ask → Bool
+quits [] = false
+quits (Quit ∷ asks) = true
+quits (ask ∷ asks) = quits asks
+
+-- why a session ends: by no fault at a `q` or at the input's end, else by the bytes that are no request
+abbrev pub fault_of : AllRequests → Option RequestFault
+fault_of all = if quits all.asks then None else all.fault
+
+-- the parts of what such a fault prints
+abbrev pub parts_of : RequestFault → Parts
+parts_of BadLine = without_line (codes "request") (codes "BadLine") 1
+parts_of Cut = without_line (codes "request") (codes "Cut") 2
+
+-- what is written last
+abbrev pub end_text : Option RequestFault → List ℕ
+end_text None = []
+end_text (Some fault) = line_text (codes "refused ") (parts_of fault)
+
+-- a session answered all requests of an input, and what ended it; and its writer took all of that
+abbrev pub IsServed : Settings → Option RequestFault → State → List ℕ → State → Option (List ℕ) → Option (List ℕ) → Type 0
+IsServed settings fault old bytes new before after =
+    (answers : List ℕ) × AreAnswered (IsAnswer settings) old (until_quit (requests_of bytes).asks) answers new
+    × (fault_of (requests_of bytes) ≡ fault) × Appends before after (answers ++ end_text fault)
+
+-- ---- sessions that are cut short
+
+-- where a write failed: in the answer of the next request, which was done, or in what is written last
+abbrev pub IsCutAt : Settings → Option RequestFault → State → List Ask → List ℕ → State → Type 0
+IsCutAt settings fault s [] part after = (left : List ℕ) × (part ++ left ≡ end_text fault) × (after ≡ s)
+IsCutAt settings fault s (ask ∷ asks) part after = (left : List ℕ) × IsAnswer settings s ask (part ++ left) after
+
+-- the first requests of an input were answered in whole, and then a write failed
+abbrev pub IsCutOff : Settings → State → List ℕ → State → Option (List ℕ) → Option (List ℕ) → Type 0
+IsCutOff settings old bytes new before after =
+    (heard : List Ask) × (rest : List Ask) × (text : List ℕ) × (mid : State) × (part : List ℕ)
+    × (until_quit (requests_of bytes).asks ≡ heard ++ rest) × AreAnswered (IsAnswer settings) old heard text mid
+    × IsCutAt settings (fault_of (requests_of bytes)) mid rest part new × Appends before after (text ++ part)
+
+-- they were, and then a read failed, where one may; or they are 2^64 - 1
+abbrev pub IsUnread : Type 0 → Settings → State → List ℕ → State → Option (List ℕ) → Option (List ℕ) → Type 0
+IsUnread may_fail settings old bytes new before after =
+    (heard : List Ask) × (rest : List Ask) × (text : List ℕ)
+    × (until_quit (requests_of bytes).asks ≡ heard ++ rest) × AreAnswered (IsAnswer settings) old heard text new
+    × Appends before after text × (may_fail ⊎ (length heard ≡ 18446744073709551615))
+
+-- how a fault ended a session
+abbrev pub IsEndedBy : Type 0 → Settings → ServeFault → State → List ℕ → State → Option (List ℕ) → Option (List ℕ) → Type 0
+IsEndedBy may_fail settings (Broken fault) old bytes new before after = IsServed settings (Some fault) old bytes new before after
+IsEndedBy may_fail settings Unreadable old bytes new before after = IsUnread may_fail settings old bytes new before after
+IsEndedBy may_fail settings (Output fault) old bytes new before after = IsCutOff settings old bytes new before after
+
+-- a write may have been refused so
+abbrev pub MayEnd : Type 0 → Type 0 → ServeFault → Type 0
+MayEnd may_fail may_take_nothing (Output fault) = MayRefuse may_fail may_take_nothing fault
+MayEnd may_fail may_take_nothing other = ⊤

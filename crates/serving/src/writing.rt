@@ -1,0 +1,140 @@
+//! Writing an answer.
+
+ghost use Rattle.std.specs.Prelude.{◌++◌, IfErr, Some};
+ghost use Rattle.std.specs.Io.KnownBytes.{Keeps};
+ghost use Rattle.byte_streams.specs.Written.{MayRefuse};
+ghost use Rattle.serving.specs.Serving.{end_text};
+ghost use Rattle.serving.specs.Writing.{Says};
+ghost use Rattle.turns.specs.Replies.{Done, answer_text, kept_reply};
+ghost use Rattle.turns.specs.Stages.{reply_in};
+ghost use Rattle.turns.specs.Telling.{dump_text};
+ghost use Rattle.turns.specs.Turn.{last_reply};
+
+use crate::request_parts::parts_of;
+use byte_streams::{Destination, WriteFault, refusal_line, write_whole};
+use requests::RequestFault;
+use turns::{
+    Answer, EmptyBuffer, KeptAnswer, Refusal, State, bytes_of_kept, done_line, dump_length,
+    failed_line, line_of_kept, refused_line, write_dump,
+};
+
+/// Writes an answer in the state that it leaves, and flushes it. Refused where a write failed: a beginning of the answer was
+/// written. Takes no memory.
+pub fn write_answer<W: Destination>(
+    state: &State,
+    answer: Answer,
+    out: &mut W,
+) -> Result<(), WriteFault>
+    ensures says { Says result (W.contents out.old) (W.contents out.new) (answer_text (reply_in state.now answer)) }
+    ensures refused { IfErr result (MayRefuse (W.may_fail out.old) (W.may_take_nothing out.old)) }
+    ensures no_worse { (W.may_fail out.new → W.may_fail out.old) × (W.may_take_nothing out.new → W.may_take_nothing out.old) }
+{
+    match answer {
+        Answer::Done(bytes) => {
+            let line = done_line(bytes.len() as u128);
+            print_both(line.as_str().as_bytes(), bytes.as_slice(), out)
+        }
+        Answer::Last => print_last(state, out),
+        Answer::Storage(buffer) => print_storage(state, buffer, out),
+        Answer::Refused(refusal) => {
+            let line = refused_line(refusal);
+            print(line.as_str().as_bytes(), out)
+        }
+        Answer::Failed(failure) => {
+            let line = failed_line(failure);
+            print(line.as_str().as_bytes(), out)
+        }
+    }
+}
+
+/// Writes the answer that is kept of the last frame, or the refusal where there is none.
+fn print_last<W: Destination>(state: &State, out: &mut W) -> Result<(), WriteFault>
+    ensures says { Says result (W.contents out.old) (W.contents out.new) (answer_text (last_reply state.now.last)) }
+    ensures refused { IfErr result (MayRefuse (W.may_fail out.old) (W.may_take_nothing out.old)) }
+    ensures no_worse { (W.may_fail out.new → W.may_fail out.old) × (W.may_take_nothing out.new → W.may_take_nothing out.old) }
+{
+    match &state.last {
+        Some(kept) => print_kept(kept, out),
+        None => {
+            let line = refused_line(Refusal::NoFrame);
+            print(line.as_str().as_bytes(), out)
+        }
+    }
+}
+
+/// Writes an answer that is kept.
+fn print_kept<W: Destination>(kept: &KeptAnswer, out: &mut W) -> Result<(), WriteFault>
+    ensures says { Says result (W.contents out.old) (W.contents out.new) (answer_text (kept_reply kept.now)) }
+    ensures refused { IfErr result (MayRefuse (W.may_fail out.old) (W.may_take_nothing out.old)) }
+    ensures no_worse { (W.may_fail out.new → W.may_fail out.old) × (W.may_take_nothing out.new → W.may_take_nothing out.old) }
+{
+    let line = line_of_kept(kept);
+    print_both(line.as_str().as_bytes(), bytes_of_kept(kept), out)
+}
+
+/// Writes the text of the session's storage behind a line with its length.
+fn print_storage<W: Destination>(
+    state: &State,
+    buffer: EmptyBuffer,
+    out: &mut W,
+) -> Result<(), WriteFault>
+    ensures says { Says result (W.contents out.old) (W.contents out.new) (answer_text (Done (dump_text state.now.rules state.now.store))) }
+    ensures refused { IfErr result (MayRefuse (W.may_fail out.old) (W.may_take_nothing out.old)) }
+    ensures no_worse { (W.may_fail out.new → W.may_fail out.old) × (W.may_take_nothing out.new → W.may_take_nothing out.old) }
+{
+    let line = done_line(dump_length(state.rules, &state.store));
+    match write_whole(line.as_str().as_bytes(), out) {
+        Ok(()) => {}
+        Err(fault) => return Err(fault),
+    }
+    match write_dump(buffer, state.rules, &state.store, out) {
+        Ok(()) => flush(out),
+        Err(fault) => Err(fault),
+    }
+}
+
+/// Answers bytes that are no request: writes the refusal, and flushes it. Refused where a write failed.
+pub(crate) fn print_end<W: Destination>(fault: RequestFault, out: &mut W) -> Result<(), WriteFault>
+    ensures says { Says result (W.contents out.old) (W.contents out.new) (end_text (Some fault)) }
+    ensures refused { IfErr result (MayRefuse (W.may_fail out.old) (W.may_take_nothing out.old)) }
+    ensures no_worse { (W.may_fail out.new → W.may_fail out.old) × (W.may_take_nothing out.new → W.may_take_nothing out.old) }
+{
+    let line = refusal_line("refused ", parts_of(fault));
+    print(line.as_str().as_bytes(), out)
+}
+
+/// Writes a line and the bytes behind it, and flushes them.
+fn print_both<W: Destination>(line: &[u8], bytes: &[u8], out: &mut W) -> Result<(), WriteFault>
+    ensures says { Says result (W.contents out.old) (W.contents out.new) (line.now ++ bytes.now) }
+    ensures refused { IfErr result (MayRefuse (W.may_fail out.old) (W.may_take_nothing out.old)) }
+    ensures no_worse { (W.may_fail out.new → W.may_fail out.old) × (W.may_take_nothing out.new → W.may_take_nothing out.old) }
+{
+    match write_whole(line, out) {
+        Ok(()) => print(bytes, out),
+        Err(fault) => Err(fault),
+    }
+}
+
+/// Writes a text and flushes it, so that it is seen before the next request is read.
+fn print<W: Destination>(text: &[u8], out: &mut W) -> Result<(), WriteFault>
+    ensures says { Says result (W.contents out.old) (W.contents out.new) text.now }
+    ensures refused { IfErr result (MayRefuse (W.may_fail out.old) (W.may_take_nothing out.old)) }
+    ensures no_worse { (W.may_fail out.new → W.may_fail out.old) × (W.may_take_nothing out.new → W.may_take_nothing out.old) }
+{
+    match write_whole(text, out) {
+        Ok(()) => flush(out),
+        Err(fault) => Err(fault),
+    }
+}
+
+/// Flushes a writer.
+fn flush<W: Destination>(out: &mut W) -> Result<(), WriteFault>
+    ensures keeps { Keeps (W.contents out.old) (W.contents out.new) }
+    ensures refused { IfErr result (MayRefuse (W.may_fail out.old) (W.may_take_nothing out.old)) }
+    ensures no_worse { (W.may_fail out.new → W.may_fail out.old) × (W.may_take_nothing out.new → W.may_take_nothing out.old) }
+{
+    match out.flush_written() {
+        Ok(()) => Ok(()),
+        Err(_) => Err(WriteFault::Io),
+    }
+}

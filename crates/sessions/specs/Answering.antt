@@ -1,8 +1,0 @@
--- Private help of proofs: no public clause cites it. How an answer is written.
-use Rattle.std.specs.Prelude.{ℕ, List, ◌++◌, Option, Result, Ok, Err}
-use Rattle.std.specs.Io.KnownBytes.{Appends}
-
--- an answer was written in whole, or a beginning of it where a write failed
-abbrev pub Says : {X E : Type 0} → Result X E → Option (List ℕ) → Option (List ℕ) → (List ℕ → Type 0) → Type 0
-Says (Ok x) before after answers = (text : List ℕ) × answers text × Appends before after text
-Says (Err e) before after answers = (part : List ℕ) × (left : List ℕ) × answers (part ++ left) × Appends before after part

@@ -1,4 +1,0 @@
-pub mod Faults
-pub mod Session
-pub mod Answering
-pub mod Serving
