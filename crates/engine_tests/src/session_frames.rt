@@ -174,7 +174,13 @@ fn each_answer_is_shown_before_more_is_read(rt: HostRuntime) -> Result<(), Fail>
         reader: BufReader::new(rt.alloc(), typist)?,
     };
     let settings = Settings::new();
-    chain_to(rt.alloc(), &mut requests, &mut InOrder, settings, &mut screen)?;
+    chain_to(
+        rt.alloc(),
+        &mut requests,
+        &mut InOrder,
+        settings,
+        &mut screen,
+    )?;
     assert!(rt; screen.writer.written == 38);
     Ok(())
 }

@@ -250,11 +250,7 @@ const SESSIONS: &[(&str, &str, &str)] = &[
             brief 0\n",
     ),
     // The end of the input.
-    (
-        "",
-        "",
-        "",
-    ),
+    ("", "", ""),
     // The settings that state tells.
     (
         " --frame-limit 9999999999 --frame-gas 9999999999 --brief --digest --workers 32",
