@@ -1,20 +1,14 @@
-//! A frame whose run by threads is refused, since the arena is full: it is answered in order.
+//! A block whose run by threads is refused, since the arena is full.
 
-ghost use Rattle.std.specs.Thread.{IsSync};
-
-use crate::session_inputs::{printed_by, session_over};
+use crate::calls::image_of;
 use crate::sources::assembled;
-use engines::ByThreads;
-use overlay::Overlay;
-use rv_ledger::{Call, Receipt, Store};
-use std::alloc::{AllocError, Global};
-use std::process::Abort;
-use std::sync::Wait;
+use rv_ledger::{Call, Job, Store};
+use std::alloc::Global;
 use std::sync::atomic::{AtomicU64, Ordering};
+use std::sync::{Arc, Wait};
 use std::test::Fail;
 use std::thread::{Threads, yield_now};
-use turns::{CallRunner, InOrder, Settings};
-use workers::{Executor, Gate};
+use workers::{Executor, Gate, RunFault};
 
 /// Reads the keys 0 to 4, and writes an empty value at each key from the first word of its input on, up to the second.
 const FLOOD: &str = "addi s0,sp,-64\nlw s1,0(a0)\nlw s2,4(a0)\naddi s3,x0,0\naddi s4,x0,5\n\
@@ -24,11 +18,11 @@ const FLOOD: &str = "addi s0,sp,-64\nlw s1,0(a0)\nlw s2,4(a0)\naddi s3,x0,0\nadd
     addi s1,s1,1\nbne s1,s2,write\n\
     addi a1,x0,0\naddi a7,x0,3\necall\n";
 
-/// A call that writes the 256 keys from 256 on.
-const MANY: &str = "call 0 200000 0001000000020000\n";
+/// The gas limit of each call.
+const GAS: u32 = 200_000;
 
-/// How many such calls run in order before the others.
-const FIRST: usize = 8;
+/// How many keys a call behind the first ones writes, each call keys of its own: so no key has many versions to look through.
+const MANY: u32 = 256;
 
 /// How many calls, each of which writes one of the keys that all read, are held until those behind them have run.
 const HELD: u64 = 5;
@@ -93,77 +87,37 @@ impl Gate for Rounds {
     }
 }
 
-/// What is asked behind the frame.
-const GET: &[u8] = b"get 0000000000000000000000000000000000000000000000000000000000000000\n";
-
-/// A frame of some calls of 256 writes, calls that write the keys 0 to 4, and a thousand calls of 256 writes.
-fn flood(alloc: Global) -> Result<Vec<u8>, Fail> {
-    let mut frame = String::new(alloc);
-    for _ in 0..FIRST {
-        frame.push_str(MANY)?;
-    }
-    for key in 0..HELD {
-        let next = key.wrapping_add(1);
-        let line = format!(in alloc; "call 0 200000 {key:02x}000000{next:02x}000000\n")?;
-        frame.push_str(line.as_str())?;
-    }
-    for _ in 0..ROUND {
-        frame.push_str(MANY)?;
-    }
+/// Calls that write the keys 0 to 4, and a thousand calls of 256 writes.
+fn flood(alloc: Global) -> Result<Job, Fail> {
     let file = assembled(alloc, &mut FLOOD.as_bytes())?;
-    let mut input = session_over(alloc, file.as_slice(), &[frame.as_str()])?;
-    input.extend_from_slice(GET)?;
-    Ok(input)
-}
-
-/// What runs the calls of a frame by threads that are held.
-#[derive(Drop)]
-struct Flooded<'a, R: Threads + Wait + Sync> {
-    runner: ByThreads<'a, R, Rounds>,
-}
-
-impl<R: Threads + Wait + Sync> CallRunner for Flooded<'_, R> {
-    ghost ready = { IsSync R.row };
-
-    fn run_calls(
-        &mut self,
-        alloc: Global,
-        base: &Store,
-        over: &mut Overlay,
-        calls: &[Call],
-    ) -> Result<Vec<Receipt>, AllocError> {
-        self.runner.run_frame(alloc, base, over, calls)
+    let image = image_of(alloc, file.as_slice())?;
+    let mut calls = Vec::new(alloc);
+    for call in 0..HELD as u32 + ROUND as u32 {
+        let (first, end) = if u64::from(call) < HELD {
+            (call, call + 1)
+        } else {
+            let first = call.wrapping_mul(MANY);
+            (first, first.wrapping_add(MANY))
+        };
+        let mut input = first.to_le_bytes().to_vec(alloc)?;
+        input.extend_from_slice(&end.to_le_bytes())?;
+        calls.push(Call::new(Arc::try_clone(&image)?, GAS, input)?)?;
     }
+    Ok(Job::new(calls, Store::new(alloc))?)
 }
 
-/// Whether a session by threads, one more than are held, prints a text; its run by threads was refused, and it was
-/// refused when the arena was full.
-fn is_answered_in_order<R: Threads + Wait + Sync>(
-    rt: &R,
-    alloc: Global,
-    input: &[u8],
-    wanted: &[u8],
-) -> Result<bool, Fail> {
-    let mut flooded = Flooded {
-        runner: ByThreads {
-            threads: rt,
-            executor: Executor::new(alloc),
-            workers: 6,
-            gate: Rounds::new(),
-        },
-    };
-    let text = printed_by(alloc, &mut flooded, Settings::new(), input)?;
-    let runs = flooded.runner.gate.passed.load(Ordering::SeqCst);
-    let is_refused = flooded.runner.executor.shares().is_empty() && runs >= RUNS;
-    Ok(is_refused && text.as_slice() == wanted)
+/// Whether a run by threads, one more than are held, is refused when the arena is full.
+fn is_refused<R: Threads + Wait + Sync>(rt: &R, alloc: Global, job: Job) -> bool {
+    let mut executor = Executor::new(alloc);
+    let gate = Rounds::new();
+    let answer = executor.run_block_with(rt, alloc, job, 6, &gate);
+    let runs = gate.passed.load(Ordering::SeqCst);
+    matches!(answer, Err(RunFault::ArenaFull)) && executor.shares().is_empty() && runs >= RUNS
 }
 
 #[test]
-fn a_frame_of_too_many_versions(rt: HostRuntime) -> Result<(), Fail> {
-    let input = flood(rt.alloc())?;
-    let input = input.as_slice();
-    let wanted = printed_by(rt.alloc(), &mut InOrder, Settings::new(), input)?;
-    assert!(rt; wanted.ends_with(b"\nend\nok 8\nvalue -\n"));
-    assert!(rt; is_answered_in_order(&rt, rt.alloc(), input, wanted.as_slice())?);
+fn a_block_of_too_many_versions(rt: HostRuntime) -> Result<(), Fail> {
+    let job = flood(rt.alloc())?;
+    assert!(rt; is_refused(&rt, rt.alloc(), job));
     Ok(())
 }

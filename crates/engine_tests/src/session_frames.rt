@@ -3,7 +3,7 @@
 use crate::asserts::has_pieces;
 use crate::blocks::{count_lines, elf_of, forty_count_lines};
 use crate::rows::COUNT;
-use crate::session_inputs::{name_of, printed_by, push_request, session_over};
+use crate::session_inputs::{printed_by, session_over};
 use byte_streams::{FallibleBuffer, FallibleWriter};
 use engines::chain_to;
 use std::alloc::Global;
@@ -56,53 +56,6 @@ fn a_frame_of_too_many_calls(rt: HostRuntime) -> Result<(), Fail> {
     let input = session_over(alloc, file.as_slice(), &[lines.as_str()])?;
     let text = printed(alloc, input.as_slice())?;
     assert!(rt; text.ends_with(b"\nrefused block 1027 Limit 7\n"));
-    Ok(())
-}
-
-/// What a session prints behind its first frame, as text.
-fn behind_end(alloc: Global, input: &[u8]) -> Result<String, Fail> {
-    let text = String::from_utf8(printed(alloc, input)?)?;
-    let behind = match text.split_once("end\n") {
-        Some((_, behind)) => String::from_str(alloc, behind)?,
-        None => String::new(alloc),
-    };
-    Ok(behind)
-}
-
-/// The bytes of a session that begins with a dump at height 1, and is handed a program.
-fn begun(alloc: Global, file: &[u8], dump: &str) -> Result<Vec<u8>, Fail> {
-    let mut input = Vec::new(alloc);
-    push_request(alloc, &mut input, "program", file)?;
-    push_request(alloc, &mut input, "begin 1 -", dump.as_bytes())?;
-    Ok(input)
-}
-
-/// Whether a session that begins with another's dump answers a frame and what it leaves as the other one does.
-fn goes_on_alike(alloc: Global) -> Result<bool, Fail> {
-    let lines = forty_count_lines(alloc)?;
-    let file = elf_of(alloc, COUNT)?;
-    let name = name_of(alloc, file.as_slice())?;
-    let frame = format!(in alloc; "rvblock 1\nprogram 0 {name}\n{lines}")?;
-    let mut first = session_over(alloc, file.as_slice(), &[lines.as_str()])?;
-    let mut other = first.clone()?;
-    push_request(alloc, &mut other, "frame", frame.as_bytes())?;
-    other.extend_from_slice(b"state\ndump\n")?;
-    first.extend_from_slice(b"dump\n")?;
-    let dumped = behind_end(alloc, first.as_slice())?;
-    let Some((_, dump)) = dumped.split_once("\n") else {
-        return Ok(false);
-    };
-    let mut second = begun(alloc, file.as_slice(), dump)?;
-    push_request(alloc, &mut second, "frame", frame.as_bytes())?;
-    second.extend_from_slice(b"state\ndump\n")?;
-    let wanted = behind_end(alloc, other.as_slice())?;
-    let text = String::from_utf8(printed(alloc, second.as_slice())?)?;
-    Ok(dump.starts_with("rvblock 2\ngas 1\nstore ") && text.ends_with(wanted.as_str()))
-}
-
-#[test]
-fn a_dump_begins_another_session(rt: HostRuntime) -> Result<(), Fail> {
-    assert!(rt; goes_on_alike(rt.alloc())?);
     Ok(())
 }
 

@@ -19,7 +19,7 @@ pub fn push_request(
 }
 
 /// The name of a program: the SHA-256 of its file, in digits.
-pub fn name_of(alloc: Global, file: &[u8]) -> Result<String, AllocError> {
+fn name_of(alloc: Global, file: &[u8]) -> Result<String, AllocError> {
     hex::encode(alloc, Sha256::digest(file))
 }
 

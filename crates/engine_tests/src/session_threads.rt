@@ -1,4 +1,5 @@
-//! Sessions whose calls run by threads: whatever their number, what is printed is what running them in order prints.
+//! Sessions whose calls run by threads: whatever their number, what is printed is what running them in order prints, also
+//! where the steps of a run by threads come to their limit.
 
 use crate::session_inputs::{printed_by, session_over};
 use crate::sources::assembled;
@@ -77,5 +78,47 @@ fn a_session_by_threads(rt: HostRuntime) -> Result<(), Fail> {
     for (workers, threads) in WORKERS {
         assert!(rt; is_printed(&rt, rt.alloc(), input, wanted, *workers, *threads)?);
     }
+    Ok(())
+}
+
+/// Works as many rounds as the word behind the key of its input says, and then reads the key as often as the next word says.
+const READ: &str = "addi s0,a0,0\nlw t0,32(a0)\nround: addi t0,t0,-1\nbne t0,x0,round\n\
+    lw s1,36(s0)\nread: addi a0,s0,0\naddi a1,sp,-64\naddi a2,x0,64\naddi a7,x0,0\necall\n\
+    addi s1,s1,-1\nbne s1,x0,read\n\
+    addi a1,x0,0\naddi a7,x0,3\necall\n";
+
+/// A call of 12,000 rounds that reads once, and one of one round that reads 400 times.
+const WORKS_AND_READS: (&str, &str) = ("e02e000001000000", "0100000090010000");
+
+/// How many calls of each kind there are: the first ones show that threads pay.
+const OF_EACH: usize = 40;
+
+/// A session of a frame of calls that work, and of a frame of calls that work and then of calls that read.
+fn reading_session(alloc: Global) -> Result<Vec<u8>, Fail> {
+    let (works, reads) = WORKS_AND_READS;
+    let mut working = String::new(alloc);
+    let mut reading = String::new(alloc);
+    for call in 0..OF_EACH {
+        let line = format!(in alloc; "call 0 100000 {call:064x}{works}\n")?;
+        working.push_str(line.as_str())?;
+    }
+    for call in 0..OF_EACH {
+        let line = format!(in alloc; "call 0 100000 {call:064x}{reads}\n")?;
+        reading.push_str(line.as_str())?;
+    }
+    let mut both = String::new(alloc);
+    both.push_str(working.as_str())?;
+    both.push_str(reading.as_str())?;
+    let file = assembled(alloc, &mut READ.as_bytes())?;
+    Ok(session_over(alloc, file.as_slice(), &[working.as_str(), both.as_str()])?)
+}
+
+#[test]
+fn calls_that_read_behind_calls_that_work(rt: HostRuntime) -> Result<(), Fail> {
+    let input = reading_session(rt.alloc())?;
+    let input = input.as_slice();
+    let wanted = printed_by(rt.alloc(), &mut InOrder, SETTINGS, input)?;
+    // The threads of the last batch gave no shares back: their run was refused.
+    assert!(rt; is_printed(&rt, rt.alloc(), input, wanted.as_slice(), 4, 0)?);
     Ok(())
 }

@@ -1,3 +1,4 @@
+pub mod CallsBehind
 mod Chains
 mod Conflicts
 pub mod ProgramFiles

@@ -1,5 +1,5 @@
 -- What the engine of `rvstm run` refuses. What it writes is what the engine of `rvstm seq` writes.
-use Rattle.std.specs.Prelude.{ℕ, List, ◌≡◌, ◌⊎◌, ◌<◌, ⊤, Option}
+use Rattle.std.specs.Prelude.{ℕ, List, ◌≡◌, ◌⊎◌, ◌<◌, ⊤, Option, None}
 use Rattle.byte_streams.specs.declared.fault.WriteFault.{WriteFault}
 use Rattle.rv_ledger.specs.declared.job.Job.{Job}
 use Rattle.stm_state.specs.Steps as steps
@@ -16,7 +16,7 @@ abbrev pub IsRefusalOf : Job → ℕ → RunFault → Type 0
 IsRefusalOf job workers run.BadCount = (workers ≡ 0) ⊎ (32 < workers)
 IsRefusalOf job workers run.ArenaFull = HasLimit job workers steps.ArenaFull
 IsRefusalOf job workers run.IncarnationLimit = HasLimit job workers steps.IncarnationLimit
-IsRefusalOf job workers run.StepLimit = HasStepLimit job workers
+IsRefusalOf job workers run.StepLimit = HasStepLimit job workers None
 IsRefusalOf job workers fault = ⊤
 
 -- a refusal of a run by workers: one that the job may meet, or one of the output

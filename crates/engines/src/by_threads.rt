@@ -1,39 +1,39 @@
 //! Running the calls of a session's frames by threads where that pays.
 
-ghost use Rattle.std.specs.Prelude.{◌≡◌, [], IfOk, IfSome, OnOk};
+ghost use Rattle.std.specs.Prelude.{◌≡◌, [], IfOk, IfSome, None, OnOk, OnSome};
 ghost use Rattle.std.specs.Thread.{IsSync};
 ghost use Rattle.overlay.specs.Overlay.{with_changes};
 ghost use Rattle.rv_step.specs.Fold.{receipts_of, store_after};
 
-use crate::thread_costs::pays;
+use crate::batches::Batches;
 use overlay::Overlay;
 use rv_ledger::{Block, Call, Job, Receipt, Store};
-use seq_exec::run_over;
+use seq_exec::{run_counted, run_over};
 use std::alloc::{AllocError, Global};
 use std::sync::Wait;
 use std::thread::Threads;
 use turns::CallRunner;
-use workers::{Executor, Gate, Open};
+use workers::Executor;
 
 /// How many calls of a frame run in order, to show what a call takes.
 const FIRST_CALLS: usize = 8;
 
-/// Runs the first calls of a frame in order, and the others by threads where that pays by what the first ones took. Where
-/// a run by threads is refused, as where it wants more memory than there is, these calls run in order too.
+/// Runs the first calls of a frame in order, and the others by threads where that pays by what the ones before took: a batch at
+/// a time, with a limit for the steps of each thread. Where a run by threads is refused, as by its limit or since it wants more
+/// memory than there is, these calls and all behind them run in order. So calls that read much cost by threads the steps of one
+/// batch (`engines/src/batches.rt`), and what that batch computed where its reads come last.
 #[derive(Drop)]
-pub struct ByThreads<'a, R: Threads + Wait + Sync, G: Gate + Sync = Open> {
+pub struct ByThreads<'a, R: Threads + Wait + Sync> {
     /// What starts the threads.
     pub threads: &'a R,
     /// What runs blocks by threads.
     pub executor: Executor,
     /// The number of threads. Where it is not 1 to 32, all calls run in order.
     pub workers: usize,
-    /// What each thread passes between the end of a run and its record. Tests hold one there.
-    pub gate: G,
 }
 
 impl<'a, R: Threads + Wait + Sync> ByThreads<'a, R> {
-    /// What runs calls by so many threads, which nothing holds. No call was run yet.
+    /// What runs calls by so many threads. No call was run yet.
     pub fn new(threads: &'a R, alloc: Global, workers: usize) -> ByThreads<'a, R>
         ensures workers { result.workers ≡ workers }
         ensures shares { result.executor.shares.items ≡ [] }
@@ -42,29 +42,7 @@ impl<'a, R: Threads + Wait + Sync> ByThreads<'a, R> {
             threads,
             executor: Executor::new(alloc),
             workers,
-            gate: Open,
         }
-    }
-}
-
-impl<R: Threads + Wait + Sync, G: Gate + Sync> ByThreads<'_, R, G> {
-    /// Runs the calls of a frame on a storage with changes over it, as `CallRunner::run_calls` does.
-    #[tactic(auto, using(overlay::proofs::Receipts::receipts_append, overlay::proofs::Receipts::after_append))]
-    pub fn run_frame(
-        &mut self,
-        alloc: Global,
-        base: &Store,
-        over: &mut Overlay,
-        calls: &[Call],
-    ) -> Result<Vec<Receipt>, AllocError>
-        ensures receipts { IfOk result (λ r. r.items ≡ receipts_of calls.now (with_changes base.now over.old)) }
-        ensures store { OnOk result (with_changes base.now over.new ≡ store_after calls.now (with_changes base.now over.old)) }
-    {
-        let (first, others) = calls.split_at(calls.len().min(FIRST_CALLS));
-        let mut receipts = run_over(alloc, base, over, first)?;
-        let mut more = self.run_others(alloc, base, over, receipts.as_slice(), others)?;
-        receipts.append(&mut more)?;
-        Ok(receipts)
     }
 
     /// Runs the calls of a frame behind those that were run, by threads where that pays.
@@ -73,29 +51,57 @@ impl<R: Threads + Wait + Sync, G: Gate + Sync> ByThreads<'_, R, G> {
         alloc: Global,
         base: &Store,
         over: &mut Overlay,
-        shown: &[Receipt],
+        shown: Batches,
         calls: &[Call],
     ) -> Result<Vec<Receipt>, AllocError>
         ensures receipts { IfOk result (λ r. r.items ≡ receipts_of calls.now (with_changes base.now over.old)) }
         ensures store { OnOk result (with_changes base.now over.new ≡ store_after calls.now (with_changes base.now over.old)) }
     {
-        if !pays(self.workers, shown, calls.len()) {
-            return run_over(alloc, base, over, calls);
+        let mut batches = shown;
+        let mut receipts = Vec::new(alloc);
+        let mut left = calls;
+        while let Some(batch) = batches.next(left.len()) {
+            let (now, later) = left.split_at(batch.calls);
+            let Some(mut more) = self.run_batch(alloc, base, over, now, batch.work_limit) else {
+                break;
+            };
+            batches.note(more.as_slice());
+            receipts.append(&mut more)?;
+            left = later;
         }
+        let mut more = run_over(alloc, base, over, left)?;
+        receipts.append(&mut more)?;
+        Ok(receipts)
+    }
+
+    /// Runs calls by threads, on a storage with changes over it, and adds theirs to the changes. None where that is refused,
+    /// and then the changes stay.
+    fn run_batch(
+        &mut self,
+        alloc: Global,
+        base: &Store,
+        over: &mut Overlay,
+        calls: &[Call],
+        work_limit: u64,
+    ) -> Option<Vec<Receipt>>
+        ensures receipts { IfSome result (λ r. r.items ≡ receipts_of calls.now (with_changes base.now over.old)) }
+        ensures store { OnSome result (with_changes base.now over.new ≡ store_after calls.now (with_changes base.now over.old)) }
+        ensures none { result ≡ None → over.new ≡ over.old }
+    {
         let Ok(Some(block)) = block_of(alloc, calls) else {
-            return run_over(alloc, base, over, calls);
+            return None;
         };
-        match self.executor.run_over_changes_with(
+        match self.executor.run_over_changes_within(
             self.threads,
             alloc,
             base,
             over,
             block,
             self.workers,
-            &self.gate,
+            Some(work_limit),
         ) {
-            Ok(receipts) => Ok(receipts),
-            Err(_) => run_over(alloc, base, over, calls),
+            Ok(receipts) => Some(receipts),
+            Err(_) => None,
         }
     }
 }
@@ -103,6 +109,7 @@ impl<R: Threads + Wait + Sync, G: Gate + Sync> ByThreads<'_, R, G> {
 impl<R: Threads + Wait + Sync> CallRunner for ByThreads<'_, R> {
     ghost ready = { IsSync R.row };
 
+    #[tactic(auto, using(overlay::proofs::Receipts::receipts_append, overlay::proofs::Receipts::after_append))]
     fn run_calls(
         &mut self,
         alloc: Global,
@@ -110,7 +117,12 @@ impl<R: Threads + Wait + Sync> CallRunner for ByThreads<'_, R> {
         over: &mut Overlay,
         calls: &[Call],
     ) -> Result<Vec<Receipt>, AllocError> {
-        self.run_frame(alloc, base, over, calls)
+        let (first, others) = calls.split_at(calls.len().min(FIRST_CALLS));
+        let (mut receipts, reads) = run_counted(alloc, base, over, first)?;
+        let shown = Batches::new(self.workers, receipts.as_slice(), reads);
+        let mut more = self.run_others(alloc, base, over, shown, others)?;
+        receipts.append(&mut more)?;
+        Ok(receipts)
     }
 }
 

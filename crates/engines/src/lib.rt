@@ -2,6 +2,7 @@
 #![tactic(auto)]
 
 mod assembling;
+mod batches;
 mod by_threads;
 mod chaining;
 mod commands;

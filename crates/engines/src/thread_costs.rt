@@ -6,27 +6,61 @@ use rv_ledger::Receipt;
 /// some 1,270, goes into storage calls, which are no faster by threads; so by this cost such calls run in order.
 const CALL_COST: u64 = 1_500;
 
+/// What a read costs by threads, in gas: it is made and checked under the lock.
+const READ_COST: u64 = 300;
+
 /// What a worker costs, in gas: its thread.
 const WORKER_COST: u64 = 10_000;
 
-/// Whether so many calls that are alike those of some receipts run faster by threads. What threads save is the gas of the
-/// calls, less one worker's part of it. The costs are estimates by what blocks take by the length of a call, beside `seq`
-/// (bench/README.md); the storage costs nothing, since threads read it where it is. No result rests on the answer.
-pub(crate) fn pays(workers: usize, shown: &[Receipt], calls: usize) -> bool {
-    let (workers, calls) = (workers as u64, calls as u64);
-    let work = gas_of_each(shown).saturating_mul(calls);
-    let saved = work - work / workers.max(1);
-    let costs = calls
-        .saturating_mul(CALL_COST)
-        .saturating_add(workers.saturating_mul(WORKER_COST));
-    saved > costs
+/// What some calls took.
+#[derive(Clone, Copy, Debug)]
+pub(crate) struct Shown {
+    /// How many they were.
+    calls: u64,
+    /// Their gas.
+    pub(crate) gas: u64,
+    /// How often they read the storage.
+    reads: u64,
 }
 
-/// The gas that a call used, in the mean; 0 where there is none.
-fn gas_of_each(receipts: &[Receipt]) -> u64 {
-    let mut gas: u64 = 0;
-    for receipt in receipts {
-        gas = gas.saturating_add(u64::from(receipt.gas));
+impl Shown {
+    /// What calls with these receipts took.
+    pub(crate) fn of(receipts: &[Receipt], reads: u64) -> Shown {
+        let mut gas: u64 = 0;
+        for receipt in receipts {
+            gas = gas.saturating_add(u64::from(receipt.gas));
+        }
+        Shown {
+            calls: receipts.len() as u64,
+            gas,
+            reads,
+        }
     }
-    gas.checked_div(receipts.len() as u64).unwrap_or(0)
+
+    /// The gas of a call, in the mean; 0 where there is none.
+    pub(crate) fn gas_of_each(self) -> u64 {
+        self.gas.checked_div(self.calls).unwrap_or(0)
+    }
+
+    /// How often a call read the storage, in the mean; 0 where there is none.
+    pub(crate) fn reads_of_each(self) -> u64 {
+        self.reads.checked_div(self.calls).unwrap_or(0)
+    }
+}
+
+/// Whether so many calls that are alike those that were shown run faster by threads. What threads save is the gas of the
+/// calls, less one worker's part of it. The costs are estimates by what blocks take by the length of a call, beside `seq`
+/// (bench/README.md); the storage costs nothing, since threads read it where it is. No result rests on the answer.
+pub(crate) fn pays(workers: usize, shown: Shown, calls: usize) -> bool {
+    let (workers, calls) = (workers as u64, calls as u64);
+    let work = shown.gas_of_each().saturating_mul(calls);
+    let saved = work - work / workers.max(1);
+    let cost_of_each = shown
+        .reads_of_each()
+        .saturating_mul(READ_COST)
+        .saturating_add(CALL_COST);
+    let costs = calls
+        .saturating_mul(cost_of_each)
+        .saturating_add(workers.saturating_mul(WORKER_COST));
+    saved > costs
 }

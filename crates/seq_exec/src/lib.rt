@@ -1,12 +1,13 @@
 //! The engine that runs the calls of a block one after another, in block order.
 #![tactic(auto)]
 
+mod counted_layers;
 mod on_storage;
 
 ghost use Rattle.std.specs.Prelude.{◌≡◌, [], IfOk, OnOk};
 ghost use Rattle.rv_step.specs.Fold.{receipts_of, store_after};
 
-pub use on_storage::run_over;
+pub use on_storage::{run_counted, run_over};
 use rv_ledger::{Call, Job, Outcome, Receipt, Store};
 use rv_step::{MachineRoom, apply_writes, receipt_over};
 use std::alloc::{AllocError, Global};

@@ -4,14 +4,15 @@ ghost use Rattle.std.specs.Prelude.{◌≡◌, IfOk, OnOk};
 ghost use Rattle.rv_step.specs.Fold.{receipts_of, store_after};
 ghost use Rattle.overlay.specs.Overlay.{with_changes};
 
+use crate::counted_layers::CountedLayers;
 use overlay::{Layers, Overlay, apply_writes};
 use rv_ledger::{Call, Receipt, Store};
 use rv_step::{MachineRoom, receipt_over};
 use std::alloc::{AllocError, Global};
+use std::cell::Cell;
 
 /// Runs calls in order on a storage with changes over it, and adds theirs to the changes. Refused where memory ran out,
 /// and then some of theirs may be added.
-#[tactic(auto, unfolding(rv_step::specs::Fold::receipts_of, rv_step::specs::Fold::store_after))]
 pub fn run_over(
     alloc: Global,
     base: &Store,
@@ -21,15 +22,35 @@ pub fn run_over(
     ensures receipts { IfOk result (λ r. r.items ≡ receipts_of calls.now (with_changes base.now over.old)) }
     ensures store { OnOk result (with_changes base.now over.new ≡ store_after calls.now (with_changes base.now over.old)) }
 {
+    let (receipts, _reads) = run_counted(alloc, base, over, calls)?;
+    Ok(receipts)
+}
+
+/// The same, and beside the receipts how often the calls asked the storage. Promises nothing of that number.
+#[tactic(auto, unfolding(rv_step::specs::Fold::receipts_of, rv_step::specs::Fold::store_after))]
+pub fn run_counted(
+    alloc: Global,
+    base: &Store,
+    over: &mut Overlay,
+    calls: &[Call],
+) -> Result<(Vec<Receipt>, u64), AllocError>
+    ensures receipts { IfOk result (λ ran. ran.0.items ≡ receipts_of calls.now (with_changes base.now over.old)) }
+    ensures store { OnOk result (with_changes base.now over.new ≡ store_after calls.now (with_changes base.now over.old)) }
+{
     let mut receipts = Vec::with_capacity(alloc, calls.len())?;
     let mut room = MachineRoom::new();
+    let reads = Cell::new(0);
     for call in calls {
+        let contents = CountedLayers {
+            layers: Layers { base, over },
+            reads: &reads,
+        };
         // A `?` would copy the receipt, which is large, once more.
-        let Ok(receipt) = receipt_over(alloc, &mut room, call, &Layers { base, over }) else {
+        let Ok(receipt) = receipt_over(alloc, &mut room, call, &contents) else {
             return Err(AllocError);
         };
         apply_writes(base, over, &receipt.writes)?;
         receipts.push(receipt)?;
     }
-    Ok(receipts)
+    Ok((receipts, reads.get()))
 }

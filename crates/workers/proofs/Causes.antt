@@ -12,7 +12,20 @@ use Rattle.stm_core.specs.declared.next_step.NextStep.{NextStep}
 use Rattle.workers.specs.declared.book.share.Share.{Share}
 use Rattle.workers.specs.declared.fault.RunFault.{RunFault}
 use Rattle.workers.specs.declared.fault.RunFault.TheVariants as faults
-use Rattle.workers.specs.Book.{BookState, Owes, IsUnready, IsCause, IsCauseAfter, MayCount, first_fault, run_fault}
+use Rattle.workers.specs.Book.{AgreesWith, BookState, HasSpentWorker, IsStopped, Owes, IsUnready, IsCause, IsCauseAfter, IsSpent, MayCount, first_fault, run_fault}
+
+-- a worker that has made 2^64 - 1 steps makes no further one, whatever the limit
+pub spent_by_count : (limit : Option ℕ) (counts : Counts) → counts.steps ≡ count_limit → IsSpent limit counts
+spent_by_count None counts full = full
+spent_by_count (Some limit) counts full = inl full
+
+-- a share's worker that has made them is one that makes no further one
+pub full_worker : (limit : Option ℕ) (next : NextStep) (share : Share) (b : CoreState) → Owes next share b → share.counts.steps ≡ count_limit → HasSpentWorker limit b
+full_worker limit next share b owes full = record {
+  worker = share.worker;
+  within = owes.agrees.within;
+  spent = subst (IsSpent limit) owes.agrees.counts (spent_by_count limit share.counts full);
+}
 
 cause_after : (first : Option RunFault) (next : NextStep) (share : Share) (b : CoreState) (Own : Type 0) (Wants : Type 0) (step : Step) (fault : RunFault)
     → IsUnready first next share b fault → IsCauseAfter first (Owes next share b) Own Wants step share.worker b fault
@@ -29,6 +42,20 @@ cause_after None next share b Own Wants step faults.StepLimit h = h
 pub unready_cause : (next : NextStep) (share : Share) (b : BookState) (Own : Type 0) (Wants : Type 0) (step : Step) (fault : RunFault)
     → IsUnready b.fault next share b.core fault → IsCause (Owes next share b.core) Own Wants step share.worker b fault
 unready_cause next share b Own Wants step fault h = cause_after b.fault next share b.core Own Wants step fault h
+
+-- ---- a worker that stops
+
+-- what stands written where it makes no further step
+pub stopped : (first : Option RunFault) (limit : Option ℕ) (share : Share) (b : CoreState) (written : RunFault)
+    → AgreesWith share b → IsSpent limit share.counts → written ≡ first_fault first faults.StepLimit → IsStopped first limit share b written
+stopped (Some fault) limit share b written agrees spent is = is
+stopped None limit share b written agrees spent is = inl ((agrees, spent), is)
+
+-- what stands written where it is not the core's, or might make a step
+pub not_stopped : (first : Option RunFault) (limit : Option ℕ) (share : Share) (b : CoreState) (written : RunFault)
+    → (AgreesWith share b → IsSpent limit share.counts → ⊥) → written ≡ first_fault first faults.Foreign → IsStopped first limit share b written
+not_stopped (Some fault) limit share b written not is = is
+not_stopped None limit share b written not is = inr ((λ h. not h.0 h.1), is)
 
 -- ---- a record that the core refuses
 

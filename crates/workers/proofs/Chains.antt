@@ -1,5 +1,5 @@
 -- A chain of blocks, and one block more.
-use Rattle.std.proofs.Common.{◌≡◌, ◌≢◌, ◌<◌, ◌≤◌, ◌⊎◌, ap, length, IfErr, inl, inr, arith, ℕ, List, [], ◌∷◌, ◌++◌, Result, Ok, Err, sym, subst, refl, ◌∙◌}
+use Rattle.std.proofs.Common.{◌≡◌, ◌≢◌, ◌<◌, ◌≤◌, ◌⊎◌, ap, length, IfErr, inl, inr, arith, ℕ, List, [], ◌∷◌, ◌++◌, None, Result, Ok, Err, sym, subst, refl, ◌∙◌}
 use Rattle.std.specs.Global.{Vec}
 use Rattle.rv_ledger.specs.Key.{Storage}
 use Rattle.rv_ledger.specs.Call.{Invocation}
@@ -26,7 +26,7 @@ run_is a b e = cc
 -- the answer to a block whose run was refused
 pub refused_block : {X : Type 0} (job : Job) (workers : ℕ) (answer : Result X RunFault) (fault : RunFault) → answer ≡ Err fault → length job.block ≤ 1024 → 1 ≤ workers → workers ≤ 32
     → ((answer ≡ Err faults.BadCount) → (workers ≡ 0) ⊎ (32 < workers)) → IfErr answer (λ e. e ≡ faults.ArenaFull → HasLimit job workers steps.ArenaFull)
-    → IfErr answer (λ e. e ≡ faults.IncarnationLimit → HasLimit job workers steps.IncarnationLimit) → IfErr answer (λ e. e ≡ faults.StepLimit → HasStepLimit job workers)
+    → IfErr answer (λ e. e ≡ faults.IncarnationLimit → HasLimit job workers steps.IncarnationLimit) → IfErr answer (λ e. e ≡ faults.StepLimit → HasStepLimit job workers None)
     → IsBlockAnswer job.store job.block workers (Err (Run fault))
 refused_block {X} job workers answer fault is short some few bad_count full limit step_limit =
     let not_bad : fault ≢ faults.BadCount = λ e. elim (bad_count (is ∙ ap Err e)) [ inl none ↦ omega (arith, none, some) | inr many ↦ omega (arith, many, few) ] in (
@@ -34,7 +34,7 @@ refused_block {X} job workers answer fault is short some few bad_count full limi
       ((λ e. absurd (not_bad (run_is fault faults.BadCount e))), (λ bad. absurd (elim bad.1 [ inl none ↦ omega (arith, none, some) | inr many ↦ omega (arith, many, few) ]))),
       (λ e. subst (λ (r : Result X RunFault). IfErr r (λ f. f ≡ faults.ArenaFull → HasLimit job workers steps.ArenaFull)) is full (run_is fault faults.ArenaFull e)),
       (λ e. subst (λ (r : Result X RunFault). IfErr r (λ f. f ≡ faults.IncarnationLimit → HasLimit job workers steps.IncarnationLimit)) is limit (run_is fault faults.IncarnationLimit e)),
-      (λ e. subst (λ (r : Result X RunFault). IfErr r (λ f. f ≡ faults.StepLimit → HasStepLimit job workers)) is step_limit (run_is fault faults.StepLimit e)),
+      (λ e. subst (λ (r : Result X RunFault). IfErr r (λ f. f ≡ faults.StepLimit → HasStepLimit job workers None)) is step_limit (run_is fault faults.StepLimit e)),
     )
 
 -- a block whose calls are run is refused neither as TooManyCalls nor as BadCount

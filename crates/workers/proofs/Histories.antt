@@ -18,7 +18,7 @@ use Rattle.stm_core.specs.declared.outcome.Finished.{Finished}
 use Rattle.workers.specs.declared.book.share.Share.{Share}
 use Rattle.workers.specs.declared.fault.RunFault.{RunFault}
 use Rattle.workers.specs.declared.fault.RunFault.TheVariants as faults
-use Rattle.workers.specs.Book.{BookState, FaultFits, HasFullCount, IsAtLimit, MayWrite, counts_of_share}
+use Rattle.workers.specs.Book.{BookState, FaultFits, HasSpentWorker, IsAtLimit, MayWrite, counts_of_share}
 use Rattle.workers.specs.Settle.{AreSettled, AreSharesOf, IsShareOf, IsFinishedOf, IsThatOrMemory, IsFinishedAfter}
 use Rattle.workers.specs.History.{HasHistory, HasLimit, HasStepLimit, AreOneWorkerCounts}
 
@@ -96,7 +96,7 @@ size_is core b found same is = is ∙ ap (λ (x : CoreState). length x.state.tas
 
 module _ (job : Job) (workers : ℕ) (shares : List Share) (b : BookState) (same : b.core.job ≡ job) (settled_answer : Result Finished RunFault) (settled : IsFinishedAfter b.fault b.core shares settled_answer)
     (reached : Reached (block_in b.core) (length b.core.state.tasks) b.core.state) (sized : IsSized (length b.core.job.block) (length b.core.state.tasks) b.core.state)
-    (fits : FaultFits b.core b.fault) (found : ℕ) (size : found ≡ length b.core.state.tasks) where
+    (fits : FaultFits b.work_limit b.core b.fault) (found : ℕ) (size : found ≡ length b.core.state.tasks) where
   module _ (answer : Result Finished RunFault) (ok : IfOk answer (λ o. (settled_answer ≡ Ok o) × (found ≡ workers))) where
     pub receipts_are : IfOk answer (λ o. o.receipts.items ≡ receipts_of job.block job.store)
     receipts_are = IfOk-weaker answer _ _ (λ o h. let k = ok_after b.fault b.core shares settled_answer o settled h.0 in k.1.receipts ∙ ap (λ (j : Job). receipts_of j.block j.store) same) ok
@@ -126,30 +126,33 @@ module _ (job : Job) (workers : ℕ) (shares : List Share) (b : BookState) (same
   limit_met limit at asked = subst (λ (j : Job). HasLimit j workers limit) same (subst (λ n. HasLimit b.core.job n limit) (sym size ∙ asked)
       (record { state = b.core.state; reached = reached; worker = at.worker; within = at.within; step = at.step; refused = at.refused }))
 
-  -- a full count beside which StepLimit was written is reached
-  step_limit_met : HasFullCount b.core → found ≡ workers → HasStepLimit job workers
-  step_limit_met at asked = subst (λ (j : Job). HasStepLimit j workers) same (subst (HasStepLimit b.core.job) (sym size ∙ asked)
-      (record { state = b.core.state; reached = reached; worker = at.worker; within = at.within; full = at.steps }))
+  -- a state beside which StepLimit was written is reached
+  step_limit_met : HasSpentWorker b.work_limit b.core → found ≡ workers → HasStepLimit job workers b.work_limit
+  step_limit_met at asked = subst (λ (j : Job). HasStepLimit j workers b.work_limit) same (subst (λ n. HasStepLimit b.core.job n b.work_limit) (sym size ∙ asked)
+      (record { state = b.core.state; reached = reached; worker = at.worker; within = at.within; spent = at.spent }))
 
-  -- a fault that is neither Foreign nor Memory was written
-  written : (f : RunFault) → ((settled_answer ≡ Err f) × (found ≡ workers)) ⊎ ((f ≡ faults.Foreign) × (found ≢ workers)) → f ≢ faults.Foreign → f ≢ faults.Memory
-      → MayWrite f b.core × (found ≡ workers)
-  written f (inl h) foreign memory = elim (err_after b.fault b.core shares settled_answer f settled h.0) [
-    | inl k ↦ (subst (FaultFits b.core) k fits, h.1)
-    | inr (inl k) ↦ absurd (foreign k)
-    | inr (inr k) ↦ absurd (memory k)
-  ]
-  written f (inr h) foreign memory = absurd (foreign h.0)
+  module _ (own limit : Option ℕ) (limited : own ≡ b.work_limit) where
+    -- a fault that is neither Foreign nor Memory was written
+    written : (f : RunFault) → ((settled_answer ≡ Err f) × (found ≡ workers) × (own ≡ limit)) ⊎ ((f ≡ faults.Foreign) × ((found ≢ workers) ⊎ (own ≢ limit))) → f ≢ faults.Foreign → f ≢ faults.Memory
+        → MayWrite f b.work_limit b.core × (found ≡ workers) × (own ≡ limit)
+    written f (inl h) foreign memory = elim (err_after b.fault b.core shares settled_answer f settled h.0) [
+      | inl k ↦ (subst (FaultFits b.work_limit b.core) k fits, h.1, h.2)
+      | inr (inl k) ↦ absurd (foreign k)
+      | inr (inr k) ↦ absurd (memory k)
+    ]
+    written f (inr h) foreign memory = absurd (foreign h.0)
 
-  module _ (answer : Result Finished RunFault) (err : IfErr answer (λ f. ((settled_answer ≡ Err f) × (found ≡ workers)) ⊎ ((f ≡ faults.Foreign) × (found ≢ workers)))) where
-    pub never_bad_count : IfErr answer (λ f. f ≢ faults.BadCount)
-    never_bad_count = IfErr-weaker answer _ _ (λ f h e. (subst (λ (g : RunFault). MayWrite g b.core) e (written f h (λ k. cc) (λ k. cc)).0)) err
+    module _ (answer : Result Finished RunFault) (err : IfErr answer (λ f. ((settled_answer ≡ Err f) × (found ≡ workers) × (own ≡ limit)) ⊎ ((f ≡ faults.Foreign) × ((found ≢ workers) ⊎ (own ≢ limit))))) where
+      pub never_bad_count : IfErr answer (λ f. f ≢ faults.BadCount)
+      never_bad_count = IfErr-weaker answer _ _ (λ f h e. (subst (λ (g : RunFault). MayWrite g b.work_limit b.core) e (written f h (λ k. cc) (λ k. cc)).0)) err
 
-    pub full_is : IfErr answer (λ f. f ≡ faults.ArenaFull → HasLimit job workers steps.ArenaFull)
-    full_is = IfErr-weaker answer _ _ (λ f h e. let w = written f h (λ k. cc) (λ k. cc) in limit_met steps.ArenaFull (subst (λ (g : RunFault). MayWrite g b.core) e w.0) w.1) err
+      pub full_is : IfErr answer (λ f. f ≡ faults.ArenaFull → HasLimit job workers steps.ArenaFull)
+      full_is = IfErr-weaker answer _ _ (λ f h e. let w = written f h (λ k. cc) (λ k. cc) in limit_met steps.ArenaFull (subst (λ (g : RunFault). MayWrite g b.work_limit b.core) e w.0) w.1) err
 
-    pub limit_is : IfErr answer (λ f. f ≡ faults.IncarnationLimit → HasLimit job workers steps.IncarnationLimit)
-    limit_is = IfErr-weaker answer _ _ (λ f h e. let w = written f h (λ k. cc) (λ k. cc) in limit_met steps.IncarnationLimit (subst (λ (g : RunFault). MayWrite g b.core) e w.0) w.1) err
+      pub limit_is : IfErr answer (λ f. f ≡ faults.IncarnationLimit → HasLimit job workers steps.IncarnationLimit)
+      limit_is = IfErr-weaker answer _ _ (λ f h e. let w = written f h (λ k. cc) (λ k. cc) in limit_met steps.IncarnationLimit (subst (λ (g : RunFault). MayWrite g b.work_limit b.core) e w.0) w.1) err
 
-    pub step_limit_is : IfErr answer (λ f. f ≡ faults.StepLimit → HasStepLimit job workers)
-    step_limit_is = IfErr-weaker answer _ _ (λ f h e. let w = written f h (λ k. cc) (λ k. cc) in step_limit_met (subst (λ (g : RunFault). MayWrite g b.core) e w.0) w.1) err
+      pub step_limit_is : IfErr answer (λ f. f ≡ faults.StepLimit → HasStepLimit job workers limit)
+      step_limit_is = IfErr-weaker answer _ _ (λ f h e.
+          let w = written f h (λ k. cc) (λ k. cc) in
+          subst (HasStepLimit job workers) (sym limited ∙ w.2) (step_limit_met (subst (λ (g : RunFault). MayWrite g b.work_limit b.core) e w.0) w.1)) err

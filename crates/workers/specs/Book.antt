@@ -1,5 +1,5 @@
 -- A core with the first fault that was written, the share of a worker, and what the step calls owe.
-use Rattle.std.specs.Prelude.{⊤, Result, Ok, Err, ◌≡◌, ◌<◌, ◌+◌, ◌⊎◌, ℕ, zero, suc, true, false, List, [], ◌∷◌, ◌++◌, length, get_or, Option, None, Some}
+use Rattle.std.specs.Prelude.{⊤, Result, Ok, Err, ◌≡◌, ◌<◌, ◌+◌, ◌≤◌, ◌⊎◌, ℕ, zero, suc, true, false, List, [], ◌∷◌, ◌++◌, length, get_or, Option, None, Some}
 use Rattle.rv_ledger.specs.declared.outcome.Counts.{Counts}
 use Rattle.mvmap.specs.Reading.{reading}
 use Rattle.stm_state.specs.State.{task_at, no_counts, is_done}
@@ -19,10 +19,12 @@ use Rattle.workers.specs.declared.fault.OutsideFault.TheVariants as outside
 use Rattle.workers.specs.declared.fault.RunFault.{RunFault}
 use Rattle.workers.specs.declared.fault.RunFault.TheVariants as faults
 
--- a core, and the first fault that was written, if any
+-- a core, the first fault that was written, if any, and the number of steps, asks aside, from which on a worker makes no
+-- further one, if there is such a limit
 pub record BookState : Type 0 where
   pub core : CoreState
   pub fault : Option RunFault
+  pub work_limit : Option ℕ
 
 -- ---- what a written fault says of the core beside it
 
@@ -33,25 +35,30 @@ pub record IsAtLimit (limit : steps.Limit) (b : CoreState) : Type 0 where
   pub step : Step
   pub refused : IsRefused worker step limit b
 
--- some worker can't count another step
-pub record HasFullCount (b : CoreState) : Type 0 where
+-- a worker makes no further step: it has made 2^64 - 1 of them, or so many that are no asks
+abbrev pub IsSpent : Option ℕ → Counts → Type 0
+IsSpent None counts = counts.steps ≡ 18446744073709551615
+IsSpent (Some limit) counts = (counts.steps ≡ 18446744073709551615) ⊎ (limit + counts.asks ≤ counts.steps)
+
+-- some worker makes no further step
+pub record HasSpentWorker (limit : Option ℕ) (b : CoreState) : Type 0 where
   pub worker : ℕ
   pub within : worker < length b.state.tasks
-  pub steps : (get_or b.state.counts worker no_counts).steps ≡ count_limit
+  pub spent : IsSpent limit (get_or b.state.counts worker no_counts)
 
 -- a fault that may be written beside a core
-abbrev pub MayWrite : RunFault → CoreState → Type 0
-MayWrite faults.BadCount b = ⊥
-MayWrite faults.Foreign b = Unit {0}
-MayWrite faults.ArenaFull b = IsAtLimit steps.ArenaFull b
-MayWrite faults.IncarnationLimit b = IsAtLimit steps.IncarnationLimit b
-MayWrite faults.Memory b = Unit {0}
-MayWrite faults.Spawn b = Unit {0}
-MayWrite faults.StepLimit b = HasFullCount b
+abbrev pub MayWrite : RunFault → Option ℕ → CoreState → Type 0
+MayWrite faults.BadCount limit b = ⊥
+MayWrite faults.Foreign limit b = Unit {0}
+MayWrite faults.ArenaFull limit b = IsAtLimit steps.ArenaFull b
+MayWrite faults.IncarnationLimit limit b = IsAtLimit steps.IncarnationLimit b
+MayWrite faults.Memory limit b = Unit {0}
+MayWrite faults.Spawn limit b = Unit {0}
+MayWrite faults.StepLimit limit b = HasSpentWorker limit b
 
-abbrev pub FaultFits : CoreState → Option RunFault → Type 0
-FaultFits b None = Unit {0}
-FaultFits b (Some fault) = MayWrite fault b
+abbrev pub FaultFits : Option ℕ → CoreState → Option RunFault → Type 0
+FaultFits limit b None = Unit {0}
+FaultFits limit b (Some fault) = MayWrite fault limit b
 
 -- the fault of a record that was refused
 abbrev pub run_fault : RecordFault → RunFault
@@ -170,6 +177,16 @@ IsUnready None next share b faults.IncarnationLimit = ⊥
 IsUnready None next share b faults.Memory = ⊥
 IsUnready None next share b faults.Spawn = ⊥
 IsUnready None next share b faults.StepLimit = Owes next share b × ((get_or b.state.counts share.worker no_counts).steps ≡ count_limit)
+
+-- a share's worker is the core's, and makes no further step
+abbrev pub IsSpentShare : Option ℕ → Share → CoreState → Type 0
+IsSpentShare limit share b = AgreesWith share b × IsSpent limit share.counts
+
+-- the fault that stands written where a worker stops: the one that was written before; else StepLimit where it makes no
+-- further step, and Foreign where it is not the core's or might make one
+abbrev pub IsStopped : Option RunFault → Option ℕ → Share → CoreState → RunFault → Type 0
+IsStopped (Some first) limit share b fault = fault ≡ first
+IsStopped None limit share b fault = (IsSpentShare limit share b × (fault ≡ faults.StepLimit)) ⊎ ((IsSpentShare limit share b → ⊥) × (fault ≡ faults.Foreign))
 
 -- the result of `ask`: None where all was done, with one more answer Done in the share; else the step that is owed now
 abbrev pub IsAsked : Option NextStep → CoreState → CoreState → Share → Share → Type 0

@@ -1,5 +1,5 @@
 -- The answers to the blocks of a chain, and the storage that they leave.
-use Rattle.std.specs.Prelude.{◌≡◌, ◌<◌, ◌≤◌, ◌↔◌, ◌⊎◌, ℕ, List, [], ◌∷◌, ◌++◌, length, Result, Ok, Err}
+use Rattle.std.specs.Prelude.{◌≡◌, ◌<◌, ◌≤◌, ◌↔◌, ◌⊎◌, ℕ, List, [], ◌∷◌, ◌++◌, length, Result, Ok, Err, None}
 use Rattle.std.specs.Global.{Vec}
 use Rattle.rv_ledger.specs.Key.{Storage}
 use Rattle.rv_ledger.specs.Call.{Invocation}
@@ -20,7 +20,7 @@ IsBlockAnswer store calls workers (Err fault) =
     × ((fault ≡ Run faults.BadCount) ↔ ((length calls ≤ 1024) × ((workers ≡ 0) ⊎ (32 < workers))))
     × (fault ≡ Run faults.ArenaFull → HasLimit (record { block = calls; store = store }) workers steps.ArenaFull)
     × (fault ≡ Run faults.IncarnationLimit → HasLimit (record { block = calls; store = store }) workers steps.IncarnationLimit)
-    × (fault ≡ Run faults.StepLimit → HasStepLimit (record { block = calls; store = store }) workers)
+    × (fault ≡ Run faults.StepLimit → HasStepLimit (record { block = calls; store = store }) workers None)
 
 -- the storage that a block leaves: a refused one leaves it as it was
 abbrev pub store_left : Storage → List Invocation → Result (Vec Receipt) ChainFault → Storage

@@ -1,5 +1,5 @@
 -- The history of a block's run: one list of worker steps.
-use Rattle.std.specs.Prelude.{◌≡◌, ◌<◌, ◌+◌, ◌*◌, ℕ, true, List, [], ◌∷◌, get_or, length}
+use Rattle.std.specs.Prelude.{◌≡◌, ◌<◌, ◌+◌, ◌*◌, ℕ, true, List, [], ◌∷◌, get_or, length, Option}
 use Rattle.rv_ledger.specs.declared.job.Job.{Job}
 use Rattle.rv_ledger.specs.declared.outcome.Counts.{Counts}
 use Rattle.stm_state.specs.State.{State, is_done, no_counts}
@@ -7,6 +7,7 @@ use Rattle.stm_state.specs.Steps.{Step, Limit}
 use Rattle.stm_state.specs.Done.{MeetsLimit, Reached, block_of}
 use Rattle.stm_state.specs.Walk.{LeadsTo}
 use Rattle.stm_state.specs.Dones.{EndsAtDone}
+use Rattle.workers.specs.Book.{IsSpent}
 use Rattle.workers.specs.Settle.{AreSharesOf}
 use Rattle.workers.specs.declared.book.share.Share.{Share}
 
@@ -29,13 +30,14 @@ pub record IsRunBy (job : Job) (workers : ℕ) : Type 0 where
 abbrev pub HasLimit : Job → ℕ → Limit → Type 0
 HasLimit job workers limit = MeetsLimit (block_of job.block job.store) workers limit
 
--- some list of steps of this number of workers leads from a job's start to a state where a worker has made 2^64 - 1 steps
-pub record HasStepLimit (job : Job) (workers : ℕ) : Type 0 where
+-- some list of steps of this number of workers leads from a job's start to a state where a worker makes no further step: it
+-- has made 2^64 - 1 of them or, where there is a limit, so many that are no asks
+pub record HasStepLimit (job : Job) (workers : ℕ) (limit : Option ℕ) : Type 0 where
   pub state : State
   pub reached : Reached (block_of job.block job.store) workers state
   pub worker : ℕ
   pub within : worker < workers
-  pub full : (get_or state.counts worker no_counts).steps ≡ 18446744073709551615
+  pub spent : IsSpent limit (get_or state.counts worker no_counts)
 
 -- what a single worker did: per call one execution, one validation and two asks, and one last ask that is answered Done
 pub record AreOneWorkerCounts (calls : ℕ) (found : List Counts) : Type 0 where

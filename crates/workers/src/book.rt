@@ -12,6 +12,7 @@ use crate::fault::{OutsideFault, RunFault};
 use rv_ledger::{Job, Key, StoredValue};
 use scheduler::COUNT_LIMIT;
 pub use share::Share;
+use share::is_spent;
 use std::marker::{Brand, Model, PhantomData};
 use stm_core::{AskResult, Core, JobSource, NextStep, ReadResult, StepKind};
 pub(crate) use written::MetFault;
@@ -28,13 +29,15 @@ impl JobName for Brand {
 
 /// A core with the job that `J` names, and the first fault that was written beside it. A written ArenaFull or
 /// IncarnationLimit is true of the core: some worker's due step is refused for this limit. So is a written
-/// StepLimit: some worker has made 2^64 - 1 steps. A written fault is never BadCount.
+/// StepLimit: some worker has made 2^64 - 1 steps, or as many, asks aside, as the book allows. A written fault is never
+/// BadCount.
 #[derive(Drop)]
 pub struct Book<J: JobName = Brand, H: JobSource = Job> {
     /// Unused bytes, so that the word of the lock has a line of the processor's cache to itself: threads that wait for the
     /// lock take that line away from the thread that has it.
     apart: [u64; 16],
     fault: Option<RunFault>,
+    work_limit: Option<u64>,
     core: Core<H>,
     of: PhantomData<J>,
 }
@@ -53,9 +56,9 @@ impl<J: JobName, H: JobSource> Model for Book<J, H> {
 
     ghost coded = { Prim.hlevel (codes, job_row.coded, call_row.coded, task_row.coded, finite.code {R = place_cmp} coded_place coded_entry) };
 
-    ghost view = { λ b. record { core = b.core; fault = b.fault } };
+    ghost view = { λ b. record { core = b.core; fault = b.fault; work_limit = b.work_limit } };
 
-    ghost invariant = { λ b. FaultFits b.core b.fault × (b.core.job ≡ J.job) };
+    ghost invariant = { λ b. FaultFits b.work_limit b.core b.fault × (b.core.job ≡ J.job) };
 }
 
 impl<J: JobName, H: JobSource> Book<J, H> {
@@ -68,19 +71,35 @@ impl<J: JobName, H: JobSource> Book<J, H> {
     ghost use Rattle.scheduler.specs.Schedule.{count_limit};
     ghost use Rattle.stm_core.specs.CoreState.{HasReadRoom, IsOwn, IsTaken, block_in, read_result_of};
     ghost use Rattle.stm_core.specs.declared.next_step.NextStep.TheVariants as next_step;
-    ghost use Rattle.workers.specs.Book.{FaultFits, IsAsked, IsCause, IsMade, IsMakeCall, IsReadCall, IsUnready, LeavesWritten, MayWrite, Owes, AgreesWith, first_fault, outside_fault};
+    ghost use Rattle.workers.specs.Book.{FaultFits, IsAsked, IsCause, IsMade, IsMakeCall, IsReadCall, IsStopped, IsUnready, LeavesWritten, MayWrite, Owes, AgreesWith, first_fault, outside_fault};
 
-    /// A core, and no fault.
+    /// A core, and no fault. No worker is stopped before it has made 2^64 - 1 steps.
     pub fn new(core: Core<H>) -> Book<J, H>
         requires { core.job ≡ J.job }
-        ensures { result ≡ record { core = core; fault = None } }
+        ensures { result ≡ record { core = core; fault = None; work_limit = None } }
+    {
+        Book::within(core, None)
+    }
+
+    /// A core, and no fault. Where there is a limit, a worker is stopped that has made so many steps, asks aside.
+    pub(crate) fn within(core: Core<H>, work_limit: Option<u64>) -> Book<J, H>
+        requires { core.job ≡ J.job }
+        ensures { result ≡ record { core = core; fault = None; work_limit = work_limit } }
     {
         Book {
             apart: [0; 16],
             fault: None,
+            work_limit,
             core,
             of: PhantomData,
         }
+    }
+
+    /// The number of steps, asks aside, from which on a worker is stopped, if there is such a limit.
+    pub(crate) fn work_limit(&self) -> Option<u64>
+        ensures { result ≡ self.now.work_limit }
+    {
+        self.work_limit
     }
 
     /// The core.
@@ -108,14 +127,14 @@ impl<J: JobName, H: JobSource> Book<J, H> {
         ensures estimates { OthersHaveEstimates (block_in self.now.core) self.now.core.state }
         ensures watched { ReadsAreWatched (block_in self.now.core) self.now.core.state }
         ensures borne_out { RunsAreBorneOut (block_in self.now.core) self.now.core.state }
-        ensures fits { FaultFits self.now.core self.now.fault }
+        ensures fits { FaultFits self.now.work_limit self.now.core self.now.fault }
     {
         self.core.holds();
     }
 
     /// Writes a fault, unless one was written before. Returns the first one that was written.
     fn write(&mut self, fault: RunFault) -> WrittenFault
-        requires { MayWrite fault self.old.core }
+        requires { MayWrite fault self.old.work_limit self.old.core }
         ensures first { result ≡ first_fault self.old.fault fault }
         ensures written { self.new ≡ record self.old { fault = Some result } }
     {
@@ -140,6 +159,19 @@ impl<J: JobName, H: JobSource> Book<J, H> {
             OutsideFault::Spawn => MetFault::of(fault, self.write(RunFault::Spawn)),
             OutsideFault::Foreign => MetFault::of(fault, self.write(RunFault::Foreign)),
         }
+    }
+
+    /// Stops a worker that has made as many steps, asks aside, as the book allows. Writes StepLimit, or Foreign where the share
+    /// is not the core's or its worker might go on, unless a fault was written before. Returns the one that stands written.
+    #[tactic(auto, using(crate::proofs::Causes::stopped, crate::proofs::Causes::not_stopped))]
+    pub(crate) fn stop(&mut self, share: &Share) -> WrittenFault
+        ensures fault { IsStopped self.old.fault self.old.work_limit share.now self.old.core result }
+        ensures written { self.new ≡ record self.old { fault = Some result } }
+    {
+        if !self.agrees(share) || !is_spent(self.work_limit, share.counts) {
+            return self.write(RunFault::Foreign);
+        }
+        self.write(RunFault::StepLimit)
     }
 
     /// The core, without the fault.
@@ -336,6 +368,7 @@ impl<J: JobName, H: JobSource> Book<J, H> {
 
     /// Checks that the share's worker may make a step now. Refused as `ask` is; the fault is written.
     #[inline(always)]
+    #[tactic(auto, using(crate::proofs::Causes::full_worker))]
     fn ready(&mut self, share: &Share, owed: NextStep) -> Result<(), WrittenFault>
         ensures ready { OnOk result (Owes owed share.now self.old.core × (self.old.fault ≡ None) × (share.now.counts.steps < count_limit) × (self.new ≡ self.old)) }
         ensures refused { IfErr result (λ e. self.new ≡ record self.old { fault = Some e }) }
@@ -358,8 +391,15 @@ impl<J: JobName, H: JobSource> Book<J, H> {
     fn is_owed(&self, share: &Share, owed: NextStep) -> bool
         ensures { (result ≡ true) ↔ Owes owed share.now self.now.core }
     {
+        self.agrees(share) && self.core.doing(share.worker) == owed
+    }
+
+    /// Whether a share is one of the core's workers, and agrees with the core on its counts.
+    #[inline(always)]
+    fn agrees(&self, share: &Share) -> bool
+        ensures { (result ≡ true) ↔ AgreesWith share.now self.now.core }
+    {
         share.worker < self.core.workers()
-            && self.core.doing(share.worker) == owed
             && self.core.counts(share.worker) == share.counts
             && self.core.dones(share.worker) == share.dones
     }

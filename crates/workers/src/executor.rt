@@ -37,7 +37,7 @@ pub struct Executor {
 }
 
 impl Executor {
-    ghost use Rattle.std.specs.Prelude.{◌≡◌, ◌<◌, ◌⊎◌, ◌↔◌, [], Err, IfErr, IfOk, length};
+    ghost use Rattle.std.specs.Prelude.{◌≡◌, ◌<◌, ◌⊎◌, ◌↔◌, [], Err, IfErr, IfOk, None, length};
     ghost use Rattle.rv_step.specs.Fold.{receipts_of, store_after};
     ghost use Rattle.stm_state.specs.Steps as steps;
     ghost use Rattle.workers.specs.declared.fault.RunFault.TheVariants as faults;
@@ -84,7 +84,7 @@ impl Executor {
         ensures shares { IfOk result (λ o. AreSharesOf o.counts.items self.new.shares.items) }
         ensures full { IfErr result (λ e. e ≡ faults.ArenaFull → HasLimit job workers steps.ArenaFull) }
         ensures limit { IfErr result (λ e. e ≡ faults.IncarnationLimit → HasLimit job workers steps.IncarnationLimit) }
-        ensures step_limit { IfErr result (λ e. e ≡ faults.StepLimit → HasStepLimit job workers) }
+        ensures step_limit { IfErr result (λ e. e ≡ faults.StepLimit → HasStepLimit job workers None) }
         ensures kept { result ≡ Err faults.BadCount → self.new ≡ self.old }
     {
         self.run_block_with(rt, alloc, job, workers, &Open)
@@ -110,11 +110,11 @@ impl Executor {
         ensures shares { IfOk result (λ o. AreSharesOf o.counts.items self.new.shares.items) }
         ensures full { IfErr result (λ e. e ≡ faults.ArenaFull → HasLimit job workers steps.ArenaFull) }
         ensures limit { IfErr result (λ e. e ≡ faults.IncarnationLimit → HasLimit job workers steps.IncarnationLimit) }
-        ensures step_limit { IfErr result (λ e. e ≡ faults.StepLimit → HasStepLimit job workers) }
+        ensures step_limit { IfErr result (λ e. e ≡ faults.StepLimit → HasStepLimit job workers None) }
         ensures kept { result ≡ Err faults.BadCount → self.new ≡ self.old }
     {
         let Finished { receipts, counts } = self.run_lent(
-            rt, alloc, &job.block, &job.store, workers, gate,
+            rt, alloc, &job.block, &job.store, workers, None, gate,
         )?;
         match copy_with_receipts(&job.store, receipts.as_slice()) {
             Ok(store) => Ok(Outcome {
@@ -128,7 +128,7 @@ impl Executor {
     }
 
     /// Runs a block on 1 to 32 threads over what is lent in place of a storage; nothing is copied. Refused as
-    /// `run_block` is.
+    /// `run_block` is, and as StepLimit, where there is a limit, also where a worker has made so many steps, asks aside.
     pub(crate) fn run_lent<S: Contents + Sync, R: Threads + Wait + Sync, G: Gate + Sync>(
         &mut self,
         rt: &R,
@@ -136,6 +136,7 @@ impl Executor {
         block: &Block,
         contents: &S,
         workers: usize,
+        work_limit: Option<u64>,
         gate: &G,
     ) -> Result<Finished, RunFault>
         ensures bad_count { (result ≡ Err faults.BadCount) ↔ ((workers ≡ 0) ⊎ (32 < workers)) }
@@ -145,7 +146,7 @@ impl Executor {
         ensures shares { IfOk result (λ f. AreSharesOf f.counts.items self.new.shares.items) }
         ensures full { IfErr result (λ e. e ≡ faults.ArenaFull → HasLimit (record { block = block.now; store = S.storage contents.now }) workers steps.ArenaFull) }
         ensures limit { IfErr result (λ e. e ≡ faults.IncarnationLimit → HasLimit (record { block = block.now; store = S.storage contents.now }) workers steps.IncarnationLimit) }
-        ensures step_limit { IfErr result (λ e. e ≡ faults.StepLimit → HasStepLimit (record { block = block.now; store = S.storage contents.now }) workers) }
+        ensures step_limit { IfErr result (λ e. e ≡ faults.StepLimit → HasStepLimit (record { block = block.now; store = S.storage contents.now }) workers work_limit) }
         ensures kept { result ≡ Err faults.BadCount → self.new ≡ self.old }
     {
         if workers == 0 || workers > WORKER_LIMIT {
@@ -153,7 +154,7 @@ impl Executor {
         }
         let arena = mem::replace(&mut self.arena, Arena::new(alloc));
         let (answer, arena, shares) = run_over::<Brand, S, R, G>(
-            rt, alloc, arena, block, contents, workers, gate,
+            rt, alloc, arena, block, contents, workers, work_limit, gate,
         );
         self.arena = arena;
         self.shares = shares;
@@ -162,7 +163,7 @@ impl Executor {
 }
 
 /// Runs a block on threads over an arena and over what is lent in place of a storage. The arena comes back without
-/// records. Refused as `run_block` is, but never as BadCount. Beside it the shares that the threads gave back.
+/// records. Refused as `Executor::run_lent` is, but never as BadCount. Beside it the shares that the threads gave back.
 fn run_over<J: JobName + Send + Sync, S: Contents + Sync, R: Threads + Wait + Sync, G: Gate + Sync>(
     rt: &R,
     alloc: Global,
@@ -170,6 +171,7 @@ fn run_over<J: JobName + Send + Sync, S: Contents + Sync, R: Threads + Wait + Sy
     block: &Block,
     contents: &S,
     workers: usize,
+    work_limit: Option<u64>,
     gate: &G,
 ) -> (Result<Finished, RunFault>, Arena, Vec<Share>)
     requires count { (1 ≤ workers) × (workers ≤ 32) }
@@ -181,10 +183,12 @@ fn run_over<J: JobName + Send + Sync, S: Contents + Sync, R: Threads + Wait + Sy
     ensures shares { IfOk result.0 (λ f. AreSharesOf f.counts.items result.2.items) }
     ensures full { IfErr result.0 (λ e. e ≡ faults.ArenaFull → HasLimit J.job workers steps.ArenaFull) }
     ensures limit { IfErr result.0 (λ e. e ≡ faults.IncarnationLimit → HasLimit J.job workers steps.IncarnationLimit) }
-    ensures step_limit { IfErr result.0 (λ e. e ≡ faults.StepLimit → HasStepLimit J.job workers) }
+    ensures step_limit { IfErr result.0 (λ e. e ≡ faults.StepLimit → HasStepLimit J.job workers work_limit) }
     ensures arena { result.1.records ≡ [] }
 {
-    let (shared, shares) = match share_out::<J, S>(alloc, arena, block, contents, workers) {
+    let (shared, shares) = match share_out::<J, S>(
+        alloc, arena, block, contents, workers, work_limit,
+    ) {
         Ok(shared) => shared,
         Err(arena) => return (Err(RunFault::Memory), arena, Vec::new(alloc)),
     };
@@ -197,21 +201,28 @@ fn run_over<J: JobName + Send + Sync, S: Contents + Sync, R: Threads + Wait + Sy
     stm_state::reached_by_list();
     stm_state::last_entry_is_done();
     stm_state::one_worker_counts_where_reached();
-    let found = book.core().workers();
+    let (found, own) = (book.core().workers(), book.work_limit());
     let (answer, arena) = finish(alloc, book, back.as_slice());
-    (answer_by(answer, found, workers), arena, back)
+    (
+        answer_by(answer, found, workers, own, work_limit),
+        arena,
+        back,
+    )
 }
 
-/// The answer of a core that has so many workers, but Foreign where another number was asked for.
+/// The answer of a core that has so many workers and of a book of such a limit, but Foreign where another number or limit was
+/// asked for.
 fn answer_by(
     answer: Result<Finished, RunFault>,
     found: usize,
     workers: usize,
+    own: Option<u64>,
+    work_limit: Option<u64>,
 ) -> Result<Finished, RunFault>
     ensures ok { IfOk result (λ f. (answer ≡ Ok f) × (found ≡ workers)) }
-    ensures err { IfErr result (λ e. ((answer ≡ Err e) × (found ≡ workers)) ⊎ ((e ≡ faults.Foreign) × (found ≢ workers))) }
+    ensures err { IfErr result (λ e. ((answer ≡ Err e) × (found ≡ workers) × (own ≡ work_limit)) ⊎ ((e ≡ faults.Foreign) × ((found ≢ workers) ⊎ (own ≢ work_limit)))) }
 {
-    if found != workers {
+    if found != workers || own != work_limit {
         return Err(RunFault::Foreign);
     }
     answer
@@ -225,6 +236,7 @@ fn share_out<'a, J: JobName, S: Contents>(
     block: &'a Block,
     contents: &'a S,
     workers: usize,
+    work_limit: Option<u64>,
 ) -> Result<(Shared<J, LentJob<'a, S>>, Vec<Share>), Arena>
     requires count { (1 ≤ workers) × (workers ≤ 32) }
     requires job { J.job ≡ record { block = block.now; store = S.storage contents.now } }
@@ -232,7 +244,7 @@ fn share_out<'a, J: JobName, S: Contents>(
     ensures back { IfErr result (λ arena. arena.records ≡ []) }
 {
     let core = Core::of(alloc, arena, LentJob { block, contents }, workers)?;
-    Shared::over(alloc, core, LentJob { block, contents })
+    Shared::over(alloc, core, LentJob { block, contents }, work_limit)
 }
 
 /// The handle of a thread that runs for a share.

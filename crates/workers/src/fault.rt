@@ -18,7 +18,7 @@ pub enum RunFault {
     Memory = 5,
     /// A thread was refused.
     Spawn = 6,
-    /// A worker has made 2^64 - 1 steps.
+    /// A worker has made 2^64 - 1 steps or, where there is a limit, as many, asks aside, as that says.
     StepLimit = 7,
 }
 

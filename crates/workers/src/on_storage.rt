@@ -2,7 +2,7 @@
 
 use crate::executor::Executor;
 use crate::fault::RunFault;
-use crate::gate::{Gate, Open};
+use crate::gate::Open;
 use overlay::{Layers, Overlay, apply_receipts, commit};
 use rv_ledger::{Block, Receipt, Store};
 use rv_step::Contents;
@@ -12,7 +12,7 @@ use std::thread::Threads;
 use stm_core::Finished;
 
 impl Executor {
-    ghost use Rattle.std.specs.Prelude.{◌≡◌, ◌<◌, ◌⊎◌, ◌↔◌, Err, IfErr, IfOk, OnErr, OnOk};
+    ghost use Rattle.std.specs.Prelude.{◌≡◌, ◌<◌, ◌⊎◌, ◌↔◌, Err, IfErr, IfOk, None, OnErr, OnOk};
     ghost use Rattle.overlay.specs.Overlay.{with_changes};
     ghost use Rattle.rv_step.specs.Fold.{receipts_of, store_after};
     ghost use Rattle.stm_state.specs.Steps as steps;
@@ -37,7 +37,7 @@ impl Executor {
         ensures history { OnOk result (IsRunWithShares (record { block = block; store = store.old }) workers self.new.shares.items) }
         ensures full { IfErr result (λ e. e ≡ faults.ArenaFull → HasLimit (record { block = block; store = store.old }) workers steps.ArenaFull) }
         ensures limit { IfErr result (λ e. e ≡ faults.IncarnationLimit → HasLimit (record { block = block; store = store.old }) workers steps.IncarnationLimit) }
-        ensures step_limit { IfErr result (λ e. e ≡ faults.StepLimit → HasStepLimit (record { block = block; store = store.old }) workers) }
+        ensures step_limit { IfErr result (λ e. e ≡ faults.StepLimit → HasStepLimit (record { block = block; store = store.old }) workers None) }
         ensures kept { result ≡ Err faults.BadCount → self.new ≡ self.old }
     {
         let mut changes = Overlay::new(alloc);
@@ -66,15 +66,16 @@ impl Executor {
         ensures history { OnOk result (IsRunWithShares (record { block = block; store = with_changes base.now over.old }) workers self.new.shares.items) }
         ensures full { IfErr result (λ e. e ≡ faults.ArenaFull → HasLimit (record { block = block; store = with_changes base.now over.old }) workers steps.ArenaFull) }
         ensures limit { IfErr result (λ e. e ≡ faults.IncarnationLimit → HasLimit (record { block = block; store = with_changes base.now over.old }) workers steps.IncarnationLimit) }
-        ensures step_limit { IfErr result (λ e. e ≡ faults.StepLimit → HasStepLimit (record { block = block; store = with_changes base.now over.old }) workers) }
+        ensures step_limit { IfErr result (λ e. e ≡ faults.StepLimit → HasStepLimit (record { block = block; store = with_changes base.now over.old }) workers None) }
         ensures kept { result ≡ Err faults.BadCount → self.new ≡ self.old }
     {
-        self.run_over_changes_with(rt, alloc, base, over, block, workers, &Open)
+        self.run_over_changes_within(rt, alloc, base, over, block, workers, None)
     }
 
-    /// `run_over_changes` with a gate, as `run_block_with` has one.
+    /// The same with a limit: where there is one, it is refused as StepLimit also where a worker has made so many steps, asks
+    /// aside.
     #[tactic(auto, using(overlay::proofs::Receipts::receipts_applied))]
-    pub fn run_over_changes_with<R: Threads + Wait + Sync, G: Gate + Sync>(
+    pub fn run_over_changes_within<R: Threads + Wait + Sync>(
         &mut self,
         rt: &R,
         alloc: Global,
@@ -82,7 +83,7 @@ impl Executor {
         over: &mut Overlay,
         block: Block,
         workers: usize,
-        gate: &G,
+        work_limit: Option<u64>,
     ) -> Result<Vec<Receipt>, RunFault>
         ensures bad_count { (result ≡ Err faults.BadCount) ↔ ((workers ≡ 0) ⊎ (32 < workers)) }
         ensures receipts { IfOk result (λ r. r.items ≡ receipts_of block (with_changes base.now over.old)) }
@@ -91,36 +92,43 @@ impl Executor {
         ensures history { OnOk result (IsRunWithShares (record { block = block; store = with_changes base.now over.old }) workers self.new.shares.items) }
         ensures full { IfErr result (λ e. e ≡ faults.ArenaFull → HasLimit (record { block = block; store = with_changes base.now over.old }) workers steps.ArenaFull) }
         ensures limit { IfErr result (λ e. e ≡ faults.IncarnationLimit → HasLimit (record { block = block; store = with_changes base.now over.old }) workers steps.IncarnationLimit) }
-        ensures step_limit { IfErr result (λ e. e ≡ faults.StepLimit → HasStepLimit (record { block = block; store = with_changes base.now over.old }) workers) }
+        ensures step_limit { IfErr result (λ e. e ≡ faults.StepLimit → HasStepLimit (record { block = block; store = with_changes base.now over.old }) workers work_limit) }
         ensures kept { result ≡ Err faults.BadCount → self.new ≡ self.old }
     {
-        let receipts = self.receipts_by(rt, alloc, &block, &Layers { base, over }, workers, gate)?;
+        let receipts = self.receipts_by(
+            rt,
+            alloc,
+            &block,
+            &Layers { base, over },
+            workers,
+            work_limit,
+        )?;
         match apply_receipts(base, over, receipts.as_slice()) {
             Ok(()) => Ok(receipts),
             Err(_) => Err(RunFault::Memory),
         }
     }
 
-    /// The receipts of a block by threads, over what is lent in place of a storage. Refused as `run_block` is.
+    /// The receipts of a block by threads, over what is lent in place of a storage. Refused as `run_lent` is.
     #[tactic(auto, using(crate::proofs::Runs::run_with_shares))]
-    fn receipts_by<S: Contents + Sync, R: Threads + Wait + Sync, G: Gate + Sync>(
+    fn receipts_by<S: Contents + Sync, R: Threads + Wait + Sync>(
         &mut self,
         rt: &R,
         alloc: Global,
         block: &Block,
         contents: &S,
         workers: usize,
-        gate: &G,
+        work_limit: Option<u64>,
     ) -> Result<Vec<Receipt>, RunFault>
         ensures bad_count { (result ≡ Err faults.BadCount) ↔ ((workers ≡ 0) ⊎ (32 < workers)) }
         ensures receipts { IfOk result (λ r. r.items ≡ receipts_of block.now (S.storage contents.now)) }
         ensures history { OnOk result (IsRunWithShares (record { block = block.now; store = S.storage contents.now }) workers self.new.shares.items) }
         ensures full { IfErr result (λ e. e ≡ faults.ArenaFull → HasLimit (record { block = block.now; store = S.storage contents.now }) workers steps.ArenaFull) }
         ensures limit { IfErr result (λ e. e ≡ faults.IncarnationLimit → HasLimit (record { block = block.now; store = S.storage contents.now }) workers steps.IncarnationLimit) }
-        ensures step_limit { IfErr result (λ e. e ≡ faults.StepLimit → HasStepLimit (record { block = block.now; store = S.storage contents.now }) workers) }
+        ensures step_limit { IfErr result (λ e. e ≡ faults.StepLimit → HasStepLimit (record { block = block.now; store = S.storage contents.now }) workers work_limit) }
         ensures kept { result ≡ Err faults.BadCount → self.new ≡ self.old }
     {
-        let finished = self.run_lent(rt, alloc, block, contents, workers, gate)?;
+        let finished = self.run_lent(rt, alloc, block, contents, workers, work_limit, &Open)?;
         let Finished {
             receipts,
             counts: _,

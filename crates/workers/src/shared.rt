@@ -52,7 +52,7 @@ impl<J: JobName> Shared<J> {
         let Ok(job) = core.job().copy() else {
             return Err(core.into_arena());
         };
-        Shared::over(alloc, core, job)
+        Shared::over(alloc, core, job, None)
     }
 }
 
@@ -61,11 +61,13 @@ impl<J: JobName, H: JobSource> Shared<J, H> {
     ghost use Rattle.workers.specs.Book.{zero_counts_of_all, counts_of_share};
     ghost use Rattle.workers.specs.DoneCell.{IsPassOf};
 
-    /// The same, where the threads run the calls and search the storage of another holder of the job.
+    /// The same, where the threads run the calls and search the storage of another holder of the job, and where each makes no
+    /// more steps, asks aside, than a limit allows, if there is one.
     pub(crate) fn over(
         alloc: Global,
         core: Core<H>,
         job: H,
+        work_limit: Option<u64>,
     ) -> Result<(Shared<J, H>, Vec<Share>), Arena>
         requires core { core.job ≡ J.job }
         requires job { H.job job ≡ J.job }
@@ -76,9 +78,9 @@ impl<J: JobName, H: JobSource> Shared<J, H> {
         let Ok(cell) = DoneCell::new(alloc) else {
             return Err(core.into_arena());
         };
-        match new_shares(alloc, core.workers(), &cell) {
+        match new_shares(alloc, core.workers(), &cell, work_limit) {
             Ok(shares) => {
-                let lock = Mutex::new(Book::new(core));
+                let lock = Mutex::new(Book::within(core, work_limit));
                 Ok((Shared { lock, job, cell }, shares))
             }
             Err(_) => Err(core.into_arena()),
@@ -133,13 +135,18 @@ impl<J: JobName, H: JobSource> Shared<J, H> {
 /// One share per worker, in their order, each with counts of zero and a pass of the cell; refused where
 /// memory ran out.
 #[tactic(auto, using(crate::proofs::Zeros::no_shares))]
-fn new_shares(alloc: Global, workers: usize, cell: &DoneCell) -> Result<Vec<Share>, AllocError>
+fn new_shares(
+    alloc: Global,
+    workers: usize,
+    cell: &DoneCell,
+    work_limit: Option<u64>,
+) -> Result<Vec<Share>, AllocError>
     ensures shares { IfOk result (λ shares. map counts_of_share shares.items ≡ zero_counts_of_all workers) }
     ensures passes { IfOk result (λ shares. All (λ share. IsPassOf cell.now share.pass) shares.items) }
 {
     let mut shares = Vec::with_capacity(alloc, workers)?;
     for worker in 0..workers {
-        shares.push(Share::new(worker, cell.pass()))?;
+        shares.push(Share::new(worker, cell.pass(), work_limit))?;
     }
     Ok(shares)
 }

@@ -1,12 +1,13 @@
 //! What one thread does: it asks for work, runs calls outside the lock, and makes their steps under it.
 
-ghost use Rattle.std.specs.Prelude.{◌≡◌, ◌+◌, None, Some, true, length, slice_get, IfErr, IfOk, MatchOption, OnOk};
+ghost use Rattle.std.specs.Prelude.{◌≡◌, ◌+◌, None, Some, true, length, slice_get, IfErr, IfOk, MatchOption, OnErr, OnOk};
 ghost use Rattle.crossbeam_utils.specs.Seq.{cell_view};
 ghost use Rattle.rv_step.specs.Run.{IsEnded};
 ghost use Rattle.rv_step.specs.declared.ended_run.EndedRun.{EndedRun};
 ghost use Rattle.rv_step.specs.declared.stage.Stage.TheVariants.{Asked};
 ghost use Rattle.stm_core.specs.CoreState.{IsReadyOf};
 ghost use Rattle.workers.specs.DoneCell.{IsPassOf};
+ghost use Rattle.workers.specs.Book.{IsSpent};
 ghost use Rattle.workers.specs.Work.{IsCallFault, IsMakeAnswer, IsMemoryOrRefused, IsRecordAnswer, IsRunAnswer, IsStepAnswer};
 
 use crate::book::{JobName, MetFault, Share, WrittenFault};
@@ -61,8 +62,8 @@ impl From<WrittenFault> for WorkFault {
 
 /// The work of one thread. It makes the steps of its share's worker until an ask is answered Done, and then
 /// hands the share back; the cell shows done then. Refused as the step call that was refused, as Memory where
-/// memory ran out, and as Foreign where the block has no such call. The fault is written, and the steps that
-/// were made stand.
+/// memory ran out, as Foreign where the block has no such call, and as StepLimit where the worker has made as many steps, asks
+/// aside, as its share allows. The fault is written, and the steps that were made stand.
 pub fn work<J: JobName, H: JobSource, R: Wait, G: Gate>(
     rt: &R,
     alloc: Global,
@@ -159,11 +160,28 @@ fn make_step<J: JobName, H: JobSource, R: Wait, G: Gate, S: Spin + Drop>(
             incarnation,
         } => {
             let spin = &mut kept.spin;
+            go_on(rt, shared, share, spin)?;
             let next = make(rt, shared, share, spin, kind, call, incarnation)?;
             kept.spin.learn(next);
             Ok(Some(next))
         }
     }
+}
+
+/// Refused as StepLimit where the share's worker has made as many steps, asks aside, as it may.
+#[inline(always)]
+fn go_on<J: JobName, H: JobSource, R: Wait, S: Spin>(
+    rt: &R,
+    shared: &Shared<J, H>,
+    share: &Share,
+    spin: &mut S,
+) -> Result<(), WrittenFault>
+    ensures { OnErr result (IsSpent share.now.work_limit share.now.counts) }
+{
+    if share.is_spent() {
+        return Err(shared.hold(rt, spin).stop(share));
+    }
+    Ok(())
 }
 
 /// Makes a step of a worker's task that takes nothing else. Returns the step that the worker owes then, as the book
@@ -353,6 +371,7 @@ fn read<J: JobName, H: JobSource, R: Wait, S: Spin>(
     ensures pass { share.new.pass ≡ share.old.pass }
     ensures dones { OnOk result (share.new.dones ≡ share.old.dones) }
 {
+    go_on(rt, shared, share, spin)?;
     let base = StoredValue::bytes_of(shared.job.content(key));
     let answer = shared
         .hold(rt, spin)

@@ -1,25 +1,28 @@
 //! What a worker owns: its share of the counts, and its pass of the block's cell.
 
-ghost use Rattle.std.specs.Prelude.{◌≡◌};
+ghost use Rattle.std.specs.Prelude.{◌≡◌, ◌↔◌, true};
+ghost use Rattle.workers.specs.Book.{IsSpent};
 
 use crate::done_cell::DonePass;
 use rv_ledger::Counts;
 
 /// A worker's share of the counts, with its pass of the block's cell. The counts start at zero, and only the
-/// step calls of `Book` change them.
+/// step calls of `Book` change them. Where there is a limit, the worker stops behind so many steps, asks aside.
 #[derive(Drop)]
 pub struct Share {
     pub(super) worker: usize,
     pub(super) counts: Counts,
     pub(super) dones: u64,
     pub(crate) pass: DonePass,
+    work_limit: Option<u64>,
 }
 
 impl Share {
-    ghost use Rattle.workers.specs.Book.{zero_counts, counts_of_share};
+    ghost use Rattle.std.specs.Prelude.{◌↔◌, true};
+    ghost use Rattle.workers.specs.Book.{IsSpent, zero_counts, counts_of_share};
 
     /// The share of a worker that has done nothing yet, with its pass.
-    pub(crate) fn new(worker: usize, pass: DonePass) -> Share
+    pub(crate) fn new(worker: usize, pass: DonePass, work_limit: Option<u64>) -> Share
         ensures counts { counts_of_share result ≡ zero_counts worker }
         ensures pass { result.pass ≡ pass }
     {
@@ -33,6 +36,7 @@ impl Share {
             },
             dones: 0,
             pass,
+            work_limit,
         }
     }
 
@@ -50,10 +54,30 @@ impl Share {
         self.counts
     }
 
+    /// Whether the worker makes no further step, by the share's limit.
+    #[inline(always)]
+    pub(crate) fn is_spent(&self) -> bool
+        ensures { (result ≡ true) ↔ IsSpent self.now.work_limit self.now.counts }
+    {
+        is_spent(self.work_limit, self.counts)
+    }
+
     /// How many asks of the worker were answered Done.
     pub fn dones(&self) -> u64
         ensures { result ≡ self.now.dones }
     {
         self.dones
+    }
+}
+
+/// Whether a worker of these counts makes no further step: it has made 2^64 - 1 of them or, where there is a limit, so many
+/// that are no asks.
+#[inline(always)]
+pub(super) fn is_spent(work_limit: Option<u64>, counts: Counts) -> bool
+    ensures { (result ≡ true) ↔ IsSpent work_limit counts }
+{
+    match work_limit {
+        None => counts.steps == u64::MAX,
+        Some(limit) => counts.steps >= limit.saturating_add(counts.asks),
     }
 }

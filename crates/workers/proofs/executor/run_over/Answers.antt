@@ -7,22 +7,22 @@ use Rattle.workers.proofs.executor.run_over.Goals as goal
 pub returns-clause-bad_count : goal.returns-clause-bad_count
 returns-clause-bad_count g c =
     never_bad_count (g.J.JobName.job) c.args.workers c.as_slice.result.now c.into_book-book.result c.holds.ensures.job c.finish-answer.result.0 c.finish-answer.ensures.answer
-    c.holds.ensures.reached c.holds.ensures.sized c.holds.ensures.fits c.workers-found.result (size_is c.core.result.now c.into_book-book.result.core c.workers-found.result c.core.ensures c.workers-found.ensures) c.answer_by.result c.answer_by.ensures.err
+    c.holds.ensures.reached c.holds.ensures.sized c.holds.ensures.fits c.workers-found.result (size_is c.core.result.now c.into_book-book.result.core c.workers-found.result c.core.ensures c.workers-found.ensures) c.work_limit-own.result c.args.work_limit c.work_limit-own.ensures c.answer_by.result c.answer_by.ensures.err
 
 pub returns-clause-full : goal.returns-clause-full
 returns-clause-full g c =
     full_is (g.J.JobName.job) c.args.workers c.as_slice.result.now c.into_book-book.result c.holds.ensures.job c.finish-answer.result.0 c.finish-answer.ensures.answer
-    c.holds.ensures.reached c.holds.ensures.sized c.holds.ensures.fits c.workers-found.result (size_is c.core.result.now c.into_book-book.result.core c.workers-found.result c.core.ensures c.workers-found.ensures) c.answer_by.result c.answer_by.ensures.err
+    c.holds.ensures.reached c.holds.ensures.sized c.holds.ensures.fits c.workers-found.result (size_is c.core.result.now c.into_book-book.result.core c.workers-found.result c.core.ensures c.workers-found.ensures) c.work_limit-own.result c.args.work_limit c.work_limit-own.ensures c.answer_by.result c.answer_by.ensures.err
 
 pub returns-clause-limit : goal.returns-clause-limit
 returns-clause-limit g c =
     limit_is (g.J.JobName.job) c.args.workers c.as_slice.result.now c.into_book-book.result c.holds.ensures.job c.finish-answer.result.0 c.finish-answer.ensures.answer
-    c.holds.ensures.reached c.holds.ensures.sized c.holds.ensures.fits c.workers-found.result (size_is c.core.result.now c.into_book-book.result.core c.workers-found.result c.core.ensures c.workers-found.ensures) c.answer_by.result c.answer_by.ensures.err
+    c.holds.ensures.reached c.holds.ensures.sized c.holds.ensures.fits c.workers-found.result (size_is c.core.result.now c.into_book-book.result.core c.workers-found.result c.core.ensures c.workers-found.ensures) c.work_limit-own.result c.args.work_limit c.work_limit-own.ensures c.answer_by.result c.answer_by.ensures.err
 
 pub returns-clause-step_limit : goal.returns-clause-step_limit
 returns-clause-step_limit g c =
     step_limit_is (g.J.JobName.job) c.args.workers c.as_slice.result.now c.into_book-book.result c.holds.ensures.job c.finish-answer.result.0 c.finish-answer.ensures.answer
-    c.holds.ensures.reached c.holds.ensures.sized c.holds.ensures.fits c.workers-found.result (size_is c.core.result.now c.into_book-book.result.core c.workers-found.result c.core.ensures c.workers-found.ensures) c.answer_by.result c.answer_by.ensures.err
+    c.holds.ensures.reached c.holds.ensures.sized c.holds.ensures.fits c.workers-found.result (size_is c.core.result.now c.into_book-book.result.core c.workers-found.result c.core.ensures c.workers-found.ensures) c.work_limit-own.result c.args.work_limit c.work_limit-own.ensures c.answer_by.result c.answer_by.ensures.err
 
 pub returns-clause-receipts : goal.returns-clause-receipts
 returns-clause-receipts g c =

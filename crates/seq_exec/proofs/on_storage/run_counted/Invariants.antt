@@ -1,7 +1,7 @@
 use Rattle.std.proofs.Common.{◌≡◌, ◌++◌, drop}
 use Rattle.rv_step.specs.Fold.{receipts_of, store_after}
 use Rattle.overlay.specs.Overlay.{with_changes}
-use Rattle.seq_exec.proofs.on_storage.run_over.Given as goal
+use Rattle.seq_exec.proofs.on_storage.run_counted.Given as goal
 
 abbrev pub invariant-loop-call : goal.invariant-loop-call
 invariant-loop-call l = record {

@@ -1,0 +1,106 @@
+//! Which calls of a frame run by threads together.
+
+ghost use Rattle.std.specs.Prelude.{◌≡◌, ◌≤◌, IfSome};
+
+use crate::thread_costs::{Shown, pays};
+use rv_ledger::Receipt;
+
+/// The gas that a batch is expected to use at least, where so many calls are left: threads take some hundred microseconds
+/// to begin, and this gas a few milliseconds.
+const LEAST_GAS: u64 = 1_000_000;
+
+/// The gas that a batch is expected to use at most.
+const MOST_GAS: u64 = 160_000_000;
+
+/// How many steps under the lock a call of a batch is allowed, in the mean, beside those for its gas.
+const STEPS_OF_A_CALL: u64 = 16;
+
+/// For how much gas a call is allowed one more step.
+const GAS_A_STEP: u64 = 512;
+
+/// How many steps the threads of a batch are allowed together at most. Each read that they keep is one of them.
+const MOST_STEPS: u64 = 131_072;
+
+/// For how much gas of the calls before a batch its threads are allowed one step. A read takes some 1.6 microseconds where four
+/// threads want the lock, so all steps take a twentieth of the time of those calls in order.
+const GAS_BEFORE_A_STEP: u64 = 6_400;
+
+/// How many steps the threads of a batch may be allowed, however little gas was used before: some 26 milliseconds of reads.
+const LEAST_STEPS: u64 = 16_384;
+
+/// How many more each thread is allowed.
+const STEPS_OF_A_THREAD: u64 = 64;
+
+/// The calls that run next by threads.
+#[derive(Clone, Copy, Debug)]
+pub(crate) struct Batch {
+    /// How many.
+    pub(crate) calls: usize,
+    /// How many steps, asks aside, each thread makes at most.
+    pub(crate) work_limit: u64,
+}
+
+/// What the calls of a frame took so far. It sets how many of the others run by threads next. No result rests on it.
+#[derive(Clone, Copy, Debug)]
+pub(crate) struct Batches {
+    workers: usize,
+    /// What the calls of the last batch took.
+    last: Shown,
+    /// The gas of all calls that were run.
+    gas: u64,
+}
+
+impl Batches {
+    /// The first calls were run in order: their receipts, and how often they read the storage.
+    pub(crate) fn new(workers: usize, first: &[Receipt], reads: u64) -> Batches {
+        let last = Shown::of(first, reads);
+        Batches {
+            workers,
+            last,
+            gas: last.gas,
+        }
+    }
+
+    /// The next batch where so many calls are left; None where they run in order, as threads do not pay.
+    ///
+    /// It is expected to use a million gas or, where that is more, twice the gas of all calls before it, and at most 160 million.
+    /// Each worker has as many calls of it, but where too few are left.
+    pub(crate) fn next(&self, left: usize) -> Option<Batch>
+        ensures { IfSome result (λ batch. (1 ≤ batch.calls) × (batch.calls ≤ left)) }
+    {
+        if left == 0 || !pays(self.workers, self.last, left) {
+            return None;
+        }
+        let gas_of_each = self.last.gas_of_each().max(1);
+        let most = self.gas.saturating_mul(2).max(LEAST_GAS).min(MOST_GAS);
+        // As many calls for each worker.
+        let workers = self.workers.max(1);
+        let rounds = ((most / gas_of_each) as usize / workers).saturating_add(1);
+        let calls = rounds.saturating_mul(workers).max(1).min(left);
+        let most = self.gas / GAS_BEFORE_A_STEP;
+        let most = most.max(LEAST_STEPS).min(MOST_STEPS);
+        Some(Batch {
+            calls,
+            work_limit: work_limit(self.workers, gas_of_each, calls, most),
+        })
+    }
+
+    /// A batch was run by threads, and these are its receipts.
+    pub(crate) fn note(&mut self, receipts: &[Receipt]) {
+        let reads = self
+            .last
+            .reads_of_each()
+            .saturating_mul(receipts.len() as u64);
+        self.last = Shown::of(receipts, reads);
+        self.gas = self.gas.saturating_add(self.last.gas);
+    }
+}
+
+/// How many steps, asks aside, each of some threads makes at most in so many calls of this gas, where `most` is a limit for all of
+/// them together. One thread may make twice its part.
+fn work_limit(workers: usize, gas_of_each: u64, calls: usize, most: u64) -> u64 {
+    let steps_of_each = STEPS_OF_A_CALL.saturating_add(gas_of_each / GAS_A_STEP);
+    let steps = steps_of_each.saturating_mul(2).saturating_mul(calls as u64);
+    let part = steps.min(most) / (workers as u64).max(1);
+    part.saturating_add(STEPS_OF_A_THREAD)
+}
