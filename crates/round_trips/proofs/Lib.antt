@@ -8,3 +8,7 @@ pub mod Between
 pub mod Dumps
 pub mod Alike
 pub mod Begins
+pub mod Values
+pub mod ShortCalls
+pub mod ShortBlocks
+pub mod ShortTurns

@@ -5,12 +5,16 @@ ghost use Rattle.std.specs.FinMap.{entries};
 ghost use Rattle.requests.specs.Requests.{Ask, Begin, Frame, Last};
 ghost use Rattle.round_trips.specs.Begun.{EqualButLast, asks_last_late, begun_from};
 ghost use Rattle.round_trips.specs.Chained.{IsEntry};
-ghost use Rattle.serving.specs.Serving.{answers_of, state_after};
+ghost use Rattle.serving.specs.Serving.{AreAnswered, answers_of, state_after};
+ghost use Rattle.turns.specs.Failures.{IsAnswer};
 ghost use Rattle.turns.specs.Replies.{Done};
 ghost use Rattle.turns.specs.Telling.{dump_text};
-ghost use Rattle.turns.specs.Turn.{agree, turn};
+ghost use Rattle.turns.specs.Turn.{agree, new_session, turn};
 ghost use Rattle.turns.specs.declared.settings.Settings.{Settings};
 ghost use Rattle.turns.specs.declared.state.State.{State};
+
+use crate::storage::are_entries;
+use turns::State;
 
 /// A law, and no code: a session t that is handed the dump, the height and the digest of a session s by `begin` has then all
 /// that s has, but its programs, which stay t's, and its last answer, which is none. This holds where the keys of s have 32
@@ -48,3 +52,18 @@ pub fn begun_session_answers_alike()
         → All (IsEntry s.rules) (entries s.store) → agree s.digest t.digest ≡ true → t.programs ≡ s.programs
         → EqualButLast (state_after settings s asks) (state_after settings t (Begin s.height s.digest (dump_text s.rules s.store) ∷ asks)) }
 {}
+
+/// The same law for a session s that a program holds and that came from a new one by requests, at some of which memory may
+/// have run out: nothing is asked of its keys and values then. It walks over the storage and changes nothing.
+pub fn held_session_answers_alike(s: &State)
+    ensures answers { (settings : Settings) (t : State) (before asks : List Ask) (text : List ℕ)
+        → AreAnswered (IsAnswer settings) (new_session settings) before text s.now
+        → agree s.now.digest t.digest ≡ true → t.programs ≡ s.now.programs → asks_last_late settings s.now asks ≡ true
+        → answers_of settings t (Begin s.now.height s.now.digest (dump_text s.now.rules s.now.store) ∷ asks) ≡ codes "ok 0\n" ++ answers_of settings s.now asks }
+    ensures left { (settings : Settings) (t : State) (before asks : List Ask) (text : List ℕ)
+        → AreAnswered (IsAnswer settings) (new_session settings) before text s.now
+        → agree s.now.digest t.digest ≡ true → t.programs ≡ s.now.programs
+        → EqualButLast (state_after settings s.now asks) (state_after settings t (Begin s.now.height s.now.digest (dump_text s.now.rules s.now.store) ∷ asks)) }
+{
+    are_entries(&s.store);
+}

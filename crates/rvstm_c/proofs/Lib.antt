@@ -2,4 +2,3 @@ pub mod Values
 pub mod Handles
 pub mod Answers
 pub mod Calls
-pub mod Texts

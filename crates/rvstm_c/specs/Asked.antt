@@ -1,6 +1,6 @@
 -- What a call asks for; None where no line has such a form.
-use Rattle.std.specs.Prelude.{⊤, ℕ, nat_le, nat_lt, ◌&&◌, List, length, Option, Some, None, if◌then◌else◌}
-use Rattle.requests.specs.Requests.{Ask, Begin, Dump, Last, ListEntries, ◌>>=◌, digest_of, name_of}
+use Rattle.std.specs.Prelude.{ℕ, nat_le, nat_lt, ◌&&◌, List, length, Option, Some, None, if◌then◌else◌}
+use Rattle.requests.specs.Requests.{Ask, Begin, ListEntries, ◌>>=◌, digest_of, name_of}
 
 -- a request with bytes, of which a line can say how many they are: at most 9,999,999,999
 abbrev pub with_bytes : List ℕ → Ask → Option Ask
@@ -18,9 +18,3 @@ list_asked text count = name_of text >>= (λ from. if nat_le 1 count && nat_le c
 abbrev pub begin_asked : ℕ → List ℕ → List ℕ → Option Ask
 begin_asked height text bytes =
     if nat_lt 9999999999 height then None else digest_of text >>= (λ digest. with_bytes bytes (Begin height digest bytes))
-
--- what is answered by a text of its own: not by the storage, and not by what is kept of a frame
-abbrev pub HasOwnText : Ask → Type 0
-HasOwnText Dump = ⊥
-HasOwnText Last = ⊥
-HasOwnText ask = ⊤

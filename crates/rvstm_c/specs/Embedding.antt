@@ -29,14 +29,14 @@ OnSession call None status after = (status ≡ closed) × (after ≡ None)
 OnSession call (Some before) status after = (session : EmbeddedSession) × (after ≡ Some session) × call before status session
 
 -- a session took the turn of a request, and keeps what it answered
-abbrev pub IsAnswered : Ask → EmbeddedSession → ℕ → EmbeddedSession → Type 0
-IsAnswered ask before status after =
+abbrev pub TakesTurn : Ask → EmbeddedSession → ℕ → EmbeddedSession → Type 0
+TakesTurn ask before status after =
     (given : Answer) × (after.given ≡ Answered given) × IsTurn before.settings before.state ask given after.state
     × (status ≡ status_of (reply_in after.state given)) × (after.settings ≡ before.settings)
 
 -- a session was asked so; what no line says is refused, and only that is kept
 abbrev pub IsCalled : Option Ask → EmbeddedSession → ℕ → EmbeddedSession → Type 0
-IsCalled (Some ask) before status after = IsAnswered ask before status after
+IsCalled (Some ask) before status after = TakesTurn ask before status after
 IsCalled None before status after =
     (after.given ≡ BadLine) × (status ≡ refused) × (after.state ≡ before.state) × (after.settings ≡ before.settings)
 

@@ -1,14 +1,12 @@
 //! The requests of a session that a handle has.
 
-ghost use Rattle.std.specs.Prelude.{◌≡◌, None, true};
+ghost use Rattle.std.specs.Prelude.{◌≡◌, None};
 ghost use Rattle.requests.specs.Reading.{ask_of};
-ghost use Rattle.requests.specs.Requests.{Begin, Dump, Forget, Frame, Get, Last, Program, Programs, State as AskState, Try};
-ghost use Rattle.turns.specs.Stages.{reply_in};
-ghost use Rattle.rvstm_c.specs.Asked.{HasOwnText, begin_asked, list_asked, with_bytes, with_name};
-ghost use Rattle.rvstm_c.specs.Embedding.{IsAnswered, IsCalled, IsNew};
-ghost use Rattle.rvstm_c.specs.Given.{is_in_memory};
-ghost use Rattle.rvstm_c.specs.Statuses.{status_of};
-ghost use Rattle.rvstm_c.specs.declared.given.Given.TheVariants.{Answered};
+ghost use Rattle.requests.specs.Requests.{Ask, Begin, Dump, Forget, Frame, Get, Last, Program, Programs, State as AskState, Try};
+ghost use Rattle.turns.specs.Stages.{IsTurn};
+ghost use Rattle.rvstm_c.specs.Asked.{begin_asked, list_asked, with_bytes, with_name};
+ghost use Rattle.rvstm_c.specs.Embedding.{IsCalled, IsNew, TakesTurn};
+ghost use Rattle.rvstm_c.specs.declared.session.EmbeddedSession.{EmbeddedSession};
 
 use crate::fields::{digest_of, is_count, is_high, is_long, name_of};
 use crate::given::{Given, status_of};
@@ -18,8 +16,7 @@ use crate::whole::made_whole;
 use requests::Request;
 use std::alloc::Global;
 use turns::{
-    Answer, InOrder, Refusal, Settings, State, take_begin, take_frame, take_program, take_try,
-    take_turn,
+    Answer, InOrder, Settings, State, take_begin, take_frame, take_program, take_try, take_turn,
 };
 
 impl EmbeddedSession {
@@ -42,7 +39,7 @@ impl EmbeddedSession {
             return self.refuse_line();
         }
         let answer = take_program(alloc, &mut self.state, file);
-        self.keep(answer)
+        self.keep(alloc, answer)
     }
 
     /// Runs a frame and keeps what it leaves. Returns the status.
@@ -53,7 +50,7 @@ impl EmbeddedSession {
             return self.refuse_line();
         }
         let answer = take_frame(alloc, &mut InOrder, self.settings, &mut self.state, bytes);
-        self.keep(answer)
+        self.keep(alloc, answer)
     }
 
     /// Runs a frame and keeps nothing of it. Returns the status.
@@ -64,7 +61,7 @@ impl EmbeddedSession {
             return self.refuse_line();
         }
         let answer = take_try(alloc, &mut InOrder, self.settings, &self.state, bytes);
-        self.keep(answer)
+        self.keep(alloc, answer)
     }
 
     /// Puts the storage of a text in the place of the session's. Returns the status.
@@ -78,7 +75,7 @@ impl EmbeddedSession {
             return self.refuse_line();
         };
         let answer = take_begin(alloc, &mut self.state, height, digest, bytes);
-        self.keep(answer)
+        self.keep(alloc, answer)
     }
 
     /// Gives back a program. Returns the status.
@@ -116,62 +113,47 @@ impl EmbeddedSession {
 
     /// Tells the names of the programs. Returns the status.
     pub(crate) fn programs(&mut self, alloc: Global) -> u32
-        ensures { IsAnswered Programs self.old result self.new }
+        ensures { TakesTurn Programs self.old result self.new }
     {
         self.take(alloc, &Request::Programs)
     }
 
     /// Tells its counts and settings. Returns the status.
     pub(crate) fn tell_state(&mut self, alloc: Global) -> u32
-        ensures { IsAnswered AskState self.old result self.new }
+        ensures { TakesTurn AskState self.old result self.new }
     {
         self.take(alloc, &Request::State)
     }
 
     /// Tells what the last frame that counts was answered. Returns the status.
-    pub(crate) fn tell_last(&mut self) -> u32
-        ensures { IsAnswered Last self.old result self.new }
+    pub(crate) fn tell_last(&mut self, alloc: Global) -> u32
+        ensures { TakesTurn Last self.old result self.new }
     {
-        let answer = match self.state.last {
-            Some(_) => Answer::Last,
-            None => Answer::Refused(Refusal::NoFrame),
-        };
-        self.keep(answer)
+        self.take(alloc, &Request::Last)
     }
 
     /// Tells the whole storage. Returns the status.
     pub(crate) fn dump(&mut self, alloc: Global) -> u32
-        ensures { IsAnswered Dump self.old result self.new }
+        ensures { TakesTurn Dump self.old result self.new }
     {
-        let answer = take_turn(
-            alloc,
-            &mut InOrder,
-            self.settings,
-            &mut self.state,
-            &Request::Dump,
-        );
-        let whole = made_whole(alloc, &self.state, answer);
-        self.keep(whole)
+        self.take(alloc, &Request::Dump)
     }
 
-    /// Takes the turn of a request whose answer is a text of its own. Returns the status.
+    /// Takes the turn of a request. Returns the status.
     fn take(&mut self, alloc: Global, request: &Request) -> u32
-        requires { HasOwnText (ask_of request.now) }
-        ensures { IsAnswered (ask_of request.now) self.old result self.new }
+        ensures { TakesTurn (ask_of request.now) self.old result self.new }
     {
         let answer = take_turn(alloc, &mut InOrder, self.settings, &mut self.state, request);
-        self.keep(answer)
+        self.keep(alloc, answer)
     }
 
-    /// Keeps an answer. Returns the status.
-    fn keep(&mut self, answer: Answer) -> u32
-        requires { is_in_memory (Answered answer) ≡ true }
-        ensures given { self.new.given ≡ Answered answer }
-        ensures state { self.new.state ≡ self.old.state }
-        ensures settings { self.new.settings ≡ self.old.settings }
-        ensures status { result ≡ status_of (reply_in self.old.state answer) }
+    /// Keeps the answer of a turn that was taken, in memory. Returns the status.
+    fn keep(&mut self, alloc: Global, answer: Answer) -> u32
+        ensures { (before : EmbeddedSession) (ask : Ask) → before.settings ≡ self.old.settings
+            → IsTurn before.settings before.state ask answer self.old.state → TakesTurn ask before result self.new }
     {
-        self.given = Given::Answered(answer);
+        let whole = made_whole(alloc, &self.state, answer);
+        self.given = Given::Answered(whole);
         status_of(&self.state, &self.given)
     }
 

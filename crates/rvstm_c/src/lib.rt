@@ -11,6 +11,8 @@ mod refusal;
 mod session;
 mod settings;
 mod status;
+#[cfg(test)]
+mod tests;
 mod whole;
 
 ghost use Rattle.std.specs.Prelude.{◌≡◌, length, None, Some};
@@ -174,7 +176,7 @@ pub extern "C" fn rvstm_last(alloc: Global, handle: &mut Handle) -> u32
     let Some(mut session) = take_session(handle, alloc) else {
         return CLOSED;
     };
-    let status = session.tell_last();
+    let status = session.tell_last(alloc);
     put_session(handle, session);
     status
 }

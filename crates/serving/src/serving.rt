@@ -10,6 +10,7 @@ use crate::writing::{print_end, write_answer};
 use byte_streams::{BufferedSource, Destination, WriteFault};
 use requests::{Asked, Request, RequestFault, next_request};
 use std::alloc::Global;
+use std::io;
 use turns::{Answer, CallRunner, Settings, State, fail_unkept, refuse_long, take_turn};
 
 /// Why a session ends before a `q` and before its input's end.
@@ -55,7 +56,7 @@ pub fn serve<R: BufferedSource, C: CallRunner, W: Destination>(
     for _ in 0..u64::MAX {
         let asked = match next_request(alloc, input, settings.frame_limit) {
             Ok(asked) => asked,
-            Err(_) => return Err(ServeFault::Unreadable),
+            Err(io::Error { .. }) => return Err(ServeFault::Unreadable),
         };
         let answer = match take_asked(alloc, runner, settings, state, asked) {
             Course::Answers(answer) => answer,

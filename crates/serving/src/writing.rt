@@ -13,6 +13,7 @@ ghost use Rattle.turns.specs.Turn.{last_reply};
 use crate::request_parts::parts_of;
 use byte_streams::{Destination, WriteFault, refusal_line, write_whole};
 use requests::RequestFault;
+use std::io;
 use turns::{
     Answer, EmptyBuffer, KeptAnswer, Refusal, State, bytes_of_kept, done_line, dump_length,
     failed_line, line_of_kept, refused_line, write_dump,
@@ -135,6 +136,6 @@ fn flush<W: Destination>(out: &mut W) -> Result<(), WriteFault>
 {
     match out.flush_written() {
         Ok(()) => Ok(()),
-        Err(_) => Err(WriteFault::Io),
+        Err(io::Error { .. }) => Err(WriteFault::Io),
     }
 }

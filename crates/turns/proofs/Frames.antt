@@ -10,7 +10,7 @@ use Rattle.elf32.specs.Layout.{Layout}
 use Rattle.rv_ledger.specs.declared.rules.Rules.{Rules}
 use Rattle.turns.specs.Failures.{MayFailFrame}
 use Rattle.turns.specs.Programs.{ProgramsByName, before, program_named, programs_of}
-use Rattle.turns.specs.Replies.{Done, Refused}
+use Rattle.turns.specs.Replies.{Done, done_answer, refused_answer}
 use Rattle.turns.specs.Stages.{Answers, FailsOnlyWhere, IsAccepted, IsAnswered, IsRan, IsStopped, StopsAt, accepted_value, left_of, stopped_answer}
 use Rattle.turns.specs.Telling.{rules_number}
 use Rattle.turns.specs.Turn.{Accepted, Turn, ◌>>=◌, accepted, accepted_block, counted, frame_answer, frame_turn, gas_of, is_above, try_turn, unless}
@@ -143,7 +143,7 @@ run_fails settings s bytes frame failure is (inr e) = subst (MayFailFrame settin
 pub answered_weaker : (P Q : Failure → Type 0) (s : State) (wanted : Turn) (given : Answer) (after : State) → ((f : Failure) → P f → Q f) → IsAnswered P s wanted given after → IsAnswered Q s wanted given after
 answered_weaker P Q s wanted (answer.Done bytes) after h is = is
 answered_weaker P Q s wanted answer.Last after h is = is
-answered_weaker P Q s wanted (answer.Storage buffer) after h is = is
+answered_weaker P Q s wanted (answer.Storage buffer) after h is = absurd is
 answered_weaker P Q s wanted (answer.Refused r) after h is = is
 answered_weaker P Q s wanted (answer.Failed f) after h is = (h f is.0, is.1)
 
@@ -156,22 +156,22 @@ turn_is settings s bytes low =
     by_test false x y e = refl
     by_test true x y e = cc
 
-answer_kept : (settings : Settings) (s : State) (wanted : Result Accepted Refusal) (ran : Ran) → Answers (IsRan settings s) wanted (Ok ran) → counted (record s { store = left_of s.store ran.2; rules = ran.1 }) (Done ran.0.items) ≡ frame_answer settings s wanted
-answer_kept settings s (Ok w) ran is = λ j. counted (record s { store = is.2 j; rules = is.1 j }) (Done (is.0 j))
+answer_kept : (settings : Settings) (s : State) (wanted : Result Accepted Refusal) (ran : Ran) → Answers (IsRan settings s) wanted (Ok ran) → counted (record s { store = left_of s.store ran.2; rules = ran.1 }) (done_answer ran.0.items) ≡ frame_answer settings s wanted
+answer_kept settings s (Ok w) ran is = λ j. counted (record s { store = is.2 j; rules = is.1 j }) (done_answer (is.0 j))
 answer_kept settings s (Err r) ran is = absurd is
 
 -- a frame that ran is kept
 pub frame_kept : (settings : Settings) (s : State) (bytes : List ℕ) (ran : Ran) (given : Answer) (after : State) → s.height < 9999999999 → Answers (IsRan settings s) (accepted settings s bytes) (Ok ran)
-    → IsAnswered (λ failure. failure ≡ want.Run) s (counted (record s { store = left_of s.store ran.2; rules = ran.1 }) (Done ran.0.items)) given after
+    → IsAnswered (λ failure. failure ≡ want.Run) s (counted (record s { store = left_of s.store ran.2; rules = ran.1 }) (done_answer ran.0.items)) given after
     → IsAnswered (λ failure. (s.height < 9999999999) × MayFailFrame settings s bytes failure) s (frame_turn settings s bytes) given after
 frame_kept settings s bytes ran given after low is done =
     answered_weaker (λ failure. failure ≡ want.Run) _ s (frame_turn settings s bytes) given after
     (λ f e. (low, subst (MayFailFrame settings s bytes) (sym e) (ran_ok settings s (accepted settings s bytes) ran is)))
     (subst (λ (t : Turn). IsAnswered (λ failure. failure ≡ want.Run) s t given after) (answer_kept settings s (accepted settings s bytes) ran is ∙ turn_is settings s bytes low) done)
 
-stop_refused : (settings : Settings) (s : State) (wanted : Result Accepted Refusal) (refusal : Refusal) → Answers (IsRan settings s) wanted (Err (stop.Refused refusal)) → counted s (Refused refusal) ≡ frame_answer settings s wanted
+stop_refused : (settings : Settings) (s : State) (wanted : Result Accepted Refusal) (refusal : Refusal) → Answers (IsRan settings s) wanted (Err (stop.Refused refusal)) → counted s (refused_answer refusal) ≡ frame_answer settings s wanted
 stop_refused settings s (Ok w) refusal is = absurd is
-stop_refused settings s (Err r) refusal is = ap (λ (x : Refusal). counted s (Refused x)) is
+stop_refused settings s (Err r) refusal is = ap (λ (x : Refusal). counted s (refused_answer x)) is
 
 -- one that stopped before is refused, or fails
 pub frame_stopped : (settings : Settings) (s : State) (bytes : List ℕ) (why : Stop) (given : Answer) (after : State) → s.height < 9999999999 → Answers (IsRan settings s) (accepted settings s bytes) (Err why)

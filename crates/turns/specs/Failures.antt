@@ -1,7 +1,7 @@
 -- Where this machine may run out of memory: for a stage of a request only where no stage before it refuses.
 use Rattle.std.specs.Prelude.{◌≡◌, ◌≢◌, ◌<◌, ◌⊎◌, ⊤, ℕ, List, false, nat_lt, length, IfErr, IsOk}
 use Rattle.requests.specs.Requests.{Ask, Program, Programs, Frame, Try, Get, ListEntries, Dump, Begin, State as AskState}
-use Rattle.turns.specs.Turn.{Turn, accepted, program_turn, turn}
+use Rattle.turns.specs.Turn.{accepted, program_turn, turn}
 use Rattle.turns.specs.Replies.{Failed, Refused, answer_text}
 use Rattle.turns.specs.declared.refusal.Failure.{Failure}
 use Rattle.turns.specs.declared.refusal.Failure.TheVariants as want

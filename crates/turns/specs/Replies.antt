@@ -52,7 +52,13 @@ answer_bytes _ = []
 abbrev pub answer_text : Reply → List ℕ
 answer_text reply = answer_line reply ++ answer_bytes reply
 
--- the answer that is kept of a frame
+-- the answer that is kept of a frame: its bytes, or why it was refused
+abbrev pub done_answer : List ℕ → KeptAnswer
+done_answer bytes = record { refusal = None; bytes = bytes }
+
+abbrev pub refused_answer : Refusal → KeptAnswer
+refused_answer refusal = record { refusal = Some refusal; bytes = [] }
+
 abbrev pub refused_or_done : Option Refusal → List ℕ → Reply
 refused_or_done None bytes = Done bytes
 refused_or_done (Some refusal) bytes = Refused refusal

@@ -8,12 +8,12 @@ use Rattle.block_file.specs.declared.fault.BlockFault.{BlockFault}
 use Rattle.elf32.specs.Image.{image_of}
 use Rattle.elf32.specs.Layout.{Layout}
 use Rattle.overlay.specs.Overlay.{with_changes}
-use Rattle.requests.specs.Requests.{Ask}
+use Rattle.requests.specs.Requests.{Ask, Dump}
 use Rattle.rv_ledger.specs.Key.{Storage}
 use Rattle.receipts.specs.Buffer.{IsWritten}
 use Rattle.receipts.specs.declared.buffer.TextBuffer.{TextBuffer}
 use Rattle.turns.specs.Failures.{MayFail}
-use Rattle.turns.specs.Replies.{Reply, Done, Refused, Failed}
+use Rattle.turns.specs.Replies.{Reply, Done, Refused, Failed, refused_answer}
 use Rattle.turns.specs.Telling.{dump_text}
 use Rattle.receipts.specs.Brief.{receipts_text}
 use Rattle.rv_ledger.specs.declared.rules.Rules.{Rules}
@@ -43,12 +43,15 @@ reply_in s (answer.Storage buffer) = Done (dump_text s.rules s.store)
 reply_in s (answer.Refused refusal) = Refused refusal
 reply_in s (answer.Failed failure) = Failed failure
 
--- a request was answered as wanted; or memory ran out where it may, which is told, and all is as it was
+-- a request was answered as wanted, and not by the storage; or memory ran out where it may, which is told, and all is as it was
 abbrev pub IsAnswered : (Failure → Type 0) → State → Turn → Answer → State → Type 0
 IsAnswered may_fail s want (answer.Failed failure) after = may_fail failure × (after ≡ s)
+IsAnswered may_fail s want (answer.Storage buffer) after = ⊥
 IsAnswered may_fail s want given after = (reply_in after given ≡ want.reply) × (after ≡ want.after)
 
+-- a request was answered as its turn says; the storage answers a `dump` alone, and then nothing changed
 abbrev pub IsTurn : Settings → State → Ask → Answer → State → Type 0
+IsTurn settings s ask (answer.Storage buffer) after = (ask ≡ Dump) × (after ≡ s)
 IsTurn settings s ask given after = IsAnswered (MayFail settings s ask) s (turn settings s ask) given after
 
 -- the answer where a stage stopped
@@ -58,7 +61,7 @@ stopped_answer (stop.Failed want) = answer.Failed want
 
 -- a frame stopped before it ran: it is refused, and counts, or fails, and nothing changes
 abbrev pub IsStopped : State → Stop → Answer → State → Type 0
-IsStopped s (stop.Refused why) given after = IsAnswered (λ _. ⊥) s (counted s (Refused why)) given after
+IsStopped s (stop.Refused why) given after = IsAnswered (λ _. ⊥) s (counted s (refused_answer why)) given after
 IsStopped s (stop.Failed want) given after = (given ≡ answer.Failed want) × (after ≡ s)
 
 -- a stage gave what is wanted, or its refusal; or memory ran out

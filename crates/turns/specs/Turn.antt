@@ -13,7 +13,7 @@ use Rattle.rv_ledger.specs.Key.{Storage}
 use Rattle.rv_ledger.specs.declared.rules.Rules.TheVariants as rules
 use Rattle.rv_step.specs.Fold.{receipts_of, store_after}
 use Rattle.receipts.specs.Brief.{receipts_text}
-use Rattle.turns.specs.Replies.{Reply, Done, Refused, Failed, answer_text, kept_reply}
+use Rattle.turns.specs.Replies.{Reply, Done, Refused, answer_text, done_answer, kept_reply, refused_answer}
 use Rattle.turns.specs.Telling.{content_line, dump_text, listed, names_text, rules_number, state_text}
 use Rattle.programs.specs.Programs.{calls_over}
 use Rattle.turns.specs.Programs.{programs_of}
@@ -91,8 +91,9 @@ abbrev pub storage_for : State → Accepted → Storage
 storage_for s frame = put_over s.store frame.block.store
 
 -- the receipts of a frame, and the storage that it leaves
-abbrev pub receipts_reply : Settings → State → Accepted → Reply
-receipts_reply settings s frame = Done (receipts_text settings.is_brief (receipts_of (calls_over frame.block frame.images) (storage_for s frame)))
+abbrev pub receipts_answer : Settings → State → Accepted → KeptAnswer
+receipts_answer settings s frame =
+    done_answer (receipts_text settings.is_brief (receipts_of (calls_over frame.block frame.images) (storage_for s frame)))
 
 abbrev pub after_run : State → Accepted → State
 after_run s frame = record s { store = store_after (calls_over frame.block frame.images) (storage_for s frame); rules = frame.block.rules }
@@ -101,24 +102,19 @@ after_run s frame = record s { store = store_after (calls_over frame.block frame
 abbrev pub next_digest : Option (List ℕ) → Reply → Option (List ℕ)
 next_digest digest reply = option_map (λ d. sha256 (d ++ answer_text reply)) digest
 
-abbrev pub kept_of : Reply → KeptAnswer
-kept_of (Done bytes) = record { refusal = None; bytes = bytes }
-kept_of (Refused refusal) = record { refusal = Some refusal; bytes = [] }
-kept_of (Failed failure) = record { refusal = None; bytes = [] }
-
-abbrev pub counted : State → Reply → Turn
-counted s reply = record {
-  reply = reply;
-  after = record s { height = s.height + 1; digest = next_digest s.digest reply; last = Some (kept_of reply) };
+abbrev pub counted : State → KeptAnswer → Turn
+counted s answer = record {
+  reply = kept_reply answer;
+  after = record s { height = s.height + 1; digest = next_digest s.digest (kept_reply answer); last = Some answer };
 }
 
 abbrev pub frame_answer : Settings → State → Result Accepted Refusal → Turn
-frame_answer settings s (Err refusal) = counted s (Refused refusal)
-frame_answer settings s (Ok frame) = counted (after_run s frame) (receipts_reply settings s frame)
+frame_answer settings s (Err refusal) = counted s (refused_answer refusal)
+frame_answer settings s (Ok frame) = counted (after_run s frame) (receipts_answer settings s frame)
 
 -- a frame that is refused for what is known of it before its text
 abbrev pub refused_frame : State → Refusal → Turn
-refused_frame s refusal = if nat_le 9999999999 s.height then told s (Refused TooHigh) else counted s (Refused refusal)
+refused_frame s refusal = if nat_le 9999999999 s.height then told s (Refused TooHigh) else counted s (refused_answer refusal)
 
 -- at the greatest height no frame is run, and none counts
 abbrev pub frame_turn : Settings → State → List ℕ → Turn

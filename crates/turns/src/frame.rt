@@ -1,8 +1,8 @@
 //! Frames that are run, and those that are only tried.
 
-ghost use Rattle.std.specs.Prelude.{◌≡◌, ◌<◌, ◌⊎◌, IfErr, IfOk, Some, nat_le, if◌then◌else◌};
+ghost use Rattle.std.specs.Prelude.{◌≡◌, ◌<◌, ◌⊎◌, IfErr, IfOk, nat_le, if◌then◌else◌};
 ghost use Rattle.turns.specs.Failures.{MayFailFrame};
-ghost use Rattle.turns.specs.Replies.{Done, refused_or_done};
+ghost use Rattle.turns.specs.Replies.{done_answer};
 ghost use Rattle.turns.specs.Stages.{Answers, FailsOnlyWhere, IsAnswered, IsRan, IsStopped, accepted_value, left_of};
 ghost use Rattle.turns.specs.Turn.{accepted, counted, frame_turn, refused_frame, told, try_turn};
 
@@ -132,7 +132,7 @@ fn ran_accepted<C: CallRunner>(
 fn kept_frame(state: &mut State, ran: Ran) -> Answer
     requires { state.old.height < 9999999999 }
     ensures { IsAnswered (λ failure. failure ≡ Failure.Run) state.old
-        (counted (record state.old { store = left_of state.old.store ran.2; rules = ran.1 }) (Done ran.0.items)) result state.new }
+        (counted (record state.old { store = left_of state.old.store ran.2; rules = ran.1 }) (done_answer ran.0.items)) result state.new }
 {
     let (text, rules, left) = ran;
     match keep(&mut state.store, left) {
@@ -158,7 +158,7 @@ fn stopped_frame(alloc: Global, state: &mut State, stop: Stop) -> Answer
 fn count(state: &mut State, refusal: Option<Refusal>, bytes: KeptBytes) -> Answer
     requires { state.old.height < 9999999999 }
     ensures answer { result ≡ Answer.Last }
-    ensures state { state.new ≡ record (counted state.old (refused_or_done refusal bytes)).after { last = Some (record { refusal = refusal; bytes = bytes }) } }
+    ensures state { state.new ≡ (counted state.old (record { refusal = refusal; bytes = bytes })).after }
 {
     let kept = KeptAnswer { refusal, bytes };
     state.digest = next_digest(state.digest, &kept);

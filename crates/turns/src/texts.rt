@@ -3,6 +3,7 @@
 ghost use Rattle.std.specs.Prelude.{IfOk};
 ghost use Rattle.turns.specs.Stages.{IsFinished};
 
+use byte_streams::WriteFault;
 use receipts::TextBuffer;
 use std::alloc::AllocError;
 
@@ -13,6 +14,6 @@ pub(crate) fn finished(waiting: TextBuffer, text: Vec<u8>) -> Result<Vec<u8>, Al
     let mut text = text;
     match waiting.finish(&mut text) {
         Ok(()) => Ok(text),
-        Err(_) => Err(AllocError),
+        Err(WriteFault::Io | WriteFault::WroteNothing | WriteFault::Memory) => Err(AllocError),
     }
 }

@@ -2,10 +2,8 @@
 
 ghost use Rattle.std.specs.Prelude.{◌≡◌, ◌<◌, IfOk, List, OnErr, false, length, true, ℕ};
 ghost use Rattle.requests.specs.Reading.{ask_of, is_too_long};
-ghost use Rattle.requests.specs.Requests.{body_length, with_body};
-ghost use Rattle.turns.specs.Replies.{Done};
+ghost use Rattle.requests.specs.Requests.{Dump, body_length, with_body};
 ghost use Rattle.turns.specs.Stages.{IsAnswered, IsTurn};
-ghost use Rattle.turns.specs.Telling.{dump_text};
 ghost use Rattle.turns.specs.Turn.{last_reply, told, turn};
 ghost use Rattle.turns.specs.declared.settings.Settings.{Settings};
 
@@ -73,7 +71,7 @@ fn text_answer(text: Result<Vec<u8>, AllocError>) -> Answer
 
 /// The answer that is the text of the storage; it fails where memory for its buffer runs out.
 fn dump(alloc: Global, state: &State) -> Answer
-    ensures { IsAnswered (λ failure. failure ≡ Failure.Answer) state.now (told state.now (Done (dump_text state.now.rules state.now.store))) result state.now }
+    ensures { (settings : Settings) → IsTurn settings state.now Dump result state.now }
 {
     match EmptyBuffer::new(alloc) {
         Ok(buffer) => Answer::Storage(buffer),

@@ -1,13 +1,9 @@
-use Rattle.std.proofs.Common.{sym, ◌∙◌, nat_lt, length}
+use Rattle.std.proofs.Common.{refl, sym, ◌∙◌, nat_lt, length}
 use Rattle.requests.specs.Requests.{Frame}
-use Rattle.rvstm_c.proofs.Answers.{asked, kept}
-use Rattle.rvstm_c.proofs.Texts.{own_in_memory}
+use Rattle.rvstm_c.proofs.Answers.{asked}
 use Rattle.rvstm_c.proofs.session.EmbeddedSession.run_frame.Goals as goal
-
-pub keep-requires : goal.keep-requires
-keep-requires c = own_in_memory c.args.self.now.settings c.args.self.now.state (Frame c.args.bytes.now) c.take_frame-answer.result c.take_frame-answer.new.state tt c.take_frame-answer.ensures
 
 pub returns : goal.returns
 returns c =
-    let done = kept (Frame c.args.bytes.now) c.args.self.now c.keep.new.self c.take_frame-answer.new.state c.take_frame-answer.result c.keep.result c.take_frame-answer.ensures c.keep.ensures.given c.keep.ensures.state c.keep.ensures.settings c.keep.ensures.status in
+    let done = c.keep.ensures c.args.self.now (Frame c.args.bytes.now) refl c.take_frame-answer.ensures in
     asked (nat_lt 9999999999 (length c.args.bytes.now)) (Frame c.args.bytes.now) c.args.self.now c.keep.result c.keep.new.self (sym c.is_long.ensures ∙ c.if-is_long.false) done
