@@ -4,14 +4,15 @@ import hashlib
 import re
 from dataclasses import dataclass
 
+import block_texts
 import results
+from block_texts import KEY_LENGTH
 
 WORD = re.compile(r'\s*("[^"]*"|[^\s"#][^\s"]*)(?!\S)')
 HEX = re.compile(r"(?:[0-9a-fA-F]{2})+")
 NUMBER = re.compile(r"u(8|16|32|64):([0-9]+)")
-HEADERS = {1: "rvblock 1", 2: "rvblock 2\ngas 2", 3: "rvblock 2\ngas 3"}
 LONGEST_VALUES = {1: 64, 2: 256, 3: 256}
-KEY_LENGTH, LONGEST_INPUT, MOST_GAS = 32, 4096, 10_000_000
+LONGEST_INPUT, MOST_GAS = 4096, 10_000_000
 MOST_PROGRAMS, MOST_CALLS = 64, 1024
 KINDS_OF_TESTS = ("expect", "storage")
 
@@ -36,7 +37,7 @@ def bytes_of(word):
         size = int(number[1]) // 8
         if int(number[2]) >= 256**size:
             raise ValueError(f"{word}: a number of {8 * size} bits is at most {256**size - 1}")
-        return int(number[2]).to_bytes(size, "little")
+        return block_texts.word(int(number[2]), size)
     if word.startswith("key:"):
         return named_key(word)
     if word.startswith("table:"):
@@ -54,7 +55,7 @@ def named_key(word):
         return padded(text.encode(), word)
     if int(text) > 255:
         raise ValueError(f"{word}: the number of a key is at most 255; another key is written in hex")
-    return int(text).to_bytes(KEY_LENGTH, "big")
+    return block_texts.key(int(text))
 
 
 def table_key(word):
@@ -68,7 +69,7 @@ def table_key(word):
 def padded(data, word):
     if len(data) > KEY_LENGTH:
         raise ValueError(f"{word}: a key has at most {KEY_LENGTH} bytes, and this is {len(data)}")
-    return data.ljust(KEY_LENGTH, b"\0")
+    return block_texts.padded_key(data)
 
 
 def joined(words, most, what):
@@ -99,6 +100,7 @@ class Block:
     def __init__(self, store):
         self.rules, self.programs, self.store, self.calls = 1, {}, store, []
         self.stored, self.is_begun = set(), False
+        self.program_lines = {}  # of the names
         self.line = 0  # that is read
 
     def add(self, words):
@@ -124,7 +126,7 @@ class Block:
             raise ValueError(f"{path}: a path has the printable bytes of ASCII alone")
         if len(self.programs) == MOST_PROGRAMS:
             raise ValueError(f"{name}: a block has at most {MOST_PROGRAMS} programs")
-        self.programs[name] = path
+        self.programs[name], self.program_lines[name] = path, self.line
 
     def add_key(self, words):
         if not words:
@@ -153,11 +155,8 @@ class Block:
     def text(self, programs=None):
         """The block file; where programs are given, with their paths."""
         numbers = {name: number for number, name in enumerate(self.programs)}
-        lines = [HEADERS[self.rules]]
-        lines += [f"program {number} {path}" for number, path in enumerate((programs or self.programs).values())]
-        lines += [f"store {key.hex()} {results.hex_of(self.store[key])}" for key in sorted(self.store)]
-        lines += [f"call {numbers[call.program]} {call.gas} {results.hex_of(call.data)}" for call in self.calls]
-        return "\n".join(lines) + "\n"
+        calls = [(numbers[call.program], call.gas, call.data) for call in self.calls]
+        return block_texts.text((programs or self.programs).values(), self.store, calls, block_texts.head(self.rules))
 
 
 def lines_of(path):
@@ -174,6 +173,28 @@ def storage_of(path):
         except ValueError as error:
             raise ValueError(f"{path}: {error}") from None
     return {bytes.fromhex(parts[1]): bytes.fromhex(parts[2].replace("-", "")) for parts in stores}
+
+
+def table_names_of(path):
+    """The words `table:TAG:text` of a list, by the keys that they stand for, in hex."""
+    names = {}
+    for number, line in lines_of(path):
+        try:
+            words = [word for word in words_of(line) if word.startswith("table:")]
+            names |= {table_key(word).hex(): word for word in words}
+        except ValueError as error:
+            raise ValueError(f"{path}, line {number}: {error}") from None
+    return names
+
+
+def take_names(words):
+    """Takes `--list LIST` out of the words of a command line, and answers the names of the keys of its tables."""
+    place = words.index("--list") if "--list" in words[:-1] else None
+    if place is None:
+        return {}
+    names = table_names_of(words[place + 1])
+    del words[place : place + 2]
+    return names
 
 
 def pass_over(block, words):

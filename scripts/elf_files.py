@@ -86,9 +86,9 @@ def address_tool():
     return next(filter(None, map(shutil.which, ADDRESS_TOOLS)), None)
 
 
-def chains_of(program, addresses, tool):
+def chains_of(program, addresses, tool, place=None):
     """Of each address the function that stands there, and behind it those that are inlined in one another, each with its
-    line; where no tool is there, the function alone."""
+    line; where no tool is there, the function alone. A line is FILE:LINE, or what `place` makes of the tool's text."""
     chains = {address: [(program.function_at(address), "")] for address in addresses}
     if not tool:
         return chains
@@ -97,7 +97,7 @@ def chains_of(program, addresses, tool):
     said = subprocess.run(words, input=given, capture_output=True, text=True, check=True).stdout
     for part in ("\n" + said).split("\n0x")[1:]:
         address, *lines = part.splitlines()
-        chain = [(function, place_of(place)) for function, place in zip(lines[::2], lines[1::2]) if function != "??"]
+        chain = [(function, (place or place_of)(text)) for function, text in zip(lines[::2], lines[1::2]) if function != "??"]
         if chain:
             chains[int(address, 16)] = chain[::-1]
     return chains

@@ -4,6 +4,8 @@ from dataclasses import dataclass
 from typing import Callable
 
 import block_lists
+import block_texts
+import differences
 import results
 
 TRAPS = "illegal misaligned memory-fault fetch-fault breakpoint unknown-call bad-length too-many-writes".split()
@@ -18,7 +20,8 @@ class Facts:
     receipt: results.Receipt | None  # of the call
     changes: dict  # what the call wrote at which keys; behind `storage` the storage
     named: set  # the keys that the lines name
-    difference: Callable  # of a run by so many workers from the one in order; empty where they are the same
+    names: dict  # what the list calls its keys of tables
+    difference: Callable  # the first lines in which the run in order and one by so many workers differ, or None
 
 
 def numeral(word, least, most, what):
@@ -28,10 +31,15 @@ def numeral(word, least, most, what):
     return int(word)
 
 
-def end_text(end, output):
+def end_text(end, shown=""):
+    """How a call ends, with its output as it is shown."""
     if end in TRAPS:
         return f"trapped {end}"
-    return f"{end}  {results.shown(output)}" if end in ("returned", "reverted") and output else end
+    return f"{end}  {shown}" if end in ("returned", "reverted") and shown else end
+
+
+def end_of_receipt(receipt):
+    return end_text(receipt.end, differences.shown(receipt.output))
 
 
 @dataclass
@@ -42,10 +50,13 @@ class End:
     output: str = ""
 
     def missed(self, facts):
-        """What is wanted and what came, where they differ."""
+        """What is wanted, what came, and where they part if they are long; nothing where it is met."""
         receipt = facts.receipt
-        if receipt.end != self.end or self.output not in ("", receipt.output):
-            return end_text(self.end, self.output), end_text(receipt.end, receipt.output)
+        if receipt.end != self.end:
+            return end_text(self.end, self.output and differences.shown(self.output)), end_of_receipt(receipt), ""
+        if self.output not in ("", receipt.output):
+            wanted, came, place = differences.of_fields(self.output, receipt.output)
+            return end_text(self.end, wanted), end_text(receipt.end, came), place
 
 
 @dataclass
@@ -54,7 +65,7 @@ class MostGas:
 
     def missed(self, facts):
         if facts.receipt.gas > self.most:
-            return f"gas at most {self.most}", f"gas {facts.receipt.gas}"
+            return f"gas at most {self.most}", f"gas {facts.receipt.gas}", ""
 
 
 @dataclass
@@ -69,14 +80,14 @@ class Change:
             came = facts.changes.get(self.key, "gone")
         else:
             came = facts.changes.get(self.key)
+        if came is None:
+            return differences.shown(self.change), self.left_alone(facts), ""
         if came != self.change:
-            return results.shown(self.change), self.said(came, facts.receipt)
+            return differences.of_fields(self.change, came)
 
-    def said(self, came, receipt):
-        if came is not None:
-            return results.shown(came)
-        end = "" if receipt.end == "returned" else f", since it ended {end_text(receipt.end, receipt.output)}"
-        return f"the call leaves {results.shown_key(self.key)} as it was{end}"
+    def left_alone(self, facts):
+        end = "" if facts.receipt.end == "returned" else f", since it ended {end_of_receipt(facts.receipt)}"
+        return f"the call leaves {results.shown_key(self.key, facts.names)} as it was{end}"
 
 
 @dataclass
@@ -88,8 +99,8 @@ class NoOther:
     def missed(self, facts):
         others = {key: change for key, change in facts.changes.items() if key not in facts.named}
         if others:
-            shown = [f"{results.shown_key(key)}: {results.shown(change)}" for key, change in others.items()]
-            return f"no other {self.what}", f"\n{'':16}".join(shown)
+            shown = [f"{results.shown_key(key, facts.names)}: {differences.shown(change)}" for key, change in others.items()]
+            return f"no other {self.what}", f"\n{'':16}".join(shown), ""
 
 
 @dataclass
@@ -101,14 +112,15 @@ class Same:
     def missed(self, facts):
         difference = facts.difference(self.workers)
         if difference:
-            return "what `rvstm seq` prints", difference
+            wanted, came, place = differences.of_lines(*difference)
+            return f"`rvstm seq` prints  {wanted}", came, place
 
 
 def end_of(words):
     kind, *rest = words
     if kind in ("returned", "reverted"):
         output = block_lists.joined(rest, LONGEST_OUTPUT, "an output") if rest else b""
-        return End(kind, results.hex_of(output) if rest else "")
+        return End(kind, block_texts.field(output) if rest else "")
     if kind == "trapped":
         if len(rest) != 1 or rest[0] not in TRAPS:
             raise ValueError(f"trapped: behind it stands one of {', '.join(TRAPS)}")
@@ -131,7 +143,7 @@ def change_of(words, is_storage):
         if is_storage or len(rest) != 2:
             raise ValueError("add: one amount stands behind it, and it stands behind a call")
         return Change(key, f"add {numeral(rest[1], 0, MOST_AMOUNT, 'an amount')}")
-    return Change(key, results.hex_of(block_lists.joined(rest, LONGEST_VALUE, "a value")))
+    return Change(key, block_texts.field(block_lists.joined(rest, LONGEST_VALUE, "a value")))
 
 
 def expectation_of(words, is_storage):

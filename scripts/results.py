@@ -42,6 +42,8 @@ def parts_of_all(lines):
     for number, line in enumerate(lines, 1):
         kind, parts = parts_of(line, number)
         yield kind, parts
+    if not kind:
+        raise ValueError("nothing was read: rvstm was refused or did not run, and its own line says why")
     if kind != "end":
         raise ValueError("the last line is not `end`, so it is no whole result")
 
@@ -75,11 +77,6 @@ def result_of(text):
     return receipts, storage
 
 
-def hex_of(data):
-    """A field of bytes."""
-    return data.hex() or "-"
-
-
 def shown(change):
     """Bytes, `gone` or `add N` for people."""
     if change in ("-", "gone"):
@@ -90,14 +87,21 @@ def shown(change):
     words = [change]
     if len(data) in NUMBER_SIZES:
         words.append(str(int.from_bytes(data, "little")))
-    if all(0x20 <= byte < 0x7F for byte in data):
+    if is_printable(data):
         words.append(f'"{data.decode()}"')
     return "  ".join(words)
 
 
-def shown_key(key):
+def shown_key(key, names=None):
+    """A key for people: its name, where it has one."""
+    if names and key in names:
+        return names[key]
     data = bytes.fromhex(key).rstrip(b"\0")
     return f'"{data.decode()}"' if data and is_text(data) else data.hex() or "00"
+
+
+def is_printable(data):
+    return all(0x20 <= byte < 0x7F for byte in data)
 
 
 def is_text(data):

@@ -5,6 +5,7 @@ import subprocess
 import tempfile
 from pathlib import Path
 
+import block_texts
 import sessions
 
 HIGHEST = 9_999_999_999
@@ -113,7 +114,7 @@ class Model:
         if name not in self.programs:
             path = self.folder / name.decode()
             path.write_bytes(file)
-            _, refusal = self.seq(b"rvblock 1\nprogram 0 %s\n" % name, self.folder)
+            _, refusal = self.seq(block_texts.text([name.decode()]).encode(), self.folder)
             if refusal:
                 path.unlink()
                 return sessions.refused(refusal)

@@ -6,6 +6,8 @@ import subprocess
 from pathlib import Path
 from typing import NamedTuple
 
+import block_texts
+
 LINE_LIMIT = 128  # bytes of a request's line with its LF
 WITH_BODY = (b"program", b"frame", b"try", b"begin")  # the words behind whose lines bytes follow
 DECIMAL, NAME, COUNT = rb"(?:0|[1-9][0-9]{0,9})", rb"[0-9a-f]{64}", rb"(?:[1-9][0-9]{0,2}|10[01][0-9]|102[0-4])"
@@ -179,7 +181,7 @@ def lines_of(text):
 
 
 def store_lines(store):
-    return b"".join(b"store %s %s\n" % (key, store[key]) for key in sorted(store))
+    return block_texts.store_lines({key.decode(): value.decode() for key, value in store.items()}).encode()
 
 
 def stored_in(text):
@@ -209,7 +211,7 @@ def receipts_of(result, is_brief=False):
 
 
 def dump_of(rules, store):
-    return b"rvblock 2\ngas %d\n" % rules + store_lines(store)
+    return block_texts.HEADS[rules].encode() + store_lines(store)
 
 
 def name_of(file):

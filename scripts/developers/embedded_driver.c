@@ -1,5 +1,5 @@
 /*
- * Drives sessions of the library for scripts/embedded: reads requests on standard input, and writes each answer.
+ * Drives sessions of the library for scripts/developers/embedded: reads requests on standard input, and writes each answer.
  *
  * A request is a line `SESSION CALL NUMBER LENGTH LENGTH` with as many bytes behind it: the number of one of the sessions, the
  * letter of a call (see below), a number, and the lengths of what it is given. An answer is a line

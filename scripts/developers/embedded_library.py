@@ -1,9 +1,10 @@
-"""Sessions of the library for C, by scripts/embedded_driver.c: a call's answer is a status, a line as `rvstm chain` has it, and bytes."""
+"""Sessions of the library for C, by embedded_driver.c: a call's answer is a status, a line as `rvstm chain` has it, and bytes."""
 
 import subprocess
 from pathlib import Path
 
-TOP = Path(__file__).resolve().parent.parent
+HERE = Path(__file__).resolve().parent
+TOP = HERE.parent.parent
 MADE = TOP / "crates/rvstm_c/out/embedded"
 ARCHIVE, SHARED = MADE / "librvstm.a", MADE / "librvstm.so"
 DONE, REFUSED, CLOSED, ALREADY_OPEN, FAILED, NO_MEMORY, SHORT_BUFFER, BAD_SETTINGS = range(8)
@@ -21,7 +22,7 @@ BAD_SETTINGS_TEXTS = (b"%d 1 0 0" % (MOST + 1), b"1 %d 0 0" % (MOST + 1), b"%d %
 def compile_driver(place, words):
     driver = f"{place}/driver"
     flags = ["-std=c11", "-Wall", "-Wextra", "-Wpedantic", "-Werror", "-O1", f"-I{TOP}/include"]
-    subprocess.run(["cc", *flags, *words, "-o", driver, f"{TOP}/scripts/embedded_driver.c", str(ARCHIVE)], check=True)
+    subprocess.run(["cc", *flags, *words, "-o", driver, f"{HERE}/embedded_driver.c", str(ARCHIVE)], check=True)
     return driver
 
 

@@ -5,6 +5,7 @@ import re
 import subprocess
 import threading
 
+import block_texts
 import session_model
 import sessions
 from sessions import Request, Settings
@@ -175,7 +176,7 @@ class RandomSession:
             store[self.choice.randbytes(32).hex().encode()] = self.choice.randbytes(length).hex().encode()
         text = sessions.dump_of(rules, store)
         if rules == 1 and self.choice.randrange(3) == 0:
-            text = b"rvblock 1\n" + sessions.store_lines(store)
+            text = block_texts.HEADS[0].encode() + sessions.store_lines(store)
         if self.choice.randrange(4) == 0:
             text = self.choice.choice((bad_block(self.choice, self.next_block()), self.next_block(), b"", text[:-1], text + b"end\n"))
         else:

@@ -2,6 +2,8 @@
 
 import subprocess
 
+import block_texts
+
 KEYS = 3  # that the input of a program has, 32 bytes each
 BUFFER = "addi a1,sp,-256"
 AMOUNTS = (0, 1, 7, 2**32 - 1, 2**32, 2**64 - 1)
@@ -38,8 +40,12 @@ def source(choice):
     return "".join(f"{line}\n" for line in lines)
 
 
+def input_of(choice, keys):
+    """An input of such a program: some of these keys."""
+    return b"".join(choice.choice(keys) for _ in range(KEYS))
+
+
 def make(rvstm, choice, path):
     """Assembles a random program; its file is path and its source stands beside it."""
-    with open(f"{path}.s", "w") as file:
-        file.write(source(choice))
-    subprocess.run([rvstm, "asm", f"{path}.s", "--out", path], check=True)
+    text = block_texts.written(f"{path}.s", source(choice))
+    subprocess.run([rvstm, "asm", text, "--out", path], check=True)
