@@ -1,13 +1,14 @@
 -- The lines of `chain`.
-use Rattle.std.proofs.Common.{◌≡◌, ◌++◌, ◌∙◌, ℕ, true, false, [], ◌∷◌, List, Option, Some, None, refl, ap, ap₂, codes, fold}
-use Rattle.std.proofs.lemmas.Bool.{and_from}
+use Rattle.std.proofs.Common.{◌≡◌, ◌&&◌, ◌++◌, ◌∙◌, ℕ, Bool, true, false, [], ◌∷◌, List, Option, Some, None, refl, ap, ap₂, codes, fold, if◌then◌else◌}
+use Rattle.std.proofs.lemmas.Bool.{and_from, and_parts}
 use Rattle.clap.specs.Simple.{Shape, built_leaf, inherited}
 use Rattle.clap.specs.Takes.{takes, turn_passes, walk_passes}
+use Rattle.clap.specs.ValueTests.{is_unsigned_in}
 use Rattle.clap.specs.Walk.{Held, Row, Text, Waiting, Walk, arg_by_id, idle, nothing_held, option, option_word, walked}
 use Rattle.clap.specs.declared.builder.value_parser.Reading.TheVariants as reading
 use Rattle.clap.specs.declared.parser.matches.ValueSource.TheVariants as source
 use Rattle.clap.proofs.OnLiterals.{clap_on_literals}
-use Rattle.cmdline.specs.Line.{ChainOf, chain_app, chain_of, is_operand, is_setting_number, is_worker_number, max_workers, most_setting, number_in, number_of, requested, rvstm_app, top_app}
+use Rattle.cmdline.specs.Line.{Asked, ChainOf, chain_app, chain_of, is_decimal, is_operand, is_setting_number, is_worker_number, max_workers, most_setting, number_in, number_of, requested, rvstm_app, top_app}
 use Rattle.cmdline.proofs.FileWords.{may_end, rows_at_end}
 use Rattle.cmdline.proofs.Numbers.{is_no_flag, number_is_read}
 use Rattle.cmdline.proofs.Operands.{at, value_passes, value_walked}
@@ -88,7 +89,7 @@ pub chain_workers_is_asked : (program word : Text) → is_worker_number word ≡
     → requested (program ∷ codes "chain" ∷ codes "--workers" ∷ word ∷ []) ≡ Some (ChainOf (Some (number_in word)) None None false false)
 unfolding clap_on_literals
 chain_workers_is_asked program word n =
-    ap (λ (w : Walk). Some (chain_of (rows_at_end chain_shape w))) (workers_lead word n).goes
+    ap (λ (w : Walk). chain_of (rows_at_end chain_shape w)) (workers_lead word n).goes
     ∙ ap (λ (number : Option ℕ). Some (ChainOf number None None false false)) (number_is_read 1 max_workers word n)
 
 -- the words `--frame-limit LIMIT --frame-gas GAS --digest --brief`, and what clap keeps of the first two, four, five and six
@@ -107,16 +108,36 @@ digest_rows limit gas = number_rows limit gas ++ row (codes "digest") (codes "tr
 abbrev setting_rows : Text → Text → List Row
 setting_rows limit gas = digest_rows limit gas ++ row (codes "brief") (codes "true") ∷ []
 
+-- a number of a setting is a whole number, which is read, and a decimal
+module _ (word : Text) (n : is_setting_number word ≡ true) where
+  is_whole : is_unsigned_in 0 most_setting word ≡ true
+  is_whole = (and_parts _ _ n).0
+
+  has_decimal : is_decimal word ≡ true
+  has_decimal = (and_parts _ _ n).1
+
+-- what the settings ask for, by whether their numbers are decimals
+abbrev asked_with : Option ℕ → Bool → Bool → Option ℕ → Option ℕ → Option Asked
+asked_with workers first second limit gas = if first && second then Some (ChainOf workers limit gas true true) else None
+
+settings_are_asked : (workers : Option ℕ) (limit gas : Text) → is_setting_number limit ≡ true → is_setting_number gas ≡ true
+    → asked_with workers (is_decimal limit) (is_decimal gas) (number_of limit) (number_of gas)
+    ≡ Some (ChainOf workers (Some (number_in limit)) (Some (number_in gas)) true true)
+settings_are_asked workers limit gas m n =
+    ap₂ (λ (a b : Bool). asked_with workers a b (number_of limit) (number_of gas)) (has_decimal limit m) (has_decimal gas n)
+    ∙ ap₂ (λ (a b : Option ℕ). Some (ChainOf workers a b true true))
+    (number_is_read 0 most_setting limit (is_whole limit m)) (number_is_read 0 most_setting gas (is_whole gas n))
+
 -- the same of the settings alone
 module _ (program limit gas : Text) (m : is_setting_number limit ≡ true) (n : is_setting_number gas ≡ true) where
   settings_lead : Leads chain_shape start (settings limit gas) (behind_flag (setting_rows limit gas))
   unfolding clap_on_literals
   settings_lead =
       leads_by (before_value [] (codes "frame-limit")) refl refl
-      (value_leads refl (is_no_flag 0 most_setting limit m)
-      (leads_by (before_value (limit_row limit) (codes "frame-gas")) refl (and_from _ _ (and_from _ _ m refl) refl)
-      (value_leads refl (is_no_flag 0 most_setting gas n)
-      (leads_by (behind_flag (digest_rows limit gas)) refl (and_from _ _ (and_from _ _ (and_from _ _ n refl) refl) refl)
+      (value_leads refl (is_no_flag 0 most_setting limit (is_whole limit m))
+      (leads_by (before_value (limit_row limit) (codes "frame-gas")) refl (and_from _ _ (and_from _ _ (is_whole limit m) refl) refl)
+      (value_leads refl (is_no_flag 0 most_setting gas (is_whole gas n))
+      (leads_by (behind_flag (digest_rows limit gas)) refl (and_from _ _ (and_from _ _ (and_from _ _ (is_whole gas n) refl) refl) refl)
       (leads_by (behind_flag (setting_rows limit gas)) refl refl arrived)))))
 
   pub chain_settings_is_taken : takes rvstm_app (program ∷ codes "chain" ∷ settings limit gas) ≡ true
@@ -126,8 +147,8 @@ module _ (program limit gas : Text) (m : is_setting_number limit ≡ true) (n : 
   pub chain_settings_is_asked : requested (program ∷ codes "chain" ∷ settings limit gas) ≡ Some (ChainOf None (Some (number_in limit)) (Some (number_in gas)) true true)
   unfolding clap_on_literals
   chain_settings_is_asked =
-      ap (λ (w : Walk). Some (chain_of (rows_at_end chain_shape w))) settings_lead.goes
-      ∙ ap₂ (λ (a b : Option ℕ). Some (ChainOf None a b true true)) (number_is_read 0 most_setting limit m) (number_is_read 0 most_setting gas n)
+      ap (λ (w : Walk). chain_of (rows_at_end chain_shape w)) settings_lead.goes
+      ∙ settings_are_asked None limit gas m n
 
 -- the same of `--workers N` and the settings
 abbrev worker_row : Text → List Row
@@ -140,10 +161,10 @@ module _ (program word limit gas : Text) (w : is_worker_number word ≡ true) (m
       leads_by (before_value [] (codes "workers")) refl refl
       (value_leads refl (is_no_flag 1 max_workers word w)
       (leads_by (before_value (worker_row word) (codes "frame-limit")) refl (and_from _ _ (and_from _ _ w refl) refl)
-      (value_leads refl (is_no_flag 0 most_setting limit m)
-      (leads_by (before_value (worker_row word ++ limit_row limit) (codes "frame-gas")) refl (and_from _ _ (and_from _ _ m refl) refl)
-      (value_leads refl (is_no_flag 0 most_setting gas n)
-      (leads_by (behind_flag (worker_row word ++ digest_rows limit gas)) refl (and_from _ _ (and_from _ _ (and_from _ _ n refl) refl) refl)
+      (value_leads refl (is_no_flag 0 most_setting limit (is_whole limit m))
+      (leads_by (before_value (worker_row word ++ limit_row limit) (codes "frame-gas")) refl (and_from _ _ (and_from _ _ (is_whole limit m) refl) refl)
+      (value_leads refl (is_no_flag 0 most_setting gas (is_whole gas n))
+      (leads_by (behind_flag (worker_row word ++ digest_rows limit gas)) refl (and_from _ _ (and_from _ _ (and_from _ _ (is_whole gas n) refl) refl) refl)
       (leads_by (behind_flag (worker_row word ++ setting_rows limit gas)) refl refl arrived)))))))
 
   pub chain_all_is_taken : takes rvstm_app (program ∷ codes "chain" ∷ codes "--workers" ∷ word ∷ settings limit gas) ≡ true
@@ -154,6 +175,6 @@ module _ (program word limit gas : Text) (w : is_worker_number word ≡ true) (m
       ≡ Some (ChainOf (Some (number_in word)) (Some (number_in limit)) (Some (number_in gas)) true true)
   unfolding clap_on_literals
   chain_all_is_asked =
-      ap (λ (end : Walk). Some (chain_of (rows_at_end chain_shape end))) all_lead.goes
-      ∙ ap (λ (a : Option ℕ). Some (ChainOf a (number_of limit) (number_of gas) true true)) (number_is_read 1 max_workers word w)
-      ∙ ap₂ (λ (a b : Option ℕ). Some (ChainOf (Some (number_in word)) a b true true)) (number_is_read 0 most_setting limit m) (number_is_read 0 most_setting gas n)
+      ap (λ (end : Walk). chain_of (rows_at_end chain_shape end)) all_lead.goes
+      ∙ ap (λ (a : Option ℕ). asked_with a (is_decimal limit) (is_decimal gas) (number_of limit) (number_of gas)) (number_is_read 1 max_workers word w)
+      ∙ settings_are_asked (Some (number_in word)) limit gas m n

@@ -1,5 +1,5 @@
 -- The command line of `rvstm`, in clap's words.
-use Rattle.std.specs.Prelude.{◌≡◌, ℕ, Bool, true, false, not, ◌==◌, List, [], ◌∷◌, Option, Some, None, Result}
+use Rattle.std.specs.Prelude.{◌≡◌, ℕ, Bool, true, false, not, ◌&&◌, ◌||◌, ◌==◌, List, [], ◌∷◌, Option, Some, None, Result}
 use Rattle.std.specs.Prelude.{MatchResult, codes, option_and_then, option_map, if◌then◌else◌}
 use Rattle.std.specs.Option.{option_map_or}
 use Rattle.std.specs.Str.{bytes_eq}
@@ -211,10 +211,22 @@ drive_of rows = option_and_then (λ file. option_and_then (λ workers. option_ma
 abbrev pub written_of : (Text → Text → Asked) → List Row → Option Asked
 written_of ask rows = option_and_then (λ file. option_map (ask file) (first_of (codes "out") rows)) (first_of (codes "file") rows)
 
--- what `chain` asks for, from what clap found
-abbrev pub chain_of : List Row → Asked
-chain_of rows = ChainOf (number_at (codes "workers") rows) (number_at (codes "frame-limit") rows) (number_at (codes "frame-gas") rows)
-    (flag_at (codes "digest") rows) (flag_at (codes "brief") rows)
+-- a word that clap takes for a number is a decimal: it has no sign, and no zero before another digit
+abbrev pub is_decimal : Text → Bool
+is_decimal [] = false
+is_decimal (x ∷ []) = true
+is_decimal (x ∷ y ∷ rest) = not (x == 43 || x == 48)
+
+-- so is the word of an option, where it stands
+abbrev pub is_decimal_at : Text → List Row → Bool
+is_decimal_at option rows = option_map_or is_decimal (first_of option rows) true
+
+-- what `chain` asks for, from what clap found; nothing where a number of a setting is no decimal
+abbrev pub chain_of : List Row → Option Asked
+chain_of rows = if is_decimal_at (codes "frame-limit") rows && is_decimal_at (codes "frame-gas") rows
+    then Some (ChainOf (number_at (codes "workers") rows) (number_at (codes "frame-limit") rows) (number_at (codes "frame-gas") rows)
+    (flag_at (codes "digest") rows) (flag_at (codes "brief") rows))
+    else None
 
 -- what a subcommand asks for, from its name and what clap found for its arguments
 abbrev pub asked_in : Text × List Row → Option Asked
@@ -235,7 +247,7 @@ asked_in found = if bytes_eq found.0 (codes "run")
     else if bytes_eq found.0 (codes "migrate")
     then written_of MigrateOf found.1
     else if bytes_eq found.0 (codes "chain")
-    then Some (chain_of found.1)
+    then chain_of found.1
     else None
 
 -- what a whole line, with the program's name first, asks for, where clap accepts it
@@ -255,9 +267,9 @@ is_worker_number word = is_unsigned_in 1 max_workers word
 abbrev pub is_call_number : Text → Bool
 is_call_number word = is_unsigned_in 0 last_call word
 
--- the word gives a whole number of 0 to `most_setting`
+-- the word is a decimal of 0 to `most_setting`
 abbrev pub is_setting_number : Text → Bool
-is_setting_number word = is_unsigned_in 0 most_setting word
+is_setting_number word = is_unsigned_in 0 most_setting word && is_decimal word
 
 -- the answer is this request, or memory ran out
 abbrev pub AnswersUnlessMemory : Result (Option Request) Error → Asked → Type 0

@@ -55,7 +55,7 @@ fn program<'a>(alloc: Global) -> Command<'a>
 {
     Command::new(alloc, "rvstm")
         .about("Executes blocks of RV32IM contract calls")
-        .version("0.1.0")
+        .version("0.2.0")
         .subcommand_required(true)
 }
 

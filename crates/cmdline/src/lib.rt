@@ -94,7 +94,8 @@ pub enum Request<'a> {
 /// or unknown, a word is missing or surplus, an option is unknown or repeated, the number of workers is
 /// not 1 to 32, the number of the call is not 0 to 1023, a number of `--frame-limit` or `--frame-gas` is
 /// not 0 to 9,999,999,999, or memory ran out. Help and the version are errors too; for them `use_stderr`
-/// is false. `None` where clap accepts a line but gives no value that it demands.
+/// is false. `None` where clap accepts a line, but such a number has a sign or a zero before another digit,
+/// or clap gives no value that it demands.
 pub fn request_of<'a>(alloc: Global, words: &'a [String]) -> Result<Option<Request<'a>>, Error>
     // an accepted line asks for exactly this
     ensures answer { IfOk result (λ r.
@@ -154,7 +155,7 @@ pub fn request_of<'a>(alloc: Global, words: &'a [String]) -> Result<Option<Reque
         → map string_bytes words.now ≡ program ∷ codes "chain" ∷ codes "--workers" ∷ word ∷ []
         → is_worker_number word ≡ true
         → AnswersUnlessMemory result (ChainOf (Some (number_in word)) None None false false) }
-    // so is `chain --frame-limit A --frame-gas B --digest --brief`, where A and B are whole numbers of 0 to 9,999,999,999
+    // so is `chain --frame-limit A --frame-gas B --digest --brief`, where A and B are decimals of 0 to 9,999,999,999
     ensures chain_settings { (program limit gas : List ℕ)
         → map string_bytes words.now ≡ program ∷ codes "chain" ∷ codes "--frame-limit" ∷ limit ∷ codes "--frame-gas" ∷ gas ∷ codes "--digest" ∷ codes "--brief" ∷ []
         → is_setting_number limit ≡ true → is_setting_number gas ≡ true

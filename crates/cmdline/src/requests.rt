@@ -2,7 +2,7 @@
 
 ghost use Rattle.std.specs.Prelude.{◌≡◌, option_and_then, option_map, codes};
 ghost use Rattle.clap.specs.Words.{Text, first_of, found_of, rows_of, subcommand_rows_of};
-ghost use Rattle.cmdline.specs.Line.{AsmOf, Asked, ConflictsOf, DebugOf, DisOf, MigrateOf, SeqOf, asked_by, asked_in, chain_of, drive_of, flag_at, number_at, numbered_of, run_of, written_of};
+ghost use Rattle.cmdline.specs.Line.{AsmOf, Asked, ConflictsOf, DebugOf, DisOf, MigrateOf, SeqOf, asked_by, asked_in, chain_of, drive_of, flag_at, is_decimal, is_decimal_at, number_at, numbered_of, run_of, written_of};
 
 use crate::Request;
 use clap::ArgMatches;
@@ -21,7 +21,7 @@ pub(crate) fn request_in<'a>(matches: &ArgMatches<'a>) -> Option<Request<'a>>
         ("dis", found) => dis_in(found),
         ("debug", found) => debug_in(found),
         ("migrate", found) => migrate_in(found),
-        ("chain", found) => Some(chain_in(found)),
+        ("chain", found) => chain_in(found),
         _ => None,
     }
 }
@@ -115,17 +115,21 @@ fn migrate_in<'a>(found: &ArgMatches<'a>) -> Option<Request<'a>>
     Some(Request::Migrate { file, out })
 }
 
-/// The request of what clap found for `chain`.
-fn chain_in<'a>(found: &ArgMatches<'a>) -> Request<'a>
-    ensures { asked_by result ≡ chain_of (rows_of (found_of found.now)) }
+/// The request of what clap found for `chain`; `None` where a number of a setting is no decimal.
+fn chain_in<'a>(found: &ArgMatches<'a>) -> Option<Request<'a>>
+    ensures { option_map asked_by result ≡ chain_of (rows_of (found_of found.now)) }
 {
-    Request::Chain {
+    let is_decimal = is_decimal_found(found, "frame-limit") && is_decimal_found(found, "frame-gas");
+    if !is_decimal {
+        return None;
+    }
+    Some(Request::Chain {
         workers: number_found(found, "workers"),
         frame_limit: number_found(found, "frame-limit"),
         frame_gas: number_found(found, "frame-gas"),
         digest: flag_found(found, "digest"),
         brief: flag_found(found, "brief"),
-    }
+    })
 }
 
 /// The FILE and the FILE of `--out` that clap found.
@@ -147,6 +151,28 @@ fn flag_found(found: &ArgMatches<'_>, flag: &str) -> bool
     match found.get_str(flag) {
         Some(text) => text == "true",
         None => false,
+    }
+}
+
+/// Whether the word that clap found for an option, where it found one, is a decimal.
+#[tactic(auto, using(crate::proofs::Lines::first_in_rows))]
+fn is_decimal_found(found: &ArgMatches<'_>, option: &str) -> bool
+    ensures { result ≡ is_decimal_at option.now (rows_of (found_of found.now)) }
+{
+    match found.get_str(option) {
+        Some(word) => is_decimal_word(word.as_bytes()),
+        None => true,
+    }
+}
+
+/// Whether a word that clap takes for a number has no sign, and no zero before another digit.
+fn is_decimal_word(word: &[u8]) -> bool
+    ensures { result ≡ is_decimal word.now }
+{
+    match word {
+        [] => false,
+        [_] => true,
+        [first, ..] => *first != b'+' && *first != b'0',
     }
 }
 

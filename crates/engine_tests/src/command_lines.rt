@@ -224,7 +224,7 @@ fn has(text: &[u8], piece: &str) -> bool {
 const HELPS: &[(&str, &str)] = &[
     ("rvstm --help", "Executes blocks of RV32IM contract calls"),
     ("rvstm seq --help", "The block file"),
-    ("rvstm --version", "0.1.0"),
+    ("rvstm --version", "0.2.0"),
 ];
 
 /// Whether a command line prints a piece, and nothing on standard error.
@@ -259,6 +259,14 @@ const WRONG_LINES: &[(&[u8], &str)] = &[
     (b"rvstm debug echo.block", "error: "),
     (b"rvstm debug echo.block --call 1024", "error: "),
     (b"rvstm chain --frame-gas 10000000000", "error: "),
+    (
+        b"rvstm chain --frame-gas +5",
+        "error: a value is missing, or a number has a sign or a leading zero\n",
+    ),
+    (
+        b"rvstm chain --frame-limit 007",
+        "error: a value is missing, or a number has a sign or a leading zero\n",
+    ),
     (b"rvstm chain --digest --digest", "error: "),
     (
         b"rvstm seq \xff.block",

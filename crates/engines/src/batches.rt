@@ -1,12 +1,18 @@
-//! Which calls of a frame run by threads together.
+//! Which calls of a frame run in order, and which by threads together.
 
 ghost use Rattle.std.specs.Prelude.{◌≡◌, ◌≤◌, IfSome};
 
 use crate::thread_costs::{Shown, pays};
 use rv_ledger::Receipt;
 
+/// How many calls of a frame run in order first.
+pub(crate) const FIRST_CALLS: usize = 2;
+
+/// How many calls run in order behind those where they used little gas: all of them show what a call takes.
+const NEXT_CALLS: usize = 6;
+
 /// The gas that a batch is expected to use at least, where so many calls are left: threads take some hundred microseconds
-/// to begin, and this gas a few milliseconds.
+/// to begin, and this gas a few milliseconds. Where the first calls used as much, no others run in order.
 const LEAST_GAS: u64 = 1_000_000;
 
 /// The gas that a batch is expected to use at most.
@@ -61,10 +67,25 @@ impl Batches {
         }
     }
 
+    /// How many calls run in order behind the first ones.
+    pub(crate) fn calls_in_order(&self) -> usize {
+        if self.gas < LEAST_GAS { NEXT_CALLS } else { 0 }
+    }
+
+    /// Other calls were run in order, too.
+    pub(crate) fn with(self, others: &[Receipt], reads: u64) -> Batches {
+        let last = self.last.and(Shown::of(others, reads));
+        Batches {
+            workers: self.workers,
+            last,
+            gas: last.gas,
+        }
+    }
+
     /// The next batch where so many calls are left; None where they run in order, as threads do not pay.
     ///
-    /// It is expected to use a million gas or, where that is more, twice the gas of all calls before it, and at most 160 million.
-    /// Each worker has as many calls of it, but where too few are left.
+    /// It is expected to use a million gas or, where that is more, twice the gas of all calls before it, and at most 160 million;
+    /// and half of the steps that its threads are allowed. Each worker has as many calls of it, but where too few are left.
     pub(crate) fn next(&self, left: usize) -> Option<Batch>
         ensures { IfSome result (λ batch. (1 ≤ batch.calls) × (batch.calls ≤ left)) }
     {
@@ -72,17 +93,25 @@ impl Batches {
             return None;
         }
         let gas_of_each = self.last.gas_of_each().max(1);
-        let most = self.gas.saturating_mul(2).max(LEAST_GAS).min(MOST_GAS);
-        // As many calls for each worker.
-        let workers = self.workers.max(1);
-        let rounds = ((most / gas_of_each) as usize / workers).saturating_add(1);
-        let calls = rounds.saturating_mul(workers).max(1).min(left);
-        let most = self.gas / GAS_BEFORE_A_STEP;
-        let most = most.max(LEAST_STEPS).min(MOST_STEPS);
+        let steps = (self.gas / GAS_BEFORE_A_STEP)
+            .max(LEAST_STEPS)
+            .min(MOST_STEPS);
+        let calls = self.most_calls(gas_of_each, steps).max(1).min(left);
         Some(Batch {
             calls,
-            work_limit: work_limit(self.workers, gas_of_each, calls, most),
+            work_limit: work_limit(self.workers, gas_of_each, calls, steps),
         })
+    }
+
+    /// How many calls of this gas a batch has at most, where its threads are allowed so many steps together: as many for each
+    /// worker.
+    fn most_calls(&self, gas_of_each: u64, steps: u64) -> usize {
+        let gas = self.gas.saturating_mul(2).max(LEAST_GAS).min(MOST_GAS);
+        let steps_of_each = self.last.reads_of_each().saturating_add(STEPS_OF_A_CALL);
+        let calls = (gas / gas_of_each.max(1)).min(steps / 2 / steps_of_each.max(1));
+        let workers = self.workers.max(1);
+        let rounds = (calls as usize / workers).saturating_add(1);
+        rounds.saturating_mul(workers)
     }
 
     /// A batch was run by threads, and these are its receipts.

@@ -5,7 +5,7 @@ ghost use Rattle.std.specs.Thread.{IsSync};
 ghost use Rattle.overlay.specs.Overlay.{with_changes};
 ghost use Rattle.rv_step.specs.Fold.{receipts_of, store_after};
 
-use crate::batches::Batches;
+use crate::batches::{Batches, FIRST_CALLS};
 use overlay::Overlay;
 use rv_ledger::{Block, Call, Job, Receipt, Store};
 use seq_exec::{run_counted, run_over};
@@ -14,9 +14,6 @@ use std::sync::Wait;
 use std::thread::Threads;
 use turns::CallRunner;
 use workers::Executor;
-
-/// How many calls of a frame run in order, to show what a call takes.
-const FIRST_CALLS: usize = 8;
 
 /// Runs the first calls of a frame in order, and the others by threads where that pays by what the ones before took: a batch at
 /// a time, with a limit for the steps of each thread. Where a run by threads is refused, as by its limit or since it wants more
@@ -45,7 +42,29 @@ impl<'a, R: Threads + Wait + Sync> ByThreads<'a, R> {
         }
     }
 
-    /// Runs the calls of a frame behind those that were run, by threads where that pays.
+    /// Runs the calls of a frame behind the first ones: some in order where those used little gas, and the others by threads where
+    /// that pays.
+    #[tactic(auto, using(overlay::proofs::Receipts::receipts_append, overlay::proofs::Receipts::after_append))]
+    fn run_behind(
+        &mut self,
+        alloc: Global,
+        base: &Store,
+        over: &mut Overlay,
+        shown: Batches,
+        calls: &[Call],
+    ) -> Result<Vec<Receipt>, AllocError>
+        ensures receipts { IfOk result (λ r. r.items ≡ receipts_of calls.now (with_changes base.now over.old)) }
+        ensures store { OnOk result (with_changes base.now over.new ≡ store_after calls.now (with_changes base.now over.old)) }
+    {
+        let (next, others) = calls.split_at(calls.len().min(shown.calls_in_order()));
+        let (mut receipts, reads) = run_counted(alloc, base, over, next)?;
+        let shown = shown.with(receipts.as_slice(), reads);
+        let mut more = self.run_others(alloc, base, over, shown, others)?;
+        receipts.append(&mut more)?;
+        Ok(receipts)
+    }
+
+    /// Runs the calls of a frame behind those that ran in order, by threads where that pays.
     fn run_others(
         &mut self,
         alloc: Global,
@@ -120,7 +139,7 @@ impl<R: Threads + Wait + Sync> CallRunner for ByThreads<'_, R> {
         let (first, others) = calls.split_at(calls.len().min(FIRST_CALLS));
         let (mut receipts, reads) = run_counted(alloc, base, over, first)?;
         let shown = Batches::new(self.workers, receipts.as_slice(), reads);
-        let mut more = self.run_others(alloc, base, over, shown, others)?;
+        let mut more = self.run_behind(alloc, base, over, shown, others)?;
         receipts.append(&mut more)?;
         Ok(receipts)
     }

@@ -89,6 +89,9 @@ where
     }
 }
 
+/// What is printed where clap takes a line that asks for nothing.
+const NO_REQUEST: &str = "error: a value is missing, or a number has a sign or a leading zero";
+
 /// The request of a command line. Where there is none, prints why, and refuses with the exit status.
 fn read_request<'a, W: Destination, E: Destination>(
     alloc: Global,
@@ -98,7 +101,7 @@ fn read_request<'a, W: Destination, E: Destination>(
 ) -> Result<Request<'a>, u8> {
     match request_of(alloc, words) {
         Ok(Some(request)) => Ok(request),
-        Ok(None) => Err(refuse_line("error: a value is missing", errors)),
+        Ok(None) => Err(refuse_line(NO_REQUEST, errors)),
         Err(error) => Err(print_error(alloc, &error, out, errors)),
     }
 }

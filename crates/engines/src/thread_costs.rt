@@ -37,6 +37,15 @@ impl Shown {
         }
     }
 
+    /// What these calls and others took.
+    pub(crate) fn and(self, others: Shown) -> Shown {
+        Shown {
+            calls: self.calls.saturating_add(others.calls),
+            gas: self.gas.saturating_add(others.gas),
+            reads: self.reads.saturating_add(others.reads),
+        }
+    }
+
     /// The gas of a call, in the mean; 0 where there is none.
     pub(crate) fn gas_of_each(self) -> u64 {
         self.gas.checked_div(self.calls).unwrap_or(0)

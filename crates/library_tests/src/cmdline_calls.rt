@@ -195,7 +195,7 @@ const HELPS: &[(&str, &str)] = &[
     ("rvstm seq --help", "The block file"),
     ("rvstm drive --help", "--workers <N>"),
     ("rvstm debug --help", "--call <N>"),
-    ("rvstm --version", "rvstm 0.1.0"),
+    ("rvstm --version", "rvstm 0.2.0"),
 ];
 
 /// Whether a line is answered on standard output, by a text with this part.

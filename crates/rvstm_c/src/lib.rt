@@ -39,12 +39,12 @@ use std::alloc::{AllocFailed, Global};
 use turns::Settings;
 
 /// The version: major * 1,000,000 + minor * 1,000 + patch.
-const VERSION: u32 = 1_000;
+const VERSION: u32 = 2_000;
 
 /// The library's version: major * 1,000,000 + minor * 1,000 + patch.
 #[unsafe(no_mangle)]
 pub extern "C" fn rvstm_version() -> u32
-    ensures { result ≡ 1000 }
+    ensures { result ≡ 2000 }
 {
     VERSION
 }

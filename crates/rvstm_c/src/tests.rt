@@ -21,7 +21,7 @@ fn assert_answered(rt: &impl Abort, alloc: Global, handle: &mut Handle, steps: &
 
 #[test]
 fn sessions_are_opened_and_closed(rt: HostRuntime) {
-    assert!(rt; rvstm_version() == 1_000);
+    assert!(rt; rvstm_version() == 2_000);
     let mut handle = zeros();
     assert_answered(&rt, rt.alloc(), &mut handle, UNOPENED);
     assert_answered(&rt, rt.alloc(), &mut handle, OPENINGS);
