@@ -15,9 +15,6 @@ const NEXT_CALLS: usize = 6;
 /// to begin, and this gas a few milliseconds. Where the first calls used as much, no others run in order.
 const LEAST_GAS: u64 = 1_000_000;
 
-/// The gas that a batch is expected to use at most.
-const MOST_GAS: u64 = 160_000_000;
-
 /// How many steps under the lock a call of a batch is allowed, in the mean, beside those for its gas.
 const STEPS_OF_A_CALL: u64 = 16;
 
@@ -54,6 +51,8 @@ pub(crate) struct Batches {
     last: Shown,
     /// The gas of all calls that were run.
     gas: u64,
+    /// The gas that threads have saved: that of the calls that they ran, less one thread's part of it.
+    saved: u64,
 }
 
 impl Batches {
@@ -64,6 +63,7 @@ impl Batches {
             workers,
             last,
             gas: last.gas,
+            saved: 0,
         }
     }
 
@@ -79,13 +79,16 @@ impl Batches {
             workers: self.workers,
             last,
             gas: last.gas,
+            saved: 0,
         }
     }
 
     /// The next batch where so many calls are left; None where they run in order, as threads do not pay.
     ///
-    /// It is expected to use a million gas or, where that is more, twice the gas of all calls before it, and at most 160 million;
-    /// and half of the steps that its threads are allowed. Each worker has as many calls of it, but where too few are left.
+    /// By what the calls before it took it is expected to take no longer than threads have saved, and one call more; or to use a
+    /// million gas, where that is more. So a batch that is given up costs what threads have saved, and one call's time. It is
+    /// expected to make half of the steps that its threads are allowed. Each worker has as many calls of it, but where too few are
+    /// left.
     pub(crate) fn next(&self, left: usize) -> Option<Batch>
         ensures { IfSome result (λ batch. (1 ≤ batch.calls) × (batch.calls ≤ left)) }
     {
@@ -106,12 +109,16 @@ impl Batches {
     /// How many calls of this gas a batch has at most, where its threads are allowed so many steps together: as many for each
     /// worker.
     fn most_calls(&self, gas_of_each: u64, steps: u64) -> usize {
-        let gas = self.gas.saturating_mul(2).max(LEAST_GAS).min(MOST_GAS);
+        let workers = self.workers.max(1);
+        let gas = self
+            .saved
+            .saturating_add(gas_of_each)
+            .saturating_mul(workers as u64)
+            .max(LEAST_GAS);
         let steps_of_each = self.last.reads_of_each().saturating_add(STEPS_OF_A_CALL);
         let calls = (gas / gas_of_each.max(1)).min(steps / 2 / steps_of_each.max(1));
-        let workers = self.workers.max(1);
-        let rounds = (calls as usize / workers).saturating_add(1);
-        rounds.saturating_mul(workers)
+        let rounds = (calls as usize).saturating_add(workers - 1) / workers;
+        rounds.max(1).saturating_mul(workers)
     }
 
     /// A batch was run by threads, and these are its receipts.
@@ -121,7 +128,11 @@ impl Batches {
             .reads_of_each()
             .saturating_mul(receipts.len() as u64);
         self.last = Shown::of(receipts, reads);
-        self.gas = self.gas.saturating_add(self.last.gas);
+        let gas = self.last.gas;
+        self.gas = self.gas.saturating_add(gas);
+        self.saved = self
+            .saved
+            .saturating_add(gas - gas / (self.workers as u64).max(1));
     }
 }
 
