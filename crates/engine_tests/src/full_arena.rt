@@ -21,14 +21,19 @@ const FLOOD: &str = "addi s0,sp,-64\nlw s1,0(a0)\nlw s2,4(a0)\naddi s3,x0,0\nadd
 /// The gas limit of each call.
 const GAS: u32 = 200_000;
 
-/// How many keys a call behind the first ones writes, each call keys of its own: so no key has many versions to look through.
-const MANY: u32 = 256;
+/// The first key that a call writes, and the one behind the last. The calls behind the first ones write 256 keys.
+const MANY: (u32, u32) = (256, 512);
 
-/// How many calls, each of which writes one of the keys that all read, are held until those behind them have run.
-const HELD: u64 = 5;
+/// How many workers there are. The first calls are as many, each of which writes one of the keys that all read: so each worker
+/// comes to the gate first with one of them.
+const WORKERS: u32 = 5;
 
-/// How many calls of 256 writes run behind those. They run again whenever one that was held goes on, so they write
-/// 1,280,000 versions and more by their fifth run.
+/// How many workers are held, each until the calls behind have run once more. The last one goes on before the arena is full: a
+/// worker that was held then would look in vain.
+const HELD: u64 = 4;
+
+/// How many calls of 256 writes run behind the first ones. They run again whenever a worker that was held goes on, so they write
+/// 1,280,000 versions by their fifth run.
 const ROUND: usize = 1_000;
 
 /// How often they have run, all together, when the arena is full: it has room for 1,048,576 versions.
@@ -92,12 +97,11 @@ fn flood(alloc: Global) -> Result<Job, Fail> {
     let file = assembled(alloc, &mut FLOOD.as_bytes())?;
     let image = image_of(alloc, file.as_slice())?;
     let mut calls = Vec::new(alloc);
-    for call in 0..HELD as u32 + ROUND as u32 {
-        let (first, end) = if u64::from(call) < HELD {
+    for call in 0..WORKERS + ROUND as u32 {
+        let (first, end) = if call < WORKERS {
             (call, call + 1)
         } else {
-            let first = call.wrapping_mul(MANY);
-            (first, first.wrapping_add(MANY))
+            MANY
         };
         let mut input = first.to_le_bytes().to_vec(alloc)?;
         input.extend_from_slice(&end.to_le_bytes())?;
@@ -110,7 +114,7 @@ fn flood(alloc: Global) -> Result<Job, Fail> {
 fn is_refused<R: Threads + Wait + Sync>(rt: &R, alloc: Global, job: Job) -> bool {
     let mut executor = Executor::new(alloc);
     let gate = Rounds::new();
-    let answer = executor.run_block_with(rt, alloc, job, 6, &gate);
+    let answer = executor.run_block_with(rt, alloc, job, WORKERS as usize, &gate);
     let runs = gate.passed.load(Ordering::SeqCst);
     matches!(answer, Err(RunFault::ArenaFull)) && executor.shares().is_empty() && runs >= RUNS
 }
