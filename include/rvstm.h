@@ -1,5 +1,7 @@
-/*
+/**
+ * @file
  * Sessions of blocks: block after block, in order, over a storage that is kept in memory, as `rvstm chain` runs them.
+ *
  * docs/embedding.md has examples, and says how to link. docs/formats.md (Sessions) says what each request does, and which bytes
  * it is answered.
  *
@@ -29,158 +31,256 @@
 extern "C" {
 #endif
 
-/* A session, which owns its storage, its programs and its last answer. */
+/**
+ * The version of this header: major * 1,000,000 + minor * 1,000 + patch. This one is of 0.2.0. rvstm_version() has that of the
+ * library. While the major number is 0, a program that was compiled with another minor number has to be compiled anew.
+ */
+#define RVSTM_VERSION 2000
+
+/** A session, which owns its storage, its programs and its last answer. */
 typedef struct {
-    void *at;
-    bool full;
+    void *at;  /**< the library's own */
+    bool full; /**< the library's own */
 } rvstm_session;
 
-/* What a call answers. */
-enum {
-    RVSTM_DONE = 0,
-    RVSTM_REFUSED = 1,      /* the request is refused, by every node that got the same requests; rvstm_refusal has the parts */
-    RVSTM_CLOSED = 2,       /* the session was not opened, or is closed; nothing was done */
-    RVSTM_ALREADY_OPEN = 3, /* the session is open; nothing was done */
-    RVSTM_FAILED = 4,       /* this machine ran out of memory for the request; all is as it was, and it may be given again */
-    RVSTM_NO_MEMORY = 5,    /* memory for the session ran out, and it is not open */
-    RVSTM_SHORT_BUFFER = 6, /* the buffer is shorter than the answer; nothing was copied */
-    RVSTM_BAD_SETTINGS = 7  /* a number of the settings is too great; nothing was opened */
+/** What a call answers. */
+enum rvstm_status {
+    RVSTM_DONE = 0,         /**< the call did what it says */
+    RVSTM_REFUSED = 1,      /**< the request is refused, by every node that got the same requests; rvstm_refusal() has the parts */
+    RVSTM_CLOSED = 2,       /**< the session was not opened, or is closed; nothing was done */
+    RVSTM_ALREADY_OPEN = 3, /**< the session is open; nothing was done */
+    RVSTM_FAILED = 4,       /**< this machine ran out of memory for the request; all is as it was, and it may be given again */
+    RVSTM_NO_MEMORY = 5,    /**< memory for the session ran out, and it is not open */
+    RVSTM_SHORT_BUFFER = 6, /**< the buffer is shorter than the answer; nothing was copied */
+    RVSTM_BAD_SETTINGS = 7  /**< a number of the settings is too great; nothing was opened */
 };
 
-/* The gas of a frame has no bound. */
+/** The gas of a frame has no bound. */
 #define RVSTM_NO_LIMIT UINT64_MAX
 
-/* What a session is opened with. Sessions of equal settings answer equal requests alike, where none is answered RVSTM_FAILED. */
+/** What a session is opened with. Sessions of equal settings answer equal requests alike, where none is answered RVSTM_FAILED. */
 typedef struct {
-    uint64_t frame_limit; /* the greatest length of a frame, in bytes: 0 to 9,999,999,999 */
-    uint64_t frame_gas;   /* the greatest sum of the gas limits of a frame's calls: 0 to 9,999,999,999, or RVSTM_NO_LIMIT */
-    bool digest;          /* a digest of the answers is kept */
-    bool brief;           /* receipts have no `regs` lines */
+    uint64_t frame_limit; /**< the greatest length of a frame, in bytes: 0 to 9,999,999,999 */
+    uint64_t frame_gas;   /**< the greatest sum of the gas limits of a frame's calls: 0 to 9,999,999,999, or RVSTM_NO_LIMIT */
+    bool digest;          /**< a digest of the answers is kept */
+    bool brief;           /**< receipts have no `regs` lines */
 } rvstm_settings;
 
-/* The parts of a refusal or a failure. The texts end with zeros, and are those of docs/messages.md. All is zero where a request
- * is done. */
+/**
+ * The parts of a refusal or a failure. The texts end with zeros, and are those of docs/messages.md. All is zero where a request
+ * is done.
+ */
 typedef struct {
-    size_t line;     /* the number of the block's line, from 1; 0 where there is none */
-    uint32_t number; /* the number within the area, 1 to 16 */
-    uint8_t area[8]; /* block, elf, file, frame or request; of a failure block, elf, seq or output */
-    uint8_t name[24];
+    size_t line;      /**< the number of the block's line, from 1; 0 where there is none */
+    uint32_t number;  /**< the number within the area, 1 to 16 */
+    uint8_t area[8];  /**< block, elf, file, frame or request; of a failure block, elf, seq or output */
+    uint8_t name[24]; /**< the name of the refusal or failure */
 } rvstm_refusal_parts;
 
-/* The library's version: major * 1,000,000 + minor * 1,000 + patch. 0.1.0 is 1,000. */
+/**
+ * Tells the library's version, in the form of #RVSTM_VERSION.
+ * @return the version, which a program may compare with the header's
+ */
 uint32_t rvstm_version(void);
 
-/*
+/**
  * Opens a session over an empty storage, with frames of at most 64 MiB, gas without a bound, no digest, and receipts with their
- * registers. RVSTM_DONE, with an answer without bytes; RVSTM_ALREADY_OPEN; RVSTM_NO_MEMORY.
- * The caller owns the session, and hands it back by rvstm_close.
+ * registers. The caller owns the session, and hands it back by rvstm_close().
+ * @param session  one whose bytes are zero, or that was closed
+ * @retval RVSTM_DONE          it is open, with an answer without bytes
+ * @retval RVSTM_ALREADY_OPEN  it was open before
+ * @retval RVSTM_NO_MEMORY     it is not open
  */
 uint32_t rvstm_open(rvstm_session *session);
 
-/*
- * Opens a session with settings, which are copied. RVSTM_DONE, RVSTM_ALREADY_OPEN, RVSTM_BAD_SETTINGS or RVSTM_NO_MEMORY; where
- * a session is open already, that is told, whatever the settings are.
+/**
+ * Opens a session with settings, as rvstm_open() does.
+ * @param session   one whose bytes are zero, or that was closed
+ * @param settings  are copied
+ * @retval RVSTM_DONE          it is open, with an answer without bytes
+ * @retval RVSTM_ALREADY_OPEN  it was open before, whatever the settings are
+ * @retval RVSTM_BAD_SETTINGS  it is not open
+ * @retval RVSTM_NO_MEMORY     it is not open
  */
 uint32_t rvstm_open_with(rvstm_session *session, const rvstm_settings *settings);
 
-/*
- * The requests. What is behind each of these calls is its answer: RVSTM_DONE, and rvstm_answer has the bytes; RVSTM_REFUSED or
- * RVSTM_FAILED, and the answer has no bytes, and rvstm_refusal has its parts; or RVSTM_CLOSED. Where a request is refused or
- * fails, storage, rules and programs are as they were. What the forms of a line would not have is refused as `request BadLine 1`
- * and does nothing: a name or a key that is not 64 lower-case hex digits, a count of 0 or above 1,024, a height or a length above
+/**
+ * @name Requests
+ * Each is answered RVSTM_DONE, and rvstm_answer() has the bytes; RVSTM_REFUSED or RVSTM_FAILED, and the answer has no bytes, and
+ * rvstm_refusal() has its parts, of which each call names area and name; or RVSTM_CLOSED. Where a request is refused or fails,
+ * storage, rules and programs are as they were. What the forms of a line would not have is refused as `request BadLine 1` and
+ * does nothing: a name or a key that is not 64 lower-case hex digits, a count of 0 or above 1,024, a height or a length above
  * 9,999,999,999. The session goes on.
  */
+/**@{*/
 
-/*
- * Hands in a program: the bytes of its file. The answer is its name, the SHA-256 of the file in 64 hex digits, and a line feed.
- * One that is here already is answered the same, and changes nothing. RVSTM_DONE; RVSTM_REFUSED where the file has more than
- * 131,072 bytes (file TooLong) or is no program (elf), or for its length; RVSTM_FAILED (elf Memory, output Memory); RVSTM_CLOSED.
+/**
+ * Hands in a program. The answer is its name, the SHA-256 of the file in 64 hex digits, and a line feed. One that is here already
+ * is answered the same, and changes nothing.
+ * @param session      an open one
+ * @param file         the bytes of the program's file
+ * @param file_length  their number
+ * @retval RVSTM_DONE     the program is here
+ * @retval RVSTM_REFUSED  the file has more than 131,072 bytes (file TooLong) or is no program (elf); or for its length
+ * @retval RVSTM_FAILED   elf Memory, output Memory
+ * @retval RVSTM_CLOSED   the session is not open
  */
 uint32_t rvstm_program(rvstm_session *session, const uint8_t *file, size_t file_length);
 
-/*
- * Gives back a program by its name. The answer has no bytes. RVSTM_DONE; RVSTM_REFUSED where no program of that name is here
- * (frame NoProgram), or for the form of the name; RVSTM_CLOSED.
+/**
+ * Gives back a program. The answer has no bytes.
+ * @param session      an open one
+ * @param name         the program's name, without a line feed
+ * @param name_length  64
+ * @retval RVSTM_DONE     the program is not here any more
+ * @retval RVSTM_REFUSED  no program of that name is here (frame NoProgram); or for the form of the name
+ * @retval RVSTM_CLOSED   the session is not open
  */
 uint32_t rvstm_forget(rvstm_session *session, const uint8_t *name, size_t name_length);
 
-/* Tells the names of the programs, ascending, a line each. RVSTM_DONE; RVSTM_FAILED (output Memory); RVSTM_CLOSED. */
+/**
+ * Tells the names of the programs, ascending, a line each.
+ * @param session  an open one
+ * @retval RVSTM_DONE    the answer has the names
+ * @retval RVSTM_FAILED  output Memory
+ * @retval RVSTM_CLOSED  the session is not open
+ */
 uint32_t rvstm_programs(rvstm_session *session);
 
-/*
- * Runs a frame: the bytes of a block file, in which a program's path is its name. Its `store` lines are put over the storage, and
- * its calls run over that. RVSTM_DONE, and the answer has the lines of the calls and `end`; RVSTM_REFUSED by the first of: the
- * height (frame TooHigh), the length (frame TooLong), the text (block), the gas of its calls (frame TooMuchGas), its rules (frame
- * OlderRules), its programs (frame NoProgram); RVSTM_FAILED (block Memory, elf Memory, seq Memory, output Memory); RVSTM_CLOSED.
- * A frame that is done or refused counts, but where it is refused for the height or as `request BadLine 1`: the height goes up,
- * and its answer is what rvstm_last tells.
+/**
+ * Runs a frame: a block file in which a program's path is its name. Its `store` lines are put over the storage, and its calls run
+ * over that. The answer has the lines of the calls and `end`. A frame that is done or refused counts, but where it is refused for
+ * the height or as `request BadLine 1`: the height goes up, and its answer is what rvstm_last() tells.
+ * @param session       an open one
+ * @param block         the bytes of the block file
+ * @param block_length  their number
+ * @retval RVSTM_DONE     the storage has what the calls left
+ * @retval RVSTM_REFUSED  by the first of: the height (frame TooHigh), the length (frame TooLong), the text (block), the gas of its
+ *                        calls (frame TooMuchGas), its rules (frame OlderRules), its programs (frame NoProgram)
+ * @retval RVSTM_FAILED   block Memory, elf Memory, seq Memory, output Memory
+ * @retval RVSTM_CLOSED   the session is not open
  */
 uint32_t rvstm_frame(rvstm_session *session, const uint8_t *block, size_t block_length);
 
-/* Answers as rvstm_frame would, and keeps nothing: no entry, no rules, no height, no digest. */
+/**
+ * Answers as rvstm_frame() would, and keeps nothing: no entry, no rules, no height, no digest.
+ * @param session       an open one
+ * @param block         the bytes of the block file
+ * @param block_length  their number
+ * @return what rvstm_frame() would
+ */
 uint32_t rvstm_try(rvstm_session *session, const uint8_t *block, size_t block_length);
 
-/*
- * Tells what the last frame that counts was answered: RVSTM_DONE or RVSTM_REFUSED as then, with the same bytes or parts.
- * RVSTM_REFUSED, too, where there was none, or none since rvstm_begin (frame NoFrame); RVSTM_CLOSED.
+/**
+ * Tells what the last frame that counts was answered, with the same bytes or parts.
+ * @param session  an open one
+ * @retval RVSTM_DONE     it was done
+ * @retval RVSTM_REFUSED  it was refused; or there was none, or none since rvstm_begin() (frame NoFrame)
+ * @retval RVSTM_CLOSED   the session is not open
  */
 uint32_t rvstm_last(rvstm_session *session);
 
-/*
- * Tells what the storage has at a key, in a line `value ..` or `absent`. RVSTM_DONE; RVSTM_REFUSED for the form of the key;
- * RVSTM_FAILED (output Memory); RVSTM_CLOSED.
+/**
+ * Tells what the storage has at a key, in a line `value ..` or `absent`.
+ * @param session     an open one
+ * @param key         its hex digits
+ * @param key_length  64
+ * @retval RVSTM_DONE     the answer has the line
+ * @retval RVSTM_REFUSED  for the form of the key
+ * @retval RVSTM_FAILED   output Memory
+ * @retval RVSTM_CLOSED   the session is not open
  */
 uint32_t rvstm_get(rvstm_session *session, const uint8_t *key, size_t key_length);
 
-/*
- * Tells the first entries from a key on, itself included, in `store` lines: `count` of them at most, 1 to 1,024. RVSTM_DONE;
- * RVSTM_REFUSED for the form of the key or the count; RVSTM_FAILED (output Memory); RVSTM_CLOSED.
+/**
+ * Tells the first entries from a key on, itself included, in `store` lines.
+ * @param session      an open one
+ * @param from         the hex digits of the key
+ * @param from_length  64
+ * @param count        how many at most, 1 to 1,024
+ * @retval RVSTM_DONE     the answer has the lines
+ * @retval RVSTM_REFUSED  for the form of the key or the count
+ * @retval RVSTM_FAILED   output Memory
+ * @retval RVSTM_CLOSED   the session is not open
  */
 uint32_t rvstm_list(rvstm_session *session, const uint8_t *from, size_t from_length, uint64_t count);
 
-/*
- * Tells the whole storage: a block file of the session's rules, which rvstm_begin takes. The text is made in memory. RVSTM_DONE;
- * RVSTM_FAILED (output Memory); RVSTM_CLOSED.
+/**
+ * Tells the whole storage: a block file of the session's rules, which rvstm_begin() takes. The text is made in memory.
+ * @param session  an open one
+ * @retval RVSTM_DONE    the answer has the block file
+ * @retval RVSTM_FAILED  output Memory
+ * @retval RVSTM_CLOSED  the session is not open
  */
 uint32_t rvstm_dump(rvstm_session *session);
 
-/*
- * Puts a storage, its rules, a height and a digest in the place of the session's. The block file has no programs and no calls, as
- * that of rvstm_dump; the height is at most 9,999,999,999; the digest has 64 hex digits, or is `-` where the session keeps none.
- * The programs stay, and rvstm_last has nothing. The answer has no bytes. RVSTM_DONE; RVSTM_REFUSED by the first of: the text
- * (block), programs or calls (frame NotADump), a digest where none is kept or none where one is (frame OtherDigest), or for the
- * form of height, digest and length; RVSTM_FAILED (block Memory); RVSTM_CLOSED.
+/**
+ * Puts a storage, its rules, a height and a digest in the place of the session's. The programs stay, and rvstm_last() has
+ * nothing. The answer has no bytes.
+ * @param session        an open one
+ * @param height         at most 9,999,999,999
+ * @param digest         64 hex digits, or `-` where the session keeps none
+ * @param digest_length  64 or 1
+ * @param block          the bytes of a block file without programs and calls, as that of rvstm_dump()
+ * @param block_length   their number
+ * @retval RVSTM_DONE     the session has them
+ * @retval RVSTM_REFUSED  by the first of: the text (block), programs or calls (frame NotADump), a digest where none is kept or none
+ *                        where one is (frame OtherDigest); or for the form of height, digest and length
+ * @retval RVSTM_FAILED   block Memory
+ * @retval RVSTM_CLOSED   the session is not open
  */
 uint32_t rvstm_begin(
     rvstm_session *session, uint64_t height, const uint8_t *digest, size_t digest_length, const uint8_t *block,
     size_t block_length);
 
-/*
+/**
  * Tells the session's counts and settings in lines `rules N`, `height N`, `keys N`, `programs N`, `frame-limit N`, `frame-gas N`
- * or `frame-gas none`, `brief 0` or `brief 1`, and `digest HEX` where one is kept. RVSTM_DONE; RVSTM_FAILED (output Memory);
- * RVSTM_CLOSED.
+ * or `frame-gas none`, `brief 0` or `brief 1`, and `digest HEX` where one is kept.
+ * @param session  an open one
+ * @retval RVSTM_DONE    the answer has the lines
+ * @retval RVSTM_FAILED  output Memory
+ * @retval RVSTM_CLOSED  the session is not open
  */
 uint32_t rvstm_state(rvstm_session *session);
 
-/*
- * The length in bytes of the answer to the last request; 0 before the first one, where it was refused or failed, and where the
- * session is not open.
+/**@}*/
+
+/**
+ * Tells how long the answer to the last request is.
+ * @param session  any
+ * @return the number of its bytes; 0 before the first request, where it was refused or failed, and where the session is not open
  */
 size_t rvstm_answer_length(rvstm_session *session);
 
-/*
- * Copies that answer to the beginning of the caller's buffer; behind it the buffer stays as it was, and no zero is added.
- * RVSTM_DONE, RVSTM_SHORT_BUFFER or RVSTM_CLOSED. The answer stays, and may be copied again.
+/**
+ * Copies the answer to the last request to the beginning of the caller's buffer; behind it the buffer stays as it was, and no zero
+ * is added. The answer stays, and may be copied again.
+ * @param session        an open one
+ * @param buffer         where the bytes are put
+ * @param buffer_length  how many fit there
+ * @retval RVSTM_DONE          the buffer has the answer
+ * @retval RVSTM_SHORT_BUFFER  nothing was copied
+ * @retval RVSTM_CLOSED        the session is not open
  */
 uint32_t rvstm_answer(rvstm_session *session, uint8_t *buffer, size_t buffer_length);
 
-/*
- * The parts of the refusal or failure that the last request was answered, into the caller's struct; zeros where it is done.
- * RVSTM_REFUSED, RVSTM_FAILED or RVSTM_DONE, as that request answered; or RVSTM_CLOSED.
+/**
+ * Tells the parts of the refusal or failure that the last request was answered; zeros where it is done.
+ * @param session  an open one
+ * @param parts    the caller's struct, where they are put
+ * @retval RVSTM_REFUSED  the last request was refused
+ * @retval RVSTM_FAILED   it failed
+ * @retval RVSTM_DONE     it is done
+ * @retval RVSTM_CLOSED   the session is not open
  */
 uint32_t rvstm_refusal(rvstm_session *session, rvstm_refusal_parts *parts);
 
-/* Closes a session, and frees all that it has. RVSTM_DONE or RVSTM_CLOSED. It may be opened again. */
+/**
+ * Closes a session, and frees all that it has. It may be opened again.
+ * @param session  any
+ * @retval RVSTM_DONE    it is closed
+ * @retval RVSTM_CLOSED  it was not open
+ */
 uint32_t rvstm_close(rvstm_session *session);
 
 #ifdef __cplusplus

@@ -40,7 +40,7 @@ def sum_of_sources(crates):
 
 
 def stamp_of(made):
-    """The file beside a built file that says of which sources it was built."""
+    """The file beside a built file that says of which sources it was built, and by which kit."""
     return made.with_name(f"{made.name}.sources")
 
 
@@ -50,11 +50,17 @@ def stamp(made, sources):
 
 def is_built(made, sources):
     """Whether a file is there as it was built of the sources of this checksum."""
-    return made.is_file() and stamp_of(made).is_file() and stamp_of(made).read_text() == stamp(made, sources)
+    return made.is_file() and stamp_of(made).is_file() and stamp_of(made).read_text().startswith(stamp(made, sources))
+
+
+def kit_of(made):
+    """The line of the kit that a file was built by; empty where it is not noted."""
+    return "".join(stamp_of(made).read_text().splitlines()[1:2])
 
 
 def note_built(made, sources):
-    stamp_of(made).write_text(stamp(made, sources))
+    kit = subprocess.run(["rt", "version"], capture_output=True, text=True).stdout.strip()
+    stamp_of(made).write_text(f"{stamp(made, sources)}{kit}\n")
 
 
 def prove(words, crates):

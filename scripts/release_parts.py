@@ -17,6 +17,7 @@ PAGES = {
     "librvstm-dev": ("docs/embedding.md",),
     "rvstm-sdk": ("docs/contracts.md", "docs/assembly.md", "docs/debugging.md"),
 }
+PROVED = {"rvstm": releases.PROGRAM, "librvstm-dev": releases.ARCHIVE}
 NO_LICENCE = "No licence is chosen for rvstm yet: its owner decides.\n"
 # What lintian takes for mistakes, and is meant.
 OVERRIDES = {

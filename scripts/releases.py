@@ -28,6 +28,12 @@ def version():
     return found[0]
 
 
+def version_number():
+    """The same as one number, as the library and its header have it."""
+    major, minor, patch = map(int, version().split("."))
+    return major * 1_000_000 + minor * 1_000 + patch
+
+
 def shared_name():
     """The name by which a program asks for the shared object: as long as the major number is 0, calls may change with the minor."""
     return f"librvstm.so.{'.'.join(version().split('.')[:2])}"
@@ -60,9 +66,14 @@ def stripped(data):
         return made.read_bytes()
 
 
+def sum_of_sources(path):
+    """The checksum of the sources of the program, the archive or the shared object."""
+    return builds.sum_of_sources(builds.crates_of(CRATES[path]))
+
+
 def is_built(path):
     """Whether the program, the archive or the shared object is there as the sources of this checkout make it."""
-    return builds.is_built(path, builds.sum_of_sources(builds.crates_of(CRATES[path])))
+    return builds.is_built(path, sum_of_sources(path))
 
 
 def built(path):
@@ -72,12 +83,17 @@ def built(path):
     return path.read_bytes() if path == ARCHIVE else stripped(path.read_bytes())
 
 
+def proof_of(path):
+    """What was proved of one of them that is built, by which kit, and the checksum of the sources."""
+    below, kit = len(builds.crates_of(CRATES[path])) - 1, builds.kit_of(path) or "a kit that is not noted"
+    return f"every function of {CRATES[path]} and of the {below} crates below it, by {kit}; SHA-256 of the sources {sum_of_sources(path)}"
+
+
 def check_versions():
     """The program and the library say the version."""
     said = subprocess.run([PROGRAM, "--version"], capture_output=True, text=True).stdout.strip()
     if said != f"rvstm {version()}":
         raise ValueError(f"{PROGRAM} says {said}, not {version()}")
-    major, minor, patch = map(int, version().split("."))
     number = ctypes.CDLL(os.fspath(SHARED)).rvstm_version()
-    if number != major * 1_000_000 + minor * 1_000 + patch:
+    if number != version_number():
         raise ValueError(f"{SHARED} says version {number}, not that of {version()}")

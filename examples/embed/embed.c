@@ -1,10 +1,12 @@
 /*
- * A session in a C program: runs a block of examples/token, and compares with `rvstm seq`.
+ * A session in a C program: runs a block of examples/token, and compares with `rvstm seq`; is refused another one; and reads a key
+ * and the session's counts.
  *
  * usage: embed RVSTM
  *
- * RVSTM is the built program. Started in examples/token.
+ * RVSTM is the built program. Started in examples/token. embed.expect has what it prints.
  */
+#include <inttypes.h>
 #include <stdio.h>
 #include <stdlib.h>
 #include <string.h>
@@ -57,16 +59,23 @@ static text read_file(const char *path)
 /* The answer to the last request. It is an error where that is not done. */
 static text answer(rvstm_session *session, uint32_t status)
 {
-    if (status == RVSTM_REFUSED || status == RVSTM_FAILED) {
-        rvstm_refusal_parts parts;
-        rvstm_refusal(session, &parts);
-        fprintf(stderr, "embed: %s %s %u, line %zu\n", (char *)parts.area, (char *)parts.name, parts.number, parts.line);
-        exit(1);
-    }
-    if (status != RVSTM_DONE) stop("the session is closed");
+    if (status != RVSTM_DONE) stop("a request is not done");
     text copy = text_of(rvstm_answer_length(session));
     if (rvstm_answer(session, copy.bytes, copy.length) != RVSTM_DONE) stop("no answer");
     return copy;
+}
+
+/* Prints why the last request is refused. It is an error where it is not. */
+static void print_refusal(rvstm_session *session, uint32_t status)
+{
+    rvstm_refusal_parts parts;
+    if (status != RVSTM_REFUSED || rvstm_refusal(session, &parts) != RVSTM_REFUSED) stop("a request is not refused");
+    printf("refused %s %s %" PRIu32 "\n", (char *)parts.area, (char *)parts.name, parts.number);
+}
+
+static void print(text answer)
+{
+    fwrite(answer.bytes, 1, answer.length, stdout);
 }
 
 /* A block with a program's name in the place of its path. */
@@ -91,28 +100,37 @@ static text behind_head(text dump)
     return (text){dump.bytes + head, dump.length - head};
 }
 
-int main(int count, char **words)
+/* The result of `seq` has the storage before its line `end`. */
+static void compare(const char *rvstm, text frame, text store)
 {
-    static const char path[] = "token.elf";
-    rvstm_session session = {0};
-    text program = read_file(path), block = read_file("token.block"), name, frame, store, in_order;
     char command[4096];
-    if (count != 2) stop("usage: embed RVSTM");
-    if (rvstm_open(&session) != RVSTM_DONE) stop("no memory");
-    name = answer(&session, rvstm_program(&session, program.bytes, program.length));
-    name.length -= strlen("\n");
-    block = named(block, path, name);
-    frame = answer(&session, rvstm_frame(&session, block.bytes, block.length));
+    snprintf(command, sizeof command, "'%s' seq token.block", rvstm);
+    text in_order = read_all(popen(command, "r"));
     frame.length -= strlen("end\n");
-    store = behind_head(answer(&session, rvstm_dump(&session)));
-    rvstm_close(&session);
-
-    /* The result of `seq` has the storage before its line `end`. */
-    snprintf(command, sizeof command, "'%s' seq token.block", words[1]);
-    in_order = read_all(popen(command, "r"));
     if (in_order.length != frame.length + store.length + strlen("end\n") || memcmp(in_order.bytes, frame.bytes, frame.length)
         || memcmp(in_order.bytes + frame.length, store.bytes, store.length))
         stop("the session and seq differ");
     printf("%zu bytes, as seq\n", in_order.length);
-    return 0;
+}
+
+int main(int count, char **words)
+{
+    static const char path[] = "token.elf", key[] = "aaaaaaaaaaaaaaaaaaaaaaaaaaaaaaaaaaaaaaaaaaaaaaaaaaaaaaaaaaaaaaaa";
+    rvstm_session session = {0};
+    if (count != 2) stop("usage: embed RVSTM");
+    if (rvstm_version() != RVSTM_VERSION) stop("the library has another version than its header");
+    if (rvstm_open(&session) != RVSTM_DONE) stop("no memory");
+
+    text program = read_file(path), block = read_file("token.block");
+    text name = answer(&session, rvstm_program(&session, program.bytes, program.length));
+    name.length -= strlen("\n");
+    text frame = named(block, path, name);
+    frame = answer(&session, rvstm_frame(&session, frame.bytes, frame.length));
+    compare(words[1], frame, behind_head(answer(&session, rvstm_dump(&session))));
+
+    /* This block has a path, and no name, and a session opens no file. */
+    print_refusal(&session, rvstm_frame(&session, block.bytes, block.length));
+    print(answer(&session, rvstm_get(&session, (const uint8_t *)key, strlen(key))));
+    print(answer(&session, rvstm_state(&session)));
+    return rvstm_close(&session) == RVSTM_DONE ? 0 : 1;
 }

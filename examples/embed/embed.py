@@ -1,9 +1,11 @@
 #!/usr/bin/env python3
-"""A session in a Python program: runs a block of examples/token, and compares with `rvstm seq`.
+"""A session in a Python program: runs a block of examples/token, and compares with `rvstm seq`; is refused another one; and reads a
+key and the session's counts.
 
 usage: embed.py LIBRARY RVSTM
 
-LIBRARY is librvstm.so as scripts/library makes it, and RVSTM the built program. Started in examples/token.
+LIBRARY is librvstm.so as scripts/library makes it, and RVSTM the built program. Started in examples/token. embed.expect has what it
+prints.
 """
 
 import ctypes
@@ -92,20 +94,29 @@ def named(session, block):
     return PROGRAM.sub(name_of, block)
 
 
-def main():
-    if len(sys.argv) != 3:
-        sys.exit(__doc__)
-    library, rvstm = sys.argv[1:]
-    with Session(library) as session:
-        block = named(session, Path("token.block").read_bytes())
-        frame = session.ask("rvstm_frame", block)
-        dump = session.ask("rvstm_dump")
+def compare(rvstm, frame, dump):
+    """Compares a frame's answer and the storage with what `rvstm seq` prints."""
     in_order = subprocess.run([rvstm, "seq", "token.block"], capture_output=True, check=True).stdout
     # The result of `seq` has the storage before its line `end`; a dump has two lines before it.
     store = dump.split(b"\n", 2)[2]
     if frame.removesuffix(b"end\n") + store + b"end\n" != in_order:
         sys.exit("the session and seq differ")
     print(f"{len(in_order)} bytes, as seq")
+
+
+def main():
+    if len(sys.argv) != 3:
+        sys.exit(__doc__)
+    library, rvstm = sys.argv[1:]
+    with Session(library) as session:
+        block = Path("token.block").read_bytes()
+        frame = session.ask("rvstm_frame", named(session, block))
+        compare(rvstm, frame, session.ask("rvstm_dump"))
+        try:
+            session.ask("rvstm_frame", block)  # it has a path, and no name, and a session opens no file
+        except ValueError as refusal:
+            print(f"refused {refusal}")
+        print((session.ask("rvstm_get", b"a" * 64) + session.ask("rvstm_state")).decode(), end="")
 
 
 if __name__ == "__main__":
