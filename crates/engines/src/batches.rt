@@ -15,6 +15,9 @@ const NEXT_CALLS: usize = 6;
 /// to begin, and this gas a few milliseconds. Where the first calls used as much, no others run in order.
 const LEAST_GAS: u64 = 1_000_000;
 
+/// The gas that a batch is expected to use at most: where calls begin to read behind it, the calls of one batch alone are run again.
+const MOST_GAS: u64 = 160_000_000;
+
 /// How many steps under the lock a call of a batch is allowed, in the mean, beside those for its gas.
 const STEPS_OF_A_CALL: u64 = 16;
 
@@ -86,9 +89,9 @@ impl Batches {
     /// The next batch where so many calls are left; None where they run in order, as threads do not pay.
     ///
     /// By what the calls before it took it is expected to take no longer than threads have saved, and one call more; or to use a
-    /// million gas, where that is more. So a batch that is given up costs what threads have saved, and one call's time. It is
-    /// expected to make half of the steps that its threads are allowed. Each worker has as many calls of it, but where too few are
-    /// left.
+    /// million gas, where that is more; and at most 160 million. So a batch that is given up costs what threads have saved, and one
+    /// call's time. It is expected to make half of the steps that its threads are allowed. Each worker has as many calls of it, but
+    /// where too few are left.
     pub(crate) fn next(&self, left: usize) -> Option<Batch>
         ensures { IfSome result (λ batch. (1 ≤ batch.calls) × (batch.calls ≤ left)) }
     {
@@ -114,7 +117,8 @@ impl Batches {
             .saved
             .saturating_add(gas_of_each)
             .saturating_mul(workers as u64)
-            .max(LEAST_GAS);
+            .max(LEAST_GAS)
+            .min(MOST_GAS);
         let steps_of_each = self.last.reads_of_each().saturating_add(STEPS_OF_A_CALL);
         let calls = (gas / gas_of_each.max(1)).min(steps / 2 / steps_of_each.max(1));
         let rounds = (calls as usize).saturating_add(workers - 1) / workers;
