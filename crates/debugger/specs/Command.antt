@@ -1,14 +1,14 @@
 -- The commands of `debug`, and the lines that stand for them.
-use Rattle.std.specs.Prelude.{ℕ, nat_le, List, [], ◌∷◌, codes, Option, Some, None, if◌then◌else◌}
+use Rattle.std.specs.Prelude.{ℕ, nat_le, Bool, true, false, List, [], ◌∷◌, codes, Option, Some, None, if◌then◌else◌}
 use Rattle.std.specs.Int.{from_be_bytes, w32}
 use Rattle.std.specs.List.{list_all}
 use Rattle.std.specs.Option.{option_and_then, option_map}
 use Rattle.std.specs.Result.{result_ok}
 use Rattle.std.specs.Str.{bytes_eq}
 use Rattle.hex.specs.Hex.{decode_sized}
-use Rattle.block_file.specs.Line.{cut, decimal_of, is_lower_digit}
+use Rattle.block_file.specs.Line.{cut, decimal_of, is_lower_digit, key_of}
 use Rattle.debugger.specs.declared.command.Command.{Command}
-use Rattle.debugger.specs.declared.command.Command.TheVariants.{Step, Back, RunTo, Where, Registers, Bytes, Quit}
+use Rattle.debugger.specs.declared.command.Command.TheVariants.{Step, Back, RunTo, Where, Registers, Bytes, Quit, GoTo, RunToChange, End, Value, Help}
 
 -- an address: eight lower-case hex digits, the highest first
 abbrev pub address_of : List ℕ → Option ℕ
@@ -50,3 +50,44 @@ command_of_fields _ = None
 -- the command of a line, with one blank between two fields; None where the line is not a command
 abbrev pub command_of : List ℕ → Option Command
 command_of line = command_of_fields (cut 32 line)
+
+-- a moment: a decimal up to 4294967295
+abbrev pub moment_of : List ℕ → Option ℕ
+moment_of text = option_and_then (λ n. if nat_le n 0xffff_ffff then Some n else None) (decimal_of text)
+
+-- the lines of `--more`, beside those above: `e` and `h`
+abbrev pub more_word_command : List ℕ → Option Command
+more_word_command word =
+    if bytes_eq word (codes "e") then Some End else
+    if bytes_eq word (codes "h") then Some Help else None
+
+-- `t MOMENT` and `v KEY`
+abbrev pub more_operand_command : List ℕ → List ℕ → Option Command
+more_operand_command word operand =
+    if bytes_eq word (codes "t") then option_map GoTo (moment_of operand) else
+    if bytes_eq word (codes "v") then option_map Value (result_ok (key_of operand)) else None
+
+-- `c HHHHHHHH LEN`
+abbrev pub change_command_of : Option ℕ → Option ℕ → Option Command
+change_command_of (Some address) (Some count) = Some (RunToChange address count)
+change_command_of _ _ = None
+
+abbrev pub change_command : List ℕ → List ℕ → List ℕ → Option Command
+change_command word address count =
+    if bytes_eq word (codes "c") then change_command_of (address_of address) (count_of count) else None
+
+abbrev pub more_command_of_fields : List (List ℕ) → Option Command
+more_command_of_fields (word ∷ []) = more_word_command word
+more_command_of_fields (word ∷ operand ∷ []) = more_operand_command word operand
+more_command_of_fields (word ∷ address ∷ count ∷ []) = change_command word address count
+more_command_of_fields _ = None
+
+-- the first command, or else the second
+abbrev pub command_or : Option Command → Option Command → Option Command
+command_or (Some command) other = Some command
+command_or None other = other
+
+-- the command of a line, where the lines of `--more` are heard or are not
+abbrev pub heard_of : Bool → List ℕ → Option Command
+heard_of false line = command_of line
+heard_of true line = command_or (command_of line) (more_command_of_fields (cut 32 line))

@@ -2,5 +2,6 @@ pub mod Replay
 pub mod ReplayMoment
 pub mod Faults
 pub mod Command
+pub mod More
 pub mod Session
 pub mod Hearing

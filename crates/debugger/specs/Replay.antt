@@ -76,24 +76,28 @@ Moves edge (Ok x) wanted old new = wanted ≡ Some new
 Moves edge (Err Memory) wanted old new = IsSome wanted × (new ≡ old)
 Moves edge (Err fault) wanted old new = (fault ≡ edge) × (wanted ≡ None) × (new ≡ old)
 
--- a moment at which a run to a pc stops
-abbrev pub stops : ℕ → Progress → Bool
-stops pc at = is_over at || (machine_of at).pc == pc
+-- a moment at which a run stops: the call is over, or its machine is wanted
+abbrev pub stops : (Machine → Bool) → Progress → Bool
+stops is_wanted at = is_over at || is_wanted (machine_of at)
 
--- the new moment is the old one or a later one, and a run to a pc stops at none between them
-pub record IsPast (pc : ℕ) (old new : ReplayState) : Type 0 where
+-- a run to a pc wants a machine at it
+abbrev pub has_pc : ℕ → Machine → Bool
+has_pc pc s = s.pc == pc
+
+-- the new moment is the old one or a later one, and a run stops at none between them
+pub record IsPast (is_wanted : Machine → Bool) (old new : ReplayState) : Type 0 where
   pub call : new.call ≡ old.call
   pub store : new.store ≡ old.store
   pub later : old.moment ≤ new.moment
-  pub between : (n : ℕ) → old.moment < n → n < new.moment → stops pc (moment_over old.call old.store n) ≡ false
+  pub between : (n : ℕ) → old.moment < n → n < new.moment → stops is_wanted (moment_over old.call old.store n) ≡ false
 
--- a run to a pc goes to the first later moment at which it stops; where memory ran out it stands at a moment before
--- that one; where there is no later moment it is refused and nothing changes
-abbrev pub RunsTo : {X : Type 0} → ℕ → Result X ReplayFault → ReplayState → ReplayState → Type 0
-RunsTo pc (Ok x) old new = (is_at_end old ≡ false) × IsPast pc old new × (old.moment < new.moment) × (stops pc (standing new) ≡ true)
-RunsTo pc (Err Memory) old new = (is_at_end old ≡ false) × IsPast pc old new × (old.moment < new.moment → stops pc (standing new) ≡ false)
-RunsTo pc (Err AtEnd) old new = (is_at_end old ≡ true) × (new ≡ old)
-RunsTo pc (Err fault) old new = ⊥
+-- a run goes to the first later moment at which it stops; where memory ran out it stands at a moment before that one;
+-- where there is no later moment it is refused and nothing changes
+abbrev pub RunsTo : {X : Type 0} → (Machine → Bool) → Result X ReplayFault → ReplayState → ReplayState → Type 0
+RunsTo is_wanted (Ok x) old new = (is_at_end old ≡ false) × IsPast is_wanted old new × (old.moment < new.moment) × (stops is_wanted (standing new) ≡ true)
+RunsTo is_wanted (Err Memory) old new = (is_at_end old ≡ false) × IsPast is_wanted old new × (old.moment < new.moment → stops is_wanted (standing new) ≡ false)
+RunsTo is_wanted (Err AtEnd) old new = (is_at_end old ≡ true) × (new ≡ old)
+RunsTo is_wanted (Err fault) old new = ⊥
 
 -- `len` bytes from an address on lie in memory
 abbrev pub is_in_memory : ℕ → ℕ → Bool

@@ -1,22 +1,21 @@
 -- What `debug` prints for its lines, and where it leaves the replay.
 use Rattle.std.specs.Prelude.{◌≡◌, ⊤, ℕ, zero, suc, ◌+◌, ◌-◌, ◌^◌, ◌<◌, ◌≤◌, ◌==◌, ◌⊎◌, Bool, true, false, All, List, [], ◌∷◌, ◌++◌, codes, length, Option, Some, None, IfSome, if◌then◌else◌}
 use Rattle.std.specs.Io.KnownBytes.{Appends}
-use Rattle.rv_ledger.specs.Key.{Storage}
-use Rattle.rv_ledger.specs.Call.{Invocation}
 use Rattle.block_file.specs.Line.{cut}
 use Rattle.byte_streams.specs.Written.{MayRefuse}
 use Rattle.byte_streams.specs.declared.fault.WriteFault.TheVariants as output
 use Rattle.receipts.specs.Text.{bytes_text, regs_line}
 use Rattle.debugger.specs.declared.command.Command.{Command}
-use Rattle.debugger.specs.declared.command.Command.TheVariants.{Step, Back, RunTo, Where, Registers, Bytes, Quit}
+use Rattle.debugger.specs.declared.command.Command.TheVariants.{Step, Back, RunTo, Where, Registers, Bytes, Quit, GoTo, RunToChange, End, Value, Help}
 use Rattle.debugger.specs.declared.fault.DebugFault.{DebugFault}
 use Rattle.debugger.specs.declared.fault.DebugFault.TheVariants.{Memory, Output, Unreadable}
 use Rattle.debugger.specs.declared.fault.ReplayFault.{ReplayFault}
 use Rattle.debugger.specs.declared.fault.ReplayFault.TheVariants.{AtEnd, AtStart, BadRange}
-use Rattle.debugger.specs.Command.{command_of}
+use Rattle.debugger.specs.Command.{heard_of}
 use Rattle.debugger.specs.Faults.{fault_text}
-use Rattle.rv_step.specs.Moment.{moment_over}
-use Rattle.debugger.specs.Replay.{IsPast, ReplayState, bytes_seen, is_at_end, machine_at, next_of, previous_of, standing, stops, where_text}
+use Rattle.rv_step.specs.declared.machine.Machine.{Machine}
+use Rattle.debugger.specs.More.{IsTowards, at_moment, changes, content_line, content_now, end_line, first_stop, help_text}
+use Rattle.debugger.specs.Replay.{IsPast, ReplayState, bytes_seen, has_pc, is_at_end, is_in_memory, machine_at, next_of, previous_of, standing, stops, where_text}
 
 -- the line of a refusal
 abbrev pub refusal_line : ReplayFault → List ℕ
@@ -25,15 +24,10 @@ refusal_line fault = codes "refused " ++ (fault_text fault ++ 10 ∷ [])
 abbrev pub where_line : ReplayState → List ℕ
 where_line r = where_text r ++ 10 ∷ []
 
--- the first of `left` moments from n on at which a run to a pc stops; where there is none, the moment after them
-unfoldable pub first_stop : ℕ → Invocation → Storage → ℕ → ℕ → ℕ
-first_stop zero call store pc n = n
-first_stop (suc left) call store pc n = if stops pc (moment_over call store n) then n else first_stop left call store pc (n + 1)
-
--- where a run to a pc goes, if this is not the last moment; a call is over after at most one step more than it has gas
-abbrev pub stop_of : ℕ → ReplayState → Option ReplayState
-stop_of pc r =
-    if is_at_end r then None else Some (record r { moment = first_stop (r.call.gas + 1) r.call r.store pc (r.moment + 1) })
+-- where a run goes, if this is not the last moment; a call is over after at most one step more than it has gas
+abbrev pub stop_of : (Machine → Bool) → ReplayState → Option ReplayState
+stop_of is_wanted r =
+    if is_at_end r then None else Some (record r { moment = first_stop (r.call.gas + 1) is_wanted r.call r.store (r.moment + 1) })
 
 -- a move prints where it led, or its refusal
 abbrev pub moved_text : ReplayFault → Option ReplayState → List ℕ
@@ -48,21 +42,35 @@ abbrev pub seen_text : Option (List ℕ) → List ℕ
 seen_text (Some bytes) = bytes_text bytes ++ 10 ∷ []
 seen_text None = refusal_line BadRange
 
+-- a run to a change of bytes goes nowhere where some of them lie outside memory
+abbrev pub change_of : ℕ → ℕ → ReplayState → Option ReplayState
+change_of address len r = if is_in_memory address len then stop_of (changes address len r) r else None
+
+abbrev pub changed_text : ℕ → ℕ → ReplayState → List ℕ
+changed_text address len r = moved_text (if is_in_memory address len then AtEnd else BadRange) (change_of address len r)
+
 -- what a command prints
 abbrev pub answer_text : ReplayState → Command → List ℕ
 answer_text r Step = moved_text AtEnd (next_of r)
 answer_text r Back = moved_text AtStart (previous_of r)
-answer_text r (RunTo pc) = moved_text AtEnd (stop_of pc r)
+answer_text r (RunTo pc) = moved_text AtEnd (stop_of (has_pc pc) r)
 answer_text r Where = where_line r
 answer_text r Registers = regs_line (machine_at r).regs
 answer_text r (Bytes address count) = seen_text (bytes_seen r address count)
 answer_text r Quit = []
+answer_text r (GoTo moment) = moved_text AtEnd (at_moment moment r)
+answer_text r (RunToChange address len) = changed_text address len r
+answer_text r End = end_line r
+answer_text r (Value key) = content_line (content_now r key)
+answer_text r Help = help_text
 
 -- and where it leaves the replay
 abbrev pub after_command : ReplayState → Command → ReplayState
 after_command r Step = moved r (next_of r)
 after_command r Back = moved r (previous_of r)
-after_command r (RunTo pc) = moved r (stop_of pc r)
+after_command r (RunTo pc) = moved r (stop_of (has_pc pc) r)
+after_command r (GoTo moment) = moved r (at_moment moment r)
+after_command r (RunToChange address len) = moved r (change_of address len r)
 after_command r _ = r
 
 -- the same for a line; a line that is not a command prints `what`
@@ -86,12 +94,12 @@ pub record Ending : Type 0 where
 abbrev pub behind : List ℕ → Ending → Ending
 behind text e = record e { text = text ++ e.text }
 
--- a session over lines, up to the first that quits
-unfoldable pub session : ReplayState → List (List ℕ) → Ending
-session r [] = record { text = []; replay = r }
-session r (line ∷ lines) =
-    if is_quit (command_of line) then record { text = []; replay = r } else
-    behind (line_text r (command_of line)) (session (after_line r (command_of line)) lines)
+-- a session over lines, up to the first that quits; the lines of `--more` are heard or are not
+unfoldable pub session : Bool → ReplayState → List (List ℕ) → Ending
+session has_more r [] = record { text = []; replay = r }
+session has_more r (line ∷ lines) =
+    if is_quit (heard_of has_more line) then record { text = []; replay = r } else
+    behind (line_text r (heard_of has_more line)) (session has_more (after_line r (heard_of has_more line)) lines)
 
 -- the lines among the parts between LFs: what follows the last LF is a line unless it is empty
 abbrev pub with_last : List (List ℕ) → List (List ℕ)
@@ -122,31 +130,36 @@ abbrev pub AppendsBeginning : Option (List ℕ) → Option (List ℕ) → List �
 AppendsBeginning before after text = (done : List ℕ) × (rest : List ℕ) × (text ≡ done ++ rest) × Appends before after done
 
 -- a line that does not end the session
-abbrev pub IsHeardOn : List ℕ → Type 0
-IsHeardOn line = is_quit (command_of line) ≡ false
+abbrev pub IsHeardOn : Bool → List ℕ → Type 0
+IsHeardOn has_more line = is_quit (heard_of has_more line) ≡ false
 
--- on the way of a line's move: before it or behind it; on a run to a pc also at any moment before the one at which it
--- stops
+-- on the way of a run, or where it leads: before it, at any moment before the one at which it stops, or behind it
+abbrev pub IsOnRun : (Machine → Bool) → ReplayState → ReplayState → ReplayState → Type 0
+IsOnRun is_wanted r after new =
+    (new ≡ after) ⊎ (IsPast is_wanted r new × (r.moment < new.moment → stops is_wanted (standing new) ≡ false))
+
+-- on the way of a line's move: before it or behind it; on a run, or on the way to a moment, also at any moment between
 abbrev pub IsOnWay : ReplayState → Option Command → ReplayState → Type 0
-IsOnWay r (Some (RunTo pc)) new =
-    (new ≡ after_command r (RunTo pc)) ⊎ (IsPast pc r new × (r.moment < new.moment → stops pc (standing new) ≡ false))
+IsOnWay r (Some (RunTo pc)) new = IsOnRun (has_pc pc) r (after_command r (RunTo pc)) new
+IsOnWay r (Some (RunToChange address len)) new = IsOnRun (changes address len r) r (after_command r (RunToChange address len)) new
+IsOnWay r (Some (GoTo moment)) new = (new ≡ after_command r (GoTo moment)) ⊎ IsTowards moment r new
 IsOnWay r command new = (new ≡ r) ⊎ (new ≡ after_line r command)
 
 -- where a fault leaves a session that stands at a replay before the lines that are left, and what of the next answer
 -- was written. Unreadable comes between two lines; Output in the answer of a line, whose move stands; Memory before
 -- any of an answer is written, and then the move of that line was made, or not, or in part.
-abbrev pub IsCutAt : DebugFault → ReplayState → List (List ℕ) → ReplayState → List ℕ → Type 0
-IsCutAt Unreadable r rest new part = (new ≡ r) × (part ≡ [])
-IsCutAt (Output fault) r [] new part = ⊥
-IsCutAt (Output fault) r (line ∷ more) new part =
-    (new ≡ after_line r (command_of line)) × ((left : List ℕ) × (line_text r (command_of line) ≡ part ++ left))
-IsCutAt Memory r [] new part = (new ≡ r) × (part ≡ [])
-IsCutAt Memory r (line ∷ more) new part = IsOnWay r (command_of line) new × (part ≡ [])
+abbrev pub IsCutAt : Bool → DebugFault → ReplayState → List (List ℕ) → ReplayState → List ℕ → Type 0
+IsCutAt has_more Unreadable r rest new part = (new ≡ r) × (part ≡ [])
+IsCutAt has_more (Output fault) r [] new part = ⊥
+IsCutAt has_more (Output fault) r (line ∷ more) new part =
+    (new ≡ after_line r (heard_of has_more line)) × ((left : List ℕ) × (line_text r (heard_of has_more line) ≡ part ++ left))
+IsCutAt has_more Memory r [] new part = (new ≡ r) × (part ≡ [])
+IsCutAt has_more Memory r (line ∷ more) new part = IsOnWay r (heard_of has_more line) new × (part ≡ [])
 
 -- a fault cut a session over these lines short: it answered the first of them, and was cut at the others
-abbrev pub IsCutShort : DebugFault → ReplayState → List (List ℕ) → ReplayState → Option (List ℕ) → Option (List ℕ) → Type 0
-IsCutShort fault old lines new before after =
+abbrev pub IsCutShort : Bool → DebugFault → ReplayState → List (List ℕ) → ReplayState → Option (List ℕ) → Option (List ℕ) → Type 0
+IsCutShort has_more fault old lines new before after =
     (heard : List (List ℕ)) × (rest : List (List ℕ)) × (part : List ℕ)
-    × (lines ≡ heard ++ rest) × All IsHeardOn heard
-    × IsCutAt fault (session old heard).replay rest new part
-    × Appends before after ((session old heard).text ++ part)
+    × (lines ≡ heard ++ rest) × All (IsHeardOn has_more) heard
+    × IsCutAt has_more fault (session has_more old heard).replay rest new part
+    × Appends before after ((session has_more old heard).text ++ part)

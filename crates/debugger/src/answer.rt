@@ -3,13 +3,16 @@
 ghost use Rattle.std.specs.Prelude.{◌≡◌, ◌++◌, ◌∷◌, [], IfOk, OnErr, OnOk};
 ghost use Rattle.std.specs.String.{string_bytes};
 ghost use Rattle.debugger.specs.declared.fault.ReplayFault.TheVariants.{AtEnd, AtStart};
-ghost use Rattle.debugger.specs.Replay.{bytes_seen, next_of, previous_of};
-ghost use Rattle.debugger.specs.Session.{IsOnWay, after_command, after_line, answer_text, line_text, moved, moved_text, refusal_line, seen_text, stop_of, where_line};
+ghost use Rattle.debugger.specs.More.{at_moment, content_line, content_now, end_line, ending_line, help_text};
+ghost use Rattle.debugger.specs.Replay.{bytes_seen, has_pc, next_of, previous_of};
+ghost use Rattle.debugger.specs.Session.{IsOnWay, after_command, after_line, answer_text, change_of, changed_text, line_text, moved, moved_text, refusal_line, seen_text, stop_of, where_line};
 
 use crate::command::Command;
+use crate::ending::Ending;
 use crate::fault::ReplayFault;
 use crate::replay::Replay;
-use receipts::{bytes_text, regs_line};
+use receipts::{bytes_text, end_name, regs_line};
+use rv_ledger::Value;
 use std::alloc::{AllocError, Global};
 
 /// Does what a line asks for, and returns what it prints: `what` where the line is not a command.
@@ -43,6 +46,11 @@ fn answer_text(alloc: Global, replay: &mut Replay, command: Command) -> Result<S
         Command::Registers => regs_line(alloc, replay.regs()),
         Command::Bytes(address, count) => seen_text(alloc, replay, address, count),
         Command::Quit => Ok(String::new(alloc)),
+        Command::GoTo(moment) => go_to_text(alloc, replay, moment),
+        Command::RunToChange(address, count) => changed_text(alloc, replay, address, count),
+        Command::End => end_line(alloc, replay),
+        Command::Value(key) => content_line(alloc, replay.content(&key)),
+        Command::Help => help_text(alloc),
     }
 }
 
@@ -74,8 +82,8 @@ fn back_text(alloc: Global, replay: &mut Replay) -> Result<String, AllocError>
 
 /// Runs to a pc. Returns the line of the new moment, or of the refusal.
 fn run_to_text(alloc: Global, replay: &mut Replay, pc: u32) -> Result<String, AllocError>
-    ensures text { IfOk result (λ t. string_bytes t ≡ moved_text AtEnd (stop_of pc replay.old)) }
-    ensures replay { OnOk result (replay.new ≡ moved replay.old (stop_of pc replay.old)) }
+    ensures text { IfOk result (λ t. string_bytes t ≡ moved_text AtEnd (stop_of (has_pc pc) replay.old)) }
+    ensures replay { OnOk result (replay.new ≡ moved replay.old (stop_of (has_pc pc) replay.old)) }
     ensures err { OnErr result (IsOnWay replay.old (Some (Command.RunTo pc)) replay.new) }
 {
     match replay.run_to(pc) {
@@ -83,6 +91,80 @@ fn run_to_text(alloc: Global, replay: &mut Replay, pc: u32) -> Result<String, Al
         Err(ReplayFault::AtEnd) => refusal_line(alloc, ReplayFault::AtEnd),
         Err(_) => Err(AllocError),
     }
+}
+
+/// Goes to a moment. Returns the line of the new moment, or of the refusal.
+fn go_to_text(alloc: Global, replay: &mut Replay, moment: u32) -> Result<String, AllocError>
+    ensures text { IfOk result (λ t. string_bytes t ≡ moved_text AtEnd (at_moment moment replay.old)) }
+    ensures replay { OnOk result (replay.new ≡ moved replay.old (at_moment moment replay.old)) }
+    ensures err { OnErr result (IsOnWay replay.old (Some (Command.GoTo moment)) replay.new) }
+{
+    match replay.go_to(u64::from(moment)) {
+        Ok(()) => where_line(alloc, replay),
+        Err(ReplayFault::AtEnd) => refusal_line(alloc, ReplayFault::AtEnd),
+        Err(_) => Err(AllocError),
+    }
+}
+
+/// Runs to a change of `count` bytes from an address on. Returns the line of the new moment, or of the refusal.
+fn changed_text(
+    alloc: Global,
+    replay: &mut Replay,
+    address: u32,
+    count: u32,
+) -> Result<String, AllocError>
+    ensures text { IfOk result (λ t. string_bytes t ≡ changed_text address count replay.old) }
+    ensures replay { OnOk result (replay.new ≡ moved replay.old (change_of address count replay.old)) }
+    ensures err { OnErr result (IsOnWay replay.old (Some (Command.RunToChange address count)) replay.new) }
+{
+    match replay.run_to_change(address, count) {
+        Ok(()) => where_line(alloc, replay),
+        Err(ReplayFault::AtEnd) => refusal_line(alloc, ReplayFault::AtEnd),
+        Err(ReplayFault::BadRange) => refusal_line(alloc, ReplayFault::BadRange),
+        Err(_) => Err(AllocError),
+    }
+}
+
+/// How the call ends; refused where memory ran out.
+fn end_line(alloc: Global, replay: &Replay) -> Result<String, AllocError>
+    ensures { IfOk result (λ t. string_bytes t ≡ end_line replay.now) }
+{
+    let Ok(ending) = replay.ending() else {
+        return Err(AllocError);
+    };
+    ending_line(alloc, &ending)
+}
+
+/// The line of how a call ended; refused where memory ran out.
+fn ending_line(alloc: Global, ending: &Ending) -> Result<String, AllocError>
+    ensures { IfOk result (λ t. string_bytes t ≡ ending_line ending.now.receipt ending.now.moment) }
+{
+    let end = end_name(ending.receipt.end);
+    let out = bytes_text(alloc, ending.receipt.out.bytes())?;
+    format!(in alloc; "ends {end} {out} {} {}\n", ending.receipt.gas, ending.moment)
+}
+
+/// The line of a value, or that there is none; refused where memory ran out.
+fn content_line(alloc: Global, content: Option<Value>) -> Result<String, AllocError>
+    ensures { IfOk result (λ t. string_bytes t ≡ content_line content) }
+{
+    match content {
+        Some(value) => {
+            let text = bytes_text(alloc, value.bytes())?;
+            format!(in alloc; "value {text}\n")
+        }
+        None => String::from_str(alloc, "absent\n"),
+    }
+}
+
+/// The lines that there are; refused where memory ran out.
+fn help_text(alloc: Global) -> Result<String, AllocError>
+    ensures { IfOk result (λ t. string_bytes t ≡ help_text) }
+{
+    String::from_str(
+        alloc,
+        "s: on to the next moment\nb: back to the moment before\ng ADDRESS: on to this pc, or to the last moment\nw: the moment, its pc and the word there\nr: the registers\nm ADDRESS LENGTH: bytes of memory\nq: ends the session\nt MOMENT: to a moment, forward or back\nc ADDRESS LENGTH: on to the next change of these bytes, or to the last moment\ne: how the call ends: end, output, gas, last moment\nv KEY: what a READ of this key would find now\nh: these lines\n",
+    )
 }
 
 /// The line of the moment, its pc and the word there; refused where memory ran out.

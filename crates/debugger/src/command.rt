@@ -1,13 +1,17 @@
 //! The commands of `debug`, and the lines that stand for them.
 
 ghost use Rattle.std.specs.Prelude.{◌≡◌, map, IfOk};
-ghost use Rattle.debugger.specs.Command.{address_of, bytes_command, command_of, command_of_fields, count_of, run_to_command, word_command};
+ghost use Rattle.debugger.specs.Command.{address_of, bytes_command, change_command, command_of, command_of_fields, count_of, heard_of, moment_of, more_command_of_fields, more_operand_command, more_word_command, run_to_command, word_command};
 
-use block_file::fields::{decimal, is_lower_hex, parts};
+use block_file::fields::{decimal, is_lower_hex, key, parts};
+use rv_ledger::Key;
 use std::alloc::{AllocError, Global};
 
 /// The greatest number of bytes that one line shows.
 const BYTE_LIMIT: u64 = 4096;
+
+/// The greatest moment that a line can name.
+const MOMENT_LIMIT: u64 = 0xffff_ffff;
 
 /// A command of `debug`.
 #[derive(Clone, Copy, Debug, PartialEq, Eq)]
@@ -26,6 +30,17 @@ pub enum Command {
     Bytes(u32, u32),
     /// End the session.
     Quit,
+    /// Go to this moment.
+    GoTo(u32),
+    /// Go to the first later moment at which one of some bytes of memory is another, or to the last moment: the address of
+    /// the first one, and their number, at most 4,096.
+    RunToChange(u32, u32),
+    /// Show how the call ends.
+    End,
+    /// Show what a READ of this key would find.
+    Value(Key),
+    /// Show the lines that there are.
+    Help,
 }
 
 /// The command of a line without its LF, or None where the line is not a command; refused where
@@ -35,6 +50,21 @@ pub fn command_of(alloc: Global, line: &[u8]) -> Result<Option<Command>, AllocEr
 {
     let fields = parts(alloc, line, b' ')?;
     Ok(command_of_fields(fields.as_slice()))
+}
+
+/// The same, and where `has_more` is true also the commands of `--more`.
+pub fn heard_of(
+    alloc: Global,
+    has_more: bool,
+    line: &[u8],
+) -> Result<Option<Command>, AllocError>
+    ensures { IfOk result (λ command. command ≡ heard_of has_more line.now) }
+{
+    let fields = parts(alloc, line, b' ')?;
+    match command_of_fields(fields.as_slice()) {
+        None if has_more => Ok(more_command_of_fields(fields.as_slice())),
+        command => Ok(command),
+    }
 }
 
 /// The command of the fields of a line.
@@ -114,6 +144,73 @@ fn count_of(text: &[u8]) -> Option<u32>
 {
     match decimal(text) {
         Some(count) if count <= BYTE_LIMIT => Some(count as u32),
+        _ => None,
+    }
+}
+
+/// The command of `--more` that the fields of a line give.
+fn more_command_of_fields(fields: &[&[u8]]) -> Option<Command>
+    ensures { result ≡ more_command_of_fields (map (λ field. field.now) fields.now) }
+{
+    match *fields {
+        [word] => more_word_command(word),
+        [word, operand] => more_operand_command(word, operand),
+        [word, address, count] => change_command(word, address, count),
+        _ => None,
+    }
+}
+
+/// The command of a line `e` or `h`.
+fn more_word_command(word: &[u8]) -> Option<Command>
+    ensures { result ≡ more_word_command word.now }
+{
+    if word == b"e".as_slice() {
+        return Some(Command::End);
+    }
+    if word == b"h".as_slice() {
+        return Some(Command::Help);
+    }
+    None
+}
+
+/// The command of a line `t MOMENT` or `v KEY`.
+fn more_operand_command(word: &[u8], operand: &[u8]) -> Option<Command>
+    ensures { result ≡ more_operand_command word.now operand.now }
+{
+    if word == b"t".as_slice() {
+        return match moment_of(operand) {
+            Some(moment) => Some(Command::GoTo(moment)),
+            None => None,
+        };
+    }
+    if word != b"v".as_slice() {
+        return None;
+    }
+    match key(operand) {
+        Ok(key) => Some(Command::Value(key)),
+        Err(_) => None,
+    }
+}
+
+/// The command of a line `c HHHHHHHH LEN`.
+fn change_command(word: &[u8], address: &[u8], count: &[u8]) -> Option<Command>
+    ensures { result ≡ change_command word.now address.now count.now }
+{
+    if word != b"c".as_slice() {
+        return None;
+    }
+    match (address_of(address), count_of(count)) {
+        (Some(address), Some(count)) => Some(Command::RunToChange(address, count)),
+        _ => None,
+    }
+}
+
+/// The moment that a decimal up to 4294967295 gives.
+fn moment_of(text: &[u8]) -> Option<u32>
+    ensures { result ≡ moment_of text.now }
+{
+    match decimal(text) {
+        Some(moment) if moment <= MOMENT_LIMIT => Some(moment as u32),
         _ => None,
     }
 }

@@ -3,6 +3,8 @@
 
 mod answer;
 mod command;
+mod content;
+mod ending;
 mod fault;
 mod laws;
 mod place;
@@ -11,8 +13,9 @@ mod running;
 mod session;
 mod storage;
 
-pub use command::{Command, command_of};
+pub use command::{Command, command_of, heard_of};
+pub use ending::Ending;
 pub use fault::{DebugFault, ReplayFault};
 pub use laws::{last_moment_is_the_receipts, opens_over_its_storage, replay_ends_as_its_receipt};
 pub use replay::Replay;
-pub use session::debug_to;
+pub use session::{debug_lines_to, debug_to};

@@ -1,12 +1,17 @@
 //! A replay of one call.
 
+ghost use Rattle.std.specs.Prelude.{◌≡◌};
+ghost use Rattle.debugger.specs.Replay.{is_in_memory};
+
+use crate::content::content_with;
+use crate::ending::{Ending, ending_of};
 use crate::fault::ReplayFault;
 use crate::place::place_text;
 use crate::running::{run_after, step_run};
 use crate::storage::{first_receipts, store_left};
 use elf32::extent::{END_ADDRESS, FIRST_ADDRESS};
 use rv_isa::Regs;
-use rv_ledger::{Call, Outcome, Store};
+use rv_ledger::{Call, Key, Outcome, Store, Value};
 use rv_step::{Machine, Run, Stage};
 use std::alloc::{AllocError, Global};
 use std::marker::Model;
@@ -38,10 +43,12 @@ impl Model for Replay {
 }
 
 impl Replay {
-    ghost use Rattle.std.specs.Prelude.{◌≡◌, ◌<◌, ◌^◌, ◌++◌, IfOk, MatchResult};
+    ghost use Rattle.std.specs.Prelude.{◌≡◌, ◌<◌, ◌≤◌, ◌^◌, ◌++◌, false, true, length, not, IfErr, IfOk, MatchResult, OnOk};
     ghost use Rattle.std.specs.String.{string_bytes};
     ghost use Rattle.debugger.specs.declared.fault.ReplayFault.TheVariants.{AtEnd, AtStart, Memory};
-    ghost use Rattle.debugger.specs.Replay.{GoesOnBefore, Moves, Opens, RunsTo, Shows, bytes_seen, is_at_end, machine_at, next_of, opened, previous_of, where_text};
+    ghost use Rattle.rv_step.specs.Chain.{ends};
+    ghost use Rattle.debugger.specs.More.{GoesTo, RunsToChange, has_changed, content_now, last_moment};
+    ghost use Rattle.debugger.specs.Replay.{GoesOnBefore, Moves, Opens, RunsTo, Shows, bytes_seen, has_pc, is_at_end, is_in_memory, machine_at, next_of, opened, previous_of, where_text};
 
     /// Opens the replay of a call of an outcome's job, at moment 0. `index` counts the calls from 0.
     /// The replay is over the job's storage with the writes of the receipts before the call. Refused as
@@ -117,13 +124,121 @@ impl Replay {
     /// AtEnd where the call is over already, and then nothing changes. Refused as Memory where memory
     /// ran out, and then the replay stands at a moment before that one.
     pub fn run_to(&mut self, pc: u32) -> Result<(), ReplayFault>
-        ensures { RunsTo pc result self.old self.new }
+        ensures { RunsTo (has_pc pc) result self.old self.new }
     {
         self.step()?;
         while !self.is_at_end() && self.pc() != pc {
             self.step()?;
         }
         Ok(())
+    }
+
+    /// Goes to a moment: on by steps, or back by running the call again from its start. Refused as AtEnd where the call is
+    /// over before it, and then nothing changes. Refused as Memory where memory ran out, and then the replay stands where it
+    /// stood, or at a later moment on the way.
+    pub fn go_to(&mut self, moment: u64) -> Result<(), ReplayFault>
+        ensures { GoesTo moment result self.old self.new }
+    {
+        let first = self.moment;
+        if moment < first {
+            return self.run_again(moment);
+        }
+        while self.moment < moment {
+            if self.is_at_end() {
+                self.run_again(first)?;
+                return Err(ReplayFault::AtEnd);
+            }
+            self.step()?;
+        }
+        Ok(())
+    }
+
+    /// Goes to a moment that is not behind this one, by running the call again from its start. Refused as Memory where
+    /// memory ran out; then nothing changes.
+    fn run_again(&mut self, moment: u64) -> Result<(), ReplayFault>
+        requires { moment ≤ self.old.moment }
+        ensures ok { OnOk result (self.new ≡ record self.old { moment = moment }) }
+        ensures err { IfErr result (λ e. (e ≡ Memory) × (self.new ≡ self.old)) }
+    {
+        match run_after(self.alloc, &self.call, &self.store, moment) {
+            Ok(run) => {
+                self.run = run;
+                self.moment = moment;
+                Ok(())
+            }
+            Err(_) => Err(ReplayFault::Memory),
+        }
+    }
+
+    /// Goes to the first later moment at which one of `len` bytes from an address on is another than now, or the call is
+    /// over. Refused as BadRange where the range does not lie in memory, and else as AtEnd where the call is over already;
+    /// then nothing changes. Refused as Memory where memory ran out, and then the replay stands at a moment before that one.
+    pub fn run_to_change(&mut self, address: u32, len: u32) -> Result<(), ReplayFault>
+        ensures { RunsToChange address len result self.old self.new }
+    {
+        if !is_in_memory(address, len) {
+            return Err(ReplayFault::BadRange);
+        }
+        if self.is_at_end() {
+            return Err(ReplayFault::AtEnd);
+        }
+        let Ok(before) = self.bytes(self.alloc, address, len) else {
+            return Err(ReplayFault::Memory);
+        };
+        let Ok(mut now) = self.bytes(self.alloc, address, len) else {
+            return Err(ReplayFault::Memory);
+        };
+        self.run_while_same(address, before.as_slice(), &mut now)
+    }
+
+    /// Goes to the first later moment at which the bytes from an address on are others than these, or the call is over.
+    /// The call must go on. Refused as Memory where memory ran out, and then the replay stands at a moment before that one.
+    fn run_while_same(
+        &mut self,
+        address: u32,
+        before: &[u8],
+        now: &mut [u8],
+    ) -> Result<(), ReplayFault>
+        requires going { is_at_end self.old ≡ false }
+        requires memory { is_in_memory address (length before.now) ≡ true }
+        requires same { length now.old ≡ length before.now }
+        ensures { RunsTo (has_changed address (length before.now) before.now) result self.old self.new }
+    {
+        self.step()?;
+        while !self.is_at_end() && self.has_bytes(address, before, now) {
+            self.step()?;
+        }
+        Ok(())
+    }
+
+    /// Whether the bytes of memory from an address on are these. `now` has room for them.
+    fn has_bytes(&self, address: u32, bytes: &[u8], now: &mut [u8]) -> bool
+        requires memory { is_in_memory address (length bytes.now) ≡ true }
+        requires same { length now.old ≡ length bytes.now }
+        ensures value { has_changed address (length bytes.now) bytes.now (machine_at self.now) ≡ not result }
+        ensures room { length now.new ≡ length now.old }
+    {
+        self.machine().memory.inspect(address, now);
+        *now == *bytes
+    }
+
+    /// How the call ends, by running it again from its start; refused as Memory where memory ran out.
+    pub fn ending(&self) -> Result<Ending, ReplayFault>
+        ensures { MatchResult result
+            (λ e. (e.receipt ≡ ends self.now.call self.now.store) × (e.moment ≡ last_moment self.now.call self.now.store))
+            (λ e. e ≡ Memory) }
+    {
+        match ending_of(self.alloc, &self.call, &self.store) {
+            Ok(ending) => Ok(ending),
+            Err(_) => Err(ReplayFault::Memory),
+        }
+    }
+
+    /// What a READ of a key would find now: what the storage has, with the call's own change of the key.
+    pub fn content(&self, key: &Key) -> Option<Value>
+        ensures { result ≡ content_now self.now key.now }
+    {
+        content_with(self.machine().own.get(key), self.store.get(key))
     }
 
     /// The moment: the number of steps that were made. The call goes on at each moment before it.
@@ -168,8 +283,7 @@ impl Replay {
     pub fn bytes(&self, alloc: Global, address: u32, len: u32) -> Result<Vec<u8>, ReplayFault>
         ensures { Shows (λ v. v.items) result (bytes_seen self.now address len) }
     {
-        let first = u64::from(address);
-        if address < FIRST_ADDRESS || first + u64::from(len) > u64::from(END_ADDRESS) {
+        if !is_in_memory(address, len) {
             return Err(ReplayFault::BadRange);
         }
         let Ok(mut bytes) = vec![in alloc; 0u8; len as usize] else {
@@ -195,4 +309,11 @@ impl Replay {
             Err(_) => Err(ReplayFault::Memory),
         }
     }
+}
+
+/// Whether `len` bytes from an address on lie in memory.
+fn is_in_memory(address: u32, len: u32) -> bool
+    ensures { result ≡ is_in_memory address len }
+{
+    FIRST_ADDRESS <= address && u64::from(address) + u64::from(len) <= u64::from(END_ADDRESS)
 }

@@ -1,13 +1,13 @@
 //! A session of `debug`, over any reader of lines and any writer.
 
-ghost use Rattle.std.specs.Prelude.{◌≡◌, ◌≢◌, ◌++◌, All, not, IfErr, IfOk, IfSome, OnErr, OnOk};
+ghost use Rattle.std.specs.Prelude.{◌≡◌, ◌≢◌, ◌++◌, All, false, not, IfErr, IfOk, IfSome, OnErr, OnOk};
 ghost use Rattle.std.specs.Io.KnownBytes.{Appends};
-ghost use Rattle.debugger.specs.Command.{command_of};
+ghost use Rattle.debugger.specs.Command.{heard_of};
 ghost use Rattle.debugger.specs.Session.{AppendsBeginning, EndsAs, IsCutShort, MayBeCutOff, IsPossibleFault, after_line, is_quit, line_text, lines_of, session};
 ghost use Rattle.debugger.specs.Hearing.{Hears, IsCutAnswer, IsCutIn, IsInLine};
 
 use crate::answer::line_text;
-use crate::command::{Command, command_of};
+use crate::command::{Command, heard_of};
 use crate::fault::DebugFault;
 use crate::replay::Replay;
 use byte_streams::{Destination, Source, WriteFault, write_whole};
@@ -19,13 +19,8 @@ const LINE_END: u8 = b'\n';
 /// The greatest number of bytes that are read at once.
 const READ_SIZE: usize = 256;
 
-/// Reads lines up to a line `q` or the end of the input. Does the command of each line as soon as the line
-/// is read, and writes what it prints. The last line needs no LF. The first refusal ends the session,
-/// and the lines before it are answered: their moves were made, and their answers written in whole.
-/// Unreadable where a read failed, or the input is longer than 2^64 - 2 bytes: nothing else was done. Output where a write failed: the move of the
-/// line whose answer was being written was made, and a beginning of that answer was written. Memory where
-/// memory ran out: nothing of the next line's answer was written, and its move was made or not; a run to
-/// a pc may also have gone a part of its way.
+/// Reads lines up to a line `q` or the end of the input; the lines of `--more` are no commands. What is done and refused is
+/// said at `debug_lines_to`.
 pub fn debug_to<R: Source, W: Destination>(
     alloc: Global,
     replay: &mut Replay,
@@ -33,9 +28,33 @@ pub fn debug_to<R: Source, W: Destination>(
     out: &mut W,
 ) -> Result<(), DebugFault>
     ensures ok { OnOk result (IfSome (R.remaining lines.old) (λ input.
-        EndsAs (session replay.old (lines_of input)) replay.new (W.contents out.old) (W.contents out.new))) }
+        EndsAs (session false replay.old (lines_of input)) replay.new (W.contents out.old) (W.contents out.new))) }
     ensures err { IfErr result (λ fault. IfSome (R.remaining lines.old) (λ input.
-        IsCutShort fault replay.old (lines_of input) replay.new (W.contents out.old) (W.contents out.new))) }
+        IsCutShort false fault replay.old (lines_of input) replay.new (W.contents out.old) (W.contents out.new))) }
+    ensures cause { IfErr result (IsPossibleFault (W.may_fail out.old) (W.may_take_nothing out.old)) }
+    ensures unreadable { IfErr result (λ fault. fault ≡ DebugFault.Unreadable → MayBeCutOff (R.may_fail lines.old) (R.remaining lines.old)) }
+{
+    debug_lines_to(alloc, false, replay, lines, out)
+}
+
+/// Reads lines up to a line `q` or the end of the input, where `has_more` is true also those of `--more`. Does the command of each line as soon as the line
+/// is read, and writes what it prints. The last line needs no LF. The first refusal ends the session,
+/// and the lines before it are answered: their moves were made, and their answers written in whole.
+/// Unreadable where a read failed, or the input is longer than 2^64 - 2 bytes: nothing else was done. Output where a write failed: the move of the
+/// line whose answer was being written was made, and a beginning of that answer was written. Memory where
+/// memory ran out: nothing of the next line's answer was written, and its move was made or not; a run, or a move to a
+/// moment, may also have gone a part of its way.
+pub fn debug_lines_to<R: Source, W: Destination>(
+    alloc: Global,
+    has_more: bool,
+    replay: &mut Replay,
+    lines: &mut R,
+    out: &mut W,
+) -> Result<(), DebugFault>
+    ensures ok { OnOk result (IfSome (R.remaining lines.old) (λ input.
+        EndsAs (session has_more replay.old (lines_of input)) replay.new (W.contents out.old) (W.contents out.new))) }
+    ensures err { IfErr result (λ fault. IfSome (R.remaining lines.old) (λ input.
+        IsCutShort has_more fault replay.old (lines_of input) replay.new (W.contents out.old) (W.contents out.new))) }
     ensures cause { IfErr result (IsPossibleFault (W.may_fail out.old) (W.may_take_nothing out.old)) }
     ensures unreadable { IfErr result (λ fault. fault ≡ DebugFault.Unreadable → MayBeCutOff (R.may_fail lines.old) (R.remaining lines.old)) }
 {
@@ -46,12 +65,12 @@ pub fn debug_to<R: Source, W: Destination>(
             return Err(DebugFault::Unreadable);
         };
         if count == 0 {
-            match hear_end(alloc, replay, line.as_slice(), out) {
+            match hear_end(alloc, has_more, replay, line.as_slice(), out) {
                 Ok(()) => return Ok(()),
                 Err(fault) => return Err(fault),
             }
         }
-        match hear(alloc, replay, &mut line, &part[..count], out) {
+        match hear(alloc, has_more, replay, &mut line, &part[..count], out) {
             Ok(true) => {}
             Ok(false) => return Ok(()),
             Err(fault) => return Err(fault),
@@ -63,21 +82,22 @@ pub fn debug_to<R: Source, W: Destination>(
 /// Takes the end of the input. `line` is what came after the last LF.
 fn hear_end<W: Destination>(
     alloc: Global,
+    has_more: bool,
     replay: &mut Replay,
     line: &[u8],
     out: &mut W,
 ) -> Result<(), DebugFault>
     requires { All IsInLine line.now }
-    ensures ok { OnOk result (EndsAs (session replay.old (lines_of line.now)) replay.new (W.contents out.old) (W.contents out.new)) }
+    ensures ok { OnOk result (EndsAs (session has_more replay.old (lines_of line.now)) replay.new (W.contents out.old) (W.contents out.new)) }
     ensures err { IfErr result (λ fault.
-        IsCutShort fault replay.old (lines_of line.now) replay.new (W.contents out.old) (W.contents out.new)) }
+        IsCutShort has_more fault replay.old (lines_of line.now) replay.new (W.contents out.old) (W.contents out.new)) }
     ensures fault { IfErr result (λ fault. fault ≢ DebugFault.Unreadable) }
     ensures cause { IfErr result (IsPossibleFault (W.may_fail out.old) (W.may_take_nothing out.old)) }
 {
     if line.is_empty() {
         return Ok(());
     }
-    match answer_line(alloc, replay, line, out) {
+    match answer_line(alloc, has_more, replay, line, out) {
         Ok(_) => Ok(()),
         Err(fault) => Err(fault),
     }
@@ -87,6 +107,7 @@ fn hear_end<W: Destination>(
 /// session goes on; then `line` is the beginning of the next line.
 fn hear<W: Destination>(
     alloc: Global,
+    has_more: bool,
     replay: &mut Replay,
     line: &mut Vec<u8>,
     part: &[u8],
@@ -94,9 +115,9 @@ fn hear<W: Destination>(
 ) -> Result<bool, DebugFault>
     requires { All IsInLine line.old.items }
     ensures ok { IfOk result (λ goes_on.
-        Hears goes_on replay.old line.old.items part.now replay.new line.new.items (W.contents out.old) (W.contents out.new)) }
+        Hears has_more goes_on replay.old line.old.items part.now replay.new line.new.items (W.contents out.old) (W.contents out.new)) }
     ensures err { IfErr result (λ fault.
-        IsCutIn fault replay.old (line.old.items ++ part.now) replay.new (W.contents out.old) (W.contents out.new)) }
+        IsCutIn has_more fault replay.old (line.old.items ++ part.now) replay.new (W.contents out.old) (W.contents out.new)) }
     ensures fault { IfErr result (λ fault. fault ≢ DebugFault.Unreadable) }
     ensures cause { IfErr result (IsPossibleFault (W.may_fail out.old) (W.may_take_nothing out.old)) }
     ensures same { (W.may_fail out.new → W.may_fail out.old) × (W.may_take_nothing out.new → W.may_take_nothing out.old) }
@@ -108,7 +129,7 @@ fn hear<W: Destination>(
                 Err(_) => return Err(DebugFault::Memory),
             }
         }
-        match answer_line(alloc, replay, line.as_slice(), out) {
+        match answer_line(alloc, has_more, replay, line.as_slice(), out) {
             Ok(true) => line.clear(),
             Ok(false) => return Ok(false),
             Err(fault) => return Err(fault),
@@ -120,20 +141,21 @@ fn hear<W: Destination>(
 /// Does the command of a line, and writes what it prints. Returns whether the session goes on.
 fn answer_line<W: Destination>(
     alloc: Global,
+    has_more: bool,
     replay: &mut Replay,
     line: &[u8],
     out: &mut W,
 ) -> Result<bool, DebugFault>
-    ensures goes_on { IfOk result (λ goes_on. goes_on ≡ not (is_quit (command_of line.now))) }
-    ensures replay { OnOk result (replay.new ≡ after_line replay.old (command_of line.now)) }
-    ensures text { OnOk result (Appends (W.contents out.old) (W.contents out.new) (line_text replay.old (command_of line.now))) }
+    ensures goes_on { IfOk result (λ goes_on. goes_on ≡ not (is_quit (heard_of has_more line.now))) }
+    ensures replay { OnOk result (replay.new ≡ after_line replay.old (heard_of has_more line.now)) }
+    ensures text { OnOk result (Appends (W.contents out.old) (W.contents out.new) (line_text replay.old (heard_of has_more line.now))) }
     ensures err { IfErr result (λ fault.
-        IsCutAnswer fault replay.old line.now replay.new (W.contents out.old) (W.contents out.new)) }
+        IsCutAnswer has_more fault replay.old line.now replay.new (W.contents out.old) (W.contents out.new)) }
     ensures fault { IfErr result (λ fault. fault ≢ DebugFault.Unreadable) }
     ensures cause { IfErr result (IsPossibleFault (W.may_fail out.old) (W.may_take_nothing out.old)) }
     ensures same { (W.may_fail out.new → W.may_fail out.old) × (W.may_take_nothing out.new → W.may_take_nothing out.old) }
 {
-    let Ok(command) = command_of(alloc, line) else {
+    let Ok(command) = heard_of(alloc, has_more, line) else {
         return Err(DebugFault::Memory);
     };
     let Ok(text) = line_text(alloc, replay, command) else {
