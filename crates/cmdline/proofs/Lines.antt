@@ -8,8 +8,8 @@ use Rattle.clap.specs.Words.{Text, first_of, first_value, is_simple, is_simple_a
 use Rattle.clap.specs.declared.parser.matches.Found.{Found}
 use Rattle.clap.proofs.OnLiterals.{clap_on_literals}
 use Rattle.clap.proofs.WalkLemmas.{first_value-rows}
-use Rattle.cmdline.specs.Line.{AsmOf, Asked, ConflictsOf, DebugOf, DisOf, MigrateOf, RunOf, SeqOf, requested, is_call_number, is_operand, is_worker_number, last_call, max_workers, number_in, run_of, rvstm_app, top_app, written_app, written_of}
-use Rattle.cmdline.proofs.FileWords.{after_option, file_level, file_walked, may_end, number_asked, number_level, option_level, option_passes, option_walked, rows_at_end}
+use Rattle.cmdline.specs.Line.{AsmOf, Asked, ConflictsOf, DebugOf, DisOf, MigrateOf, RunOf, SeqOf, requested, debug_of, is_call_number, is_operand, is_worker_number, last_call, max_workers, number_in, run_of, rvstm_app, top_app, written_app, written_of}
+use Rattle.cmdline.proofs.FileWords.{after_option, file_level, file_walked, may_end, number_level, option_level, option_passes, option_walked, rows_at_end}
 use Rattle.cmdline.proofs.Numbers.{is_no_flag, number_is_read}
 
 -- `get_str` reads the rows
@@ -166,6 +166,10 @@ unfolding clap_on_literals
 dis_is_asked program file o =
     ap (λ (w : Walk). option_map DisOf (first_of (codes "file") (rows_at_end dis_shape w))) (file_walked dis_shape file o)
 
+-- where the walk stands after `debug FILE --call N`
+abbrev after_debug : Text → Text → Walk
+after_debug = after_option debug_shape (codes "call") (codes "--call")
+
 -- the same of `debug FILE --call N`
 pub debug_is_taken : (program file word : Text) → is_operand file ≡ true → is_call_number word ≡ true
     → takes rvstm_app (program ∷ codes "debug" ∷ file ∷ codes "--call" ∷ word ∷ []) ≡ true
@@ -174,10 +178,43 @@ debug_is_taken program file word o n =
     and_from _ _ (number_level debug_shape (codes "call") (codes "--call") 0 last_call file word refl o n refl refl refl) refl
 
 pub debug_is_asked : (program file word : Text) → is_operand file ≡ true → is_call_number word ≡ true
-    → requested (program ∷ codes "debug" ∷ file ∷ codes "--call" ∷ word ∷ []) ≡ Some (DebugOf file (number_in word))
+    → requested (program ∷ codes "debug" ∷ file ∷ codes "--call" ∷ word ∷ []) ≡ Some (DebugOf file (number_in word) false)
 unfolding clap_on_literals
 debug_is_asked program file word o n =
-    number_asked debug_shape (codes "call") (codes "--call") 0 last_call file word refl o n DebugOf refl refl
+    ap (λ (w : Walk). debug_of (rows_at_end debug_shape w)) (option_walked debug_shape (codes "call") (codes "--call") file word refl o (is_no_flag 0 last_call word n) [])
+    ∙ ap (option_map (λ (number : ℕ). DebugOf file number false)) (number_is_read 0 last_call word n)
+
+-- so is `debug FILE --call N --more`
+abbrev with_more : Text → Text → Walk
+with_more file word = walked debug_shape.rules [] (after_debug file word) (codes "--more")
+
+debug_more_walked : (file word : Text) → is_operand file ≡ true → is_operand word ≡ true
+    → walk debug_shape.rules [] nothing_held (file ∷ codes "--call" ∷ word ∷ codes "--more" ∷ []) ≡ with_more file word
+unfolding clap_on_literals
+debug_more_walked file word o p = option_walked debug_shape (codes "call") (codes "--call") file word refl o p (codes "--more" ∷ [])
+
+debug_more_passes : (file word : Text) → is_call_number word ≡ true → turn_passes debug_shape [] (after_debug file word) (codes "--more") ≡ true
+unfolding clap_on_literals
+debug_more_passes file word n = and_from ((is_call_number word && true) && true) true (and_from (is_call_number word && true) true (and_from (is_call_number word) true n refl) refl) refl
+
+pub debug_more_is_taken : (program file word : Text) → is_operand file ≡ true → is_call_number word ≡ true
+    → takes rvstm_app (program ∷ codes "debug" ∷ file ∷ codes "--call" ∷ word ∷ codes "--more" ∷ []) ≡ true
+unfolding clap_on_literals
+debug_more_is_taken program file word o n =
+    let p : is_operand word ≡ true = is_no_flag 0 last_call word n in
+    and_from _ _
+    (and_from _ _
+    (option_passes debug_shape (codes "call") (codes "--call") file word refl o p refl refl (codes "--more" ∷ [])
+    (and_from _ _ (debug_more_passes file word n) refl))
+    (ap (may_end debug_shape) (debug_more_walked file word o p)))
+    refl
+
+pub debug_more_is_asked : (program file word : Text) → is_operand file ≡ true → is_call_number word ≡ true
+    → requested (program ∷ codes "debug" ∷ file ∷ codes "--call" ∷ word ∷ codes "--more" ∷ []) ≡ Some (DebugOf file (number_in word) true)
+unfolding clap_on_literals
+debug_more_is_asked program file word o n =
+    ap (λ (w : Walk). debug_of (rows_at_end debug_shape w)) (debug_more_walked file word o (is_no_flag 0 last_call word n))
+    ∙ ap (option_map (λ (number : ℕ). DebugOf file number true)) (number_is_read 0 last_call word n)
 
 -- the same of `migrate FILE --out OUT`
 pub migrate_is_taken : (program file out : Text) → is_operand file ≡ true → is_operand out ≡ true

@@ -100,9 +100,13 @@ asm_app = written_app (codes "asm")
 abbrev pub dis_app : App
 dis_app = with_rule (new_app (codes "dis")) file_rule
 
--- `debug FILE --call N`
+-- the option `--more`, a word that may stand or not
+abbrev pub more_rule : Rule
+more_rule = record (new_rule (codes "more")) { long = Some (codes "more"); action = Some action.SetTrue }
+
+-- `debug FILE --call N`, and `--more` behind it
 abbrev pub debug_app : App
-debug_app = with_rule (with_rule (new_app (codes "debug")) file_rule) call_rule
+debug_app = with_rule (with_rule (with_rule (new_app (codes "debug")) file_rule) call_rule) more_rule
 
 -- `migrate FILE --out FILE`
 abbrev pub migrate_app : App
@@ -163,7 +167,7 @@ pub data Asked : Type 0 where
   DriveOf : Text → ℕ → Text → Bool → Asked
   AsmOf : Text → Text → Asked
   DisOf : Text → Asked
-  DebugOf : Text → ℕ → Asked
+  DebugOf : Text → ℕ → Bool → Asked
   MigrateOf : Text → Text → Asked
   ChainOf : Option ℕ → Option ℕ → Option ℕ → Bool → Bool → Asked
 
@@ -174,7 +178,7 @@ asked_by (Conflicts file) = ConflictsOf file.now
 asked_by (Drive file workers schedule counts) = DriveOf file.now workers schedule.now counts
 asked_by (Asm file out) = AsmOf file.now out.now
 asked_by (Dis file) = DisOf file.now
-asked_by (Debug file call) = DebugOf file.now call
+asked_by (Debug file call more) = DebugOf file.now call more
 asked_by (Migrate file out) = MigrateOf file.now out.now
 asked_by (Chain workers limit gas digest brief) = ChainOf workers limit gas digest brief
 
@@ -201,6 +205,10 @@ numbered_of ask option rows = option_and_then (λ file. option_map (ask file) (n
 -- what `run` asks for, from what clap found
 abbrev pub run_of : List Row → Option Asked
 run_of rows = numbered_of (λ file workers. RunOf file workers (flag_at (codes "counts") rows)) (codes "workers") rows
+
+-- what `debug` asks for, from what clap found
+abbrev pub debug_of : List Row → Option Asked
+debug_of rows = numbered_of (λ file call. DebugOf file call (flag_at (codes "more") rows)) (codes "call") rows
 
 -- what `drive` asks for, from what clap found
 abbrev pub drive_of : List Row → Option Asked
@@ -243,7 +251,7 @@ asked_in found = if bytes_eq found.0 (codes "run")
     else if bytes_eq found.0 (codes "dis")
     then option_map DisOf (first_of (codes "file") found.1)
     else if bytes_eq found.0 (codes "debug")
-    then numbered_of DebugOf (codes "call") found.1
+    then debug_of found.1
     else if bytes_eq found.0 (codes "migrate")
     then written_of MigrateOf found.1
     else if bytes_eq found.0 (codes "chain")

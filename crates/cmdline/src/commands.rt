@@ -2,7 +2,7 @@
 
 ghost use Rattle.std.specs.Prelude.{◌≡◌, IfOk, Some, codes, false, true};
 ghost use Rattle.clap.specs.Words.{App, app_of, new_app, rule_of, with_rule, with_subcommand};
-ghost use Rattle.cmdline.specs.Line.{asm_app, brief_rule, call_rule, chain_app, conflicts_app, counts_rule, debug_app, digest_rule, dis_app, drive_app, file_rule, frame_gas_rule, frame_limit_rule, migrate_app, out_rule, run_app, rvstm_app, schedule_rule, seq_app, top_app, workers_rule};
+ghost use Rattle.cmdline.specs.Line.{asm_app, brief_rule, call_rule, chain_app, conflicts_app, counts_rule, debug_app, digest_rule, dis_app, drive_app, file_rule, frame_gas_rule, frame_limit_rule, migrate_app, more_rule, out_rule, run_app, rvstm_app, schedule_rule, seq_app, top_app, workers_rule};
 
 use clap::{Arg, ArgAction, Command, value_parser};
 use std::alloc::{AllocError, Global};
@@ -118,7 +118,7 @@ fn dis<'a>(alloc: Global) -> Result<Command<'a>, AllocError>
     file_command(alloc, "dis", about, "The ELF file")
 }
 
-/// `debug FILE --call N`
+/// `debug FILE --call N --more`
 fn debug<'a>(alloc: Global) -> Result<Command<'a>, AllocError>
     ensures { IfOk result (λ c. app_of c ≡ debug_app) }
 {
@@ -129,7 +129,8 @@ fn debug<'a>(alloc: Global) -> Result<Command<'a>, AllocError>
         about,
         "The block file of the call",
         call(alloc),
-    )
+    )?
+    .arg(more(alloc))
 }
 
 /// `migrate FILE --out FILE`
@@ -235,6 +236,18 @@ fn counts<'a>(alloc: Global) -> Arg<'a>
         alloc,
         "counts",
         "Print on standard error what each worker did",
+    )
+}
+
+/// The option `--more`.
+fn more<'a>(alloc: Global) -> Arg<'a>
+    ensures rule { rule_of result ≡ more_rule }
+    ensures local { result.global ≡ false }
+{
+    flag(
+        alloc,
+        "more",
+        "Hear more lines, which h prints, and run no call behind N",
     )
 }
 

@@ -67,6 +67,8 @@ pub enum Request<'a> {
         file: &'a str,
         /// The number of the call, 0 to 1023; the first call of the block has 0.
         call: usize,
+        /// Whether to hear more lines, and to run no call behind this one.
+        more: bool,
     },
     /// Rewrite a block file of format 1 as one of format 2.
     Migrate {
@@ -142,7 +144,12 @@ pub fn request_of<'a>(alloc: Global, words: &'a [String]) -> Result<Option<Reque
     ensures debug { (program file word : List ℕ)
         → map string_bytes words.now ≡ program ∷ codes "debug" ∷ file ∷ codes "--call" ∷ word ∷ []
         → is_operand file ≡ true → is_call_number word ≡ true
-        → AnswersUnlessMemory result (DebugOf file (number_in word)) }
+        → AnswersUnlessMemory result (DebugOf file (number_in word) false) }
+    // so is the same with `--more`
+    ensures debug_more { (program file word : List ℕ)
+        → map string_bytes words.now ≡ program ∷ codes "debug" ∷ file ∷ codes "--call" ∷ word ∷ codes "--more" ∷ []
+        → is_operand file ≡ true → is_call_number word ≡ true
+        → AnswersUnlessMemory result (DebugOf file (number_in word) true) }
     // so is `migrate FILE --out OUT`
     ensures migrate { (program file out : List ℕ)
         → map string_bytes words.now ≡ program ∷ codes "migrate" ∷ file ∷ codes "--out" ∷ out ∷ [] → is_operand file ≡ true → is_operand out ≡ true

@@ -2,7 +2,7 @@
 
 ghost use Rattle.std.specs.Prelude.{◌≡◌, option_and_then, option_map, codes};
 ghost use Rattle.clap.specs.Words.{Text, first_of, found_of, rows_of, subcommand_rows_of};
-ghost use Rattle.cmdline.specs.Line.{AsmOf, Asked, ConflictsOf, DebugOf, DisOf, MigrateOf, SeqOf, asked_by, asked_in, chain_of, drive_of, flag_at, is_decimal, is_decimal_at, number_at, numbered_of, run_of, written_of};
+ghost use Rattle.cmdline.specs.Line.{AsmOf, Asked, ConflictsOf, DisOf, MigrateOf, SeqOf, asked_by, asked_in, chain_of, debug_of, drive_of, flag_at, is_decimal, is_decimal_at, number_at, run_of, written_of};
 
 use crate::Request;
 use clap::ArgMatches;
@@ -99,12 +99,12 @@ fn dis_in<'a>(found: &ArgMatches<'a>) -> Option<Request<'a>>
 /// The request of what clap found for `debug`.
 #[tactic(auto, using(crate::proofs::Lines::first_in_rows))]
 fn debug_in<'a>(found: &ArgMatches<'a>) -> Option<Request<'a>>
-    ensures { option_map asked_by result
-        ≡ numbered_of DebugOf (codes "call") (rows_of (found_of found.now)) }
+    ensures { option_map asked_by result ≡ debug_of (rows_of (found_of found.now)) }
 {
     let file = found.get_str("file")?;
     let call = number_found(found, "call")?;
-    Some(Request::Debug { file, call })
+    let more = flag_found(found, "more");
+    Some(Request::Debug { file, call, more })
 }
 
 /// The request of what clap found for `migrate`.

@@ -141,7 +141,10 @@ fn ending_line(alloc: Global, ending: &Ending) -> Result<String, AllocError>
 {
     let end = end_name(ending.receipt.end);
     let out = bytes_text(alloc, ending.receipt.out.bytes())?;
-    format!(in alloc; "ends {end} {out} {} {}\n", ending.receipt.gas, ending.moment)
+    format!(in alloc;
+        "ends {end} {out} {} {}\n",
+        ending.receipt.gas, ending.moment
+    )
 }
 
 /// The line of a value, or that there is none; refused where memory ran out.

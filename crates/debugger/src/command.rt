@@ -53,11 +53,7 @@ pub fn command_of(alloc: Global, line: &[u8]) -> Result<Option<Command>, AllocEr
 }
 
 /// The same, and where `has_more` is true also the commands of `--more`.
-pub fn heard_of(
-    alloc: Global,
-    has_more: bool,
-    line: &[u8],
-) -> Result<Option<Command>, AllocError>
+pub fn heard_of(alloc: Global, has_more: bool, line: &[u8]) -> Result<Option<Command>, AllocError>
     ensures { IfOk result (λ command. command ≡ heard_of has_more line.now) }
 {
     let fields = parts(alloc, line, b' ')?;

@@ -69,9 +69,9 @@ impl Replay {
         }
     }
 
-    /// The replay of a call over a storage at its moment 0; refused where memory ran out.
+    /// The replay of a call over a storage, at moment 0; refused where memory ran out.
     #[tactic(auto, unfolding(rv_step::specs::Moment::moment_from))]
-    fn start(alloc: Global, call: &Call, store: Store) -> Result<Replay, AllocError>
+    pub fn start(alloc: Global, call: &Call, store: Store) -> Result<Replay, AllocError>
         ensures { IfOk result (λ r. r ≡ record { call = call.now; store = store; moment = 0 }) }
     {
         let _gas = call.gas();

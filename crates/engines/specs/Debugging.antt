@@ -1,5 +1,5 @@
 -- What the engine of `rvstm debug` writes, and what it refuses.
-use Rattle.std.specs.Prelude.{ℕ, List, ◌≡◌, ⊤, Option, Some, None, Result, Ok, Err, slice_get}
+use Rattle.std.specs.Prelude.{ℕ, Bool, List, ◌≡◌, ⊤, Option, Some, None, Result, Ok, Err, slice_get}
 use Rattle.std.specs.Option.{option_map}
 use Rattle.byte_streams.specs.declared.fault.WriteFault.{WriteFault}
 use Rattle.byte_streams.specs.declared.fault.WriteFault.TheVariants as output
@@ -17,15 +17,16 @@ use Rattle.engines.specs.declared.fault.FileFault.TheVariants.{Unreadable}
 abbrev pub first_moment : Job → ℕ → Option ReplayState
 first_moment job index = option_map (λ call. record { call = call; store = store_before job.block index job.store; moment = 0 }) (slice_get job.block index)
 
--- what a session from a moment on prints for what is typed; NoSuchCall where there is no such moment
-abbrev pub session_text : Option ReplayState → List ℕ → Result (List ℕ) Refusal
-session_text (Some r) typed = Ok (session r (lines_of typed)).text
-session_text None typed = Err (Debug debug.NoSuchCall)
+-- what a session from a moment on prints for what is typed, where the lines of `--more` are heard or are not; NoSuchCall
+-- where there is no such moment
+abbrev pub session_text : Bool → Option ReplayState → List ℕ → Result (List ℕ) Refusal
+session_text has_more (Some r) typed = Ok (session has_more r (lines_of typed)).text
+session_text has_more None typed = Err (Debug debug.NoSuchCall)
 
--- what a session over the call at an index of a job prints, or the first fault
-abbrev pub replayed_text : Result Job Refusal → ℕ → List ℕ → Result (List ℕ) Refusal
-replayed_text (Err fault) index typed = Err fault
-replayed_text (Ok job) index typed = session_text (first_moment job index) typed
+-- what a session over the call at an index of a job prints, or the first fault; the calls behind it make no difference
+abbrev pub replayed_text : Bool → Result Job Refusal → ℕ → List ℕ → Result (List ℕ) Refusal
+replayed_text has_more (Err fault) index typed = Err fault
+replayed_text has_more (Ok job) index typed = session_text has_more (first_moment job index) typed
 
 -- a refusal before a session over the call at an index: Memory, or NoSuchCall where there is no such call
 abbrev pub IsReplayFault : Job → ℕ → Refusal → Type 0

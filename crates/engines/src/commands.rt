@@ -189,7 +189,7 @@ fn answer<T: Threads + Wait + Sync, D: Disk, I: Read, W: Destination, E: Destina
         Request::Asm { file, out } => asm(alloc, disk, file, out),
         Request::Dis { file } => dis(alloc, disk, file, out),
         Request::Migrate { file, out } => migrate(alloc, disk, file, out),
-        Request::Debug { file, call } => debug(alloc, disk, file, call, input, out),
+        Request::Debug { file, call, more } => debug(alloc, disk, file, call, more, input, out),
         Request::Chain {
             workers,
             frame_limit,
@@ -361,13 +361,22 @@ fn debug<D: Disk, I: Read, W: Destination>(
     disk: &D,
     file: &str,
     call: usize,
+    has_more: bool,
     input: &mut I,
     out: &mut W,
 ) -> Result<(), Refusal> {
     let mut block = opened(disk, file)?;
     let mut programs = ProgramFiles { disk };
     let mut lines = FallibleReader { reader: input };
-    debug_block_to(alloc, &mut block, &mut programs, call, &mut lines, out)
+    debug_block_to(
+        alloc,
+        has_more,
+        &mut block,
+        &mut programs,
+        call,
+        &mut lines,
+        out,
+    )
 }
 
 /// The settings of a session, by the options of `chain`.

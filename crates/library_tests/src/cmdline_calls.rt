@@ -95,6 +95,7 @@ const LINES: &[(&str, Request<'static>)] = &[
         Request::Debug {
             file: "a.block",
             call: 0,
+            more: false,
         },
     ),
     (
@@ -102,6 +103,15 @@ const LINES: &[(&str, Request<'static>)] = &[
         Request::Debug {
             file: "a.block",
             call: 1023,
+            more: false,
+        },
+    ),
+    (
+        "rvstm debug --more a.block --call 7",
+        Request::Debug {
+            file: "a.block",
+            call: 7,
+            more: true,
         },
     ),
     (

@@ -6,7 +6,7 @@ use Rattle.cmdline.specs.Line.{Asked, requested, asked_by, asked_in, rvstm_app}
 use Rattle.cmdline.specs.declared.Request.{Request}
 use Rattle.cmdline.proofs.ChainLine.{chain_all_is_asked, chain_all_is_taken, chain_is_asked, chain_is_taken, chain_settings_is_asked, chain_settings_is_taken, chain_workers_is_asked, chain_workers_is_taken}
 use Rattle.cmdline.proofs.DriveLine.{drive_counts_is_asked, drive_counts_is_taken, drive_is_asked, drive_is_taken}
-use Rattle.cmdline.proofs.Lines.{asm_is_asked, asm_is_taken, conflicts_is_asked, conflicts_is_taken, debug_is_asked, debug_is_taken, dis_is_asked, dis_is_taken, is_plain, migrate_is_asked, migrate_is_taken, run_counts_is_asked, run_counts_is_taken, run_is_asked, run_is_taken, seq_is_asked, seq_is_taken}
+use Rattle.cmdline.proofs.Lines.{asm_is_asked, asm_is_taken, conflicts_is_asked, conflicts_is_taken, debug_is_asked, debug_is_taken, debug_more_is_asked, debug_more_is_taken, dis_is_asked, dis_is_taken, is_plain, migrate_is_asked, migrate_is_taken, run_counts_is_asked, run_counts_is_taken, run_is_asked, run_is_taken, seq_is_asked, seq_is_taken}
 use Rattle.cmdline.proofs.request_of.Goals as goal
 
 pub returns-clause-refused : goal.returns-clause-refused
@@ -107,6 +107,16 @@ returns-in_err-matches-clause-debug c = λ program file word line operand number
 pub returns-clause-debug : goal.returns-clause-debug
 returns-clause-debug c = λ program file word line operand number.
     is_asked _ _ line _ _ _ c.in_ok-matches.ensures.found c.request_in.ensures (debug_is_asked program file word operand number)
+
+pub returns-in_err-matches-clause-debug_more : goal.returns-in_err-matches-clause-debug_more
+returns-in_err-matches-clause-debug_more c = λ program file word line operand number.
+    let kind_is : kind_of c.in_err-matches.field-0.0 ≡ kind.OutOfMemory =
+    c.in_err-matches.ensures.passes (ap (takes rvstm_app) line ∙ debug_more_is_taken program file word operand number) in
+    search (rules, kind_is)
+
+pub returns-clause-debug_more : goal.returns-clause-debug_more
+returns-clause-debug_more c = λ program file word line operand number.
+    is_asked _ _ line _ _ _ c.in_ok-matches.ensures.found c.request_in.ensures (debug_more_is_asked program file word operand number)
 
 pub returns-in_err-matches-clause-migrate : goal.returns-in_err-matches-clause-migrate
 returns-in_err-matches-clause-migrate c = λ program file out line operand second.

@@ -1,4 +1,4 @@
-use Rattle.std.proofs.Common.{ℕ, List, Option, IfSome}
+use Rattle.std.proofs.Common.{ℕ, Bool, List, Option, IfSome}
 use Rattle.std.proofs.lemmas.Option.{IfSome_then}
 use Rattle.debugger.specs.declared.fault.DebugFault.{DebugFault}
 use Rattle.debugger.specs.Replay.{ReplayState}
@@ -8,24 +8,24 @@ use Rattle.engines.proofs.Sessions.{of_output}
 use Rattle.engines.proofs.debugging.debug_lines.Goals as goal
 
 -- a session that was cut short has written a beginning of what it prints
-begins : (typed : Option (List ℕ)) (fault : DebugFault) (old new : ReplayState) (before after : Option (List ℕ)) → IfSome typed (λ lines. IsCutShort fault old (lines_of lines) new before after) → IfSome typed (λ lines. AppendsBeginning before after (session old (lines_of lines)).text)
-begins typed fault old new before after cut =
-    IfSome_then typed cut (λ lines h. cut_short_begins fault old (lines_of lines) new before after h)
+begins : (has_more : Bool) (typed : Option (List ℕ)) (fault : DebugFault) (old new : ReplayState) (before after : Option (List ℕ)) → IfSome typed (λ lines. IsCutShort has_more fault old (lines_of lines) new before after) → IfSome typed (λ lines. AppendsBeginning before after (session has_more old (lines_of lines)).text)
+begins has_more typed fault old new before after cut =
+    IfSome_then typed cut (λ lines h. cut_short_begins has_more fault old (lines_of lines) new before after h)
 
 pub returns-in-Err-Unreadable-clause-cut : goal.returns-in-Err-Unreadable-clause-cut
 returns-in-Err-Unreadable-clause-cut g c =
-    begins (g.L.Read.remaining c.args.lines.now) c.in-Err-Unreadable.field-0 c.args.replay.now c.debug_to.new.replay
-    (g.W.Write.contents c.args.out.now) (g.W.Write.contents c.debug_to.new.out) c.in-Err-Unreadable.ensures.err
+    begins c.args.has_more (g.L.Read.remaining c.args.lines.now) c.in-Err-Unreadable.field-0 c.args.replay.now c.debug_lines_to.new.replay
+    (g.W.Write.contents c.args.out.now) (g.W.Write.contents c.debug_lines_to.new.out) c.in-Err-Unreadable.ensures.err
 
 pub returns-in-Err-Output-clause-cut : goal.returns-in-Err-Output-clause-cut
 returns-in-Err-Output-clause-cut g c =
-    begins (g.L.Read.remaining c.args.lines.now) c.in-Err-Output.field-0 c.args.replay.now c.debug_to.new.replay
-    (g.W.Write.contents c.args.out.now) (g.W.Write.contents c.debug_to.new.out) c.in-Err-Output.ensures.err
+    begins c.args.has_more (g.L.Read.remaining c.args.lines.now) c.in-Err-Output.field-0 c.args.replay.now c.debug_lines_to.new.replay
+    (g.W.Write.contents c.args.out.now) (g.W.Write.contents c.debug_lines_to.new.out) c.in-Err-Output.ensures.err
 
 pub returns-in-Err-Memory-clause-cut : goal.returns-in-Err-Memory-clause-cut
 returns-in-Err-Memory-clause-cut g c =
-    begins (g.L.Read.remaining c.args.lines.now) c.in-Err-Memory.field-0 c.args.replay.now c.debug_to.new.replay
-    (g.W.Write.contents c.args.out.now) (g.W.Write.contents c.debug_to.new.out) c.in-Err-Memory.ensures.err
+    begins c.args.has_more (g.L.Read.remaining c.args.lines.now) c.in-Err-Memory.field-0 c.args.replay.now c.debug_lines_to.new.replay
+    (g.W.Write.contents c.args.out.now) (g.W.Write.contents c.debug_lines_to.new.out) c.in-Err-Memory.ensures.err
 
 pub returns-in-Err-Output-clause-refused : goal.returns-in-Err-Output-clause-refused
 returns-in-Err-Output-clause-refused g c =
