@@ -6,14 +6,16 @@ use Rattle.std.proofs.lemmas.List.Elements.{All-append, All-nil}
 use Rattle.byte_streams.specs.Written.{AppendsPart}
 use Rattle.byte_streams.specs.declared.fault.WriteFault.TheVariants as output
 use Rattle.debugger.specs.declared.command.Command.{Command}
-use Rattle.debugger.specs.declared.command.Command.TheVariants.{Step, Back, RunTo, Where, Registers, Bytes, Quit}
+use Rattle.debugger.specs.declared.command.Command.TheVariants.{Step, Back, RunTo, Where, Registers, Bytes, Quit, GoTo, RunToChange, End, Value, Help}
 use Rattle.debugger.specs.declared.fault.DebugFault.{DebugFault}
 use Rattle.debugger.specs.declared.fault.DebugFault.TheVariants.{Memory, Output, Unreadable}
 use Rattle.debugger.specs.Command.{heard_of}
-use Rattle.debugger.specs.Replay.{ReplayState}
+use Rattle.debugger.specs.More.{changes}
+use Rattle.debugger.specs.Replay.{ReplayState, has_pc}
 use Rattle.debugger.specs.Session.{AppendsBeginning, Ending, IsCutAt, IsCutShort, IsHeardOn, IsOnWay, IsPossibleFault, is_quit, line_text, lines_of, session}
 use Rattle.debugger.specs.Hearing.{HasAnswered, IsCutAnswer, IsCutIn, IsInLine}
 use Rattle.debugger.proofs.Lines.{last_line, line_and_more}
+use Rattle.debugger.proofs.MomentMoves.{still_towards}
 use Rattle.debugger.proofs.Stops.{still_past}
 use Rattle.debugger.proofs.SessionInputs.{all_of, more_text, session_append, session_nil, session_on, session_quit, with_more}
 
@@ -37,11 +39,16 @@ not_moved : (r : ReplayState) (command : Option Command) → IsOnWay r command r
 not_moved r None = inl refl
 not_moved r (Some Step) = inl refl
 not_moved r (Some Back) = inl refl
-not_moved r (Some (RunTo pc)) = inr (still_past pc r)
+not_moved r (Some (RunTo pc)) = inr (still_past (has_pc pc) r)
 not_moved r (Some Where) = inl refl
 not_moved r (Some Registers) = inl refl
 not_moved r (Some (Bytes address count)) = inl refl
 not_moved r (Some Quit) = inl refl
+not_moved r (Some (GoTo moment)) = inr (still_towards moment r)
+not_moved r (Some (RunToChange address len)) = inr (still_past (changes address len r) r)
+not_moved r (Some End) = inl refl
+not_moved r (Some (Value key)) = inl refl
+not_moved r (Some Help) = inl refl
 
 -- a read of no byte
 pub read_none : (r0 r1 r2 : Option (List ℕ)) (heard buf : List ℕ) (n : ℕ) → n ≡ 0 → Consumes r0 r1 heard → Consumes r1 r2 (take n buf) → Consumes r0 r2 heard

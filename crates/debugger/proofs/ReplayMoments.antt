@@ -1,5 +1,5 @@
 -- Runs that stand where a call does.
-use Rattle.std.proofs.Common.{◌≡◌, ℕ, ◌+◌, ◌-◌, ◌<◌, Bool, true, false, if◌then◌else◌, refl, sym, ap, subst, ◌∙◌, arith, add-one, below_more, Some, None}
+use Rattle.std.proofs.Common.{◌≡◌, ℕ, suc, ◌+◌, ◌-◌, ◌<◌, Bool, true, false, if◌then◌else◌, refl, sym, ap, subst, ◌∙◌, arith, add-one, below_more, Some, None}
 use Rattle.rv_ledger.specs.Key.{Storage}
 use Rattle.rv_ledger.specs.Call.{Invocation}
 use Rattle.rv_step.specs.declared.machine.Machine.{Machine}
@@ -29,10 +29,13 @@ pub goes_on_more : (call : Invocation) (store : Storage) (n : ℕ) → GoesOn ca
 goes_on_more call store n before here = below_more (λ (k : ℕ). is_over (moment_over call store k) ≡ false) n before here
 
 -- a moment more
-pub next_moment : (call : Invocation) (store : Storage) (n : ℕ) → moment_over call store (n + 1) ≡ advance_over store (moment_over call store n)
-next_moment call store n =
+pub next_suc : (call : Invocation) (store : Storage) (n : ℕ) → moment_over call store (suc n) ≡ advance_over store (moment_over call store n)
+next_suc call store n =
     let first : Progress = Going (start call) in
-    rw add-one (ap (λ (at : Progress × Storage). at.0) (one_more from_storage n (first, store) ∙ ap (advance from_storage) (keeps_storage store first n)))
+    ap (λ (at : Progress × Storage). at.0) (one_more from_storage n (first, store) ∙ ap (advance from_storage) (keeps_storage store first n))
+
+pub next_moment : (call : Invocation) (store : Storage) (n : ℕ) → moment_over call store (n + 1) ≡ advance_over store (moment_over call store n)
+next_moment call store n = rw add-one (next_suc call store n)
 
 -- a run that made a step stands at the next moment
 pub stands_next : (call : Invocation) (store : Storage) (n : ℕ) (old new : RunView) → IsRunAt (moment_over call store n) old → is_over (moment_over call store n) ≡ false → IsRunAt (advance_over store (Going old.machine)) new → IsRunAt (moment_over call store (n + 1)) new

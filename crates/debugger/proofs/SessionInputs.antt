@@ -6,7 +6,7 @@ use Rattle.std.proofs.Math.Seq.{take-suc}
 use Rattle.std.proofs.lemmas.Bool.Decides.{nat_tests}
 use Rattle.std.proofs.lemmas.List.Elements.{All-append, All-cons, All-head, All-nil, All-tail}
 use Rattle.debugger.specs.declared.command.Command.{Command}
-use Rattle.debugger.specs.declared.command.Command.TheVariants.{Step, Back, RunTo, Where, Registers, Bytes, Quit}
+use Rattle.debugger.specs.declared.command.Command.TheVariants.{Step, Back, RunTo, Where, Registers, Bytes, Quit, GoTo, RunToChange, End, Value, Help}
 use Rattle.debugger.specs.Command.{heard_of}
 use Rattle.debugger.specs.Replay.{ReplayState}
 use Rattle.debugger.specs.Session.{Ending, EndsAs, IsHeardOn, after_line, behind, is_quit, line_text, lines_of, session}
@@ -31,6 +31,11 @@ quit_is r (Some Where) e = cc
 quit_is r (Some Registers) e = cc
 quit_is r (Some (Bytes address count)) e = cc
 quit_is r (Some Quit) e = refl
+quit_is r (Some (GoTo moment)) e = cc
+quit_is r (Some (RunToChange address len)) e = cc
+quit_is r (Some End) e = cc
+quit_is r (Some (Value key)) e = cc
+quit_is r (Some Help) e = cc
 
 behind_behind : (a b : List ℕ) (e : Ending) → behind a (behind b e) ≡ behind (a ++ b) e
 behind_behind a b e = ap (λ (t : List ℕ). record e { text = t }) (sym (append_assoc a b e.text))

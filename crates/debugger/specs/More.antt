@@ -7,6 +7,7 @@ use Rattle.receipts.specs.Text.{bytes_text, end_name, line_of}
 use Rattle.rv_ledger.specs.Call.{Invocation}
 use Rattle.rv_ledger.specs.Change.{Content, ContentChange, apply_change}
 use Rattle.rv_ledger.specs.Key.{Storage}
+use Rattle.rv_ledger.specs.declared.end.End.{End}
 use Rattle.rv_ledger.specs.declared.receipt.Receipt.{Receipt}
 use Rattle.rv_mem.specs.Space.{bytes_at}
 use Rattle.rv_step.specs.declared.machine.Machine.{Machine}
@@ -69,13 +70,16 @@ abbrev pub last_moment : Invocation → Storage → ℕ
 last_moment call store = first_stop (call.gas + 1) never call store 0
 
 -- how a call ended, its output, the gas that it used, and its last moment
-abbrev pub ending_line : Receipt → ℕ → List ℕ
-ending_line receipt moment =
-    line_of (codes "ends") (end_name receipt.end ∷ bytes_text receipt.out ∷ decimal receipt.gas ∷ decimal moment ∷ [])
+abbrev pub ending_line : End → List ℕ → ℕ → ℕ → List ℕ
+ending_line end out gas moment = line_of (codes "ends") (end_name end ∷ bytes_text out ∷ decimal gas ∷ decimal moment ∷ [])
+
+-- the line of a receipt
+abbrev pub receipt_line : Receipt → ℕ → List ℕ
+receipt_line receipt moment = ending_line receipt.end receipt.out receipt.gas moment
 
 -- the line of the call of a replay, over its storage
 abbrev pub end_line : ReplayState → List ℕ
-end_line r = ending_line (ends r.call r.store) (last_moment r.call r.store)
+end_line r = receipt_line (ends r.call r.store) (last_moment r.call r.store)
 
 -- what a READ finds where the storage has a content: that, or what the call's own change has made of it
 abbrev pub content_with : Option ContentChange → Content → Content

@@ -1,5 +1,5 @@
 -- Private help of proofs: no public clause cites it. Where the run inside a replay stands.
-use Rattle.std.specs.Prelude.{◌≡◌, ℕ, ◌<◌, ◌^◌, false}
+use Rattle.std.specs.Prelude.{◌≡◌, ℕ, ◌<◌, ◌^◌, Bool, true, false}
 use Rattle.std.specs.FinMap as map
 use Rattle.rv_ledger.specs.Key.{Storage}
 use Rattle.rv_ledger.specs.Call.{Invocation}
@@ -32,6 +32,17 @@ GoesOn call store moment = (n : ℕ) → n < moment → is_over (moment_over cal
 pub record IsReplay (call : Invocation) (store : Storage) (run : RunView) (moment : ℕ) : Type 0 where
   pub gas : call.gas < 2 ^ 32
   pub stands : IsRunAt (moment_over call store moment) run
+  pub earlier : GoesOn call store moment
+
+-- the call of a run is over
+abbrev pub is_ended : Stage → Bool
+is_ended (Ended end out) = true
+is_ended _ = false
+
+-- the run stands at the last moment of the call
+pub record HasEnded (call : Invocation) (store : Storage) (run : RunView) (moment : ℕ) : Type 0 where
+  pub stands : IsRunAt (moment_over call store moment) run
+  pub ended : is_ended run.stage ≡ true
   pub earlier : GoesOn call store moment
 
 -- a run that asked for a key was answered from a storage; a run that did not ask stays as it was

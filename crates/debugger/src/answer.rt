@@ -3,15 +3,14 @@
 ghost use Rattle.std.specs.Prelude.{◌≡◌, ◌++◌, ◌∷◌, [], IfOk, OnErr, OnOk};
 ghost use Rattle.std.specs.String.{string_bytes};
 ghost use Rattle.debugger.specs.declared.fault.ReplayFault.TheVariants.{AtEnd, AtStart};
-ghost use Rattle.debugger.specs.More.{at_moment, content_line, content_now, end_line, ending_line, help_text};
+ghost use Rattle.debugger.specs.More.{at_moment, content_line, help_text};
 ghost use Rattle.debugger.specs.Replay.{bytes_seen, has_pc, next_of, previous_of};
 ghost use Rattle.debugger.specs.Session.{IsOnWay, after_command, after_line, answer_text, change_of, changed_text, line_text, moved, moved_text, refusal_line, seen_text, stop_of, where_line};
 
 use crate::command::Command;
-use crate::ending::Ending;
 use crate::fault::ReplayFault;
 use crate::replay::Replay;
-use receipts::{bytes_text, end_name, regs_line};
+use receipts::{bytes_text, regs_line};
 use rv_ledger::Value;
 use std::alloc::{AllocError, Global};
 
@@ -48,7 +47,7 @@ fn answer_text(alloc: Global, replay: &mut Replay, command: Command) -> Result<S
         Command::Quit => Ok(String::new(alloc)),
         Command::GoTo(moment) => go_to_text(alloc, replay, moment),
         Command::RunToChange(address, count) => changed_text(alloc, replay, address, count),
-        Command::End => end_line(alloc, replay),
+        Command::End => replay.end_line(),
         Command::Value(key) => content_line(alloc, replay.content(&key)),
         Command::Help => help_text(alloc),
     }
@@ -123,28 +122,6 @@ fn changed_text(
         Err(ReplayFault::BadRange) => refusal_line(alloc, ReplayFault::BadRange),
         Err(_) => Err(AllocError),
     }
-}
-
-/// How the call ends; refused where memory ran out.
-fn end_line(alloc: Global, replay: &Replay) -> Result<String, AllocError>
-    ensures { IfOk result (λ t. string_bytes t ≡ end_line replay.now) }
-{
-    let Ok(ending) = replay.ending() else {
-        return Err(AllocError);
-    };
-    ending_line(alloc, &ending)
-}
-
-/// The line of how a call ended; refused where memory ran out.
-fn ending_line(alloc: Global, ending: &Ending) -> Result<String, AllocError>
-    ensures { IfOk result (λ t. string_bytes t ≡ ending_line ending.now.receipt ending.now.moment) }
-{
-    let end = end_name(ending.receipt.end);
-    let out = bytes_text(alloc, ending.receipt.out.bytes())?;
-    format!(in alloc;
-        "ends {end} {out} {} {}\n",
-        ending.receipt.gas, ending.moment
-    )
 }
 
 /// The line of a value, or that there is none; refused where memory ran out.

@@ -4,7 +4,7 @@ ghost use Rattle.std.specs.Prelude.{◌≡◌};
 ghost use Rattle.debugger.specs.Replay.{is_in_memory};
 
 use crate::content::content_with;
-use crate::ending::{Ending, ending_of};
+use crate::ending::end_line;
 use crate::fault::ReplayFault;
 use crate::place::place_text;
 use crate::running::{run_after, step_run};
@@ -43,11 +43,10 @@ impl Model for Replay {
 }
 
 impl Replay {
-    ghost use Rattle.std.specs.Prelude.{◌≡◌, ◌<◌, ◌≤◌, ◌^◌, ◌++◌, false, true, length, not, IfErr, IfOk, MatchResult, OnOk};
+    ghost use Rattle.std.specs.Prelude.{◌≡◌, ◌<◌, ◌≤◌, ◌^◌, ◌++◌, false, true, length, not, IfErr, IfOk, MatchResult, OnErr, OnOk};
     ghost use Rattle.std.specs.String.{string_bytes};
     ghost use Rattle.debugger.specs.declared.fault.ReplayFault.TheVariants.{AtEnd, AtStart, Memory};
-    ghost use Rattle.rv_step.specs.Chain.{ends};
-    ghost use Rattle.debugger.specs.More.{GoesTo, RunsToChange, has_changed, content_now, last_moment};
+    ghost use Rattle.debugger.specs.More.{GoesTo, RunsToChange, content_now, end_line, has_changed};
     ghost use Rattle.debugger.specs.Replay.{GoesOnBefore, Moves, Opens, RunsTo, Shows, bytes_seen, has_pc, is_at_end, is_in_memory, machine_at, next_of, opened, previous_of, where_text};
 
     /// Opens the replay of a call of an outcome's job, at moment 0. `index` counts the calls from 0.
@@ -139,13 +138,21 @@ impl Replay {
     pub fn go_to(&mut self, moment: u64) -> Result<(), ReplayFault>
         ensures { GoesTo moment result self.old self.new }
     {
-        let first = self.moment;
-        if moment < first {
-            return self.run_again(moment);
+        if moment < self.moment() {
+            return self.go_back_to(moment);
         }
-        while self.moment < moment {
+        self.go_on_to(moment)
+    }
+
+    /// Goes to a moment that is not before this one, as `go_to` does.
+    fn go_on_to(&mut self, moment: u64) -> Result<(), ReplayFault>
+        requires { self.old.moment ≤ moment }
+        ensures { GoesTo moment result self.old self.new }
+    {
+        let first = self.moment();
+        while self.moment() < moment {
             if self.is_at_end() {
-                self.run_again(first)?;
+                self.go_back_to(first)?;
                 return Err(ReplayFault::AtEnd);
             }
             self.step()?;
@@ -155,10 +162,11 @@ impl Replay {
 
     /// Goes to a moment that is not behind this one, by running the call again from its start. Refused as Memory where
     /// memory ran out; then nothing changes.
-    fn run_again(&mut self, moment: u64) -> Result<(), ReplayFault>
+    fn go_back_to(&mut self, moment: u64) -> Result<(), ReplayFault>
         requires { moment ≤ self.old.moment }
         ensures ok { OnOk result (self.new ≡ record self.old { moment = moment }) }
-        ensures err { IfErr result (λ e. (e ≡ Memory) × (self.new ≡ self.old)) }
+        ensures err { IfErr result (λ e. e ≡ Memory) }
+        ensures same { OnErr result (self.new ≡ self.old) }
     {
         match run_after(self.alloc, &self.call, &self.store, moment) {
             Ok(run) => {
@@ -182,56 +190,55 @@ impl Replay {
         if self.is_at_end() {
             return Err(ReplayFault::AtEnd);
         }
-        let Ok(before) = self.bytes(self.alloc, address, len) else {
+        let Ok(mut before) = vec![in self.alloc; 0u8; len as usize] else {
             return Err(ReplayFault::Memory);
         };
-        let Ok(mut now) = self.bytes(self.alloc, address, len) else {
+        let Ok(mut now) = vec![in self.alloc; 0u8; len as usize] else {
             return Err(ReplayFault::Memory);
         };
-        self.run_while_same(address, before.as_slice(), &mut now)
+        self.machine().memory.inspect(address, &mut before);
+        self.run_while_same(address, len, before.as_slice(), &mut now)
     }
 
-    /// Goes to the first later moment at which the bytes from an address on are others than these, or the call is over.
-    /// The call must go on. Refused as Memory where memory ran out, and then the replay stands at a moment before that one.
+    /// Goes to the first later moment at which `len` bytes from an address on are others than these, or the call is over;
+    /// it is not over yet. `now` has room for them. Refused as Memory where memory ran out, and then the replay stands at a
+    /// moment before that one.
     fn run_while_same(
         &mut self,
         address: u32,
+        len: u32,
         before: &[u8],
         now: &mut [u8],
     ) -> Result<(), ReplayFault>
         requires going { is_at_end self.old ≡ false }
-        requires memory { is_in_memory address (length before.now) ≡ true }
-        requires same { length now.old ≡ length before.now }
-        ensures { RunsTo (has_changed address (length before.now) before.now) result self.old self.new }
+        requires memory { is_in_memory address len ≡ true }
+        requires room { length now.old ≡ len }
+        ensures { RunsTo (has_changed address len before.now) result self.old self.new }
     {
         self.step()?;
-        while !self.is_at_end() && self.has_bytes(address, before, now) {
+        while !self.is_at_end() && self.has_bytes(address, len, before, now) {
             self.step()?;
         }
         Ok(())
     }
 
-    /// Whether the bytes of memory from an address on are these. `now` has room for them.
-    fn has_bytes(&self, address: u32, bytes: &[u8], now: &mut [u8]) -> bool
-        requires memory { is_in_memory address (length bytes.now) ≡ true }
-        requires same { length now.old ≡ length bytes.now }
-        ensures value { has_changed address (length bytes.now) bytes.now (machine_at self.now) ≡ not result }
+    /// Whether `len` bytes of memory from an address on are these. `now` has room for them.
+    fn has_bytes(&self, address: u32, len: u32, bytes: &[u8], now: &mut [u8]) -> bool
+        requires memory { is_in_memory address len ≡ true }
+        requires room { length now.old ≡ len }
+        ensures value { has_changed address len bytes.now (machine_at self.now) ≡ not result }
         ensures room { length now.new ≡ length now.old }
     {
         self.machine().memory.inspect(address, now);
         *now == *bytes
     }
 
-    /// How the call ends, by running it again from its start; refused as Memory where memory ran out.
-    pub fn ending(&self) -> Result<Ending, ReplayFault>
-        ensures { MatchResult result
-            (λ e. (e.receipt ≡ ends self.now.call self.now.store) × (e.moment ≡ last_moment self.now.call self.now.store))
-            (λ e. e ≡ Memory) }
+    /// The line of how the call ends, by running it again from its start; refused where memory ran out.
+    pub(crate) fn end_line(&self) -> Result<String, AllocError>
+        ensures { IfOk result (λ t. string_bytes t ≡ end_line self.now) }
     {
-        match ending_of(self.alloc, &self.call, &self.store) {
-            Ok(ending) => Ok(ending),
-            Err(_) => Err(ReplayFault::Memory),
-        }
+        let _gas = self.call.gas();
+        end_line(self.alloc, &self.call, &self.store)
     }
 
     /// What a READ of a key would find now: what the storage has, with the call's own change of the key.

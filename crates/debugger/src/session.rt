@@ -158,18 +158,19 @@ fn answer_line<W: Destination>(
     let Ok(command) = heard_of(alloc, has_more, line) else {
         return Err(DebugFault::Memory);
     };
+    let goes_on = !is_quit(&command);
     let Ok(text) = line_text(alloc, replay, command) else {
         return Err(DebugFault::Memory);
     };
     match print(text.as_bytes(), out) {
-        Ok(()) => Ok(!is_quit(command)),
+        Ok(()) => Ok(goes_on),
         Err(fault) => Err(DebugFault::Output(fault)),
     }
 }
 
 /// Whether a command ends the session.
-fn is_quit(command: Option<Command>) -> bool
-    ensures { result ≡ is_quit command }
+fn is_quit(command: &Option<Command>) -> bool
+    ensures { result ≡ is_quit command.now }
 {
     matches!(command, Some(Command::Quit))
 }

@@ -4,19 +4,19 @@ use Rattle.debugger.proofs.SessionInputs.{hear_byte, hear_line, hear_quit, start
 use Rattle.debugger.proofs.session.hear.Goals as goal
 
 pub loop-byte-init : goal.loop-byte-init
-loop-byte-init g c = (start_heard c.args.replay.now c.args.line.now.items (g.W.Write.contents c.args.out.now) c.requires, λ h. h, λ h. h)
+loop-byte-init g c = (start_heard c.args.has_more c.args.replay.now c.args.line.now.items (g.W.Write.contents c.args.out.now) c.requires, λ h. h, λ h. h)
 
 pub loop-byte-preserved-in-Ok : goal.loop-byte-preserved-in-Ok
 loop-byte-preserved-in-Ok g c = (
   rw c.in-Ok.ensures.items
-      (hear_byte c.args.replay.now c.loop-byte.replay c.args.line.now.items c.args.part.now c.loop-byte.line.items c.loop-byte.byte-index _ _ c.loop-byte-test.true c.loop-byte.invariant.0 c.if-byte-ne-LINE_END.true),
+      (hear_byte c.args.has_more c.args.replay.now c.loop-byte.replay c.args.line.now.items c.args.part.now c.loop-byte.line.items c.loop-byte.byte-index _ _ c.loop-byte-test.true c.loop-byte.invariant.0 c.if-byte-ne-LINE_END.true),
   c.loop-byte.invariant.1,
   c.loop-byte.invariant.2,
 )
 
 pub returns-in-Ok-false-clause-ok : goal.returns-in-Ok-false-clause-ok
 returns-in-Ok-false-clause-ok g c =
-    hear_quit c.args.replay.now c.loop-byte.replay c.args.line.now.items c.args.part.now c.loop-byte.line.items c.loop-byte.byte-index _ _ c.loop-byte-test.true c.loop-byte.invariant.0
+    hear_quit c.args.has_more c.args.replay.now c.loop-byte.replay c.args.line.now.items c.args.part.now c.loop-byte.line.items c.loop-byte.byte-index _ _ c.loop-byte-test.true c.loop-byte.invariant.0
     c.answer_line.new.replay c.loop-byte.line.items _ c.if-byte-ne-LINE_END.false
     (rw c.as_slice.ensures.value at c.in-Ok-false.ensures.replay) (rw c.as_slice.ensures.value at c.in-Ok-false.ensures.text)
     (sym c.in-Ok-false.field-0-test ∙ rw c.as_slice.ensures.value at c.in-Ok-false.ensures.goes_on)
@@ -24,7 +24,7 @@ returns-in-Ok-false-clause-ok g c =
 pub loop-byte-preserved : goal.loop-byte-preserved
 loop-byte-preserved g c = (
   rw c.clear.ensures.items
-      (hear_line c.args.replay.now c.loop-byte.replay c.args.line.now.items c.args.part.now c.loop-byte.line.items c.loop-byte.byte-index _ _ c.loop-byte-test.true c.loop-byte.invariant.0
+      (hear_line c.args.has_more c.args.replay.now c.loop-byte.replay c.args.line.now.items c.args.part.now c.loop-byte.line.items c.loop-byte.byte-index _ _ c.loop-byte-test.true c.loop-byte.invariant.0
       c.answer_line.new.replay _ c.if-byte-ne-LINE_END.false
       (rw c.as_slice.ensures.value at c.in-Ok-true.ensures.replay) (rw c.as_slice.ensures.value at c.in-Ok-true.ensures.text)
       (sym c.in-Ok-true.field-0-test ∙ rw c.as_slice.ensures.value at c.in-Ok-true.ensures.goes_on)),
@@ -34,12 +34,12 @@ loop-byte-preserved g c = (
 
 pub returns-in-Err-clause-err : goal.returns-in-Err-clause-err
 returns-in-Err-clause-err g c =
-    hear_cut c.args.replay.now c.loop-byte.replay c.args.line.now.items c.args.part.now c.loop-byte.line.items c.loop-byte.byte-index
+    hear_cut c.args.has_more c.args.replay.now c.loop-byte.replay c.args.line.now.items c.args.part.now c.loop-byte.line.items c.loop-byte.byte-index
     (g.W.Write.contents c.args.out.now) (g.W.Write.contents c.loop-byte.out) c.loop-byte.invariant.0
 
 pub returns-in-Err-answer_line-clause-err : goal.returns-in-Err-answer_line-clause-err
 returns-in-Err-answer_line-clause-err g c =
-    hear_line_cut c.args.replay.now c.loop-byte.replay c.args.line.now.items c.args.part.now c.loop-byte.line.items c.loop-byte.byte-index
+    hear_line_cut c.args.has_more c.args.replay.now c.loop-byte.replay c.args.line.now.items c.args.part.now c.loop-byte.line.items c.loop-byte.byte-index
     (g.W.Write.contents c.args.out.now) (g.W.Write.contents c.loop-byte.out) c.loop-byte.invariant.0 c.in-Err-answer_line.fault c.answer_line.new.replay (g.W.Write.contents c.answer_line.new.out)
     c.loop-byte-test.true c.if-byte-ne-LINE_END.false
     (rw c.as_slice.ensures.value at c.in-Err-answer_line.ensures.err)

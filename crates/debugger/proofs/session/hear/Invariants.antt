@@ -4,5 +4,5 @@ use Rattle.debugger.proofs.session.hear.Given as goal
 
 abbrev pub invariant-loop-byte : goal.invariant-loop-byte
 invariant-loop-byte g l =
-    HasHeard true l.fn.replay (l.fn.line.items ++ take l.byte-index l.part) l.replay l.line.items (g.W.Write.contents l.fn.out) (g.W.Write.contents l.out)
+    HasHeard l.fn.has_more true l.fn.replay (l.fn.line.items ++ take l.byte-index l.part) l.replay l.line.items (g.W.Write.contents l.fn.out) (g.W.Write.contents l.out)
     × (g.W.Destination.may_fail l.out → g.W.Destination.may_fail l.fn.out) × (g.W.Destination.may_take_nothing l.out → g.W.Destination.may_take_nothing l.fn.out)

@@ -1,0 +1,136 @@
+-- Moves to a moment, and the last moment of a call.
+use Rattle.std.proofs.Common.{◌≡◌, ℕ, zero, suc, ◌+◌, ◌-◌, ◌<◌, ◌≤◌, Bool, List, true, false, not, if◌then◌else◌, Some, None, Result, Ok, Err, refl, sym, ap, subst, ◌∙◌, inl, inr, arith, eq-or-lt_of_le}
+use Rattle.rv_ledger.specs.Key.{Storage}
+use Rattle.rv_ledger.specs.Call.{Invocation}
+use Rattle.rv_ledger.specs.declared.end.End.{End}
+use Rattle.rv_ledger.specs.declared.receipt.Receipt.{Receipt}
+use Rattle.rv_step.specs.declared.machine.Machine.{Machine}
+use Rattle.rv_step.specs.declared.stage.Stage.{Stage}
+use Rattle.rv_step.specs.declared.stage.Stage.TheVariants.{Running, Asked, Ended}
+use Rattle.rv_step.specs.Chain.{ends, receipt_at, receipt_of}
+use Rattle.rv_step.specs.Run.{RunView}
+use Rattle.rv_step.specs.Step.{Progress, Going, Over}
+use Rattle.rv_step.specs.Moment.{from_storage, is_over, moment_from, moment_over, start}
+use Rattle.rv_step.proofs.Receipts.{over_ends}
+use Rattle.debugger.specs.declared.fault.ReplayFault.{ReplayFault}
+use Rattle.debugger.specs.declared.fault.ReplayFault.TheVariants.{NoSuchCall, AtEnd, AtStart, BadRange, Memory}
+use Rattle.debugger.specs.More.{GoesTo, IsTowards, at_moment, ending_line, is_moment, last_moment, never, receipt_line}
+use Rattle.debugger.specs.Replay.{Moves, ReplayState, is_at_end, next_of, stops}
+use Rattle.debugger.specs.ReplayMoment.{AreOf, GoesOn, IsRunAt, advance_over, is_ended}
+use Rattle.debugger.proofs.Moments.{within_gas}
+use Rattle.debugger.proofs.ReplayMoments.{next_suc}
+use Rattle.debugger.proofs.Stops.{first_stop_is, same_state}
+
+-- a replay that has not moved yet
+pub still_towards : (moment : ℕ) (r : ReplayState) → IsTowards moment r r
+still_towards moment r = record {
+  call = refl;
+  store = refl;
+  later = omega arith;
+  within = λ less. absurd (omega arith);
+}
+
+-- a moment before which the call goes on is one of its moments
+pub is_moment_of : (call : Invocation) (store : Storage) (m : ℕ) → GoesOn call store m → is_moment call store m ≡ true
+is_moment_of call store zero goes = refl
+is_moment_of call store (suc n) goes = ap not (goes n (omega arith))
+
+pub at_moment_of : (r : ReplayState) (m : ℕ) → GoesOn r.call r.store m → at_moment m r ≡ Some (record r { moment = m })
+at_moment_of r m goes = ap (λ (b : Bool). if b then Some (record r { moment = m }) else None) (is_moment_of r.call r.store m goes)
+
+-- a call that is over stays over
+over_next : (store : Storage) (at : Progress) → is_over at ≡ true → is_over (advance_over store at) ≡ true
+over_next store (Going s) over = cc
+over_next store (Over end out s) over = refl
+
+pub stays_over : (call : Invocation) (store : Storage) (n m : ℕ) → n ≤ m → is_over (moment_over call store n) ≡ true → is_over (moment_over call store m) ≡ true
+stays_over call store n zero le over =
+    elim (eq-or-lt_of_le le) [
+      | inl same ↦ subst (λ (k : ℕ). is_over (moment_over call store k) ≡ true) same over
+      | inr less ↦ absurd (omega arith)
+    ]
+stays_over call store n (suc m) le over =
+    elim (eq-or-lt_of_le le) [
+      | inl same ↦ subst (λ (k : ℕ). is_over (moment_over call store k) ≡ true) same over
+      | inr less ↦ ap is_over (next_suc call store m) ∙ over_next store (moment_over call store m) (stays_over call store n m (omega arith) over)
+    ]
+
+-- a replay of the same call that went on towards a moment
+module _ (m : ℕ) (old mid : ReplayState) (call : mid.call ≡ old.call) (store : mid.store ≡ old.store) where
+  over_there : is_at_end mid ≡ true → is_over (moment_over old.call old.store mid.moment) ≡ true
+  over_there over =
+      sym (ap (λ (c : Invocation). is_over (moment_over c old.store mid.moment)) call)
+      ∙ sym (ap (λ (s : Storage). is_over (moment_over mid.call s mid.moment)) store) ∙ over
+
+  -- where the call is over before it, there is no such moment
+  pub no_moment : mid.moment < m → is_at_end mid ≡ true → at_moment m old ≡ None
+  no_moment less over = by_moment m less
+    where
+      by_moment : (n : ℕ) → mid.moment < n → at_moment n old ≡ None
+      by_moment zero below = absurd (omega arith)
+      by_moment (suc n) below =
+          ap (λ (b : Bool). if not b then Some (record old { moment = suc n }) else None)
+          (stays_over old.call old.store mid.moment n (omega arith) (over_there over))
+
+  -- where it stands at the moment, it went there
+  pub arrived : GoesOn mid.call mid.store mid.moment → mid.moment ≡ m → at_moment m old ≡ Some mid
+  arrived goes there =
+      let state : record old { moment = mid.moment } ≡ mid = same_state old mid mid.moment call store refl in
+      subst (λ (k : ℕ). at_moment k old ≡ Some mid) there
+      (at_moment_of old mid.moment
+      (subst (λ (c : Invocation). GoesOn c old.store mid.moment) call (subst (λ (s : Storage). GoesOn mid.call s mid.moment) store goes))
+      ∙ ap Some state)
+
+-- a step that failed on the way
+pub step_failed : {X Y : Type 0} (m : ℕ) (old mid new : ReplayState) (e : ReplayFault) → Moves {X} AtEnd (Err e) (next_of mid) mid new → is_at_end mid ≡ false → IsTowards m old mid → GoesTo {Y} m (Err e) old new
+step_failed m old mid new NoSuchCall moves going towards = let no : NoSuchCall ≡ AtEnd = moves.0 in cc
+step_failed m old mid new AtEnd moves going towards = let no : next_of mid ≡ None = moves.1.0 in absurd (has_next mid going no)
+  where
+    has_next : (r : ReplayState) → is_at_end r ≡ false → next_of r ≡ None → ⊥
+    has_next r on none = some_none (record r { moment = r.moment + 1 }) (sym (ap (λ (b : Bool). if b then None else Some (record r { moment = r.moment + 1 })) on) ∙ none)
+      where
+        some_none : (s : ReplayState) → Some s ≡ None → ⊥
+        some_none s no = cc
+step_failed m old mid new AtStart moves going towards = let no : AtStart ≡ AtEnd = moves.0 in cc
+step_failed m old mid new BadRange moves going towards = let no : BadRange ≡ AtEnd = moves.0 in cc
+step_failed m old mid new Memory moves going towards = subst (λ (r : ReplayState). IsTowards m old r) (sym moves.1) towards
+
+-- a way back that failed
+pub back_failed : {Y : Type 0} (m : ℕ) (old mid new : ReplayState) (e : ReplayFault) → e ≡ Memory → new ≡ mid → IsTowards m old mid → GoesTo {Y} m (Err e) old new
+back_failed {Y} m old mid new e memory same towards =
+    subst (λ (f : ReplayFault). GoesTo {Y} m (Err f) old new) (sym memory) (subst (λ (r : ReplayState). IsTowards m old r) (sym same) towards)
+
+-- ---- the last moment
+
+never_stops : (at : Progress) → is_over at ≡ false → stops never at ≡ false
+never_stops (Going s) h = refl
+never_stops (Over end out s) h = cc
+
+over_stops : (at : Progress) → is_over at ≡ true → stops never at ≡ true
+over_stops (Going s) h = cc
+over_stops (Over end out s) h = refl
+
+near_gas : (call : Invocation) (store : Storage) (m : ℕ) → GoesOn call store m → m ≤ 0 + (call.gas + 1)
+near_gas call store zero goes = omega arith
+near_gas call store (suc n) goes = let within = within_gas call store n (goes n (omega arith)) in omega (arith, within)
+
+pub last_is : (call : Invocation) (store : Storage) (m : ℕ) → GoesOn call store m → is_over (moment_over call store m) ≡ true → last_moment call store ≡ m
+last_is call store m goes over =
+    first_stop_is (call.gas + 1) call store never 0 m (omega arith) (near_gas call store m goes)
+    (λ k _ below. never_stops (moment_over call store k) (goes k below)) (over_stops (moment_over call store m) over)
+
+-- a call that is over has the receipt of its end
+pub end_is : (call : Invocation) (store : Storage) (m : ℕ) (end : End) (out : List ℕ) (s : Machine) → moment_over call store m ≡ Over end out s → ends call store ≡ receipt_of call.gas end out s
+end_is call store m end out s e =
+    sym (over_ends call store m (moment_from from_storage m (Going (start call), store)) refl (ap is_over e)) ∙ ap (receipt_at call.gas) e
+
+pub going_or_ended : (at : Progress) (s : Machine) (stage : Stage) → AreOf at s stage → is_ended stage ≡ false → is_over at ≡ false
+going_or_ended at s Running h e = ap is_over h
+going_or_ended at s (Asked key) h e = ap is_over h.0
+going_or_ended at s (Ended end out) h e = cc
+
+-- the line of the end of a call
+pub end_line_is : (call : Invocation) (store : Storage) (m : ℕ) (end : End) (out : List ℕ) (s : Machine) → moment_over call store m ≡ Over end out s → GoesOn call store m → ending_line end out (call.gas - s.gas) m ≡ receipt_line (ends call store) (last_moment call store)
+end_line_is call store m end out s e goes =
+    sym (ap (λ (r : Receipt). receipt_line r (last_moment call store)) (end_is call store m end out s e)
+    ∙ ap (λ (k : ℕ). ending_line end out (call.gas - s.gas) k) (last_is call store m goes (ap is_over e)))
