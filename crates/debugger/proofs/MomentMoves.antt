@@ -1,5 +1,5 @@
 -- Moves to a moment, and the last moment of a call.
-use Rattle.std.proofs.Common.{◌≡◌, ℕ, zero, suc, ◌+◌, ◌-◌, ◌<◌, ◌≤◌, Bool, List, true, false, not, if◌then◌else◌, Some, None, Result, Ok, Err, refl, sym, ap, subst, ◌∙◌, inl, inr, arith, eq-or-lt_of_le}
+use Rattle.std.proofs.Common.{◌≡◌, ℕ, zero, suc, ◌+◌, ◌-◌, ◌<◌, ◌≤◌, Bool, List, true, false, not, if◌then◌else◌, Some, None, Result, Ok, Err, IfErr, OnErr, OnOk, refl, sym, ap, subst, ◌∙◌, inl, inr, arith, eq-or-lt_of_le}
 use Rattle.rv_ledger.specs.Key.{Storage}
 use Rattle.rv_ledger.specs.Call.{Invocation}
 use Rattle.rv_ledger.specs.declared.end.End.{End}
@@ -15,8 +15,8 @@ use Rattle.rv_step.proofs.Receipts.{over_ends}
 use Rattle.debugger.specs.declared.fault.ReplayFault.{ReplayFault}
 use Rattle.debugger.specs.declared.fault.ReplayFault.TheVariants.{NoSuchCall, AtEnd, AtStart, BadRange, Memory}
 use Rattle.debugger.specs.More.{GoesTo, IsTowards, at_moment, ending_line, is_moment, last_moment, never, receipt_line}
-use Rattle.debugger.specs.Replay.{Moves, ReplayState, is_at_end, next_of, stops}
-use Rattle.debugger.specs.ReplayMoment.{AreOf, GoesOn, IsRunAt, advance_over, is_ended}
+use Rattle.debugger.specs.Replay.{ReplayState, is_at_end, stops}
+use Rattle.debugger.specs.ReplayMoment.{AreOf, GoesOn, HasEnded, advance_over, is_ended}
 use Rattle.debugger.proofs.Moments.{within_gas}
 use Rattle.debugger.proofs.ReplayMoments.{next_suc}
 use Rattle.debugger.proofs.Stops.{first_stop_is, same_state}
@@ -81,24 +81,18 @@ module _ (m : ℕ) (old mid : ReplayState) (call : mid.call ≡ old.call) (store
       (subst (λ (c : Invocation). GoesOn c old.store mid.moment) call (subst (λ (s : Storage). GoesOn mid.call s mid.moment) store goes))
       ∙ ap Some state)
 
--- a step that failed on the way
-pub step_failed : {X Y : Type 0} (m : ℕ) (old mid new : ReplayState) (e : ReplayFault) → Moves {X} AtEnd (Err e) (next_of mid) mid new → is_at_end mid ≡ false → IsTowards m old mid → GoesTo {Y} m (Err e) old new
-step_failed m old mid new NoSuchCall moves going towards = let no : NoSuchCall ≡ AtEnd = moves.0 in cc
-step_failed m old mid new AtEnd moves going towards = let no : next_of mid ≡ None = moves.1.0 in absurd (has_next mid going no)
-  where
-    has_next : (r : ReplayState) → is_at_end r ≡ false → next_of r ≡ None → ⊥
-    has_next r on none = some_none (record r { moment = r.moment + 1 }) (sym (ap (λ (b : Bool). if b then None else Some (record r { moment = r.moment + 1 })) on) ∙ none)
-      where
-        some_none : (s : ReplayState) → Some s ≡ None → ⊥
-        some_none s no = cc
-step_failed m old mid new AtStart moves going towards = let no : AtStart ≡ AtEnd = moves.0 in cc
-step_failed m old mid new BadRange moves going towards = let no : BadRange ≡ AtEnd = moves.0 in cc
-step_failed m old mid new Memory moves going towards = subst (λ (r : ReplayState). IsTowards m old r) (sym moves.1) towards
+-- where it went back to its first moment, it stands where it stood
+pub back_is : (old mid new : ReplayState) (first : ℕ) → mid.call ≡ old.call → mid.store ≡ old.store → first ≡ old.moment → new ≡ record mid { moment = first } → new ≡ old
+back_is old mid new first call store moment back = back ∙ same_state mid old first (sym call) (sym store) moment
 
--- a way back that failed
-pub back_failed : {Y : Type 0} (m : ℕ) (old mid new : ReplayState) (e : ReplayFault) → e ≡ Memory → new ≡ mid → IsTowards m old mid → GoesTo {Y} m (Err e) old new
-back_failed {Y} m old mid new e memory same towards =
-    subst (λ (f : ReplayFault). GoesTo {Y} m (Err f) old new) (sym memory) (subst (λ (r : ReplayState). IsTowards m old r) (sym same) towards)
+-- a way back, whether it was gone or not
+pub went_back : {X : Type 0} (result : Result X ReplayFault) (m : ℕ) (old new : ReplayState) → GoesOn old.call old.store m → OnOk result (new ≡ record old { moment = m }) → IfErr result (λ e. e ≡ Memory) → OnErr result (new ≡ old) → GoesTo m result old new
+went_back (Ok x) m old new goes ok memory same = at_moment_of old m goes ∙ ap Some (sym ok)
+went_back (Err Memory) m old new goes ok memory same = subst (λ (r : ReplayState). IsTowards m old r) (sym same) (still_towards m old)
+went_back (Err NoSuchCall) m old new goes ok memory same = cc
+went_back (Err AtEnd) m old new goes ok memory same = cc
+went_back (Err AtStart) m old new goes ok memory same = cc
+went_back (Err BadRange) m old new goes ok memory same = cc
 
 -- ---- the last moment
 
@@ -134,3 +128,11 @@ pub end_line_is : (call : Invocation) (store : Storage) (m : ℕ) (end : End) (o
 end_line_is call store m end out s e goes =
     sym (ap (λ (r : Receipt). receipt_line r (last_moment call store)) (end_is call store m end out s e)
     ∙ ap (λ (k : ℕ). ending_line end out (call.gas - s.gas) k) (last_is call store m goes (ap is_over e)))
+
+pub ended_line : (call : Invocation) (store : Storage) (run : RunView) (m : ℕ) (end : End) (out bytes : List ℕ) (gas : ℕ) → HasEnded call store run m → run.stage ≡ Ended end out → bytes ≡ out → gas ≡ call.gas - run.machine.gas → ending_line end bytes gas m ≡ receipt_line (ends call store) (last_moment call store)
+ended_line call store run m end out bytes gas ended stage same used =
+    let over : moment_over call store m ≡ Over end out run.machine =
+    subst (λ (x : Stage). AreOf (moment_over call store m) run.machine x) stage ended.stands in
+    ap (λ (b : List ℕ). ending_line end b gas m) same
+    ∙ ap (λ (g : ℕ). ending_line end out g m) used
+    ∙ end_line_is call store m end out run.machine over ended.earlier

@@ -71,13 +71,13 @@ module _ (has_more : Bool) where
   -- what the first line makes of a session
   module _ (r : ReplayState) (line : List ℕ) (lines : List (List ℕ)) where
     pub session_on : is_quit (heard_of has_more line) ≡ false → session has_more r (line ∷ lines) ≡ behind (line_text r (heard_of has_more line)) (session has_more (after_line r (heard_of has_more line)) lines)
-    unfolding session has_more
+    unfolding session
     session_on e =
         if_false (is_quit (heard_of has_more line)) (record { text = []; replay = r })
         (behind (line_text r (heard_of has_more line)) (session has_more (after_line r (heard_of has_more line)) lines)) e
 
     pub session_quit : is_quit (heard_of has_more line) ≡ true → session has_more r (line ∷ lines) ≡ record { text = line_text r (heard_of has_more line); replay = after_line r (heard_of has_more line) }
-    unfolding session has_more
+    unfolding session
     session_quit e =
         if_true (is_quit (heard_of has_more line)) (record { text = []; replay = r })
         (behind (line_text r (heard_of has_more line)) (session has_more (after_line r (heard_of has_more line)) lines)) e
@@ -85,7 +85,7 @@ module _ (has_more : Bool) where
 
   -- a session over no line
   pub session_nil : (r : ReplayState) → session has_more r [] ≡ record { text = []; replay = r }
-  unfolding session has_more
+  unfolding session
   session_nil r = refl
 
   -- a session goes on behind lines that do not end it
@@ -254,7 +254,7 @@ module _ (has_more : Bool) where
 
   -- a session over no line
   pub none_left : (r : ReplayState) (line : List ℕ) (a : Option (List ℕ)) → true ≡ (length line == 0) → EndsAs (session has_more r (lines_of line)) r a a
-  unfolding session has_more
+  unfolding session
   none_left r [] a e = subst (λ (end : Ending). EndsAs end r a a) (sym (ap (session has_more r) no_line)) (Appends-nil a, refl)
   none_left r (b ∷ line) a e = absurd (not_none b line e)
 

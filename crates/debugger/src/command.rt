@@ -149,10 +149,11 @@ fn more_command_of_fields(fields: &[&[u8]]) -> Option<Command>
     ensures { result ≡ more_command_of_fields (map (λ field. field.now) fields.now) }
 {
     match *fields {
+        [] => None,
         [word] => more_word_command(word),
         [word, operand] => more_operand_command(word, operand),
         [word, address, count] => change_command(word, address, count),
-        _ => None,
+        [_, _, _, _, ..] => None,
     }
 }
 

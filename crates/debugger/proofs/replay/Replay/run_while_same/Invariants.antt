@@ -3,8 +3,8 @@ use Rattle.debugger.specs.More.{has_changed}
 use Rattle.debugger.specs.Replay.{IsPast, is_at_end}
 use Rattle.debugger.proofs.replay.Replay.run_while_same.Given as goal
 
-abbrev pub invariant-loop : goal.invariant-loop
-invariant-loop l = record {
+abbrev pub invariant-loop-self : goal.invariant-loop-self
+invariant-loop-self l = record {
   going : is_at_end l.fn.self ≡ false;
   past : IsPast (has_changed l.address l.len l.before) l.fn.self l.self;
   later : l.fn.self.moment < l.self.moment;
@@ -12,5 +12,5 @@ invariant-loop l = record {
 }
 
 -- each moment but the last has gas left
-abbrev pub decreases-loop : goal.decreases-loop
-decreases-loop l = l.self.call.gas + 1 - l.self.moment
+abbrev pub decreases-loop-self : goal.decreases-loop-self
+decreases-loop-self l = l.self.call.gas + 1 - l.self.moment
