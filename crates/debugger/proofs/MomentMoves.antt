@@ -72,15 +72,6 @@ module _ (m : ℕ) (old mid : ReplayState) (call : mid.call ≡ old.call) (store
           ap (λ (b : Bool). if not b then Some (record old { moment = suc n }) else None)
           (stays_over old.call old.store mid.moment n (omega arith) (over_there over))
 
-  -- where it stands at the moment, it went there
-  pub arrived : GoesOn mid.call mid.store mid.moment → mid.moment ≡ m → at_moment m old ≡ Some mid
-  arrived goes there =
-      let state : record old { moment = mid.moment } ≡ mid = same_state old mid mid.moment call store refl in
-      subst (λ (k : ℕ). at_moment k old ≡ Some mid) there
-      (at_moment_of old mid.moment
-      (subst (λ (c : Invocation). GoesOn c old.store mid.moment) call (subst (λ (s : Storage). GoesOn mid.call s mid.moment) store goes))
-      ∙ ap Some state)
-
 -- where it went back to its first moment, it stands where it stood
 pub back_is : (old mid new : ReplayState) (first : ℕ) → mid.call ≡ old.call → mid.store ≡ old.store → first ≡ old.moment → new ≡ record mid { moment = first } → new ≡ old
 back_is old mid new first call store moment back = back ∙ same_state mid old first (sym call) (sym store) moment
