@@ -15,7 +15,7 @@ _rvstm() {
     drive) options="--workers --schedule --counts" ;;
     chain) options="--workers --frame-limit --frame-gas --digest --brief" ;;
     asm | migrate) options="--out" ;;
-    debug) options="--call" ;;
+    debug) options="--call --more" ;;
     help) COMPREPLY=($(compgen -W "run seq conflicts drive asm dis debug migrate chain" -- "$word")) && return ;;
     esac
     if [[ $word == -* ]]; then
