@@ -2,7 +2,7 @@
 use Rattle.std.specs.Prelude.{ℕ, nat_lt, if◌then◌else◌, List, fold}
 use Rattle.std.specs.List.{slice_get}
 use Rattle.std.specs.Option.{unwrap_or}
-use Rattle.conflicts.specs.declared.wait.Wait.{Wait}
+use Rattle.conflicts.specs.Waits.{Wait}
 
 abbrev pub greater : ℕ → ℕ → ℕ
 greater a b = if nat_lt a b then b else a

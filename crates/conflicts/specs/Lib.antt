@@ -1,5 +1,7 @@
 pub mod Reads
 pub mod Waits
+pub mod ByKey
+pub mod Calls
 pub mod Table
 pub mod Paths
 pub mod Greatest

@@ -1,8 +1,7 @@
 -- The chains of waits of a block, and the greatest sum of gas over those that end in a call.
 use Rattle.std.specs.Prelude.{◌≡◌, ◌<◌, ◌≤◌, ◌+◌, ℕ, List, [], ◌∷◌, Option, Some, None}
 use Rattle.std.specs.List.{slice_get}
-use Rattle.conflicts.specs.declared.wait.Wait.{Wait}
-use Rattle.conflicts.specs.Waits.{CallView}
+use Rattle.conflicts.specs.Waits.{CallView, Wait}
 
 -- the waits of a call, if there is one
 abbrev pub waits_in_call : Option CallView → List Wait
@@ -14,9 +13,13 @@ abbrev pub gas_in_call : Option CallView → ℕ
 gas_in_call (Some call) = call.gas
 gas_in_call None = 0
 
+-- one of the waits of call j names call i, at a key
+abbrev pub WaitsAt : List CallView → ℕ → ℕ → List ℕ → Type 0
+WaitsAt calls j i key = (k : ℕ) × (slice_get (waits_in_call (slice_get calls j)) k ≡ Some (record { writer = i; key = key }))
+
 -- one of the waits of call j names call i
 abbrev pub WaitsFor : List CallView → ℕ → ℕ → Type 0
-WaitsFor calls j i = (key : List ℕ) × (k : ℕ) × (slice_get (waits_in_call (slice_get calls j)) k ≡ Some (record { writer = i; key = key }))
+WaitsFor calls j i = (key : List ℕ) × WaitsAt calls j i key
 
 -- a chain that ends in call j: it waits for the first of these calls, which waits for the next, and so on
 abbrev pub IsChain : List CallView → ℕ → List ℕ → Type 0

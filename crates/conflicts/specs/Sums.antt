@@ -1,16 +1,15 @@
--- The keys at which some call waits, with how many calls change each and how many waits there are at it, and the sums over all calls.
+-- The keys at which some call waits, with the calls that change each and how many waits there are at it, and the sums over all calls.
 use Rattle.std.specs.Prelude.{ℕ, Bool, List, length, map, max, fold}
 use Rattle.std.specs.FinMap as finite
-use Rattle.std.specs.List.{filter, flat_map, sum_by}
+use Rattle.std.specs.List.{enumerate_from, filter, flat_map, sum_by}
 use Rattle.std.specs.Str.{bytes_eq}
 use Rattle.rv_ledger.specs.Call.{Invocation}
 use Rattle.rv_ledger.specs.Key.{Storage}
 use Rattle.rv_ledger.specs.declared.receipt.Receipt.{Receipt}
 use Rattle.rv_step.specs.Fold.{receipts_of}
-use Rattle.conflicts.specs.declared.hot_key.HotKey.{HotKey}
-use Rattle.conflicts.specs.declared.wait.Wait.{Wait}
+use Rattle.conflicts.specs.ByKey.{CallByKey}
 use Rattle.conflicts.specs.Reads.{Keys}
-use Rattle.conflicts.specs.Waits.{CallView, calls_of}
+use Rattle.conflicts.specs.Waits.{CallView, Wait, calls_of}
 
 -- the waits of all calls
 abbrev pub all_waits : List CallView → List Wait
@@ -24,24 +23,30 @@ keys_waited calls = fold (λ keys wait. finite.insert keys wait.key tt) finite.e
 abbrev pub changes_key : List ℕ → Receipt → Bool
 changes_key key receipt = finite.contains_key receipt.writes key
 
--- how many calls change a key
-abbrev pub writers_at : List Receipt → List ℕ → ℕ
-writers_at receipts key = length (filter (changes_key key) receipts)
+-- the calls that change a key, ascending
+abbrev pub writers_at : List Receipt → List ℕ → List ℕ
+writers_at receipts key = map (λ item. item.0) (filter (λ item. changes_key key item.1) (enumerate_from 0 receipts))
 
 -- how many waits there are at a key
 abbrev pub waits_at_key : List CallView → List ℕ → ℕ
 waits_at_key calls key = length (filter (λ wait. bytes_eq wait.key key) (all_waits calls))
 
--- the counts at a key
-abbrev pub hot_key_of : List Receipt → List CallView → List ℕ → HotKey
+-- a key at which some call waits: the calls that change it, and how many waits there are at it
+pub record HotKeyView : Type 0 where
+  pub key : List ℕ
+  pub writers : List ℕ
+  pub waits : ℕ
+
+-- the same of a key
+abbrev pub hot_key_of : List Receipt → List CallView → List ℕ → HotKeyView
 hot_key_of receipts calls key = record { key = key; writers = writers_at receipts key; waits = waits_at_key calls key }
 
--- the keys at which some call of a block waits, ascending, with their counts
-abbrev pub keys_of_calls : List Invocation → Storage → List HotKey
+-- the keys at which some call of a block waits, ascending
+abbrev pub keys_of_calls : List Invocation → Storage → List HotKeyView
 keys_of_calls block store = map (hot_key_of (receipts_of block store) (calls_of block store)) (finite.keys (keys_waited (calls_of block store)))
 
 -- the gas of all calls
-abbrev pub gas_of_all : List CallView → ℕ
+abbrev pub gas_of_all : List CallByKey → ℕ
 gas_of_all calls = sum_by (λ call. call.gas) calls
 
 -- the greatest of some paths, or 0 where there is none

@@ -1,21 +1,14 @@
 -- Private help of proofs; no public clause cites it. The calls that reads of each key name, as the pass over the block has them.
-use Rattle.std.specs.Prelude.{ℕ, List, [], ◌∷◌, fold}
+use Rattle.std.specs.Prelude.{ℕ, List, [], ◌∷◌, ◌++◌, fold}
 use Rattle.std.specs.FinMap as map
-use Rattle.std.specs.Option.{unwrap_or}
 use Rattle.rv_ledger.specs.Change.{ContentChange}
-use Rattle.rv_ledger.specs.Key.{key_cmp}
 use Rattle.rv_ledger.specs.declared.change.Change.TheVariants as change
-use Rattle.std.specs.List.{flat_map}
-use Rattle.conflicts.specs.declared.wait.Wait.{Wait}
+use Rattle.std.specs.List.{flat_map, slice_get}
+use Rattle.conflicts.specs.declared.key_waits.KeyWaits.{KeyWaits}
+use Rattle.conflicts.specs.ByKey.{key_waits_from}
+use Rattle.conflicts.specs.Calls.{CallLists, calls_at}
 use Rattle.conflicts.specs.Reads.{Keys}
-use Rattle.conflicts.specs.Waits.{waits_for}
-
--- the calls that reads of each key name, from the nearest on
-abbrev pub NamedCalls : Type 0
-NamedCalls = map.FinMap key_cmp (List ℕ)
-
-abbrev pub named_at : NamedCalls → List ℕ → List ℕ
-named_at named key = unwrap_or (map.get named key) []
+use Rattle.conflicts.specs.Waits.{Wait, waits_for}
 
 -- the calls that are named below a change
 abbrev pub below_change : ContentChange → List ℕ → List ℕ
@@ -23,14 +16,18 @@ below_change (change.Sum amount) calls = calls
 below_change (change.Value value) calls = []
 below_change change.Gone calls = []
 
--- the same after a change of a key by the next call
-abbrev pub after_change : ℕ → NamedCalls → List ℕ → ContentChange → NamedCalls
-after_change call named key change = map.insert named key (call ∷ below_change change (named_at named key))
+-- the calls that reads of each key name, ascending, after a change of a key by the next call
+abbrev pub after_change : ℕ → CallLists → List ℕ → ContentChange → CallLists
+after_change call named key change = map.insert named key (below_change change (calls_at named key) ++ call ∷ [])
 
 -- the same after its changes
-abbrev pub after_changes : ℕ → List (List ℕ × ContentChange) → NamedCalls → NamedCalls
+abbrev pub after_changes : ℕ → List (List ℕ × ContentChange) → CallLists → CallLists
 after_changes call changes named = fold (λ before e. after_change call before e.0 e.1) named changes
 
--- the waits of a call that reads these keys
-abbrev pub waits_in : NamedCalls → Keys → List Wait
-waits_in named keys = flat_map (λ key. waits_for key (named_at named key)) (map.keys keys)
+-- the waits of a call that reads these keys, at a key from the earliest call on
+abbrev pub waits_in : CallLists → Keys → List Wait
+waits_in named keys = flat_map (λ key. waits_for key (calls_at named key)) (map.keys keys)
+
+-- the same, key by key
+abbrev pub key_waits_in : CallLists → Keys → List KeyWaits
+key_waits_in named keys = flat_map (λ key. key_waits_from key (slice_get (calls_at named key) 0)) (map.keys keys)

@@ -10,7 +10,6 @@ use Rattle.rv_step.specs.Fold.{receipts_of, store_before}
 use Rattle.read_set.specs.Origin.{named}
 use Rattle.mvmap.specs.Versions.{Entry, Stands}
 use Rattle.mvmap.specs.Reading.{origin_in, visible_below}
-use Rattle.conflicts.specs.declared.wait.Wait.{Wait}
 use Rattle.conflicts.specs.Reads.{Keys, keys_read}
 
 -- what a receipt does to a key; only a call that returned has writes
@@ -30,6 +29,11 @@ versions_in receipts key i = version_of (change_in (slice_get receipts i) key)
 -- the calls whose versions a read of call j names, from the nearest on: the sums that are passed, and the version below them
 abbrev pub writers_named : List Receipt → List ℕ → ℕ → List ℕ
 writers_named receipts key j = map (λ version. version.writer) (named (origin_in (visible_below (versions_in receipts key) j)))
+
+-- a wait for an earlier call, at a key
+pub record Wait : Type 0 where
+  pub writer : ℕ
+  pub key : List ℕ
 
 -- the waits for some calls at a key
 abbrev pub waits_for : List ℕ → List ℕ → List Wait

@@ -1,20 +1,25 @@
 //! What the calls of a block wait for.
 
 ghost use Rattle.std.specs.FinMap as map;
-ghost use Rattle.std.specs.Prelude.{◌≡◌, ◌++◌, ◌≤◌, ℕ, List, IfOk, OnOk, length};
-ghost use Rattle.conflicts.specs.Counts.{count_at, with_changes};
+ghost use Rattle.std.specs.Prelude.{◌≡◌, ◌++◌, ◌∷◌, ◌≤◌, ◌<◌, ◌+◌, ◌*◌, ◌^◌, ℕ, List, All, IfOk, OnOk, length};
+ghost use Rattle.std.specs.List.{slice_get};
+ghost use Rattle.conflicts.specs.ByKey.{calls_by_key, key_waits_from};
+ghost use Rattle.conflicts.specs.Calls.{calls_at, count_at, with_changes, with_waits};
+ghost use Rattle.conflicts.specs.Greatest.{greatest_from};
+ghost use Rattle.conflicts.specs.Paths.{ArePaths};
 ghost use Rattle.conflicts.specs.Reads.{keys_read};
-ghost use Rattle.conflicts.specs.Sums.{writers_at};
-ghost use Rattle.conflicts.specs.Table.{after_changes, waits_in};
+ghost use Rattle.conflicts.specs.Sums.{all_waits, writers_at};
+ghost use Rattle.conflicts.specs.Table.{after_changes, key_waits_in, waits_in};
 ghost use Rattle.conflicts.specs.Waits.{calls_of, waits_for};
 ghost use Rattle.rv_step.specs.Chain.{ends};
 ghost use Rattle.rv_step.specs.Fold.{receipts_of, store_after_call};
 
-use crate::counts::CallCounts;
+use crate::call_lists::CallLists;
+use crate::key_waits::KeyWaits;
 use crate::keys::KeySet;
+use crate::paths::path_over;
 use crate::reading::read_over;
-use crate::table::Table;
-use crate::wait::Wait;
+use crate::wait_counts::WaitCounts;
 use rv_ledger::{Call, Job, Key, Store};
 use rv_step::{RunRoom, apply_writes};
 use std::alloc::{AllocError, Global};
@@ -23,14 +28,14 @@ use std::marker::Model;
 /// What a call waits for, and its gas.
 #[derive(Drop)]
 pub struct CallWaits {
-    waits: Vec<Wait>,
+    waits: Vec<KeyWaits>,
     gas: u32,
 }
 
 impl Model for CallWaits {
-    ghost use Rattle.conflicts.specs.Waits.{CallView};
+    ghost use Rattle.conflicts.specs.ByKey.{CallByKey};
 
-    ghost Value = { CallView };
+    ghost Value = { CallByKey };
 
     ghost view = { λ c. record { waits = c.waits.items; gas = c.gas } };
 }
@@ -38,8 +43,8 @@ impl Model for CallWaits {
 impl CallWaits {
     ghost use Rattle.std.specs.Prelude.{◌≡◌};
 
-    /// The waits, by ascending key, and at a key from the nearest call on. Each stands once.
-    pub fn waits(&self) -> &[Wait]
+    /// The waits, by ascending key. Each key stands once.
+    pub fn waits(&self) -> &[KeyWaits]
         ensures { result.now ≡ self.now.waits }
     {
         self.waits.as_slice()
@@ -58,15 +63,22 @@ impl CallWaits {
 pub(crate) struct Found {
     /// What each call waits for, in block order.
     pub(crate) calls: Vec<CallWaits>,
-    /// How many calls changed each key.
-    pub(crate) writers: CallCounts,
+    /// The path of each call, in block order.
+    pub(crate) paths: Vec<u64>,
+    /// The calls that change each key.
+    pub(crate) writers: CallLists,
+    /// How many waits there are at each key.
+    pub(crate) waits: WaitCounts,
 }
 
-/// What each call of a job waits for, and how many calls change each key: the calls are run one after another. Refused
-/// where memory ran out.
+/// What each call of a job waits for, its path, the calls that change each key, and the number of waits there: the calls
+/// are run one after another. Refused where memory ran out.
 pub(crate) fn call_waits(alloc: Global, job: &Job) -> Result<Found, AllocError>
-    ensures calls { IfOk result (λ found. found.calls.items ≡ calls_of job.now.block job.now.store) }
-    ensures writers { IfOk result (λ found. (key : List ℕ) → count_at found.writers key ≡ writers_at (receipts_of job.now.block job.now.store) key) }
+    ensures calls { IfOk result (λ found. found.calls.items ≡ calls_by_key job.now.block job.now.store) }
+    ensures paths { IfOk result (λ found. ArePaths (calls_of job.now.block job.now.store) found.paths.items) }
+    ensures count { IfOk result (λ found. length found.paths.items ≡ length job.now.block) }
+    ensures writers { IfOk result (λ found. (key : List ℕ) → calls_at found.writers key ≡ writers_at (receipts_of job.now.block job.now.store) key) }
+    ensures waits { IfOk result (λ found. found.waits ≡ with_waits map.empty (all_waits (calls_of job.now.block job.now.store))) }
 {
     all_waits(alloc, job.block.calls(), job.store.copy()?)
 }
@@ -77,9 +89,13 @@ struct Pass {
     /// The storage after the last call.
     store: Store,
     /// The calls that reads of each key would name.
-    table: Table,
-    /// How many calls changed each key.
-    writers: CallCounts,
+    named: CallLists,
+    /// The calls that changed each key.
+    writers: CallLists,
+    /// How many waits there are at each key.
+    waits: WaitCounts,
+    /// The paths of the calls.
+    paths: Vec<u64>,
     /// Room for the run of the next call.
     room: RunRoom,
 }
@@ -87,13 +103,18 @@ struct Pass {
 /// The same for some calls and a storage. Refused where memory ran out.
 fn all_waits(alloc: Global, calls: &[Call], store: Store) -> Result<Found, AllocError>
     requires { length calls.now ≤ 1024 }
-    ensures calls { IfOk result (λ found. found.calls.items ≡ calls_of calls.now store) }
-    ensures writers { IfOk result (λ found. (key : List ℕ) → count_at found.writers key ≡ writers_at (receipts_of calls.now store) key) }
+    ensures calls { IfOk result (λ found. found.calls.items ≡ calls_by_key calls.now store) }
+    ensures paths { IfOk result (λ found. ArePaths (calls_of calls.now store) found.paths.items) }
+    ensures count { IfOk result (λ found. length found.paths.items ≡ length calls.now) }
+    ensures writers { IfOk result (λ found. (key : List ℕ) → calls_at found.writers key ≡ writers_at (receipts_of calls.now store) key) }
+    ensures waits { IfOk result (λ found. found.waits ≡ with_waits map.empty (all_waits (calls_of calls.now store))) }
 {
     let mut pass = Pass {
         store,
-        table: Table::new(alloc),
-        writers: CallCounts::new(alloc),
+        named: CallLists::new(alloc),
+        writers: CallLists::new(alloc),
+        waits: WaitCounts::new(alloc),
+        paths: Vec::with_capacity(alloc, calls.len())?,
         room: RunRoom::new(alloc),
     };
     let mut all = Vec::with_capacity(alloc, calls.len())?;
@@ -101,34 +122,55 @@ fn all_waits(alloc: Global, calls: &[Call], store: Store) -> Result<Found, Alloc
         let next = pass.run_next(alloc, index as u16, call)?;
         all.push(next)?;
     }
-    let Pass { writers, .. } = pass;
+    let Pass {
+        writers,
+        waits,
+        paths,
+        ..
+    } = pass;
     Ok(Found {
         calls: all,
+        paths,
         writers,
+        waits,
     })
 }
 
 impl Pass {
     ghost use Rattle.std.specs.FinMap as map;
-    ghost use Rattle.std.specs.Prelude.{◌≡◌, IfOk, OnOk};
-    ghost use Rattle.conflicts.specs.Counts.{with_changes};
+    ghost use Rattle.std.specs.Prelude.{◌≡◌, ◌++◌, ◌∷◌, ◌≤◌, ◌<◌, ◌+◌, ◌*◌, ◌^◌, [], ℕ, List, All, IfOk, OnOk};
+    ghost use Rattle.conflicts.specs.Calls.{count_at, with_changes, with_waits};
+    ghost use Rattle.conflicts.specs.Greatest.{greatest_from};
     ghost use Rattle.conflicts.specs.Reads.{keys_read};
-    ghost use Rattle.conflicts.specs.Table.{after_changes, waits_in};
+    ghost use Rattle.conflicts.specs.Table.{after_changes, key_waits_in, waits_in};
     ghost use Rattle.rv_step.specs.Chain.{ends};
     ghost use Rattle.rv_step.specs.Fold.{store_after_call};
 
     /// Runs the next call of a block. Refused where memory ran out.
     fn run_next(&mut self, alloc: Global, index: u16, call: &Call) -> Result<CallWaits, AllocError>
-        ensures waits { IfOk result (λ c. c.waits ≡ waits_in self.old.table (keys_read call.now self.old.store)) }
+        requires paths { All (λ path. path ≤ 1024 * 2 ^ 32) self.old.paths.items }
+        requires waits { (q : List ℕ) → count_at (with_waits self.old.waits (waits_in self.old.named (keys_read call.now self.old.store))) q < 2 ^ 64 }
+        ensures waits { IfOk result (λ c. c.waits ≡ key_waits_in self.old.named (keys_read call.now self.old.store)) }
         ensures gas { IfOk result (λ c. c.gas ≡ (ends call.now self.old.store).gas) }
+        ensures counts { OnOk result (self.new.waits ≡ with_waits self.old.waits (waits_in self.old.named (keys_read call.now self.old.store))) }
+        ensures path { OnOk result (self.new.paths.items ≡ self.old.paths.items
+            ++ ((ends call.now self.old.store).gas + greatest_from self.old.paths.items 0 (waits_in self.old.named (keys_read call.now self.old.store))) ∷ []) }
         ensures store { OnOk result (self.new.store ≡ store_after_call call.now self.old.store) }
-        ensures writers { OnOk result (self.new.writers ≡ with_changes self.old.writers (map.entries (ends call.now self.old.store).writes)) }
-        ensures table { OnOk result (self.new.table ≡ after_changes index (map.entries (ends call.now self.old.store).writes) self.old.table) }
+        ensures writers { OnOk result (self.new.writers ≡ with_changes index (map.entries (ends call.now self.old.store).writes) self.old.writers) }
+        ensures named { OnOk result (self.new.named ≡ after_changes index (map.entries (ends call.now self.old.store).writes) self.old.named) }
     {
         let reading = read_over(alloc, &mut self.room, call, &self.store)?;
-        let waits = waits_in(alloc, &self.table, &reading.keys)?;
-        self.table.note_all(index, &reading.receipt.writes)?;
-        self.writers.add_all(&reading.receipt.writes, index)?;
+        let waits = key_waits_in(alloc, &self.named, &reading.keys)?;
+        count_waits(&mut self.waits, &self.named, &reading.keys)?;
+        let path = path_over(
+            self.paths.as_slice(),
+            &self.named,
+            &reading.keys,
+            reading.receipt.gas,
+        );
+        self.paths.push(path)?;
+        self.named.note_all(index, &reading.receipt.writes)?;
+        self.writers.add_all(index, &reading.receipt.writes)?;
         apply_writes(&mut self.store, &reading.receipt.writes)?;
         Ok(CallWaits {
             waits,
@@ -138,25 +180,52 @@ impl Pass {
 }
 
 /// The waits of a call that reads these keys. Refused where memory ran out.
-fn waits_in(alloc: Global, table: &Table, keys: &KeySet) -> Result<Vec<Wait>, AllocError>
-    ensures { IfOk result (λ waits. waits.items ≡ waits_in table.now keys.now) }
+fn key_waits_in(
+    alloc: Global,
+    named: &CallLists,
+    keys: &KeySet,
+) -> Result<Vec<KeyWaits>, AllocError>
+    ensures { IfOk result (λ waits. waits.items ≡ key_waits_in named.now keys.now) }
 {
     let mut waits = Vec::new(alloc);
     for (key, _) in keys.iter() {
-        push_waits(&mut waits, *key, table.named(key))?;
+        push_waits(&mut waits, *key, named.at(key))?;
     }
     Ok(waits)
 }
 
-/// Adds the waits for some calls at a key. Refused where memory ran out.
-fn push_waits(waits: &mut Vec<Wait>, key: Key, writers: &[u16]) -> Result<(), AllocError>
-    ensures { OnOk result (waits.new.items ≡ waits.old.items ++ waits_for key writers.now) }
+/// Adds the waits at a key for these calls, if there are any. Refused where memory ran out.
+fn push_waits(waits: &mut Vec<KeyWaits>, key: Key, calls: &[u16]) -> Result<(), AllocError>
+    ensures { OnOk result (waits.new.items ≡ waits.old.items ++ key_waits_from key (slice_get calls.now 0)) }
 {
-    for writer in writers {
-        waits.push(Wait {
-            writer: *writer,
-            key,
-        })?;
+    if let Some(from) = calls.first() {
+        waits.push(KeyWaits { from: *from, key })?;
     }
     Ok(())
+}
+
+/// Counts the waits of a call that reads these keys. Refused where memory ran out.
+fn count_waits(
+    counts: &mut WaitCounts,
+    named: &CallLists,
+    keys: &KeySet,
+) -> Result<(), AllocError>
+    requires { (q : List ℕ) → count_at (with_waits counts.old (waits_in named.now keys.now)) q < 2 ^ 64 }
+    ensures { OnOk result (counts.new ≡ with_waits counts.old (waits_in named.now keys.now)) }
+{
+    for (key, _) in keys.iter() {
+        count_calls(counts, *key, named.at(key))?;
+    }
+    Ok(())
+}
+
+/// Counts the waits at a key for these calls. Refused where memory ran out.
+fn count_calls(counts: &mut WaitCounts, key: Key, calls: &[u16]) -> Result<(), AllocError>
+    requires { count_at (with_waits counts.old (waits_for key calls.now)) key < 2 ^ 64 }
+    ensures { OnOk result (counts.new ≡ with_waits counts.old (waits_for key calls.now)) }
+{
+    if calls.is_empty() {
+        return Ok(());
+    }
+    counts.add(key, calls.len() as u64)
 }

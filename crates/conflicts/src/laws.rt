@@ -1,7 +1,11 @@
 //! Laws of what the calls of a block read and wait for.
 
+ghost use Rattle.conflicts.specs.ByKey.{calls_by_key};
 ghost use Rattle.conflicts.specs.LeftOut.{AgreeAt, IsClosed, Needs, items_where};
+ghost use Rattle.conflicts.specs.Paths.{WaitsAt};
 ghost use Rattle.conflicts.specs.Reads.{keys_read};
+ghost use Rattle.conflicts.specs.Sums.{keys_of_calls};
+ghost use Rattle.conflicts.specs.Text.{IsNamed};
 ghost use Rattle.conflicts.specs.Waits.{calls_of};
 ghost use Rattle.rv_ledger.specs.Call.{Invocation};
 ghost use Rattle.rv_ledger.specs.Key.{Storage};
@@ -27,4 +31,10 @@ pub fn calls_can_be_left_out()
     ensures one_call { (block : List Invocation) (store : Storage) (stays : ℕ → Bool) (j : ℕ)
         → ((i : ℕ) → (stays i ≡ true) ↔ Needs (calls_of block store) j i)
         → receipts_of (items_where stays block) store ≡ items_where stays (receipts_of block store) }
+{}
+
+/// A law, and no code: the lines of a block's text name its waits, and no others.
+pub fn lines_name_the_waits()
+    ensures { (block : List Invocation) (store : Storage) (j i : ℕ) (key : List ℕ)
+        → WaitsAt (calls_of block store) j i key ↔ IsNamed (calls_by_key block store) (keys_of_calls block store) j i key }
 {}

@@ -1,45 +1,43 @@
 //! The greatest sums of gas over chains of waits.
 
-ghost use Rattle.std.specs.Prelude.{◌≡◌, ◌≤◌, ◌<◌, ◌*◌, ◌^◌, ◌+◌, All, IfOk, length, ℕ};
+ghost use Rattle.std.specs.FinMap as map;
+ghost use Rattle.std.specs.Prelude.{◌≡◌, ◌≤◌, ◌<◌, ◌*◌, ◌^◌, ◌+◌, All, List, ℕ};
 ghost use Rattle.conflicts.specs.Greatest.{greater, greatest_from, path_at};
-ghost use Rattle.conflicts.specs.Paths.{AreEarlier, ArePaths};
+ghost use Rattle.conflicts.specs.Table.{waits_in};
+ghost use Rattle.conflicts.specs.Waits.{waits_for};
 
-use crate::in_order::CallWaits;
-use crate::wait::Wait;
-use std::alloc::{AllocError, Global};
+use crate::call_lists::CallLists;
+use crate::keys::KeySet;
 
-/// The path of each call. Refused where memory ran out.
-pub(crate) fn paths(alloc: Global, calls: &[CallWaits]) -> Result<Vec<u64>, AllocError>
-    requires few { length calls.now ≤ 1024 }
-    requires earlier { AreEarlier calls.now }
-    ensures paths { IfOk result (λ paths. ArePaths calls.now paths.items) }
-    ensures count { IfOk result (λ paths. length paths.items ≡ length calls.now) }
-{
-    let mut paths = Vec::with_capacity(alloc, calls.len())?;
-    for call in calls {
-        let path = path_over(paths.as_slice(), call);
-        paths.push(path)?;
-    }
-    Ok(paths)
-}
-
-/// The gas of a call over the greatest path of those that it waits for.
-fn path_over(paths: &[u64], call: &CallWaits) -> u64
+/// The gas of a call that reads these keys, over the greatest path of those that it waits for.
+pub(crate) fn path_over(paths: &[u64], named: &CallLists, keys: &KeySet, gas: u32) -> u64
     requires { All (λ path. path ≤ 1024 * 2 ^ 32) paths.now }
-    ensures value { result ≡ call.now.gas + greatest_from paths.now 0 call.now.waits }
+    ensures value { result ≡ gas + greatest_from paths.now 0 (waits_in named.now keys.now) }
     ensures bound { (most : ℕ) → All (λ path. path ≤ most) paths.now → result < most + 2 ^ 32 }
 {
-    u64::from(call.gas()) + greatest(paths, call.waits())
+    u64::from(gas) + greatest_over(paths, named, keys)
 }
 
-/// The greatest path of the calls that are waited for, or 0 where there is none.
-fn greatest(paths: &[u64], waits: &[Wait]) -> u64
-    ensures value { result ≡ greatest_from paths.now 0 waits.now }
+/// The greatest path of the calls that are waited for at these keys, or 0 where there is none.
+fn greatest_over(paths: &[u64], named: &CallLists, keys: &KeySet) -> u64
+    ensures value { result ≡ greatest_from paths.now 0 (waits_in named.now keys.now) }
     ensures bound { (most : ℕ) → All (λ path. path ≤ most) paths.now → result ≤ most }
 {
     let mut greatest = 0;
-    for wait in waits {
-        greatest = greater(greatest, path_at(paths, wait.writer));
+    for (key, _) in keys.iter() {
+        greatest = greatest_from(paths, greatest, named.at(key));
+    }
+    greatest
+}
+
+/// The greatest of a number and the paths of some calls.
+fn greatest_from(paths: &[u64], least: u64, calls: &[u16]) -> u64
+    ensures value { (key : List ℕ) → result ≡ greatest_from paths.now least (waits_for key calls.now) }
+    ensures bound { (most : ℕ) → least ≤ most → All (λ path. path ≤ most) paths.now → result ≤ most }
+{
+    let mut greatest = least;
+    for call in calls {
+        greatest = greater(greatest, path_at(paths, *call));
     }
     greatest
 }

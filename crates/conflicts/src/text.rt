@@ -1,21 +1,23 @@
 //! The lines of a block's conflicts.
 
-ghost use Rattle.std.specs.Prelude.{◌≡◌, ◌++◌, ◌∷◌, ◌≤◌, codes, length};
+ghost use Rattle.std.specs.Prelude.{◌≡◌, ◌++◌, ◌∷◌, ◌≤◌, codes, length, map};
 ghost use Rattle.std.specs.Fmt.{decimal};
 ghost use Rattle.std.specs.List.{enumerate_from, flat_map, zip};
 ghost use Rattle.hex.specs.Hex.{encode_lower};
 ghost use Rattle.receipts.specs.Buffer.{Appended};
-ghost use Rattle.conflicts.specs.Text.{call_line, call_lines, conflicts_text, key_line, sum_line, wait_line};
+ghost use Rattle.receipts.specs.Text.{more_fields};
+ghost use Rattle.conflicts.specs.Text.{call_line, call_lines, conflicts_text, key_line, sum_line, wait_line, writers_line};
 
 use crate::block::Conflicts;
 use crate::hot_key::HotKey;
 use crate::in_order::CallWaits;
+use crate::key_waits::KeyWaits;
 use crate::sums::{gas_of_all, greatest_path};
-use crate::wait::Wait;
 use byte_streams::Destination;
 use receipts::{TextBuffer, push_decimal, push_key};
 
-/// Appends all lines: those of each call, in block order, those of the keys at which some call waits, and the sums.
+/// Appends all lines: the writers of the keys at which some call waits, the lines of each call, in block order, those of
+/// these keys, and the sums.
 pub(crate) fn push_conflicts<W: Destination>(
     text: &mut TextBuffer,
     conflicts: &Conflicts,
@@ -25,8 +27,10 @@ pub(crate) fn push_conflicts<W: Destination>(
 {
     let calls = conflicts.calls.as_slice();
     let paths = conflicts.paths.as_slice();
+    let keys = conflicts.keys.as_slice();
+    push_all_writers(text, keys, out);
     push_calls(text, calls, paths, out);
-    push_hot_keys(text, conflicts.keys.as_slice(), out);
+    push_hot_keys(text, keys, out);
     push_sums(
         text,
         calls.len(),
@@ -34,6 +38,34 @@ pub(crate) fn push_conflicts<W: Destination>(
         greatest_path(paths),
         out,
     );
+}
+
+/// Appends the lines of the writers of some keys.
+fn push_all_writers<W: Destination>(text: &mut TextBuffer, keys: &[HotKey], out: &mut W)
+    ensures { Appended W.contents W.may_fail W.may_take_nothing text.old out.old text.new out.new (flat_map writers_line keys.now) }
+{
+    for key in keys {
+        push_writers(text, key, out);
+    }
+}
+
+/// Appends the line of the writers of a key.
+fn push_writers<W: Destination>(text: &mut TextBuffer, key: &HotKey, out: &mut W)
+    ensures { Appended W.contents W.may_fail W.may_take_nothing text.old out.old text.new out.new (writers_line key.now) }
+{
+    text.push(b"writers ", out);
+    push_key(text, key.key().bytes(), out);
+    push_more_calls(text, key.writers(), out);
+}
+
+/// Appends some calls, each behind a space, and ends the line.
+fn push_more_calls<W: Destination>(text: &mut TextBuffer, calls: &[u16], out: &mut W)
+    ensures { Appended W.contents W.may_fail W.may_take_nothing text.old out.old text.new out.new (more_fields (map decimal calls.now)) }
+{
+    for call in calls {
+        push_numbered(text, b" ", u64::from(*call), out);
+    }
+    text.push(b"\n", out);
 }
 
 /// Appends the lines of all calls, each with its path.
@@ -67,7 +99,7 @@ fn push_call<W: Destination>(
 }
 
 /// Appends the lines of the waits of the call at an index.
-fn push_waits<W: Destination>(text: &mut TextBuffer, index: usize, waits: &[Wait], out: &mut W)
+fn push_waits<W: Destination>(text: &mut TextBuffer, index: usize, waits: &[KeyWaits], out: &mut W)
     ensures { Appended W.contents W.may_fail W.may_take_nothing text.old out.old text.new out.new (flat_map (wait_line index) waits.now) }
 {
     for wait in waits {
@@ -75,12 +107,12 @@ fn push_waits<W: Destination>(text: &mut TextBuffer, index: usize, waits: &[Wait
     }
 }
 
-/// Appends the line of one wait of the call at an index.
-fn push_wait<W: Destination>(text: &mut TextBuffer, index: usize, wait: &Wait, out: &mut W)
+/// Appends the line of the waits of the call at an index at one key.
+fn push_wait<W: Destination>(text: &mut TextBuffer, index: usize, wait: &KeyWaits, out: &mut W)
     ensures { Appended W.contents W.may_fail W.may_take_nothing text.old out.old text.new out.new (wait_line index wait.now) }
 {
     push_numbered(text, b"wait ", index as u64, out);
-    push_numbered(text, b" ", u64::from(wait.writer), out);
+    push_numbered(text, b" ", u64::from(wait.from), out);
     text.push(b" ", out);
     push_key(text, wait.key.bytes(), out);
     text.push(b"\n", out);
@@ -132,15 +164,15 @@ fn push_hot_key<W: Destination>(text: &mut TextBuffer, key: &HotKey, out: &mut W
     ensures { Appended W.contents W.may_fail W.may_take_nothing text.old out.old text.new out.new (key_line key.now) }
 {
     text.push(b"key ", out);
-    push_key(text, key.key.bytes(), out);
-    push_key_counts(text, key.writers, key.waits, out);
+    push_key(text, key.key().bytes(), out);
+    push_key_counts(text, key.writers().len(), key.waits(), out);
 }
 
 /// Appends the numbers of writers and of waits at a key, and ends the line.
-fn push_key_counts<W: Destination>(text: &mut TextBuffer, writers: u64, waits: u64, out: &mut W)
+fn push_key_counts<W: Destination>(text: &mut TextBuffer, writers: usize, waits: u64, out: &mut W)
     ensures { Appended W.contents W.may_fail W.may_take_nothing text.old out.old text.new out.new (codes " writers " ++ (decimal writers ++ (codes " waits " ++ (decimal waits ++ codes "\n")))) }
 {
-    push_numbered(text, b" writers ", writers, out);
+    push_numbered(text, b" writers ", writers as u64, out);
     push_numbered(text, b" waits ", waits, out);
     text.push(b"\n", out);
 }

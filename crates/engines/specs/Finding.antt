@@ -2,6 +2,7 @@
 use Rattle.std.specs.Prelude.{ℕ, List, ◌≡◌, Option, length}
 use Rattle.std.specs.Io.KnownBytes.{Appends}
 use Rattle.byte_streams.specs.declared.fault.WriteFault.{WriteFault}
+use Rattle.conflicts.specs.ByKey.{calls_by_key}
 use Rattle.conflicts.specs.Paths.{ArePaths}
 use Rattle.conflicts.specs.Sums.{keys_of_calls}
 use Rattle.conflicts.specs.Text.{conflicts_text}
@@ -17,7 +18,7 @@ pub record IsConflictsText (job : Job) (text : List ℕ) : Type 0 where
   pub paths : List ℕ
   pub are_paths : ArePaths (calls_of job.block job.store) paths
   pub count : length paths ≡ length job.block
-  pub is : text ≡ conflicts_text (calls_of job.block job.store) paths (keys_of_calls job.block job.store)
+  pub is : text ≡ conflicts_text (calls_by_key job.block job.store) paths (keys_of_calls job.block job.store)
 
 -- the known bytes grow by the text of a job's conflicts
 abbrev pub AppendsConflicts : Job → Option (List ℕ) → Option (List ℕ) → Type 0
