@@ -71,15 +71,20 @@ def text_of(path):
     if refusal:
         raise ValueError(refusal)
     receipts, _ = results.result_of(text)
-    lines, paths, named = [], [], []
+    calls, paths, counts = [], [], {}
     for receipt, waits in zip(receipts, waits_of(path, receipts)):
         paths.append(receipt.gas + max((paths[writer] for writer, _ in waits), default=0))
-        named += [key for _, key in waits]
-        lines += [f"wait {receipt.number} {writer} {key}" for writer, key in waits]
-        lines.append(f"call {receipt.number} gas {receipt.gas} path {paths[-1]}")
-    for key in sorted(set(named)):
-        writers = sum(key in receipt.writes for receipt in receipts)
-        lines.append(f"key {key} writers {writers} waits {named.count(key)}")
+        earliest = {}
+        for writer, key in waits:
+            earliest[key] = min(writer, earliest.get(key, writer))
+            counts[key] = counts.get(key, 0) + 1
+        calls += [f"wait {receipt.number} {earliest[key]} {key}" for key in sorted(earliest)]
+        calls.append(f"call {receipt.number} gas {receipt.gas} path {paths[-1]}")
+    heads, keys = [], []
+    for key in sorted(counts):
+        writers = [str(receipt.number) for receipt in receipts if key in receipt.writes]
+        heads.append(f"writers {key} {' '.join(writers)}")
+        keys.append(f"key {key} writers {len(writers)} waits {counts[key]}")
     gas = sum(receipt.gas for receipt in receipts)
-    lines.append(f"all calls {len(receipts)} gas {gas} path {max(paths, default=0)}")
-    return "".join(f"{line}\n" for line in lines)
+    total = f"all calls {len(receipts)} gas {gas} path {max(paths, default=0)}"
+    return "".join(f"{line}\n" for line in [*heads, *calls, *keys, total])

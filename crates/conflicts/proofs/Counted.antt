@@ -1,8 +1,8 @@
--- What was counted at each key.
-use Rattle.std.proofs.Common.{◌≡◌, ◌+◌, ℕ, zero, suc, Bool, true, false, cond, List, [], ◌∷◌, map, take, length, Option, Some, None, is_some, T, refl, sym, ap, subst, ◌∙◌, arith}
+-- The writers of each key, and how many waits there are at it.
+use Rattle.std.proofs.Common.{◌≡◌, ◌==◌, ◌+◌, ◌*◌, ◌^◌, ◌<◌, ◌≤◌, ◌++◌, ℕ, zero, suc, Bool, true, false, cond, List, [], ◌∷◌, map, reverse, take, length, Option, Some, None, is_some, T, refl, sym, ap, subst, ◌∙◌, arith, append-nil, append_assoc, length-append}
 use Rattle.std.specs.FinMap as finite
 use Rattle.std.specs.FinMap.Entries.{by_order, put}
-use Rattle.std.specs.List.{filter, fold, slice_get}
+use Rattle.std.specs.List.{enumerate_from, filter, flat_map, fold, range_with_len, slice_get}
 use Rattle.std.specs.Option.{UnwrapsOrElse, unwrap_or}
 use Rattle.std.specs.Ordering.{eq_by_cmp}
 use Rattle.std.specs.Str.{bytes_eq}
@@ -10,36 +10,42 @@ use Rattle.std.specs.declared.cmp.Ordering.{Ordering}
 use Rattle.std.specs.declared.cmp.Ordering.TheVariants.{Less, Equal, Greater}
 use Rattle.std.specs.Cmp.{eq_by_cmp_equiv}
 use Rattle.std.specs.Cmp.Lexicographic.{nat_list_cmp_total}
+use Rattle.std.proofs.lemmas.Grind.{flat_map-append}
+use Rattle.std.proofs.lemmas.List.{length-reverse}
+use Rattle.std.proofs.lemmas.List.Elements.{filter-append}
+use Rattle.std.proofs.lemmas.List.FromFn.{map-range_with_len_more}
+use Rattle.std.proofs.lemmas.List.Sums.{fold-append}
 use Rattle.std.proofs.lemmas.Slice.Eq.{bytes_eq-Decides}
 use Rattle.rv_ledger.proofs.Entries.{key_cmp-IsAntisymmetric}
 use Rattle.rv_ledger.specs.Call.{Invocation}
+use Rattle.rv_ledger.specs.Change.{ContentChange}
 use Rattle.rv_ledger.specs.Key.{Storage, key_cmp}
+use Rattle.rv_ledger.specs.declared.change.Change.TheVariants as change
 use Rattle.rv_ledger.specs.declared.receipt.Receipt.{Receipt}
 use Rattle.rv_step.specs.Chain.{ends}
 use Rattle.rv_step.specs.Fold.{receipts_of, store_after_call, store_before}
-use Rattle.conflicts.specs.declared.hot_key.HotKey.{HotKey}
-use Rattle.conflicts.specs.declared.wait.Wait.{Wait}
-use Rattle.conflicts.specs.Counts.{Counts, count_at, counted_key, counted_keys, one_more, with_changes, with_waits}
-use Rattle.conflicts.specs.Reads.{Keys}
-use Rattle.conflicts.specs.Sums.{all_waits, changes_key, hot_key_of, keys_of_calls, writers_at}
-use Rattle.conflicts.specs.Waits.{CallView, calls_of}
-use Rattle.conflicts.proofs.Noted.{Changes, absent, first, receipt_at, second, tied}
+use Rattle.conflicts.specs.Calls.{CallLists, Counts, calls_at, count_at, hot_key, hot_keys, with_changes, with_more, with_waits}
+use Rattle.conflicts.specs.Reads.{Keys, keys_read}
+use Rattle.conflicts.specs.Sums.{HotKeyView, all_waits, changes_key, hot_key_of, keys_of_calls, writers_at}
+use Rattle.conflicts.specs.Table.{waits_in}
+use Rattle.conflicts.specs.Waits.{CallView, Wait, call_of, calls_of, change_in, keys_of, waits_at, waits_for, waits_of, waits_over, writers_named}
+use Rattle.conflicts.proofs.Noted.{Names, absent, changed, changes_at, first, named_more, named_none, noted, receipt_at, second, tied}
 
--- the number that was found at a key, or none yet
-pub found_or_none : (o : Option ℕ) (P : ℕ → Type 0) (n : ℕ) → UnwrapsOrElse o P n → ((m : ℕ) → P m → m ≡ 0) → n ≡ unwrap_or o 0
-found_or_none None P n h none = none n h
-found_or_none (Some m) P n h none = h
+-- the calls that were found at a key, or none yet
+pub found_or_none : (o : Option (List ℕ)) (P : List ℕ → Type 0) (calls : List ℕ) → UnwrapsOrElse o P calls → ((m : List ℕ) → P m → m ≡ []) → calls ≡ unwrap_or o []
+found_or_none None P calls h none = none calls h
+found_or_none (Some m) P calls h none = h
 
 from_zero : (n : ℕ) → 0 + n ≡ n
 from_zero n = omega arith
 
--- one more at a key, and as before at the others
-at_one_more : (q : List ℕ) (m : Counts) (key : List ℕ) (b : Bool) → eq_by_cmp key_cmp q key ≡ b → count_at (one_more m key) q ≡ cond b (count_at m q + 1) (count_at m q)
-at_one_more q m key true same =
-    ap (λ o. unwrap_or o 0) (finite.get-insert nat_list_cmp_total m key (count_at m key + 1) q ∙ ap (λ b. cond b (Some (count_at m key + 1)) (finite.get m q)) same)
-    ∙ ap (λ k. count_at m k + 1) (sym (key_cmp-IsAntisymmetric q key (tied (key_cmp q key) same)))
-at_one_more q m key false other =
-    ap (λ o. unwrap_or o 0) (finite.get-insert nat_list_cmp_total m key (count_at m key + 1) q ∙ ap (λ b. cond b (Some (count_at m key + 1)) (finite.get m q)) other)
+-- some more at a key, and as before at the others
+at_more : (q : List ℕ) (m : Counts) (key : List ℕ) (n : ℕ) (b : Bool) → eq_by_cmp key_cmp q key ≡ b → count_at (with_more m key n) q ≡ cond b (count_at m q + n) (count_at m q)
+at_more q m key n true same =
+    ap (λ o. unwrap_or o 0) (finite.get-insert nat_list_cmp_total m key (count_at m key + n) q ∙ ap (λ b. cond b (Some (count_at m key + n)) (finite.get m q)) same)
+    ∙ ap (λ k. count_at m k + n) (sym (key_cmp-IsAntisymmetric q key (tied (key_cmp q key) same)))
+at_more q m key n false other =
+    ap (λ o. unwrap_or o 0) (finite.get-insert nat_list_cmp_total m key (count_at m key + n) q ∙ ap (λ b. cond b (Some (count_at m key + n)) (finite.get m q)) other)
 
 -- keys compare alike where their bytes are equal
 same_test : (key q : List ℕ) → eq_by_cmp key_cmp q key ≡ bytes_eq key q
@@ -62,13 +68,13 @@ module _ (q : List ℕ) where
   is_at_key wait = bytes_eq wait.key q
 
   one_wait : (wait : Wait) (ws : List Wait) (m : Counts) (b : Bool) → is_at_key wait ≡ b
-      → count_at (one_more m wait.key) q + length (filter is_at_key ws) ≡ count_at m q + length (cond b (wait ∷ filter is_at_key ws) (filter is_at_key ws))
-  one_wait wait ws m true at = let more = at_one_more q m wait.key true (same_test wait.key q ∙ at) in omega (arith, more)
-  one_wait wait ws m false apart = let same = at_one_more q m wait.key false (same_test wait.key q ∙ apart) in omega (arith, same)
+      → count_at (with_more m wait.key 1) q + length (filter is_at_key ws) ≡ count_at m q + length (cond b (wait ∷ filter is_at_key ws) (filter is_at_key ws))
+  one_wait wait ws m true at = let more = at_more q m wait.key 1 true (same_test wait.key q ∙ at) in omega (arith, more)
+  one_wait wait ws m false apart = let same = at_more q m wait.key 1 false (same_test wait.key q ∙ apart) in omega (arith, same)
 
   pub waits_counted : (ws : List Wait) (m : Counts) → count_at (with_waits m ws) q ≡ count_at m q + length (filter is_at_key ws)
   waits_counted [] m = omega arith
-  waits_counted (wait ∷ ws) m = waits_counted ws (one_more m wait.key) ∙ one_wait wait ws m (is_at_key wait) refl
+  waits_counted (wait ∷ ws) m = waits_counted ws (with_more m wait.key 1) ∙ one_wait wait ws m (is_at_key wait) refl
 
 -- the keys of two maps that have the same ones, after one more entry
 module _ {X Y : Type 0} (k : List ℕ) (x : X) (y : Y) where
@@ -107,52 +113,116 @@ no_keys X = no_keys_in (finite.entries finite.empty) (sym (finite.len-entries fi
 keys_counted : (ws : List Wait) (m : Counts) (keys : Keys) → finite.keys m ≡ finite.keys keys → finite.keys (with_waits m ws) ≡ finite.keys (fold (λ s wait. finite.insert s wait.key tt) keys ws)
 keys_counted [] m keys h = h
 keys_counted (wait ∷ ws) m keys h =
-    keys_counted ws (one_more m wait.key) (finite.insert keys wait.key tt) (keys_insert wait.key (count_at m wait.key + 1) tt m keys h)
+    keys_counted ws (with_more m wait.key 1) (finite.insert keys wait.key tt) (keys_insert wait.key (count_at m wait.key + 1) tt m keys h)
+
+-- ---- several waits at a key
+
+tied_self : (q : List ℕ) → eq_by_cmp key_cmp q q ≡ true
+tied_self q = (eq_by_cmp_equiv nat_list_cmp_total).refl q
+
+more_twice : (m : Counts) (key : List ℕ) (n : ℕ) → with_more (with_more m key 1) key (suc n) ≡ with_more m key (suc (suc n))
+more_twice m key n = finite.same_map nat_list_cmp_total key_cmp-IsAntisymmetric _ _ (λ q.
+    finite.get-insert nat_list_cmp_total (with_more m key 1) key (count_at (with_more m key 1) key + suc n) q
+    ∙ either q (eq_by_cmp key_cmp q key) refl
+    ∙ sym (finite.get-insert nat_list_cmp_total m key (count_at m key + suc (suc n)) q))
+  where
+    sum_is : count_at (with_more m key 1) key + suc n ≡ count_at m key + suc (suc n)
+    sum_is = let one = at_more key m key 1 true (tied_self key) in omega (arith, one)
+
+    either : (q : List ℕ) (b : Bool) → eq_by_cmp key_cmp q key ≡ b
+        → cond b (Some (count_at (with_more m key 1) key + suc n)) (finite.get (with_more m key 1) q) ≡ cond b (Some (count_at m key + suc (suc n))) (finite.get m q)
+    either q true same = ap Some sum_is
+    either q false other = finite.get-insert nat_list_cmp_total m key (count_at m key + 1) q ∙ ap (λ b. cond b (Some (count_at m key + 1)) (finite.get m q)) other
+
+-- so many more at a key, and nothing where there is none
+abbrev many : Counts → List ℕ → ℕ → Counts
+many m key zero = m
+many m key (suc n) = with_more m key (suc n)
+
+many_twice : (m : Counts) (key : List ℕ) (n : ℕ) → many (with_more m key 1) key n ≡ many m key (suc n)
+many_twice m key zero = refl
+many_twice m key (suc n) = more_twice m key n
+
+waits_are_many : (key calls : List ℕ) (m : Counts) → with_waits m (waits_for key calls) ≡ many m key (length calls)
+waits_are_many key [] m = refl
+waits_are_many key (call ∷ calls) m = waits_are_many key calls (with_more m key 1) ∙ many_twice m key (length calls)
+
+-- one addition for all waits at a key
+pub waits_at_once : (key calls : List ℕ) (m : Counts) → 0 < length calls → with_waits m (waits_for key calls) ≡ with_more m key (length calls)
+waits_at_once key [] m h = absurd (omega (arith, h))
+waits_at_once key (call ∷ calls) m h = waits_are_many key (call ∷ calls) m
+
+pub count_after : (key calls : List ℕ) (m : Counts) → 0 < length calls → count_at (with_waits m (waits_for key calls)) key ≡ count_at m key + length calls
+count_after key calls m h = ap (λ n. count_at n key) (waits_at_once key calls m h) ∙ at_more key m key (length calls) true (tied_self key)
+
+same_order : (key calls : List ℕ) (m : Counts) → with_waits m (waits_for key (reverse calls)) ≡ with_waits m (waits_for key calls)
+same_order key calls m = waits_are_many key (reverse calls) m ∙ ap (many m key) (length-reverse calls) ∙ sym (waits_are_many key calls m)
+
+-- counts only grow
+pub no_fewer : (q : List ℕ) (ws : List Wait) (m : Counts) → count_at m q ≤ count_at (with_waits m ws) q
+no_fewer q ws m = let more = waits_counted q ws m in omega (arith, more)
+
+-- and the last of them bounds the others
+pub still_fits : (q : List ℕ) (m : Counts) (some rest : List Wait) → count_at (with_waits m (some ++ rest)) q < 2 ^ 64 → count_at (with_waits m some) q < 2 ^ 64
+still_fits q m some rest h =
+    let less = no_fewer q rest (with_waits m some) in
+    let same : count_at (with_waits m (some ++ rest)) q ≡ count_at (with_waits (with_waits m some) rest) q = ap (λ n. count_at n q) (fold-append (λ before wait. with_more before wait.key 1) m some rest) in
+    omega (arith, less, same, h)
+
+pub some_calls : (calls : List ℕ) → false ≡ (length calls == 0) → 0 < length calls
+some_calls [] e = cc
+some_calls (call ∷ calls) e = omega arith
 
 -- ---- writers
 
-changes_counted : (q : List ℕ) (es : Changes) (m : Counts) → T (finite.is_sorted key_cmp es) → count_at (with_changes m es) q ≡ count_at m q + cond (is_some (finite.find key_cmp q es)) 1 0
-changes_counted q [] m h = omega arith
-changes_counted q (e ∷ es) m h = changes_counted q es (one_more m e.0) (second _ _ h) ∙ one_change (eq_by_cmp key_cmp q e.0) refl
-  where
-    one_change : (b : Bool) → eq_by_cmp key_cmp q e.0 ≡ b → count_at (one_more m e.0) q + cond (is_some (finite.find key_cmp q es)) 1 0 ≡ count_at m q + cond (is_some (cond b (Some e.1) (finite.find key_cmp q es))) 1 0
-    one_change true same =
-        let key : q ≡ e.0 = key_cmp-IsAntisymmetric q e.0 (tied (key_cmp q e.0) same) in
-        let none : finite.find key_cmp q es ≡ None = ap (λ k. finite.find key_cmp k es) key ∙ absent e.0 es (first _ _ h) in
-        let more = at_one_more q m e.0 true same in
-        rw none (omega (arith, more))
-    one_change false other = ap (λ n. n + cond (is_some (finite.find key_cmp q es)) 1 0) (at_one_more q m e.0 false other)
+abbrev pub writers_from : ℕ → List Receipt → List ℕ → List ℕ
+writers_from n receipts key = map (λ item. item.0) (filter (λ item. changes_key key item.1) (enumerate_from n receipts))
 
--- how many of the first receipts pass a test, with one more
-module _ (p : Receipt → Bool) where
-  counted_over : (x : Receipt) (xs ys : List Receipt) (n : ℕ) (b : Bool) → length xs ≡ length ys + n → length (cond b (x ∷ xs) xs) ≡ length (cond b (x ∷ ys) ys) + n
-  counted_over x xs ys n true e = omega (arith, e)
-  counted_over x xs ys n false e = e
+module _ (key : List ℕ) where
+  abbrev pub one_writer : ℕ → Receipt → List ℕ
+  one_writer n receipt = cond (changes_key key receipt) (n ∷ []) []
 
-  one_passes : (x : Receipt) (b : Bool) → length (cond b (x ∷ []) []) ≡ cond b 1 0
-  one_passes x true = refl
-  one_passes x false = refl
+  pub writer_first : (n : ℕ) (y : Receipt) (ys : List Receipt) → writers_from n (y ∷ ys) key ≡ one_writer n y ++ writers_from (n + 1) ys key
+  writer_first n y ys = by_test (changes_key key y)
+    where
+      by_test : (b : Bool) → map (λ item. item.0) (cond b ((n, y) ∷ filter (λ item. changes_key key item.1) (enumerate_from (n + 1) ys)) (filter (λ item. changes_key key item.1) (enumerate_from (n + 1) ys))) ≡ cond b (n ∷ []) [] ++ writers_from (n + 1) ys key
+      by_test true = refl
+      by_test false = refl
 
-  passing_more : (xs : List Receipt) (i : ℕ) (x : Receipt) → slice_get xs i ≡ Some x → length (filter p (take (suc i) xs)) ≡ length (filter p (take i xs)) + cond (p x) 1 0
-  passing_more [] i x e = cc
-  passing_more (y ∷ ys) zero x e = let same : y ≡ x = cc in ap (λ (r : Receipt). length (filter p (r ∷ []))) same ∙ one_passes x (p x) ∙ sym (from_zero (cond (p x) 1 0))
-  passing_more (y ∷ ys) (suc i) x e = counted_over y (filter p (take (suc i) ys)) (filter p (take i ys)) (cond (p x) 1 0) (p y) (passing_more ys i x e)
+  writers_more : (n : ℕ) (xs : List Receipt) (i : ℕ) (x : Receipt) → slice_get xs i ≡ Some x → writers_from n (take (suc i) xs) key ≡ writers_from n (take i xs) key ++ one_writer (n + i) x
+  writers_more n [] i x e = cc
+  writers_more n (y ∷ ys) zero x e =
+      let same : y ≡ x = cc in
+      writer_first n y [] ∙ append-nil (one_writer n y) ∙ ap (one_writer n) same ∙ ap (λ (k : ℕ). one_writer k x) (omega arith)
+  writers_more n (y ∷ ys) (suc i) x e =
+      writer_first n y (take (suc i) ys) ∙ ap (λ l. one_writer n y ++ l) (writers_more (n + 1) ys i x e ∙ ap (λ (k : ℕ). writers_from (n + 1) (take i ys) key ++ one_writer k x) (omega arith))
+      ∙ sym (append_assoc (one_writer n y) (writers_from (n + 1) (take i ys) key) (one_writer (n + suc i) x))
+      ∙ ap (λ l. l ++ one_writer (n + suc i) x) (sym (writer_first n y (take i ys)))
 
--- the writers of the first receipts were counted
-abbrev pub AreCounted : Counts → List Receipt → ℕ → Type 0
-AreCounted counts receipts i = (q : List ℕ) → count_at counts q ≡ writers_at (take i receipts) q
+-- the writers of the first receipts were noted
+abbrev pub AreWriters : CallLists → List Receipt → ℕ → Type 0
+AreWriters lists receipts i = (q : List ℕ) → calls_at lists q ≡ writers_at (take i receipts) q
 
-pub none_counted : (receipts : List Receipt) → AreCounted finite.empty receipts 0
-none_counted receipts q = ap (λ o. unwrap_or o 0) (finite.get-empty key_cmp q)
+pub no_writers : (receipts : List Receipt) → AreWriters finite.empty receipts 0
+no_writers receipts q = ap (λ o. unwrap_or o []) (finite.get-empty key_cmp q)
 
-pub counted_next : (block : List Invocation) (store : Storage) (i : ℕ) (call : Invocation) → slice_get block i ≡ Some call → (m : Counts) → AreCounted m (receipts_of block store) i
-    → AreCounted (with_changes m (finite.entries (ends call (store_before block i store)).writes)) (receipts_of block store) (i + 1)
-counted_next block store i call at m h q =
+abbrev adding : ℕ → ContentChange → List ℕ → List ℕ
+adding i change calls = calls ++ i ∷ []
+
+added : (i : ℕ) (o : Option ContentChange) (calls : List ℕ) → changed (adding i) o calls ≡ calls ++ cond (is_some o) (i ∷ []) []
+added i None calls = sym (append-nil calls)
+added i (Some change) calls = refl
+
+pub writers_next : (block : List Invocation) (store : Storage) (i : ℕ) (call : Invocation) → slice_get block i ≡ Some call → (lists : CallLists) → AreWriters lists (receipts_of block store) i
+    → AreWriters (with_changes i (finite.entries (ends call (store_before block i store)).writes) lists) (receipts_of block store) (i + 1)
+writers_next block store i call at lists h q =
     let receipt = ends call (store_before block i store) in
-    changes_counted q (finite.entries receipt.writes) m (finite.entries_sorted receipt.writes)
-    ∙ ap (λ o. count_at m q + cond (is_some o) 1 0) (sym (finite.get-entries receipt.writes q))
-    ∙ ap (λ n. n + cond (changes_key q receipt) 1 0) (h q)
-    ∙ sym (passing_more (changes_key q) (receipts_of block store) i receipt (receipt_at call block store i at))
+    changes_at (adding i) q (finite.entries receipt.writes) lists (finite.entries_sorted receipt.writes)
+    ∙ ap (λ o. changed (adding i) o (calls_at lists q)) (sym (finite.get-entries receipt.writes q))
+    ∙ added i (finite.get receipt.writes q) (calls_at lists q)
+    ∙ ap (λ l. l ++ one_writer q i receipt) (h q)
+    ∙ ap (λ (k : ℕ). writers_at (take i (receipts_of block store)) q ++ one_writer q k receipt) (sym (from_zero i))
+    ∙ sym (writers_more q 0 (receipts_of block store) i receipt (receipt_at call block store i at))
     ∙ ap (λ n. writers_at (take n (receipts_of block store)) q) (next i)
   where
     next : (n : ℕ) → suc n ≡ n + 1
@@ -167,30 +237,138 @@ taken_all : (xs : List Receipt) → take (length xs) xs ≡ xs
 taken_all [] = refl
 taken_all (x ∷ xs) = ap (λ (l : List Receipt). x ∷ l) (taken_all xs)
 
-pub all_counted : (block : List Invocation) (store : Storage) (m : Counts) (n : ℕ) → n ≡ length block → AreCounted m (receipts_of block store) n → (key : List ℕ) → count_at m key ≡ writers_at (receipts_of block store) key
-all_counted block store m n all h key =
+pub all_writers : (block : List Invocation) (store : Storage) (lists : CallLists) (n : ℕ) → n ≡ length block → AreWriters lists (receipts_of block store) n → (key : List ℕ) → calls_at lists key ≡ writers_at (receipts_of block store) key
+all_writers block store lists n all h key =
     h key ∙ ap (λ k. writers_at (take k (receipts_of block store)) key) (all ∙ sym (receipts_count block store)) ∙ ap (λ l. writers_at l key) (taken_all (receipts_of block store))
 
 -- ---- both
 
--- the counts that the pass has are those of the definition
-module _ (block : List Invocation) (store : Storage) (writers : Counts) (h : (key : List ℕ) → count_at writers key ≡ writers_at (receipts_of block store) key) where
+-- what the pass has are the keys of the definition
+module _ (block : List Invocation) (store : Storage) (writers : CallLists) (h : (key : List ℕ) → calls_at writers key ≡ writers_at (receipts_of block store) key) where
   abbrev calls : List CallView
   calls = calls_of block store
 
   abbrev waits : Counts
   waits = with_waits finite.empty (all_waits calls)
 
-  same_key : (key : List ℕ) → counted_key writers waits key ≡ hot_key_of (receipts_of block store) calls key
+  same_key : (key : List ℕ) → hot_key writers waits key ≡ hot_key_of (receipts_of block store) calls key
   same_key key =
       let none : count_at finite.empty key ≡ 0 = ap (λ o. unwrap_or o 0) (finite.get-empty key_cmp key) in
-      ap (λ (n : ℕ). record { key = key; writers = n; waits = count_at waits key }) (h key)
+      ap (λ (l : List ℕ). record { key = key; writers = l; waits = count_at waits key }) (h key)
       ∙ ap (λ (n : ℕ). record { key = key; writers = writers_at (receipts_of block store) key; waits = n }) (waits_counted key (all_waits calls) finite.empty ∙ ap (λ n. n + length (filter (is_at_key key) (all_waits calls))) none ∙ from_zero (length (filter (is_at_key key) (all_waits calls))))
 
-  same_keys : (keys : List (List ℕ)) → map (counted_key writers waits) keys ≡ map (hot_key_of (receipts_of block store) calls) keys
+  same_keys : (keys : List (List ℕ)) → map (hot_key writers waits) keys ≡ map (hot_key_of (receipts_of block store) calls) keys
   same_keys [] = refl
-  same_keys (key ∷ keys) = ap (λ (k : HotKey). k ∷ map (counted_key writers waits) keys) (same_key key) ∙ ap (λ (l : List HotKey). hot_key_of (receipts_of block store) calls key ∷ l) (same_keys keys)
+  same_keys (key ∷ keys) = ap (λ (k : HotKeyView). k ∷ map (hot_key writers waits) keys) (same_key key) ∙ ap (λ (l : List HotKeyView). hot_key_of (receipts_of block store) calls key ∷ l) (same_keys keys)
 
-  pub keys_are : counted_keys writers waits ≡ keys_of_calls block store
+  pub keys_are : hot_keys writers waits ≡ keys_of_calls block store
   keys_are =
       same_keys (finite.keys waits) ∙ ap (map (hot_key_of (receipts_of block store) calls)) (keys_counted (all_waits calls) finite.empty finite.empty (no_keys ℕ ∙ sym (no_keys (Unit {0}))))
+
+-- ---- the counts of the pass
+
+-- a call's waits, as the pass has them
+same_counts : (table : CallLists) (receipts : List Receipt) (i : ℕ) → Names table receipts i → (keys : List (List ℕ)) (m : Counts)
+    → with_waits m (flat_map (λ key. waits_for key (calls_at table key)) keys) ≡ with_waits m (flat_map (waits_at receipts i) keys)
+same_counts table receipts i names [] m = refl
+same_counts table receipts i names (key ∷ keys) m =
+    fold-append _ m (waits_for key (calls_at table key)) (flat_map (λ k. waits_for k (calls_at table k)) keys)
+    ∙ ap (λ n. with_waits n (flat_map (λ k. waits_for k (calls_at table k)) keys)) (ap (λ l. with_waits m (waits_for key l)) (names key) ∙ same_order key (writers_named receipts key i) m)
+    ∙ same_counts table receipts i names keys (with_waits m (waits_at receipts i key))
+    ∙ sym (fold-append _ m (waits_at receipts i key) (flat_map (waits_at receipts i) keys))
+
+-- the counts of the first calls
+abbrev pub counts_of : List Invocation → Storage → ℕ → Counts
+counts_of block store n = with_waits finite.empty (all_waits (map (call_of block store) (range_with_len 0 n)))
+
+module _ (block : List Invocation) (store : Storage) (i : ℕ) (call : Invocation) (at : slice_get block i ≡ Some call) where
+  pub counts_next : (table : CallLists) → Names table (receipts_of block store) i
+      → with_waits (counts_of block store i) (waits_in table (keys_read call (store_before block i store))) ≡ counts_of block store (i + 1)
+  counts_next table names =
+      let old = map (call_of block store) (range_with_len 0 i) in
+      same_counts table (receipts_of block store) i names (finite.keys (keys_read call (store_before block i store))) (counts_of block store i)
+      ∙ ap (λ k. with_waits (counts_of block store i) (waits_over (receipts_of block store) i (keys_of k (store_before block i store)))) (sym at)
+      ∙ sym (fold-append _ finite.empty (all_waits old) (waits_of block store i))
+      ∙ ap (λ l. with_waits finite.empty (all_waits old ++ l)) (sym (append-nil (waits_of block store i)))
+      ∙ ap (with_waits finite.empty) (sym (flat_map-append (λ (c : CallView). c.waits) old (call_of block store i ∷ [])))
+      ∙ ap (λ l. with_waits finite.empty (all_waits l)) (sym (map-range_with_len_more (call_of block store) 0 i i (omega arith)))
+
+-- ---- how many waits there are at most
+
+module _ (receipts : List Receipt) (j : ℕ) (q : List ℕ) where
+  at_one_key : (key calls : List ℕ) (b : Bool) → bytes_eq key q ≡ b → length (filter (is_at_key q) (waits_for key calls)) ≡ cond b (length calls) 0
+  at_one_key key [] true e = refl
+  at_one_key key [] false e = refl
+  at_one_key key (call ∷ calls) true e = ap (λ (b : Bool). length (cond b (record { writer = call; key = key } ∷ filter (is_at_key q) (waits_for key calls)) (filter (is_at_key q) (waits_for key calls)))) e ∙ ap suc (at_one_key key calls true e)
+  at_one_key key (call ∷ calls) false e = ap (λ (b : Bool). length (cond b (record { writer = call; key = key } ∷ filter (is_at_key q) (waits_for key calls)) (filter (is_at_key q) (waits_for key calls)))) e ∙ at_one_key key calls false e
+
+  abbrev here : ℕ
+  here = length (writers_named receipts q j)
+
+  at_keys : (es : List (List ℕ × Unit {0})) → T (finite.is_sorted key_cmp es)
+      → length (filter (is_at_key q) (flat_map (waits_at receipts j) (map (λ e. e.0) es))) ≡ cond (is_some (finite.find key_cmp q es)) here 0
+  at_keys [] h = refl
+  at_keys (e ∷ es) h =
+      let rest = flat_map (waits_at receipts j) (map (λ e. e.0) es) in
+      ap length (filter-append (is_at_key q) (waits_at receipts j e.0) rest) ∙ length-append (filter (is_at_key q) (waits_at receipts j e.0)) (filter (is_at_key q) rest)
+      ∙ by_key (eq_by_cmp key_cmp q e.0) refl (at_keys es (second _ _ h))
+    where
+      by_key : (b : Bool) → eq_by_cmp key_cmp q e.0 ≡ b
+          → length (filter (is_at_key q) (flat_map (waits_at receipts j) (map (λ e. e.0) es))) ≡ cond (is_some (finite.find key_cmp q es)) here 0
+          → length (filter (is_at_key q) (waits_at receipts j e.0)) + length (filter (is_at_key q) (flat_map (waits_at receipts j) (map (λ e. e.0) es))) ≡ cond (is_some (cond b (Some e.1) (finite.find key_cmp q es))) here 0
+      by_key true same others =
+          let key : q ≡ e.0 = key_cmp-IsAntisymmetric q e.0 (tied (key_cmp q e.0) same) in
+          let none : finite.find key_cmp q es ≡ None = ap (λ k. finite.find key_cmp k es) key ∙ absent e.0 es (first _ _ h) in
+          let own = at_one_key e.0 (writers_named receipts e.0 j) true (sym (same_test e.0 q) ∙ same) ∙ ap (λ k. length (writers_named receipts k j)) (sym key) in
+          let zero_more = others ∙ ap (λ o. cond (is_some o) here 0) none in
+          omega (arith, own, zero_more)
+      by_key false apart others =
+          let own = at_one_key e.0 (writers_named receipts e.0 j) false (sym (same_test e.0 q) ∙ apart) in
+          omega (arith, own, others)
+
+named_count : (receipts : List Receipt) (key : List ℕ) (j : ℕ) → length (writers_named receipts key j) ≤ j
+named_count receipts key zero = let none = ap length (named_none receipts key) in omega (arith, none)
+named_count receipts key (suc j) =
+    let less = named_count receipts key j in
+    let more = ap length (named_more receipts key j) in
+    let one = noted_count (change_in (slice_get receipts j) key) (writers_named receipts key j) in
+    omega (arith, less, more, one)
+  where
+    noted_count : (c : Option ContentChange) (calls : List ℕ) → length (noted j c calls) ≤ suc (length calls)
+    noted_count None calls = omega arith
+    noted_count (Some (change.Sum amount)) calls = omega arith
+    noted_count (Some (change.Value value)) calls = omega arith
+    noted_count (Some change.Gone) calls = omega arith
+
+module _ (block : List Invocation) (store : Storage) (q : List ℕ) where
+  of_call : (j : ℕ) → length (filter (is_at_key q) (waits_of block store j)) ≤ j
+  of_call j =
+      let keys : Keys = keys_of (slice_get block j) (store_before block j store) in
+      let is = at_keys (receipts_of block store) j q (finite.entries keys) (finite.entries_sorted keys) in
+      let less = within (is_some (finite.find key_cmp q (finite.entries keys))) in
+      omega (arith, is, less)
+    where
+      within : (b : Bool) → cond b (length (writers_named (receipts_of block store) q j)) 0 ≤ j
+      within true = named_count (receipts_of block store) q j
+      within false = omega arith
+
+  of_calls : (n : ℕ) → n ≤ 1024 → length (filter (is_at_key q) (all_waits (map (call_of block store) (range_with_len 0 n)))) ≤ n * 1024
+  of_calls zero h = omega arith
+  of_calls (suc n) h =
+      let old = map (call_of block store) (range_with_len 0 n) in
+      let less = of_calls n (omega (arith, h)) in
+      let own = of_call n in
+      let next : suc n ≡ n + 1 = omega arith in
+      let more : all_waits (map (call_of block store) (range_with_len 0 (suc n))) ≡ all_waits old ++ (waits_of block store n ++ []) =
+      ap (λ (k : ℕ). all_waits (map (call_of block store) (range_with_len 0 k))) next
+      ∙ ap all_waits (map-range_with_len_more (call_of block store) 0 n n (omega arith)) ∙ flat_map-append (λ (c : CallView). c.waits) old (call_of block store n ∷ []) in
+      let count = ap (λ l. length (filter (is_at_key q) l)) (more ∙ ap (λ l. all_waits old ++ l) (append-nil (waits_of block store n)))
+      ∙ ap length (filter-append (is_at_key q) (all_waits old) (waits_of block store n)) ∙ length-append (filter (is_at_key q) (all_waits old)) (filter (is_at_key q) (waits_of block store n)) in
+      omega (arith, less, own, count, h)
+
+  pub few_waits : (n : ℕ) → n ≤ 1024 → count_at (counts_of block store n) q < 2 ^ 64
+  few_waits n h =
+      let none : count_at finite.empty q ≡ 0 = ap (λ o. unwrap_or o 0) (finite.get-empty key_cmp q) in
+      let is = waits_counted q (all_waits (map (call_of block store) (range_with_len 0 n))) finite.empty in
+      let less = of_calls n h in
+      omega (arith, none, is, less, h)

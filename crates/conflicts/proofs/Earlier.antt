@@ -3,17 +3,16 @@ use Rattle.std.proofs.Common.{◌≡◌, ◌<◌, ◌⊎◌, ◌++◌, ◌+◌, 
 use Rattle.std.specs.FinMap as finite
 use Rattle.std.specs.List.{flat_map, range_with_len, slice_get}
 use Rattle.std.specs.Option.{option_map}
-use Rattle.std.proofs.lemmas.Option.{slice_get-map}
-use Rattle.std.proofs.lemmas.List.FromFn.{length-map-range_with_len}
+use Rattle.std.proofs.lemmas.Option.{slice_get-get_or, slice_get-map, slice_get_within}
+use Rattle.std.proofs.lemmas.List.FromFn.{get_or-map-range_with_len, length-map-range_with_len}
 use Rattle.rv_ledger.specs.Call.{Invocation}
 use Rattle.rv_ledger.specs.Change.{ContentChange}
 use Rattle.rv_ledger.specs.Key.{Storage}
 use Rattle.rv_ledger.specs.declared.change.Change.TheVariants as change
 use Rattle.rv_ledger.specs.declared.receipt.Receipt.{Receipt}
 use Rattle.rv_step.specs.Fold.{receipts_of, store_before}
-use Rattle.conflicts.specs.declared.wait.Wait.{Wait}
 use Rattle.conflicts.specs.Paths.{AreEarlier, waits_in_call}
-use Rattle.conflicts.specs.Waits.{CallView, call_of, calls_of, change_in, keys_of, waits_at, waits_for, writers_named}
+use Rattle.conflicts.specs.Waits.{CallView, Wait, call_of, calls_of, change_in, keys_of, waits_at, waits_for, writers_named}
 use Rattle.conflicts.proofs.Noted.{named_more, named_none, noted}
 
 abbrev AreBelow : ℕ → List ℕ → Type 0
@@ -60,7 +59,7 @@ flat_below receipts j (key ∷ keys) =
     append_below j (waits_at receipts j key) (flat_map (waits_at receipts j) keys)
     (for_below key j (writers_named receipts key j) (named_below receipts key j)) (flat_below receipts j keys)
 
-at_index : (a n j : ℕ) → (slice_get (range_with_len a n) j ≡ None) ⊎ (slice_get (range_with_len a n) j ≡ Some (a + j))
+pub at_index : (a n j : ℕ) → (slice_get (range_with_len a n) j ≡ None) ⊎ (slice_get (range_with_len a n) j ≡ Some (a + j))
 at_index a zero j = inl refl
 at_index a (suc n) zero = inr (ap (λ (k : ℕ). Some k) (omega arith))
 at_index a (suc n) (suc j) = onward (at_index (a + 1) n j)
@@ -82,9 +81,16 @@ module _ (block : List Invocation) (store : Storage) where
       omega (arith, less, same)
 
   pub earlier : AreEarlier (calls_of block store)
-  earlier j i (key, k, e) =
+  earlier j i (key, (k, e)) =
       called_below j (slice_get (range_with_len 0 (length block)) j) (at_index 0 (length block) j) k (record { writer = i; key = key })
       (ap (λ (o : Option CallView). slice_get (waits_in_call o) k) (sym (slice_get-map (call_of block store) (range_with_len 0 (length block)) j)) ∙ e)
 
   pub count_is : length (calls_of block store) ≡ length block
   count_is = length-map-range_with_len (call_of block store) 0 (length block)
+
+  -- a call that is there
+  pub call_at : (i : ℕ) (call : Invocation) → slice_get block i ≡ Some call → slice_get (calls_of block store) i ≡ Some (call_of block store i)
+  call_at i call at =
+      let within : i < length block = slice_get_within block i call at in
+      slice_get-get_or (calls_of block store) i (call_of block store i) (subst (λ (n : ℕ). i < n) (sym count_is) within)
+      ∙ ap Some (get_or-map-range_with_len (call_of block store) 0 (length block) i i (call_of block store i) within (omega arith))

@@ -1,12 +1,10 @@
 -- The calls of a closed set have the same receipts without the others.
-use Rattle.std.proofs.Common.{◌≡◌, ◌↔◌, ◌+◌, ◌<◌, ◌++◌, ◌||◌, inl, inr, ℕ, zero, suc, Bool, true, false, cond, List, [], ◌∷◌, length, map, Option, Some, None, refl, sym, ap, subst, ◌∙◌, arith}
+use Rattle.std.proofs.Common.{◌≡◌, ◌↔◌, ◌+◌, ◌++◌, ◌||◌, inl, inr, ℕ, zero, suc, Bool, true, false, cond, List, [], ◌∷◌, map, Option, Some, None, refl, sym, ap, subst, ◌∙◌, arith}
 use Rattle.std.specs.FinMap as finite
 use Rattle.std.specs.List.{AllByRecursion, enumerate_from, filter, flat_map, list_any, slice_get}
 use Rattle.std.specs.Ordering.{eq_by_cmp}
-use Rattle.std.proofs.lemmas.List.FromFn.{get_or-map-range_with_len}
 use Rattle.std.proofs.lemmas.Map.Lookups.{exact_bytes}
 use Rattle.std.proofs.lemmas.Map.Views.{tells_apart}
-use Rattle.std.proofs.lemmas.Option.{slice_get-get_or, slice_get_within}
 use Rattle.rv_ledger.specs.Call.{Invocation}
 use Rattle.rv_ledger.specs.Change.{ContentChange}
 use Rattle.rv_ledger.specs.Key.{Storage, WriteMap, key_cmp}
@@ -14,12 +12,11 @@ use Rattle.rv_ledger.specs.declared.change.Change.TheVariants as change
 use Rattle.rv_ledger.specs.declared.receipt.Receipt.{Receipt}
 use Rattle.rv_step.specs.Chain.{ends}
 use Rattle.rv_step.specs.Fold.{apply_writes, receipts_of, store_after_call, store_before}
-use Rattle.conflicts.specs.declared.wait.Wait.{Wait}
 use Rattle.conflicts.specs.LeftOut.{IsClosed, Needs, items_where}
 use Rattle.conflicts.specs.Paths.{IsChain, WaitsFor, waits_in_call}
 use Rattle.conflicts.specs.Reads.{Keys, keys_read}
-use Rattle.conflicts.specs.Waits.{CallView, call_of, calls_of, change_in, keys_of, waits_at, waits_for, waits_of, waits_over, writers_named}
-use Rattle.conflicts.proofs.Earlier.{count_is}
+use Rattle.conflicts.specs.Waits.{CallView, Wait, calls_of, change_in, keys_of, waits_at, waits_for, waits_of, waits_over, writers_named}
+use Rattle.conflicts.proofs.Earlier.{call_at}
 use Rattle.conflicts.proofs.LeftOutReads.{same_ends}
 use Rattle.conflicts.proofs.LeftOutWrites.{hidden_after, left_after, same_after}
 use Rattle.conflicts.proofs.Noted.{named_more, noted, store_first, store_next}
@@ -94,19 +91,13 @@ module _ (stays : ℕ → Bool) (block : List Invocation) (store : Storage) wher
   abbrev receipts : List Receipt
   receipts = receipts_of block store
 
-  call_at : (i : ℕ) (call : Invocation) → slice_get block i ≡ Some call → slice_get (calls_of block store) i ≡ Some (call_of block store i)
-  call_at i call at =
-      let within : i < length block = slice_get_within block i call at in
-      slice_get-get_or (calls_of block store) i (call_of block store i) (subst (λ (n : ℕ). i < n) (sym (count_is block store)) within)
-      ∙ ap Some (get_or-map-range_with_len (call_of block store) 0 (length block) i i (call_of block store i) within (omega arith))
-
   -- a call that stays reads keys whose writers stay
   reads_stay : IsClosed stays (calls_of block store) → (i : ℕ) (call : Invocation) → slice_get block i ≡ Some call → stays i ≡ true → (key : List ℕ) → finite.contains_key (keys_read call (store_before block i store)) key ≡ true → AllStay stays (writers_named receipts key i)
   reads_stay closed i call at stay key is =
       let keys : Keys = keys_read call (store_before block i store) in
       let waits : waits_of block store i ≡ waits_over receipts i keys = ap (λ (c : Option Invocation). waits_over receipts i (keys_of c (store_before block i store))) at in
       let all : AllWritersStay stays (waits_of block store i) = by_index stays (waits_of block store i)
-      (λ k wait e. closed i wait.writer stay (wait.key, k, ap (λ (c : Option CallView). slice_get (waits_in_call c) k) (call_at i call at) ∙ e)) in
+      (λ k wait e. closed i wait.writer stay (wait.key, (k, ap (λ (c : Option CallView). slice_get (waits_in_call c) k) (call_at block store i call at) ∙ e))) in
       named_stay stays receipts i (finite.keys keys) (subst (AllWritersStay stays) waits all) key (sym (finite.contains_key-keys keys key) ∙ is)
 
   -- the calls from an index on: the storage before them, and the one that the calls that stay have left

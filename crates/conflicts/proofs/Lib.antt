@@ -6,3 +6,4 @@ pub mod Earlier
 pub mod LeftOutReads
 pub mod LeftOutWrites
 pub mod LeftOut
+pub mod Named

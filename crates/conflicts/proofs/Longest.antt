@@ -1,12 +1,22 @@
 -- The gas of a call over the greatest path of those that it waits for is its own path.
-use Rattle.std.proofs.Common.{◌≡◌, ◌<◌, ◌≤◌, ◌+◌, ◌*◌, ◌^◌, All, slice_index_or, get_or, add-one, drop-cons, drop, ◌⊎◌, ◌++◌, inl, inr, ℕ, zero, suc, nat_lt, Bool, true, false, if◌then◌else◌, List, [], ◌∷◌, length, Option, Some, refl, sym, ap, subst, ◌∙◌, arith}
-use Rattle.std.specs.List.{slice_get}
+use Rattle.std.proofs.Common.{◌≡◌, ◌<◌, ◌≤◌, ◌+◌, ◌*◌, ◌^◌, All, slice_index_or, get_or, add-one, drop-cons, drop, ◌⊎◌, ◌++◌, inl, inr, ℕ, zero, suc, nat_lt, Bool, true, false, if◌then◌else◌, List, [], ◌∷◌, length, reverse, Option, Some, refl, sym, ap, subst, ◌∙◌, arith}
+use Rattle.std.specs.FinMap as finite
+use Rattle.std.specs.List.{flat_map, slice_get}
 use Rattle.std.specs.Option.{unwrap_or}
 use Rattle.std.proofs.lemmas.Bool.{ltb-true, ltb-false}
-use Rattle.conflicts.specs.declared.wait.Wait.{Wait}
-use Rattle.conflicts.specs.Waits.{CallView}
+use Rattle.std.proofs.lemmas.List.{map-append, reverse-append}
+use Rattle.std.proofs.lemmas.List.Sums.{fold-append}
+use Rattle.rv_ledger.specs.Call.{Invocation}
+use Rattle.rv_ledger.specs.Key.{Storage}
+use Rattle.rv_ledger.specs.declared.receipt.Receipt.{Receipt}
+use Rattle.rv_step.specs.Fold.{receipts_of, store_before}
+use Rattle.conflicts.specs.Calls.{CallLists, calls_at}
+use Rattle.conflicts.specs.Reads.{keys_read}
+use Rattle.conflicts.specs.Table.{waits_in}
+use Rattle.conflicts.specs.Waits.{CallView, Wait, keys_of, waits_at, waits_for, waits_of, waits_over, writers_named}
 use Rattle.conflicts.specs.Greatest.{greater, greatest_from, path_at}
 use Rattle.conflicts.specs.Paths.{AreEarlier, ArePaths, IsChain, IsPath, WaitsFor, gas_along, gas_in_call, waits_in_call}
+use Rattle.conflicts.proofs.Noted.{Names}
 
 -- the greater of two is one of them, and neither is above it
 greater_is : (a b : ℕ) → (a ≤ greater a b) × (b ≤ greater a b) × ((greater a b ≡ a) ⊎ (greater a b ≡ b))
@@ -61,6 +71,10 @@ path_within (x ∷ paths) (suc i) n all = path_within paths i n (λ k d h. all (
 pub next_within : (paths : List ℕ) (g i n : ℕ) → g ≤ n → All (λ path. path ≤ n) paths → greater g (path_at paths i) ≤ n
 next_within paths g i n less all = greater_within g (path_at paths i) n less (path_within paths i n all)
 
+pub waits_within : (paths : List ℕ) (n : ℕ) → All (λ path. path ≤ n) paths → (g : ℕ) (waits : List Wait) → g ≤ n → greatest_from paths g waits ≤ n
+waits_within paths n all g [] less = less
+waits_within paths n all g (wait ∷ waits) less = waits_within paths n all (greater g (path_at paths wait.writer)) waits (next_within paths g wait.writer n less all)
+
 pub more_within : (paths : List ℕ) (path n : ℕ) → All (λ p. p ≤ n * 2 ^ 32) paths → path < n * 2 ^ 32 + 2 ^ 32 → All (λ p. p ≤ (n + 1) * 2 ^ 32) (paths ++ path ∷ [])
 more_within [] path n all less = λ k d h. at_end k d h
   where
@@ -84,10 +98,10 @@ module _ (calls : List CallView) (earlier : AreEarlier calls) (paths : List ℕ)
   own_gas = ap gas_in_call at
 
   waited : (i : ℕ) → WaitsFor calls j i → (key : List ℕ) × (k : ℕ) × (slice_get call.waits k ≡ Some (record { writer = i; key = key }))
-  waited i (key, k, e) = (key, k, ap (λ (c : Option CallView). slice_get (waits_in_call c) k) (sym at) ∙ e)
+  waited i (key, (k, e)) = (key, k, ap (λ (c : Option CallView). slice_get (waits_in_call c) k) (sym at) ∙ e)
 
   waits : (k : ℕ) (wait : Wait) → slice_get call.waits k ≡ Some wait → WaitsFor calls j wait.writer
-  waits k wait e = (wait.key, k, ap (λ (c : Option CallView). slice_get (waits_in_call c) k) at ∙ e)
+  waits k wait e = (wait.key, (k, ap (λ (c : Option CallView). slice_get (waits_in_call c) k) at ∙ e))
 
   there : (i : ℕ) → i < j → slice_get paths i ≡ Some (path_at paths i)
   there i less = slice_get_there paths i less
@@ -137,6 +151,47 @@ module _ (calls : List CallView) (earlier : AreEarlier calls) (paths : List ℕ)
       by_place : ((slice_get paths i ≡ Some p) ⊎ ((i ≡ length paths) × (p ≡ path))) → IsPath calls i p
       by_place (inl before) = are i p before
       by_place (inr (same, is)) = subst (λ (n : ℕ). IsPath calls n p) (sym same) (subst (IsPath calls j) (sym is) is_path)
+
+-- ---- the waits of a call as the pass has them
+
+not_above : (g a b : ℕ) → greater (greater g a) b ≤ greater (greater g b) a
+not_above g a b =
+    let outer = greater_is (greater g b) a in
+    let inner = greater_is g b in
+    greater_within (greater g a) b (greater (greater g b) a) (greater_within g a (greater (greater g b) a) (omega (arith, outer.0, inner.0)) outer.1) (omega (arith, outer.0, inner.1))
+
+either_first : (g a b : ℕ) → greater (greater g a) b ≡ greater (greater g b) a
+either_first g a b = let up = not_above g a b in let down = not_above g b a in omega (arith, up, down)
+
+module _ (paths : List ℕ) where
+  one_last : (g p : ℕ) (waits : List Wait) → greatest_from paths (greater g p) waits ≡ greater (greatest_from paths g waits) p
+  one_last g p [] = refl
+  one_last g p (wait ∷ waits) =
+      ap (λ n. greatest_from paths n waits) (either_first g p (path_at paths wait.writer)) ∙ one_last (greater g (path_at paths wait.writer)) p waits
+
+  same_order : (key calls : List ℕ) (g : ℕ) → greatest_from paths g (waits_for key (reverse calls)) ≡ greatest_from paths g (waits_for key calls)
+  same_order key [] g = refl
+  same_order key (call ∷ calls) g =
+      ap (λ l. greatest_from paths g (waits_for key l)) (reverse-append (call ∷ []) calls)
+      ∙ ap (greatest_from paths g) (map-append _ (reverse calls) (call ∷ []))
+      ∙ fold-append _ g (waits_for key (reverse calls)) (waits_for key (call ∷ []))
+      ∙ ap (λ n. greater n (path_at paths call)) (same_order key calls g)
+      ∙ sym (one_last g (path_at paths call) (waits_for key calls))
+
+  same_keys : (table : CallLists) (receipts : List Receipt) (i : ℕ) → Names table receipts i → (keys : List (List ℕ)) (g : ℕ)
+      → greatest_from paths g (flat_map (λ key. waits_for key (calls_at table key)) keys) ≡ greatest_from paths g (flat_map (waits_at receipts i) keys)
+  same_keys table receipts i names [] g = refl
+  same_keys table receipts i names (key ∷ keys) g =
+      fold-append _ g (waits_for key (calls_at table key)) (flat_map (λ k. waits_for k (calls_at table k)) keys)
+      ∙ ap (λ n. greatest_from paths n (flat_map (λ k. waits_for k (calls_at table k)) keys)) (ap (λ l. greatest_from paths g (waits_for key l)) (names key) ∙ same_order key (writers_named receipts key i) g)
+      ∙ same_keys table receipts i names keys (greatest_from paths g (waits_at receipts i key))
+      ∙ sym (fold-append _ g (waits_at receipts i key) (flat_map (waits_at receipts i) keys))
+
+  pub same_greatest : (block : List Invocation) (store : Storage) (i : ℕ) (call : Invocation) → slice_get block i ≡ Some call → (table : CallLists) → Names table (receipts_of block store) i
+      → greatest_from paths 0 (waits_in table (keys_read call (store_before block i store))) ≡ greatest_from paths 0 (waits_of block store i)
+  same_greatest block store i call at table names =
+      same_keys table (receipts_of block store) i names (finite.keys (keys_read call (store_before block i store))) 0
+      ∙ ap (λ k. greatest_from paths 0 (waits_over (receipts_of block store) i (keys_of k (store_before block i store)))) (sym at)
 
 pub paths_none : (calls : List CallView) → ArePaths calls []
 paths_none calls i p e = cc

@@ -1,12 +1,13 @@
 -- The table of the pass names what the receipts of the calls before leave.
-use Rattle.std.proofs.Common.{◌≡◌, ◌&&◌, ◌++◌, ◌+◌, ℕ, zero, suc, Bool, true, false, cond, List, [], ◌∷◌, map, Option, Some, None, T, refl, sym, ap, ◌∙◌, arith}
+use Rattle.std.proofs.Common.{◌≡◌, ◌&&◌, ◌++◌, ◌+◌, ℕ, zero, suc, Bool, true, false, cond, List, [], ◌∷◌, map, reverse, Option, Some, None, T, refl, sym, ap, ◌∙◌, arith}
 use Rattle.std.specs.FinMap as finite
 use Rattle.std.specs.FinMap.Entries.{below_all}
-use Rattle.std.specs.List.{flat_map, range_with_len, slice_get}
+use Rattle.std.specs.List.{flat_map, fold, range_with_len, slice_get}
 use Rattle.std.specs.Option.{unwrap_or}
 use Rattle.std.specs.Ordering.{eq_by_cmp, is_eq, is_lt}
 use Rattle.std.specs.declared.cmp.Ordering.{Ordering}
 use Rattle.std.specs.declared.cmp.Ordering.TheVariants.{Less, Equal, Greater}
+use Rattle.std.proofs.lemmas.List.{reverse-append}
 use Rattle.std.proofs.lemmas.List.FromFn.{map-range_with_len_more}
 use Rattle.std.specs.Cmp.Lexicographic.{nat_list_cmp_total}
 use Rattle.rv_ledger.proofs.Entries.{key_cmp-IsAntisymmetric}
@@ -20,10 +21,12 @@ use Rattle.rv_step.specs.Fold.{receipts_of, store_after, store_after_call, store
 use Rattle.read_set.specs.Origin.{named}
 use Rattle.mvmap.specs.Versions.{Entry}
 use Rattle.mvmap.specs.Reading.{Visible, origin_in, visible_below, visible_over}
-use Rattle.conflicts.specs.declared.wait.Wait.{Wait}
+use Rattle.conflicts.specs.declared.key_waits.KeyWaits.{KeyWaits}
+use Rattle.conflicts.specs.ByKey.{CallByKey, call_by_key, key_waits_at, key_waits_from, key_waits_over}
+use Rattle.conflicts.specs.Calls.{CallLists, calls_at}
 use Rattle.conflicts.specs.Reads.{keys_read}
-use Rattle.conflicts.specs.Table.{NamedCalls, after_change, after_changes, below_change, named_at, waits_in}
-use Rattle.conflicts.specs.Waits.{CallView, call_of, change_in, gas_in, keys_of, version_of, versions_in, waits_for, waits_over, writers_named}
+use Rattle.conflicts.specs.Table.{after_changes, below_change, key_waits_in}
+use Rattle.conflicts.specs.Waits.{change_in, gas_in, keys_of, version_of, versions_in, writers_named}
 
 -- the calls that a read names after what the next call did
 abbrev pub noted : ℕ → Option ContentChange → List ℕ → List ℕ
@@ -76,31 +79,47 @@ tied Greater e = cc
 abbrev pub Changes : Type 0
 Changes = List (List ℕ × ContentChange)
 
-pub absent : (key : List ℕ) (es : Changes) → T (below_all key_cmp key es) → finite.find key_cmp key es ≡ None
+pub absent : {X : Type 0} (key : List ℕ) (es : List (List ℕ × X)) → T (below_all key_cmp key es) → finite.find key_cmp key es ≡ None
 absent key [] h = refl
 absent key (e ∷ es) h =
     ap (λ b. cond b (Some e.1) (finite.find key_cmp key es)) (not_tied (key_cmp key e.0) (first _ _ h)) ∙ absent key es (second _ _ h)
 
-module _ (i : ℕ) (q : List ℕ) where
-  at_insert : (before : NamedCalls) (key calls : List ℕ) (b : Bool) → eq_by_cmp key_cmp q key ≡ b → named_at (finite.insert before key calls) q ≡ cond b calls (named_at before q)
+-- the calls at a key after a change there, if there is one
+abbrev pub changed : (ContentChange → List ℕ → List ℕ) → Option ContentChange → List ℕ → List ℕ
+changed next None calls = calls
+changed next (Some change) calls = next change calls
+
+-- some changes, each of which leaves other calls at its key
+module _ (next : ContentChange → List ℕ → List ℕ) (q : List ℕ) where
+  abbrev one_changed : CallLists → List ℕ × ContentChange → CallLists
+  one_changed before e = finite.insert before e.0 (next e.1 (calls_at before e.0))
+
+  at_insert : (before : CallLists) (key calls : List ℕ) (b : Bool) → eq_by_cmp key_cmp q key ≡ b → calls_at (finite.insert before key calls) q ≡ cond b calls (calls_at before q)
   at_insert before key calls true same = ap (λ o. unwrap_or o []) (finite.get-insert nat_list_cmp_total before key calls q ∙ ap (λ b. cond b (Some calls) (finite.get before q)) same)
   at_insert before key calls false other = ap (λ o. unwrap_or o []) (finite.get-insert nat_list_cmp_total before key calls q ∙ ap (λ b. cond b (Some calls) (finite.get before q)) other)
 
-  module _ (e : List ℕ × ContentChange) (es : Changes) (before : NamedCalls) (h : T (finite.is_sorted key_cmp (e ∷ es))) where
-    abbrev after : NamedCalls
-    after = after_change i before e.0 e.1
-
-    first_change : (b : Bool) → eq_by_cmp key_cmp q e.0 ≡ b → noted i (finite.find key_cmp q es) (named_at after q) ≡ noted i (cond b (Some e.1) (finite.find key_cmp q es)) (named_at before q)
+  module _ (e : List ℕ × ContentChange) (es : Changes) (before : CallLists) (h : T (finite.is_sorted key_cmp (e ∷ es))) where
+    first_change : (b : Bool) → eq_by_cmp key_cmp q e.0 ≡ b → changed next (finite.find key_cmp q es) (calls_at (one_changed before e) q) ≡ changed next (cond b (Some e.1) (finite.find key_cmp q es)) (calls_at before q)
     first_change true same =
         let key : q ≡ e.0 = key_cmp-IsAntisymmetric q e.0 (tied (key_cmp q e.0) same) in
-        ap (λ o. noted i o (named_at after q)) (ap (λ k. finite.find key_cmp k es) key ∙ absent e.0 es (first _ _ h))
-        ∙ at_insert before e.0 (i ∷ below_change e.1 (named_at before e.0)) true same
-        ∙ ap (λ k. i ∷ below_change e.1 (named_at before k)) (sym key)
-    first_change false other = ap (noted i (finite.find key_cmp q es)) (at_insert before e.0 (i ∷ below_change e.1 (named_at before e.0)) false other)
+        ap (λ o. changed next o (calls_at (one_changed before e) q)) (ap (λ k. finite.find key_cmp k es) key ∙ absent e.0 es (first _ _ h))
+        ∙ at_insert before e.0 (next e.1 (calls_at before e.0)) true same
+        ∙ ap (λ k. next e.1 (calls_at before k)) (sym key)
+    first_change false other = ap (changed next (finite.find key_cmp q es)) (at_insert before e.0 (next e.1 (calls_at before e.0)) false other)
 
-  changes_at : (es : Changes) (before : NamedCalls) → T (finite.is_sorted key_cmp es) → named_at (after_changes i es before) q ≡ noted i (finite.find key_cmp q es) (named_at before q)
+  pub changes_at : (es : Changes) (before : CallLists) → T (finite.is_sorted key_cmp es) → calls_at (fold one_changed before es) q ≡ changed next (finite.find key_cmp q es) (calls_at before q)
   changes_at [] before h = refl
-  changes_at (e ∷ es) before h = changes_at es (after_change i before e.0 e.1) (second _ _ h) ∙ first_change e es before h (eq_by_cmp key_cmp q e.0) refl
+  changes_at (e ∷ es) before h = changes_at es (one_changed before e) (second _ _ h) ∙ first_change e es before h (eq_by_cmp key_cmp q e.0) refl
+
+-- the calls that reads name, ascending
+abbrev rising : ℕ → ContentChange → List ℕ → List ℕ
+rising i change calls = below_change change calls ++ i ∷ []
+
+rising_noted : (i : ℕ) (c : Option ContentChange) (calls : List ℕ) → changed (rising i) c (reverse calls) ≡ reverse (noted i c calls)
+rising_noted i None calls = refl
+rising_noted i (Some (change.Sum amount)) calls = sym (reverse-append (i ∷ []) calls)
+rising_noted i (Some (change.Value value)) calls = sym (reverse-append (i ∷ []) [])
+rising_noted i (Some change.Gone) calls = sym (reverse-append (i ∷ []) [])
 
 -- ---- the block fold
 
@@ -129,34 +148,37 @@ store_first block store = refl
 
 -- ---- both
 
-abbrev pub Names : NamedCalls → List Receipt → ℕ → Type 0
-Names table receipts i = (q : List ℕ) → named_at table q ≡ writers_named receipts q i
+abbrev pub Names : CallLists → List Receipt → ℕ → Type 0
+Names table receipts i = (q : List ℕ) → calls_at table q ≡ reverse (writers_named receipts q i)
 
 pub names_none : (receipts : List Receipt) → Names finite.empty receipts 0
-names_none receipts q = ap (λ o. unwrap_or o []) (finite.get-empty key_cmp q) ∙ sym (named_none receipts q)
+names_none receipts q = ap (λ o. unwrap_or o []) (finite.get-empty key_cmp q) ∙ ap reverse (sym (named_none receipts q))
 
-same_waits : (table : NamedCalls) (receipts : List Receipt) (i : ℕ) → Names table receipts i → (keys : List (List ℕ)) → flat_map (λ key. waits_for key (named_at table key)) keys ≡ flat_map (λ key. waits_for key (writers_named receipts key i)) keys
+same_waits : (table : CallLists) (receipts : List Receipt) (i : ℕ) → Names table receipts i → (keys : List (List ℕ)) → flat_map (λ key. key_waits_from key (slice_get (calls_at table key) 0)) keys ≡ flat_map (key_waits_at receipts i) keys
 same_waits table receipts i names [] = refl
-same_waits table receipts i names (key ∷ keys) = ap (λ calls. waits_for key calls ++ flat_map (λ k. waits_for k (named_at table k)) keys) (names key) ∙ ap (λ l. waits_for key (writers_named receipts key i) ++ l) (same_waits table receipts i names keys)
+same_waits table receipts i names (key ∷ keys) =
+    ap (λ calls. key_waits_from key (slice_get calls 0) ++ flat_map (λ k. key_waits_from k (slice_get (calls_at table k) 0)) keys) (names key)
+    ∙ ap (λ l. key_waits_at receipts i key ++ l) (same_waits table receipts i names keys)
 
 module _ (block : List Invocation) (store : Storage) (i : ℕ) (call : Invocation) (at : slice_get block i ≡ Some call) where
   abbrev before : Storage
   before = store_before block i store
 
-  pub names_next : (table : NamedCalls) → Names table (receipts_of block store) i → Names (after_changes i (finite.entries (ends call before).writes) table) (receipts_of block store) (i + 1)
+  pub names_next : (table : CallLists) → Names table (receipts_of block store) i → Names (after_changes i (finite.entries (ends call before).writes) table) (receipts_of block store) (i + 1)
   names_next table names q =
-      changes_at i q (finite.entries (ends call before).writes) table (finite.entries_sorted (ends call before).writes)
-      ∙ ap (λ o. noted i o (named_at table q)) (sym (finite.get-entries (ends call before).writes q))
-      ∙ ap (noted i (finite.get (ends call before).writes q)) (names q)
-      ∙ ap (λ r. noted i (change_in r q) (writers_named (receipts_of block store) q i)) (sym (receipt_at call block store i at))
+      changes_at (rising i) q (finite.entries (ends call before).writes) table (finite.entries_sorted (ends call before).writes)
+      ∙ ap (λ o. changed (rising i) o (calls_at table q)) (sym (finite.get-entries (ends call before).writes q))
+      ∙ ap (changed (rising i) (finite.get (ends call before).writes q)) (names q)
+      ∙ rising_noted i (finite.get (ends call before).writes q) (writers_named (receipts_of block store) q i)
+      ∙ ap reverse (ap (λ r. noted i (change_in r q) (writers_named (receipts_of block store) q i)) (sym (receipt_at call block store i at))
       ∙ sym (named_more (receipts_of block store) q i)
-      ∙ ap (writers_named (receipts_of block store) q) (sym (next_is i))
+      ∙ ap (writers_named (receipts_of block store) q) (sym (next_is i)))
 
-  pub call_is : (table : NamedCalls) (c : CallView) → Names table (receipts_of block store) i → c.waits ≡ waits_in table (keys_read call before) → c.gas ≡ (ends call before).gas → c ≡ call_of block store i
+  pub call_is : (table : CallLists) (c : CallByKey) → Names table (receipts_of block store) i → c.waits ≡ key_waits_in table (keys_read call before) → c.gas ≡ (ends call before).gas → c ≡ call_by_key block store i
   call_is table c names waits gas =
-      ap (λ (w : List Wait). record { waits = w; gas = c.gas }) (waits ∙ same_waits table (receipts_of block store) i names (finite.keys (keys_read call before)) ∙ ap (λ k. waits_over (receipts_of block store) i (keys_of k before)) (sym at))
-      ∙ ap (λ (g : ℕ). record { waits = (call_of block store i).waits; gas = g }) (gas ∙ ap gas_in (sym (receipt_at call block store i at)))
+      ap (λ (w : List KeyWaits). record { waits = w; gas = c.gas }) (waits ∙ same_waits table (receipts_of block store) i names (finite.keys (keys_read call before)) ∙ ap (λ k. key_waits_over (receipts_of block store) i (keys_of k before)) (sym at))
+      ∙ ap (λ (g : ℕ). record { waits = (call_by_key block store i).waits; gas = g }) (gas ∙ ap gas_in (sym (receipt_at call block store i at)))
 
 -- one more call
-pub calls_more : (f : ℕ → CallView) (n : ℕ) (l : List CallView) (c : CallView) → l ≡ map f (range_with_len 0 n) → c ≡ f n → l ++ c ∷ [] ≡ map f (range_with_len 0 (n + 1))
+pub calls_more : (f : ℕ → CallByKey) (n : ℕ) (l : List CallByKey) (c : CallByKey) → l ≡ map f (range_with_len 0 n) → c ≡ f n → l ++ c ∷ [] ≡ map f (range_with_len 0 (n + 1))
 calls_more f n l c e same = ap (λ k. k ++ c ∷ []) e ∙ ap (λ d. map f (range_with_len 0 n) ++ d ∷ []) same ∙ sym (map-range_with_len_more f 0 n n (omega arith))

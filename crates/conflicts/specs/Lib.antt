@@ -6,6 +6,5 @@ pub mod Table
 pub mod Paths
 pub mod Greatest
 pub mod LeftOut
-pub mod Counts
 pub mod Sums
 pub mod Text

@@ -109,12 +109,13 @@ fn all_waits(alloc: Global, calls: &[Call], store: Store) -> Result<Found, Alloc
     ensures writers { IfOk result (λ found. (key : List ℕ) → calls_at found.writers key ≡ writers_at (receipts_of calls.now store) key) }
     ensures waits { IfOk result (λ found. found.waits ≡ with_waits map.empty (all_waits (calls_of calls.now store))) }
 {
+    let paths = Vec::with_capacity(alloc, calls.len())?;
     let mut pass = Pass {
         store,
         named: CallLists::new(alloc),
         writers: CallLists::new(alloc),
         waits: WaitCounts::new(alloc),
-        paths: Vec::with_capacity(alloc, calls.len())?,
+        paths,
         room: RunRoom::new(alloc),
     };
     let mut all = Vec::with_capacity(alloc, calls.len())?;
@@ -155,6 +156,8 @@ impl Pass {
         ensures counts { OnOk result (self.new.waits ≡ with_waits self.old.waits (waits_in self.old.named (keys_read call.now self.old.store))) }
         ensures path { OnOk result (self.new.paths.items ≡ self.old.paths.items
             ++ ((ends call.now self.old.store).gas + greatest_from self.old.paths.items 0 (waits_in self.old.named (keys_read call.now self.old.store))) ∷ []) }
+        ensures bound { OnOk result ((most : ℕ) → All (λ path. path ≤ most) self.old.paths.items
+            → (ends call.now self.old.store).gas + greatest_from self.old.paths.items 0 (waits_in self.old.named (keys_read call.now self.old.store)) < most + 2 ^ 32) }
         ensures store { OnOk result (self.new.store ≡ store_after_call call.now self.old.store) }
         ensures writers { OnOk result (self.new.writers ≡ with_changes index (map.entries (ends call.now self.old.store).writes) self.old.writers) }
         ensures named { OnOk result (self.new.named ≡ after_changes index (map.entries (ends call.now self.old.store).writes) self.old.named) }
@@ -205,11 +208,7 @@ fn push_waits(waits: &mut Vec<KeyWaits>, key: Key, calls: &[u16]) -> Result<(), 
 }
 
 /// Counts the waits of a call that reads these keys. Refused where memory ran out.
-fn count_waits(
-    counts: &mut WaitCounts,
-    named: &CallLists,
-    keys: &KeySet,
-) -> Result<(), AllocError>
+fn count_waits(counts: &mut WaitCounts, named: &CallLists, keys: &KeySet) -> Result<(), AllocError>
     requires { (q : List ℕ) → count_at (with_waits counts.old (waits_in named.now keys.now)) q < 2 ^ 64 }
     ensures { OnOk result (counts.new ≡ with_waits counts.old (waits_in named.now keys.now)) }
 {

@@ -1,6 +1,6 @@
 //! What `rvstm conflicts` prints of small blocks.
 
-use crate::blocks::{BlockInMemory, InMemory, forty_count_lines};
+use crate::blocks::{BlockInMemory, InMemory, forty_count_lines, repeated};
 use crate::rows::{COND, COUNT, ECHO, GET, PUT, SEEN};
 use crate::rules_three::{BUMP, THREE, TWICE};
 use engines::conflicts_to;
@@ -78,6 +78,7 @@ const CASES: &[Case] = &[
             call 0 1000 000000000000000000000000000000000000000000000000000000000000000102\n\
             call 1 1000 0000000000000000000000000000000000000000000000000000000000000001\n",
         text: "\
+            writers 0000000000000000000000000000000000000000000000000000000000000001 0 1\n\
             call 0 gas 419 path 419\n\
             call 1 gas 419 path 419\n\
             wait 2 1 0000000000000000000000000000000000000000000000000000000000000001\n\
@@ -94,6 +95,7 @@ const CASES: &[Case] = &[
             call 1 1000 00000000000000000000000000000000000000000000000000000000000000aa00000000000000000000000000000000000000000000000000000000000000bb\n\
             call 2 1000 00000000000000000000000000000000000000000000000000000000000000bb\n",
         text: "\
+            writers 00000000000000000000000000000000000000000000000000000000000000aa 0\n\
             call 0 gas 419 path 419\n\
             wait 1 0 00000000000000000000000000000000000000000000000000000000000000aa\n\
             call 1 gas 215 path 634\n\
@@ -110,9 +112,9 @@ const CASES: &[Case] = &[
             call 0 1000 0000000000000000000000000000000000000000000000000000000000000001\n\
             call 1 1000 0000000000000000000000000000000000000000000000000000000000000001\n",
         text: "\
+            writers 0000000000000000000000000000000000000000000000000000000000000001 0 1\n\
             call 0 gas 314 path 314\n\
             call 1 gas 314 path 314\n\
-            wait 2 1 0000000000000000000000000000000000000000000000000000000000000001\n\
             wait 2 0 0000000000000000000000000000000000000000000000000000000000000001\n\
             call 2 gas 224 path 538\n\
             key 0000000000000000000000000000000000000000000000000000000000000001 writers 2 waits 2\n\
@@ -126,6 +128,7 @@ const CASES: &[Case] = &[
             call 0 1000 0000000000000000000000000000000000000000000000000000000000000001\n\
             call 0 1000 0000000000000000000000000000000000000000000000000000000000000001\n",
         text: "\
+            writers 0000000000000000000000000000000000000000000000000000000000000001 0 1\n\
             call 0 gas 834 path 834\n\
             wait 1 0 0000000000000000000000000000000000000000000000000000000000000001\n\
             call 1 gas 834 path 1668\n\
@@ -150,6 +153,7 @@ const CASES: &[Case] = &[
             call 0 1000 0000000000000000000000000000000000000000000000000000000000000001\n\
             call 1 1000 0000000000000000000000000000000000000000000000000000000000000001\n",
         text: "\
+            writers 0000000000000000000000000000000000000000000000000000000000000001 0\n\
             call 0 gas 313 path 313\n\
             wait 1 0 0000000000000000000000000000000000000000000000000000000000000001\n\
             call 1 gas 215 path 528\n\
@@ -198,9 +202,23 @@ fn conflicts_of_rows(rt: HostRuntime) -> Result<(), Fail> {
     Ok(())
 }
 
+/// The line of the first calls, so many, as the writers of the key 1.
+fn writers_line(alloc: Global, calls: u32) -> Result<String, AllocError> {
+    let mut text = String::from_str(
+        alloc,
+        "writers 0000000000000000000000000000000000000000000000000000000000000001",
+    )?;
+    for call in 0..calls {
+        text.push_str(format!(in alloc; " {call}")?.as_str())?;
+    }
+    text.push_str("\n")?;
+    Ok(text)
+}
+
 /// Each of forty counts waits for the one before it, so the path is the gas of all.
 fn text_of_counts(alloc: Global) -> Result<String, AllocError> {
-    let mut text = String::from_str(alloc, "call 0 gas 639 path 639\n")?;
+    let mut text = writers_line(alloc, 40)?;
+    text.push_str("call 0 gas 639 path 639\n")?;
     for before in 0..39_u32 {
         let call = before.wrapping_add(1);
         let path = call.wrapping_add(1).wrapping_mul(639);
@@ -236,5 +254,38 @@ fn conflicts_of_forty_calls(rt: HostRuntime) -> Result<(), Fail> {
     assert!(&rt; prints(alloc, FIRST, &[COUNT], lines.as_str(), counts.as_str())?);
     let bumps = text_of_bumps(alloc)?;
     assert!(&rt; prints(alloc, THREE, &[BUMP], lines.as_str(), bumps.as_str())?);
+    Ok(())
+}
+
+/// Each of 256 gets behind 256 bumps waits for all bumps: 65,536 waits, in a line for each get.
+fn text_of_bumps_and_gets(alloc: Global) -> Result<String, AllocError> {
+    let mut text = writers_line(alloc, 256)?;
+    for call in 0..256_u32 {
+        let line = format!(in alloc; "call {call} gas 314 path 314\n")?;
+        text.push_str(line.as_str())?;
+    }
+    for call in 256..512_u32 {
+        let lines = format!(in alloc;
+            "wait {call} 0 0000000000000000000000000000000000000000000000000000000000000001\n\
+            call {call} gas 224 path 538\n"
+        )?;
+        text.push_str(lines.as_str())?;
+    }
+    text.push_str(
+        "key 0000000000000000000000000000000000000000000000000000000000000001 writers 256 waits 65536\n\
+        all calls 512 gas 137728 path 538\n",
+    )?;
+    Ok(text)
+}
+
+#[test]
+fn conflicts_of_256_writers_and_256_readers(rt: HostRuntime) -> Result<(), Fail> {
+    let alloc = rt.alloc();
+    let bump = "call 0 1000 0000000000000000000000000000000000000000000000000000000000000001\n";
+    let get = "call 1 1000 0000000000000000000000000000000000000000000000000000000000000001\n";
+    let mut lines = repeated(alloc, bump, 256)?;
+    lines.push_str(repeated(alloc, get, 256)?.as_str())?;
+    let text = text_of_bumps_and_gets(alloc)?;
+    assert!(&rt; prints(alloc, THREE, &[BUMP, GET], lines.as_str(), text.as_str())?);
     Ok(())
 }

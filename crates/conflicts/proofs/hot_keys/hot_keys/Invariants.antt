@@ -1,8 +1,6 @@
-use Rattle.std.proofs.Common.{◌≡◌, drop}
-use Rattle.std.specs.FinMap as finite
-use Rattle.conflicts.specs.Counts.{with_waits}
-use Rattle.conflicts.specs.Sums.{all_waits}
+use Rattle.std.proofs.Common.{◌≡◌, ◌++◌, map}
+use Rattle.conflicts.specs.Calls.{hot_key, hot_keys}
 use Rattle.conflicts.proofs.hot_keys.hot_keys.Given as goal
 
-abbrev pub invariant-loop-call : goal.invariant-loop-call
-invariant-loop-call l = with_waits l.waits (all_waits (drop l.call-index l.calls)) ≡ with_waits finite.empty (all_waits l.fn.calls)
+abbrev pub invariant-loop-key : goal.invariant-loop-key
+invariant-loop-key l = l.keys.items ++ map (hot_key l.fn.writers l.fn.waits) (map (λ e. e.0) l.key-iterator) ≡ hot_keys l.fn.writers l.fn.waits
