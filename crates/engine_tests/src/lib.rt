@@ -46,6 +46,7 @@ mod large_blocks;
 mod large_inputs;
 #[cfg(test)]
 mod migrated;
+#[cfg(test)]
 mod more_lines;
 #[cfg(test)]
 mod outside;
