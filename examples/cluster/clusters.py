@@ -1,0 +1,192 @@
+"""A whole ledger on one machine: members of etcd, nodes and proposers, each a process of its own that can be killed."""
+
+import os
+import random
+import re
+import shutil
+import signal
+import socket
+import subprocess
+import sys
+import time
+from pathlib import Path
+
+import transfers  # first: it finds scripts/
+import audits
+import etcd
+import ledger
+import program
+from engines import BUILT, C_LIBRARY, PR_SET_PDEATHSIG
+
+HERE = Path(__file__).resolve().parent
+MEMBERS = 3
+STARTED = time.monotonic()
+HEIGHT = re.compile(r"height (\d+)")
+
+
+def say(text):
+    print(f"[{time.monotonic() - STARTED:6.1f}] {text}", flush=True)
+
+
+def free_ports(count):
+    """Ports that nobody has now."""
+    lines = [socket.create_server(("127.0.0.1", 0)) for _ in range(count)]
+    ports = [line.getsockname()[1] for line in lines]
+    for line in lines:
+        line.close()
+    return ports
+
+
+def end_with_parent():
+    C_LIBRARY.prctl(PR_SET_PDEATHSIG, signal.SIGKILL)
+
+
+def changed_program(path):
+    """Makes a program that differs from rvstm in one letter of what it answers."""
+    data = Path(program.rvstm()).read_bytes()
+    if b"returned" not in data:
+        raise ValueError("the program has no word to change")
+    path.write_bytes(data.replace(b"returned", b"Returned"))
+    path.chmod(0o755)
+    return path
+
+
+def engines_known():
+    """How the four nodes run blocks: the last one by the library for C, where it is built."""
+    library = os.environ.get("RVSTM_LIBRARY") or (str(BUILT) if BUILT.is_file() else "")
+    return {"n1": [], "n2": ["--workers", "2"], "n3": ["--workers", "4"], **({"n4": ["--library", library]} if library else {})}
+
+
+class Cluster:
+    def __init__(self, folder):
+        if not shutil.which("etcd"):
+            raise ValueError("there is no etcd: Debian's package etcd-server has it")
+        self.folder, self.random = Path(folder), random.Random(1)
+        self.folder.mkdir(parents=True)
+        self.all, self.logs, self.kills, self.kinds = {}, {}, [], engines_known()
+        ports = free_ports(2 * MEMBERS)
+        self.clients = [f"http://127.0.0.1:{port}" for port in ports[:MEMBERS]]
+        self.peers = [f"http://127.0.0.1:{port}" for port in ports[MEMBERS:]]
+        self.urls = ",".join(self.clients)
+        self.client = etcd.Etcd(self.urls)
+
+    def __enter__(self):
+        return self
+
+    def __exit__(self, *_):
+        for process in self.all.values():
+            process.send_signal(signal.SIGCONT)
+            process.kill()
+        for process in self.all.values():
+            process.wait()
+
+    # ---- processes
+
+    def start(self, name, *words, **how):
+        self.logs[name] = self.folder / f"{name}.log"
+        with open(self.logs[name], "ab") as log:
+            words = [str(word) for word in words]
+            self.all[name] = subprocess.Popen(words, stdout=log, stderr=log, preexec_fn=how.pop("before", end_with_parent), **how)
+        return self.all[name]
+
+    def command(self, name, script, *words, **how):
+        return self.start(name, sys.executable, HERE / script, "--etcd", self.urls, "--name", name, *words, **how)
+
+    def log(self, name):
+        return self.logs[name].read_text(errors="backslashreplace") if name in self.logs else ""
+
+    def kill(self, name):
+        process = self.all.pop(name)
+        process.kill()
+        process.wait()
+        self.kills.append(name)
+
+    # ---- members
+
+    def member(self, number, state="new"):
+        cluster = ",".join(f"m{other}={url}" for other, url in enumerate(self.peers))
+        self.start(
+            f"m{number}", "etcd", "--name", f"m{number}", "--data-dir", self.folder / f"m{number}", "--log-level", "warn", "--logger", "zap",
+            "--listen-client-urls", self.clients[number], "--advertise-client-urls", self.clients[number],
+            "--listen-peer-urls", self.peers[number], "--initial-advertise-peer-urls", self.peers[number],
+            "--initial-cluster", cluster, "--initial-cluster-token", "ledger", "--initial-cluster-state", state,
+        )
+
+    def status(self, number):
+        return etcd.Etcd([self.clients[number]], 0).ask("maintenance/status", {})
+
+    def leader(self):
+        """The number of the leader, which a new election may take a while to find."""
+        for _ in range(100):
+            for number in range(MEMBERS):
+                try:
+                    status = self.status(number)
+                except (OSError, ValueError):
+                    continue
+                if status.get("leader") == status["header"]["member_id"]:
+                    return number
+            time.sleep(0.1)
+        raise ValueError("etcd has no leader")
+
+    # ---- nodes and proposers
+
+    def begin(self):
+        for number in range(MEMBERS):
+            self.member(number)
+        self.trial = ledger.Proposer("trial", self.client)
+        self.trial.begin(transfers.genesis(), transfers.SETTINGS)
+        for file in transfers.FILES:
+            self.trial.put_program(file)
+
+    def node(self, name, *words, **how):
+        words = words or self.kinds.get(name, [])
+        return self.command(name, how.pop("script", "node"), "--folder", self.folder / name, *words, **how)
+
+    def propose(self, name, count, *words):
+        return self.command(name, "propose", "--transfers", count, *words)
+
+    def append(self, block):
+        return self.trial.append(block if isinstance(block, bytes) else block.encode())
+
+    def address(self, name):
+        return self.client.get(ledger.NODES + name).value.decode()
+
+    def heights(self):
+        """How many blocks the log has had."""
+        gone = ledger.pruned(self.client)[0]
+        return self.client.count(ledger.BLOCKS) + (gone or 1)
+
+    def digests(self, height):
+        """What nodes published at a height, by their names."""
+        return ledger.by_height(self.client.range(etcd.below(ledger.at(ledger.DIGESTS, height)))[1]).get(height, {})
+
+    def reach(self, name, height, seconds=120):
+        """Waits until a node published the digest of a height."""
+        self.settle([name], seconds, height)
+
+    def settle(self, names, seconds=120, height=None):
+        """Waits until nodes published the digest of a height, or of the last one, and answers how long that took."""
+        began, height = time.monotonic(), height or self.heights()
+        while not set(names) <= set(self.digests(height)):
+            if time.monotonic() - began > seconds:
+                there = ", ".join(sorted(self.digests(height)))
+                raise ValueError(f"at height {height} only {there or 'nobody'} published a digest, of {', '.join(names)}")
+            time.sleep(0.1)
+        return time.monotonic() - began
+
+    def wait_for(self, name, text, seconds=60):
+        """Waits until a process says something, and answers the line."""
+        for _ in range(10 * seconds):
+            lines = [line for line in self.log(name).splitlines() if text in line]
+            if lines:
+                return lines[-1]
+            time.sleep(0.1)
+        raise ValueError(f"{name} did not say '{text}'")
+
+    def audit(self, names=()):
+        """Says what an audit finds, and answers how many things are wrong."""
+        wrong, seen = audits.audit(self.client, names)
+        for line in wrong:
+            say(f"WRONG: {line}")
+        say(f"audit: {seen}; {len(wrong)} wrong")
+        return len(wrong)

@@ -1,0 +1,143 @@
+"""The sessions that run a node's blocks: a process of `rvstm chain`, or the library for C. Both answer the same requests alike."""
+
+import ctypes
+import os
+import signal
+import subprocess
+import sys
+import threading
+import time
+from pathlib import Path
+
+TOP = Path(__file__).resolve().parent.parent.parent
+sys.path.insert(0, str(TOP / "scripts"))
+import program
+import sessions
+from sessions import Answer
+
+BUILT = TOP / "crates/rvstm_c/out/embedded/librvstm.so"
+C_LIBRARY = ctypes.CDLL(None)
+PR_SET_PDEATHSIG = 1
+# Ten times what the gas takes in order, and some seconds for what is read and written.
+GAS_A_SECOND, SECONDS_BESIDE = 20_000_000, 20
+DONE, REFUSED, FAILED = 0, 1, 4
+NO_LIMIT = 2**64 - 1
+
+
+class Ended(Exception):
+    """The engine died, or failed, which says nothing of the block: another engine runs it again."""
+
+
+def end_with_node(node):
+    """Ends the process where the thread of the node that started it ends."""
+    C_LIBRARY.prctl(PR_SET_PDEATHSIG, signal.SIGKILL)
+    if os.getppid() != node:
+        os._exit(1)
+
+
+class Process(sessions.Session):
+    """A process that ends with its node, and is killed where it does not answer in time."""
+
+    def __init__(self, settings):
+        pipe, node = subprocess.PIPE, os.getpid()
+        words = [program.rvstm(), *settings.words()]
+        self.process = subprocess.Popen(words, stdin=pipe, stdout=pipe, preexec_fn=lambda: end_with_node(node))
+        self.pid, self.until = self.process.pid, None
+        self.patience = SECONDS_BESIDE + (settings.frame_gas or 0) / GAS_A_SECOND
+        threading.Thread(target=self.watch, daemon=True).start()
+
+    def watch(self):
+        while self.process.poll() is None:
+            if self.until and time.monotonic() > self.until:
+                self.process.kill()
+            time.sleep(0.5)
+
+    def ask(self, request):
+        self.until = time.monotonic() + self.patience
+        try:
+            answer = super().ask(request)
+        except (OSError, ValueError) as error:
+            raise Ended(str(error)) from error
+        finally:
+            self.until = None
+        if answer is None:
+            raise Ended("the process died")
+        return answer
+
+    def close(self):
+        self.process.kill()
+        self.process.wait()
+
+
+class Handle(ctypes.Structure):
+    """An rvstm_session. ctypes makes all its bytes zero."""
+
+    _fields_ = [("at", ctypes.c_void_p), ("full", ctypes.c_bool)]
+
+
+class LibrarySettings(ctypes.Structure):
+    """An rvstm_settings."""
+
+    _fields_ = [
+        ("frame_limit", ctypes.c_uint64), ("frame_gas", ctypes.c_uint64),
+        ("digest", ctypes.c_bool), ("brief", ctypes.c_bool),
+    ]
+
+
+class Parts(ctypes.Structure):
+    """An rvstm_refusal_parts."""
+
+    _fields_ = [
+        ("line", ctypes.c_size_t), ("number", ctypes.c_uint32),
+        ("area", ctypes.c_char * 8), ("name", ctypes.c_char * 24),
+    ]
+
+
+class Library:
+    """A session of the library, in the node's own process. Nothing bounds its time but the gas."""
+
+    pid = None
+
+    def __init__(self, path, settings):
+        self.library, self.handle = ctypes.CDLL(path), Handle()
+        self.library.rvstm_answer_length.restype = ctypes.c_size_t
+        gas = NO_LIMIT if settings.frame_gas is None else settings.frame_gas
+        given = LibrarySettings(settings.frame_limit, gas, settings.digest, settings.brief)
+        status = self.library.rvstm_open_with(ctypes.byref(self.handle), ctypes.byref(given))
+        if status != DONE:
+            raise Ended(f"rvstm_open_with answers {status}")
+
+    def ask(self, request):
+        """The answer to a request, as a process gives it."""
+        words = []
+        for field in request.fields:
+            is_number = len(field) <= 10 and field.isdigit()
+            words += [ctypes.c_uint64(int(field))] if is_number else [field, ctypes.c_size_t(len(field))]
+        words += [request.body, ctypes.c_size_t(len(request.body))] if request.word in sessions.WITH_BODY else []
+        status = self.library["rvstm_" + request.word.decode()](ctypes.byref(self.handle), *words)
+        if status == DONE:
+            return sessions.done(self.body())
+        if status not in (REFUSED, FAILED):
+            raise Ended(f"rvstm_{request.word.decode()} answers {status}")
+        kind = b"refused" if status == REFUSED else b"failed"
+        return Answer(kind, kind + b" " + self.reason())
+
+    def reason(self):
+        parts = Parts()
+        self.library.rvstm_refusal(ctypes.byref(self.handle), ctypes.byref(parts))
+        line = (parts.line,) if parts.line else ()
+        return sessions.line_of(parts.area, *line, parts.name, parts.number)
+
+    def body(self):
+        length = self.library.rvstm_answer_length(ctypes.byref(self.handle))
+        buffer = ctypes.create_string_buffer(length + 1)
+        self.library.rvstm_answer(ctypes.byref(self.handle), buffer, ctypes.c_size_t(length))
+        return buffer.raw[:length]
+
+    def close(self):
+        self.library.rvstm_close(ctypes.byref(self.handle))
+
+
+def engine(settings, library=None):
+    """A session of the library where its path is given, else a process."""
+    return Library(library, settings) if library else Process(settings)

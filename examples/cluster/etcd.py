@@ -1,0 +1,209 @@
+"""A client of etcd by its JSON gateway, with Python's library alone. etcd 3.4 and later answer /v3/ at their client ports.
+
+Certificates and the user are taken from the environment, by the names that etcdctl has: ETCDCTL_CACERT, ETCDCTL_CERT, ETCDCTL_KEY
+and ETCDCTL_USER, which is USER:PASSWORD.
+"""
+
+import base64
+import http.client
+import json
+import os
+import ssl
+import time
+import urllib.parse
+from typing import NamedTuple
+
+SECONDS_A_REQUEST = 5
+SECONDS_BETWEEN_TRIES = 0.05
+# gRPC's codes where another member, or the same one later, may answer; 16 is a token whose time ran out.
+MAY_ANSWER_LATER = (1, 4, 8, 13, 14, 16)
+FAULTS_OF_A_LINE = (OSError, http.client.HTTPException, json.JSONDecodeError)
+
+
+class Refused(ValueError):
+    """A request that etcd refuses, with gRPC's code."""
+
+    def __init__(self, code, text):
+        super().__init__(f"etcd: {text} ({code})")
+        self.code = code
+
+
+class Compacted(Exception):
+    """A watch from a revision whose history was thrown away."""
+
+
+class Pair(NamedTuple):
+    """A key with its value, the revisions at which it was made and last changed, and its lease, 0 where it has none."""
+
+    key: str
+    value: bytes
+    made: int
+    changed: int
+    lease: int
+
+
+def pack(data):
+    return base64.b64encode(data if isinstance(data, bytes) else data.encode()).decode()
+
+
+def unpack(text):
+    return base64.b64decode(text)
+
+
+def pair_of(told):
+    key = unpack(told["key"]).decode("ascii", "backslashreplace")
+    numbers = (int(told.get(word, 0)) for word in ("create_revision", "mod_revision", "lease"))
+    return Pair(key, unpack(told.get("value", "")), *numbers)
+
+
+def behind(prefix):
+    """The first key behind all keys that begin with a prefix."""
+    return prefix[:-1] + chr(ord(prefix[-1]) + 1)
+
+
+def keys(first, last=None, **options):
+    """A key, or those from one on to before another."""
+    return {"key": pack(first), **({"range_end": pack(last)} if last else {}), **options}
+
+
+def below(prefix, **options):
+    return keys(prefix, behind(prefix), **options)
+
+
+def put(key, value, lease=0):
+    return {"request_put": {"key": pack(key), "value": pack(value), "lease": lease}}
+
+
+def keep(key):
+    """Takes a key from its lease, and leaves its value. The key has to be there."""
+    return {"request_put": {"key": pack(key), "ignore_value": True}}
+
+
+def read(wanted):
+    return {"request_range": wanted}
+
+
+def delete(wanted):
+    return {"request_delete_range": wanted}
+
+
+def is_absent(key):
+    return {"key": pack(key), "target": "CREATE", "result": "EQUAL", "create_revision": 0}
+
+
+def is_there(key):
+    return {"key": pack(key), "target": "CREATE", "result": "GREATER", "create_revision": 0}
+
+
+def pairs_of(told):
+    return [pair_of(pair) for pair in told.get("kvs", [])]
+
+
+def pairs_read(told):
+    """Of each read of a transaction the pairs."""
+    return [pairs_of(answer.get("response_range", {})) for answer in told.get("responses", [])]
+
+
+def context():
+    """How TLS is spoken."""
+    made = ssl.create_default_context(cafile=os.environ.get("ETCDCTL_CACERT"))
+    if os.environ.get("ETCDCTL_CERT"):
+        made.load_cert_chain(os.environ["ETCDCTL_CERT"], os.environ.get("ETCDCTL_KEY"))
+    return made
+
+
+class Etcd:
+    """Asks one member, and the next one where it does not answer. For one thread at a time."""
+
+    def __init__(self, urls, patience=30):
+        self.urls = urls.split(",") if isinstance(urls, str) else list(urls)
+        self.patience, self.line, self.token = patience, None, None
+
+    def ask(self, path, body):
+        """The answer of the first member that gives one. A request may have been carried out more than once, or be carried out
+        later: a caller makes only requests for which that does no harm."""
+        until = time.monotonic() + self.patience
+        while True:
+            try:
+                return self.ask_once(path, body)
+            except (*FAULTS_OF_A_LINE, Refused) as error:
+                if isinstance(error, Refused) and error.code not in MAY_ANSWER_LATER or time.monotonic() > until:
+                    raise
+                self.turn()
+                time.sleep(SECONDS_BETWEEN_TRIES)
+
+    def ask_once(self, path, body):
+        self.line = self.line or self.connection(SECONDS_A_REQUEST)
+        self.line.request("POST", f"/v3/{path}", json.dumps(body), self.headers())
+        answer = self.line.getresponse()
+        told = json.loads(answer.read())
+        if answer.status != 200:
+            raise Refused(told.get("code", 0), told.get("error", "no reason given"))
+        return told
+
+    def connection(self, seconds):
+        url = urllib.parse.urlsplit(self.urls[0])
+        if url.scheme == "https":
+            return http.client.HTTPSConnection(url.hostname, url.port, timeout=seconds, context=context())
+        return http.client.HTTPConnection(url.hostname, url.port, timeout=seconds)
+
+    def headers(self):
+        """The token of the user, where there is one."""
+        user, _, password = os.environ.get("ETCDCTL_USER", "").partition(":")
+        if not user:
+            return {}
+        if self.token is None:
+            self.line.request("POST", "/v3/auth/authenticate", json.dumps({"name": user, "password": password}))
+            told = json.loads(self.line.getresponse().read())
+            if "token" not in told:
+                raise Refused(told.get("code", 0), told.get("error", "no token"))
+            self.token = told["token"]
+        return {"Authorization": self.token}
+
+    def turn(self):
+        """Goes on with the next member."""
+        if self.line is not None:
+            self.line.close()
+        self.line = self.token = None
+        self.urls.append(self.urls.pop(0))
+
+    def range(self, wanted):
+        """The revision of the answer, and the pairs."""
+        told = self.ask("kv/range", wanted)
+        return int(told["header"]["revision"]), pairs_of(told)
+
+    def get(self, key):
+        """The pair of a key, or None."""
+        return next(iter(self.range(keys(key))[1]), None)
+
+    def count(self, prefix):
+        return int(self.ask("kv/range", below(prefix, count_only=True)).get("count", 0))
+
+    def transact(self, compare, success, failure=()):
+        """Whether all comparisons held, and the answer."""
+        told = self.ask("kv/txn", {"compare": list(compare), "success": list(success), "failure": list(failure)})
+        return told.get("succeeded", False), told
+
+    def watch(self, prefix, revision, quiet):
+        """What is put below a prefix from a revision on, as lists of pairs. Ends where nothing came for some seconds, or the member
+        is gone: the caller then watches on from behind the last one, by the next member."""
+        self.turn()
+        self.line = line = self.connection(quiet)
+        try:
+            wanted = {**below(prefix), "start_revision": revision, "filters": ["NODELETE"], "fragment": True}
+            line.request("POST", "/v3/watch", json.dumps({"create_request": wanted}), self.headers())
+            answer = line.getresponse()
+            while text := answer.readline():
+                told = json.loads(text).get("result", {})
+                if int(told.get("compact_revision", 0)):
+                    raise Compacted(int(told["compact_revision"]))
+                if told.get("canceled"):
+                    return
+                if told.get("events"):
+                    yield [pair_of(event["kv"]) for event in told["events"]]
+        except TimeoutError:
+            pass
+        except FAULTS_OF_A_LINE:
+            time.sleep(SECONDS_BETWEEN_TRIES)
+        finally:
+            line.close()

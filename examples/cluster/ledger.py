@@ -1,0 +1,255 @@
+"""What all parts of the ledger agree on: its keys in etcd, its log, which blocks a node refuses, and who differs from whom.
+
+    /log/genesis              the first block, which alone may have `store` lines
+    /log/programs/SHA256      a program
+    /log/blocks/NAME/NUMBER   a block of a proposer
+    /parts/NAME/NUMBER/PART   a part of a longer block
+    /settings                 of all sessions, in JSON; put with the genesis
+    /digests/HEIGHT/NODE      the digest of a node's session at a height, and the revision of the block there
+    /dumps/HEIGHT/NODE        the SHA-256 of a node's dump at a height, the digest and the revision
+    /nodes/NODE               where a node answers by HTTP
+    /pruned                   the last height whose block may be gone from the log, and its revision
+
+The order of the log is that of the revisions at which its keys were made. The genesis is the first entry; blocks before it are none.
+"""
+
+import hashlib
+import json
+import re
+import secrets
+import zlib
+from typing import NamedTuple
+
+import etcd
+from etcd import behind, below, delete, is_absent, is_there, keep, keys, put, read
+
+LOG, PARTS, DIGESTS, DUMPS, NODES = "/log/", "/parts/", "/digests/", "/dumps/", "/nodes/"
+PRUNED, SETTINGS = "/pruned", "/settings"
+GENESIS, PROGRAMS, BLOCKS = "/log/genesis", "/log/programs/", "/log/blocks/"
+LONGEST_INLINE = 100_000  # bytes of a block in its own entry: entries are watched, and many come in one answer
+LONGEST_PART = 1_000_000  # etcd refuses requests above 1.5 MiB
+MOST_PARTS = 100  # and transactions of more than 128 operations
+MOST_IN_A_TRANSACTION = 100
+SECONDS_OF_PARTS = 30  # how long parts live that no entry names
+SECONDS_OF_QUIET = 1
+PAIRS_A_READ = 32
+NO_DIGEST = "0" * 64
+PLACE = re.compile(r"/(?:digests|dumps)/([0-9]{10})/(.+)")
+HEAD = re.compile(rb"parts((?: [0-9a-f]{64}){0,%d})\n" % MOST_PARTS)
+
+
+class Gone(ValueError):
+    """A block that was pruned from the log."""
+
+
+class Mark(NamedTuple):
+    """A height, the digest of the sessions there, and the revision of its block."""
+
+    height: int = 0
+    digest: str = NO_DIGEST
+    revision: int = 0
+
+
+def sha256(data):
+    return hashlib.sha256(data).hexdigest()
+
+
+def at(prefix, height, name=""):
+    return f"{prefix}{height:010d}/{name}"
+
+
+def by_height(pairs):
+    """Of digests or dumps the values by height and name."""
+    found = {}
+    for pair in pairs:
+        height, name = PLACE.fullmatch(pair.key).groups()
+        found.setdefault(int(height), {})[name] = pair.value.decode()
+    return dict(sorted(found.items()))
+
+
+def different_from(name, told):
+    """The names that say otherwise at a height than one does, and whether they are most of all."""
+    others = sorted(other for other, value in told.items() if value != told[name])
+    return others, 2 * len(others) > len(told)
+
+
+# ---- entries of the log
+
+
+def parts_of_key(key):
+    """What the keys of a block's parts begin with."""
+    return PARTS + key.removeprefix(LOG).removeprefix("blocks/") + "/"
+
+
+def is_block(pair):
+    return pair.key == GENESIS or pair.key.startswith(BLOCKS)
+
+
+def pruned(client):
+    """The height and the revision of the last block that may be gone."""
+    pair = client.get(PRUNED)
+    return tuple(map(int, pair.value.split())) if pair else (0, 0)
+
+
+def block_of(client, pair, limit):
+    """The bytes of a block, or None where an entry stands for none, which all nodes see alike. A limit of 0 is none."""
+    head = HEAD.match(pair.value)
+    if not head:
+        return None
+    data, unpacked = pair.value[head.end() :], zlib.decompressobj()
+    if head[1]:
+        data = whole(client, pair, head[1].decode().split())
+    try:
+        block = unpacked.decompress(data or b"", limit + 1 if limit else 0)
+    except zlib.error:
+        return None
+    return block if unpacked.eof and not unpacked.unused_data and (not limit or len(block) <= limit) else None
+
+
+def whole(client, pair, digests):
+    """The bytes of a block in parts, or None. A part counts that was made before the entry, and was kept by it."""
+    parts = []
+    for number, digest in enumerate(digests):
+        part = client.get(f"{parts_of_key(pair.key)}{number:03d}")
+        if part is None and pruned(client)[1] >= pair.made:
+            raise Gone(f"the parts of {pair.key} are gone from the log")
+        if part is None or part.lease or part.made >= pair.made or sha256(part.value) != digest:
+            return None
+        parts.append(part.value)
+    return b"".join(parts)
+
+
+def is_refused(block, is_genesis):
+    """Whether a node refuses a block before its session sees it, which all nodes do alike: `store` lines mint."""
+    return not is_genesis and re.search(rb"^store ", block, re.M) is not None
+
+
+# ---- who writes
+
+
+class Proposer:
+    """Appends entries. Each block has a key of its own, so that one whose answer was lost is not appended twice, and no proposer
+    waits for another: the order is that of etcd's revisions."""
+
+    def __init__(self, name, client):
+        self.name, self.client, self.number = f"{name}.{secrets.token_hex(4)}", client, 0
+
+    def put_program(self, file):
+        key = PROGRAMS + sha256(file)
+        self.client.transact([is_absent(key)], [put(key, file)])
+
+    def begin(self, block, settings):
+        """Puts the genesis and the settings, and answers whether none was there before."""
+        return self.put_block(GENESIS, block, [is_absent(SETTINGS)], [put(SETTINGS, json.dumps(settings))])
+
+    def append(self, block, between=lambda: None):
+        """Appends a block, and answers its revision."""
+        self.number += 1
+        key = f"{BLOCKS}{self.name}/{self.number:010d}"
+        while True:
+            self.put_block(key, block, [is_there(GENESIS)], [], between)
+            pair = self.client.get(key)
+            if pair:
+                return pair.made
+            if not self.client.get(GENESIS):
+                raise ValueError("there is no genesis: propose --genesis puts it")
+            # else the parts are gone, since their time ran out: they are put anew
+
+    def put_block(self, key, block, compare, beside, between=lambda: None):
+        data = zlib.compress(block, 1)
+        parts = [data[start : start + LONGEST_PART] for start in range(0, len(data), LONGEST_PART)]
+        parts = parts if len(data) > LONGEST_INLINE else []
+        if len(parts) > MOST_PARTS:
+            raise ValueError("the block is too long")
+        names = [f"{parts_of_key(key)}{number:03d}" for number in range(len(parts))]
+        lease = int(self.client.ask("lease/grant", {"TTL": SECONDS_OF_PARTS})["ID"]) if parts else 0
+        for name, part in zip(names, parts):
+            self.client.transact([is_absent(key)], [put(name, part, lease)])
+        between()
+        head = " ".join(["parts", *map(sha256, parts)]).encode() + b"\n"
+        success = [put(key, head + (b"" if parts else data)), *map(keep, names), *beside]
+        done, _ = self.client.transact([is_absent(key), *compare, *map(is_there, names)], success)
+        return done
+
+
+# ---- who reads
+
+
+class Log:
+    """The entries behind a revision, in their order, as they come."""
+
+    def __init__(self, urls, revision):
+        self.client, self.revision, self.say = etcd.Etcd(urls), revision, print
+
+    def batches(self):
+        """Lists of entries; an empty one where none came for a second."""
+        while True:
+            try:
+                for pairs in self.client.watch(LOG, self.revision + 1, SECONDS_OF_QUIET):
+                    yield self.checked(pairs)
+                yield []
+            except etcd.Compacted as error:
+                self.say(f"watches from revision {self.revision + 1}, and etcd was compacted to {error}: reads the log anew")
+                yield from self.read()
+
+    def read(self):
+        """The entries that are there now."""
+        wanted = below(LOG, keys_only=True, min_create_revision=self.revision + 1, sort_target="CREATE", sort_order="ASCEND")
+        _, told = self.client.transact([], [read(wanted), read(keys(PRUNED))])
+        now, (entries, marks) = int(told["header"]["revision"]), etcd.pairs_read(told)
+        if marks and int(marks[0].value.split()[1]) > self.revision:
+            raise Gone(f"the log begins behind height {int(marks[0].value.split()[0])}")
+        for start in range(0, len(entries), PAIRS_A_READ):
+            names = [pair.key for pair in entries[start : start + PAIRS_A_READ]]
+            _, told = self.client.transact([], [read(keys(name)) for name in names])
+            pairs = [pair for pairs in etcd.pairs_read(told) for pair in pairs]
+            if len(pairs) != len(names):
+                raise Gone("blocks are gone from the log while they are read")
+            yield self.checked(pairs)
+        self.revision = now
+
+    def checked(self, pairs):
+        """The entries, none of which was changed since it was made, or made at the revision of another."""
+        for pair in pairs:
+            if pair.made != pair.changed:
+                raise ValueError(f"{pair.key} was changed at revision {pair.changed}, and made at {pair.made}")
+            if pair.made <= self.revision:
+                raise ValueError(f"{pair.key} was made at revision {pair.made}, as another entry")
+            self.revision = pair.made
+        return pairs
+
+
+def programs_until(client, revision):
+    """The files of all programs that were put until a revision."""
+    _, pairs = client.range(below(PROGRAMS, keys_only=True, max_create_revision=revision, sort_target="CREATE", sort_order="ASCEND"))
+    return [client.get(pair.key).value for pair in pairs]
+
+
+def agreed_dumps(client, alike, own=""):
+    """The dumps that so many nodes made alike, or this one, the newest first: the mark, the SHA-256, and the names."""
+    found = []
+    for height, told in by_height(client.range(below(DUMPS))[1]).items():
+        values = list(told.values())
+        value = told.get(own) or max(values, key=values.count)
+        names = sorted(name for name in told if told[name] == value)
+        if (len(names) >= alike or own in names) and 2 * len(names) > len(told):
+            content, digest, revision = value.split()
+            found.append((Mark(height, digest, int(revision)), content, names))
+    return found[::-1]
+
+
+def prune(client, kept, alike):
+    """Removes what is older than the oldest of the newest dumps that so many nodes made alike, and compacts. Answers the
+    height up to which the log is pruned, and how many blocks that were; the mark is put before anything goes."""
+    dumps = agreed_dumps(client, alike)
+    if len(dumps) < kept:
+        return pruned(client)[0], 0
+    mark = dumps[kept - 1][0]
+    client.ask("kv/put", put(PRUNED, f"{mark.height} {mark.revision}")["request_put"])
+    _, blocks = client.range(below(BLOCKS, keys_only=True, max_create_revision=mark.revision))
+    gone = [delete(wanted) for pair in blocks for wanted in (keys(pair.key), below(parts_of_key(pair.key)))]
+    gone += [delete(keys(prefix, at(prefix, mark.height))) for prefix in (DIGESTS, DUMPS)] + [delete(below(parts_of_key(GENESIS)))]
+    for start in range(0, len(gone), MOST_IN_A_TRANSACTION):
+        client.transact([], gone[start : start + MOST_IN_A_TRANSACTION])
+    client.ask("kv/compaction", {"revision": client.range(keys(PRUNED))[0], "physical": True})
+    return mark.height, len(blocks)

@@ -1,0 +1,344 @@
+"""A node: follows the log, has each block run by its engine, publishes the digest of each height, and compares it with the others'."""
+
+import argparse
+import collections
+import http.client
+import json
+import math
+import os
+import re
+import threading
+import time
+from pathlib import Path
+
+import engines
+import etcd
+import ledger
+import sessions
+import status
+from etcd import is_absent, keys, put, read
+from ledger import DIGESTS, DUMPS, GENESIS, NODES, NO_DIGEST, PROGRAMS, Mark
+from sessions import Request
+
+KEPT_DUMPS = 3
+KEPT_ANSWERS = 64
+HEIGHTS_AT_ONCE = 32  # whose digests are published by one request, where the node is behind
+HEIGHTS_BETWEEN_LOOKS = 8
+MOST_DEATHS = 3
+SECONDS_FOR_A_DUMP = 60
+QUOTA_TOLD = 0.8  # the share of etcd's quota from which on it is told
+
+
+class Stop(ValueError):
+    """Why a node must not go on."""
+
+
+class Counts:
+    """What a node counts for /metrics."""
+
+    def __init__(self):
+        self.frames = self.bytes_run = self.bytes_answered = 0
+        self.seconds = collections.Counter()  # fetch, run, publish, dump
+        self.refusals = collections.Counter()
+
+
+class Node:
+    def __init__(self, name, urls, folder, workers=None, library=None, alike=2, quota=2 << 30):
+        self.name, self.urls, self.folder, self.alike, self.quota = name, urls, Path(folder), alike, quota
+        self.workers, self.library = workers, library
+        self.client, self.engine, self.busy = etcd.Etcd(urls, math.inf), None, threading.Lock()
+        self.mark, self.settings, self.told = Mark(), None, {}
+        self.pending, self.values, self.answers = [], {}, collections.OrderedDict()
+        self.named, self.looked, self.counts = set(), 0, Counts()
+        self.folder.mkdir(parents=True, exist_ok=True)
+
+    def say(self, text):
+        print(f"{time.strftime('%H:%M:%S')} {self.name} {text}", flush=True)
+
+    # ---- the engine
+
+    def ask(self, word, *fields, body=b""):
+        """The answer of the engine, one that all machines give."""
+        with self.busy:
+            answer = self.engine.ask(Request(word, fields, body))
+        if answer.kind == b"failed":
+            raise engines.Ended(answer.line.decode().strip())
+        return answer
+
+    def need(self, word, *fields, body=b""):
+        """The answer to a request that has to be done."""
+        answer = self.ask(word, *fields, body=body)
+        if answer.kind != b"ok":
+            raise Stop(f"{word.decode()} is answered {answer.line.decode().strip()}")
+        return answer.body
+
+    def begin(self):
+        """Starts an engine, and brings it to where it can go on: by a dump, or from the log's begin. A session that keeps its own
+        storage would go on from its height, and take the revision from the digests."""
+        with self.busy:
+            if self.engine:
+                self.engine.close()
+            self.engine = engines.engine(self.settings, self.library)
+        self.mark, dump = self.newest_dump()
+        gone, revision = ledger.pruned(self.client)
+        if self.mark.revision < revision:
+            raise ledger.Gone(f"the log begins behind height {gone}, and no dump of that height or above is to be had")
+        for file in ledger.programs_until(self.client, self.mark.revision):
+            self.ask(b"program", body=file)
+        if dump is not None:
+            self.need(b"begin", b"%d" % self.mark.height, self.mark.digest.encode(), body=dump)
+        self.pending, self.values, self.looked = [], {}, self.mark.height
+        self.say(f"begins at height {self.mark.height}, engine {self.engine.pid or 'in this process'}")
+
+    # ---- dumps
+
+    def path(self, height):
+        return self.folder / f"{height:010d}.dump"
+
+    def newest_dump(self):
+        """The newest dump that enough nodes made alike, or this one alone, from the own folder or from another node."""
+        for mark, content, names in ledger.agreed_dumps(self.client, self.alike, self.name):
+            for name in sorted(names, key=lambda name: name != self.name):
+                try:
+                    dump = self.path(mark.height).read_bytes() if name == self.name else self.fetched(name, f"/dump/{mark.height}")
+                except (OSError, http.client.HTTPException) as error:
+                    self.say(f"has no dump of height {mark.height} from {name}: {error}")
+                    continue
+                if ledger.sha256(dump) == content:
+                    self.say(f"takes the dump of height {mark.height} from {name}, {len(dump)} bytes, made alike by {', '.join(names)}")
+                    return mark, dump
+                self.say(f"refuses the dump of height {mark.height} from {name}: its SHA-256 is another")
+        return Mark(revision=self.client.get(GENESIS).made - 1), None
+
+    def fetched(self, name, path):
+        """What another node answers by HTTP."""
+        pair = self.client.get(NODES + name)
+        host, _, port = (pair.value.decode() if pair else "").rpartition(":")
+        if not port:
+            raise OSError("it tells no address")
+        line = http.client.HTTPConnection(host, int(port), timeout=SECONDS_FOR_A_DUMP)
+        try:
+            line.request("GET", path)
+            answer = line.getresponse()
+            data = answer.read()
+        finally:
+            line.close()
+        if answer.status != 200:
+            raise OSError(f"status {answer.status}")
+        return data
+
+    def make_dump(self):
+        """Keeps the storage in a file, and publishes its SHA-256. Where the disk is full, the node goes on without it."""
+        dump, path = self.need(b"dump"), self.path(self.mark.height)
+        new = path.with_suffix(".new")
+        try:
+            with open(new, "wb") as file:
+                file.write(dump)
+                file.flush()
+                os.fsync(file.fileno())
+            new.rename(path)
+        except OSError as error:
+            new.unlink(missing_ok=True)
+            self.say(f"keeps no dump of height {self.mark.height}: {error.strerror}")
+            return
+        for old in sorted(self.folder.glob("*.dump"))[:-KEPT_DUMPS]:
+            old.unlink()
+        value = f"{ledger.sha256(dump)} {self.mark.digest} {self.mark.revision}"
+        self.publish([(ledger.at(DUMPS, self.mark.height, self.name), value)])
+        self.tell_quota()
+
+    def tell_quota(self):
+        used = int(self.client.ask("maintenance/status", {})["dbSize"])
+        if used > QUOTA_TOLD * self.quota:
+            self.say(f"etcd has {used >> 20} MiB of {self.quota >> 20}, and takes no block where it is full: prune the log")
+
+    # ---- the log
+
+    def take(self, pair):
+        """Does what an entry of the log says."""
+        if pair.key.startswith(PROGRAMS):
+            self.ask(b"program", body=pair.value)
+        elif pair.key == GENESIS and self.told["as"] == "begin":
+            self.need(b"begin", b"0", NO_DIGEST.encode(), body=self.block_of(pair) or b"")
+        elif ledger.is_block(pair):
+            self.run_block(pair)
+
+    def block_of(self, pair):
+        """The bytes of an entry, none of one that a node refuses: its frame is then one of no bytes, so that heights agree."""
+        limit = 0 if pair.key == GENESIS else self.settings.frame_limit
+        block = ledger.block_of(self.client, pair, limit)
+        return None if block is None or ledger.is_refused(block, pair.key == GENESIS) else block
+
+    def run_block(self, pair):
+        times = [time.monotonic()]
+        block = self.block_of(pair)
+        times.append(time.monotonic())
+        answer = self.ask(b"frame", body=block or b"")
+        told = sessions.state_of(self.need(b"state"))
+        times.append(time.monotonic())
+        if int(told[b"height"]) != self.mark.height + 1:
+            raise Stop(f"the engine is at height {int(told[b'height'])} behind block {self.mark.height + 1}")
+        self.mark = Mark(self.mark.height + 1, self.digest_told(told), pair.made)
+        self.answers[self.mark.height] = answer
+        if len(self.answers) > KEPT_ANSWERS:
+            self.answers.popitem(last=False)
+        self.count(block or b"", answer, times, block is None)
+        self.pending.append((ledger.at(DIGESTS, self.mark.height, self.name), f"{self.mark.digest} {pair.made}"))
+        self.values[self.mark.height] = self.pending[-1][1]
+        is_dump = self.mark.height % self.told["every"] == 0
+        if is_dump or len(self.pending) >= HEIGHTS_AT_ONCE:
+            self.flush()
+        if is_dump:
+            self.make_dump()
+
+    def digest_told(self, told):
+        return told[b"digest"].decode()
+
+    def count(self, block, answer, times, is_refused):
+        counts = self.counts
+        counts.frames += 1
+        counts.bytes_run += len(block)
+        counts.bytes_answered += len(answer.body)
+        counts.seconds["fetch"] += times[1] - times[0]
+        counts.seconds["run"] += times[2] - times[1]
+        if answer.kind == b"refused":
+            line, _, _, name = sessions.parts_of(answer)
+            counts.refusals["NoBlock" if is_refused else name.decode()] += 1
+            self.say(f"height {self.mark.height}: {'no block, ' if is_refused else ''}{answer.line.decode().strip()}")
+
+    # ---- what is published
+
+    def flush(self):
+        began = time.monotonic()
+        self.publish(self.pending)
+        self.pending = []
+        self.counts.seconds["publish"] += time.monotonic() - began
+
+    def publish(self, pairs):
+        """Publishes values, each once. A node that comes to another value than it published before does not go on."""
+        names = [key for key, _ in pairs]
+        success = [put(key, value) for key, value in pairs]
+        done, told = self.client.transact(map(is_absent, names), success, [read(keys(key)) for key in names])
+        if done:
+            return
+        before = {pair.key: pair.value.decode() for found in etcd.pairs_read(told) for pair in found}
+        for key, value in pairs:
+            if before.get(key, value) != value:
+                raise Stop(f"{key} was published as {before[key]}, and is {value} now")
+        missing = [(key, value) for key, value in pairs if key not in before]
+        if missing:
+            self.publish(missing)
+
+    def compare(self):
+        """Compares the last digests with those of the other nodes."""
+        first = max(1, self.looked - HEIGHTS_BETWEEN_LOOKS)
+        self.looked = self.mark.height
+        wanted = keys(ledger.at(DIGESTS, first), ledger.at(DIGESTS, self.mark.height + 1))
+        for height, told in ledger.by_height(self.client.range(wanted)[1]).items():
+            if height in self.values and self.name in told:
+                self.judge(height, told)
+        for height in [height for height in self.values if height < first]:
+            del self.values[height]
+
+    def judge(self, height, told):
+        others, are_most = ledger.different_from(self.name, told)
+        if are_most:
+            line = self.different_line(height, others[0])
+            raise Stop(f"height {height}: {', '.join(others)} of {len(told)} nodes differ from this one; {line}")
+        for other in others:
+            if (height, other) not in self.named:
+                self.say(f"height {height}: {other} differs from this node, one of {len(told)}")
+            self.named.add((height, other))
+
+    def different_line(self, height, other):
+        """The first line of two answers that differs."""
+        try:
+            theirs = self.fetched(other, f"/receipts/{height}").decode().splitlines()
+        except (OSError, http.client.HTTPException) as error:
+            return f"{other} does not tell its answer: {error}"
+        if height not in self.answers:
+            return "this node's answer is not kept any more"
+        mine = self.answers[height].text().decode().splitlines()
+        for number, (one, two) in enumerate(zip([*mine, "none"], [*theirs, "none"]), 1):
+            if one != two:
+                return f"line {number} is here '{one[:160]}' and there '{two[:160]}'"
+        return f"the answer of {other} is the same, so one of the digests is none of it"
+
+    # ---- the whole
+
+    def settle(self):
+        """Waits for the genesis, and takes the settings that it came with."""
+        while not self.client.get(GENESIS):
+            time.sleep(0.1)
+        self.told = json.loads(self.client.get(ledger.SETTINGS).value)
+        of_session = {word: self.told[word] for word in ("frame_limit", "frame_gas", "brief")}
+        self.settings = sessions.Settings(digest=True, workers=self.workers, **of_session)
+
+    def follow(self):
+        log = ledger.Log(self.urls, self.mark.revision)
+        log.say = self.say
+        for pairs in log.batches():
+            for pair in pairs:
+                self.take(pair)
+            if self.pending:
+                self.flush()
+            if self.mark.height - self.looked >= HEIGHTS_BETWEEN_LOOKS or not pairs and self.values:
+                self.compare()
+
+    def run(self):
+        """Runs until the node has to stop, which is an error that says why."""
+        self.settle()
+        deaths = collections.Counter()
+        while True:
+            try:
+                self.begin()
+                self.follow()
+            except engines.Ended as error:
+                self.say(f"height {self.mark.height + 1}: its engine can't go on: {error}")
+                deaths[self.mark.height] += 1
+                if deaths[self.mark.height] == MOST_DEATHS:
+                    raise Stop(f"the engine could not run block {self.mark.height + 1} three times") from error
+
+
+# ---- the command
+
+
+def address(text):
+    host, _, port = text.rpartition(":")
+    if not host or not port.isdigit():
+        raise argparse.ArgumentTypeError(f"{text} is no HOST:PORT")
+    return host, int(port)
+
+
+def options(doc):
+    parser = argparse.ArgumentParser(usage=doc.split("\n\n")[1].removeprefix("usage: "))
+    parser.add_argument("--etcd", required=True)
+    parser.add_argument("--name", required=True)
+    parser.add_argument("--folder", required=True)
+    parser.add_argument("--workers", type=int)
+    parser.add_argument("--library")
+    parser.add_argument("--http", type=address, default=("127.0.0.1", 0))
+    parser.add_argument("--told", type=address)
+    parser.add_argument("--alike", type=int, default=2)
+    parser.add_argument("--quota", type=int, default=2048)
+    given = parser.parse_args()
+    if not re.fullmatch("[A-Za-z0-9-]+", given.name):
+        parser.error("--name has letters, digits and -")
+    return given
+
+
+def start(kind, given):
+    """Runs a node, and tells why it stopped."""
+    node = kind(given.name, given.etcd, given.folder, given.workers, given.library, given.alike, given.quota << 20)
+    port = status.serve(node, *given.http)
+    host, port = given.told or (given.http[0], port)
+    node.client.ask("kv/put", put(NODES + given.name, f"{host}:{port}")["request_put"])
+    node.say(f"answers readers at http://{host}:{port}/")
+    try:
+        node.run()
+    except ValueError as error:
+        node.say(f"STOPS: {error}")
+        return 1
+    finally:
+        if node.engine:
+            node.engine.close()

@@ -1,0 +1,62 @@
+"""Blocks for a demonstration: transfers by two contracts between accounts, and blocks that nodes refuse."""
+
+import hashlib
+
+import engines  # first: it finds scripts/
+import block_texts
+import ledger
+
+ACCOUNTS = [hashlib.sha256(b"account %d" % number).hexdigest() for number in range(1000)]
+HEAD = block_texts.head(3)
+GAS = 5000
+FILES = [(engines.TOP / f"examples/{name}/{name}.elf").read_bytes() for name in ("token", "fees", "digest")]
+TOKEN, FEES, DIGEST = map(ledger.sha256, FILES)
+SETTINGS = {"as": "frame", "frame_limit": 16_000_000, "frame_gas": 2_000_000_000, "brief": True, "every": 20}
+
+
+def number(amount):
+    return block_texts.word(amount, 8).hex()
+
+
+def programs(*names):
+    return "".join(f"program {at} {name}\n" for at, name in enumerate(names))
+
+
+def genesis():
+    return (HEAD + "".join(f"store {account} {number(1_000_000)}\n" for account in sorted(ACCOUNTS))).encode()
+
+
+def transfers(source, count):
+    """Half of them by token, which reads both accounts, and half by fees, which adds to one and to the pot."""
+    calls = []
+    for at in range(count):
+        one, other = source.sample(ACCOUNTS, 2)
+        kind = "01" if at % 2 == 0 else "00"
+        calls.append(f"call {at % 2} {GAS} {kind}{one}{other}{number(source.randrange(100))}\n")
+    return (HEAD + programs(TOKEN, FEES) + "".join(calls)).encode()
+
+
+def long_calls(source, count, length=4000, gas=10_000_000):
+    """Calls that hash long inputs: a block of some megabytes, which takes a while."""
+    calls = (f"call 0 {gas} {source.randbytes(length).hex()}\n" for _ in range(count))
+    return (HEAD + programs(DIGEST) + "".join(calls)).encode()
+
+
+def strange(source):
+    """What strangers send, by what it is, and what each session answers."""
+    good = transfers(source, 2).decode()
+    token = HEAD + programs(TOKEN)
+    none = "refused block 1 BadHeader 1"
+    return {
+        "lines `end` and `q` and other requests": (good + "end\nq\nframe 0\ndump\n", "refused block 7 BadLine 2"),
+        "a program at /dev/stdin": (HEAD + "program 0 /dev/stdin\n", "refused frame NoProgram 3"),
+        "a program that nobody put": (HEAD + programs("0" * 64), "refused frame NoProgram 3"),
+        "`store` lines": (token + f"store {ACCOUNTS[0]} {number(10**12)}\n", none),
+        "no LF at the end": (good.rstrip("\n"), "refused block 6 BadLine 2"),
+        "no bytes": ("", none),
+        "no block": ("hello\n", none),
+        "too much gas": (token + "call 0 10000000 -\n" * 201, "refused frame TooMuchGas 5"),
+        "older rules": (good.replace("gas 3", "gas 2", 1), "refused frame OlderRules 2"),
+        "1,025 calls": (token + "call 0 5000 -\n" * 1025, "refused block 1028 Limit 7"),
+        "too many bytes": ("0" * (SETTINGS["frame_limit"] + 1), none),
+    }
