@@ -79,6 +79,7 @@ class Cluster:
             process.kill()
         for process in self.all.values():
             process.wait()
+        self.client.turn()
 
     # ---- processes
 

@@ -67,6 +67,11 @@ class Process(sessions.Session):
     def close(self):
         self.process.kill()
         self.process.wait()
+        self.process.stdout.close()
+        try:
+            self.process.stdin.close()
+        except BrokenPipeError:  # bytes of a request that the process did not take
+            pass
 
 
 class Handle(ctypes.Structure):

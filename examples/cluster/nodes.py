@@ -243,26 +243,28 @@ class Node:
     def judge(self, height, told):
         others, are_most = ledger.different_from(self.name, told)
         if are_most:
-            line = self.different_line(height, others[0])
+            line = self.different_line(height, others)
             raise Stop(f"height {height}: {', '.join(others)} of {len(told)} nodes differ from this one; {line}")
         for other in others:
             if (height, other) not in self.named:
                 self.say(f"height {height}: {other} differs from this node, one of {len(told)}")
             self.named.add((height, other))
 
-    def different_line(self, height, other):
-        """The first line of two answers that differs."""
-        try:
-            theirs = self.fetched(other, f"/receipts/{height}").decode().splitlines()
-        except (OSError, http.client.HTTPException) as error:
-            return f"{other} does not tell its answer: {error}"
-        if height not in self.answers:
-            return "this node's answer is not kept any more"
-        mine = self.answers[height].text().decode().splitlines()
-        for number, (one, two) in enumerate(zip([*mine, "none"], [*theirs, "none"]), 1):
-            if one != two:
-                return f"line {number} is here '{one[:160]}' and there '{two[:160]}'"
-        return f"the answer of {other} is the same, so one of the digests is none of it"
+    def different_line(self, height, others):
+        """The first line of this node's answer that differs from that of another one, which tells its own."""
+        for other in others:
+            try:
+                theirs = self.fetched(other, f"/receipts/{height}").decode().splitlines()
+            except (OSError, http.client.HTTPException):
+                continue
+            if height not in self.answers:
+                return "this node's answer is not kept any more"
+            mine = self.answers[height].text().decode().splitlines()
+            for number, (one, two) in enumerate(zip([*mine, "none"], [*theirs, "none"]), 1):
+                if one != two:
+                    return f"line {number} is here '{one[:160]}' and that of {other} '{two[:160]}'"
+            return f"the answer of {other} is the same, so one of the digests is none of it"
+        return "none of them tells its answer"
 
     # ---- the whole
 

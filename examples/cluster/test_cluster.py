@@ -1,0 +1,265 @@
+"""Tests of a whole ledger, which need etcd and the program rvstm: python3 -m unittest, in this folder.
+
+What answers have to be is told by scripts/session_model.py, which runs each block by `rvstm seq`, and by docs/formats.md.
+"""
+
+import hashlib
+import http.client
+import os
+import random
+import re
+import shutil
+import signal
+import subprocess
+import sys
+import tempfile
+import time
+import unittest
+from pathlib import Path
+
+import transfers  # first: it finds scripts/
+import audits
+import clusters
+import engines
+import etcd
+import ledger
+import program
+import session_model
+import sessions
+from sessions import Request
+
+CALLS, BLOCKS = 6, 45
+
+
+def missing():
+    """What the tests of this file lack, or nothing."""
+    lacks = [] if shutil.which("etcd") else ["etcd (Debian's package etcd-server)"]
+    return ", ".join(lacks + ([] if os.path.isfile(program.path()) else ["the program rvstm (RVSTM names it)"]))
+
+
+def setUpModule():
+    if missing():
+        print(f"skipped, for want of {missing()}: all tests of test_cluster.py", file=sys.stderr)
+        raise unittest.SkipTest(missing())
+    if "n4" not in clusters.engines_known():
+        print("skipped, for want of the library for C (scripts/library): a node by it", file=sys.stderr)
+
+
+def wait(is_so, seconds=30):
+    until = time.monotonic() + seconds
+    while not is_so() and time.monotonic() < until:
+        time.sleep(0.05)
+    return is_so()
+
+
+def is_running(pid):
+    try:
+        return Path(f"/proc/{pid}/stat").read_text().rpartition(")")[2].split()[0] != "Z"
+    except OSError:
+        return False
+
+
+class Forgetful(etcd.Etcd):
+    """A client whose transactions are done, but the first answer to each is lost."""
+
+    def ask_once(self, path, body):
+        told = super().ask_once(path, body)
+        if path == "kv/txn" and not self.has_lost:
+            self.has_lost = True
+            raise OSError("the answer is lost")
+        return told
+
+    has_lost = False
+
+
+class Engines(unittest.TestCase):
+    def test_an_engine_ends_with_its_node(self):
+        code = "import engines, sessions, time; e = engines.engine(sessions.Settings()); print(e.pid, flush=True); time.sleep(60)"
+        with subprocess.Popen([sys.executable, "-c", code], stdout=subprocess.PIPE, cwd=clusters.HERE) as node:
+            pid = int(node.stdout.readline())
+            self.assertTrue(is_running(pid))
+            node.kill()
+        self.assertTrue(wait(lambda: not is_running(pid), 5))
+
+    def test_an_engine_that_does_not_answer_is_killed(self):
+        engine = engines.Process(sessions.Settings())
+        engine.patience = 0.5
+        os.kill(engine.pid, signal.SIGSTOP)
+        self.assertRaises(engines.Ended, engine.ask, Request(b"state"))
+        engine.close()
+
+    def test_a_dead_engine_gives_no_answer(self):
+        engine = engines.Process(sessions.Settings())
+        os.kill(engine.pid, signal.SIGKILL)
+        self.assertRaises(engines.Ended, engine.ask, Request(b"dump"))
+        engine.close()
+
+
+class Ledger(unittest.TestCase):
+    """One ledger for all tests; they run by their names, and each leaves it in order."""
+
+    @classmethod
+    def setUpClass(cls):
+        cls.place = tempfile.mkdtemp(prefix="cluster-")
+        cls.cluster = clusters.Cluster(Path(cls.place) / "all")
+        cls.addClassCleanup(shutil.rmtree, cls.place, ignore_errors=True)
+        cls.addClassCleanup(cls.cluster.__exit__)
+        cls.cluster.begin()
+        cls.names = list(cls.cluster.kinds)
+        for name in cls.names:
+            cls.cluster.node(name)
+        cls.blocks = [transfers.genesis()]
+        cls.cluster.settle(cls.names)
+
+    def append(self, *blocks):
+        for block in blocks:
+            self.cluster.append(block)
+            self.blocks.append(block if isinstance(block, bytes) else block.encode())
+
+    def transfers(self, count=1):
+        self.append(*(transfers.transfers(self.cluster.random, CALLS) for _ in range(count)))
+
+    def settle(self, *names):
+        return self.cluster.settle(names or self.names)
+
+    def page(self, name, path):
+        host, port = self.cluster.address(name).split(":")
+        line = http.client.HTTPConnection(host, int(port), timeout=10)
+        self.addCleanup(line.close)
+        line.request("GET", path)
+        answer = line.getresponse()
+        return answer.status, answer.read()
+
+    def digest(self, height):
+        return {value.split()[0] for value in self.cluster.digests(height).values()}
+
+    def test_1_answers_are_those_of_seq(self):
+        for block, _ in transfers.strange(random.Random(2)).values():
+            self.append(block)
+        self.transfers(3)
+        self.settle()
+        settings = sessions.Settings(transfers.SETTINGS["frame_limit"], transfers.SETTINGS["frame_gas"], True, True)
+        model = session_model.Model(program.rvstm(), settings)
+        self.addCleanup(model.place.cleanup)
+        for file in transfers.FILES:
+            model.answer(Request(b"program", (), file))
+        digest = bytes(32)
+        for height, block in enumerate(self.blocks, 1):
+            body = b"" if ledger.is_refused(block, height == 1) or len(block) > settings.frame_limit else block
+            expected = model.answer(Request(b"frame", (), body)).text()
+            digest = hashlib.sha256(digest + expected).digest()
+            for name in self.names:
+                self.assertEqual(self.page(name, f"/receipts/{height}"), (200, expected), f"{name}, height {height}")
+            self.assertEqual(self.digest(height), {digest.hex()}, height)
+
+    def test_2_strange_blocks_are_refused_as_the_page_says(self):
+        told = [answer for _, answer in transfers.strange(random.Random(2)).values()]
+        for height, answer in enumerate(told, 2):
+            self.assertEqual(self.page("n2", f"/receipts/{height}")[1].decode().strip(), answer)
+
+    def test_3_pages(self):
+        state = sessions.state_of(self.page("n1", "/state")[1])
+        self.assertEqual(int(state[b"height"]), len(self.blocks))
+        self.assertEqual(self.digest(len(self.blocks)), {state[b"digest"].decode()})
+        status, value = self.page("n1", f"/get/{transfers.ACCOUNTS[0]}")
+        self.assertEqual((status, value[:6]), (200, b"value "))
+        self.assertEqual(self.page("n1", f"/get/{'0' * 64}"), (200, b"absent\n"))
+        self.assertIn(f"rvstm_height {len(self.blocks)}\n", self.page("n1", "/metrics")[1].decode())
+        self.assertIn("rvstm_lag_blocks 0\n", self.page("n1", "/metrics")[1].decode())
+        self.assertIn('rvstm_refused_total{name="OlderRules"} 1\n', self.page("n1", "/metrics")[1].decode())
+        self.assertEqual(self.page("n1", "/healthz")[0], 200)
+        self.assertIn(b"0 of 15 heights differ", self.page("n1", "/")[1])
+        for path in ("/get/0", "/other", "/receipts/9999", "/dump/../../etc/passwd", "/state/0"):
+            self.assertEqual(self.page("n1", path)[0], 404, path)
+
+    def test_4_reads_wait_for_no_block(self):
+        engine = int(re.findall(r"engine (\d+)", self.cluster.log("n1"))[-1])
+        os.kill(engine, signal.SIGSTOP)
+        self.transfers()
+        self.assertTrue(wait(lambda: self.page("n1", f"/get/{transfers.ACCOUNTS[0]}")[0] == 503))
+        self.assertEqual(self.page("n1", "/healthz")[0], 200)
+        os.kill(engine, signal.SIGCONT)
+        self.settle()
+
+    def test_5_a_killed_node_begins_with_its_dump(self):
+        self.transfers(BLOCKS)
+        self.settle()
+        self.cluster.kill("n2")
+        self.transfers(2)
+        self.cluster.node("n2")
+        self.settle()
+        self.assertIn("takes the dump of height 60 from n2", self.cluster.log("n2"))
+        engine = int(re.findall(r"engine (\d+)", self.cluster.log("n1"))[-1])
+        os.kill(engine, signal.SIGKILL)
+        self.transfers(2)
+        self.settle()
+        self.assertEqual(audits.audit(self.cluster.client, self.names)[0], [])
+
+    def test_6_a_lost_answer_appends_nothing_twice(self):
+        before = self.cluster.client.count(ledger.BLOCKS)
+        proposer = ledger.Proposer("forgetful", Forgetful(self.cluster.urls))
+        block = transfers.transfers(self.cluster.random, CALLS)
+        proposer.append(block)
+        proposer.client.turn()
+        self.blocks.append(block)
+        self.assertTrue(proposer.client.has_lost)
+        self.assertEqual(self.cluster.client.count(ledger.BLOCKS), before + 1)
+
+    def test_7_a_long_block_is_whole_and_a_dead_proposer_leaves_nothing(self):
+        ledger.SECONDS_OF_PARTS, before = 2, self.cluster.client.count(ledger.BLOCKS)
+        dying = ledger.Proposer("dying", self.cluster.client)
+        block = transfers.long_calls(self.cluster.random, 200, gas=100)
+
+        def die():
+            raise InterruptedError
+
+        self.assertRaises(InterruptedError, dying.append, block, die)
+        left = self.cluster.client.count(ledger.PARTS)
+        self.assertGreater(left, 0)
+        self.assertEqual(self.cluster.client.count(ledger.BLOCKS), before)
+        self.append(block)
+        kept = self.cluster.client.count(ledger.PARTS) - left
+        self.settle()
+        self.assertTrue(wait(lambda: self.cluster.client.count(ledger.PARTS) == kept))
+        _, receipts = self.page("n1", f"/receipts/{len(self.blocks)}")
+        self.assertEqual(receipts.count(b" out-of-gas gas 100 "), 200)
+
+    def test_8_who_lies_is_named(self):
+        height = len(self.blocks) + 3
+        self.cluster.node("liar", script="liar", env={**os.environ, "LIE_AT": str(height)})
+        self.settle("liar")
+        self.transfers(5)
+        told = self.cluster.wait_for("liar", "STOPS")
+        self.assertRegex(told, rf"height {height}: (n\d, )+n\d of {len(self.names) + 1} nodes differ from this one; the answer of n\d is the same")
+        for name in self.names:
+            self.cluster.wait_for(name, f"height {height}: liar differs from this node, one of {len(self.names) + 1}")
+        self.settle()
+        wrong, _ = audits.audit(self.cluster.client, self.names)
+        self.assertEqual(len(wrong), 1)
+        self.assertRegex(wrong[0], f"^digests at height {height} differ: liar ffffffffffffffff, n1 ")
+
+    def test_9_a_changed_program_is_named(self):
+        changed = clusters.changed_program(Path(self.place) / "changed")
+        self.cluster.node("changed", "--alike", "2", env={**os.environ, "RVSTM": str(changed)})
+        self.transfers(2)
+        told = self.cluster.wait_for("changed", "STOPS")
+        self.assertRegex(told, r"line \d+ is here 'call \d Returned gas .*' and that of n\d 'call \d returned gas ")
+        self.settle()
+
+    def test_z_an_old_log_is_pruned(self):
+        self.transfers(-len(self.blocks) % 20 + 41)
+        self.settle()
+        height, gone = ledger.prune(self.cluster.client, 2, 2)
+        self.assertEqual(height, (len(self.blocks) - 1) // 20 * 20 - 20)
+        self.assertEqual(gone, height - 1)
+        self.transfers()
+        self.cluster.node("late")
+        self.settle("late", *self.names)
+        self.assertRegex(self.cluster.log("late"), r"takes the dump of height \d+ from n\d")
+        self.cluster.node("alone", "--alike", "9")
+        self.assertIn(f"the log begins behind height {height}, and no dump", self.cluster.wait_for("alone", "STOPS"))
+        self.assertEqual(audits.audit(self.cluster.client, self.names)[0], [])
+
+
+if __name__ == "__main__":
+    unittest.main()

@@ -1,0 +1,199 @@
+"""Tests that need neither etcd nor rvstm: python3 -m unittest, in this folder."""
+
+import unittest
+import zlib
+
+import transfers  # first: it finds scripts/
+import audits
+import engines
+import etcd
+import ledger
+import sessions
+import status
+from etcd import Pair
+
+ONE, OTHER = "1" * 64, "2" * 64
+
+
+class Shelf:
+    """What stands in etcd, for reads alone."""
+
+    def __init__(self, **values):
+        self.pairs = {}
+
+    def put(self, key, value, made, changed=None, lease=0):
+        value = value if isinstance(value, bytes) else value.encode()
+        self.pairs[key] = Pair(key, value, made, changed or made, lease)
+        return self.pairs[key]
+
+    def get(self, key):
+        return self.pairs.get(key)
+
+    def range(self, wanted):
+        first, last = (etcd.unpack(wanted.get(word, "")).decode() for word in ("key", "range_end"))
+        found = [pair for key, pair in sorted(self.pairs.items()) if first <= key < last]
+        return 99, found[: wanted.get("limit", len(found))]
+
+
+def entry(block, key="/log/blocks/p.1/0000000001"):
+    return Pair(key, b"parts\n" + zlib.compress(block), 10, 10, 0)
+
+
+class Entries(unittest.TestCase):
+    def block(self, value, limit=100, shelf=None, made=10):
+        return ledger.block_of(shelf or Shelf(), Pair("/log/blocks/p.1/0000000001", value, made, made, 0), limit)
+
+    def test_a_block_stands_in_its_entry(self):
+        self.assertEqual(self.block(entry(b"rvblock 1\n").value), b"rvblock 1\n")
+        self.assertEqual(self.block(entry(b"").value), b"")
+
+    def test_what_is_no_entry_stands_for_no_block(self):
+        good = entry(b"rvblock 1\n").value
+        for value in (b"", b"hello", b"parts\n", b"parts \n" + good[6:], good[:-1], good + b"more", b"parts " + b"1" * 63 + b"\n"):
+            self.assertIsNone(self.block(value), value)
+
+    def test_a_block_has_a_limit_however_small_it_packs(self):
+        self.assertEqual(self.block(entry(b"0" * 100).value), b"0" * 100)
+        self.assertIsNone(self.block(entry(b"0" * 101).value))
+        self.assertIsNone(self.block(entry(b"0" * 50_000_000).value))
+        self.assertEqual(len(self.block(entry(b"0" * 5000).value, limit=0)), 5000)
+
+    def parted(self, **how):
+        """A block in two parts, the second of which is put as told."""
+        data, shelf = zlib.compress(bytes(range(256))), Shelf()
+        halves = data[:20], data[20:]
+        shelf.put("/parts/p.1/0000000001/000", halves[0], 5, 10)
+        shelf.put("/parts/p.1/0000000001/001", **{"value": halves[1], "made": 6, "changed": 10, **how})
+        return shelf, f"parts {' '.join(map(ledger.sha256, halves))}\n".encode()
+
+    def test_parts_are_put_together(self):
+        shelf, value = self.parted()
+        self.assertEqual(self.block(value, 256, shelf), bytes(range(256)))
+
+    def test_a_part_has_to_be_what_the_entry_kept(self):
+        for how in ({"value": b"other"}, {"lease": 7}, {"made": 11}):
+            shelf, value = self.parted(**how)
+            self.assertIsNone(self.block(value, 256, shelf), how)
+
+    def test_missing_parts_stand_for_no_block_unless_they_were_pruned(self):
+        shelf, value = self.parted()
+        del shelf.pairs["/parts/p.1/0000000001/001"]
+        self.assertIsNone(self.block(value, 256, shelf))
+        shelf.put(ledger.PRUNED, "3 9", 50)
+        self.assertIsNone(self.block(value, 256, shelf))
+        shelf.put(ledger.PRUNED, "4 10", 51)
+        self.assertRaises(ledger.Gone, self.block, value, 256, shelf)
+
+    def test_store_lines_are_for_the_genesis(self):
+        block = f"rvblock 1\nstore {ONE} 00\n".encode()
+        self.assertTrue(ledger.is_refused(block, False))
+        self.assertFalse(ledger.is_refused(block, True))
+        self.assertFalse(ledger.is_refused(b"rvblock 1\ncall 0 1 -\n", False))
+
+    def test_entries_come_once_and_unchanged(self):
+        log = ledger.Log("http://127.0.0.1:1", 5)
+        pairs = [Pair("/log/a", b"", 6, 6, 0), Pair("/log/b", b"", 8, 8, 0)]
+        self.assertEqual(log.checked(pairs), pairs)
+        self.assertEqual(log.revision, 8)
+        for pair in (Pair("/log/c", b"", 8, 8, 0), Pair("/log/c", b"", 9, 10, 0)):
+            self.assertRaises(ValueError, log.checked, [pair])
+
+
+class Agreement(unittest.TestCase):
+    def test_most_nodes_are_more_than_half(self):
+        for told, expected in (
+            ("aaaa", ([], False)), ("ab", (["n1"], False)), ("aab", (["n2"], False)), ("abb", (["n1", "n2"], True)),
+            ("aabb", (["n2", "n3"], False)), ("abbb", (["n1", "n2", "n3"], True)), ("a", ([], False)),
+        ):
+            values = {f"n{number}": value for number, value in enumerate(told)}
+            self.assertEqual(ledger.different_from("n0", values), expected, told)
+
+    def dumps(self, told):
+        shelf = Shelf()
+        for number, (height, name, content) in enumerate(told):
+            shelf.put(ledger.at(ledger.DUMPS, height, name), f"{content} {ONE} {height + 100}", number + 1)
+        return shelf
+
+    def test_a_dump_is_taken_that_enough_nodes_made_alike(self):
+        shelf = self.dumps([(20, "a", ONE), (20, "b", ONE), (20, "c", OTHER), (40, "a", ONE), (60, "a", ONE), (60, "b", OTHER)])
+        found = ledger.agreed_dumps(shelf, 2)
+        self.assertEqual(found, [(ledger.Mark(20, ONE, 120), ONE, ["a", "b"])])
+        own = [mark.height for mark, _, _ in ledger.agreed_dumps(shelf, 2, "a")]
+        self.assertEqual(own, [40, 20])
+        self.assertEqual(ledger.agreed_dumps(shelf, 2, "c"), [])
+
+
+class Audits(unittest.TestCase):
+    def ledger_of(self, digests):
+        """A genesis and two blocks at revisions 10, 20 and 30, and what nodes published of them."""
+        shelf = Shelf()
+        shelf.put(ledger.SETTINGS, '{"as": "frame"}', 10)
+        for key, made in ((ledger.GENESIS, 10), (ledger.BLOCKS + "p.1/0000000001", 20), (ledger.BLOCKS + "a.1/0000000001", 30)):
+            shelf.put(key, b"parts\n", made)
+        for number, (height, name, value) in enumerate(digests):
+            shelf.put(ledger.at(ledger.DIGESTS, height, name), value, 40 + number)
+        return shelf
+
+    def told(self, name="a", **other):
+        return [(height, name, other.get(f"at{height}", f"{ONE} {10 * height}")) for height in (1, 2, 3)]
+
+    def test_equal_digests_are_right(self):
+        wrong, seen = audits.audit(self.ledger_of([*self.told("a"), *self.told("b")]), ["a", "b"])
+        self.assertEqual(wrong, [])
+        self.assertIn("3 heights, 3 of them with 6 digests of 2 nodes, 0 dumps", seen)
+
+    def test_a_height_is_named_where_digests_differ(self):
+        wrong, _ = audits.audit(self.ledger_of([*self.told("a"), *self.told("b", at2=f"{OTHER} 20")]))
+        self.assertEqual(wrong, [f"digests at height 2 differ: a {ONE[:16]}, b {OTHER[:16]}"])
+
+    def test_a_digest_of_another_block_is_named(self):
+        wrong, _ = audits.audit(self.ledger_of(self.told("a", at3=f"{ONE} 20")))
+        self.assertEqual(wrong, ["height 3: a ran another block than the log's"])
+
+    def test_a_missing_digest_is_named(self):
+        wrong, _ = audits.audit(self.ledger_of(self.told("a")[:2]), ["a", "b"])
+        self.assertEqual(wrong, ["a has no digest at 1 heights, the first 3", "b has no digest at 3 heights, the first 1"])
+
+    def test_a_changed_entry_is_named(self):
+        shelf = self.ledger_of(self.told("a"))
+        shelf.put(ledger.BLOCKS + "p.1/0000000001", b"parts\n", 20, 77)
+        self.assertEqual(audits.audit(shelf)[0], [f"{ledger.BLOCKS}p.1/0000000001 was changed"])
+
+
+class Pages(unittest.TestCase):
+    def test_differing_digests_are_marked(self):
+        names, rows, wrong = status.rows_of({7: {"a": "1", "b": "1", "c": "2"}, 8: {"a": "3", "b": "3"}})
+        self.assertEqual((names, wrong), (["a", "b", "c"], 1))
+        self.assertEqual(rows[0], '<tr><td>8</td><td>3</td><td>3</td><td class="absent">-</td></tr>')
+        self.assertEqual(rows[1], '<tr><td>7</td><td>1</td><td>1</td><td class="differs">2</td></tr>')
+
+    def test_text_from_etcd_is_no_markup(self):
+        _, rows, _ = status.rows_of({1: {"a": "<script>"}})
+        self.assertIn("&lt;script&gt;", rows[0])
+
+
+class Texts(unittest.TestCase):
+    def test_keys_behind_a_prefix(self):
+        self.assertEqual(etcd.behind("/log/"), "/log0")
+
+    def test_a_refusal_of_the_library_is_a_line_of_a_session(self):
+        parts = engines.Parts(7, 2, b"block", b"BadLine")
+        library = object.__new__(engines.Library)
+        library.handle = engines.Handle()
+
+        def tell(_, to):
+            engines.ctypes.pointer(parts)
+            to._obj.line, to._obj.number, to._obj.area, to._obj.name = parts.line, parts.number, parts.area, parts.name
+
+        library.library = type("Stub", (), {"rvstm_refusal": staticmethod(tell)})
+        self.assertEqual(library.reason(), b"block 7 BadLine 2\n")
+        parts = engines.Parts(0, 5, b"frame", b"TooMuchGas")
+        self.assertEqual(library.reason(), b"frame TooMuchGas 5\n")
+
+    def test_strange_blocks_are_as_the_page_of_a_session_says(self):
+        for what, (block, answer) in transfers.strange(__import__("random").Random(1)).items():
+            self.assertTrue(sessions.ANSWER.fullmatch(answer.encode() + b"\n"), what)
+
+
+if __name__ == "__main__":
+    unittest.main()
