@@ -15,6 +15,7 @@ import transfers  # first: it finds scripts/
 import audits
 import etcd
 import ledger
+import networks
 import program
 from engines import BUILT, C_LIBRARY, PR_SET_PDEATHSIG
 
@@ -58,15 +59,15 @@ def engines_known():
 
 
 class Cluster:
-    def __init__(self, folder):
+    def __init__(self, folder, network=None):
         if not shutil.which("etcd"):
             raise ValueError("there is no etcd: Debian's package etcd-server has it")
-        self.folder, self.random = Path(folder), random.Random(1)
+        self.folder, self.random, self.network = Path(folder), random.Random(1), network or networks.Loopback()
         self.folder.mkdir(parents=True)
         self.all, self.logs, self.kills, self.kinds = {}, {}, [], engines_known()
         ports = free_ports(2 * MEMBERS)
-        self.clients = [f"http://127.0.0.1:{port}" for port in ports[:MEMBERS]]
-        self.peers = [f"http://127.0.0.1:{port}" for port in ports[MEMBERS:]]
+        self.clients = [f"http://{self.network.address(f'm{number}')}:{port}" for number, port in enumerate(ports[:MEMBERS])]
+        self.peers = [f"http://{self.network.address(f'm{number}')}:{port}" for number, port in enumerate(ports[MEMBERS:])]
         self.urls = ",".join(self.clients)
         self.client = etcd.Etcd(self.urls)
 
@@ -80,13 +81,14 @@ class Cluster:
         for process in self.all.values():
             process.wait()
         self.client.turn()
+        self.network.close()
 
     # ---- processes
 
     def start(self, name, *words, **how):
         self.logs[name] = self.folder / f"{name}.log"
         with open(self.logs[name], "ab") as log:
-            words = [str(word) for word in words]
+            words = [str(word) for word in (*self.network.words(name), *how.pop("under", []), *words)]
             self.all[name] = subprocess.Popen(words, stdout=log, stderr=log, preexec_fn=how.pop("before", end_with_parent), **how)
         return self.all[name]
 
@@ -141,7 +143,8 @@ class Cluster:
 
     def node(self, name, *words, **how):
         words = words or self.kinds.get(name, [])
-        return self.command(name, how.pop("script", "node"), "--folder", self.folder / name, *words, **how)
+        words = ["--folder", self.folder / name, "--http", f"{self.network.address(name)}:0", *words]
+        return self.command(name, how.pop("script", "node"), *words, **how)
 
     def propose(self, name, count, *words):
         return self.command(name, "propose", "--transfers", count, *words)
@@ -159,7 +162,7 @@ class Cluster:
 
     def digests(self, height):
         """What nodes published at a height, by their names."""
-        return ledger.by_height(self.client.range(etcd.below(ledger.at(ledger.DIGESTS, height)))[1]).get(height, {})
+        return ledger.digests(self.client, height, height).get(height, {})
 
     def reach(self, name, height, seconds=120):
         """Waits until a node published the digest of a height."""

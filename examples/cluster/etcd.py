@@ -15,6 +15,7 @@ from typing import NamedTuple
 
 SECONDS_A_REQUEST = 5
 SECONDS_BETWEEN_TRIES = 0.05
+SECONDS_UNTIL_TOLD = 30
 # gRPC's codes where another member, or the same one later, may answer; 16 is a token whose time ran out.
 MAY_ANSWER_LATER = (1, 4, 8, 13, 14, 16)
 FAULTS_OF_A_LINE = (OSError, http.client.HTTPException, json.JSONDecodeError)
@@ -118,17 +119,23 @@ class Etcd:
     def __init__(self, urls, patience=30):
         self.urls = urls.split(",") if isinstance(urls, str) else list(urls)
         self.patience, self.line, self.token = patience, None, None
+        self.say = lambda text: None  # is told where no member answers for a while
 
     def ask(self, path, body):
         """The answer of the first member that gives one. A request may have been carried out more than once, or be carried out
         later: a caller makes only requests for which that does no harm."""
-        until = time.monotonic() + self.patience
+        now = time.monotonic()
+        until, to_tell = now + self.patience, now + SECONDS_UNTIL_TOLD
         while True:
             try:
                 return self.ask_once(path, body)
             except (*FAULTS_OF_A_LINE, Refused) as error:
-                if isinstance(error, Refused) and error.code not in MAY_ANSWER_LATER or time.monotonic() > until:
+                now = time.monotonic()
+                if isinstance(error, Refused) and error.code not in MAY_ANSWER_LATER or now > until:
                     raise
+                if now > to_tell:
+                    self.say(f"no member of etcd answers: {error}")
+                    to_tell = now + SECONDS_UNTIL_TOLD
                 self.turn()
                 time.sleep(SECONDS_BETWEEN_TRIES)
 

@@ -5,8 +5,8 @@
     /log/blocks/NAME/NUMBER   a block of a proposer
     /parts/NAME/NUMBER/PART   a part of a longer block
     /settings                 of all sessions, in JSON; put with the genesis
-    /digests/HEIGHT/NODE      the digest of a node's session at a height, and the revision of the block there
-    /dumps/HEIGHT/NODE        the SHA-256 of a node's dump at a height, the digest and the revision
+    /digests/NODE/HEIGHT      the digest of a node's session at a height, and the revision of the block there
+    /dumps/NODE/HEIGHT        the SHA-256 of a node's dump at a height, the digest and the revision
     /nodes/NODE               where a node answers by HTTP
     /pruned                   the last height whose block may be gone from the log, and its revision
 
@@ -34,7 +34,7 @@ SECONDS_OF_PARTS = 30  # how long parts live that no entry names
 SECONDS_OF_QUIET = 1
 PAIRS_A_READ = 32
 NO_DIGEST = "0" * 64
-PLACE = re.compile(r"/(?:digests|dumps)/([0-9]{10})/(.+)")
+PLACE = re.compile(r"/(?:digests|dumps)/(.+)/([0-9]{10})")
 HEAD = re.compile(rb"parts((?: [0-9a-f]{64}){0,%d})\n" % MOST_PARTS)
 
 
@@ -54,17 +54,25 @@ def sha256(data):
     return hashlib.sha256(data).hexdigest()
 
 
-def at(prefix, height, name=""):
-    return f"{prefix}{height:010d}/{name}"
+def at(prefix, name, height):
+    return f"{prefix}{name}/{height:010d}"
 
 
 def by_height(pairs):
     """Of digests or dumps the values by height and name."""
     found = {}
     for pair in pairs:
-        height, name = PLACE.fullmatch(pair.key).groups()
+        name, height = PLACE.fullmatch(pair.key).groups()
         found.setdefault(int(height), {})[name] = pair.value.decode()
     return dict(sorted(found.items()))
+
+
+def digests(client, first, last):
+    """What all nodes published from a height on to another, by height and name."""
+    names = [pair.key.removeprefix(NODES) for pair in client.range(below(NODES, keys_only=True))[1]]
+    wanted = [read(keys(at(DIGESTS, name, first), at(DIGESTS, name, last + 1))) for name in names]
+    _, told = client.transact([], wanted)
+    return by_height(pair for pairs in etcd.pairs_read(told) for pair in pairs)
 
 
 def different_from(name, told):
@@ -186,7 +194,10 @@ class Log:
         while True:
             try:
                 for pairs in self.client.watch(LOG, self.revision + 1, SECONDS_OF_QUIET):
-                    yield self.checked(pairs)
+                    changed = [pair.key for pair in pairs if pair.made != pair.changed]
+                    if changed:
+                        self.say(f"goes by what {', '.join(changed)} was before: it was changed")
+                    yield self.checked([pair for pair in pairs if pair.made == pair.changed])
                 yield []
             except etcd.Compacted as error:
                 self.say(f"watches from revision {self.revision + 1}, and etcd was compacted to {error}: reads the log anew")
@@ -248,7 +259,9 @@ def prune(client, kept, alike):
     client.ask("kv/put", put(PRUNED, f"{mark.height} {mark.revision}")["request_put"])
     _, blocks = client.range(below(BLOCKS, keys_only=True, max_create_revision=mark.revision))
     gone = [delete(wanted) for pair in blocks for wanted in (keys(pair.key), below(parts_of_key(pair.key)))]
-    gone += [delete(keys(prefix, at(prefix, mark.height))) for prefix in (DIGESTS, DUMPS)] + [delete(below(parts_of_key(GENESIS)))]
+    names = [pair.key.removeprefix(NODES) for pair in client.range(below(NODES, keys_only=True))[1]]
+    gone += [delete(keys(at(prefix, name, 0), at(prefix, name, mark.height))) for prefix in (DIGESTS, DUMPS) for name in names]
+    gone.append(delete(below(parts_of_key(GENESIS))))
     for start in range(0, len(gone), MOST_IN_A_TRANSACTION):
         client.transact([], gone[start : start + MOST_IN_A_TRANSACTION])
     client.ask("kv/compaction", {"revision": client.range(keys(PRUNED))[0], "physical": True})

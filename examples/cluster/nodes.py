@@ -2,6 +2,8 @@
 
 import argparse
 import collections
+import contextlib
+import fcntl
 import http.client
 import json
 import math
@@ -50,6 +52,7 @@ class Node:
         self.mark, self.settings, self.told = Mark(), None, {}
         self.pending, self.values, self.answers = [], {}, collections.OrderedDict()
         self.named, self.looked, self.counts = set(), 0, Counts()
+        self.client.say = self.say
         self.folder.mkdir(parents=True, exist_ok=True)
 
     def say(self, text):
@@ -144,7 +147,7 @@ class Node:
         for old in sorted(self.folder.glob("*.dump"))[:-KEPT_DUMPS]:
             old.unlink()
         value = f"{ledger.sha256(dump)} {self.mark.digest} {self.mark.revision}"
-        self.publish([(ledger.at(DUMPS, self.mark.height, self.name), value)])
+        self.publish([(ledger.at(DUMPS, self.name, self.mark.height), value)])
         self.tell_quota()
 
     def tell_quota(self):
@@ -183,7 +186,7 @@ class Node:
         if len(self.answers) > KEPT_ANSWERS:
             self.answers.popitem(last=False)
         self.count(block or b"", answer, times, block is None)
-        self.pending.append((ledger.at(DIGESTS, self.mark.height, self.name), f"{self.mark.digest} {pair.made}"))
+        self.pending.append((ledger.at(DIGESTS, self.name, self.mark.height), f"{self.mark.digest} {pair.made}"))
         self.values[self.mark.height] = self.pending[-1][1]
         is_dump = self.mark.height % self.told["every"] == 0
         if is_dump or len(self.pending) >= HEIGHTS_AT_ONCE:
@@ -233,8 +236,7 @@ class Node:
         """Compares the last digests with those of the other nodes."""
         first = max(1, self.looked - HEIGHTS_BETWEEN_LOOKS)
         self.looked = self.mark.height
-        wanted = keys(ledger.at(DIGESTS, first), ledger.at(DIGESTS, self.mark.height + 1))
-        for height, told in ledger.by_height(self.client.range(wanted)[1]).items():
+        for height, told in ledger.digests(self.client, first, self.mark.height).items():
             if height in self.values and self.name in told:
                 self.judge(height, told)
         for height in [height for height in self.values if height < first]:
@@ -267,6 +269,16 @@ class Node:
         return "none of them tells its answer"
 
     # ---- the whole
+
+    @contextlib.contextmanager
+    def alone(self):
+        """Has the folder for itself."""
+        with open(self.folder / "lock", "w") as lock:
+            try:
+                fcntl.flock(lock, fcntl.LOCK_EX | fcntl.LOCK_NB)
+            except OSError as error:
+                raise Stop(f"another node has the folder {self.folder}") from error
+            yield
 
     def settle(self):
         """Waits for the genesis, and takes the settings that it came with."""
@@ -332,12 +344,13 @@ def options(doc):
 def start(kind, given):
     """Runs a node, and tells why it stopped."""
     node = kind(given.name, given.etcd, given.folder, given.workers, given.library, given.alike, given.quota << 20)
-    port = status.serve(node, *given.http)
-    host, port = given.told or (given.http[0], port)
-    node.client.ask("kv/put", put(NODES + given.name, f"{host}:{port}")["request_put"])
-    node.say(f"answers readers at http://{host}:{port}/")
     try:
-        node.run()
+        with node.alone():
+            port = status.serve(node, *given.http)
+            host, port = given.told or (given.http[0], port)
+            node.client.ask("kv/put", put(NODES + given.name, f"{host}:{port}")["request_put"])
+            node.say(f"answers readers at http://{host}:{port}/")
+            node.run()
     except ValueError as error:
         node.say(f"STOPS: {error}")
         return 1

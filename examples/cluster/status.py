@@ -18,7 +18,7 @@ from collections import Counter
 import engines
 import etcd
 import ledger
-from ledger import BLOCKS, DIGESTS
+from ledger import BLOCKS
 from sessions import Request
 
 SECONDS_A_READER = 10
@@ -122,9 +122,7 @@ class Status:
         node, told = self.node, {}
         try:
             with self.lock:
-                first = max(0, node.mark.height - HEIGHTS_SHOWN + 1)
-                _, pairs = self.client.range(etcd.keys(ledger.at(DIGESTS, first), etcd.behind(DIGESTS)))
-            told, said = ledger.by_height(pairs), ""
+                told, said = ledger.digests(self.client, max(0, node.mark.height - HEIGHTS_SHOWN + 1), node.mark.height), ""
         except (OSError, ValueError):
             said = "etcd does not answer now."
         names, rows, wrong = rows_of(told)

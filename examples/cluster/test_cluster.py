@@ -181,7 +181,7 @@ class Ledger(unittest.TestCase):
         os.kill(engine, signal.SIGCONT)
         self.settle()
 
-    def test_5_a_killed_node_begins_with_its_dump(self):
+    def test_5_killed_nodes_begin_with_their_dumps(self):
         self.transfers(BLOCKS)
         self.settle()
         self.cluster.kill("n2")
@@ -194,6 +194,10 @@ class Ledger(unittest.TestCase):
         self.transfers(2)
         self.settle()
         self.assertEqual(audits.audit(self.cluster.client, self.names)[0], [])
+
+    def test_5_a_folder_has_one_node(self):
+        self.cluster.node("twin", "--folder", self.cluster.folder / "n1")
+        self.assertIn("another node has the folder", self.cluster.wait_for("twin", "STOPS"))
 
     def test_6_a_lost_answer_appends_nothing_twice(self):
         before = self.cluster.client.count(ledger.BLOCKS)
@@ -241,6 +245,7 @@ class Ledger(unittest.TestCase):
     def test_9_a_changed_program_is_named(self):
         changed = clusters.changed_program(Path(self.place) / "changed")
         self.cluster.node("changed", "--alike", "2", env={**os.environ, "RVSTM": str(changed)})
+        self.cluster.wait_for("changed", "begins at")
         self.transfers(2)
         told = self.cluster.wait_for("changed", "STOPS")
         self.assertRegex(told, r"line \d+ is here 'call \d Returned gas .*' and that of n\d 'call \d returned gas ")

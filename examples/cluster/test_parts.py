@@ -111,7 +111,7 @@ class Agreement(unittest.TestCase):
     def dumps(self, told):
         shelf = Shelf()
         for number, (height, name, content) in enumerate(told):
-            shelf.put(ledger.at(ledger.DUMPS, height, name), f"{content} {ONE} {height + 100}", number + 1)
+            shelf.put(ledger.at(ledger.DUMPS, name, height), f"{content} {ONE} {height + 100}", number + 1)
         return shelf
 
     def test_a_dump_is_taken_that_enough_nodes_made_alike(self):
@@ -131,7 +131,7 @@ class Audits(unittest.TestCase):
         for key, made in ((ledger.GENESIS, 10), (ledger.BLOCKS + "p.1/0000000001", 20), (ledger.BLOCKS + "a.1/0000000001", 30)):
             shelf.put(key, b"parts\n", made)
         for number, (height, name, value) in enumerate(digests):
-            shelf.put(ledger.at(ledger.DIGESTS, height, name), value, 40 + number)
+            shelf.put(ledger.at(ledger.DIGESTS, name, height), value, 40 + number)
         return shelf
 
     def told(self, name="a", **other):

@@ -1,0 +1,348 @@
+"""What can happen to a ledger of several nodes. Each fault is a function, whose first line says what it does, and answers what came."""
+
+import os
+import re
+import shutil
+import signal
+import sys
+import time
+from pathlib import Path
+
+import transfers  # first: it finds scripts/
+import audits
+import etcd
+import ledger
+import program
+from clusters import HERE, MEMBERS, changed_program, say
+
+CALLS, PAUSE = 20, 0.3
+SECONDS_PARTED = 6
+SMALL_DISK = 'mount -t tmpfs -o size=64k none "$0" && exec "$@"'  # a dump has more
+SECONDS_A_STRANGER = 120
+FAKETIME = Path("/usr/lib/x86_64-linux-gnu/faketime/libfaketime.so.1")  # of Debian's package libfaketime
+
+
+class Trial:
+    def __init__(self, cluster, source):
+        self.cluster, self.random, self.names = cluster, source, list(cluster.kinds)
+        self.wrong = self.faults = self.digests_pruned = 0
+        self.proposers = {}
+
+    def begin(self):
+        self.cluster.begin()
+        for name in self.names:
+            self.cluster.node(name)
+        for name in ("p1", "p2"):
+            self.propose(name)
+        self.cluster.settle(self.names)
+
+    def propose(self, name):
+        self.proposers[name] = self.cluster.propose(name, 10**6, "--calls", CALLS, "--pause", PAUSE)
+
+    def expect(self, is_so, text):
+        self.wrong += not is_so
+        say(("" if is_so else "WRONG: ") + text)
+
+    def inject(self, fault):
+        """Does what a fault is, and waits until all nodes have come to the last height."""
+        self.faults += 1
+        try:
+            told = fault(self)
+            seconds = self.cluster.settle(self.names, 180)
+            self.expect(True, f"{fault.__name__.replace('_', ' ')}: {told}; all nodes at height {self.cluster.heights()} {seconds:.1f} s later")
+        except (OSError, ValueError) as error:
+            self.expect(False, f"{fault.__name__.replace('_', ' ')}: {error}")
+        for name in [*self.names, *self.proposers]:
+            if self.cluster.all[name].poll() is not None:
+                self.expect(False, f"{name} ended: {self.cluster.log(name).splitlines()[-1]}")
+                self.propose(name) if name in self.proposers else self.cluster.node(name)
+
+    def node(self):
+        return self.random.choice(self.names)
+
+    def engine(self, name):
+        """The process of a node's engine, if it is one."""
+        told = re.findall(r"engine (\d+|in this process)", self.cluster.log(name))[-1]
+        return int(told) if told.isdigit() else None
+
+    def count_of(self, name, text):
+        return self.cluster.log(name).count(text)
+
+    def stop(self, name, seconds):
+        """Stops a process for a while."""
+        self.cluster.all[name].send_signal(signal.SIGSTOP)
+        time.sleep(seconds)
+        self.cluster.all[name].send_signal(signal.SIGCONT)
+
+    def part(self, name):
+        """Parts a process from all others for a while, or stops it where there are no networks."""
+        if not hasattr(self.cluster.network, "part"):
+            return self.stop(name, SECONDS_PARTED)
+        self.cluster.network.part(name)
+        time.sleep(SECONDS_PARTED)
+        self.cluster.network.part(name, False)
+
+    def stranger(self, name, *words, **how):
+        """A node beside the others, which is ended when it has come to the last height. Answers what it said."""
+        shutil.rmtree(self.cluster.folder / name, ignore_errors=True)
+        self.cluster.logs.pop(name, None)
+        (self.cluster.folder / f"{name}.log").unlink(missing_ok=True)
+        self.cluster.node(name, *words, **how)
+        height, until = self.cluster.heights(), time.monotonic() + SECONDS_A_STRANGER
+        while name not in self.cluster.digests(height) and self.cluster.all[name].poll() is None and time.monotonic() < until:
+            time.sleep(0.1)
+        told = self.cluster.log(name)
+        self.cluster.all[name].kill()
+        self.cluster.all.pop(name).wait()
+        return told
+
+    def end(self):
+        """The last audit, and the controls."""
+        for process in self.proposers.values():
+            process.terminate()
+        seconds = self.cluster.settle(self.names, 180)
+        say(f"the proposers are ended; all nodes have run all blocks {seconds:.1f} s later")
+        self.wrong += self.cluster.audit(self.names)
+        heights, digests = self.cluster.heights(), self.digests_pruned + self.cluster.client.count(ledger.DIGESTS)
+        controls(self)
+        kills = ", ".join(f"{name} {self.cluster.kills.count(name)}" for name in sorted(set(self.cluster.kills)))
+        say(f"{heights} heights, {digests} digests; {self.faults} faults; {len(self.cluster.kills)} kills ({kills}); {self.wrong} wrong")
+        return 1 if self.wrong else 0
+
+
+def node_killed(trial):
+    name = trial.node()
+    trial.cluster.kill(name)
+    time.sleep(trial.random.random() * 3)
+    trial.cluster.node(name)
+    return f"{name} by kill -9, and started again"
+
+
+def all_nodes_killed(trial):
+    for name in trial.names:
+        trial.cluster.kill(name)
+    for name in trial.names:
+        trial.cluster.node(name)
+    return "by kill -9 at once, and started again"
+
+
+def engine_killed(trial):
+    name = trial.random.choice([name for name in trial.names if trial.engine(name)])
+    os.kill(trial.engine(name), signal.SIGKILL)
+    trial.cluster.kills.append("engine")
+    return f"that of {name} by kill -9"
+
+
+def engine_stopped(trial):
+    name = trial.random.choice([name for name in trial.names if trial.engine(name)])
+    pid = trial.engine(name)
+    os.kill(pid, signal.SIGSTOP)
+    time.sleep(3)
+    os.kill(pid, signal.SIGCONT)
+    return f"that of {name} for 3 s by SIGSTOP"
+
+
+def leader_killed(trial):
+    leader = trial.cluster.leader()
+    trial.cluster.kill(f"m{leader}")
+    new = trial.cluster.leader()
+    time.sleep(2)
+    trial.cluster.member(leader)
+    return f"m{leader} by kill -9; m{new} led then"
+
+
+def leader_stopped(trial):
+    leader = trial.cluster.leader()
+    trial.stop(f"m{leader}", SECONDS_PARTED)
+    return f"m{leader} for {SECONDS_PARTED} s by SIGSTOP"
+
+
+def leader_parted(trial):
+    leader = trial.cluster.leader()
+    trial.part(f"m{leader}")
+    return f"m{leader} from all for {SECONDS_PARTED} s"
+
+
+def node_parted(trial):
+    trial.part("n2")
+    return f"n2 from all for {SECONDS_PARTED} s"
+
+
+def proposer_parted(trial):
+    trial.part("p2")
+    return f"p2 from all for {SECONDS_PARTED} s"
+
+
+def proposer_killed(trial):
+    trial.cluster.kill("p1")
+    trial.propose("p1")
+    return "p1 by kill -9, and started again"
+
+
+def proposer_dies_between_parts_and_block(trial):
+    before, dying = trial.cluster.client.count(ledger.PARTS), ledger.Proposer("dying", trial.cluster.client)
+
+    def die():
+        raise InterruptedError
+
+    try:
+        dying.append(transfers.long_calls(trial.random, 300, gas=1000), die)
+    except InterruptedError:
+        pass
+    left = trial.cluster.client.count(ledger.PARTS) - before
+    return f"it left {left} parts and no block"
+
+
+def long_block(trial):
+    block = transfers.long_calls(trial.random, 500, gas=1000)
+    trial.cluster.append(block)
+    return f"one of {len(block):,} bytes in parts"
+
+
+def strange_blocks(trial):
+    blocks = transfers.strange(trial.random)
+    for block, _ in blocks.values():
+        trial.cluster.append(block)
+    return f"{len(blocks)} as strangers send them"
+
+
+def compaction(trial):
+    name = trial.node()
+    before = trial.count_of(name, "reads the log anew")
+    trial.cluster.all[name].send_signal(signal.SIGSTOP)
+    time.sleep(3)
+    trial.cluster.client.ask("kv/compaction", {"revision": trial.cluster.client.range(etcd.keys(ledger.PRUNED))[0], "physical": True})
+    trial.cluster.all[name].send_signal(signal.SIGCONT)
+    trial.cluster.settle([name])
+    return f"{name} was stopped meanwhile, and {'read the log anew' if trial.count_of(name, 'reads the log anew') > before else 'went on'}"
+
+
+def pruning(trial):
+    trial.wrong += trial.cluster.audit()  # of what is there now: nodes that are behind have less
+    told = ledger.by_height(audits.all_below(trial.cluster.client, ledger.DIGESTS))
+    height, gone = ledger.prune(trial.cluster.client, 2, 2)
+    trial.digests_pruned += sum(len(values) for at, values in told.items() if at < height)
+    told = trial.stranger("alone", "--alike", "9")
+    if gone and "STOPS" not in told:
+        raise ValueError("a node from nothing did not stop")
+    return f"{gone} blocks are gone, the log begins behind height {height}; a node from nothing said: {told.splitlines()[-1].split(' ', 1)[1]}"
+
+
+def late_node(trial):
+    return "one from nothing: " + trial.stranger("late").splitlines()[1].split(" ", 1)[1]
+
+
+def damaged_dump(trial):
+    name = trial.node()
+    dumps = sorted((trial.cluster.folder / name).glob("*.dump"))
+    if not dumps:
+        return f"{name} has none yet"
+    data = bytearray(dumps[-1].read_bytes())
+    data[len(data) // 2] ^= 1
+    dumps[-1].write_bytes(data)
+    before = trial.count_of(name, "refuses the dump")
+    trial.cluster.kill(name)
+    trial.cluster.node(name)
+    trial.cluster.settle([name])
+    if trial.count_of(name, "refuses the dump") == before:
+        return f"{name} has made a newer one meanwhile"
+    told = trial.cluster.log(name).rpartition("refuses the dump")[2].splitlines()
+    return f"{name} refused its own, and {next((line.split(' ', 2)[2] for line in told if 'takes the dump' in line or 'begins' in line), 'went on')}"
+
+
+def full_disk(trial):
+    name, folder = trial.node(), trial.cluster.folder / "small"
+    folder.mkdir(exist_ok=True)
+    trial.cluster.kill(name)
+    before = trial.count_of(name, "keeps no dump")
+    under = ["unshare", "-m", "sh", "-c", SMALL_DISK, trial.cluster.folder / name]
+    trial.cluster.node(name, under=under)
+    for _ in range(600):
+        if trial.count_of(name, "keeps no dump") > before:
+            break
+        time.sleep(0.1)
+    told = trial.cluster.wait_for(name, "keeps no dump")
+    trial.cluster.kill(name)
+    trial.cluster.node(name)
+    return f"64 KiB for {told.split(' ', 1)[1]}, and it went on; it is started again on the other disk"
+
+
+def clock_wrong(trial):
+    if not FAKETIME.exists():
+        return "there is no faketime here"
+    name, plain = trial.node(), trial.cluster.folder / "rvstm-in-time"  # an engine reads no clock, and a preview takes no faketime
+    plain.write_text(f'#!/bin/sh\nunset LD_PRELOAD\nexec {program.rvstm()} "$@"\n')
+    plain.chmod(0o755)
+    trial.cluster.kill(name)
+    clock = {"LD_PRELOAD": str(FAKETIME), "FAKETIME": trial.random.choice(["+1d", "-1d"])}
+    trial.cluster.node(name, env={**os.environ, "RVSTM": str(plain), **clock})
+    trial.cluster.settle([name])
+    time.sleep(SECONDS_PARTED)
+    trial.cluster.kill(name)
+    trial.cluster.node(name)
+    return f"that of {name} by {clock['FAKETIME']} for {SECONDS_PARTED} s; it is started again"
+
+
+def two_nodes_in_one_folder(trial):
+    """The second one has to stop by name."""
+    name, cluster = trial.node(), trial.cluster
+    cluster.start("twin", sys.executable, HERE / "node", "--etcd", cluster.urls, "--name", "twin", "--folder", cluster.folder / name)
+    told = cluster.wait_for("twin", "STOPS")
+    cluster.all.pop("twin").wait()
+    cluster.logs.pop("twin").unlink()
+    return told.split(" ", 1)[1]
+
+
+def two_nodes_of_one_name(trial):
+    name, cluster = trial.node(), trial.cluster
+    words = ["--etcd", cluster.urls, "--name", name, "--folder", cluster.folder / "twin", "--http", f"{cluster.network.address('twin')}:0"]
+    twin = cluster.start("twin", sys.executable, HERE / "node", *words)
+    time.sleep(SECONDS_PARTED)
+    ended = twin.poll() is not None
+    for other in ("twin", name):
+        cluster.kill(other)
+    cluster.node(name)
+    return f"both were {name} for {SECONDS_PARTED} s{', and the second one ended' if ended else ''}; that is started again"
+
+
+def member_replaced(trial):
+    """Ends a member for good, and puts a new one, with nothing, in its place."""
+    number = trial.random.randrange(MEMBERS)
+    cluster = trial.cluster
+    members = {member["name"]: member for member in cluster.client.ask("cluster/member/list", {})["members"]}
+    cluster.kill(f"m{number}")
+    shutil.rmtree(cluster.folder / f"m{number}")
+    cluster.client.ask("cluster/member/remove", {"ID": members[f"m{number}"]["ID"]})
+    cluster.client.ask("cluster/member/add", {"peerURLs": [cluster.peers[number]]})
+    cluster.member(number, "existing")
+    return f"m{number} by a new one, from nothing"
+
+
+def controls(trial):
+    """A node that lies once and one that runs a changed program: both have to be named."""
+    cluster, height = trial.cluster, trial.cluster.heights() + 3
+    cluster.node("liar", script="liar", env={**os.environ, "LIE_AT": str(height)})
+    cluster.settle(["liar"])
+    for _ in range(5):
+        cluster.append(transfers.transfers(trial.random, CALLS))
+    say("control: " + cluster.wait_for("liar", "STOPS").split(" ", 1)[1])
+    say("control: " + cluster.wait_for(trial.names[0], "liar differs").split(" ", 1)[1])
+    changed = changed_program(cluster.folder / "changed-rvstm")
+    cluster.node("changed", env={**os.environ, "RVSTM": str(changed)})
+    cluster.wait_for("changed", "begins at")
+    cluster.append(transfers.transfers(trial.random, CALLS))
+    say("control: " + cluster.wait_for("changed", "STOPS").split(" ", 1)[1])
+    cluster.settle(trial.names)
+    wrong, _ = audits.audit(cluster.client, trial.names)
+    for line in wrong[: len(wrong) : max(1, len(wrong) - 1)]:
+        say(f"control, audit, {len(wrong)} lines: {line}")
+    named = {name for line in wrong for name in ("liar", "changed") if name in line}
+    trial.expect(named == {"liar", "changed"}, f"controls: the audit names {' and '.join(sorted(named)) or 'nobody'}")
+
+
+FAULTS = [
+    node_killed, all_nodes_killed, engine_killed, engine_stopped, leader_killed, leader_stopped, leader_parted, node_parted,
+    proposer_parted, proposer_killed, proposer_dies_between_parts_and_block, long_block, strange_blocks, compaction, pruning, late_node,
+    damaged_dump, full_disk, clock_wrong, two_nodes_of_one_name, two_nodes_in_one_folder,
+    member_replaced,
+]
