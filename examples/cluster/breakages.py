@@ -48,7 +48,7 @@ class Trial:
         self.faults += 1
         try:
             told = fault(self)
-            seconds = self.cluster.settle(self.names, 180)
+            seconds = self.cluster.settle(self.names)
             self.expect(True, f"{fault.__name__.replace('_', ' ')}: {told}; all nodes at height {self.cluster.heights()} {seconds:.1f} s later")
         except (OSError, ValueError) as error:
             self.expect(False, f"{fault.__name__.replace('_', ' ')}: {error}")
@@ -100,7 +100,7 @@ class Trial:
         """The last audit, and the controls."""
         for process in self.proposers.values():
             process.terminate()
-        seconds = self.cluster.settle(self.names, 180)
+        seconds = self.cluster.settle(self.names)
         say(f"the proposers are ended; all nodes have run all blocks {seconds:.1f} s later")
         self.wrong += self.cluster.audit(self.names)
         heights, digests = self.cluster.heights(), self.digests_pruned + self.cluster.client.count(ledger.DIGESTS)
@@ -312,10 +312,18 @@ def member_replaced(trial):
     members = {member["name"]: member for member in cluster.client.ask("cluster/member/list", {})["members"]}
     cluster.kill(f"m{number}")
     shutil.rmtree(cluster.folder / f"m{number}")
-    cluster.client.ask("cluster/member/remove", {"ID": members[f"m{number}"]["ID"]})
-    cluster.client.ask("cluster/member/add", {"peerURLs": [cluster.peers[number]]})
+    once(cluster, "cluster/member/remove", {"ID": members[f"m{number}"]["ID"]})
+    once(cluster, "cluster/member/add", {"peerURLs": [cluster.peers[number]]})
     cluster.member(number, "existing")
     return f"m{number} by a new one, from nothing"
+
+
+def once(cluster, path, body):
+    """Asks for what etcd refuses where it was done by an earlier request, whose answer was lost."""
+    try:
+        cluster.client.ask(path, body)
+    except etcd.Refused as error:
+        say(f"{path}: {error}")
 
 
 def controls(trial):

@@ -21,6 +21,7 @@ from engines import BUILT, C_LIBRARY, PR_SET_PDEATHSIG
 
 HERE = Path(__file__).resolve().parent
 MEMBERS = 3
+SECONDS_FOR_ETCD = 300  # a machine with much else to do takes its time
 STARTED = time.monotonic()
 HEIGHT = re.compile(r"height (\d+)")
 
@@ -69,7 +70,7 @@ class Cluster:
         self.clients = [f"http://{self.network.address(f'm{number}')}:{port}" for number, port in enumerate(ports[:MEMBERS])]
         self.peers = [f"http://{self.network.address(f'm{number}')}:{port}" for number, port in enumerate(ports[MEMBERS:])]
         self.urls = ",".join(self.clients)
-        self.client = etcd.Etcd(self.urls)
+        self.client = etcd.Etcd(self.urls, SECONDS_FOR_ETCD)
 
     def __enter__(self):
         return self
@@ -164,11 +165,11 @@ class Cluster:
         """What nodes published at a height, by their names."""
         return ledger.digests(self.client, height, height).get(height, {})
 
-    def reach(self, name, height, seconds=120):
+    def reach(self, name, height, seconds=SECONDS_FOR_ETCD):
         """Waits until a node published the digest of a height."""
         self.settle([name], seconds, height)
 
-    def settle(self, names, seconds=120, height=None):
+    def settle(self, names, seconds=SECONDS_FOR_ETCD, height=None):
         """Waits until nodes published the digest of a height, or of the last one, and answers how long that took."""
         began, height = time.monotonic(), height or self.heights()
         while not set(names) <= set(self.digests(height)):
@@ -178,7 +179,7 @@ class Cluster:
             time.sleep(0.1)
         return time.monotonic() - began
 
-    def wait_for(self, name, text, seconds=60):
+    def wait_for(self, name, text, seconds=SECONDS_FOR_ETCD):
         """Waits until a process says something, and answers the line."""
         for _ in range(10 * seconds):
             lines = [line for line in self.log(name).splitlines() if text in line]

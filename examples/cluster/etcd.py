@@ -16,8 +16,9 @@ from typing import NamedTuple
 SECONDS_A_REQUEST = 5
 SECONDS_BETWEEN_TRIES = 0.05
 SECONDS_UNTIL_TOLD = 30
-# gRPC's codes where another member, or the same one later, may answer; 16 is a token whose time ran out.
-MAY_ANSWER_LATER = (1, 4, 8, 13, 14, 16)
+TOKEN_IS_OLD = 16
+# gRPC's codes where another member, or the same one later, may answer
+MAY_ANSWER_LATER = (1, 4, 8, 13, 14, TOKEN_IS_OLD)
 FAULTS_OF_A_LINE = (OSError, http.client.HTTPException, json.JSONDecodeError)
 
 
@@ -27,6 +28,10 @@ class Refused(ValueError):
     def __init__(self, code, text):
         super().__init__(f"etcd: {text} ({code})")
         self.code = code
+
+
+class NoAnswer(ValueError):
+    """No member answered for so long as a client waits."""
 
 
 class Compacted(Exception):
@@ -131,8 +136,12 @@ class Etcd:
                 return self.ask_once(path, body)
             except (*FAULTS_OF_A_LINE, Refused) as error:
                 now = time.monotonic()
-                if isinstance(error, Refused) and error.code not in MAY_ANSWER_LATER or now > until:
+                if isinstance(error, Refused) and error.code not in MAY_ANSWER_LATER:
                     raise
+                if isinstance(error, Refused) and error.code == TOKEN_IS_OLD:
+                    self.token = None
+                if now > until:
+                    raise NoAnswer(f"no member of etcd answers: {error}") from error
                 if now > to_tell:
                     self.say(f"no member of etcd answers: {error}")
                     to_tell = now + SECONDS_UNTIL_TOLD
@@ -171,7 +180,7 @@ class Etcd:
         """Goes on with the next member."""
         if self.line is not None:
             self.line.close()
-        self.line = self.token = None
+        self.line = None
         self.urls.append(self.urls.pop(0))
 
     def range(self, wanted):
@@ -201,7 +210,11 @@ class Etcd:
             line.request("POST", "/v3/watch", json.dumps({"create_request": wanted}), self.headers())
             answer = line.getresponse()
             while text := answer.readline():
-                told = json.loads(text).get("result", {})
+                told = json.loads(text)
+                if "error" in told:
+                    self.token = None
+                    return
+                told = told.get("result", {})
                 if int(told.get("compact_revision", 0)):
                     raise Compacted(int(told["compact_revision"]))
                 if told.get("canceled"):

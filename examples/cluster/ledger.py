@@ -15,6 +15,7 @@ The order of the log is that of the revisions at which its keys were made. The g
 
 import hashlib
 import json
+import math
 import re
 import secrets
 import zlib
@@ -187,7 +188,7 @@ class Log:
     """The entries behind a revision, in their order, as they come."""
 
     def __init__(self, urls, revision):
-        self.client, self.revision, self.say = etcd.Etcd(urls), revision, print
+        self.client, self.revision, self.say = etcd.Etcd(urls, math.inf), revision, print
 
     def batches(self):
         """Lists of entries; an empty one where none came for a second."""

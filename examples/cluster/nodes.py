@@ -290,7 +290,7 @@ class Node:
 
     def follow(self):
         log = ledger.Log(self.urls, self.mark.revision)
-        log.say = self.say
+        log.say = log.client.say = self.say
         for pairs in log.batches():
             for pair in pairs:
                 self.take(pair)
