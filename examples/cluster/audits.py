@@ -31,24 +31,23 @@ def differing(kind, told):
 
 
 def audit(client, names=()):
-    """What is wrong, as lines, and what was seen. Each of the names has to have a digest at each height that is left."""
+    """What is wrong, as lines, and what was seen. Each of the names has to have a digest at the last height; one that began with
+    a dump has none at the heights that it passed over."""
     gone, is_frame = ledger.pruned(client)[0], b'"frame"' in client.get(ledger.SETTINGS).value
     entries = sorted(all_below(client, LOG, keys_only=True), key=lambda pair: pair.made)
     begun = next(pair.made for pair in entries if pair.key == GENESIS)
-    blocks = [pair.made for pair in entries if pair.key.startswith(BLOCKS) and pair.made > begun or pair.key == GENESIS and is_frame and not gone]
-    revisions = dict(enumerate(blocks, gone + 1))
+    first = [begun] if is_frame and not gone else []
+    blocks = first + [pair.made for pair in entries if pair.key.startswith(BLOCKS) and pair.made > begun]
+    revisions, last = dict(enumerate(blocks, gone + 1)), gone + len(blocks)
     digests, dumps = list(all_below(client, DIGESTS)), list(all_below(client, DUMPS))
     wrong = changed([*entries, *digests, *dumps])
     told, made = ledger.by_height(digests), ledger.by_height(dumps)
     wrong += differing("digests", told) + differing("dumps", made)
-    for height, values in told.items():
-        strays = sorted(name for name, value in values.items() if height > gone and value.split()[1] != str(revisions.get(height)))
+    for height in sorted(set(told) & set(revisions)):
+        strays = sorted(name for name, value in told[height].items() if value.split()[1] != str(revisions[height]))
         wrong += [f"height {height}: {', '.join(strays)} ran another block than the log's"] if strays else []
-    for name in names:
-        absent = [height for height in revisions if name not in told.get(height, {})]
-        wrong += [f"{name} has no digest at {len(absent)} heights, the first {absent[0]}"] if absent else []
-    count = sum(map(len, told.values()))
+    wrong += [f"{name} has no digest at the last height, {last}" for name in names if name not in told.get(last, {})]
+    digest = next(iter(told.get(last, {}).values()), "-")[:16]
     nodes = {name for values in told.values() for name in values}
-    last = next(iter(told[max(told)].values())).split()[0] if told else "-"
-    seen = f"{gone + len(blocks)} heights, {len(told)} of them with {count} digests of {len(nodes)} nodes, "
-    return wrong, seen + f"{sum(map(len, made.values()))} dumps at {len(made)} heights, last digest {last[:16]}"
+    seen = f"{last} heights, {len(told)} of them with {sum(map(len, told.values()))} digests of {len(nodes)} nodes, "
+    return wrong, seen + f"{sum(map(len, made.values()))} dumps at {len(made)} heights, last digest {digest}"

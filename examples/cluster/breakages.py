@@ -44,10 +44,11 @@ class Trial:
         say(("" if is_so else "WRONG: ") + text)
 
     def inject(self, fault):
-        """Does what a fault is, and waits until all nodes have come to the last height."""
+        """Does what a fault is, appends a block behind it, and waits until all nodes have run that."""
         self.faults += 1
         try:
             told = fault(self)
+            self.cluster.append(transfers.transfers(self.random, CALLS))
             seconds = self.cluster.settle(self.names)
             self.expect(True, f"{fault.__name__.replace('_', ' ')}: {told}; all nodes at height {self.cluster.heights()} {seconds:.1f} s later")
         except (OSError, ValueError) as error:
@@ -64,6 +65,12 @@ class Trial:
         """The process of a node's engine, if it is one."""
         told = re.findall(r"engine (\d+|in this process)", self.cluster.log(name))[-1]
         return int(told) if told.isdigit() else None
+
+    def again(self, name):
+        """Starts a node, and waits until it has run a block that is new."""
+        self.cluster.node(name)
+        self.cluster.append(transfers.transfers(self.random, CALLS))
+        self.cluster.settle([name])
 
     def count_of(self, name, text):
         return self.cluster.log(name).count(text)
@@ -89,7 +96,7 @@ class Trial:
         (self.cluster.folder / f"{name}.log").unlink(missing_ok=True)
         self.cluster.node(name, *words, **how)
         height, until = self.cluster.heights(), time.monotonic() + SECONDS_A_STRANGER
-        while name not in self.cluster.digests(height) and self.cluster.all[name].poll() is None and time.monotonic() < until:
+        while not self.cluster.is_at(name, height) and self.cluster.all[name].poll() is None and time.monotonic() < until:
             time.sleep(0.1)
         told = self.cluster.log(name)
         self.cluster.all[name].kill()
@@ -207,14 +214,13 @@ def strange_blocks(trial):
 
 
 def compaction(trial):
-    name = trial.node()
+    name, cluster = trial.node(), trial.cluster
     before = trial.count_of(name, "reads the log anew")
-    trial.cluster.all[name].send_signal(signal.SIGSTOP)
-    time.sleep(3)
-    trial.cluster.client.ask("kv/compaction", {"revision": trial.cluster.client.range(etcd.keys(ledger.PRUNED))[0], "physical": True})
-    trial.cluster.all[name].send_signal(signal.SIGCONT)
-    trial.cluster.settle([name])
-    return f"{name} was stopped meanwhile, and {'read the log anew' if trial.count_of(name, 'reads the log anew') > before else 'went on'}"
+    cluster.kill(name)
+    cluster.client.ask("kv/compaction", {"revision": cluster.client.range(etcd.keys(ledger.PRUNED))[0], "physical": True})
+    trial.again(name)
+    said = "read the log anew" if trial.count_of(name, "reads the log anew") > before else "began behind that revision"
+    return f"{name} was killed before, and {said}"
 
 
 def pruning(trial):
@@ -242,8 +248,7 @@ def damaged_dump(trial):
     dumps[-1].write_bytes(data)
     before = trial.count_of(name, "refuses the dump")
     trial.cluster.kill(name)
-    trial.cluster.node(name)
-    trial.cluster.settle([name])
+    trial.again(name)
     if trial.count_of(name, "refuses the dump") == before:
         return f"{name} has made a newer one meanwhile"
     told = trial.cluster.log(name).rpartition("refuses the dump")[2].splitlines()

@@ -170,14 +170,18 @@ class Cluster:
         self.settle([name], seconds, height)
 
     def settle(self, names, seconds=SECONDS_FOR_ETCD, height=None):
-        """Waits until nodes published the digest of a height, or of the last one, and answers how long that took."""
+        """Waits until nodes published a digest of a height or above, or of the last one, and answers how long that took."""
         began, height = time.monotonic(), height or self.heights()
-        while not set(names) <= set(self.digests(height)):
+        while away := [name for name in names if not self.is_at(name, height)]:
             if time.monotonic() - began > seconds:
-                there = ", ".join(sorted(self.digests(height)))
-                raise ValueError(f"at height {height} only {there or 'nobody'} published a digest, of {', '.join(names)}")
+                raise ValueError(f"{', '.join(away)} did not come to height {height}")
             time.sleep(0.1)
         return time.monotonic() - began
+
+    def is_at(self, name, height):
+        """Whether a node published a digest of a height or above; one that began with a dump passed over those before."""
+        prefix = f"{ledger.DIGESTS}{name}/"
+        return bool(self.client.range(etcd.keys(ledger.at(ledger.DIGESTS, name, height), etcd.behind(prefix), limit=1))[1])
 
     def wait_for(self, name, text, seconds=SECONDS_FOR_ETCD):
         """Waits until a process says something, and answers the line."""

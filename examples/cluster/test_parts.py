@@ -152,7 +152,7 @@ class Audits(unittest.TestCase):
 
     def test_a_missing_digest_is_named(self):
         wrong, _ = audits.audit(self.ledger_of(self.told("a")[:2]), ["a", "b"])
-        self.assertEqual(wrong, ["a has no digest at 1 heights, the first 3", "b has no digest at 3 heights, the first 1"])
+        self.assertEqual(wrong, ["a has no digest at the last height, 3", "b has no digest at the last height, 3"])
 
     def test_a_changed_entry_is_named(self):
         shelf = self.ledger_of(self.told("a"))
