@@ -29,6 +29,15 @@ static struct result result_of_call;
 static u32 passed_count;
 static u32 failed_count;
 
+/* What was wanted of a call and what came, where they differed since the last check. */
+static struct result wanted;
+static struct result came;
+static int differs;
+
+/* As scripts/test prints outputs: the most bytes that are shown in full, the bytes of a piece, and those of them
+   before the place where two outputs part. */
+enum { LONGEST_BYTES = 40, PIECE_BYTES = 20, BYTES_BEFORE = 4 };
+
 /* A sanitizer sees where fewer bytes may be written. */
 static void touch(volatile u8 *bytes, u32 length) {
     for (u32 at = 0; at < length; at++) {
@@ -187,7 +196,12 @@ struct result call_contract(const void *input, u32 length) {
 }
 
 static int has_ended(struct result result, enum ending ending, const void *output, u32 length) {
-    return result.ending == ending && result.length == length && memcmp(result.output, output, length) == 0;
+    differs = result.ending != ending || result.length != length || memcmp(result.output, output, length) != 0;
+    came = result;
+    wanted.ending = ending;
+    wanted.length = length;
+    copy_bytes(wanted.output, output, length < OUTPUT_LIMIT ? length : OUTPUT_LIMIT);
+    return !differs;
 }
 
 int has_returned(struct result result, const void *output, u32 length) {
@@ -202,13 +216,80 @@ int has_reverted(struct result result, const char *text) {
     return has_ended(result, REVERTED, text, (u32)strlen(text));
 }
 
-void check(const char *name, int holds) {
+/* The place where two outputs part. */
+static u32 place_of_difference(const struct result *one, const struct result *other) {
+    u32 place = 0;
+    while (place < one->length && place < other->length && place < OUTPUT_LIMIT &&
+           one->output[place] == other->output[place]) {
+        place++;
+    }
+    return place;
+}
+
+static int is_printable(const u8 *bytes, u32 length) {
+    for (u32 at = 0; at < length; at++) {
+        if (bytes[at] < 0x20 || bytes[at] > 0x7e) {
+            return 0;
+        }
+    }
+    return length > 0;
+}
+
+static void print_number(const u8 *bytes, u32 length) {
+    u64 number = 0;
+    for (u32 at = length; at > 0; at--) {
+        number = number << 8 | bytes[at - 1];
+    }
+    printf("  %llu", (unsigned long long)number);
+}
+
+/* In hex, and as a text or a number where it may be one; of a long output a piece around a place. */
+static void print_output(const struct result *result, u32 place, int is_piece) {
+    u32 held = result->length < OUTPUT_LIMIT ? result->length : OUTPUT_LIMIT;
+    u32 start = is_piece && place > BYTES_BEFORE ? place - BYTES_BEFORE : 0;
+    u32 end = is_piece && start + PIECE_BYTES < held ? start + PIECE_BYTES : held;
+    const char *before = start > 0 ? ".." : "", *behind = end < result->length ? ".." : "";
+    printf("%s", before);
+    for (u32 at = start; at < end; at++) {
+        printf("%02x", result->output[at]);
+    }
+    printf("%s%s", result->length == 0 ? "-" : "", behind);
+    if (!is_piece && (held == 1 || held == 2 || held == 4 || held == 8)) {
+        print_number(result->output, held);
+    }
+    if (is_printable(result->output + start, end - start)) {
+        printf("  \"%s%.*s%s\"", before, (int)(end - start), (const char *)result->output + start, behind);
+    }
+    if (is_piece) {
+        printf("  (%u bytes)", result->length);
+    }
+}
+
+static void print_difference(void) {
+    static const char *const names[] = {"returned", "reverted", "unknown-call", "bad-length", "too-many-writes"};
+    int is_piece = wanted.length > LONGEST_BYTES || came.length > LONGEST_BYTES;
+    u32 place = wanted.ending == came.ending ? place_of_difference(&wanted, &came) : 0;
+    printf("    wanted  %s  ", names[wanted.ending]);
+    print_output(&wanted, place, is_piece);
+    printf("\n    came    %s  ", names[came.ending]);
+    print_output(&came, place, is_piece);
+    printf("\n");
+    if (is_piece && wanted.ending == came.ending) {
+        printf("    they part at byte %u\n", place);
+    }
+}
+
+void check_at(const char *file, int line, const char *name, int holds) {
     if (holds) {
         passed_count++;
     } else {
         failed_count++;
-        printf("failed: %s\n", name);
+        printf("failed: %s:%d: %s\n", file, line, name);
+        if (differs) {
+            print_difference();
+        }
     }
+    differs = 0;
 }
 
 int report_checks(void) {

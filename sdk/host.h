@@ -37,8 +37,10 @@ int has_returned(struct result result, const void *output, u32 length);
 int has_returned_u64(struct result result, u64 number);
 int has_reverted(struct result result, const char *text);
 
-/* Counts a check, and prints its name where it does not hold. */
-void check(const char *name, int holds);
+/* Counts a check. Where it does not hold, prints its file, line and name, and of a call's ending by has_returned,
+   has_returned_u64 or has_reverted what was wanted and what came. */
+#define check(name, holds) check_at(__FILE__, __LINE__, name, holds)
+void check_at(const char *file, int line, const char *name, int holds);
 
 /* Prints 'N passed, M failed', and answers 1 where one failed, else 0. */
 int report_checks(void);
