@@ -2,12 +2,16 @@
 
 import bisect
 import os
+import re
 import shutil
 import struct
 import subprocess
 from dataclasses import dataclass
 
 ADDRESS_TOOLS = ("llvm-addr2line", "riscv64-unknown-elf-addr2line", "riscv32-unknown-elf-addr2line")
+# Names in Rust: how a symbol begins, how each ends that no tool made plain, and the signs in it.
+RUST_SYMBOL, RUST_NAME, RUST_SIGN = re.compile("_ZN([0-9].*)E"), re.compile("(.+)::h[0-9a-f]{16}"), re.compile(r"\$(\w+)\$")
+RUST_SIGNS = {"LT": "<", "GT": ">", "RF": "&", "BP": "*", "C": ",", "LP": "(", "RP": ")", "SP": "@"}
 PT_LOAD, PF_X, SHT_SYMTAB, SHF_EXECINSTR, STT_NOTYPE, STT_FUNC, STB_GLOBAL = 1, 1, 2, 4, 0, 2, 1
 
 
@@ -77,7 +81,7 @@ class Program:
         if place >= 0:
             start, size, name = self.functions[place]
             if not size or address < start + size:
-                return name
+                return plain_name(name)
         return os.path.basename(self.path)
 
 
@@ -97,7 +101,8 @@ def chains_of(program, addresses, tool, place=None):
     said = subprocess.run(words, input=given, capture_output=True, text=True, check=True).stdout
     for part in ("\n" + said).split("\n0x")[1:]:
         address, *lines = part.splitlines()
-        chain = [(function, (place or place_of)(text)) for function, text in zip(lines[::2], lines[1::2]) if function != "??"]
+        pairs = zip(map(plain_name, lines[::2]), lines[1::2])
+        chain = [(function, (place or place_of)(text)) for function, text in pairs if function != "??"]
         if chain:
             chains[int(address, 16)] = chain[::-1]
     return chains
@@ -107,3 +112,24 @@ def place_of(text):
     """FILE:LINE without its folder, and nothing where it is not known."""
     place = os.path.basename(text.split(" (discriminator")[0])
     return "" if place.startswith("?") or place.endswith((":0", ":?")) else place
+
+
+def plain_name(name):
+    """A function in Rust as its source has it; a function in another language by the name that it has."""
+    symbol, parts = RUST_SYMBOL.fullmatch(name), []
+    rest = symbol[1] if symbol else ""
+    while length := re.match("[0-9]+", rest):
+        end = length.end() + int(length[0])
+        parts.append(rest[length.end() : end])
+        rest = rest[end:]
+    found = RUST_NAME.fullmatch("::".join(parts) if parts and not rest else name)
+    if not found:
+        return name
+    text = re.sub(r"(^|::)_\$", r"\1$", found[1]).replace("..", "::")
+    return RUST_SIGN.sub(sign_of, text)
+
+
+def sign_of(found):
+    """A sign in a name in Rust, by its letters or its number."""
+    letters = found[1]
+    return chr(int(letters[1:], 16)) if re.fullmatch("u[0-9a-f]+", letters) else RUST_SIGNS.get(letters, found[0])

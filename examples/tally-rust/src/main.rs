@@ -1,8 +1,8 @@
 //! Counts votes, as examples/tally does in C. The input is a candidate's key of 32 bytes; its count, 8 bytes, the
 //! lowest first, goes up by one and is returned. Another input reverts, and so does a key that holds no count.
 
-#![no_std]
-#![no_main]
+#![cfg_attr(not(test), no_std)]
+#![cfg_attr(not(test), no_main)]
 
 use contract::{entry, read_array, write, Key};
 
@@ -18,3 +18,6 @@ fn count_vote(input: &[u8]) -> Result<[u8; 8], &'static str> {
     write(&candidate, &votes.to_le_bytes());
     Ok(votes.to_le_bytes())
 }
+
+#[cfg(test)]
+mod tests;

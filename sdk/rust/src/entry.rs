@@ -1,10 +1,9 @@
 //! How a call starts, and how it ends by a panic.
 
-use core::{arch::global_asm, fmt::Write, panic::PanicInfo};
+use crate::{return_output, revert};
 
-use crate::{return_output, revert, Output};
-
-global_asm!(include_str!("../../start.S"));
+#[cfg(target_arch = "riscv32")]
+core::arch::global_asm!(include_str!("../../start.S"));
 
 /// Makes a function what a call runs: `entry!(count_vote);`. It takes the input as `&[u8]` and gives
 /// `Result<OUTPUT, TEXT>`: the call returns with the output, or reverts with the text. Both are bytes, as
@@ -13,11 +12,17 @@ global_asm!(include_str!("../../start.S"));
 macro_rules! entry {
     ($body:path) => {
         /// What start.S calls.
+        #[cfg(target_arch = "riscv32")]
         #[no_mangle]
         extern "C" fn contract(input: *const u8, length: usize) -> ! {
             // SAFETY: the machine lays the input there, and nothing else writes it.
             $crate::run($body, unsafe { core::slice::from_raw_parts(input, length) })
         }
+
+        #[cfg(not(target_arch = "riscv32"))]
+        const _: () = {
+            let _ = $body;
+        };
     };
 }
 
@@ -34,9 +39,10 @@ pub fn run<O: AsRef<[u8]>, E: AsRef<[u8]>>(
 }
 
 /// Reverts with the panic's message and place, as far as an output reaches.
+#[cfg(target_arch = "riscv32")]
 #[panic_handler]
-fn revert_with_message(info: &PanicInfo) -> ! {
-    let mut output = Output::new();
-    let _ = write!(output, "{info}");
+fn revert_with_message(info: &core::panic::PanicInfo) -> ! {
+    let mut output = crate::Output::new();
+    let _ = core::fmt::Write::write_fmt(&mut output, format_args!("{info}"));
     revert(output.as_ref())
 }

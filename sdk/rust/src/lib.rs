@@ -1,19 +1,25 @@
 //! What a contract in Rust needs: the storage calls, the limits and the entry. `docs/contracts.md` has the rules.
 
-#![no_std]
+//!
+//! A contract is built for riscv32im-unknown-none-elf. Built for another machine, it is called in tests by `host`.
 
-#[cfg(not(target_arch = "riscv32"))]
-compile_error!("a contract is built for riscv32im-unknown-none-elf");
+#![cfg_attr(target_arch = "riscv32", no_std)]
 
-#[cfg(feature = "alloc")]
+#[cfg(all(target_arch = "riscv32", feature = "alloc"))]
 mod allocator;
 mod calls;
 mod entry;
+#[cfg(not(target_arch = "riscv32"))]
+pub mod host;
+#[cfg(target_arch = "riscv32")]
+mod machine;
+mod numbers;
 mod output;
 mod sha256;
 
 pub use calls::{add, read, read_array, remove, return_output, revert, write, WrongLength};
 pub use entry::run;
+pub use numbers::{Cursor, Decimal};
 pub use output::Output;
 pub use sha256::{sha256, table_key, DIGEST_LENGTH};
 
