@@ -7,10 +7,13 @@ from collections import defaultdict
 from dataclasses import dataclass
 from itertools import islice
 
+import block_texts
 import charges
 import program
+import results
 
 LINES_AT_ONCE = 4096  # whose two bytes each fit into a pipe
+MOST_BYTES = 4096  # that one line shows
 SECONDS_BETWEEN_REPORTS = 2
 NO_INSTRUCTION = "00000001"  # no multiple of four, so that the pc is never there
 LINKS = ("x1", "x5")  # the registers that hold return addresses
@@ -19,11 +22,23 @@ ABSENT, LONGER = 2**32 - 1, 2**32 - 2
 PLAIN, CALL, RETURN, ECALL = range(4)
 
 
+class Block:
+    """What a block file, which rvstm has taken, says of one call."""
+
+    def __init__(self, path, call):
+        with open(path, encoding="ascii") as file:
+            rows = [line.split() for line in file]
+        self.rules = next((int(row[1]) for row in rows if row[0] == "gas"), 1)
+        paths = [row[2] for row in rows if row[0] == "program"]
+        calls = [row for row in rows if row[0] == "call"]
+        self.program, self.limit = paths[int(calls[call][1])], int(calls[call][2])
+
+
 class Session:
     """A session of `rvstm debug` at a call."""
 
-    def __init__(self, block, call):
-        words = [program.rvstm(), "debug", block, "--call", str(call)]
+    def __init__(self, block, call, *options):
+        words = [program.rvstm(), "debug", block, "--call", str(call), *options]
         pipe = subprocess.PIPE
         self.process = subprocess.Popen(words, stdin=pipe, stdout=pipe, stderr=pipe)
         self.moment = 0
@@ -35,21 +50,29 @@ class Session:
         self.process.kill()
         self.process.communicate()
 
+    def say(self, lines):
+        """Gives lines, as many as fit into a pipe; `told` takes the answers."""
+        try:
+            self.process.stdin.write(lines.encode())
+            self.process.stdin.flush()
+        except BrokenPipeError:
+            pass
+
+    def told(self, count):
+        """The answers to so many lines."""
+        for answer in islice(self.process.stdout, count):
+            count -= 1
+            yield answer
+        if count:
+            said = self.process.stderr.read().decode(errors="backslashreplace").strip()
+            raise ValueError(said or "rvstm debug ended before it answered")
+
     def answers(self, line, count):
         """The answers to a line that is given so many times."""
         for first in range(0, count, LINES_AT_ONCE):
             part = min(LINES_AT_ONCE, count - first)
-            try:
-                self.process.stdin.write(f"{line}\n".encode() * part)
-                self.process.stdin.flush()
-            except BrokenPipeError:
-                pass
-            for answer in islice(self.process.stdout, part):
-                part -= 1
-                yield answer
-            if part:
-                said = self.process.stderr.read().decode(errors="backslashreplace").strip()
-                raise ValueError(said or "rvstm debug ended before it answered")
+            self.say(f"{line}\n" * part)
+            yield from self.told(part)
 
     def answer(self, line):
         return next(self.answers(line, 1)).decode().rstrip("\n")
@@ -69,7 +92,7 @@ class Session:
 
     def memory(self, address, length):
         """Bytes of memory, or None where they are not all in it."""
-        answer = self.answer(f"m {address:08x} {length}") if length <= 4096 else "refused"
+        answer = self.answer(f"m {address:08x} {length}") if length <= MOST_BYTES else "refused"
         return None if answer.startswith("refused") else bytes.fromhex(answer.replace("-", ""))
 
 
@@ -113,6 +136,47 @@ class StorageCall:
     def name(self):
         is_known = self.number < len(charges.STORAGE_CALLS)
         return charges.STORAGE_CALLS[self.number] if is_known else f"ECALL {self.number}"
+
+    def text(self, names=None):
+        """Its name, what it is given, and what it answers; a key that has one by its name."""
+        return f"{self.name()} {self.words(names)}".rstrip()
+
+    def words(self, names):
+        key = "a key outside memory" if self.key is None else results.shown_key(self.key.hex(), names)
+        if self.number == charges.READ:
+            answers = {None: "no answer", ABSENT: "absent", LONGER: "longer"}
+            return f"{key} up to {self.length} bytes: {answers.get(self.answer) or said(self.data)}"
+        if self.number == charges.WRITE:
+            return f"{key}: {said(self.data)}"
+        if self.number == charges.ADD:
+            return f"{key}: +{self.amount}"
+        if self.number == charges.REMOVE:
+            return key
+        return said(self.data) if self.number < len(charges.STORAGE_CALLS) else ""
+
+
+def said(data):
+    return "outside memory" if data is None else results.shown(block_texts.field(data))
+
+
+def asked(session, moment, pc, frame=None, gas=0):
+    """The storage call at which a session stands, before it is answered."""
+    registers = session.registers()
+    number, a0, a1, a2 = registers[A7], registers[A0], registers[A1], registers[A2]
+    is_output = number in (charges.RETURN, charges.REVERT)
+    key = None if is_output else session.memory(a0, 32)
+    length = a1 if is_output else a2
+    data = session.memory(a0 if is_output else a1, length) if is_output or number == charges.WRITE else None
+    return StorageCall(moment, pc, frame, gas, number, key, length, data, a1 + (a2 << 32))
+
+
+def take_answer(session, call):
+    """Makes the step of a READ, and takes what it answers."""
+    buffer = session.registers()[A1]
+    session.step()
+    call.answer = session.registers()[A0]
+    if call.answer not in (ABSENT, LONGER):
+        call.data = session.memory(buffer, call.answer)
 
 
 def turn_of(text):
@@ -189,23 +253,13 @@ class Replay:
     def asked(self, moment, pc, frame):
         """A storage call before it is answered."""
         self.places.go_to(moment, pc.decode())
-        registers = self.places.registers()
-        number, a0, a1, a2 = registers[A7], registers[A0], registers[A1], registers[A2]
-        is_output = number in (charges.RETURN, charges.REVERT)
-        key = None if is_output else self.places.memory(a0, 32)
-        length = a1 if is_output else a2
-        data = self.places.memory(a0 if is_output else a1, length) if is_output or number == charges.WRITE else None
-        return StorageCall(moment, pc, frame, self.gas, number, key, length, data, a1 + (a2 << 32))
+        return asked(self.places, moment, pc, frame, self.gas)
 
     def storage_call(self, moment, pc, frame):
         """A storage call with its answer; its gas is added."""
         call = self.asked(moment, pc, frame)
         if call.number == charges.READ:
-            buffer = self.places.registers()[A1]
-            self.places.step()
-            call.answer = self.places.registers()[A0]
-            if call.answer not in (ABSENT, LONGER):
-                call.data = self.places.memory(buffer, call.answer)
+            take_answer(self.places, call)
         call.cost = charges.of_storage_call(call.number, call.length, len(call.data or b""), self.rules)
         self.gas += call.cost
         return call
