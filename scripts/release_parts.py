@@ -11,7 +11,7 @@ from packages import File, Link
 
 TRIPLET = "x86_64-linux-gnu"
 SDK = "share/rvstm-sdk"
-AUTHORS = ("block", "conflicts", "coverage", "explore", "node", "result", "schedule", "test", "trace")
+AUTHORS = ("block", "conflicts", "coverage", "explore", "gdb", "node", "result", "schedule", "test", "trace")
 PAGES = {
     "rvstm": ("README.md", "CHANGELOG.md", "docs/formats.md", "docs/messages.md", "docs/operators.md", "docs/glossary.md"),
     "librvstm-dev": ("docs/embedding.md",),

@@ -1,0 +1,17 @@
+target remote | ../../scripts/gdb token.block --call 1
+break take
+continue
+watch balance
+continue
+continue
+reverse-continue
+reverse-continue
+delete
+finish
+reverse-next
+tbreak token.c:83
+continue
+info locals
+continue
+reverse-step
+kill
