@@ -21,6 +21,9 @@ const MOST_GAS: u64 = 160_000_000;
 /// How many steps under the lock a call of a batch is allowed, in the mean, beside those for its gas.
 const STEPS_OF_A_CALL: u64 = 16;
 
+/// How many steps under the lock a call makes, in the mean, beside its reads: those of its record and of its validation.
+const STEPS_BESIDE_READS: u64 = 8;
+
 /// For how much gas a call is allowed one more step.
 const GAS_A_STEP: u64 = 512;
 
@@ -119,7 +122,7 @@ impl Batches {
             .saturating_mul(workers as u64)
             .max(LEAST_GAS)
             .min(MOST_GAS);
-        let steps_of_each = self.last.reads_of_each().saturating_add(STEPS_OF_A_CALL);
+        let steps_of_each = self.last.reads_of_each().saturating_add(STEPS_BESIDE_READS);
         let calls = (gas / gas_of_each.max(1)).min(steps / 2 / steps_of_each.max(1));
         let rounds = (calls as usize).saturating_add(workers - 1) / workers;
         rounds.max(1).saturating_mul(workers)
