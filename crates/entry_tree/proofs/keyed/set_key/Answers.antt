@@ -1,0 +1,12 @@
+use Rattle.std.proofs.Common.{arith}
+use Rattle.std.proofs.lemmas.Result.{on_ok_weaker}
+use Rattle.sqlite_trees.specs.View.{IsClean}
+use Rattle.entry_tree.proofs.Sought.{key_set}
+use Rattle.entry_tree.proofs.keyed.set_key.Goals as goal
+
+pub returns-clause-ok : goal.returns-clause-ok
+returns-clause-ok g c =
+    on_ok_weaker c.change_entry.result (λ set clean m is.
+    let mid : IsClean (g.S.Store.view c.remove_key.new.store) = omega (arith, c.change_entry.ensures.quiet.clean) in
+    key_set _ _ _ _ m c.args.key.now c.args.value.now (c.in_ok-remove_key.ensures.ok mid m is) (set clean))
+    c.change_entry.ensures.ok
