@@ -1,0 +1,183 @@
+-- Entries by ascending keys: reading them one after another, and writing them.
+use Rattle.std.proofs.Common.{◌≡◌, ◌≤◌, ◌++◌, ℕ, List, [], ◌∷◌, append_assoc, map, length, Option, Some, None, T, refl, sym, ap, subst, ◌∙◌, Less, arith}
+use Rattle.std.specs.List.{AllByRecursion}
+use Rattle.std.specs.Cmp.{tied_itself}
+use Rattle.std.specs.Cmp.Lexicographic.{nat_list_cmp_total}
+use Rattle.std.specs.FinMap.{empty, entries, entries_sorted, entries-insert, from_entries, insert, is_sorted, len-empty, len-entries, put}
+use Rattle.std.proofs.lemmas.List.{append-nil, map-append}
+use Rattle.sqlite_value.specs.Keys.{plain}
+use Rattle.sqlite_value.specs.Order.{Row}
+use Rattle.sqlite_trees.specs.Tree.{insert_entry, remove_entry}
+use Rattle.rv_ledger.specs.Key.{key_cmp}
+use Rattle.entry_tree.specs.Entries.{ByteMap, row_of, rows_of}
+use Rattle.entry_tree.proofs.Rows.{below_first, row_order, sorted_rest}
+use Rattle.session_file.specs.Kept.{AreNamed}
+use Rattle.session_file.specs.Rows.{AreRising, DoFit, IsAbove}
+
+abbrev pub Pairs : Type 0
+Pairs = List (List ℕ × List ℕ)
+
+-- the key of the last entry
+abbrev pub last_key : Pairs → Option (List ℕ)
+last_key [] = None
+last_key (e ∷ []) = Some e.0
+last_key (e ∷ f ∷ es) = last_key (f ∷ es)
+
+pub last_pushed : (es : Pairs) (e : List ℕ × List ℕ) → last_key (es ++ e ∷ []) ≡ Some e.0
+last_pushed [] e = refl
+last_pushed (f ∷ []) e = refl
+last_pushed (f ∷ g ∷ es) e = last_pushed (g ∷ es) e
+
+-- what is above the last key is above each
+pub above_all : (key : List ℕ) (es : Pairs) → AreRising es → IsAbove key (last_key es) → AllByRecursion (λ e. key_cmp e.0 key ≡ Less) es
+above_all key [] up h = tt
+above_all key (e ∷ []) up h = (h, tt)
+above_all key (e ∷ f ∷ es) up h =
+    let rest = above_all key (f ∷ es) up.1 h in
+    (nat_list_cmp_total.trans e.0 f.0 key up.0.0 rest.0, rest)
+
+pub all_pushed : (P : List ℕ × List ℕ → Type 0) (es : Pairs) (e : List ℕ × List ℕ) → AllByRecursion P es → P e → AllByRecursion P (es ++ e ∷ [])
+all_pushed P [] e all this = (this, tt)
+all_pushed P (f ∷ fs) e all this = (all.0, all_pushed P fs e all.1 this)
+
+pub rising_pushed : (es : Pairs) (e : List ℕ × List ℕ) → AreRising es → AllByRecursion (λ f. key_cmp f.0 e.0 ≡ Less) es → AreRising (es ++ e ∷ [])
+rising_pushed [] e up low = (tt, tt)
+rising_pushed (f ∷ fs) e up low = (all_pushed _ fs e up.0 low.0, rising_pushed fs e up.1 low.1)
+
+sorted_rising : (es : Pairs) → T (is_sorted key_cmp es) → AreRising es
+sorted_rising [] up = tt
+sorted_rising (e ∷ es) up = (below_first e es up, sorted_rising es (sorted_rest e es up))
+
+-- the entries of a map ascend
+pub map_rising : (m : ByteMap) → AreRising (entries m)
+map_rising m = sorted_rising (entries m) (entries_sorted m)
+
+-- a row that comes next is one of an entry above those before
+pub record IsNext (fits : List ℕ → Type 0) (taken : Pairs) (given : Row) : Type 0 where
+  pub entry : List ℕ × List ℕ
+  pub row : given ≡ row_of entry
+  pub key : length entry.0 ≡ 32
+  pub value : fits entry.1
+  pub above : IsAbove entry.0 (last_key taken)
+
+pub one_key : (e f : List ℕ × List ℕ) → row_of e ≡ row_of f → e.0 ≡ f.0
+one_key e f is = cc
+
+pub next_entry : (fits : List ℕ → Type 0) (taken : Pairs) (given : Row) (left : List Row) (es : Pairs) → map row_of taken ++ given ∷ left ≡ map row_of es → AreRising es → DoFit fits es → IsNext fits taken given
+next_entry fits [] given left [] is up all = absurd (cc)
+next_entry fits [] given left (f ∷ fs) is up all =
+    let this : given ≡ row_of f = cc in
+    record { entry = f; row = this; key = all.0.0; value = all.0.1; above = tt }
+next_entry fits (t ∷ ts) given left [] is up all = absurd (cc)
+next_entry fits (t ∷ []) given left (f ∷ []) is up all = absurd (cc)
+next_entry fits (t ∷ []) given left (f ∷ g ∷ gs) is up all =
+    let first : row_of t ≡ row_of f = cc in
+    let this : given ≡ row_of g = cc in
+    record { entry = g; row = this; key = all.1.0.0; value = all.1.0.1; above = ap (λ k. key_cmp k g.0) (one_key t f first) ∙ up.0.0 }
+next_entry fits (t ∷ u ∷ us) given left (f ∷ fs) is up all =
+    let rest : map row_of (u ∷ us) ++ given ∷ left ≡ map row_of fs = cc in
+    let it = next_entry fits (u ∷ us) given left fs rest up.1 all.1 in
+    record { entry = it.entry; row = it.row; key = it.key; value = it.value; above = it.above }
+
+pub no_entries : entries (empty {X = List ℕ} {R = key_cmp}) ≡ []
+no_entries = none (entries (empty {X = List ℕ} {R = key_cmp})) (sym (len-entries (empty {X = List ℕ} {R = key_cmp})) ∙ len-empty key_cmp (List ℕ))
+  where
+    none : (es : Pairs) → length es ≡ 0 → es ≡ []
+    none [] h = refl
+    none (e ∷ es) h = absurd (omega arith)
+
+put_first : (e : List ℕ × List ℕ) (es : Pairs) → AllByRecursion (λ f. key_cmp e.0 f.0 ≡ Less) es → put key_cmp e.0 e.1 es ≡ e ∷ es
+put_first e [] low = refl
+put_first e (f ∷ fs) low = rw low.0 refl
+
+-- the map of ascending entries has these
+pub entries-from_rising : (es : Pairs) → AreRising es → entries (from_entries {R = key_cmp} es) ≡ es
+entries-from_rising [] up = no_entries
+entries-from_rising (e ∷ es) up = entries-insert nat_list_cmp_total (from_entries es) e.0 e.1 ∙ ap (put key_cmp e.0 e.1) (entries-from_rising es up.1) ∙ put_first e es up.0
+
+-- so have its rows
+pub rows-from_rising : (es : Pairs) → AreRising es → map row_of es ≡ rows_of (from_entries es)
+rows-from_rising es up = ap (map row_of) (sym (entries-from_rising es up))
+
+all_named : (fits : List ℕ → Type 0) (es : Pairs) → DoFit fits es → AllByRecursion (λ e. length e.0 ≡ 32) es
+all_named fits [] all = tt
+all_named fits (e ∷ es) all = (all.0.0, all_named fits es all.1)
+
+pub named-from_rising : (fits : List ℕ → Type 0) (es : Pairs) → AreRising es → DoFit fits es → AreNamed (from_entries es)
+named-from_rising fits es up all = subst (AllByRecursion (λ e. length e.0 ≡ 32)) (sym (entries-from_rising es up)) (all_named fits es all)
+
+keep_above : (e : List ℕ × List ℕ) (es : Pairs) → AllByRecursion (λ f. key_cmp e.0 f.0 ≡ Less) es → remove_entry plain (row_of e) (map row_of es) ≡ map row_of es
+keep_above e [] low = refl
+keep_above e (f ∷ fs) low = rw (row_order f e, nat_list_cmp_total.antisymm f.0 e.0, low.0) (ap (λ l. row_of f ∷ l) (keep_above e fs low.1))
+
+-- the first row is removed
+pub first_removed : (e : List ℕ × List ℕ) (es : Pairs) → AreRising (e ∷ es) → remove_entry plain (row_of e) (map row_of (e ∷ es)) ≡ map row_of es
+first_removed e es up = rw (row_order e e, tied_itself nat_list_cmp_total e.0, tied_itself nat_list_cmp_total e.1) (keep_above e es up.0)
+
+-- a row above all is inserted at the end
+pub last_inserted : (es : Pairs) (e : List ℕ × List ℕ) → AllByRecursion (λ f. key_cmp f.0 e.0 ≡ Less) es → insert_entry plain (row_of e) (map row_of es) ≡ map row_of (es ++ e ∷ [])
+last_inserted [] e low = refl
+last_inserted (f ∷ fs) e low = rw (row_order f e, low.0) (ap (λ l. row_of f ∷ l) (last_inserted fs e low.1))
+
+-- what stands before an entry is below it
+pub before_below : (es : Pairs) (e : List ℕ × List ℕ) (rest : Pairs) → AreRising (es ++ e ∷ rest) → AllByRecursion (λ f. key_cmp f.0 e.0 ≡ Less) es
+before_below [] e rest up = tt
+before_below (f ∷ fs) e rest up = (middle fs up.0, before_below fs e rest up.1)
+  where
+    middle : (gs : Pairs) → AllByRecursion (λ g. key_cmp f.0 g.0 ≡ Less) (gs ++ e ∷ rest) → key_cmp f.0 e.0 ≡ Less
+    middle [] all = all.0
+    middle (g ∷ gs) all = middle gs all.1
+
+put_last : (key value : List ℕ) (es : Pairs) → AllByRecursion (λ e. key_cmp e.0 key ≡ Less) es → put key_cmp key value es ≡ es ++ (key, value) ∷ []
+put_last key value [] low = refl
+put_last key value (e ∷ es) low = rw (nat_list_cmp_total.antisymm key e.0, low.0) (ap (λ l. e ∷ l) (put_last key value es low.1))
+
+-- a key above all is inserted at the end
+pub entries-inserted : (m : ByteMap) (key value : List ℕ) → AllByRecursion (λ e. key_cmp e.0 key ≡ Less) (entries m) → entries (insert m key value) ≡ entries m ++ (key, value) ∷ []
+entries-inserted m key value low = entries-insert nat_list_cmp_total m key value ∙ put_last key value (entries m) low
+
+-- rows in which some entries are inserted, and the entries that are left
+pub record IsInserted (all rest : Pairs) (Begun : Type 0) (rows : List Row) : Type 0 where
+  pub done : Pairs
+  pub whole : done ++ rest ≡ all
+  pub fits : DoFit (λ v. length v ≤ 256) done
+  pub shows : Begun → rows ≡ map row_of done
+
+-- none is inserted yet
+pub at_first : (all : Pairs) (Begun : Type 0) (rows : List Row) → (Begun → rows ≡ []) → IsInserted all all Begun rows
+at_first all Begun rows is = record { done = []; whole = refl; fits = tt; shows = is }
+
+-- one more is inserted
+pub one_more : (all : Pairs) (Before Begun : Type 0) (rows now : List Row) (e : List ℕ × List ℕ) (es : Pairs) → (Begun → Before) → (Begun → now ≡ insert_entry plain (row_of e) rows)
+    → length e.0 ≡ 32 → length e.1 ≤ 256 → AreRising all → IsInserted all (e ∷ es) Before rows → IsInserted all es Begun now
+one_more all Before Begun rows now e es before is key value up h = record {
+  done = h.done ++ e ∷ [];
+  whole = append_assoc h.done (e ∷ []) es ∙ h.whole;
+  fits = all_pushed _ h.done e h.fits (key, value);
+  shows = λ begun. is begun ∙ ap (insert_entry plain (row_of e)) (h.shows (before begun)) ∙ last_inserted h.done e (before_below h.done e es (subst AreRising (sym h.whole) up));
+}
+
+-- all are inserted
+pub at_last : (all : Pairs) (Begun : Type 0) (rows : List Row) → IsInserted all [] Begun rows → Begun → rows ≡ map row_of all
+at_last all Begun rows h begun = h.shows begun ∙ ap (map row_of) (sym (append-nil h.done) ∙ h.whole)
+
+pub all_fit : (all : Pairs) (Begun : Type 0) (rows : List Row) → IsInserted all [] Begun rows → DoFit (λ v. length v ≤ 256) all
+all_fit all Begun rows h = subst (DoFit (λ v. length v ≤ 256)) (sym (append-nil h.done) ∙ h.whole) h.fits
+
+-- a row that was read next, in a tree of a map
+pub found_next : (fits : List ℕ → Type 0) (taken : Pairs) (given : Row) (rest left rows : List Row) (m : ByteMap) → map row_of taken ++ rest ≡ rows → rest ≡ given ∷ left → rows ≡ rows_of m → DoFit fits (entries m) → IsNext fits taken given
+found_next fits taken given rest left rows m was step is all = next_entry fits taken given left (entries m) (ap (λ l. map row_of taken ++ l) (sym step) ∙ was ∙ is) (map_rising m) all
+
+-- rows of which one more was taken
+pub rows_pushed : (taken : Pairs) (e : List ℕ × List ℕ) (now : Pairs) (given : Row) (rest left rows : List Row) → now ≡ taken ++ e ∷ [] → given ≡ row_of e → rest ≡ given ∷ left → map row_of taken ++ rest ≡ rows → map row_of now ++ left ≡ rows
+rows_pushed taken e now given rest left rows is row step was =
+    ap (λ t. map row_of t ++ left) is ∙ ap (λ l. l ++ left) (map-append row_of taken (e ∷ [])) ∙ append_assoc (map row_of taken) (row_of e ∷ []) left
+    ∙ ap (λ r. map row_of taken ++ r ∷ left) (sym row) ∙ ap (λ l. map row_of taken ++ l) (sym step) ∙ was
+
+named_fit : (es : Pairs) → AllByRecursion (λ e. length e.0 ≡ 32) es → DoFit (λ v. Unit {0}) es
+named_fit [] all = tt
+named_fit (e ∷ es) all = ((all.0, tt), named_fit es all.1)
+
+-- programs with names of 32 bytes have files that fit
+pub programs_fit : (m : ByteMap) → AreNamed m → DoFit (λ v. Unit {0}) (entries m)
+programs_fit m all = named_fit (entries m) all

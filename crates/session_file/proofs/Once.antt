@@ -1,0 +1,98 @@
+-- Trees hold one state of a session.
+use Rattle.std.proofs.Common.{◌≡◌, ◌⊎◌, ℕ, Bool, true, false, List, [], ◌∷◌, map, Option, Some, None, refl, sym, ap, subst, ◌∙◌, inl, inr, arith}
+use Rattle.std.specs.FinMap.{entries, same_entries_map}
+use Rattle.sqlite_trees.specs.Tree.{Trees}
+use Rattle.sqlite_trees.specs.View.{View}
+use Rattle.rv_ledger.specs.declared.rules.Rules.{Rules}
+use Rattle.rv_ledger.specs.declared.rules.Rules.TheVariants as rules
+use Rattle.entry_tree.specs.Entries.{ByteMap, row_of, rows_of}
+use Rattle.session_file.specs.Kept.{HoldsIn, Kept, answer_row, flag, number_or_null, rows_if_any, rules_number, session_row}
+use Rattle.session_file.specs.Staging.{Holds}
+use Rattle.session_file.specs.declared.rows.SessionRow.{SessionRow}
+
+one_of : (e f : List ℕ × List ℕ) → row_of e ≡ row_of f → e ≡ f
+one_of e f is =
+    let keys : e.0 ≡ f.0 = cc in
+    let values : e.1 ≡ f.1 = cc in
+    λ i. (keys i, values i)
+
+pairs_once : (es fs : List (List ℕ × List ℕ)) → map row_of es ≡ map row_of fs → es ≡ fs
+pairs_once [] [] is = refl
+pairs_once [] (f ∷ fs) is = cc
+pairs_once (e ∷ es) [] is = cc
+pairs_once (e ∷ es) (f ∷ fs) is =
+    let heads : row_of e ≡ row_of f = cc in
+    let tails : map row_of es ≡ map row_of fs = cc in
+    let first = one_of e f heads in
+    let rest = pairs_once es fs tails in cc
+
+-- rows are those of one map
+pub rows_once : (s t : ByteMap) → rows_of s ≡ rows_of t → s ≡ t
+rows_once s t is = same_entries_map s t (pairs_once (entries s) (entries t) is)
+
+rules_once : (r s : Rules) → rules_number r ≡ rules_number s → r ≡ s
+rules_once rules.One rules.One is = refl
+rules_once rules.One rules.Two is = absurd (omega arith)
+rules_once rules.One rules.Three is = absurd (omega arith)
+rules_once rules.Two rules.One is = absurd (omega arith)
+rules_once rules.Two rules.Two is = refl
+rules_once rules.Two rules.Three is = absurd (omega arith)
+rules_once rules.Three rules.One is = absurd (omega arith)
+rules_once rules.Three rules.Two is = absurd (omega arith)
+rules_once rules.Three rules.Three is = refl
+
+flag_once : (b c : Bool) → flag b ≡ flag c → b ≡ c
+flag_once true true is = refl
+flag_once true false is = absurd (omega arith)
+flag_once false true is = absurd (omega arith)
+flag_once false false is = refl
+
+number_once : (m n : Option ℕ) → number_or_null m ≡ number_or_null n → m ≡ n
+number_once None None is = refl
+number_once None (Some n) is = cc
+number_once (Some m) None is = cc
+number_once (Some m) (Some n) is = cc
+
+row_once : (s t : SessionRow) → session_row s ≡ session_row t → s ≡ t
+row_once s t is =
+    let limit : s.frame_limit ≡ t.frame_limit = cc in
+    let gas : number_or_null s.frame_gas ≡ number_or_null t.frame_gas = cc in
+    let brief : flag s.is_brief ≡ flag t.is_brief = cc in
+    let rules : rules_number s.rules ≡ rules_number t.rules = cc in
+    let height : s.height ≡ t.height = cc in
+    let digest : s.digest ≡ t.digest = cc in
+    let the_gas = number_once s.frame_gas t.frame_gas gas in
+    let the_brief = flag_once s.is_brief t.is_brief brief in
+    let the_rules = rules_once s.rules t.rules rules in
+    λ i. record { frame_limit = limit i; frame_gas = the_gas i; is_brief = the_brief i; rules = the_rules i; height = height i; digest = digest i }
+
+session_once : (o p : Option SessionRow) → rows_if_any session_row o ≡ rows_if_any session_row p → o ≡ p
+session_once None None is = refl
+session_once None (Some t) is = cc
+session_once (Some s) None is = cc
+session_once (Some s) (Some t) is =
+    let rows : session_row s ≡ session_row t = cc in
+    ap Some (row_once s t rows)
+
+answer_once : (o p : Option (List ℕ × List ℕ)) → rows_if_any answer_row o ≡ rows_if_any answer_row p → o ≡ p
+answer_once None None is = refl
+answer_once None (Some b) is = cc
+answer_once (Some a) None is = cc
+answer_once (Some a) (Some b) is =
+    let lines : a.0 ≡ b.0 = cc in
+    let bytes : a.1 ≡ b.1 = cc in
+    ap Some (λ i. (lines i, bytes i))
+
+-- trees hold one state of a session
+pub holds_once : (db : Trees) (j k : Kept) → HoldsIn db j → HoldsIn db k → j ≡ k
+holds_once db j k a b =
+    let storage = rows_once j.storage k.storage (sym a.storage ∙ b.storage) in
+    let programs = rows_once j.programs k.programs (sym a.programs ∙ b.programs) in
+    let session = session_once j.session k.session (sym a.session ∙ b.session) in
+    let answer = answer_once j.answer k.answer (sym a.answer ∙ b.answer) in
+    λ i. record { storage = storage i; programs = programs i; session = session i; answer = answer i }
+
+-- what an open finds after a stop in a commit
+pub found_again : (old : View) (was next found : Kept) (db : Trees) (Left : Type 0) → Holds old was next → (Left → db ≡ old.committed) → HoldsIn db next ⊎ Left → HoldsIn db found → (found ≡ was) ⊎ (found ≡ next)
+found_again old was next found db Left it settled (inl now) holds = inr (holds_once db found next holds now)
+found_again old was next found db Left it settled (inr before) holds = inl (holds_once db found was holds (subst (λ d. HoldsIn d was) (sym (settled before)) it.committed))

@@ -1,0 +1,79 @@
+-- What an open finds, and when it is refused.
+use Rattle.std.proofs.Common.{◌≡◌, Option, Some, None, Result, Ok, Err, IfErr, refl, sym, ap, subst, ◌∙◌}
+use Rattle.sqlite_exec.specs.Calls.{OnlyReads}
+use Rattle.sqlite_trees.specs.Tree.{Trees}
+use Rattle.sqlite_trees.specs.View.{View}
+use Rattle.sqlite_trees.specs.declared.error.StoreError.{StoreError}
+use Rattle.entry_tree.specs.Entries.{rows_of}
+use Rattle.session_file.specs.Kept.{HoldsIn, IsInLimits, Kept, answer_row, answer_tree, program_tree, rows_if_any, session_row, session_tree, storage_tree}
+use Rattle.session_file.specs.Opening.{IsFresh, IsOfOtherVersion, IsRefused}
+use Rattle.session_file.specs.Rows.{IsReadFault}
+use Rattle.session_file.specs.Staging.{HasTrees, Holds, IsShaped}
+use Rattle.session_file.specs.declared.fault.OpenFault.{OpenFault}
+use Rattle.session_file.specs.declared.fault.OpenFault.TheVariants.{Damaged, NotASession, OtherVersion, Store}
+use Rattle.session_file.specs.declared.rows.SessionRow.{SessionRow}
+
+pub reads_on : (a b c : View) → OnlyReads a b → OnlyReads b c → OnlyReads a c
+reads_on a b c first second = second ∙ ap (λ (v : View). record v { cursors = c.cursors }) first
+
+-- a part that was not read
+pub refused_part : (v now : View) (none : Type 0) (fault : OpenFault) → OnlyReads v now → (none → (k : Kept) → ¬ HoldsIn now.trees k) → IsReadFault now none fault → IsRefused v fault
+refused_part v now none NotASession reads gone f = absurd f
+refused_part v now none OtherVersion reads gone f = subst (λ (db : Trees). IsOfOtherVersion (db session_tree)) (ap (λ (w : View). w.trees) reads) f
+refused_part v now none Damaged reads gone f = λ k h. gone f k (subst (λ db. HoldsIn db k) (sym (ap (λ (w : View). w.trees) reads)) h)
+refused_part v now none (Store e) reads gone f = tt
+
+-- all parts were read
+pub loaded : (v0 v1 v2 v3 v4 : View) (k : Kept) → OnlyReads v0 v1 → OnlyReads v1 v2 → OnlyReads v2 v3 → OnlyReads v3 v4 → v0.trees session_tree ≡ rows_if_any session_row k.session
+    → v1.trees answer_tree ≡ rows_if_any answer_row k.answer → v2.trees program_tree ≡ rows_of k.programs → v3.trees storage_tree ≡ rows_of k.storage → IsInLimits k → HoldsIn v4.trees k
+loaded v0 v1 v2 v3 v4 k r1 r2 r3 r4 session answer programs storage limits =
+    let trees = λ (v : View). v.trees in
+    let at3 : v4.trees ≡ v3.trees = ap trees r4 in
+    let at2 : v4.trees ≡ v2.trees = at3 ∙ ap trees r3 in
+    let at1 : v4.trees ≡ v1.trees = at2 ∙ ap trees r2 in
+    let at0 : v4.trees ≡ v0.trees = at1 ∙ ap trees r1 in record {
+      storage = ap (λ (db : Trees). db storage_tree) at3 ∙ storage;
+      programs = ap (λ (db : Trees). db program_tree) at2 ∙ programs;
+      session = ap (λ (db : Trees). db session_tree) at0 ∙ session;
+      answer = ap (λ (db : Trees). db answer_tree) at1 ∙ answer;
+      limits = limits;
+    }
+
+-- what was read of a store that was just opened is kept
+pub keeps_read : (v now : View) (k : Kept) → IsFresh v → OnlyReads v now → HoldsIn now.trees k → Holds now k k
+keeps_read v now k fresh reads holds =
+    let same : now.trees ≡ now.committed = ap (λ (w : View). w.trees) reads ∙ fresh.settled ∙ sym (ap (λ (w : View). w.committed) reads) in record {
+      sound = ap (λ (w : View). w.is_broken) reads ∙ fresh.sound;
+      committed = subst (λ db. HoldsIn db k) same holds;
+      written = holds;
+    }
+
+-- trees are no session's of another version, where they hold one of this
+not_other : (o : Option SessionRow) → ¬ IsOfOtherVersion (rows_if_any session_row o)
+not_other None h = h
+not_other (Some s) h = h refl
+
+-- where the trees are a session's, only the store can refuse
+pub only_store : (v : View) (k : Kept) (fault : OpenFault) → HasTrees v → HoldsIn v.trees k → IsRefused v fault → (error : StoreError) × (fault ≡ Store error)
+only_store v k NotASession trees holds f = absurd (f trees)
+only_store v k OtherVersion trees holds f = absurd (not_other k.session (subst IsOfOtherVersion holds.session f))
+only_store v k Damaged trees holds f = absurd (f k holds)
+only_store v k (Store e) trees holds f = (e, refl)
+
+-- trees are there after a reopen
+pub trees_again : (old new : View) → IsShaped old → (old.shape ≡ old.committed_shape → new.shape ≡ old.shape) → HasTrees new
+trees_again old new was same =
+    let is = same (sym was.committed) in record {
+      storage = ap (λ f. f storage_tree) is ∙ was.trees.storage;
+      programs = ap (λ f. f program_tree) is ∙ was.trees.programs;
+      session = ap (λ f. f session_tree) is ∙ was.trees.session;
+      answer = ap (λ f. f answer_tree) is ∙ was.trees.answer;
+    }
+
+pub err_both : {X E : Type 0} {P Q R : E → Type 0} (r : Result X E) → ((e : E) → P e → Q e → R e) → IfErr r P → IfErr r Q → IfErr r R
+err_both (Ok x) f p q = tt
+err_both (Err e) f p q = f e p q
+
+pub err_weaker : {X E : Type 0} {P Q : E → Type 0} (r : Result X E) → ((e : E) → P e → Q e) → IfErr r P → IfErr r Q
+err_weaker (Ok x) f p = tt
+err_weaker (Err e) f p = f e p

@@ -1,0 +1,9 @@
+use Rattle.std.proofs.lemmas.Result.{on_err_weaker, on_ok_weaker}
+use Rattle.session_file.proofs.Staged.{committed, rolled_back}
+use Rattle.session_file.proofs.file.SessionFile.commit.Goals as goal
+
+pub returns-clause-ok : goal.returns-clause-ok
+returns-clause-ok g c = rw (← c.self.view_is) (on_ok_weaker c.commit.result (committed _ _ (g.met.S.Store.shut_if_dirty c.commit.new.self)) c.commit.ensures.ok)
+
+pub returns-clause-err : goal.returns-clause-err
+returns-clause-err g c = rw (← c.self.view_is) (on_err_weaker c.commit.result (rolled_back _ _ (g.met.S.Store.shut_if_dirty c.commit.new.self)) c.commit.ensures.err)

@@ -1,0 +1,15 @@
+use Rattle.std.proofs.lemmas.Result.{on_ok_weaker}
+use Rattle.session_file.proofs.Staged.{on_ok_both, refused, storage_ok}
+use Rattle.session_file.proofs.file.SessionFile.stage_storage.Goals as goal
+
+pub returns-clause-ok : goal.returns-clause-ok
+returns-clause-ok g c =
+    let v = g.S.Store.view in
+    let staged = storage_ok c.replace_entries-result.result (v c.self.inside.store) (v c.replace_entries-result.new.store) (g.met.S.Store.shut_if_dirty c.replace_entries-result.new.store) c.args.base.now c.args.storage.now
+    c.replace_entries-result.ensures.ok c.replace_entries-result.ensures.frame (on_ok_weaker c.replace_entries-result.result (λ all clean is before. all) c.replace_entries-result.ensures.limits) in
+    rw (← c.self.view_is, c.settled.ensures.given) (on_ok_both c.replace_entries-result.result (λ same it. rw same it) c.settled.ensures.ok staged)
+
+pub returns-clause-err : goal.returns-clause-err
+returns-clause-err g c =
+    rw (← c.self.view_is, c.settled.ensures.given)
+    (refused c.replace_entries-result.result _ _ _ (g.met.S.Store.shut_if_dirty c.settled.new.store) c.settled.ensures.quiet.clean c.replace_entries-result.ensures.err c.settled.ensures.err)

@@ -1,0 +1,20 @@
+use Rattle.std.proofs.Common.{◌≡◌, ◌≢◌, T, ℕ}
+use Rattle.std.specs.FinMap.{is_sorted}
+use Rattle.sqlite_trees.specs.View.{IsClean, KeepsSchema, IsQuiet, OnlyWrites}
+use Rattle.rv_ledger.specs.Key.{key_cmp}
+use Rattle.entry_tree.specs.Entries.{rows_of}
+use Rattle.session_file.specs.Kept.{storage_tree}
+use Rattle.overlay.specs.Overlay.{with_changes}
+use Rattle.session_file.proofs.Changes.{IsPartWay}
+use Rattle.session_file.proofs.writing.change_entries.Given as goal
+
+abbrev pub invariant-loop-key : goal.invariant-loop-key
+invariant-loop-key g l =
+    let old = g.S.Store.view l.fn.store in
+    let now = g.S.Store.view l.store in
+    (IsClean now → old.trees storage_tree ≡ rows_of l.base → IsPartWay l.base (with_changes l.base l.changes) (now.trees storage_tree) l.key-iterator)
+    × (IsClean now → (t : ℕ) → t ≢ storage_tree → now.trees t ≡ old.trees t)
+    × (IsClean now → OnlyWrites old now)
+    × T (is_sorted key_cmp l.key-iterator)
+    × IsQuiet g.S.Store.view g.S.Store.faults g.S.Store.recovers g.S.Store.is_shielded l.fn.store l.store
+    × KeepsSchema old now

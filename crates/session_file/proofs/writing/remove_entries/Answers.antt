@@ -1,0 +1,40 @@
+use Rattle.std.proofs.Common.{◌≡◌, ◌∷◌, ◌∙◌, arith, map, rules, subst, ap, refl}
+use Rattle.std.specs.FinMap.{entries}
+use Rattle.sqlite_value.specs.Keys.{plain}
+use Rattle.sqlite_trees.specs.Tree.{remove_entry}
+use Rattle.sqlite_trees.specs.View.{View, IsClean}
+use Rattle.entry_tree.specs.Entries.{row_of}
+use Rattle.session_file.specs.Kept.{storage_tree}
+use Rattle.session_file.specs.Rows.{AreRising}
+use Rattle.session_file.proofs.Lists.{first_removed, map_rising}
+use Rattle.session_file.proofs.writing.remove_entries.Goals as goal
+
+pub loop-key-init : goal.loop-key-init
+loop-key-init g c =
+    let all : c.into_iter-key-iterator.result ≡ entries c.args.base.now = c.into_iter-key-iterator.ensures.into_iter_gives ∙ c.iter-key-items.ensures in (
+      λ clean is. rw all is,
+      λ clean t other. refl,
+      search rules,
+      rw all (map_rising c.args.base.now),
+      search rules,
+      search rules,
+    )
+
+pub loop-key-preserved : goal.loop-key-preserved
+loop-key-preserved g c =
+    let v = g.S.Store.view in
+    let key = c.in-Some.key.now in
+    let value = c.in-Some.value.now in
+    let was = v c.loop-key.store in
+    let now = v c.change_entry.new.store in
+    let step : c.loop-key.key-iterator ≡ (key, value) ∷ c.next.new.self = search rules in
+    let up : AreRising ((key, value) ∷ c.next.new.self) = subst AreRising step c.loop-key.invariant.3 in
+    let edit : IsClean now → now.trees storage_tree ≡ remove_entry plain (row_of (key, value)) (was.trees storage_tree) = λ clean. search rules in
+    let early : IsClean now → IsClean was = λ clean. omega (arith, c.change_entry.ensures.quiet.clean) in (
+      λ clean is. edit clean ∙ ap (remove_entry plain (row_of (key, value))) (c.loop-key.invariant.0 (early clean) is ∙ ap (map row_of) step) ∙ first_removed (key, value) c.next.new.self up,
+      λ clean t other. (c.in_ok-change_entry.ensures.ok clean).others t other ∙ c.loop-key.invariant.1 (early clean) t other,
+      λ clean. (c.in_ok-change_entry.ensures.ok clean).rest ∙ ap (λ (w : View). record w { trees = now.trees; cursors = now.cursors }) (c.loop-key.invariant.2 (early clean)),
+      up.1,
+      search rules,
+      search rules,
+    )

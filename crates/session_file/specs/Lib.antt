@@ -1,0 +1,4 @@
+pub mod Kept
+pub mod Staging
+pub mod Opening
+pub mod Rows

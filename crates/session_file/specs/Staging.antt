@@ -1,0 +1,48 @@
+-- What the last commit of a file holds, and what its open transaction holds.
+use Rattle.std.specs.Prelude.{◌≡◌, false, IsTrue}
+use Rattle.sqlite_value.specs.Keys.{plain}
+use Rattle.sqlite_trees.specs.View.{View}
+use Rattle.sqlite_trees.specs.declared.store.Shape.TheVariants.{Index, Table}
+use Rattle.session_file.specs.Kept.{Kept, HoldsIn, answer_tree, program_tree, session_tree, storage_tree}
+
+-- the four trees have their shapes
+pub record HasTrees (v : View) : Type 0 where
+  pub storage : v.shape storage_tree ≡ Index plain
+  pub programs : v.shape program_tree ≡ Index plain
+  pub session : v.shape session_tree ≡ Table
+  pub answer : v.shape answer_tree ≡ Table
+
+-- they have, and had them at the last commit
+pub record IsShaped (v : View) : Type 0 where
+  pub trees : HasTrees v
+  pub committed : v.committed_shape ≡ v.shape
+
+-- the last commit holds the one, and the open transaction the other
+pub record Holds (v : View) (kept next : Kept) : Type 0 where
+  pub sound : v.is_broken ≡ false
+  pub committed : HoldsIn v.committed kept
+  pub written : HoldsIn v.trees next
+
+-- so it is while the file is open
+abbrev pub IsStaged : View → Kept → Kept → Type 0
+IsStaged v kept next = IsTrue v.is_open → Holds v kept next
+
+-- while the file is open, the last commit holds this, and nothing was changed since
+abbrev pub IsKeeping : View → Kept → Type 0
+IsKeeping v kept = IsStaged v kept kept
+
+-- what the transaction is to hold is changed, where `known` held of it
+abbrev pub StagesWhere : (Kept → Type 0) → (Kept → Kept) → View → View → Type 0
+StagesWhere known change old new = (kept next : Kept) → known next → IsStaged old kept next → IsStaged new kept (change next)
+
+-- the same, whatever it held
+abbrev pub Stages : (Kept → Kept) → View → View → Type 0
+Stages change old new = (kept next : Kept) → IsStaged old kept next → IsStaged new kept (change next)
+
+-- the transaction is given up, and nothing is staged
+abbrev pub GivesUp : View → View → Type 0
+GivesUp old new = (kept next : Kept) → IsStaged old kept next → IsKeeping new kept
+
+-- what was staged is kept
+abbrev pub CommitsStaged : View → View → Type 0
+CommitsStaged old new = (kept next : Kept) → IsStaged old kept next → IsKeeping new next

@@ -1,0 +1,19 @@
+//! What a session keeps of itself in four trees of a store, so that it outlives its process: its storage, its programs, its
+//! settings with its height and digest, and what its last frame was answered.
+#![tactic(auto)]
+
+mod decoding;
+mod entries;
+mod fault;
+mod file;
+mod opening;
+mod reading;
+mod restarting;
+mod rows;
+mod writing;
+
+pub use fault::OpenFault;
+pub use file::SessionFile;
+pub use opening::open_session;
+pub use restarting::{commit_and_stop, restart};
+pub use rows::{AnswerRow, Found, ProgramRow, SessionRow};

@@ -1,0 +1,77 @@
+//! Opening the store of a session.
+
+ghost use Rattle.std.specs.Prelude.{◌≡◌, false, IfErr, IfOk, IsTrue, OnOk};
+ghost use Rattle.sqlite_exec.specs.Calls.{OnlyReads};
+ghost use Rattle.sqlite_trees.specs.View.{IsClean, IsQuiet};
+ghost use Rattle.session_file.specs.Kept.{HoldsIn};
+ghost use Rattle.session_file.specs.Opening.{IsFresh, IsRefused, kept_of};
+ghost use Rattle.session_file.specs.Staging.{HasTrees, IsKeeping, IsShaped};
+
+use crate::fault::OpenFault;
+use crate::file::SessionFile;
+use crate::reading::{read_answer, read_entries, read_session};
+use crate::rows::{Found, ProgramRow};
+use crate::writing::{ANSWER_TREE, PROGRAM_TREE, SESSION_TREE, STORAGE_TREE};
+use rv_ledger::StoreBuilder;
+use sqlite_trees::store::{Shape, Store};
+use sqlite_value::keys::Order;
+use sqlite_value::row::Row;
+use std::alloc::Global;
+
+/// Whether a store has the trees of a session.
+fn has_trees<S: Store>(store: &S) -> bool
+    ensures trees { IsTrue result → HasTrees (S.Store.view store.now) }
+    ensures other { result ≡ false → ¬ HasTrees (S.Store.view store.now) }
+{
+    store.shape(STORAGE_TREE) == Shape::Index(Order::PLAIN)
+        && store.shape(PROGRAM_TREE) == Shape::Index(Order::PLAIN)
+        && store.shape(SESSION_TREE) == Shape::Table
+        && store.shape(ANSWER_TREE) == Shape::Table
+}
+
+/// Reads what a store that was just opened keeps.
+fn load<S: Store>(alloc: Global, store: &mut S) -> Result<Found, OpenFault>
+    requires { IsClean (S.Store.view store.old) → IsFresh (S.Store.view store.old) }
+    ensures ok { IfOk result (λ found. IsClean (S.Store.view store.new) → HoldsIn (S.Store.view store.new).trees (kept_of found)) }
+    ensures trees { OnOk result (HasTrees (S.Store.view store.old)) }
+    ensures err { IfErr result (λ fault. IsClean (S.Store.view store.new) → IsRefused (S.Store.view store.old) fault) }
+    ensures same { OnOk result (IsClean (S.Store.view store.new) → OnlyReads (S.Store.view store.old) (S.Store.view store.new)) }
+    ensures quiet { IsQuiet S.Store.view S.Store.faults S.Store.recovers S.Store.is_shielded store.old store.new }
+{
+    if !has_trees(store) {
+        return Err(OpenFault::NotASession);
+    }
+    let mut row = Row::new(alloc);
+    let session = read_session(alloc, store, &mut row)?;
+    let answer = read_answer(alloc, store, &mut row)?;
+    let mut programs: Vec<ProgramRow> = Vec::new(alloc);
+    read_entries(store, PROGRAM_TREE, &mut row, &mut programs)?;
+    let mut entries = StoreBuilder::new(alloc);
+    read_entries(store, STORAGE_TREE, &mut row, &mut entries)?;
+    Ok(Found {
+        storage: entries.finish()?,
+        programs,
+        session,
+        answer,
+    })
+}
+
+/// Opens a store that was just opened, or made with no rows, as that of a session, and reads what it keeps. Where this is
+/// refused the store is given back. Nothing is written.
+pub fn open_session<S: Store>(
+    alloc: Global,
+    store: S,
+) -> Result<(SessionFile<S>, Found), (OpenFault, S)>
+    requires { IsClean (S.Store.view store) → IsFresh (S.Store.view store) }
+    ensures ok { IfOk result (λ r. IsKeeping (S.Store.view r.0) (kept_of r.1)) }
+    ensures err { IfErr result (λ e. IsClean (S.Store.view e.1) → IsRefused (S.Store.view store) e.0) }
+    ensures same { IfOk result (λ r. IsClean (S.Store.view r.0) → OnlyReads (S.Store.view store) (S.Store.view r.0)) }
+    ensures quiet { IfOk result (λ r. IsQuiet S.Store.view S.Store.faults S.Store.recovers S.Store.is_shielded store r.0) }
+    ensures back { IfErr result (λ e. IsQuiet S.Store.view S.Store.faults S.Store.recovers S.Store.is_shielded store e.1) }
+{
+    let mut store = store;
+    match load(alloc, &mut store) {
+        Ok(found) => Ok((SessionFile::over(alloc, store), found)),
+        Err(fault) => Err((fault, store)),
+    }
+}

@@ -1,0 +1,133 @@
+//! Reading the parts of a session from the trees of a store.
+
+ghost use Rattle.std.specs.Prelude.{◌≡◌, ◌++◌, ℕ, List, [], ◌∷◌, length, map, false, IfErr, IfOk, IfSome, IsTrue, OnOk};
+ghost use Rattle.std.specs.List.{AllByRecursion};
+ghost use Rattle.std.specs.Option.{option_map};
+ghost use Rattle.std.specs.declared.cmp.Ordering.TheVariants.{Less};
+ghost use Rattle.sqlite_exec.specs.Calls.{OnlyReads};
+ghost use Rattle.sqlite_trees.specs.View.{IsClean, IsQuiet, KeepsSchema};
+ghost use Rattle.sqlite_value.specs.Keys.{plain};
+ghost use Rattle.entry_tree.specs.Entries.{row_of};
+ghost use Rattle.rv_ledger.specs.Key.{key_cmp};
+ghost use Rattle.session_file.specs.Kept.{answer_row, answer_tree, rows_if_any, session_row, session_tree};
+ghost use Rattle.session_file.specs.Opening.{answer_parts};
+ghost use Rattle.session_file.specs.Rows.{AreRising, DoFit, HasNoAnswer, HasNoEntries, HasNoSession, IsAbove, IsReadFault};
+
+use crate::decoding::{answer_in, bytes_of, is_of_other_version, key_in, session_in};
+use crate::entries::Entries;
+use crate::fault::OpenFault;
+use crate::rows::{AnswerRow, SessionRow};
+use crate::writing::{ANSWER_TREE, SESSION_TREE};
+use rv_ledger::Key;
+use sqlite_trees::error::StoreError;
+use sqlite_trees::store::{Direction, Shape, Store};
+use sqlite_value::row::Row;
+use std::alloc::Global;
+
+/// Whether a key is above the last one, where there is one.
+fn is_above(key: &Key, last: &Option<Key>) -> bool
+    ensures above { IsTrue result → IsAbove key.now last.now }
+    ensures other { result ≡ false → ¬ IsAbove key.now last.now }
+{
+    match last {
+        Some(last) => *last < *key,
+        None => true,
+    }
+}
+
+/// Reads the entries of a tree, up to a row that is none of an entry by ascending keys of 32 bytes and values that fit.
+pub(crate) fn read_entries<S: Store, E: Entries>(
+    store: &mut S,
+    tree: u32,
+    row: &mut Row,
+    list: &mut E,
+) -> Result<(), OpenFault>
+    requires shape { IsClean (S.Store.view store.old) → (S.Store.view store.old).shape tree ≡ Shape.Index plain }
+    requires empty { E.Entries.taken list.old ≡ [] }
+    ensures ok { OnOk result (IsClean (S.Store.view store.new) → (S.Store.view store.old).trees tree ≡ map row_of (E.Entries.taken list.new)) }
+    ensures rising { OnOk result (AreRising (E.Entries.taken list.new)) }
+    ensures fits { OnOk result (DoFit E.Entries.fits (E.Entries.taken list.new)) }
+    ensures err { IfErr result (λ fault. IsClean (S.Store.view store.new) → IsReadFault (S.Store.view store.old) (HasNoEntries E.Entries.fits (S.Store.view store.old) tree) fault) }
+    ensures same { OnOk result (IsClean (S.Store.view store.new) → OnlyReads (S.Store.view store.old) (S.Store.view store.new)) }
+    ensures schema { KeepsSchema (S.Store.view store.old) (S.Store.view store.new) }
+    ensures quiet { IsQuiet S.Store.view S.Store.faults S.Store.recovers S.Store.is_shielded store.old store.new }
+{
+    row.clear();
+    store.seek(0, tree, row, Direction::Forward)?;
+    let mut last = None;
+    'rows: for _ in 0..u64::MAX {
+        if !store.next(0, row)? {
+            return Ok(());
+        }
+        let Some(key) = key_in(row) else {
+            return Err(OpenFault::Damaged);
+        };
+        if !is_above(&key, &last) {
+            return Err(OpenFault::Damaged);
+        }
+        if !list.take(key, bytes_of(row.get(1)))? {
+            return Err(OpenFault::Damaged);
+        }
+        last = Some(key);
+    }
+    // No store has this many rows.
+    Err(OpenFault::Store(StoreError::OutOfMemory))
+}
+
+/// Reads the row of the session, if there is one.
+pub(crate) fn read_session<S: Store>(
+    alloc: Global,
+    store: &mut S,
+    row: &mut Row,
+) -> Result<Option<SessionRow>, OpenFault>
+    requires { IsClean (S.Store.view store.old) → (S.Store.view store.old).shape session_tree ≡ Shape.Table }
+    ensures ok { IfOk result (λ found. IsClean (S.Store.view store.new) → (S.Store.view store.old).trees session_tree ≡ rows_if_any session_row found) }
+    ensures digest { IfOk result (λ found. IfSome found (λ s. length s.digest ≡ 32)) }
+    ensures err { IfErr result (λ fault. IsClean (S.Store.view store.new) → IsReadFault (S.Store.view store.old) (HasNoSession (S.Store.view store.old)) fault) }
+    ensures same { OnOk result (IsClean (S.Store.view store.new) → OnlyReads (S.Store.view store.old) (S.Store.view store.new)) }
+    ensures schema { KeepsSchema (S.Store.view store.old) (S.Store.view store.new) }
+    ensures quiet { IsQuiet S.Store.view S.Store.faults S.Store.recovers S.Store.is_shielded store.old store.new }
+{
+    row.clear();
+    store.seek(0, SESSION_TREE, row, Direction::Forward)?;
+    if !store.next(0, row)? {
+        return Ok(None);
+    }
+    if is_of_other_version(row) {
+        return Err(OpenFault::OtherVersion);
+    }
+    let Some(session) = session_in(alloc, row)? else {
+        return Err(OpenFault::Damaged);
+    };
+    if store.next(0, row)? {
+        return Err(OpenFault::Damaged);
+    }
+    Ok(Some(session))
+}
+
+/// Reads the row of the answer, if there is one.
+pub(crate) fn read_answer<S: Store>(
+    alloc: Global,
+    store: &mut S,
+    row: &mut Row,
+) -> Result<Option<AnswerRow>, OpenFault>
+    requires { IsClean (S.Store.view store.old) → (S.Store.view store.old).shape answer_tree ≡ Shape.Table }
+    ensures ok { IfOk result (λ found. IsClean (S.Store.view store.new) → (S.Store.view store.old).trees answer_tree ≡ rows_if_any answer_row (option_map answer_parts found)) }
+    ensures err { IfErr result (λ fault. IsClean (S.Store.view store.new) → IsReadFault (S.Store.view store.old) (HasNoAnswer (S.Store.view store.old)) fault) }
+    ensures same { OnOk result (IsClean (S.Store.view store.new) → OnlyReads (S.Store.view store.old) (S.Store.view store.new)) }
+    ensures schema { KeepsSchema (S.Store.view store.old) (S.Store.view store.new) }
+    ensures quiet { IsQuiet S.Store.view S.Store.faults S.Store.recovers S.Store.is_shielded store.old store.new }
+{
+    row.clear();
+    store.seek(0, ANSWER_TREE, row, Direction::Forward)?;
+    if !store.next(0, row)? {
+        return Ok(None);
+    }
+    let Some(answer) = answer_in(alloc, row)? else {
+        return Err(OpenFault::Damaged);
+    };
+    if store.next(0, row)? {
+        return Err(OpenFault::Damaged);
+    }
+    Ok(Some(answer))
+}

@@ -1,0 +1,49 @@
+//! A commit, then a stop of the machine, then an open.
+
+ghost use Rattle.std.specs.Prelude.{◌≡◌, ◌⊎◌, IfErr, IfOk, IsTrue};
+ghost use Rattle.sqlite_trees.specs.Tree.{Trees};
+ghost use Rattle.sqlite_trees.specs.View.{IsClean};
+ghost use Rattle.session_file.specs.Kept.{Kept, HoldsIn};
+ghost use Rattle.session_file.specs.Opening.{kept_of};
+ghost use Rattle.session_file.specs.Staging.{IsKeeping, IsStaged};
+
+use crate::fault::OpenFault;
+use crate::file::SessionFile;
+use crate::opening::open_session;
+use crate::rows::Found;
+use sqlite_trees::error::StoreError;
+use sqlite_trees::store::Reopen;
+use std::alloc::Global;
+
+/// Opens the store of a session again after its machine stopped, over a disk that can be made to stop. It keeps then what one of
+/// the outcomes holds that the crash allowed; where each of these holds a session, only the store can refuse it.
+pub fn restart<S: Reopen>(
+    alloc: Global,
+    file: SessionFile<S>,
+) -> Result<(SessionFile<S>, Found), (OpenFault, S)>
+    ensures ok { IfOk result (λ r. IsKeeping (S.Store.view r.0) (kept_of r.1)) }
+    ensures found { IfOk result (λ r. IsTrue (S.Store.view r.0).is_open → (db : Trees) × S.Store.recovers file db × HoldsIn db (kept_of r.1)) }
+    ensures err { IfErr result (λ e. IsClean (S.Store.view e.1) → ((db : Trees) → S.Store.recovers file db → (k : Kept) × HoldsIn db k) → (error : StoreError) × (e.0 ≡ OpenFault.Store error)) }
+{
+    let mut store = file.into_store();
+    if let Err(error) = store.crash_and_reopen() {
+        return Err((OpenFault::Store(error), store));
+    }
+    open_session(alloc, store)
+}
+
+/// Keeps what was staged, or fails to, and then the machine stops: the next open finds what was kept before, or what was staged,
+/// and only the store can refuse it. By the crash argument of the log this covers a stop at any moment of `commit`.
+pub fn commit_and_stop<S: Reopen>(
+    alloc: Global,
+    file: SessionFile<S>,
+) -> Result<(SessionFile<S>, Found), (OpenFault, S)>
+    ensures found { IfOk result (λ r. IsTrue (S.Store.view file).is_open → IsTrue (S.Store.view r.0).is_open
+        → (kept next : Kept) → IsStaged (S.Store.view file) kept next → (kept_of r.1 ≡ kept) ⊎ (kept_of r.1 ≡ next)) }
+    ensures err { IfErr result (λ e. IsTrue (S.Store.view file).is_open → IsClean (S.Store.view e.1)
+        → (kept next : Kept) → IsStaged (S.Store.view file) kept next → (error : StoreError) × (e.0 ≡ OpenFault.Store error)) }
+{
+    let mut file = file;
+    let _ = file.commit();
+    restart(alloc, file)
+}

@@ -1,0 +1,277 @@
+//! Writing the parts of a session into the open transaction. Each call leaves the transaction as far as it came.
+
+ghost use Rattle.std.specs.Prelude.{◌≡◌, ◌<◌, ◌^◌, [], ◌∷◌, ◌++◌, length, pos, IfErr, IsTrue, OnErr, OnOk};
+ghost use Rattle.std.specs.Option.{ForSome};
+ghost use Rattle.sqlite_trees.specs.View.{IsClean, IsQuiet, IsRolledBack, KeepsCommitted, KeepsSchema, OnlyWrites, SetsTree, Tells};
+ghost use Rattle.sqlite_trees.specs.Tree.{put_row, without_rowid};
+ghost use Rattle.sqlite_value.specs.Keys.{plain};
+ghost use Rattle.entry_tree.specs.Entries.{EditsTree, rows_of};
+ghost use Rattle.overlay.specs.Overlay.{with_changes};
+ghost use Rattle.session_file.specs.Rows.{HasSmallNumbers};
+ghost use Rattle.session_file.specs.Kept.{AreEntries, answer_row, answer_tree, flag, number_or_null, rules_number, session_row, session_tree, storage_tree};
+
+use crate::rows::SessionRow;
+use entry_tree::change_entry;
+use overlay::Overlay;
+use rv_ledger::{Rules, StoredValue};
+use sqlite_trees::error::StoreError;
+use sqlite_trees::store::{Shape, Store};
+use sqlite_value::row::Row;
+use sqlite_value::value::ValueRef;
+use std::alloc::AllocError;
+
+/// The tree of the storage.
+pub(crate) const STORAGE_TREE: u32 = 0;
+
+/// The tree of the programs.
+pub(crate) const PROGRAM_TREE: u32 = 1;
+
+/// The tree of the session.
+pub(crate) const SESSION_TREE: u32 = 2;
+
+/// The tree of the answer.
+pub(crate) const ANSWER_TREE: u32 = 3;
+
+/// The version of the format.
+pub(crate) const FORMAT_VERSION: i64 = 1;
+
+/// The rowid of the one row of a table.
+const ONLY_ROW: i64 = 1;
+
+/// The least number that can't be kept.
+const NUMBER_BOUND: u64 = 1 << 63;
+
+/// Makes all changes of a storage in its tree.
+pub(crate) fn change_entries<S: Store>(
+    store: &mut S,
+    row: &mut Row,
+    base: &rv_ledger::Store,
+    changes: &Overlay,
+) -> Result<(), StoreError>
+    requires { IsClean (S.Store.view store.old) → (S.Store.view store.old).shape storage_tree ≡ Shape.Index plain }
+    ensures ok { OnOk result (IsClean (S.Store.view store.new) → (S.Store.view store.old).trees storage_tree ≡ rows_of base.now
+        → EditsTree (S.Store.view store.old) (S.Store.view store.new) storage_tree (λ _. rows_of (with_changes base.now changes.now))) }
+    ensures frame { OnOk result (IsClean (S.Store.view store.new) → OnlyWrites (S.Store.view store.old) (S.Store.view store.new)) }
+    ensures limits { OnOk result (IsClean (S.Store.view store.new) → (S.Store.view store.old).trees storage_tree ≡ rows_of base.now → AreEntries base.now → AreEntries (with_changes base.now changes.now)) }
+    ensures err { IsClean (S.Store.view store.new) → OnErr result (KeepsCommitted (S.Store.view store.old) (S.Store.view store.new)) }
+    ensures told { IfErr result (Tells (S.Store.blamed store.new)) }
+    ensures schema { KeepsSchema (S.Store.view store.old) (S.Store.view store.new) }
+    ensures quiet { IsQuiet S.Store.view S.Store.faults S.Store.recovers S.Store.is_shielded store.old store.new }
+{
+    for (key, content) in changes.iter() {
+        let old = StoredValue::bytes_of(base.get(key));
+        let new = StoredValue::bytes_of(content.as_ref());
+        change_entry(store, STORAGE_TREE, row, key.bytes(), old, new)?;
+    }
+    Ok(())
+}
+
+/// Removes all entries of a storage from its tree.
+fn remove_entries<S: Store>(
+    store: &mut S,
+    row: &mut Row,
+    base: &rv_ledger::Store,
+) -> Result<(), StoreError>
+    requires { IsClean (S.Store.view store.old) → (S.Store.view store.old).shape storage_tree ≡ Shape.Index plain }
+    ensures ok { OnOk result (IsClean (S.Store.view store.new) → (S.Store.view store.old).trees storage_tree ≡ rows_of base.now
+        → EditsTree (S.Store.view store.old) (S.Store.view store.new) storage_tree (λ _. [])) }
+    ensures frame { OnOk result (IsClean (S.Store.view store.new) → OnlyWrites (S.Store.view store.old) (S.Store.view store.new)) }
+    ensures err { IsClean (S.Store.view store.new) → OnErr result (KeepsCommitted (S.Store.view store.old) (S.Store.view store.new)) }
+    ensures told { IfErr result (Tells (S.Store.blamed store.new)) }
+    ensures schema { KeepsSchema (S.Store.view store.old) (S.Store.view store.new) }
+    ensures quiet { IsQuiet S.Store.view S.Store.faults S.Store.recovers S.Store.is_shielded store.old store.new }
+{
+    for (key, value) in base.iter() {
+        change_entry(
+            store,
+            STORAGE_TREE,
+            row,
+            key.bytes(),
+            Some(value.bytes()),
+            None,
+        )?;
+    }
+    Ok(())
+}
+
+/// Inserts all entries of a storage into its tree, which is empty.
+fn insert_entries<S: Store>(
+    store: &mut S,
+    row: &mut Row,
+    storage: &rv_ledger::Store,
+) -> Result<(), StoreError>
+    requires { IsClean (S.Store.view store.old) → (S.Store.view store.old).shape storage_tree ≡ Shape.Index plain }
+    ensures ok { OnOk result (IsClean (S.Store.view store.new) → (S.Store.view store.old).trees storage_tree ≡ []
+        → EditsTree (S.Store.view store.old) (S.Store.view store.new) storage_tree (λ _. rows_of storage.now)) }
+    ensures frame { OnOk result (IsClean (S.Store.view store.new) → OnlyWrites (S.Store.view store.old) (S.Store.view store.new)) }
+    ensures limits { OnOk result (AreEntries storage.now) }
+    ensures err { IsClean (S.Store.view store.new) → OnErr result (KeepsCommitted (S.Store.view store.old) (S.Store.view store.new)) }
+    ensures told { IfErr result (Tells (S.Store.blamed store.new)) }
+    ensures schema { KeepsSchema (S.Store.view store.old) (S.Store.view store.new) }
+    ensures quiet { IsQuiet S.Store.view S.Store.faults S.Store.recovers S.Store.is_shielded store.old store.new }
+{
+    for (key, value) in storage.iter() {
+        change_entry(
+            store,
+            STORAGE_TREE,
+            row,
+            key.bytes(),
+            None,
+            Some(value.bytes()),
+        )?;
+    }
+    Ok(())
+}
+
+/// Puts all entries of a storage into its tree in the place of those of another one.
+pub(crate) fn replace_entries<S: Store>(
+    store: &mut S,
+    row: &mut Row,
+    base: &rv_ledger::Store,
+    storage: &rv_ledger::Store,
+) -> Result<(), StoreError>
+    requires { IsClean (S.Store.view store.old) → (S.Store.view store.old).shape storage_tree ≡ Shape.Index plain }
+    ensures ok { OnOk result (IsClean (S.Store.view store.new) → (S.Store.view store.old).trees storage_tree ≡ rows_of base.now
+        → EditsTree (S.Store.view store.old) (S.Store.view store.new) storage_tree (λ _. rows_of storage.now)) }
+    ensures frame { OnOk result (IsClean (S.Store.view store.new) → OnlyWrites (S.Store.view store.old) (S.Store.view store.new)) }
+    ensures limits { OnOk result (AreEntries storage.now) }
+    ensures err { IsClean (S.Store.view store.new) → OnErr result (KeepsCommitted (S.Store.view store.old) (S.Store.view store.new)) }
+    ensures told { IfErr result (Tells (S.Store.blamed store.new)) }
+    ensures schema { KeepsSchema (S.Store.view store.old) (S.Store.view store.new) }
+    ensures quiet { IsQuiet S.Store.view S.Store.faults S.Store.recovers S.Store.is_shielded store.old store.new }
+{
+    remove_entries(store, row, base)?;
+    insert_entries(store, row, storage)
+}
+
+/// The number of rules.
+fn number_of(rules: Rules) -> u8
+    ensures { result ≡ rules_number rules }
+{
+    rules as u8
+}
+
+/// Puts a number, or that there is none, behind the values of a row.
+fn push_number(row: &mut Row, number: Option<u64>) -> Result<(), AllocError>
+    requires { ForSome number (λ n. n < 2 ^ 63) }
+    ensures { OnOk result (row.new ≡ row.old ++ number_or_null number ∷ []) }
+{
+    match number {
+        Some(number) => row.push(ValueRef::Int(number as i64)),
+        None => row.push(ValueRef::Null),
+    }
+}
+
+/// Whether the numbers of a session are below 2^63.
+fn is_storable(session: &SessionRow) -> bool
+    ensures { IsTrue result → HasSmallNumbers session.now }
+{
+    session.frame_limit < NUMBER_BOUND
+        && session.frame_gas.unwrap_or(0) < NUMBER_BOUND
+        && session.height < NUMBER_BOUND
+}
+
+/// The digest of a session.
+fn digest_of(session: &SessionRow) -> &[u8; 32]
+    ensures value { result.now ≡ session.now.digest }
+    ensures count { length session.now.digest ≡ 32 }
+{
+    &session.digest
+}
+
+/// Makes the row of a session.
+pub(crate) fn make_session_row(row: &mut Row, session: SessionRow) -> Result<(), AllocError>
+    requires { HasSmallNumbers session }
+    ensures row { OnOk result (row.new ≡ session_row session) }
+    ensures digest { OnOk result (length session.digest ≡ 32) }
+{
+    row.clear();
+    row.push(ValueRef::Int(ONLY_ROW))?;
+    row.push(ValueRef::Null)?;
+    row.push(ValueRef::Int(FORMAT_VERSION))?;
+    push_number(row, Some(session.frame_limit))?;
+    push_number(row, session.frame_gas)?;
+    row.push(ValueRef::Int(i64::from(session.is_brief)))?;
+    row.push(ValueRef::Int(i64::from(number_of(session.rules))))?;
+    push_number(row, Some(session.height))?;
+    row.push(ValueRef::Blob(digest_of(&session).as_slice()))
+}
+
+/// Puts the row of a session in its tree.
+pub(crate) fn put_session<S: Store>(
+    store: &mut S,
+    row: &mut Row,
+    session: SessionRow,
+) -> Result<(), StoreError>
+    requires { IsClean (S.Store.view store.old) → (S.Store.view store.old).shape session_tree ≡ Shape.Table }
+    ensures ok { OnOk result (IsClean (S.Store.view store.new) → SetsTree (S.Store.view store.old) (S.Store.view store.new) session_tree (put_row (session_row session))) }
+    ensures digest { OnOk result (length session.digest ≡ 32) }
+    ensures err { IsClean (S.Store.view store.new) → OnErr result (KeepsCommitted (S.Store.view store.old) (S.Store.view store.new)) }
+    ensures told { IfErr result (Tells (S.Store.blamed store.new)) }
+    ensures schema { KeepsSchema (S.Store.view store.old) (S.Store.view store.new) }
+    ensures quiet { IsQuiet S.Store.view S.Store.faults S.Store.recovers S.Store.is_shielded store.old store.new }
+{
+    if !is_storable(&session) {
+        return Err(StoreError::Unstorable);
+    }
+    make_session_row(row, session)?;
+    store.put(SESSION_TREE, row)
+}
+
+/// Makes the row of an answer.
+fn make_answer_row(row: &mut Row, line: &[u8], bytes: &[u8]) -> Result<(), AllocError>
+    ensures { OnOk result (row.new ≡ answer_row (line.now, bytes.now)) }
+{
+    row.clear();
+    row.push(ValueRef::Int(ONLY_ROW))?;
+    row.push(ValueRef::Null)?;
+    row.push(ValueRef::Blob(line))?;
+    row.push(ValueRef::Blob(bytes))
+}
+
+/// Puts the row of an answer in its tree.
+pub(crate) fn put_answer<S: Store>(
+    store: &mut S,
+    row: &mut Row,
+    line: &[u8],
+    bytes: &[u8],
+) -> Result<(), StoreError>
+    requires { IsClean (S.Store.view store.old) → (S.Store.view store.old).shape answer_tree ≡ Shape.Table }
+    ensures ok { OnOk result (IsClean (S.Store.view store.new) → SetsTree (S.Store.view store.old) (S.Store.view store.new) answer_tree (put_row (answer_row (line.now, bytes.now)))) }
+    ensures err { IsClean (S.Store.view store.new) → OnErr result (KeepsCommitted (S.Store.view store.old) (S.Store.view store.new)) }
+    ensures told { IfErr result (Tells (S.Store.blamed store.new)) }
+    ensures schema { KeepsSchema (S.Store.view store.old) (S.Store.view store.new) }
+    ensures quiet { IsQuiet S.Store.view S.Store.faults S.Store.recovers S.Store.is_shielded store.old store.new }
+{
+    make_answer_row(row, line, bytes)?;
+    store.put(ANSWER_TREE, row)
+}
+
+/// Removes the row of an answer from its tree.
+pub(crate) fn clear_answer<S: Store>(store: &mut S) -> Result<(), StoreError>
+    requires { IsClean (S.Store.view store.old) → (S.Store.view store.old).shape answer_tree ≡ Shape.Table }
+    ensures ok { OnOk result (IsClean (S.Store.view store.new) → SetsTree (S.Store.view store.old) (S.Store.view store.new) answer_tree (without_rowid (pos 1))) }
+    ensures err { IsClean (S.Store.view store.new) → OnErr result (KeepsCommitted (S.Store.view store.old) (S.Store.view store.new)) }
+    ensures told { IfErr result (Tells (S.Store.blamed store.new)) }
+    ensures schema { KeepsSchema (S.Store.view store.old) (S.Store.view store.new) }
+    ensures quiet { IsQuiet S.Store.view S.Store.faults S.Store.recovers S.Store.is_shielded store.old store.new }
+{
+    store.delete(ANSWER_TREE, ONLY_ROW)
+}
+
+/// The result of a write, which rolls back where it was refused.
+pub(crate) fn settled<S: Store>(
+    store: &mut S,
+    given: Result<(), StoreError>,
+) -> Result<(), StoreError>
+    ensures given { result ≡ given }
+    ensures ok { OnOk given (store.new ≡ store.old) }
+    ensures err { OnErr given (IsRolledBack (S.Store.view store.old) (S.Store.view store.new)) }
+    ensures told { S.Store.blamed store.new ≡ S.Store.blamed store.old }
+    ensures quiet { IsQuiet S.Store.view S.Store.faults S.Store.recovers S.Store.is_shielded store.old store.new }
+{
+    if given.is_err() {
+        store.rollback();
+    }
+    given
+}
