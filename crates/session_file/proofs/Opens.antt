@@ -16,11 +16,22 @@ use Rattle.session_file.specs.declared.rows.SessionRow.{SessionRow}
 pub reads_on : (a b c : View) → OnlyReads a b → OnlyReads b c → OnlyReads a c
 reads_on a b c first second = second ∙ ap (λ (v : View). record v { cursors = c.cursors }) first
 
+-- trees are no session's of another version, where they hold one of this
+not_other : (o : Option SessionRow) → ¬ IsOfOtherVersion (rows_if_any session_row o)
+not_other None h = h
+not_other (Some s) h = h refl
+
+-- the same of what was read on
+pub this_version : (v now : View) (o : Option SessionRow) → OnlyReads v now → v.trees session_tree ≡ rows_if_any session_row o → ¬ IsOfOtherVersion (now.trees session_tree)
+this_version v now o reads is h = not_other o (subst IsOfOtherVersion (ap (λ (w : View). w.trees session_tree) reads ∙ is) h)
+
 -- a part that was not read
-pub refused_part : (v now : View) (none : Type 0) (fault : OpenFault) → OnlyReads v now → (none → (k : Kept) → ¬ HoldsIn now.trees k) → IsReadFault now none fault → IsRefused v fault
+pub refused_part : (v now : View) (none : Type 0) (fault : OpenFault) → OnlyReads v now → (none → ¬ IsOfOtherVersion (now.trees session_tree) × ((k : Kept) → ¬ HoldsIn now.trees k)) → IsReadFault now none fault → IsRefused v fault
 refused_part v now none NotASession reads gone f = absurd f
 refused_part v now none OtherVersion reads gone f = subst (λ (db : Trees). IsOfOtherVersion (db session_tree)) (ap (λ (w : View). w.trees) reads) f
-refused_part v now none Damaged reads gone f = λ k h. gone f k (subst (λ db. HoldsIn db k) (sym (ap (λ (w : View). w.trees) reads)) h)
+refused_part v now none Damaged reads gone f =
+    let same = sym (ap (λ (w : View). w.trees) reads) in
+    (λ other. (gone f).0 (subst (λ (db : Trees). IsOfOtherVersion (db session_tree)) same other), λ k h. (gone f).1 k (subst (λ db. HoldsIn db k) same h))
 refused_part v now none (Store e) reads gone f = tt
 
 -- all parts were read
@@ -48,16 +59,11 @@ keeps_read v now k fresh reads holds =
       written = holds;
     }
 
--- trees are no session's of another version, where they hold one of this
-not_other : (o : Option SessionRow) → ¬ IsOfOtherVersion (rows_if_any session_row o)
-not_other None h = h
-not_other (Some s) h = h refl
-
 -- where the trees are a session's, only the store can refuse
 pub only_store : (v : View) (k : Kept) (fault : OpenFault) → HasTrees v → HoldsIn v.trees k → IsRefused v fault → (error : StoreError) × (fault ≡ Store error)
 only_store v k NotASession trees holds f = absurd (f trees)
 only_store v k OtherVersion trees holds f = absurd (not_other k.session (subst IsOfOtherVersion holds.session f))
-only_store v k Damaged trees holds f = absurd (f k holds)
+only_store v k Damaged trees holds f = absurd (f.1 k holds)
 only_store v k (Store e) trees holds f = (e, refl)
 
 -- trees are there after a reopen

@@ -47,9 +47,10 @@ abbrev pub IsOfOtherVersion : List Row → Type 0
 IsOfOtherVersion [] = ⊥
 IsOfOtherVersion (row ∷ more) = IsOtherVersion (column row 2)
 
--- when a refusal comes; of a failure of the store, nothing is said
+-- when a refusal comes: a damaged file tells no other version, and its trees hold no session; of a failure of the store,
+-- nothing is said
 abbrev pub IsRefused : View → OpenFault → Type 0
 IsRefused v NotASession = ¬ HasTrees v
 IsRefused v OtherVersion = IsOfOtherVersion (v.trees session_tree)
-IsRefused v Damaged = (k : Kept) → ¬ HoldsIn v.trees k
+IsRefused v Damaged = ¬ IsOfOtherVersion (v.trees session_tree) × ((k : Kept) → ¬ HoldsIn v.trees k)
 IsRefused v (Store error) = ⊤

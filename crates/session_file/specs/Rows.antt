@@ -44,9 +44,9 @@ IsReadFault v none (Store error) = ⊤
 abbrev pub HasNoEntries : (List ℕ → Type 0) → View → ℕ → Type 0
 HasNoEntries fits v tree = (m : ByteMap) → DoFit fits (entries m) → v.trees tree ≢ rows_of m
 
--- a tree has neither the row of a session nor none
+-- a tree tells no other version, and has neither the row of a session nor none
 abbrev pub HasNoSession : View → Type 0
-HasNoSession v = (o : Option SessionRow) → IfSome o (λ s. length s.digest ≡ 32) → v.trees session_tree ≢ rows_if_any session_row o
+HasNoSession v = ¬ IsOfOtherVersion (v.trees session_tree) × ((o : Option SessionRow) → IfSome o (λ s. length s.digest ≡ 32) → v.trees session_tree ≢ rows_if_any session_row o)
 
 -- a tree has neither the row of an answer nor none
 abbrev pub HasNoAnswer : View → Type 0

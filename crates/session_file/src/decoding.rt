@@ -1,6 +1,6 @@
 //! What the rows of the trees stand for.
 
-ghost use Rattle.std.specs.Prelude.{◌≡◌, ◌≢◌, ◌<◌, ◌^◌, ℕ, Bool, List, Option, pos, length, IfOk, IfSome, IsTrue, None};
+ghost use Rattle.std.specs.Prelude.{◌≡◌, ◌≢◌, ◌<◌, ◌^◌, ℕ, Bool, List, Option, pos, false, length, IfOk, IfSome, IsTrue, None};
 ghost use Rattle.std.specs.Option.{ForSome};
 ghost use Rattle.sqlite_value.specs.Order.{bytes, column};
 ghost use Rattle.sqlite_value.specs.Value.{owned};
@@ -64,7 +64,8 @@ pub(crate) fn bytes_of<'a>(value: ValueRef<'a>) -> &'a [u8]
 
 /// Whether a session's row tells another version of the format.
 pub(crate) fn is_of_other_version(row: &Row) -> bool
-    ensures { IsTrue result → IsOtherVersion (column row.now 2) }
+    ensures other { IsTrue result → IsOtherVersion (column row.now 2) }
+    ensures this { result ≡ false → ¬ IsOtherVersion (column row.now 2) }
 {
     match row.get(2) {
         ValueRef::Int(version) => version != FORMAT_VERSION,
