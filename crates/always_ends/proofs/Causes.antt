@@ -1,34 +1,45 @@
 -- A call is taken back or parked no more often than lower calls change what it may have read, or end what it may wait for.
-use Rattle.std.proofs.Common.{◌≡◌, ◌≢◌, ◌<◌, ◌≤◌, ◌⊎◌, ◌+◌, ◌-◌, ◌&&◌, ◌++◌, min, nat_lt, ℕ, suc, Bool, true, false, List, [], ◌∷◌, length, map, set, get_or, Option, None, Some, arith, refl, sym, ap, subst, ◌∙◌, inl, inr}
+use Rattle.std.proofs.Common.{◌≡◌, ◌≢◌, ◌<◌, ◌≤◌, ◌⊎◌, ◌+◌, ◌-◌, ◌*◌, ◌&&◌, ◌||◌, ◌++◌, min, nat_lt, ℕ, suc, Bool, true, false, List, [], ◌∷◌, length, map, set, get_or, Option, None, Some, arith, refl, sym, ap, subst, ◌∙◌, inl, inr}
+use Rattle.std.specs.Cmp.{tied_itself}
+use Rattle.std.specs.Cmp.Derive.{both_true}
+use Rattle.std.specs.Cmp.Lexicographic.{nat_list_cmp_total}
+use Rattle.std.specs.List.{list_all}
+use Rattle.std.specs.Ordering.{is_eq}
+use Rattle.std.specs.declared.cmp.Ordering.TheVariants.{Equal}
 use Rattle.std.proofs.lemmas.Bool.{and_parts, cases_eq, cases_lt, cond_both, cond-true}
 use Rattle.std.proofs.lemmas.List.{get_or-set_same, get_or-set_other}
 use Rattle.rv_ledger.specs.declared.outcome.Counts.{Counts}
+use Rattle.rv_ledger.specs.Key.{key_cmp}
 use Rattle.rv_ledger.specs.declared.receipt.Receipt.{Receipt}
 use Rattle.rv_step.specs.declared.answer.StorageAnswer.{StorageAnswer}
 use Rattle.read_set.specs.declared.Read.{Read}
-use Rattle.mvmap.specs.Versions.{Entry, Estimate, Versions, changed, entry_at}
+use Rattle.mvmap.specs.Versions.{Entry, Estimate, Place, Versions, changed, entry_at}
 use Rattle.mvmap.specs.Reading.{is_origin, reading, stands}
+use Rattle.mvmap.proofs.Places.{get_other}
 use Rattle.mvmap.proofs.Readings.{seen_same}
 use Rattle.stm_state.specs.declared.state.Status.TheVariants.{Ready, Executing, Executed, Aborting}
 use Rattle.stm_state.specs.declared.state.CallState.{CallState}
 use Rattle.stm_state.specs.declared.state.Task.{Task}
 use Rattle.stm_state.specs.declared.state.Task.TheVariants.{Idle, Running, Moving, Validating, Marking}
 use Rattle.stm_state.specs.State.{State, fresh, start, call_at, task_at, with_call, with_task, is_aborting, is_done, is_executed, is_ready}
-use Rattle.stm_state.specs.Steps.{Block, Step, MoveKey, FinishExecution, MarkEstimate, counted, one_asking, one_execution, one_step, one_validation, next_incarnation, ask_validation, ask_execution, after_ask, answered_with, after_read_key, after_park, after_record, after_finish_execution, after_check_read, after_decide, after_finish_abort, has_new_key, is_executed_at, is_parked_on, is_some_of, keys_of, keys_to_move, next_stands, read_of, reads_of, recorded_run, resume_dependents, to_validate, version_of, written_by}
+use Rattle.stm_state.specs.Steps.{Block, Step, MoveKey, FinishExecution, MarkEstimate, counted, one_asking, one_execution, one_step, one_validation, next_incarnation, ask_validation, ask_execution, after_ask, answered_with, after_read_key, after_park, after_record, after_move_key, after_finish_execution, after_check_read, after_decide, after_finish_abort, has_new_key, is_executed_at, is_parked_on, is_some_of, keys_of, keys_to_move, next_stands, read_of, reads_of, recorded_run, resume_dependents, to_validate, version_of, written_by}
 use Rattle.stm_state.specs.Done.{started}
-use Rattle.stm_state.proofs.Invariant.{view_of, Invariant, named_by, owned_by, run_by}
+use Rattle.stm_state.specs.Parts.{has_key}
+use Rattle.stm_state.proofs.Invariant.{view_of, Invariant, IsMoved, IsUnmovedEntry, named_by, owned_by, run_by}
 use Rattle.stm_state.proofs.Lists.{ChangesAt, all_same, each_at, replicated, stays_at, set_at}
 use Rattle.stm_state.proofs.Cases.{IsMade, by_ask, by_read, by_park, by_record, by_move, by_finish, by_check, by_decide, by_mark, by_abort, made}
 use Rattle.stm_state.proofs.Checks.{executed_at_says}
 use Rattle.stm_state.proofs.OneCallChanges.{marked_owned, owned_status, unowned}
 use Rattle.stm_state.proofs.Resumptions.{readied_cases, parked_aborting}
 use Rattle.stm_state.proofs.Rounds.{each_stands}
+use Rattle.stm_state.proofs.SafeReads.{on_estimates}
 use Rattle.stm_state.proofs.Tests.{lt_is, lt_says, equal_says}
 use Rattle.stm_state.proofs.Whole.{invariant_kept, worker_kept}
 use Rattle.stm_state.proofs.Writes.{changed_other}
 use Rattle.never_stuck.proofs.Seen.{AllStand, ReadOutcome, answers_run, blocks_run, answered_stand, read_outcome}
 use Rattle.always_ends.proofs.Finished.{ended, resumed, resumed_at, resumed_other}
 use Rattle.always_ends.proofs.Measure.{Bounds}
+use Rattle.always_ends.proofs.NewKeys.{if_new}
 use Rattle.always_ends.proofs.UsedUp.{named_in, there, w_there}
 use Rattle.always_ends.proofs.Prices.{unchanged, one_more, below, comes_reached}
 use Rattle.always_ends.proofs.Changes.{of_changes, ChangesTo, changes}
@@ -37,6 +48,17 @@ use Rattle.always_ends.proofs.Changes.{of_changes, ChangesTo, changes}
 stand_below : (before after : Versions) (i : ℕ) → ((key : List ℕ) (j : ℕ) → j < i → entry_at after key j ≡ entry_at before key j) → (reads : List Read) → AllStand before i reads → AllStand after i reads
 stand_below before after i same reads stand =
     all_same (stands after i) (stands before i) (λ read. ap (is_origin read.origin) (seen_same (entry_at after read.key) (entry_at before read.key) i (λ j less. same read.key j less))) reads ∙ stand
+
+-- and where entries change at estimates alone: no read that stands has passed one
+stand_over : (s t : State) (i : ℕ) → ((key : List ℕ) (j : ℕ) → (entry_at t.versions key j ≡ entry_at s.versions key j) ⊎ (entry_at s.versions key j ≡ Some Estimate)) → (reads : List Read) → AllStand s.versions i reads → AllStand t.versions i reads
+stand_over s t i same [] stand = refl
+stand_over s t i same (read ∷ reads) stand =
+    let both = and_parts (stands s.versions i read) (list_all (stands s.versions i) reads) stand in
+    both_true (on_estimates (view_of s) (view_of t) i same read both.0) (stand_over s t i same reads both.1)
+
+-- the reads of call i that stand before stand afterwards
+abbrev pub StandOn : Versions → Versions → ℕ → Type 0
+StandOn before after i = (reads : List Read) → AllStand before i reads → AllStand after i reads
 
 -- a call that is parked on call j names it
 parked_names : (j : ℕ) (call : CallState) → is_parked_on j call ≡ true → call.parked ≡ Some j
@@ -61,16 +83,16 @@ pub record IsClean (i : ℕ) (s : State) : Type 0 where
   pub executed : (call_at s i).status ≡ Executed → AllStand s.versions i (reads_of (call_at s i).last)
   pub tasks : (x : ℕ) → IsCleanTask i (call_at s i) s.versions (task_at s x)
 
--- a clean task is so where its incarnation and its recorded reads stay, and lower calls keep their entries
-task_still : (i : ℕ) (c d : CallState) (before after : Versions) → d.incarnation ≡ c.incarnation → ((key : List ℕ) (j : ℕ) → j < i → entry_at after key j ≡ entry_at before key j) → (task : Task) → ((keys : List (List ℕ)) (new : Bool) → task ≡ Moving i keys new → reads_of d.last ≡ reads_of c.last)
+-- a clean task is so where its incarnation and its recorded reads stay, and reads that stand go on so
+task_still : (i : ℕ) (c d : CallState) (before after : Versions) → d.incarnation ≡ c.incarnation → StandOn before after i → (task : Task) → ((keys : List (List ℕ)) (new : Bool) → task ≡ Moving i keys new → reads_of d.last ≡ reads_of c.last)
     → IsCleanTask i c before task → IsCleanTask i d after task
-task_still i c d before after same entries Idle last h = tt
-task_still i c d before after same entries (Running j answers waits) last h = λ e. stand_below before after i entries (map read_of answers) (h e)
-task_still i c d before after same entries (Moving j keys new) last h = λ e.
-    stand_below before after i entries (reads_of d.last) (subst (λ reads. AllStand before i reads) (sym (last keys new (ap (λ k. Moving k keys new) e))) (h e))
-task_still i c d before after same entries (Validating j n more true) last h = λ e at. h e (at ∙ same)
-task_still i c d before after same entries (Validating j n more false) last h = tt
-task_still i c d before after same entries (Marking j keys) last h = h
+task_still i c d before after same on Idle last h = tt
+task_still i c d before after same on (Running j answers waits) last h = λ e. on (map read_of answers) (h e)
+task_still i c d before after same on (Moving j keys new) last h = λ e.
+    on (reads_of d.last) (subst (λ reads. AllStand before i reads) (sym (last keys new (ap (λ k. Moving k keys new) e))) (h e))
+task_still i c d before after same on (Validating j n more true) last h = λ e at. h e (at ∙ same)
+task_still i c d before after same on (Validating j n more false) last h = tt
+task_still i c d before after same on (Marking j keys) last h = h
 
 -- ---- a call that is READY, or whose run begins, is clean
 
@@ -107,7 +129,7 @@ module _ (block : Block) (workers : ℕ) (t : State) (inv : Invariant block work
 module _ (i w : ℕ) (s : State) (step : Step) (t : State) where
   pub data Rises : Type 0 where
     stays : (call_at t i).incarnation ≡ (call_at s i).incarnation → Rises
-    readied : (call_at t i).incarnation ≡ (call_at s i).incarnation + 1 → changes i step (task_at s w) ≡ 1 → IsClean i t → Rises
+    readied : (call_at t i).incarnation ≡ (call_at s i).incarnation + 1 → changes i step (task_at s w) s.versions ≡ 1 → IsClean i t → Rises
     aborted : (call_at t i).incarnation ≡ (call_at s i).incarnation + 1 → IsClean i t → Rises
 
 module _ (b : Bounds) (i w : ℕ) (s : State) (inv : Invariant b.block b.workers s) (w_in : w < b.workers) where
@@ -182,7 +204,7 @@ module _ (b : Bounds) (i w : ℕ) (s : State) (inv : Invariant b.block b.workers
       go (is_same ne same) = stays (ap (λ (c : CallState). c.incarnation) (is ∙ same))
       go (is_readied low same) =
           readied (ap (λ (c : CallState). c.incarnation) (is ∙ same))
-          (ap (λ task. changes i FinishExecution task) at ∙ cond-true (nat_lt j i) 1 0 (lt_is j i low))
+          (ap (λ task. changes i FinishExecution task s.versions) at ∙ cond-true (nat_lt j i) 1 0 (lt_is j i low))
           (ready_clean b.block b.workers t inv_t i (ap (λ (c : CallState). c.status) (is ∙ same)))
 
   ended_rises : (j : ℕ) (new : Bool) → task_at s w ≡ Moving j [] new → j < length s.calls → Invariant b.block b.workers (counted one_step w (after_finish_execution w j new s)) → Rises i w s FinishExecution (counted one_step w (after_finish_execution w j new s))
@@ -228,31 +250,31 @@ module _ (b : Bounds) (i w : ℕ) (s : State) (inv : Invariant b.block b.workers
   -- ---- what a step does where no read of call i fails
 
   module _ (clean : IsClean i s) where
-    clean_on : (task : Task) (t : State) → ChangesAt (task_at s) (task_at t) w task → ((key : List ℕ) (j : ℕ) → j < i → entry_at t.versions key j ≡ entry_at s.versions key j) → (call_at t i).incarnation ≡ (call_at s i).incarnation
+    clean_on : (task : Task) (t : State) → ChangesAt (task_at s) (task_at t) w task → StandOn s.versions t.versions i → (call_at t i).incarnation ≡ (call_at s i).incarnation
         → ((x : ℕ) → x ≢ w → (keys : List (List ℕ)) (new : Bool) → task_at s x ≡ Moving i keys new → reads_of (call_at t i).last ≡ reads_of (call_at s i).last) → ((call_at t i).status ≡ Executed → AllStand s.versions i (reads_of (call_at t i).last))
         → IsCleanTask i (call_at t i) t.versions task → IsClean i t
-    clean_on task t tasks entries same last executed own = record {
-      executed = λ h. stand_below s.versions t.versions i entries (reads_of (call_at t i).last) (executed h);
+    clean_on task t tasks on same last executed own = record {
+      executed = λ h. on (reads_of (call_at t i).last) (executed h);
       tasks = λ x. each_at (task_at s) (task_at t) w task tasks x (λ k. IsCleanTask i (call_at t i) t.versions k) (λ e. own)
-          (λ ne. task_still i (call_at s i) (call_at t i) s.versions t.versions same entries (task_at s x) (last x ne) (clean.tasks x));
+          (λ ne. task_still i (call_at s i) (call_at t i) s.versions t.versions same on (task_at s x) (last x ne) (clean.tasks x));
     }
 
     -- no change of what call i may have read, or call i stays clean at its incarnation
     abbrev Keeps : Step → State → Type 0
-    Keeps step t = (changes i step (task_at s w) ≡ 1) ⊎ (IsClean i t × ((call_at t i).incarnation ≡ (call_at s i).incarnation))
+    Keeps step t = (changes i step (task_at s w) s.versions ≡ 1) ⊎ (IsClean i t × ((call_at t i).incarnation ≡ (call_at s i).incarnation))
 
     -- the worker's task and the status of a call change
-    keeps_call : (j : ℕ) (own : CallState) (task : Task) (t : State) (step : Step) → ChangesAt (call_at s) (call_at t) j own → ChangesAt (task_at s) (task_at t) w task → ((key : List ℕ) (k : ℕ) → k < i → entry_at t.versions key k ≡ entry_at s.versions key k)
+    keeps_call : (j : ℕ) (own : CallState) (task : Task) (t : State) (step : Step) → ChangesAt (call_at s) (call_at t) j own → ChangesAt (task_at s) (task_at t) w task → StandOn s.versions t.versions i
         → own.incarnation ≡ (call_at s j).incarnation → reads_of own.last ≡ reads_of (call_at s j).last → (own.status ≡ Executed → (call_at s j).status ≡ Executed) → IsCleanTask i (call_at t i) t.versions task → Keeps step t
-    keeps_call j own task t step calls tasks entries same reads still fine =
+    keeps_call j own task t step calls tasks on same reads still fine =
         let incarnation = other_stays j own t calls same in
         let last : reads_of (call_at t i).last ≡ reads_of (call_at s i).last = each_at (call_at s) (call_at t) j own calls i (λ c. reads_of c.last ≡ reads_of (call_at s i).last) (λ e. reads ∙ ap (λ x. reads_of (call_at s x).last) (sym e)) (λ ne. refl) in
         let was : (call_at t i).status ≡ Executed → (call_at s i).status ≡ Executed = each_at (call_at s) (call_at t) j own calls i (λ c. c.status ≡ Executed → (call_at s i).status ≡ Executed) (λ e h. ap (λ x. (call_at s x).status) e ∙ still h) (λ ne h. h) in
-        inr (clean_on task t tasks entries incarnation (λ x ne keys new at. last) (λ h. subst (λ r. AllStand s.versions i r) (sym last) (clean.executed (was h))) fine, incarnation)
+        inr (clean_on task t tasks on incarnation (λ x ne keys new at. last) (λ h. subst (λ r. AllStand s.versions i r) (sym last) (clean.executed (was h))) fine, incarnation)
 
     -- the worker's task alone changes
     keeps_task : (task : Task) (add : Counts → Counts) (step : Step) → IsCleanTask i (call_at s i) s.versions task → Keeps step (counted add w (with_task w task s))
-    keeps_task task add step fine = keeps_call i (call_at s i) task _ step (stays_at (call_at s) i) (set_at s.tasks w task Idle (w_there b w s inv w_in)) (λ key k less. refl) refl refl (λ h. h) fine
+    keeps_task task add step fine = keeps_call i (call_at s i) task _ step (stays_at (call_at s) i) (set_at s.tasks w task Idle (w_there b w s inv w_in)) (λ reads h. h) refl refl (λ h. h) fine
 
     -- what is known of the worker's task
     own_task : (task : Task) → task_at s w ≡ task → IsCleanTask i (call_at s i) s.versions task
@@ -261,13 +283,13 @@ module _ (b : Bounds) (i w : ℕ) (s : State) (inv : Invariant b.block b.workers
     validation_keeps : (step : Step) → Keeps step (counted one_asking w (ask_validation w s))
     unfolding ask_validation
     validation_keeps step = cond_both (is_executed (call_at s s.validation).status) _ _ (λ t. Keeps step (counted one_asking w t))
-        (λ _. keeps_call i (call_at s i) (Validating s.validation (call_at s s.validation).incarnation (length (reads_of (call_at s s.validation).last)) false) _ step (stays_at (call_at s) i) (set_at s.tasks w _ Idle (w_there b w s inv w_in)) (λ key k less. refl) refl refl (λ h. h) tt)
+        (λ _. keeps_call i (call_at s i) (Validating s.validation (call_at s s.validation).incarnation (length (reads_of (call_at s s.validation).last)) false) _ step (stays_at (call_at s) i) (set_at s.tasks w _ Idle (w_there b w s inv w_in)) (λ reads h. h) refl refl (λ h. h) tt)
         (λ _. inr (record { executed = clean.executed; tasks = clean.tasks }, refl))
 
     execution_keeps : (step : Step) → s.execution < length s.calls → Keeps step (counted one_asking w (ask_execution w s))
     unfolding ask_execution
     execution_keeps step j_in = cond_both (is_ready (call_at s s.execution).status) _ _ (λ t. Keeps step (counted one_asking w t))
-        (λ _. keeps_call s.execution (record (call_at s s.execution) { status = Executing }) (Running s.execution [] None) _ step (set_at s.calls s.execution _ fresh j_in) (set_at s.tasks w _ Idle (w_there b w s inv w_in)) (λ key k less. refl) refl refl (λ h. cc) (λ e. refl))
+        (λ _. keeps_call s.execution (record (call_at s s.execution) { status = Executing }) (Running s.execution [] None) _ step (set_at s.calls s.execution _ fresh j_in) (set_at s.tasks w _ Idle (w_there b w s inv w_in)) (λ reads h. h) refl refl (λ h. cc) (λ e. refl))
         (λ _. inr (record { executed = clean.executed; tasks = clean.tasks }, refl))
 
     ask_keeps : (step : Step) → Keeps step (counted one_asking w (after_ask w s))
@@ -290,7 +312,7 @@ module _ (b : Bounds) (i w : ℕ) (s : State) (inv : Invariant b.block b.workers
     unfolding after_park
     park_keeps j on step j_in = cond_both (is_executed (call_at s on).status) _ _ (λ t. Keeps step (counted one_step w t))
         (λ _. keeps_task (Running j [] None) one_step step (λ e. refl))
-        (λ _. keeps_call j (record (call_at s j) { status = Aborting; parked = Some on }) Idle _ step (set_at s.calls j _ fresh j_in) (set_at s.tasks w Idle Idle (w_there b w s inv w_in)) (λ key k less. refl) refl refl (λ h. cc) tt)
+        (λ _. keeps_call j (record (call_at s j) { status = Aborting; parked = Some on }) Idle _ step (set_at s.calls j _ fresh j_in) (set_at s.tasks w Idle Idle (w_there b w s inv w_in)) (λ reads h. h) refl refl (λ h. cc) tt)
 
     record_keeps : (j : ℕ) (answers : List StorageAnswer) (receipt : Receipt) (step : Step) → task_at s w ≡ Running j answers None → j < length s.calls → Keeps step (counted one_execution w (after_record w j answers receipt s))
     record_keeps j answers receipt step at j_in =
@@ -299,7 +321,7 @@ module _ (b : Bounds) (i w : ℕ) (s : State) (inv : Invariant b.block b.workers
         let t = counted one_execution w (after_record w j answers receipt s) in
         let incarnation = other_stays j own t calls refl in
         inr (
-          clean_on (Moving j (keys_to_move (call_at s j).last receipt.writes) (has_new_key (call_at s j).last receipt.writes)) t (set_at s.tasks w _ Idle (w_there b w s inv w_in)) (λ key k less. refl) incarnation
+          clean_on (Moving j (keys_to_move (call_at s j).last receipt.writes) (has_new_key (call_at s j).last receipt.writes)) t (set_at s.tasks w _ Idle (w_there b w s inv w_in)) (λ reads h. h) incarnation
               (λ x ne keys new moves. elim (cases_eq i j) [
                 | inl e ↦ absurd (ne (inv.facts.alone x w i (ap owned_by moves) (ap owned_by at ∙ ap Some (sym e))))
                 | inr other ↦ ap (λ (c : CallState). reads_of c.last) (calls.other i other)
@@ -319,14 +341,38 @@ module _ (b : Bounds) (i w : ℕ) (s : State) (inv : Invariant b.block b.workers
         )
 
     -- a key of a call is moved or marked
-    entry_keeps : (j : ℕ) (key : List ℕ) (entry : Option Entry) (task : Task) (step : Step) → changes i step (task_at s w) ≡ below i j 1 → IsCleanTask i (call_at s i) s.versions task → Keeps step (counted one_step w (with_task w task (record s { versions = changed s.versions (key, j) entry })))
+    entry_stands : (j : ℕ) (key : List ℕ) (entry : Option Entry) (task : Task) (step : Step) → StandOn s.versions (changed s.versions (key, j) entry) i → IsCleanTask i (call_at s i) s.versions task → Keeps step (counted one_step w (with_task w task (record s { versions = changed s.versions (key, j) entry })))
+    entry_stands j key entry task step on fine =
+        keeps_call i (call_at s i) task _ step (stays_at (call_at s) i) (set_at s.tasks w task Idle (w_there b w s inv w_in)) on refl refl (λ h. h)
+        (task_still i (call_at s i) (call_at s i) s.versions (changed s.versions (key, j) entry) refl on task (λ keys new moves. refl) fine)
+
+    entry_keeps : (j : ℕ) (key : List ℕ) (entry : Option Entry) (task : Task) (step : Step) → changes i step (task_at s w) s.versions ≡ below i j 1 → IsCleanTask i (call_at s i) s.versions task → Keeps step (counted one_step w (with_task w task (record s { versions = changed s.versions (key, j) entry })))
     entry_keeps j key entry task step counts fine = elim (cases_lt j i) [
       | inl low ↦ inl (counts ∙ cond-true (nat_lt j i) 1 0 (lt_is j i low))
       | inr above ↦
           let entries : (k : List ℕ) (x : ℕ) → x < i → entry_at (changed s.versions (key, j) entry) k x ≡ entry_at s.versions k x = λ k x less. changed_other s.versions key j entry k x (λ e. omega (arith, above, less, e)) in
-          keeps_call i (call_at s i) task _ step (stays_at (call_at s) i) (set_at s.tasks w task Idle (w_there b w s inv w_in)) entries refl refl (λ h. h)
-          (task_still i (call_at s i) (call_at s i) s.versions (changed s.versions (key, j) entry) refl entries task (λ keys new moves. refl) fine)
+          entry_stands j key entry task step (stand_below s.versions (changed s.versions (key, j) entry) i entries) fine
     ]
+
+    -- a key is moved: where the call has an estimate, reads that stand go on so
+    move_keeps : (j : ℕ) (key : List ℕ) (keys : List (List ℕ)) (new : Bool) → task_at s w ≡ Moving j (key ∷ keys) new → Keeps MoveKey (counted one_step w (after_move_key w j key keys new s))
+    move_keeps j key keys new at = go (moved.unmoved key (both_or (tied_itself nat_list_cmp_total key)))
+      where
+        moved : IsMoved (call_at s j) (λ k. entry_at s.versions k j) (key ∷ keys) new
+        moved = inv.facts.moving w j (key ∷ keys) new at
+
+        fine : IsCleanTask i (call_at s i) s.versions (Moving j keys new)
+        fine = own_task (Moving j (key ∷ keys) new) at
+
+        both_or : key_cmp key key ≡ Equal → has_key key (key ∷ keys) ≡ true
+        both_or e = ap (λ o. is_eq o || has_key key keys) e
+
+        over : entry_at s.versions key j ≡ Some Estimate → (k : List ℕ) (x : ℕ) → (entry_at (changed s.versions (key, j) (version_of (call_at s j) key)) k x ≡ entry_at s.versions k x) ⊎ (entry_at s.versions k x ≡ Some Estimate)
+        over estimate k x = elim (get_other s.versions (key, j) (version_of (call_at s j) key) (k, x)) [ inl same ↦ inl same | inr q ↦ inr (ap (λ (p : Place). entry_at s.versions p.0 p.1) q ∙ estimate) ]
+
+        go : IsUnmovedEntry new (entry_at s.versions key j) → Keeps MoveKey (counted one_step w (after_move_key w j key keys new s))
+        go (inl estimate) = entry_stands j key (version_of (call_at s j) key) (Moving j keys new) MoveKey (stand_over s (record s { versions = changed s.versions (key, j) (version_of (call_at s j) key) }) i (over estimate)) fine
+        go (inr none) = entry_keeps j key (version_of (call_at s j) key) (Moving j keys new) MoveKey (ap (λ k. changes i MoveKey k s.versions) at ∙ ap (λ o. below i j (1 * if_new o)) none.0) fine
 
     check_keeps : (j n more : ℕ) (step : Step) → Keeps step (counted one_step w (after_check_read w j n more s))
     unfolding after_check_read
@@ -346,7 +392,7 @@ module _ (b : Bounds) (i w : ℕ) (s : State) (inv : Invariant b.block b.workers
         let parts = and_parts failed (is_executed_at n (call_at s j)) both in
         let says = executed_at_says n (call_at s j) parts.1 in
         let fails : IsCleanTask i (call_at s i) s.versions (Validating j n more true) = own_task (Validating j n more true) (at ∙ ap (λ f. Validating j n more f) parts.0) in
-        keeps_call j (record (call_at s j) { status = Aborting }) (Marking j (keys_of (written_by (call_at s j).last))) _ step (set_at s.calls j _ fresh j_in) (set_at s.tasks w _ Idle (w_there b w s inv w_in)) (λ key k less. refl) refl refl (λ h. cc)
+        keeps_call j (record (call_at s j) { status = Aborting }) (Marking j (keys_of (written_by (call_at s j).last))) _ step (set_at s.calls j _ fresh j_in) (set_at s.tasks w _ Idle (w_there b w s inv w_in)) (λ reads h. h) refl refl (λ h. cc)
         (λ e. fails e (sym says.1 ∙ ap (λ x. (call_at s x).incarnation) e)))
         (λ _. keeps_task Idle one_validation step tt)
 
@@ -365,7 +411,7 @@ module _ (b : Bounds) (i w : ℕ) (s : State) (inv : Invariant b.block b.workers
             let same : call_at t i ≡ call_at s i = get_or-set_other s.calls j i own fresh ne in
             let incarnation = ap (λ (c : CallState). c.incarnation) same in
             inr (
-              clean_on task t (set_at s.tasks w task Idle (w_there b w s inv w_in)) (λ key k less. refl) incarnation (λ x other keys new moves. ap (λ (c : CallState). reads_of c.last) same)
+              clean_on task t (set_at s.tasks w task Idle (w_there b w s inv w_in)) (λ reads h. h) incarnation (λ x other keys new moves. ap (λ (c : CallState). reads_of c.last) same)
                   (λ h. subst (λ (c : CallState). AllStand s.versions i (reads_of c.last)) (sym same) (clean.executed (ap (λ (c : CallState). c.status) (sym same) ∙ h)))
                   (subst (λ c. IsCleanTask i c s.versions task) (sym same) fine),
               incarnation,
@@ -389,7 +435,7 @@ module _ (b : Bounds) (i w : ℕ) (s : State) (inv : Invariant b.block b.workers
             let incarnation : (call_at t i).incarnation ≡ (call_at s i).incarnation = ap (λ (d : CallState). d.incarnation) now ∙ same in
             let last : reads_of (call_at t i).last ≡ reads_of (call_at s i).last = ap (λ (d : CallState). reads_of d.last) now ∙ reads in
             inr (
-              clean_on task t tasks_now (λ key k less. ap (λ v. entry_at v key k) versions) incarnation (λ x ne keys more moves. last)
+              clean_on task t tasks_now (λ reads h. subst (λ v. AllStand v i reads) (sym versions) h) incarnation (λ x ne keys more moves. last)
                   (λ h. subst (λ r. AllStand s.versions i r) (sym last) (stand (ap (λ (d : CallState). d.status) (sym now) ∙ h))) (fine (call_at t i) t.versions),
               incarnation,
             )
@@ -397,7 +443,7 @@ module _ (b : Bounds) (i w : ℕ) (s : State) (inv : Invariant b.block b.workers
         go : AfterEnd j (get_or (resumed s j) i fresh) → Keeps FinishExecution t
         go (is_ended e same) = keeps (ended s i) (is ∙ same) refl refl (λ h. own_task (Moving j [] new) at (sym e))
         go (is_same ne same) = keeps (call_at s i) (is ∙ same) refl refl clean.executed
-        go (is_readied low same) = inl (ap (λ k. changes i FinishExecution k) at ∙ cond-true (nat_lt j i) 1 0 (lt_is j i low))
+        go (is_readied low same) = inl (ap (λ k. changes i FinishExecution k s.versions) at ∙ cond-true (nat_lt j i) 1 0 (lt_is j i low))
 
     finish_keeps : (j : ℕ) (new : Bool) → task_at s w ≡ Moving j [] new → j < length s.calls → Keeps FinishExecution (counted one_step w (after_finish_execution w j new s))
     unfolding to_validate resume_dependents
@@ -411,11 +457,11 @@ module _ (b : Bounds) (i w : ℕ) (s : State) (inv : Invariant b.block b.workers
     made_keeps step t (by_read j answers key at) = read_keeps j answers key step at
     made_keeps step t (by_park j on answers at low) = park_keeps j on step (in_calls (Running j answers (Some on)) j at refl)
     made_keeps step t (by_record j answers receipt at bears low) = record_keeps j answers receipt step at (in_calls (Running j answers None) j at refl)
-    made_keeps step t (by_move j key keys new at) = entry_keeps j key (version_of (call_at s j) key) (Moving j keys new) step (ap (λ k. changes i MoveKey k) at) (own_task (Moving j (key ∷ keys) new) at)
+    made_keeps step t (by_move j key keys new at) = move_keeps j key keys new at
     made_keeps step t (by_finish j new at) = finish_keeps j new at (in_calls (Moving j [] new) j at refl)
     made_keeps step t (by_check j n more at) = check_keeps j n more step
     made_keeps step t (by_decide j n more failed at last) = decide_keeps j n more failed step at (in_calls (Validating j n more failed) j at refl)
-    made_keeps step t (by_mark j key keys at) = entry_keeps j key (Some Estimate) (Marking j keys) step (ap (λ k. changes i MarkEstimate k) at) (own_task (Marking j (key ∷ keys)) at)
+    made_keeps step t (by_mark j key keys at) = entry_keeps j key (Some Estimate) (Marking j keys) step (ap (λ k. changes i MarkEstimate k s.versions) at) (own_task (Marking j (key ∷ keys)) at)
     made_keeps step t (by_abort j at) = abort_keeps j step at (in_calls (Marking j []) j at refl)
 
 -- ---- lists of steps
@@ -425,7 +471,7 @@ abbrev IsCaused : ℕ → ℕ → State → Type 0
 IsCaused i n s = ((call_at s i).incarnation < n) ⊎ (((call_at s i).incarnation ≤ n) × IsClean i s)
 
 module _ (b : Bounds) (i : ℕ) where
-  caused_then : (w x n : ℕ) (s t : State) (step : Step) → x ≡ changes i step (task_at s w) → IsCaused i n s → Rises i w s step t → (IsClean i s → (x ≡ 1) ⊎ (IsClean i t × ((call_at t i).incarnation ≡ (call_at s i).incarnation))) → IsCaused i (n + x) t
+  caused_then : (w x n : ℕ) (s t : State) (step : Step) → x ≡ changes i step (task_at s w) s.versions → IsCaused i n s → Rises i w s step t → (IsClean i s → (x ≡ 1) ⊎ (IsClean i t × ((call_at t i).incarnation ≡ (call_at s i).incarnation))) → IsCaused i (n + x) t
   caused_then w x n s t step e (inl less) (stays same) keeps = inl (omega (arith, less, same))
   caused_then w x n s t step e (inl less) (readied up counts clean) keeps = inl (omega (arith, less, up, counts, e))
   caused_then w x n s t step e (inl less) (aborted up clean) keeps = inr (omega (arith, less, up), clean)
@@ -446,7 +492,7 @@ module _ (b : Bounds) (i : ℕ) where
       let inv = invariant_kept b.block b.workers s (comes_reached b of_changes i before_n s before) in
       let inv_t = worker_kept b.block b.workers w s t inv w_in step k in
       let is = made b.block w s t step k in
-      caused_then w (changes i step (task_at s w)) before_n s t step refl (caused before_n s before) (made_rises b i w s inv w_in step t is inv_t) (λ clean. made_keeps b i w s inv w_in clean step t is)
+      caused_then w (changes i step (task_at s w) s.versions) before_n s t step refl (caused before_n s before) (made_rises b i w s inv w_in step t is inv_t) (λ clean. made_keeps b i w s inv w_in clean step t is)
 
   pub caused_most : (n : ℕ) (s : State) → ChangesTo b i n s → (call_at s i).incarnation ≤ n
   caused_most n s h = elim (caused n s h) [ inl less ↦ omega (arith, less) | inr most ↦ most.0 ]

@@ -5,6 +5,7 @@ pub mod UsedUp
 pub mod WorkOfLists
 pub mod IdleWorkers
 pub mod Walks
+pub mod NewKeys
 pub mod Prices
 pub mod Changes
 pub mod Causes

@@ -31,10 +31,10 @@ module _ (b : Bounds) where
 
   has_changes : (top : ℕ) (s : State) → Reached b.block b.workers s → HasChanges top s
   has_changes top s started = record { number = 0; made = unchanged }
-  has_changes top t (stepped {s} w step before w_in k) = let rest = has_changes top s before in record { number = rest.number + changes top step (task_at s w); made = one_more w step rest.made w_in k }
+  has_changes top t (stepped {s} w step before w_in k) = let rest = has_changes top s before in record { number = rest.number + changes top step (task_at s w) s.versions; made = one_more w step rest.made w_in k }
 
   -- the incarnation of a call is at most so many times those of the lower ones, with one more for each
-  pub incarnation_caused : (s : State) → Reached b.block b.workers s → (i : ℕ) → (call_at s i).incarnation ≤ (3 * b.writes + 1) * sum_to i (λ j. (call_at s j).incarnation + 1)
+  pub incarnation_caused : (s : State) → Reached b.block b.workers s → (i : ℕ) → (call_at s i).incarnation ≤ (2 * b.writes + 1) * sum_to i (λ j. (call_at s j).incarnation + 1)
   incarnation_caused s reached i =
       let h = has_changes i s reached in
       let few = changes_few b i h.number s h.made in
@@ -63,10 +63,10 @@ module _ (b : Bounds) where
   pub all_bounded : (s : State) → Reached b.block b.workers s → b.block.count + incarnations s ≤ most_incarnations b.block.count b.writes
   all_bounded s reached =
       let low = limited s reached in
-      let powers = grown (3 * b.writes + 1) (λ j. (call_at s j).incarnation) (incarnation_caused s reached) b.block.count in
+      let powers = grown (2 * b.writes + 1) (λ j. (call_at s j).incarnation) (incarnation_caused s reached) b.block.count in
       let is = all_of s (invariant_kept b.block b.workers s reached).sized.calls in
-      let more = at_least (3 * b.writes) (sum_to b.block.count (λ j. (call_at s j).incarnation + 1)) in
-      let same : (3 * b.writes + 1 + 1) ^ b.block.count ≡ (3 * b.writes + 2) ^ b.block.count = ap (λ n. n ^ b.block.count) (one_up (3 * b.writes)) in
+      let more = at_least (2 * b.writes) (sum_to b.block.count (λ j. (call_at s j).incarnation + 1)) in
+      let same : (2 * b.writes + 1 + 1) ^ b.block.count ≡ (2 * b.writes + 2) ^ b.block.count = ap (λ n. n ^ b.block.count) (one_up (2 * b.writes)) in
       omega (arith, low, powers, is, more, same)
 
   -- what all incarnations together bring, those at the start among them
@@ -84,7 +84,7 @@ bounds_of block workers reads writes small = record { block = block; workers = w
 
 pub incarnations_are_bounded : IncarnationsAreBounded
 incarnations_are_bounded block workers reads writes s i small reached =
-    subst (λ n. (call_at s i).incarnation < n ^ i) (one_up (3 * writes)) (grows (3 * writes + 1) (λ j. (call_at s j).incarnation) (incarnation_caused (bounds_of block workers reads writes small) s reached) i)
+    subst (λ n. (call_at s i).incarnation < n ^ i) (one_up (2 * writes)) (grows (2 * writes + 1) (λ j. (call_at s j).incarnation) (incarnation_caused (bounds_of block workers reads writes small) s reached) i)
 
 pub incarnations_have_causes : IncarnationsHaveCauses
 incarnations_have_causes block workers reads writes s i small reached i_in =
@@ -93,7 +93,7 @@ incarnations_have_causes block workers reads writes s i small reached i_in =
     let list = sum_list (λ (c : CallState). c.incarnation + 1) fresh (take i s.calls) in
     let sized = ap (λ n. sum_to n (λ j. (get_or (take i s.calls) j fresh).incarnation + 1)) long in
     let same = sum_alike i (λ j. (get_or (take i s.calls) j fresh).incarnation + 1) (λ j. (call_at s j).incarnation + 1) (λ j less. ap (λ (c : CallState). c.incarnation + 1) (get_or-take i s.calls j fresh less)) in
-    subst (λ n. (call_at s i).incarnation ≤ (3 * writes + 1) * n) (sym (list ∙ sized ∙ same)) (incarnation_caused (bounds_of block workers reads writes small) s reached i)
+    subst (λ n. (call_at s i).incarnation ≤ (2 * writes + 1) * n) (sym (list ∙ sized ∙ same)) (incarnation_caused (bounds_of block workers reads writes small) s reached i)
 
 pub all_incarnations_are_bounded : AllIncarnationsAreBounded
 all_incarnations_are_bounded block workers reads writes s small reached = all_bounded (bounds_of block workers reads writes small) s reached

@@ -19,7 +19,7 @@ use Rattle.stm_state.proofs.Tests.{lt_is, lt_says}
 use Rattle.stm_state.proofs.Whole.{invariant_kept}
 use Rattle.std.proofs.lemmas.Bool.{cond-true}
 use Rattle.always_ends.specs.Work.{IsSmall, incarnations, most_incarnations}
-use Rattle.always_ends.specs.Laws.{SmallBlocksMeetNoLimit, SevenCallsAreSmall}
+use Rattle.always_ends.specs.Laws.{SmallBlocksMeetNoLimit, EightCallsAreSmall}
 use Rattle.always_ends.proofs.Sums.{le_through, sum_to}
 use Rattle.always_ends.proofs.Measure.{Bounds}
 use Rattle.always_ends.proofs.UsedUp.{named_in}
@@ -113,10 +113,10 @@ module _ (b : Bounds) (w : ℕ) (s : State) (inv : Invariant b.block b.workers s
   abort_fits i = cond_both (nat_lt i s.execution) _ _ (λ t. Fits t 0) (λ _. omega arith) (λ _. omega arith)
 
   -- a record of call i counts
-  counts_one : (i : ℕ) (answers : List StorageAnswer) → task_at s w ≡ Running i answers None → price of_records b.block.count Record (task_at s w) ≡ 1
-  counts_one i answers at = ap (λ task. price of_records b.block.count Record task) at ∙ cond-true (nat_lt i b.block.count) 1 0 (lt_is i b.block.count (named_in b w s inv w_in (Running i answers None) i at refl))
+  counts_one : (i : ℕ) (answers : List StorageAnswer) → task_at s w ≡ Running i answers None → price of_records b.block.count Record (task_at s w) s.versions ≡ 1
+  counts_one i answers at = ap (λ task. price of_records b.block.count Record task s.versions) at ∙ cond-true (nat_lt i b.block.count) 1 0 (lt_is i b.block.count (named_in b w s inv w_in (Running i answers None) i at refl))
 
-  made_fits : (step : Step) (t : State) → IsMade b.block w s step t → Fits t (price of_records b.block.count step (task_at s w))
+  made_fits : (step : Step) (t : State) → IsMade b.block w s step t → Fits t (price of_records b.block.count step (task_at s w) s.versions)
   made_fits step t (by_ask at) = ask_fits
   made_fits step t (by_read i answers key at) = omega arith
   made_fits step t (by_park i on answers at low) = park_fits i on
@@ -137,7 +137,7 @@ module _ (b : Bounds) (w : ℕ) (s : State) (inv : Invariant b.block b.workers s
 no_room : (writes number most placed more : ℕ) → placed ≤ writes * number → more ≤ writes → writes * (number + 1) ≤ writes * most → writes * most ≤ record_limit → record_limit < placed + more → ⊥
 no_room writes number most placed more fits few times room over = omega (arith, fits, few, times, room, over)
 
-power_grows : (writes i j : ℕ) → i ≤ j → (3 * writes + 2) ^ i ≤ (3 * writes + 2) ^ j
+power_grows : (writes i j : ℕ) → i ≤ j → (2 * writes + 2) ^ i ≤ (2 * writes + 2) ^ j
 power_grows writes i j less = pow-le-pow_right (omega arith) less
 
 module _ (b : Bounds) where
@@ -154,7 +154,7 @@ module _ (b : Bounds) where
       let inv = invariant_kept b.block b.workers s before in
       let more = made_fits b w s inv w_in step t (made b.block w s t step k) in
       let fit = rest.fits in
-      record { number = rest.number + price of_records b.block.count step (task_at s w); made = one_more w step rest.made w_in k; fits = omega (arith, more, fit) }
+      record { number = rest.number + price of_records b.block.count step (task_at s w) s.versions; made = one_more w step rest.made w_in k; fits = omega (arith, more, fit) }
 
   -- while a run is going on, its record is still to come
   one_left : (s : State) → Reached b.block b.workers s → (w i : ℕ) (answers : List StorageAnswer) (waits : Option ℕ) → w < b.workers → task_at s w ≡ Running i answers waits → (h : HasRecords s) → h.number + 1 ≤ b.block.count + incarnations s
@@ -170,7 +170,7 @@ module _ (b : Bounds) where
       omega (arith, all, total, runs, times)
 
   -- on a small block nothing is refused
-  none_refused : (s : State) → Reached b.block b.workers s → (w : ℕ) → w < b.workers → IsSmall b.block.count b.writes → ((i : ℕ) → (call_at s i).incarnation < (3 * b.writes + 2) ^ i) → IsRefused b.block w s → ⊥
+  none_refused : (s : State) → Reached b.block b.workers s → (w : ℕ) → w < b.workers → IsSmall b.block.count b.writes → ((i : ℕ) → (call_at s i).incarnation < (2 * b.writes + 2) ^ i) → IsRefused b.block w s → ⊥
   none_refused s reached w w_in small low (is_full i answers receipt at bears over) =
       let h = has_records s reached in
       let fits = h.fits in
@@ -194,12 +194,12 @@ small_blocks_meet_no_limit block workers reads writes limit most_of small meets 
     none_refused (bounds_of block workers reads writes most_of) meets.state meets.reached meets.worker meets.within small (λ i. incarnations_are_bounded block workers reads writes meets.state i most_of meets.reached)
     (refused_by block meets.worker meets.state limit (task_at meets.state meets.worker) refl meets.step meets.refused)
 
--- ---- seven calls
+-- ---- eight calls
 
-pub seven_calls_are_small : SevenCallsAreSmall
-seven_calls_are_small count few = record {
+pub eight_calls_are_small : EightCallsAreSmall
+eight_calls_are_small count few = record {
   room =
-      let power = power_grows 1 count 7 few in
+      let power = power_grows 1 count 8 few in
       omega (arith, power);
-  low = let power = power_grows 1 (count - 1) 6 (omega (arith, few)) in omega (arith, power);
+  low = let power = power_grows 1 (count - 1) 7 (omega (arith, few)) in omega (arith, power);
 }

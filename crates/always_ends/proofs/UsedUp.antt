@@ -33,7 +33,7 @@ use Rattle.always_ends.proofs.Finished.{ended, resumed, resumed_at, resumed_othe
 use Rattle.always_ends.proofs.Measure.{Bounds, check, run, executed, executing, cost, check_is, executed_is, executing_is, ready_is, cost_is, stage, waiting_left, reads_left, task_left, indices_left, is_executed_in, calls_left, tasks_left, brought, Uses, first_run, task_grows, task_most, validation_passes, execution_passes, indices_most, execution_lowered}
 
 -- the keys that a run is to move are at most those that it wrote and those that the run before it wrote
-pub keys_few : (most : ℕ) (last : Option Recorded) (writes : WriteMap) → len writes ≤ most → length (keys_of (written_by last)) ≤ most → length (keys_to_move last writes) ≤ 2 * most
+keys_few : (most : ℕ) (last : Option Recorded) (writes : WriteMap) → len writes ≤ most → length (keys_of (written_by last)) ≤ most → length (keys_to_move last writes) ≤ 2 * most
 keys_few most last writes few before =
     let p : List ℕ × ContentChange → Bool = λ write. not (contains_key writes write.0) in
     omega (

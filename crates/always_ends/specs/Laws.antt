@@ -28,15 +28,15 @@ WorkButReadsIsBounded = (block : Block) (workers reads writes work : ℕ) (s : S
 -- ---- no call is taken back without a cause
 
 -- whatever steps led there, the incarnation of a call is at most so many times the incarnations of the lower calls, with one more
--- for each: it is taken back only after a lower call moved or marked a key, and is parked only until one finishes
+-- for each: it is taken back only after a lower call marked a key, or moved one where it had no entry, and is parked only until one finishes
 abbrev pub IncarnationsHaveCauses : Type 0
 IncarnationsHaveCauses = (block : Block) (workers reads writes : ℕ) (s : State) (i : ℕ) → HasAtMost reads writes block → Reached block workers s → i < block.count
-    → (call_at s i).incarnation ≤ (3 * writes + 1) * sum_by (λ call. call.incarnation + 1) (take i s.calls)
+    → (call_at s i).incarnation ≤ (2 * writes + 1) * sum_by (λ call. call.incarnation + 1) (take i s.calls)
 
 -- so the first call stays at incarnation 0, and each other one below a power of its number
 abbrev pub IncarnationsAreBounded : Type 0
 IncarnationsAreBounded = (block : Block) (workers reads writes : ℕ) (s : State) (i : ℕ) → HasAtMost reads writes block → Reached block workers s
-    → (call_at s i).incarnation < (3 * writes + 2) ^ i
+    → (call_at s i).incarnation < (2 * writes + 2) ^ i
 
 -- and all of them together are bounded
 abbrev pub AllIncarnationsAreBounded : Type 0
@@ -88,6 +88,6 @@ abbrev pub SmallBlocksReachTheEnd : Type 0
 SmallBlocksReachTheEnd = (calls : List Invocation) (store : Storage) (workers reads writes : ℕ) (schedule : ℕ → ℕ) → 1 ≤ workers → workers ≤ 32 → HasAtMost reads writes (block_of calls store) → IsSmall (length calls) writes → IsFair workers schedule
     → (n : ℕ) × (t : State) × (drive_of calls store workers (first_entries n schedule) ≡ Ok t)
 
--- as by calls of at most one write each, if they are at most seven
-abbrev pub SevenCallsAreSmall : Type 0
-SevenCallsAreSmall = (count : ℕ) → count ≤ 7 → IsSmall count 1
+-- as by calls of at most one write each, if they are at most eight
+abbrev pub EightCallsAreSmall : Type 0
+EightCallsAreSmall = (count : ℕ) → count ≤ 8 → IsSmall count 1

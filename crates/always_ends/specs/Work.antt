@@ -54,7 +54,7 @@ work_by_incarnation workers count reads writes = (workers + 1) * (reads + 2 * wr
 -- the incarnations of all calls together, with one more for each, are at most so many: no incarnation is above the limit; and
 -- without a limit too they are bounded, since no call is taken back or parked without a cause
 abbrev pub most_incarnations : (count writes : ℕ) → ℕ
-most_incarnations count writes = min (count * (incarnation_limit + 1)) ((3 * writes + 2) ^ count)
+most_incarnations count writes = min (count * (incarnation_limit + 1)) ((2 * writes + 2) ^ count)
 
 -- the most work that there can be on a job; a read of the storage takes 200 gas, and a call writes at most 256 keys
 abbrev pub most_work : (workers count gas : ℕ) → ℕ
@@ -63,4 +63,4 @@ most_work workers count gas = most_incarnations count 256 * work_by_incarnation 
 -- a block is small: so many records of so many writes fit the arena, and no incarnation comes to the limit
 pub record IsSmall (count writes : ℕ) : Type 0 where
   pub room : writes * most_incarnations count writes ≤ record_limit
-  pub low : (3 * writes + 2) ^ (count - 1) < incarnation_limit
+  pub low : (2 * writes + 2) ^ (count - 1) < incarnation_limit
