@@ -335,7 +335,7 @@ def controls(trial):
     """A node that lies once and one that runs a changed program: both have to be named."""
     cluster, height = trial.cluster, trial.cluster.heights() + 3
     cluster.node("liar", script="liar", env={**os.environ, "LIE_AT": str(height)})
-    cluster.settle(["liar"])
+    cluster.wait_for("liar", "begins at")
     for _ in range(5):
         cluster.append(transfers.transfers(trial.random, CALLS))
     say("control: " + cluster.wait_for("liar", "STOPS").split(" ", 1)[1])
