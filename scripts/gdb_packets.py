@@ -16,6 +16,7 @@ SIGNALS = {
     "reverted": ABRT, "out-of-gas": XCPU, "illegal": ILL, "misaligned": BUS, "memory-fault": SEGV, "fetch-fault": SEGV,
     "breakpoint": TRAP, "unknown-call": SYS, "bad-length": SYS, "too-many-writes": XFSZ,
 }
+TRAPPED = f"T{TRAP:02x}"  # how the packet of a stop begins, but for an end by another signal
 MOVES = ("b", "c", "C", "s", "S", "vCont;")  # how packets begin that are answered by a stop
 INTERRUPT, SECONDS_OF_INTERRUPT = b"\x03", 1  # and how long it counts, since gdb may send it when a move has ended
 REFUSAL = "E.the call is replayed, so nothing of it can be changed"
@@ -105,7 +106,7 @@ class Server:
 
     def __init__(self, wire, open_call):
         self.wire, self.open_call, self.opened = wire, open_call, None
-        self.breakpoints, self.watches, self.stopped = {}, {}, "T05"
+        self.breakpoints, self.watches, self.stopped = {}, {}, TRAPPED
         self.answers = {
             "?": lambda _: self.stop(self.stopped), "g": self.all_registers, "p": self.register, "m": self.memory,
             "G": self.refuse, "P": self.refuse, "M": self.refuse, "X": self.refuse,
@@ -224,22 +225,22 @@ class Server:
 
     def stop(self, reason):
         """A stop, with the registers that gdb asks for first."""
-        self.stopped = "T05" if "watch" in reason else reason
+        self.stopped = TRAPPED if "watch" in reason else reason
         mark = "" if reason[-1] == ";" or len(reason) == 3 else ";"
         return reason + mark + "".join(f"{number:02x}:{self.register_text(number)};" for number in FIRST_ASKED)
 
     def stop_for(self, found, at_end):
         """The stop for what a move found; nothing is the end of the call, or its start."""
         if isinstance(found, moments.Changes):
-            return self.stop(f"T05watch:{found.start:x};")
-        return self.stop("T05") if found else at_end()
+            return self.stop(f"{TRAPPED}watch:{found.start:x};")
+        return self.stop(TRAPPED) if found else at_end()
 
     def at_end(self):
         self.wire.tell(self.call.end_text())
-        return self.stop(f"T{SIGNALS[self.call.end]:02x}" if self.call.end in SIGNALS else "T05replaylog:end;")
+        return self.stop(f"T{SIGNALS[self.call.end]:02x}" if self.call.end in SIGNALS else f"{TRAPPED}replaylog:end;")
 
     def at_start(self):
-        return self.stop("T05replaylog:begin;")
+        return self.stop(f"{TRAPPED}replaylog:begin;")
 
     def step(self, _):
         return self.stop_for(self.call.step(list(self.watches.values())), self.at_end)
