@@ -30,7 +30,7 @@ pub fn migrate(alloc: Global, bytes: &[u8]) -> Result<Vec<u8>, BlockFault>
     parse(alloc, bytes)?;
     match in_second_format(alloc, &bytes[FIRST_HEADER.len() + 1..]) {
         Ok(text) => Ok(text),
-        Err(_) => Err(BlockFault {
+        Err(AllocError) => Err(BlockFault {
             line: 1,
             cause: Cause::Memory,
         }),

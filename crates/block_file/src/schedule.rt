@@ -7,7 +7,7 @@ ghost use Rattle.block_file.specs.Schedule.{entry_of, with_entry, schedule_of};
 
 use crate::fault::{BlockFault, Cause};
 use crate::fields;
-use std::alloc::Global;
+use std::alloc::{AllocError, Global};
 
 /// The entries of a schedule file in order. Each is the number of a worker: one decimal of at most
 /// 65,535 per line, and a line feed at the end of each line. Refused as BadNumber at the first line
@@ -17,7 +17,7 @@ pub fn parse_schedule(alloc: Global, bytes: &[u8]) -> Result<Vec<u16>, BlockFaul
 {
     match fields::parts(alloc, bytes, b'\n') {
         Ok(parts) => entries_of(alloc, parts.as_slice()),
-        Err(_) => Err(BlockFault {
+        Err(AllocError) => Err(BlockFault {
             line: 1,
             cause: Cause::Memory,
         }),

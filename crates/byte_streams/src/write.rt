@@ -50,6 +50,6 @@ fn taken(answer: io::Result<usize>) -> Result<usize, WriteFault>
     match answer {
         Ok(0) => Err(WriteFault::WroteNothing),
         Ok(count) => Ok(count),
-        Err(_) => Err(WriteFault::Io),
+        Err(io::Error { .. }) => Err(WriteFault::Io),
     }
 }

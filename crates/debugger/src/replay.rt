@@ -64,7 +64,7 @@ impl Replay {
         };
         match Replay::start(alloc, call, store) {
             Ok(replay) => Ok(replay),
-            Err(_) => Err(ReplayFault::Memory),
+            Err(AllocError) => Err(ReplayFault::Memory),
         }
     }
 
@@ -96,7 +96,7 @@ impl Replay {
                 self.moment += 1;
                 Ok(())
             }
-            Err(_) => Err(ReplayFault::Memory),
+            Err(AllocError) => Err(ReplayFault::Memory),
         }
     }
 
@@ -115,7 +115,7 @@ impl Replay {
                 self.moment = moment;
                 Ok(())
             }
-            Err(_) => Err(ReplayFault::Memory),
+            Err(AllocError) => Err(ReplayFault::Memory),
         }
     }
 
@@ -174,7 +174,7 @@ impl Replay {
                 self.moment = moment;
                 Ok(())
             }
-            Err(_) => Err(ReplayFault::Memory),
+            Err(AllocError) => Err(ReplayFault::Memory),
         }
     }
 
@@ -313,7 +313,7 @@ impl Replay {
         };
         match text.push_str(place.as_str()) {
             Ok(()) => Ok(()),
-            Err(_) => Err(ReplayFault::Memory),
+            Err(AllocError) => Err(ReplayFault::Memory),
         }
     }
 }

@@ -11,7 +11,8 @@ use crate::command::{Command, heard_of};
 use crate::fault::DebugFault;
 use crate::replay::Replay;
 use byte_streams::{Destination, Source, WriteFault, write_whole};
-use std::alloc::Global;
+use std::alloc::{AllocFailed, Global};
+use std::io;
 
 /// The byte that ends a line.
 const LINE_END: u8 = b'\n';
@@ -126,7 +127,7 @@ fn hear<W: Destination>(
         if *byte != LINE_END {
             match line.push(*byte) {
                 Ok(()) => continue,
-                Err(_) => return Err(DebugFault::Memory),
+                Err(AllocFailed { .. }) => return Err(DebugFault::Memory),
             }
         }
         match answer_line(alloc, has_more, replay, line.as_slice(), out) {
@@ -188,6 +189,6 @@ fn print<W: Destination>(text: &[u8], out: &mut W) -> Result<(), WriteFault>
     }
     match out.flush_written() {
         Ok(()) => Ok(()),
-        Err(_) => Err(WriteFault::Io),
+        Err(io::Error { .. }) => Err(WriteFault::Io),
     }
 }

@@ -138,6 +138,6 @@ pub fn load(alloc: Global, bytes: &[u8]) -> Result<Image, ElfError>
     }
     match image(alloc, bytes) {
         Ok(image) => Ok(image),
-        Err(_) => Err(ElfError::Memory),
+        Err(AllocError) => Err(ElfError::Memory),
     }
 }

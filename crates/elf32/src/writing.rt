@@ -192,7 +192,7 @@ pub fn write(alloc: Global, program: &Program) -> Result<Vec<u8>, ElfError>
     }
     match file(alloc, program) {
         Ok(file) => Ok(file),
-        Err(_) => Err(ElfError::Memory),
+        Err(AllocError) => Err(ElfError::Memory),
     }
 }
 

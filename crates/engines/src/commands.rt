@@ -440,6 +440,6 @@ fn chain_by<C: CallRunner, I: Read, W: Destination>(
 fn opened<D: Disk>(disk: &D, path: &str) -> Result<FallibleReader<D::File>, Refusal> {
     match disk.open(path) {
         Ok(reader) => Ok(FallibleReader { reader }),
-        Err(_) => Err(Refusal::File(FileFault::Unreadable)),
+        Err(io::Error { .. }) => Err(Refusal::File(FileFault::Unreadable)),
     }
 }

@@ -92,7 +92,7 @@ fn replay_behind(alloc: Global, job: &Job, call: usize) -> Result<Replay, Refusa
     };
     match Replay::start(alloc, shown, store) {
         Ok(replay) => Ok(replay),
-        Err(_) => Err(Refusal::Debug(ReplayFault::Memory)),
+        Err(AllocError) => Err(Refusal::Debug(ReplayFault::Memory)),
     }
 }
 

@@ -1,9 +1,10 @@
 //! Making changes of a storage, all of them or none.
 
-ghost use Rattle.std.specs.Prelude.{◌≡◌, IfOk, OnErr, OnOk};
+ghost use Rattle.std.specs.Prelude.{◌≡◌, ℕ, List, IfOk, OnErr, OnOk};
 ghost use Rattle.std.specs.FinMap as map;
-ghost use Rattle.overlay.specs.Overlay.{with_changes, set_content};
-ghost use Rattle.overlay.specs.Commit.{AreAbsent, Fits, IsKnown, absent_of, all_set, grown, shrunk};
+ghost use Rattle.overlay.specs.Overlay.{Changes, with_changes, set_content};
+ghost use Rattle.rv_ledger.specs.Key.{Storage};
+ghost use Rattle.overlay.specs.Commit.{AreAbsent, Fits, HasRoom, IsKnown, absent_of, all_set, grown, shrunk};
 
 use crate::overlay::Overlay;
 use rv_ledger::{Key, Store, StoredValue, Value};
@@ -15,15 +16,43 @@ use std::collections::BTreeMap;
 ///
 /// Only a key that the storage does not have yet takes memory. So these keys are put in first, with no value: where
 /// memory runs out they are removed again, which takes none. Then every key gets what it is to have.
-#[tactic(auto, using(crate::proofs::Commits::are_absent, crate::proofs::Commits::changes_fit, crate::proofs::Commits::changes_made))]
+#[tactic(auto, using(crate::proofs::Commits::room_fits, crate::proofs::Commits::room_made))]
 pub fn commit(store: &mut Store, changes: Overlay) -> Result<(), AllocError>
     ensures ok { OnOk result (store.new ≡ with_changes store.old changes) }
     ensures err { OnErr result (store.new ≡ store.old) }
 {
-    let absent = absent_keys(store, &changes)?;
-    grow(store, absent.as_slice())?;
-    set_all(store, changes.into_entries());
+    make_room(store, &changes)?;
+    make(store, changes);
     Ok(())
+}
+
+/// Makes the room that changes need: puts in the keys that are to have a value and that the storage does not have, with no
+/// value, and returns them. Refused where memory ran out, and then nothing changes.
+#[tactic(auto, using(crate::proofs::Commits::are_absent))]
+pub fn make_room(store: &mut Store, changes: &Overlay) -> Result<Vec<Key>, AllocError>
+    ensures ok { IfOk result (λ keys. HasRoom store.old changes.now keys.items store.new) }
+    ensures err { OnErr result (store.new ≡ store.old) }
+{
+    let absent = absent_keys(store, changes)?;
+    grow(store, absent.as_slice())?;
+    Ok(absent)
+}
+
+/// Gives the room back: the storage is as it was before.
+#[tactic(auto, using(crate::proofs::Commits::given_back))]
+pub fn give_back(store: &mut Store, keys: &[Key])
+    ensures { (before : Storage) (changes : Changes) → HasRoom before changes keys.now store.old → store.new ≡ before }
+{
+    shrink(store, keys);
+}
+
+/// Makes all changes of a storage that has the room. Takes no memory.
+#[tactic(auto, using(crate::proofs::Commits::room_fits, crate::proofs::Commits::room_made))]
+pub fn make(store: &mut Store, changes: Overlay)
+    requires { Fits store.old (map.entries changes) }
+    ensures { (before : Storage) (keys : List (List ℕ)) → HasRoom before changes keys store.old → store.new ≡ with_changes before changes }
+{
+    set_all(store, changes.into_entries());
 }
 
 /// The changed keys that are to have a value and that the storage does not have; refused where memory ran out.

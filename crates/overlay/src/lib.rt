@@ -5,6 +5,6 @@ mod committing;
 mod layers;
 mod overlay;
 
-pub use committing::commit;
+pub use committing::{commit, give_back, make, make_room};
 pub use layers::{Layers, apply_receipts, apply_writes, copy_with_receipts};
 pub use overlay::Overlay;

@@ -23,10 +23,10 @@ pub fn receipts_text(
     let mut waiting = TextBuffer::new(alloc)?;
     let mut text = Vec::new(alloc);
     push_receipts(&mut waiting, is_brief, receipts, &mut text);
-    match waiting.finish(&mut text) {
-        Ok(()) => Ok(text),
-        Err(_) => Err(AllocError),
-    }
+    let Ok(()) = waiting.finish(&mut text) else {
+        return Err(AllocError);
+    };
+    Ok(text)
 }
 
 /// Appends the text of receipts.

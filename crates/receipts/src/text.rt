@@ -28,10 +28,10 @@ pub fn result_text(
     let mut waiting = TextBuffer::new(alloc)?;
     let mut text = Vec::new(alloc);
     push_result(&mut waiting, receipts, store, &mut text);
-    match waiting.finish(&mut text) {
-        Ok(()) => Ok(text),
-        Err(_) => Err(AllocError),
-    }
+    let Ok(()) = waiting.finish(&mut text) else {
+        return Err(AllocError);
+    };
+    Ok(text)
 }
 
 /// Appends the text of a result: what each call did, in block order, and the storage after the last one.

@@ -80,7 +80,7 @@ fn program_or_fault(alloc: Global, source: &str) -> Result<Program, AsmError>
 {
     match lines(alloc, source.as_bytes()) {
         Ok(lines) => program(alloc, lay_out(alloc, lines.as_slice())?),
-        Err(_) => Err(AsmError {
+        Err(AllocError) => Err(AsmError {
             line: 1,
             cause: AsmCause::Memory,
         }),

@@ -117,7 +117,7 @@ pub fn drive(
     }
     match core_of(alloc, job, workers) {
         Ok(mut core) => drive_core(alloc, &mut core, workers, schedule),
-        Err(_) => Err(DriveFault::Memory),
+        Err(AllocError) => Err(DriveFault::Memory),
     }
 }
 

@@ -18,10 +18,10 @@ impl Core {
         ensures job { IfOk result (λ c. c.job ≡ job) }
         ensures state { IfOk result (λ c. c.state ≡ start (length job.block) workers) }
     {
-        match Core::over(alloc, Arena::new(alloc), job, workers) {
-            Ok(core) => Ok(core),
-            Err(_) => Err(AllocError),
-        }
+        let Ok(core) = Core::over(alloc, Arena::new(alloc), job, workers) else {
+            return Err(AllocError);
+        };
+        Ok(core)
     }
 
     /// The same over an arena that is used again: its records are dropped. Where memory ran out the arena

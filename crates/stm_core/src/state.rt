@@ -98,7 +98,7 @@ impl<H: JobSource> Core<H> {
                 passed: PassedLists::new(alloc),
                 values: ValueRooms::new(alloc),
             }),
-            Err(_) => Err(map.into_arena()),
+            Err(AllocError) => Err(map.into_arena()),
         }
     }
 

@@ -8,7 +8,7 @@ ghost use Rattle.workers.specs.declared.fault.RunFault.TheVariants as faults;
 use crate::book::{Book, JobName, Share};
 use crate::fault::RunFault;
 use rv_ledger::{Job, Outcome, same_job};
-use std::alloc::Global;
+use std::alloc::{AllocError, Global};
 use stm_core::{Core, Finished, JobSource};
 use version_arena::Arena;
 
@@ -85,7 +85,7 @@ fn outcome_of(alloc: Global, core: Core) -> (Result<Outcome, RunFault>, Arena)
     let (outcome, arena) = core.into_outcome(alloc);
     match outcome {
         Ok(outcome) => (Ok(outcome), arena),
-        Err(_) => (Err(RunFault::Memory), arena),
+        Err(AllocError) => (Err(RunFault::Memory), arena),
     }
 }
 
@@ -99,7 +99,7 @@ fn finished_of<H: JobSource>(alloc: Global, core: Core<H>) -> (Result<Finished, 
     let (finished, arena) = core.into_finished(alloc);
     match finished {
         Ok(finished) => (Ok(finished), arena),
-        Err(_) => (Err(RunFault::Memory), arena),
+        Err(AllocError) => (Err(RunFault::Memory), arena),
     }
 }
 

@@ -19,10 +19,10 @@ use crate::worker::work;
 use overlay::copy_with_receipts;
 use rv_ledger::{Block, Job, Outcome};
 use rv_step::Contents;
-use std::alloc::Global;
+use std::alloc::{AllocError, Global};
 use std::marker::Brand;
 use std::sync::Wait;
-use std::thread::{JoinHandle, Scope, Threads};
+use std::thread::{JoinHandle, Scope, SpawnError, Threads};
 use std::{mem, thread};
 use stm_core::{Core, Finished, JobSource, LentJob, WORKER_LIMIT};
 use version_arena::Arena;
@@ -123,7 +123,7 @@ impl Executor {
                 store,
                 counts,
             }),
-            Err(_) => Err(RunFault::Memory),
+            Err(AllocError) => Err(RunFault::Memory),
         }
     }
 
@@ -294,7 +294,7 @@ fn room_for_shares<J: JobName, H: JobSource, R: Wait>(
 {
     match Vec::with_capacity(alloc, count) {
         Ok(room) => Ok(room),
-        Err(_) => Err(shared.refuse(rt, OutsideFault::Memory)),
+        Err(AllocError) => Err(shared.refuse(rt, OutsideFault::Memory)),
     }
 }
 
@@ -352,7 +352,7 @@ fn start_thread<
     { work(rt, alloc, shared, share, gate) };
     match scope.spawn(working) {
         Ok(thread) => Ok(thread),
-        Err(_) => Err(shared.refuse(rt, OutsideFault::Spawn)),
+        Err(SpawnError { .. }) => Err(shared.refuse(rt, OutsideFault::Spawn)),
     }
 }
 

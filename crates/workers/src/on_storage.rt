@@ -6,7 +6,7 @@ use crate::gate::Open;
 use overlay::{Layers, Overlay, apply_receipts, commit};
 use rv_ledger::{Block, Receipt, Store};
 use rv_step::Contents;
-use std::alloc::Global;
+use std::alloc::{AllocError, Global};
 use std::sync::Wait;
 use std::thread::Threads;
 use stm_core::Finished;
@@ -44,7 +44,7 @@ impl Executor {
         let receipts = self.run_over_changes(rt, alloc, store, &mut changes, block, workers)?;
         match commit(store, changes) {
             Ok(()) => Ok(receipts),
-            Err(_) => Err(RunFault::Memory),
+            Err(AllocError) => Err(RunFault::Memory),
         }
     }
 
@@ -105,7 +105,7 @@ impl Executor {
         )?;
         match apply_receipts(base, over, receipts.as_slice()) {
             Ok(()) => Ok(receipts),
-            Err(_) => Err(RunFault::Memory),
+            Err(AllocError) => Err(RunFault::Memory),
         }
     }
 

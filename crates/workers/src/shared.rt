@@ -83,7 +83,7 @@ impl<J: JobName, H: JobSource> Shared<J, H> {
                 let lock = Mutex::new(Book::within(core, work_limit));
                 Ok((Shared { lock, job, cell }, shares))
             }
-            Err(_) => Err(core.into_arena()),
+            Err(AllocError) => Err(core.into_arena()),
         }
     }
 

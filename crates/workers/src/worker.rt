@@ -17,7 +17,7 @@ use crate::patience::Patience;
 use crate::shared::Shared;
 use rv_ledger::{Key, StoredValue};
 use rv_step::{Pause, Run, RunRoom};
-use std::alloc::Global;
+use std::alloc::{AllocError, Global};
 use std::mem::replace;
 use std::sync::Wait;
 use stm_core::{JobSource, NextStep, ReadResult, ReadyRecord, StepKind, reads_made};
@@ -380,7 +380,7 @@ fn read<J: JobName, H: JobSource, R: Wait, S: Spin>(
         Ok(ReadResult::Given(value, origin)) => {
             match run.answer_bytes(StoredValue::bytes_of(value.as_ref()), origin) {
                 Ok(()) => Ok(true),
-                Err(_) => Err(WorkFault::Met(shared.refuse(rt, OutsideFault::Memory))),
+                Err(AllocError) => Err(WorkFault::Met(shared.refuse(rt, OutsideFault::Memory))),
             }
         }
         Ok(ReadResult::Blocked) => Ok(false),
