@@ -7,7 +7,7 @@ ghost use Rattle.receipts.specs.Buffer.{Appended};
 
 use crate::buffer::TextBuffer;
 use crate::text::{push_call_line, push_regs, push_writes};
-use byte_streams::Destination;
+use byte_streams::{Destination, WriteFault};
 use rv_ledger::Receipt;
 use std::alloc::{AllocError, Global};
 
@@ -23,10 +23,10 @@ pub fn receipts_text(
     let mut waiting = TextBuffer::new(alloc)?;
     let mut text = Vec::new(alloc);
     push_receipts(&mut waiting, is_brief, receipts, &mut text);
-    let Ok(()) = waiting.finish(&mut text) else {
-        return Err(AllocError);
-    };
-    Ok(text)
+    match waiting.finish(&mut text) {
+        Ok(()) => Ok(text),
+        Err(WriteFault::Io | WriteFault::WroteNothing | WriteFault::Memory) => Err(AllocError),
+    }
 }
 
 /// Appends the text of receipts.

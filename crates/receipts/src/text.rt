@@ -11,7 +11,7 @@ ghost use Rattle.receipts.specs.Text.{end_name, more_fields, word_text, call_lin
 use crate::buffer::TextBuffer;
 use crate::digits::{push_bytes, push_decimal, push_key, push_word_field};
 use crate::lines::end_name;
-use byte_streams::Destination;
+use byte_streams::{Destination, WriteFault};
 use rv_isa::Regs;
 use rv_ledger::{Change, End, Key, Receipt, Store, StoredValue, Writes};
 use std::alloc::{AllocError, Global};
@@ -28,10 +28,10 @@ pub fn result_text(
     let mut waiting = TextBuffer::new(alloc)?;
     let mut text = Vec::new(alloc);
     push_result(&mut waiting, receipts, store, &mut text);
-    let Ok(()) = waiting.finish(&mut text) else {
-        return Err(AllocError);
-    };
-    Ok(text)
+    match waiting.finish(&mut text) {
+        Ok(()) => Ok(text),
+        Err(WriteFault::Io | WriteFault::WroteNothing | WriteFault::Memory) => Err(AllocError),
+    }
 }
 
 /// Appends the text of a result: what each call did, in block order, and the storage after the last one.
