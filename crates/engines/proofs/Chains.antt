@@ -2,6 +2,7 @@
 use Rattle.std.proofs.Common.{◌≡◌, ℕ, List, Option, Some, None, IfSome, subst}
 use Rattle.serving.specs.Serving.{IsEndedBy, IsServed}
 use Rattle.serving.specs.declared.serving.ServeFault.{ServeFault}
+use Rattle.turns.specs.Failures.{IsAnswer}
 use Rattle.turns.specs.Turn.{new_session}
 use Rattle.turns.specs.declared.settings.Settings.{Settings}
 use Rattle.turns.specs.declared.state.State.{State}
@@ -14,12 +15,12 @@ some_map P Q (Some bytes) f h = f bytes h
 
 -- a session that ended
 pub session_done : (settings : Settings) (first after : State) (old new a : Option (List ℕ)) → first ≡ new_session settings
-    → IfSome a (λ bytes. IsServed settings None first bytes after old new)
-    → IfSome a (λ bytes. (last : State) × IsServed settings None (new_session settings) bytes last old new)
-session_done settings first after old new a begins h = some_map _ _ a (λ bytes served. (after, subst (λ s. IsServed settings None s bytes after old new) begins served)) h
+    → IfSome a (λ bytes. IsServed (IsAnswer settings) None first bytes after old new)
+    → IfSome a (λ bytes. (last : State) × IsServed (IsAnswer settings) None (new_session settings) bytes last old new)
+session_done settings first after old new a begins h = some_map _ _ a (λ bytes served. (after, subst (λ s. IsServed (IsAnswer settings) None s bytes after old new) begins served)) h
 
 -- and one that a fault ended
 pub session_cut : (may_fail : Type 0) (settings : Settings) (first after : State) (old new a : Option (List ℕ)) (e : Refusal) (fault : ServeFault) → first ≡ new_session settings → e ≡ cut_of fault
-    → IfSome a (λ bytes. IsEndedBy may_fail settings fault first bytes after old new)
-    → IfSome a (λ bytes. (f : ServeFault) × (last : State) × (e ≡ cut_of f) × IsEndedBy may_fail settings f (new_session settings) bytes last old new)
-session_cut may_fail settings first after old new a e fault begins is h = some_map _ _ a (λ bytes ended. (fault, after, is, subst (λ s. IsEndedBy may_fail settings fault s bytes after old new) begins ended)) h
+    → IfSome a (λ bytes. IsEndedBy may_fail (IsAnswer settings) fault first bytes after old new)
+    → IfSome a (λ bytes. (f : ServeFault) × (last : State) × (e ≡ cut_of f) × IsEndedBy may_fail (IsAnswer settings) f (new_session settings) bytes last old new)
+session_cut may_fail settings first after old new a e fault begins is h = some_map _ _ a (λ bytes ended. (fault, after, is, subst (λ s. IsEndedBy may_fail (IsAnswer settings) fault s bytes after old new) begins ended)) h

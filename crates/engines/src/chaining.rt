@@ -4,6 +4,7 @@ ghost use Rattle.std.specs.Prelude.{◌≡◌, IfErr, IfSome, None, OnOk};
 ghost use Rattle.engines.specs.Chaining.{cut_of};
 ghost use Rattle.serving.specs.Serving.{IsEndedBy, IsServed, MayEnd};
 ghost use Rattle.serving.specs.declared.serving.ServeFault.{ServeFault};
+ghost use Rattle.turns.specs.Failures.{IsAnswer};
 ghost use Rattle.turns.specs.Turn.{new_session};
 ghost use Rattle.turns.specs.declared.state.State.{State};
 
@@ -27,9 +28,9 @@ pub fn chain_to<R: BufferedSource, C: CallRunner, W: Destination>(
 ) -> Result<(), Refusal>
     requires ready { C.ready }
     ensures ok { OnOk result (IfSome (R.remaining input.old) (λ bytes. (after : State)
-        × IsServed settings None (new_session settings) bytes after (W.contents out.old) (W.contents out.new))) }
+        × IsServed (IsAnswer settings) None (new_session settings) bytes after (W.contents out.old) (W.contents out.new))) }
     ensures err { IfErr result (λ e. IfSome (R.remaining input.old) (λ bytes. (fault : ServeFault) × (after : State) × (e ≡ cut_of fault)
-        × IsEndedBy (R.may_fail input.old) settings fault (new_session settings) bytes after (W.contents out.old) (W.contents out.new))) }
+        × IsEndedBy (R.may_fail input.old) (IsAnswer settings) fault (new_session settings) bytes after (W.contents out.old) (W.contents out.new))) }
     ensures refused { IfErr result (λ e. (fault : ServeFault) × (e ≡ cut_of fault) × MayEnd (W.may_fail out.old) (W.may_take_nothing out.old) fault) }
 {
     let mut state = State::new(alloc, settings);

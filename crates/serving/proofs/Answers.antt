@@ -1,5 +1,5 @@
 -- How a turn answers.
-use Rattle.std.proofs.Common.{inl, inr, refl, sym, ap, ◌∙◌}
+use Rattle.std.proofs.Common.{ℕ, List, inl, inr, refl, sym, ap, ◌∙◌}
 use Rattle.requests.specs.Requests.{Ask}
 use Rattle.turns.specs.Failures.{IsAnswer}
 use Rattle.turns.specs.Replies.{Done, answer_text}
@@ -10,6 +10,8 @@ use Rattle.turns.specs.declared.answer.Answer.{Answer}
 use Rattle.turns.specs.declared.answer.Answer.TheVariants as answer
 use Rattle.turns.specs.declared.settings.Settings.{Settings}
 use Rattle.turns.specs.declared.state.State.{State}
+use Rattle.serving.specs.Asking.{IsCourse, IsNext}
+use Rattle.serving.specs.declared.serving.Course.TheVariants.{Answers}
 
 -- the text of an answer
 pub answer_of : (settings : Settings) (s : State) (ask : Ask) (given : Answer) (after : State) → IsTurn settings s ask given after → IsAnswer settings s ask (answer_text (reply_in after given)) after
@@ -25,3 +27,8 @@ pub never_fails : (settings : Settings) (s : State) (ask : Ask) (given : Answer)
 never_fails settings s ask (answer.Failed failure) after h = absurd h.0
 never_fails settings s ask (answer.Storage buffer) after h = absurd h
 never_fails settings s ask given after h = h
+
+-- an answer that comes of what was read
+pub next_of : (settings : Settings) (s : State) (given : Answer) (after : State) (xs ys : List ℕ) → IsCourse settings s (Answers given) after xs ys
+    → IsNext (IsAnswer settings) s (answer_text (reply_in after given)) after xs ys
+next_of settings s given after xs ys (ask, comes, is) = (ask, comes, answer_of settings s ask given after is)

@@ -3,7 +3,7 @@ use Rattle.std.specs.Prelude.{◌≡◌, ℕ, List, [], ◌∷◌, ◌++◌, Opt
 use Rattle.std.specs.Io.KnownBytes.{Appends}
 use Rattle.requests.specs.Requests.{Ask, requests_of}
 use Rattle.requests.specs.declared.request.RequestFault.{RequestFault}
-use Rattle.serving.specs.Serving.{end_text, fault_of, until_quit}
+use Rattle.serving.specs.Serving.{Answering, end_text, fault_of, until_quit}
 use Rattle.serving.specs.declared.serving.Course.{Course}
 use Rattle.serving.specs.declared.serving.Course.TheVariants.{Answers, Ends, Breaks}
 use Rattle.serving.specs.declared.serving.ServeFault.{ServeFault}
@@ -20,11 +20,19 @@ ComesFirst ask xs ys = (until_quit (requests_of xs).asks ≡ ask ∷ until_quit 
 abbrev pub NoneComes : Option RequestFault → List ℕ → Type 0
 NoneComes fault xs = (until_quit (requests_of xs).asks ≡ []) × (fault_of (requests_of xs) ≡ fault)
 
+-- a request comes first in xs, and a session answers it
+abbrev pub IsNext : {S : Type 0} → Answering S → S → List ℕ → S → List ℕ → List ℕ → Type 0
+IsNext answers s text after xs ys = (ask : Ask) × ComesFirst ask xs ys × answers s ask text after
+
+-- none does, and nothing changes
+abbrev pub NothingComes : {S : Type 0} → Option RequestFault → S → S → List ℕ → Type 0
+NothingComes fault s after xs = NoneComes fault xs × (after ≡ s)
+
 -- what comes first in xs was done
 abbrev pub IsCourse : Settings → State → Course → State → List ℕ → List ℕ → Type 0
 IsCourse settings s (Answers answer) after xs ys = (ask : Ask) × ComesFirst ask xs ys × IsTurn settings s ask answer after
-IsCourse settings s Ends after xs ys = NoneComes None xs × (after ≡ s)
-IsCourse settings s (Breaks fault) after xs ys = NoneComes (Some fault) xs × (after ≡ s)
+IsCourse settings s Ends after xs ys = NothingComes None s after xs
+IsCourse settings s (Breaks fault) after xs ys = NothingComes (Some fault) s after xs
 
 -- bytes that are no request were answered, in whole or up to where a write failed
 abbrev pub IsTold : RequestFault → ServeFault → Option (List ℕ) → Option (List ℕ) → Type 0

@@ -16,12 +16,15 @@ use Rattle.turns.specs.declared.state.State.{State}
 
 -- ---- requests one after another
 
--- requests were answered one after another: `answers s ask text next` says that from s on an answer to `ask` may be `text`,
--- which leads to `next`
-unfoldable pub AreAnswered : (State → Ask → List ℕ → State → Type 0) → State → List Ask → List ℕ → State → Type 0
+-- what a session is, S, may answer to a request, and to what that leads: `answers s ask text next`
+abbrev pub Answering : Type 0 → Type 1
+Answering S = S → Ask → List ℕ → S → Type 0
+
+-- requests were answered one after another
+unfoldable pub AreAnswered : {S : Type 0} → Answering S → S → List Ask → List ℕ → S → Type 0
 AreAnswered answers s [] text after = (text ≡ []) × (after ≡ s)
-AreAnswered answers s (ask ∷ asks) text after =
-    (answer : List ℕ) × (next : State) × (rest : List ℕ)
+AreAnswered {S = S} answers s (ask ∷ asks) text after =
+    (answer : List ℕ) × (next : S) × (rest : List ℕ)
     × (text ≡ answer ++ rest) × answers s ask answer next × AreAnswered answers next asks rest after
 
 -- the answers where memory never runs out, each over what the ones before it left
@@ -63,37 +66,37 @@ end_text None = []
 end_text (Some fault) = line_text (codes "refused ") (parts_of fault)
 
 -- a session answered all requests of an input, and what ended it; and its writer took all of that
-abbrev pub IsServed : Settings → Option RequestFault → State → List ℕ → State → Option (List ℕ) → Option (List ℕ) → Type 0
-IsServed settings fault old bytes new before after =
-    (answers : List ℕ) × AreAnswered (IsAnswer settings) old (until_quit (requests_of bytes).asks) answers new
-    × (fault_of (requests_of bytes) ≡ fault) × Appends before after (answers ++ end_text fault)
+abbrev pub IsServed : {S : Type 0} → Answering S → Option RequestFault → S → List ℕ → S → Option (List ℕ) → Option (List ℕ) → Type 0
+IsServed answers fault old bytes new before after =
+    (text : List ℕ) × AreAnswered answers old (until_quit (requests_of bytes).asks) text new
+    × (fault_of (requests_of bytes) ≡ fault) × Appends before after (text ++ end_text fault)
 
 -- ---- sessions that are cut short
 
 -- where a write failed: in the answer of the next request, which was done, or in what is written last
-abbrev pub IsCutAt : Settings → Option RequestFault → State → List Ask → List ℕ → State → Type 0
-IsCutAt settings fault s [] part after = (left : List ℕ) × (part ++ left ≡ end_text fault) × (after ≡ s)
-IsCutAt settings fault s (ask ∷ asks) part after = (left : List ℕ) × IsAnswer settings s ask (part ++ left) after
+abbrev pub IsCutAt : {S : Type 0} → Answering S → Option RequestFault → S → List Ask → List ℕ → S → Type 0
+IsCutAt answers fault s [] part after = (left : List ℕ) × (part ++ left ≡ end_text fault) × (after ≡ s)
+IsCutAt answers fault s (ask ∷ asks) part after = (left : List ℕ) × answers s ask (part ++ left) after
 
 -- the first requests of an input were answered in whole, and then a write failed
-abbrev pub IsCutOff : Settings → State → List ℕ → State → Option (List ℕ) → Option (List ℕ) → Type 0
-IsCutOff settings old bytes new before after =
-    (heard : List Ask) × (rest : List Ask) × (text : List ℕ) × (mid : State) × (part : List ℕ)
-    × (until_quit (requests_of bytes).asks ≡ heard ++ rest) × AreAnswered (IsAnswer settings) old heard text mid
-    × IsCutAt settings (fault_of (requests_of bytes)) mid rest part new × Appends before after (text ++ part)
+abbrev pub IsCutOff : {S : Type 0} → Answering S → S → List ℕ → S → Option (List ℕ) → Option (List ℕ) → Type 0
+IsCutOff {S = S} answers old bytes new before after =
+    (heard : List Ask) × (rest : List Ask) × (text : List ℕ) × (mid : S) × (part : List ℕ)
+    × (until_quit (requests_of bytes).asks ≡ heard ++ rest) × AreAnswered answers old heard text mid
+    × IsCutAt answers (fault_of (requests_of bytes)) mid rest part new × Appends before after (text ++ part)
 
 -- they were, and then a read failed, where one may; or they are 2^64 - 1
-abbrev pub IsUnread : Type 0 → Settings → State → List ℕ → State → Option (List ℕ) → Option (List ℕ) → Type 0
-IsUnread may_fail settings old bytes new before after =
+abbrev pub IsUnread : {S : Type 0} → Type 0 → Answering S → S → List ℕ → S → Option (List ℕ) → Option (List ℕ) → Type 0
+IsUnread may_fail answers old bytes new before after =
     (heard : List Ask) × (rest : List Ask) × (text : List ℕ)
-    × (until_quit (requests_of bytes).asks ≡ heard ++ rest) × AreAnswered (IsAnswer settings) old heard text new
+    × (until_quit (requests_of bytes).asks ≡ heard ++ rest) × AreAnswered answers old heard text new
     × Appends before after text × (may_fail ⊎ (length heard ≡ 18446744073709551615))
 
 -- how a fault ended a session
-abbrev pub IsEndedBy : Type 0 → Settings → ServeFault → State → List ℕ → State → Option (List ℕ) → Option (List ℕ) → Type 0
-IsEndedBy may_fail settings (Broken fault) old bytes new before after = IsServed settings (Some fault) old bytes new before after
-IsEndedBy may_fail settings Unreadable old bytes new before after = IsUnread may_fail settings old bytes new before after
-IsEndedBy may_fail settings (Output fault) old bytes new before after = IsCutOff settings old bytes new before after
+abbrev pub IsEndedBy : {S : Type 0} → Type 0 → Answering S → ServeFault → S → List ℕ → S → Option (List ℕ) → Option (List ℕ) → Type 0
+IsEndedBy may_fail answers (Broken fault) old bytes new before after = IsServed answers (Some fault) old bytes new before after
+IsEndedBy may_fail answers Unreadable old bytes new before after = IsUnread may_fail answers old bytes new before after
+IsEndedBy may_fail answers (Output fault) old bytes new before after = IsCutOff answers old bytes new before after
 
 -- a write may have been refused so
 abbrev pub MayEnd : Type 0 → Type 0 → ServeFault → Type 0

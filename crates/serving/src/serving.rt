@@ -5,6 +5,7 @@ ghost use Rattle.requests.specs.Reading.{Tells, ask_of};
 ghost use Rattle.requests.specs.Requests.{Is, request_of};
 ghost use Rattle.serving.specs.Asking.{IsCourse, IsTold};
 ghost use Rattle.serving.specs.Serving.{IsEndedBy, IsServed, MayEnd};
+ghost use Rattle.turns.specs.Failures.{IsAnswer};
 
 use crate::writing::{print_end, write_answer};
 use byte_streams::{BufferedSource, Destination, WriteFault};
@@ -48,9 +49,9 @@ pub fn serve<R: BufferedSource, C: CallRunner, W: Destination>(
     out: &mut W,
 ) -> Result<(), ServeFault>
     requires ready { C.ready }
-    ensures ok { OnOk result (IfSome (R.remaining input.old) (λ bytes. IsServed settings None state.old bytes state.new (W.contents out.old) (W.contents out.new))) }
+    ensures ok { OnOk result (IfSome (R.remaining input.old) (λ bytes. IsServed (IsAnswer settings) None state.old bytes state.new (W.contents out.old) (W.contents out.new))) }
     ensures err { IfErr result (λ fault. IfSome (R.remaining input.old) (λ bytes.
-        IsEndedBy (R.may_fail input.old) settings fault state.old bytes state.new (W.contents out.old) (W.contents out.new))) }
+        IsEndedBy (R.may_fail input.old) (IsAnswer settings) fault state.old bytes state.new (W.contents out.old) (W.contents out.new))) }
     ensures refused { IfErr result (MayEnd (W.may_fail out.old) (W.may_take_nothing out.old)) }
 {
     for _ in 0..u64::MAX {
@@ -61,7 +62,7 @@ pub fn serve<R: BufferedSource, C: CallRunner, W: Destination>(
         let answer = match take_asked(alloc, runner, settings, state, asked) {
             Course::Answers(answer) => answer,
             Course::Ends => return Ok(()),
-            Course::Breaks(fault) => return Err(broken(fault, out)),
+            Course::Breaks(fault) => return Err(answer_broken(fault, out)),
         };
         match write_answer(state, answer, out) {
             Ok(()) => {}
@@ -108,8 +109,8 @@ fn take_request<C: CallRunner>(
     }
 }
 
-/// Answers bytes that are no request, and returns why the session ends.
-fn broken<W: Destination>(fault: RequestFault, out: &mut W) -> ServeFault
+/// Answers bytes that are no request, and returns why the session ends: Broken, or Output where a write failed.
+pub fn answer_broken<W: Destination>(fault: RequestFault, out: &mut W) -> ServeFault
     ensures told { IsTold fault result (W.contents out.old) (W.contents out.new) }
     ensures refused { MayEnd (W.may_fail out.old) (W.may_take_nothing out.old) result }
 {

@@ -1,4 +1,8 @@
 use Rattle.std.proofs.Common.{◌≡◌, arith}
+use Rattle.turns.specs.Failures.{IsAnswer}
+use Rattle.turns.specs.Replies.{answer_text}
+use Rattle.turns.specs.Stages.{reply_in}
+use Rattle.serving.proofs.Answers.{next_of}
 use Rattle.serving.proofs.Serves.{serve_all, serve_broken, serve_cut, serve_end, serve_next, serve_start, serve_unread}
 use Rattle.serving.proofs.serving.serve.Goals as goal
 
@@ -6,42 +10,44 @@ pub loop-init : goal.loop-init
 loop-init g c = record {
   same = λ h. h;
   no_worse = (λ h. h, λ h. h);
-  serves = serve_start c.args.settings c.args.state.now (g.W.Write.contents c.args.out.now) (g.R.Read.remaining c.args.input.now);
+  serves = serve_start (IsAnswer c.args.settings) c.args.state.now (g.W.Write.contents c.args.out.now) (g.R.Read.remaining c.args.input.now);
 }
 
 pub returns-in-Err-clause-err : goal.returns-in-Err-clause-err
 returns-in-Err-clause-err g c =
-    serve_unread (g.R.BufferedSource.may_fail c.args.input.now) c.args.settings c.args.state.now c.loop.state (g.W.Write.contents c.args.out.now) (g.W.Write.contents c.loop.out) c.loop.counter
+    serve_unread (IsAnswer c.args.settings) (g.R.BufferedSource.may_fail c.args.input.now) c.args.state.now c.loop.state (g.W.Write.contents c.args.out.now) (g.W.Write.contents c.loop.out) c.loop.counter
     (g.R.Read.remaining c.args.input.now) (g.R.Read.remaining c.loop.input) c.loop.invariant.serves (c.loop.invariant.same c.in-Err.ensures.fails)
 
 pub returns-in-Ends-clause-ok : goal.returns-in-Ends-clause-ok
 returns-in-Ends-clause-ok g c =
-    serve_end c.args.settings c.args.settings.frame_limit c.in-Ok.asked c.args.state.now c.loop.state c.take_asked.new.state (g.W.Write.contents c.args.out.now) (g.W.Write.contents c.loop.out) c.loop.counter
+    serve_end (IsAnswer c.args.settings) c.args.settings.frame_limit c.in-Ok.asked c.args.state.now c.loop.state c.take_asked.new.state (g.W.Write.contents c.args.out.now) (g.W.Write.contents c.loop.out) c.loop.counter
     (g.R.Read.remaining c.args.input.now) (g.R.Read.remaining c.loop.input) (g.R.Read.remaining c.next_request.new.input) c.loop.invariant.serves c.in-Ok.ensures.says c.in-Ends.ensures
 
 pub returns-in-Breaks-clause-err : goal.returns-in-Breaks-clause-err
 returns-in-Breaks-clause-err g c =
-    serve_broken (g.R.BufferedSource.may_fail c.args.input.now) c.args.settings c.args.settings.frame_limit c.in-Ok.asked c.in-Breaks.fault c.broken.result c.args.state.now c.loop.state c.take_asked.new.state
-    (g.W.Write.contents c.args.out.now) (g.W.Write.contents c.loop.out) (g.W.Write.contents c.broken.new.out) c.loop.counter
-    (g.R.Read.remaining c.args.input.now) (g.R.Read.remaining c.loop.input) (g.R.Read.remaining c.next_request.new.input) c.loop.invariant.serves c.in-Ok.ensures.says c.in-Breaks.ensures c.broken.ensures.told
+    serve_broken (IsAnswer c.args.settings) (g.R.BufferedSource.may_fail c.args.input.now) c.args.settings.frame_limit c.in-Ok.asked c.in-Breaks.fault c.answer_broken.result c.args.state.now c.loop.state c.take_asked.new.state
+    (g.W.Write.contents c.args.out.now) (g.W.Write.contents c.loop.out) (g.W.Write.contents c.answer_broken.new.out) c.loop.counter
+    (g.R.Read.remaining c.args.input.now) (g.R.Read.remaining c.loop.input) (g.R.Read.remaining c.next_request.new.input) c.loop.invariant.serves c.in-Ok.ensures.says c.in-Breaks.ensures c.answer_broken.ensures.told
 
 pub returns-in-Err-write_answer-clause-err : goal.returns-in-Err-write_answer-clause-err
 returns-in-Err-write_answer-clause-err g c =
-    serve_cut c.args.settings c.args.settings.frame_limit c.in-Ok.asked c.in-Answers.answer c.args.state.now c.loop.state c.take_asked.new.state
+    serve_cut (IsAnswer c.args.settings) c.args.settings.frame_limit c.in-Ok.asked c.args.state.now c.loop.state c.take_asked.new.state (answer_text (reply_in c.take_asked.new.state c.in-Answers.answer))
     (g.W.Write.contents c.args.out.now) (g.W.Write.contents c.loop.out) (g.W.Write.contents c.write_answer.new.out) c.loop.counter
-    (g.R.Read.remaining c.args.input.now) (g.R.Read.remaining c.loop.input) (g.R.Read.remaining c.next_request.new.input) c.loop.invariant.serves c.in-Ok.ensures.says c.in-Answers.ensures c.in-Err-write_answer.ensures.says
+    (g.R.Read.remaining c.args.input.now) (g.R.Read.remaining c.loop.input) (g.R.Read.remaining c.next_request.new.input) c.loop.invariant.serves c.in-Ok.ensures.says
+    (λ xs ys told. next_of c.args.settings c.loop.state c.in-Answers.answer c.take_asked.new.state xs ys (c.in-Answers.ensures xs ys told)) c.in-Err-write_answer.ensures.says
 
 pub loop-preserved : goal.loop-preserved
 loop-preserved g c = record {
   same = λ h. c.loop.invariant.same (c.in-Ok.ensures.same h);
   no_worse = (λ h. c.loop.invariant.no_worse.0 (c.write_answer.ensures.no_worse.0 h), λ h. c.loop.invariant.no_worse.1 (c.write_answer.ensures.no_worse.1 h));
-  serves = serve_next c.args.settings c.args.settings.frame_limit c.in-Ok.asked c.in-Answers.answer c.args.state.now c.loop.state c.take_asked.new.state
+  serves = serve_next (IsAnswer c.args.settings) c.args.settings.frame_limit c.in-Ok.asked c.args.state.now c.loop.state c.take_asked.new.state (answer_text (reply_in c.take_asked.new.state c.in-Answers.answer))
       (g.W.Write.contents c.args.out.now) (g.W.Write.contents c.loop.out) (g.W.Write.contents c.write_answer.new.out) c.loop.counter
-      (g.R.Read.remaining c.args.input.now) (g.R.Read.remaining c.loop.input) (g.R.Read.remaining c.next_request.new.input) c.loop.invariant.serves c.in-Ok.ensures.says c.in-Answers.ensures c.in-Ok-write_answer.ensures.says;
+      (g.R.Read.remaining c.args.input.now) (g.R.Read.remaining c.loop.input) (g.R.Read.remaining c.next_request.new.input) c.loop.invariant.serves c.in-Ok.ensures.says
+      (λ xs ys told. next_of c.args.settings c.loop.state c.in-Answers.answer c.take_asked.new.state xs ys (c.in-Answers.ensures xs ys told)) c.in-Ok-write_answer.ensures.says;
 }
 
 pub returns-clause-err : goal.returns-clause-err
 returns-clause-err g c =
     let all : c.loop.counter ≡ 18446744073709551615 = omega arith in
-    serve_all (g.R.BufferedSource.may_fail c.args.input.now) c.args.settings c.args.state.now c.loop.state (g.W.Write.contents c.args.out.now) (g.W.Write.contents c.loop.out) c.loop.counter
+    serve_all (IsAnswer c.args.settings) (g.R.BufferedSource.may_fail c.args.input.now) c.args.state.now c.loop.state (g.W.Write.contents c.args.out.now) (g.W.Write.contents c.loop.out) c.loop.counter
     (g.R.Read.remaining c.args.input.now) (g.R.Read.remaining c.loop.input) c.loop.invariant.serves all

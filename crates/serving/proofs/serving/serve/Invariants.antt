@@ -1,4 +1,5 @@
 use Rattle.requests.specs.Reading.{WhereKnown}
+use Rattle.turns.specs.Failures.{IsAnswer}
 use Rattle.serving.proofs.Serves.{IsServing}
 use Rattle.serving.proofs.serving.serve.Given as goal
 
@@ -6,5 +7,5 @@ abbrev pub invariant-loop : goal.invariant-loop
 invariant-loop g l = record {
   same : g.R.BufferedSource.may_fail l.input → g.R.BufferedSource.may_fail l.fn.input;
   no_worse : (g.W.Destination.may_fail l.out → g.W.Destination.may_fail l.fn.out) × (g.W.Destination.may_take_nothing l.out → g.W.Destination.may_take_nothing l.fn.out);
-  serves : WhereKnown (g.R.Read.remaining l.fn.input) (g.R.Read.remaining l.input) (IsServing l.settings l.fn.state l.state (g.W.Write.contents l.fn.out) (g.W.Write.contents l.out) l.counter);
+  serves : WhereKnown (g.R.Read.remaining l.fn.input) (g.R.Read.remaining l.input) (IsServing (IsAnswer l.settings) l.fn.state l.state (g.W.Write.contents l.fn.out) (g.W.Write.contents l.out) l.counter);
 }
