@@ -13,7 +13,7 @@ _rvstm() {
     case $command in
     run) options="--workers --counts" ;;
     drive) options="--workers --schedule --counts" ;;
-    chain) options="--workers --frame-limit --frame-gas --digest --brief" ;;
+    chain) options="--workers --frame-limit --frame-gas --digest --brief --store" ;;
     asm | migrate) options="--out" ;;
     debug) options="--call --more" ;;
     help) COMPREPLY=($(compgen -W "run seq conflicts drive asm dis debug migrate chain" -- "$word")) && return ;;

@@ -1,6 +1,6 @@
 -- The command line of `rvstm`, in clap's words.
 use Rattle.std.specs.Prelude.{◌≡◌, ℕ, Bool, true, false, not, ◌&&◌, ◌||◌, ◌==◌, List, [], ◌∷◌, Option, Some, None, Result}
-use Rattle.std.specs.Prelude.{MatchResult, codes, option_and_then, option_map, if◌then◌else◌}
+use Rattle.std.specs.Prelude.{MatchResult, codes, length, nat_lt, is_some, option_and_then, option_map, if◌then◌else◌}
 use Rattle.std.specs.Option.{option_map_or}
 use Rattle.std.specs.Str.{bytes_eq}
 use Rattle.std.specs.Str.Parse.{digits_value, without_leading_plus}
@@ -142,10 +142,19 @@ digest_rule = record (new_rule (codes "digest")) { long = Some (codes "digest");
 abbrev pub brief_rule : Rule
 brief_rule = record (new_rule (codes "brief")) { long = Some (codes "brief"); action = Some action.SetTrue }
 
--- `chain`, and behind it `--workers N` and the settings of a session, each of which may stand or not
+-- the option `--store FILE`, which may stand or not: FILE is not empty
+abbrev pub store_rule : Rule
+store_rule = record (new_rule (codes "store")) {
+  long = Some (codes "store");
+  action = Some action.Set;
+  value_names = 1;
+  parser = Some parser.NonEmptyString;
+}
+
+-- `chain`, and behind it `--workers N`, the settings of a session and `--store FILE`, each of which may stand or not
 abbrev pub chain_app : App
-chain_app = with_rule (with_rule (with_rule (with_rule (with_rule (new_app (codes "chain"))
-    (record workers_rule { required = false })) frame_limit_rule) frame_gas_rule) digest_rule) brief_rule
+chain_app = with_rule (with_rule (with_rule (with_rule (with_rule (with_rule (new_app (codes "chain"))
+    (record workers_rule { required = false })) frame_limit_rule) frame_gas_rule) digest_rule) brief_rule) store_rule
 
 -- `rvstm`, which has a version and requires a subcommand
 abbrev pub top_app : App
@@ -169,7 +178,7 @@ pub data Asked : Type 0 where
   DisOf : Text → Asked
   DebugOf : Text → ℕ → Bool → Asked
   MigrateOf : Text → Text → Asked
-  ChainOf : Option ℕ → Option ℕ → Option ℕ → Bool → Bool → Asked
+  ChainOf : Option ℕ → Option ℕ → Option ℕ → Bool → Bool → Option Text → Asked
 
 abbrev pub asked_by : Request → Asked
 asked_by (Run file workers counts) = RunOf file.now workers counts
@@ -180,7 +189,7 @@ asked_by (Asm file out) = AsmOf file.now out.now
 asked_by (Dis file) = DisOf file.now
 asked_by (Debug file call more) = DebugOf file.now call more
 asked_by (Migrate file out) = MigrateOf file.now out.now
-asked_by (Chain workers limit gas digest brief) = ChainOf workers limit gas digest brief
+asked_by (Chain workers limit gas digest brief store) = ChainOf workers limit gas digest brief (option_map (λ file. file.now) store)
 
 -- the number that a word gives
 abbrev pub number_in : Text → ℕ
@@ -229,11 +238,15 @@ is_decimal (x ∷ y ∷ rest) = not (x == 43 || x == 48)
 abbrev pub is_decimal_at : Text → List Row → Bool
 is_decimal_at option rows = option_map_or is_decimal (first_of option rows) true
 
+-- a session of `chain` keeps a digest where `--digest` stands, and where `--store FILE` does
+abbrev pub keeps_digest : List Row → Bool
+keeps_digest rows = flag_at (codes "digest") rows || is_some (first_of (codes "store") rows)
+
 -- what `chain` asks for, from what clap found; nothing where a number of a setting is no decimal
 abbrev pub chain_of : List Row → Option Asked
 chain_of rows = if is_decimal_at (codes "frame-limit") rows && is_decimal_at (codes "frame-gas") rows
     then Some (ChainOf (number_at (codes "workers") rows) (number_at (codes "frame-limit") rows) (number_at (codes "frame-gas") rows)
-    (flag_at (codes "digest") rows) (flag_at (codes "brief") rows))
+    (keeps_digest rows) (flag_at (codes "brief") rows) (first_of (codes "store") rows))
     else None
 
 -- what a subcommand asks for, from its name and what clap found for its arguments
@@ -266,6 +279,10 @@ requested words = option_and_then asked_in (subcommand_of rvstm_app words)
 abbrev pub is_operand : Text → Bool
 is_operand [] = true
 is_operand (x ∷ rest) = not (x == 45)
+
+-- the word is not empty, and does not begin with a hyphen
+abbrev pub is_store_file : Text → Bool
+is_store_file word = nat_lt 0 (length word) && is_operand word
 
 -- the word gives a whole number of 1 to `max_workers`
 abbrev pub is_worker_number : Text → Bool

@@ -2,8 +2,9 @@
 
 ghost use Rattle.std.specs.Prelude.{◌≡◌, IfOk, Some, codes, false, true};
 ghost use Rattle.clap.specs.Words.{App, app_of, new_app, rule_of, with_rule, with_subcommand};
-ghost use Rattle.cmdline.specs.Line.{asm_app, brief_rule, call_rule, chain_app, conflicts_app, counts_rule, debug_app, digest_rule, dis_app, drive_app, file_rule, frame_gas_rule, frame_limit_rule, migrate_app, more_rule, out_rule, run_app, rvstm_app, schedule_rule, seq_app, top_app, workers_rule};
+ghost use Rattle.cmdline.specs.Line.{asm_app, brief_rule, call_rule, chain_app, conflicts_app, counts_rule, debug_app, digest_rule, dis_app, drive_app, file_rule, frame_gas_rule, frame_limit_rule, migrate_app, more_rule, out_rule, run_app, rvstm_app, schedule_rule, seq_app, store_rule, top_app, workers_rule};
 
+use clap::builder::ValueParser;
 use clap::{Arg, ArgAction, Command, value_parser};
 use std::alloc::{AllocError, Global};
 
@@ -142,13 +143,14 @@ fn migrate<'a>(alloc: Global) -> Result<Command<'a>, AllocError>
     option_command(alloc, "migrate", about, "The block file", option)
 }
 
-/// `chain --workers N --frame-limit BYTES --frame-gas N --digest --brief`
+/// `chain --workers N --frame-limit BYTES --frame-gas N --digest --brief --store FILE`
 fn chain<'a>(alloc: Global) -> Result<Command<'a>, AllocError>
     ensures { IfOk result (λ c. app_of c ≡ chain_app) }
 {
     chain_of_numbers(alloc)?
         .arg(digest(alloc))?
-        .arg(brief(alloc))
+        .arg(brief(alloc))?
+        .arg(store(alloc))
 }
 
 /// `chain --workers N --frame-limit BYTES --frame-gas N`
@@ -288,6 +290,17 @@ fn brief<'a>(alloc: Global) -> Arg<'a>
         "brief",
         "Print receipts without the lines of registers",
     )
+}
+
+/// The option `--store FILE`.
+fn store<'a>(alloc: Global) -> Arg<'a>
+    ensures rule { rule_of result ≡ store_rule }
+    ensures local { result.global ≡ false }
+{
+    let help = "The file that keeps the session, an SQLite database; with it a digest is kept";
+    option(alloc, "store", "FILE", help)
+        .required(false)
+        .value_parser(ValueParser::NonEmptyString)
 }
 
 /// The option `--NAME VALUE`, which may stand or not, of a number of 0 to 9,999,999,999.

@@ -8,7 +8,7 @@ ghost use Rattle.std.specs.Prelude.{◌≡◌, ◌∷◌, [], List, ℕ, IfErr, 
 ghost use Rattle.std.specs.String.{string_bytes};
 ghost use Rattle.clap.specs.Words.{FailsBy, HasMatchesOf, fault_of, kind_of, takes};
 ghost use Rattle.clap.specs.declared.error.ErrorKind.TheVariants as kind;
-ghost use Rattle.cmdline.specs.Line.{AnswersUnlessMemory, AsmOf, ChainOf, ConflictsOf, DebugOf, DisOf, DriveOf, MigrateOf, RunOf, SeqOf, requested, asked_by, is_call_number, is_operand, is_setting_number, is_worker_number, number_in, rvstm_app};
+ghost use Rattle.cmdline.specs.Line.{AnswersUnlessMemory, AsmOf, ChainOf, ConflictsOf, DebugOf, DisOf, DriveOf, MigrateOf, RunOf, SeqOf, requested, asked_by, is_call_number, is_operand, is_setting_number, is_store_file, is_worker_number, number_in, rvstm_app};
 
 use crate::commands::rvstm;
 use crate::requests::request_in;
@@ -85,17 +85,19 @@ pub enum Request<'a> {
         frame_limit: Option<usize>,
         /// The greatest sum of the gas limits of a frame's calls, 0 to 9,999,999,999, where one is given.
         frame_gas: Option<usize>,
-        /// Whether to keep a digest of the answers.
+        /// Whether to keep a digest of the answers; so where a store is given.
         digest: bool,
         /// Whether receipts have no `regs` lines.
         brief: bool,
+        /// The path of the file that keeps the session, where one is given; it is not empty.
+        store: Option<&'a str>,
     },
 }
 
 /// Reads a command line, whose first word is the program's name. Refused where the subcommand is missing
 /// or unknown, a word is missing or surplus, an option is unknown or repeated, the number of workers is
 /// not 1 to 32, the number of the call is not 0 to 1023, a number of `--frame-limit` or `--frame-gas` is
-/// not 0 to 9,999,999,999, or memory ran out. Help and the version are errors too; for them `use_stderr`
+/// not 0 to 9,999,999,999, the path of `--store` is empty, or memory ran out. Help and the version are errors too; for them `use_stderr`
 /// is false. `None` where clap accepts a line, but such a number has a sign or a zero before another digit,
 /// or clap gives no value that it demands.
 pub fn request_of<'a>(alloc: Global, words: &'a [String]) -> Result<Option<Request<'a>>, Error>
@@ -156,22 +158,36 @@ pub fn request_of<'a>(alloc: Global, words: &'a [String]) -> Result<Option<Reque
         → AnswersUnlessMemory result (MigrateOf file out) }
     // so is `chain`
     ensures chain { (program : List ℕ) → map string_bytes words.now ≡ program ∷ codes "chain" ∷ []
-        → AnswersUnlessMemory result (ChainOf None None None false false) }
+        → AnswersUnlessMemory result (ChainOf None None None false false None) }
     // and `chain --workers N`, where N is a whole number of 1 to 32
     ensures chain_workers { (program word : List ℕ)
         → map string_bytes words.now ≡ program ∷ codes "chain" ∷ codes "--workers" ∷ word ∷ []
         → is_worker_number word ≡ true
-        → AnswersUnlessMemory result (ChainOf (Some (number_in word)) None None false false) }
+        → AnswersUnlessMemory result (ChainOf (Some (number_in word)) None None false false None) }
     // so is `chain --frame-limit A --frame-gas B --digest --brief`, where A and B are decimals of 0 to 9,999,999,999
     ensures chain_settings { (program limit gas : List ℕ)
         → map string_bytes words.now ≡ program ∷ codes "chain" ∷ codes "--frame-limit" ∷ limit ∷ codes "--frame-gas" ∷ gas ∷ codes "--digest" ∷ codes "--brief" ∷ []
         → is_setting_number limit ≡ true → is_setting_number gas ≡ true
-        → AnswersUnlessMemory result (ChainOf None (Some (number_in limit)) (Some (number_in gas)) true true) }
+        → AnswersUnlessMemory result (ChainOf None (Some (number_in limit)) (Some (number_in gas)) true true None) }
     // and the same with `--workers N` before
     ensures chain_all { (program word limit gas : List ℕ)
         → map string_bytes words.now ≡ program ∷ codes "chain" ∷ codes "--workers" ∷ word ∷ codes "--frame-limit" ∷ limit ∷ codes "--frame-gas" ∷ gas ∷ codes "--digest" ∷ codes "--brief" ∷ []
         → is_worker_number word ≡ true → is_setting_number limit ≡ true → is_setting_number gas ≡ true
-        → AnswersUnlessMemory result (ChainOf (Some (number_in word)) (Some (number_in limit)) (Some (number_in gas)) true true) }
+        → AnswersUnlessMemory result (ChainOf (Some (number_in word)) (Some (number_in limit)) (Some (number_in gas)) true true None) }
+    // so is `chain --store FILE`, which keeps a digest too
+    ensures chain_store { (program file : List ℕ)
+        → map string_bytes words.now ≡ program ∷ codes "chain" ∷ codes "--store" ∷ file ∷ [] → is_store_file file ≡ true
+        → AnswersUnlessMemory result (ChainOf None None None true false (Some file)) }
+    // and the same before `--frame-limit A --frame-gas B --digest --brief`
+    ensures chain_store_settings { (program file limit gas : List ℕ)
+        → map string_bytes words.now ≡ program ∷ codes "chain" ∷ codes "--store" ∷ file ∷ codes "--frame-limit" ∷ limit ∷ codes "--frame-gas" ∷ gas ∷ codes "--digest" ∷ codes "--brief" ∷ []
+        → is_store_file file ≡ true → is_setting_number limit ≡ true → is_setting_number gas ≡ true
+        → AnswersUnlessMemory result (ChainOf None (Some (number_in limit)) (Some (number_in gas)) true true (Some file)) }
+    // and before `--workers N` and those
+    ensures chain_store_all { (program file word limit gas : List ℕ)
+        → map string_bytes words.now ≡ program ∷ codes "chain" ∷ codes "--store" ∷ file ∷ codes "--workers" ∷ word ∷ codes "--frame-limit" ∷ limit ∷ codes "--frame-gas" ∷ gas ∷ codes "--digest" ∷ codes "--brief" ∷ []
+        → is_store_file file ≡ true → is_worker_number word ≡ true → is_setting_number limit ≡ true → is_setting_number gas ≡ true
+        → AnswersUnlessMemory result (ChainOf (Some (number_in word)) (Some (number_in limit)) (Some (number_in gas)) true true (Some file)) }
 {
     let matches = matches_of(alloc, words)?;
     Ok(request_in(&matches))

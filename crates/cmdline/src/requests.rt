@@ -123,12 +123,14 @@ fn chain_in<'a>(found: &ArgMatches<'a>) -> Option<Request<'a>>
     if !is_decimal {
         return None;
     }
+    let store = text_found(found, "store");
     Some(Request::Chain {
         workers: number_found(found, "workers"),
         frame_limit: number_found(found, "frame-limit"),
         frame_gas: number_found(found, "frame-gas"),
-        digest: flag_found(found, "digest"),
+        digest: flag_found(found, "digest") || store.is_some(),
         brief: flag_found(found, "brief"),
+        store,
     })
 }
 
@@ -141,6 +143,14 @@ fn files_in<'a>(found: &ArgMatches<'a>) -> Option<(&'a str, &'a str)>
     let file = found.get_str("file")?;
     let out = found.get_str("out")?;
     Some((file, out))
+}
+
+/// The text that clap found for an option.
+#[tactic(auto, using(crate::proofs::Lines::first_in_rows))]
+fn text_found<'a>(found: &ArgMatches<'a>, option: &str) -> Option<&'a str>
+    ensures { option_map (λ text. text.now) result ≡ first_of option.now (rows_of (found_of found.now)) }
+{
+    found.get_str(option)
 }
 
 /// Whether clap found a word such as `--counts`.

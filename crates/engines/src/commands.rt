@@ -196,6 +196,7 @@ fn answer<T: Threads + Wait + Sync, D: Disk, I: Read, W: Destination, E: Destina
             frame_gas,
             digest,
             brief,
+            store: _,
         } => {
             let settings = settings_of(frame_limit, frame_gas, digest, brief);
             chain(threads, alloc, workers, settings, input, out)

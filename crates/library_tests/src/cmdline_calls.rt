@@ -24,6 +24,16 @@ const ASM: Request<'static> = Request::Asm {
     out: "a.elf",
 };
 
+/// The request of `chain` with a store; it keeps a digest.
+const STORED: Request<'static> = Request::Chain {
+    workers: None,
+    frame_limit: None,
+    frame_gas: None,
+    digest: true,
+    brief: false,
+    store: Some("a.session"),
+};
+
 /// Lines, each with its request.
 const LINES: &[(&str, Request<'static>)] = &[
     ("rvstm seq a.block", SEQ),
@@ -122,6 +132,21 @@ const LINES: &[(&str, Request<'static>)] = &[
             frame_gas: Some(9_999_999_999),
             digest: true,
             brief: true,
+            store: None,
+        },
+    ),
+    ("rvstm chain --store a.session", STORED),
+    ("rvstm chain --store=a.session", STORED),
+    ("rvstm chain --store a.session --digest", STORED),
+    (
+        "rvstm chain --brief --store=a.session --frame-limit 7",
+        Request::Chain {
+            workers: None,
+            frame_limit: Some(7),
+            frame_gas: None,
+            digest: true,
+            brief: true,
+            store: Some("a.session"),
         },
     ),
 ];
@@ -187,6 +212,12 @@ const WRONG_LINES: &[&str] = &[
     "rvstm drive a.block --workers 2 --workers 2 --schedule b.schedule",
     "rvstm chain --frame-gas 10000000000",
     "rvstm chain --digest --digest",
+    "rvstm chain --store",
+    "rvstm chain --store --brief",
+    "rvstm chain --store=",
+    "rvstm chain --store ",
+    "rvstm chain --store a --store a",
+    "rvstm seq a.block --store a",
 ];
 
 #[test]
@@ -205,6 +236,7 @@ const HELPS: &[(&str, &str)] = &[
     ("rvstm seq --help", "The block file"),
     ("rvstm drive --help", "--workers <N>"),
     ("rvstm debug --help", "--call <N>"),
+    ("rvstm chain --help", "--store <FILE>"),
     ("rvstm --version", "rvstm 0.2.0"),
 ];
 
