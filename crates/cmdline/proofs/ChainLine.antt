@@ -1,5 +1,5 @@
 -- The lines of `chain`.
-use Rattle.std.proofs.Common.{◌≡◌, ◌&&◌, ◌++◌, ◌∙◌, ℕ, Bool, true, false, [], ◌∷◌, List, Option, Some, None, refl, ap, ap₂, codes, fold, if◌then◌else◌}
+use Rattle.std.proofs.Common.{◌≡◌, ◌&&◌, ◌++◌, ◌∙◌, ℕ, Bool, true, false, [], ◌∷◌, List, Option, Some, None, length, nat_lt, refl, ap, ap₂, codes, fold, if◌then◌else◌}
 use Rattle.std.proofs.lemmas.Bool.{and_from, and_parts}
 use Rattle.clap.specs.Simple.{Shape, built_leaf, inherited}
 use Rattle.clap.specs.Takes.{takes, turn_passes, walk_passes}
@@ -8,7 +8,7 @@ use Rattle.clap.specs.Walk.{Held, Row, Text, Waiting, Walk, arg_by_id, idle, not
 use Rattle.clap.specs.declared.builder.value_parser.Reading.TheVariants as reading
 use Rattle.clap.specs.declared.parser.matches.ValueSource.TheVariants as source
 use Rattle.clap.proofs.OnLiterals.{clap_on_literals}
-use Rattle.cmdline.specs.Line.{Asked, ChainOf, chain_app, chain_of, is_decimal, is_operand, is_setting_number, is_worker_number, max_workers, most_setting, number_in, number_of, requested, rvstm_app, top_app}
+use Rattle.cmdline.specs.Line.{Asked, ChainOf, chain_app, chain_of, is_decimal, is_operand, is_setting_number, is_store_file, is_worker_number, max_workers, most_setting, number_in, number_of, requested, rvstm_app, top_app}
 use Rattle.cmdline.proofs.FileWords.{may_end, rows_at_end}
 use Rattle.cmdline.proofs.Numbers.{is_no_flag, number_is_read}
 use Rattle.cmdline.proofs.Operands.{at, value_passes, value_walked}
@@ -67,7 +67,7 @@ pub chain_is_taken : (program : Text) → takes rvstm_app (program ∷ codes "ch
 unfolding clap_on_literals
 chain_is_taken program = refl
 
-pub chain_is_asked : (program : Text) → requested (program ∷ codes "chain" ∷ []) ≡ Some (ChainOf None None None false false)
+pub chain_is_asked : (program : Text) → requested (program ∷ codes "chain" ∷ []) ≡ Some (ChainOf None None None false false None)
 unfolding clap_on_literals
 chain_is_asked program = refl
 
@@ -86,11 +86,11 @@ chain_workers_is_taken program word n =
     refl
 
 pub chain_workers_is_asked : (program word : Text) → is_worker_number word ≡ true
-    → requested (program ∷ codes "chain" ∷ codes "--workers" ∷ word ∷ []) ≡ Some (ChainOf (Some (number_in word)) None None false false)
+    → requested (program ∷ codes "chain" ∷ codes "--workers" ∷ word ∷ []) ≡ Some (ChainOf (Some (number_in word)) None None false false None)
 unfolding clap_on_literals
 chain_workers_is_asked program word n =
     ap (λ (w : Walk). chain_of (rows_at_end chain_shape w)) (workers_lead word n).goes
-    ∙ ap (λ (number : Option ℕ). Some (ChainOf number None None false false)) (number_is_read 1 max_workers word n)
+    ∙ ap (λ (number : Option ℕ). Some (ChainOf number None None false false None)) (number_is_read 1 max_workers word n)
 
 -- the words `--frame-limit LIMIT --frame-gas GAS --digest --brief`, and what clap keeps of the first two, four, five and six
 abbrev settings : Text → Text → List Text
@@ -117,15 +117,15 @@ module _ (word : Text) (n : is_setting_number word ≡ true) where
   has_decimal = (and_parts _ _ n).1
 
 -- what the settings ask for, by whether their numbers are decimals
-abbrev asked_with : Option ℕ → Bool → Bool → Option ℕ → Option ℕ → Option Asked
-asked_with workers first second limit gas = if first && second then Some (ChainOf workers limit gas true true) else None
+abbrev asked_with : Option Text → Option ℕ → Bool → Bool → Option ℕ → Option ℕ → Option Asked
+asked_with store workers first second limit gas = if first && second then Some (ChainOf workers limit gas true true store) else None
 
-settings_are_asked : (workers : Option ℕ) (limit gas : Text) → is_setting_number limit ≡ true → is_setting_number gas ≡ true
-    → asked_with workers (is_decimal limit) (is_decimal gas) (number_of limit) (number_of gas)
-    ≡ Some (ChainOf workers (Some (number_in limit)) (Some (number_in gas)) true true)
-settings_are_asked workers limit gas m n =
-    ap₂ (λ (a b : Bool). asked_with workers a b (number_of limit) (number_of gas)) (has_decimal limit m) (has_decimal gas n)
-    ∙ ap₂ (λ (a b : Option ℕ). Some (ChainOf workers a b true true))
+settings_are_asked : (store : Option Text) (workers : Option ℕ) (limit gas : Text) → is_setting_number limit ≡ true → is_setting_number gas ≡ true
+    → asked_with store workers (is_decimal limit) (is_decimal gas) (number_of limit) (number_of gas)
+    ≡ Some (ChainOf workers (Some (number_in limit)) (Some (number_in gas)) true true store)
+settings_are_asked store workers limit gas m n =
+    ap₂ (λ (a b : Bool). asked_with store workers a b (number_of limit) (number_of gas)) (has_decimal limit m) (has_decimal gas n)
+    ∙ ap₂ (λ (a b : Option ℕ). Some (ChainOf workers a b true true store))
     (number_is_read 0 most_setting limit (is_whole limit m)) (number_is_read 0 most_setting gas (is_whole gas n))
 
 -- the same of the settings alone
@@ -144,20 +144,35 @@ module _ (program limit gas : Text) (m : is_setting_number limit ≡ true) (n : 
   unfolding clap_on_literals
   chain_settings_is_taken = and_from _ _ (and_from _ _ settings_lead.passes (ap (may_end chain_shape) settings_lead.goes)) refl
 
-  pub chain_settings_is_asked : requested (program ∷ codes "chain" ∷ settings limit gas) ≡ Some (ChainOf None (Some (number_in limit)) (Some (number_in gas)) true true)
+  pub chain_settings_is_asked : requested (program ∷ codes "chain" ∷ settings limit gas) ≡ Some (ChainOf None (Some (number_in limit)) (Some (number_in gas)) true true None)
   unfolding clap_on_literals
   chain_settings_is_asked =
       ap (λ (w : Walk). chain_of (rows_at_end chain_shape w)) settings_lead.goes
-      ∙ settings_are_asked None limit gas m n
+      ∙ settings_are_asked None None limit gas m n
 
--- the same of `--workers N` and the settings
+-- the words `--store FILE`
+abbrev store_words : Text → List Text
+store_words file = codes "--store" ∷ file ∷ []
+
+module _ (file : Text) (f : is_store_file file ≡ true) where
+  is_named : nat_lt 0 (length file) ≡ true
+  is_named = (and_parts _ _ f).0
+
+  begins_no_flag : is_operand file ≡ true
+  begins_no_flag = (and_parts _ _ f).1
+
+-- the same of `--workers N` and the settings, and of those and `--store FILE`
 abbrev worker_row : Text → List Row
 worker_row word = row (codes "workers") word ∷ []
 
+abbrev all_rows : Text → Text → Text → List Row
+all_rows word limit gas = worker_row word ++ setting_rows limit gas
+
 module _ (program word limit gas : Text) (w : is_worker_number word ≡ true) (m : is_setting_number limit ≡ true) (n : is_setting_number gas ≡ true) where
-  all_lead : Leads chain_shape start (codes "--workers" ∷ word ∷ settings limit gas) (behind_flag (worker_row word ++ setting_rows limit gas))
+  all_lead : (rest : List Text) (end : Walk) → Leads chain_shape (behind_flag (all_rows word limit gas)) rest end
+      → Leads chain_shape start (codes "--workers" ∷ word ∷ settings limit gas ++ rest) end
   unfolding clap_on_literals
-  all_lead =
+  all_lead rest end leads =
       leads_by (before_value [] (codes "workers")) refl refl
       (value_leads refl (is_no_flag 1 max_workers word w)
       (leads_by (before_value (worker_row word) (codes "frame-limit")) refl (and_from _ _ (and_from _ _ w refl) refl)
@@ -165,16 +180,61 @@ module _ (program word limit gas : Text) (w : is_worker_number word ≡ true) (m
       (leads_by (before_value (worker_row word ++ limit_row limit) (codes "frame-gas")) refl (and_from _ _ (and_from _ _ (is_whole limit m) refl) refl)
       (value_leads refl (is_no_flag 0 most_setting gas (is_whole gas n))
       (leads_by (behind_flag (worker_row word ++ digest_rows limit gas)) refl (and_from _ _ (and_from _ _ (and_from _ _ (is_whole gas n) refl) refl) refl)
-      (leads_by (behind_flag (worker_row word ++ setting_rows limit gas)) refl refl arrived)))))))
+      (leads_by (behind_flag (all_rows word limit gas)) refl refl leads)))))))
 
   pub chain_all_is_taken : takes rvstm_app (program ∷ codes "chain" ∷ codes "--workers" ∷ word ∷ settings limit gas) ≡ true
   unfolding clap_on_literals
-  chain_all_is_taken = and_from _ _ (and_from _ _ all_lead.passes (ap (may_end chain_shape) all_lead.goes)) refl
+  chain_all_is_taken =
+      let lead : Leads chain_shape start (codes "--workers" ∷ word ∷ settings limit gas) (behind_flag (all_rows word limit gas)) = all_lead [] _ arrived in
+      and_from _ _ (and_from _ _ lead.passes (ap (may_end chain_shape) lead.goes)) refl
+
+  -- what is asked at the end of the walk, whatever stands behind these
+  all_asked : (store : Option Text)
+      → asked_with store (number_of word) (is_decimal limit) (is_decimal gas) (number_of limit) (number_of gas)
+      ≡ Some (ChainOf (Some (number_in word)) (Some (number_in limit)) (Some (number_in gas)) true true store)
+  all_asked store =
+      ap (λ (a : Option ℕ). asked_with store a (is_decimal limit) (is_decimal gas) (number_of limit) (number_of gas)) (number_is_read 1 max_workers word w)
+      ∙ settings_are_asked store (Some (number_in word)) limit gas m n
 
   pub chain_all_is_asked : requested (program ∷ codes "chain" ∷ codes "--workers" ∷ word ∷ settings limit gas)
-      ≡ Some (ChainOf (Some (number_in word)) (Some (number_in limit)) (Some (number_in gas)) true true)
+      ≡ Some (ChainOf (Some (number_in word)) (Some (number_in limit)) (Some (number_in gas)) true true None)
   unfolding clap_on_literals
-  chain_all_is_asked =
-      ap (λ (end : Walk). chain_of (rows_at_end chain_shape end)) all_lead.goes
-      ∙ ap (λ (a : Option ℕ). asked_with a (is_decimal limit) (is_decimal gas) (number_of limit) (number_of gas)) (number_is_read 1 max_workers word w)
-      ∙ settings_are_asked (Some (number_in word)) limit gas m n
+  chain_all_is_asked = ap (λ (end : Walk). chain_of (rows_at_end chain_shape end)) (all_lead [] _ arrived).goes ∙ all_asked None
+
+  module _ (file : Text) (f : is_store_file file ≡ true) where
+    all_with_store_lead : Leads chain_shape start (codes "--workers" ∷ word ∷ settings limit gas ++ store_words file) (behind_value (all_rows word limit gas) (codes "store") file)
+    unfolding clap_on_literals
+    all_with_store_lead =
+        all_lead (store_words file) _
+        (leads_by (before_value (all_rows word limit gas) (codes "store")) refl refl (value_leads refl (begins_no_flag file f) arrived))
+
+    pub chain_store_all_is_taken : takes rvstm_app (program ∷ codes "chain" ∷ codes "--workers" ∷ word ∷ settings limit gas ++ store_words file) ≡ true
+    unfolding clap_on_literals
+    chain_store_all_is_taken =
+        and_from _ _
+        (and_from _ _ all_with_store_lead.passes
+        (ap (may_end chain_shape) all_with_store_lead.goes ∙ and_from _ _ (and_from _ _ (is_named file f) refl) refl))
+        refl
+
+    pub chain_store_all_is_asked : requested (program ∷ codes "chain" ∷ codes "--workers" ∷ word ∷ settings limit gas ++ store_words file)
+        ≡ Some (ChainOf (Some (number_in word)) (Some (number_in limit)) (Some (number_in gas)) true true (Some file))
+    unfolding clap_on_literals
+    chain_store_all_is_asked = ap (λ (end : Walk). chain_of (rows_at_end chain_shape end)) all_with_store_lead.goes ∙ all_asked (Some file)
+
+-- the same of `chain --store FILE`
+module _ (program file : Text) (f : is_store_file file ≡ true) where
+  store_lead : Leads chain_shape start (store_words file) (behind_value [] (codes "store") file)
+  unfolding clap_on_literals
+  store_lead = leads_by (before_value [] (codes "store")) refl refl (value_leads refl (begins_no_flag file f) arrived)
+
+  pub chain_store_is_taken : takes rvstm_app (program ∷ codes "chain" ∷ store_words file) ≡ true
+  unfolding clap_on_literals
+  chain_store_is_taken =
+      and_from _ _
+      (and_from _ _ store_lead.passes
+      (ap (may_end chain_shape) store_lead.goes ∙ and_from _ _ (and_from _ _ (is_named file f) refl) refl))
+      refl
+
+  pub chain_store_is_asked : requested (program ∷ codes "chain" ∷ store_words file) ≡ Some (ChainOf None None None true false (Some file))
+  unfolding clap_on_literals
+  chain_store_is_asked = ap (λ (w : Walk). chain_of (rows_at_end chain_shape w)) store_lead.goes

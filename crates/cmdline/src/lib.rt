@@ -97,9 +97,9 @@ pub enum Request<'a> {
 /// Reads a command line, whose first word is the program's name. Refused where the subcommand is missing
 /// or unknown, a word is missing or surplus, an option is unknown or repeated, the number of workers is
 /// not 1 to 32, the number of the call is not 0 to 1023, a number of `--frame-limit` or `--frame-gas` is
-/// not 0 to 9,999,999,999, the path of `--store` is empty, or memory ran out. Help and the version are errors too; for them `use_stderr`
-/// is false. `None` where clap accepts a line, but such a number has a sign or a zero before another digit,
-/// or clap gives no value that it demands.
+/// not 0 to 9,999,999,999, the path of `--store` is empty, or memory ran out. Help and the version are
+/// errors too; for them `use_stderr` is false. `None` where clap accepts a line, but such a number has a
+/// sign or a zero before another digit, or clap gives no value that it demands.
 pub fn request_of<'a>(alloc: Global, words: &'a [String]) -> Result<Option<Request<'a>>, Error>
     // an accepted line asks for exactly this
     ensures answer { IfOk result (λ r.
@@ -178,15 +178,10 @@ pub fn request_of<'a>(alloc: Global, words: &'a [String]) -> Result<Option<Reque
     ensures chain_store { (program file : List ℕ)
         → map string_bytes words.now ≡ program ∷ codes "chain" ∷ codes "--store" ∷ file ∷ [] → is_store_file file ≡ true
         → AnswersUnlessMemory result (ChainOf None None None true false (Some file)) }
-    // and the same before `--frame-limit A --frame-gas B --digest --brief`
-    ensures chain_store_settings { (program file limit gas : List ℕ)
-        → map string_bytes words.now ≡ program ∷ codes "chain" ∷ codes "--store" ∷ file ∷ codes "--frame-limit" ∷ limit ∷ codes "--frame-gas" ∷ gas ∷ codes "--digest" ∷ codes "--brief" ∷ []
-        → is_store_file file ≡ true → is_setting_number limit ≡ true → is_setting_number gas ≡ true
-        → AnswersUnlessMemory result (ChainOf None (Some (number_in limit)) (Some (number_in gas)) true true (Some file)) }
-    // and before `--workers N` and those
-    ensures chain_store_all { (program file word limit gas : List ℕ)
-        → map string_bytes words.now ≡ program ∷ codes "chain" ∷ codes "--store" ∷ file ∷ codes "--workers" ∷ word ∷ codes "--frame-limit" ∷ limit ∷ codes "--frame-gas" ∷ gas ∷ codes "--digest" ∷ codes "--brief" ∷ []
-        → is_store_file file ≡ true → is_worker_number word ≡ true → is_setting_number limit ≡ true → is_setting_number gas ≡ true
+    // and the same behind all others
+    ensures chain_store_all { (program word limit gas file : List ℕ)
+        → map string_bytes words.now ≡ program ∷ codes "chain" ∷ codes "--workers" ∷ word ∷ codes "--frame-limit" ∷ limit ∷ codes "--frame-gas" ∷ gas ∷ codes "--digest" ∷ codes "--brief" ∷ codes "--store" ∷ file ∷ []
+        → is_worker_number word ≡ true → is_setting_number limit ≡ true → is_setting_number gas ≡ true → is_store_file file ≡ true
         → AnswersUnlessMemory result (ChainOf (Some (number_in word)) (Some (number_in limit)) (Some (number_in gas)) true true (Some file)) }
 {
     let matches = matches_of(alloc, words)?;

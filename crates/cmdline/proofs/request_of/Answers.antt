@@ -4,7 +4,7 @@ use Rattle.clap.specs.declared.error.ErrorKind.TheVariants as kind
 use Rattle.clap.specs.declared.parser.matches.ArgMatches.{ArgMatches}
 use Rattle.cmdline.specs.Line.{Asked, requested, asked_by, asked_in, rvstm_app}
 use Rattle.cmdline.specs.declared.Request.{Request}
-use Rattle.cmdline.proofs.ChainLine.{chain_all_is_asked, chain_all_is_taken, chain_is_asked, chain_is_taken, chain_settings_is_asked, chain_settings_is_taken, chain_workers_is_asked, chain_workers_is_taken}
+use Rattle.cmdline.proofs.ChainLine.{chain_all_is_asked, chain_all_is_taken, chain_is_asked, chain_is_taken, chain_settings_is_asked, chain_settings_is_taken, chain_store_all_is_asked, chain_store_all_is_taken, chain_store_is_asked, chain_store_is_taken, chain_workers_is_asked, chain_workers_is_taken}
 use Rattle.cmdline.proofs.DriveLine.{drive_counts_is_asked, drive_counts_is_taken, drive_is_asked, drive_is_taken}
 use Rattle.cmdline.proofs.Lines.{asm_is_asked, asm_is_taken, conflicts_is_asked, conflicts_is_taken, debug_is_asked, debug_is_taken, debug_more_is_asked, debug_more_is_taken, dis_is_asked, dis_is_taken, is_plain, migrate_is_asked, migrate_is_taken, run_counts_is_asked, run_counts_is_taken, run_is_asked, run_is_taken, seq_is_asked, seq_is_taken}
 use Rattle.cmdline.proofs.request_of.Goals as goal
@@ -167,3 +167,23 @@ returns-in_err-matches-clause-chain_all c = λ program word limit gas line numbe
 pub returns-clause-chain_all : goal.returns-clause-chain_all
 returns-clause-chain_all c = λ program word limit gas line number first second.
     is_asked _ _ line _ _ _ c.in_ok-matches.ensures.found c.request_in.ensures (chain_all_is_asked program word limit gas number first second)
+
+pub returns-in_err-matches-clause-chain_store : goal.returns-in_err-matches-clause-chain_store
+returns-in_err-matches-clause-chain_store c = λ program file line named.
+    let kind_is : kind_of c.in_err-matches.field-0.0 ≡ kind.OutOfMemory =
+    c.in_err-matches.ensures.passes (ap (takes rvstm_app) line ∙ chain_store_is_taken program file named) in
+    search (rules, kind_is)
+
+pub returns-clause-chain_store : goal.returns-clause-chain_store
+returns-clause-chain_store c = λ program file line named.
+    is_asked _ _ line _ _ _ c.in_ok-matches.ensures.found c.request_in.ensures (chain_store_is_asked program file named)
+
+pub returns-in_err-matches-clause-chain_store_all : goal.returns-in_err-matches-clause-chain_store_all
+returns-in_err-matches-clause-chain_store_all c = λ program word limit gas file line number second third named.
+    let kind_is : kind_of c.in_err-matches.field-0.0 ≡ kind.OutOfMemory =
+    c.in_err-matches.ensures.passes (ap (takes rvstm_app) line ∙ chain_store_all_is_taken program word limit gas number second third file named) in
+    search (rules, kind_is)
+
+pub returns-clause-chain_store_all : goal.returns-clause-chain_store_all
+returns-clause-chain_store_all c = λ program word limit gas file line number second third named.
+    is_asked _ _ line _ _ _ c.in_ok-matches.ensures.found c.request_in.ensures (chain_store_all_is_asked program word limit gas number second third file named)
