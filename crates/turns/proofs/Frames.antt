@@ -1,25 +1,28 @@
 -- A frame, stage by stage.
 use Rattle.std.proofs.Common.{◌≡◌, ◌⊎◌, ◌<◌, ◌≤◌, ℕ, List, Bool, true, false, length, nat_lt, nat_le, Result, Ok, Err, inl, inr, rules, refl, sym, ap, subst, ◌∙◌, arith, [], ◌∷◌, if◌then◌else◌}
-use Rattle.std.specs.Prelude.{IfErr, IsOk, Vec}
+use Rattle.std.specs.Prelude.{IfErr, IsOk, IsSome, None, Some, Vec}
 use Rattle.std.specs.declared.alloc.Global.{Global}
 use Rattle.std.specs.Result.{result_map_both}
 use Rattle.std.proofs.lemmas.Bool.Decides.{nat_tests}
 use Rattle.block_file.specs.Block.{BlockValue, block_of}
 use Rattle.block_file.specs.declared.fault.BlockFault.{BlockFault}
 use Rattle.elf32.specs.Layout.{Layout}
+use Rattle.requests.specs.Requests.{Frame}
 use Rattle.rv_ledger.specs.declared.rules.Rules.{Rules}
-use Rattle.turns.specs.Failures.{MayFailFrame}
+use Rattle.turns.specs.Failures.{MayFail, MayFailFrame}
+use Rattle.turns.specs.Pending.{IsDue, IsPending, counting, long_frame, stopped_frame}
 use Rattle.turns.specs.Programs.{ProgramsByName, before, program_named, programs_of}
 use Rattle.turns.specs.Replies.{Done, done_answer, refused_answer}
-use Rattle.turns.specs.Stages.{Answers, FailsOnlyWhere, IsAccepted, IsAnswered, IsRan, IsStopped, StopsAt, accepted_value, left_of, stopped_answer}
+use Rattle.turns.specs.Stages.{Answers, FailsOnlyWhere, IsAccepted, IsAnswered, IsRan, StopsAt, accepted_value, left_of, stopped_answer}
 use Rattle.turns.specs.Telling.{rules_number}
 use Rattle.turns.specs.Turn.{Accepted, Turn, ◌>>=◌, accepted, accepted_block, counted, frame_answer, frame_turn, gas_of, is_above, try_turn, unless}
-use Rattle.turns.specs.declared.answer.Answer.{Answer}
 use Rattle.turns.specs.declared.answer.Answer.TheVariants as answer
+use Rattle.turns.specs.declared.pending.Pending.TheVariants as pending
+use Rattle.turns.specs.declared.pending.PendingRun.{PendingRun}
 use Rattle.turns.specs.declared.refusal.Failure.{Failure}
 use Rattle.turns.specs.declared.refusal.Failure.TheVariants as want
 use Rattle.turns.specs.declared.refusal.Refusal.{Refusal}
-use Rattle.turns.specs.declared.refusal.Refusal.TheVariants.{Block, NoProgram, OlderRules, TooLong, TooMuchGas}
+use Rattle.turns.specs.declared.refusal.Refusal.TheVariants.{Block, NoProgram, OlderRules, TooHigh, TooLong, TooMuchGas}
 use Rattle.turns.specs.declared.run.Left.{Left}
 use Rattle.turns.specs.declared.settings.Settings.{Settings}
 use Rattle.turns.specs.declared.stages.AcceptedFrame.{AcceptedFrame}
@@ -140,13 +143,6 @@ run_fails settings s bytes frame failure is (inr e) = subst (MayFailFrame settin
 
 -- ---- the turn
 
-pub answered_weaker : (P Q : Failure → Type 0) (s : State) (wanted : Turn) (given : Answer) (after : State) → ((f : Failure) → P f → Q f) → IsAnswered P s wanted given after → IsAnswered Q s wanted given after
-answered_weaker P Q s wanted (answer.Done bytes) after h is = is
-answered_weaker P Q s wanted answer.Last after h is = is
-answered_weaker P Q s wanted (answer.Storage buffer) after h is = absurd is
-answered_weaker P Q s wanted (answer.Refused r) after h is = is
-answered_weaker P Q s wanted (answer.Failed f) after h is = (h f is.0, is.1)
-
 turn_is : (settings : Settings) (s : State) (bytes : List ℕ) → s.height < 9999999999 → frame_answer settings s (accepted settings s bytes) ≡ frame_turn settings s bytes
 turn_is settings s bytes low =
     let test : nat_le 9999999999 s.height ≡ false = grind (arith, nat_tests) in
@@ -160,28 +156,33 @@ answer_kept : (settings : Settings) (s : State) (wanted : Result Accepted Refusa
 answer_kept settings s (Ok w) ran is = λ j. counted (record s { store = is.2 j; rules = is.1 j }) (done_answer (is.0 j))
 answer_kept settings s (Err r) ran is = absurd is
 
--- a frame that ran is kept
-pub frame_kept : (settings : Settings) (s : State) (bytes : List ℕ) (ran : Ran) (given : Answer) (after : State) → s.height < 9999999999 → Answers (IsRan settings s) (accepted settings s bytes) (Ok ran)
-    → IsAnswered (λ failure. failure ≡ want.Run) s (counted (record s { store = left_of s.store ran.2; rules = ran.1 }) (done_answer ran.0.items)) given after
-    → IsAnswered (λ failure. (s.height < 9999999999) × MayFailFrame settings s bytes failure) s (frame_turn settings s bytes) given after
-frame_kept settings s bytes ran given after low is done =
-    answered_weaker (λ failure. failure ≡ want.Run) _ s (frame_turn settings s bytes) given after
-    (λ f e. (low, subst (MayFailFrame settings s bytes) (sym e) (ran_ok settings s (accepted settings s bytes) ran is)))
-    (subst (λ (t : Turn). IsAnswered (λ failure. failure ≡ want.Run) s t given after) (answer_kept settings s (accepted settings s bytes) ran is ∙ turn_is settings s bytes low) done)
+-- a frame that ran is to count
+pub frame_kept : (settings : Settings) (s : State) (bytes : List ℕ) (ran : Ran) → s.height < 9999999999 → Answers (IsRan settings s) (accepted settings s bytes) (Ok ran)
+    → IsPending settings s (Frame bytes) (pending.Frame (counting s (Some (record { left = ran.2; rules = ran.1 })) (done_answer ran.0.items)))
+frame_kept settings s bytes ran low is = record {
+  turn = answer_kept settings s (accepted settings s bytes) ran is ∙ turn_is settings s bytes low;
+  room = λ failure wants. (low, subst (MayFailFrame settings s bytes) (sym wants.0) (ran_ok settings s (accepted settings s bytes) ran is));
+  new = tt;
+  asked = (bytes, refl);
+}
+
+none_ran : (P : Type 0) → IsSome {T = PendingRun} None → P
+none_ran P some = cc
 
 stop_refused : (settings : Settings) (s : State) (wanted : Result Accepted Refusal) (refusal : Refusal) → Answers (IsRan settings s) wanted (Err (stop.Refused refusal)) → counted s (refused_answer refusal) ≡ frame_answer settings s wanted
 stop_refused settings s (Ok w) refusal is = absurd is
 stop_refused settings s (Err r) refusal is = ap (λ (x : Refusal). counted s (refused_answer x)) is
 
 -- one that stopped before is refused, or fails
-pub frame_stopped : (settings : Settings) (s : State) (bytes : List ℕ) (why : Stop) (given : Answer) (after : State) → s.height < 9999999999 → Answers (IsRan settings s) (accepted settings s bytes) (Err why)
-    → FailsOnlyWhere {X = Ran} (MayFailFrame settings s bytes) (Err why) → IsStopped s why given after
-    → IsAnswered (λ failure. (s.height < 9999999999) × MayFailFrame settings s bytes failure) s (frame_turn settings s bytes) given after
-frame_stopped settings s bytes (stop.Refused refusal) given after low is fails done =
-    answered_weaker (λ _. ⊥) _ s (frame_turn settings s bytes) given after (λ f none. absurd none)
-    (subst (λ (t : Turn). IsAnswered (λ _. ⊥) s t given after) (stop_refused settings s (accepted settings s bytes) refusal is ∙ turn_is settings s bytes low) done)
-frame_stopped settings s bytes (stop.Failed failure) given after low is fails done =
-    subst (λ (a : Answer). IsAnswered (λ failure. (s.height < 9999999999) × MayFailFrame settings s bytes failure) s (frame_turn settings s bytes) a after) (sym done.0) ((low, fails), done.1)
+pub frame_stopped : (settings : Settings) (s : State) (bytes : List ℕ) (why : Stop) → s.height < 9999999999 → Answers (IsRan settings s) (accepted settings s bytes) (Err why)
+    → FailsOnlyWhere {X = Ran} (MayFailFrame settings s bytes) (Err why) → IsPending settings s (Frame bytes) (stopped_frame s why)
+frame_stopped settings s bytes (stop.Refused refusal) low is fails = record {
+  turn = stop_refused settings s (accepted settings s bytes) refusal is ∙ turn_is settings s bytes low;
+  room = λ failure wants. none_ran (MayFail settings s (Frame bytes) failure) wants.1;
+  new = tt;
+  asked = (bytes, refl);
+}
+frame_stopped settings s bytes (stop.Failed failure) low is fails = ((low, fails), refl)
 
 -- the same of a frame that is only tried
 pub try_done : (settings : Settings) (s : State) (bytes : List ℕ) (ran : Ran) → s.height < 9999999999 → Answers (IsRan settings s) (accepted settings s bytes) (Ok ran) → Done ran.0.items ≡ (frame_turn settings s bytes).reply
@@ -192,3 +193,16 @@ pub try_stopped : (settings : Settings) (s : State) (bytes : List ℕ) (why : St
     → IsAnswered (λ failure. (s.height < 9999999999) × MayFailFrame settings s bytes failure) s (try_turn settings s bytes) (stopped_answer why) s
 try_stopped settings s bytes (stop.Refused refusal) low is fails = (ap (λ (t : Turn). t.reply) (stop_refused settings s (accepted settings s bytes) refusal is ∙ turn_is settings s bytes low), refl)
 try_stopped settings s bytes (stop.Failed failure) low is fails = ((low, fails), refl)
+
+-- a frame that stopped counts only below the greatest height
+pub due_stopped : (s : State) (bytes : List ℕ) (why : Stop) → s.height < 9999999999 → IsDue s (Frame bytes) (stopped_frame s why)
+due_stopped s bytes (stop.Refused refusal) low = low
+due_stopped s bytes (stop.Failed failure) low = tt
+
+-- so does one that is too long
+long_due : (s : State) (bytes : List ℕ) (high : Bool) → nat_le 9999999999 s.height ≡ high → IsDue s (Frame bytes) (if high then pending.Nothing (answer.Refused TooHigh) else pending.Frame (counting s None (refused_answer TooLong)))
+long_due s bytes true is = tt
+long_due s bytes false is = grind (arith, nat_tests)
+
+pub due_long : (s : State) (bytes : List ℕ) → IsDue s (Frame bytes) (long_frame s)
+due_long s bytes = long_due s bytes (nat_le 9999999999 s.height) refl

@@ -3,6 +3,7 @@ pub mod Dumps
 pub mod Entries
 pub mod Frames
 pub mod Listings
+pub mod Pendings
 pub mod ShortNames
 pub mod Stopped
 pub mod WholeTexts

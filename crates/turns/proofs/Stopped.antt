@@ -1,13 +1,18 @@
 -- What a request is answered where a stage stopped.
-use Rattle.std.proofs.Common.{◌≡◌, ℕ, List, Option, Result, Ok, Err, not, refl, ap}
+use Rattle.std.proofs.Common.{◌≡◌, ℕ, List, Option, Result, Ok, Err, not, refl, ap, subst, sym}
 use Rattle.std.specs.Result.{result_map_both}
 use Rattle.block_file.specs.Block.{BlockValue, block_of}
 use Rattle.block_file.specs.declared.fault.BlockFault.{BlockFault}
+use Rattle.requests.specs.Requests.{Begin}
+use Rattle.turns.specs.Failures.{MayFail}
+use Rattle.turns.specs.Pending.{IsPending, IsUndone}
 use Rattle.turns.specs.Replies.{Refused}
 use Rattle.turns.specs.Stages.{IsAnswered, StopsAt, stopped_answer}
 use Rattle.turns.specs.Turn.{Turn, ◌>>=◌, agree, begin_turn, begun_with, is_dump, unless}
+use Rattle.turns.specs.declared.pending.Pending.TheVariants as pending
 use Rattle.turns.specs.declared.refusal.Failure.TheVariants as want
 use Rattle.turns.specs.declared.refusal.Refusal.TheVariants.{Block, NotADump, OtherDigest}
+use Rattle.turns.specs.declared.settings.Settings.{Settings}
 use Rattle.turns.specs.declared.stages.Stop.{Stop}
 use Rattle.turns.specs.declared.stages.Stop.TheVariants as stop
 use Rattle.turns.specs.declared.state.State.{State}
@@ -25,7 +30,17 @@ begun_stopped s height digest text (stop.Failed failure) is = (is, refl)
 begun_stopped s height digest (Err fault) (stop.Refused refusal) is = (ap Refused is, refl)
 begun_stopped s height digest (Ok block) (stop.Refused refusal) is = absurd is
 
--- where the text of `begin` is not read
-pub begin_stopped : (s : State) (height : ℕ) (digest : Option (List ℕ)) (bytes : List ℕ) (why : Stop) → StopsAt (block_of bytes) why
+begin_stopped : (s : State) (height : ℕ) (digest : Option (List ℕ)) (bytes : List ℕ) (why : Stop) → StopsAt (block_of bytes) why
     → IsAnswered (λ failure. failure ≡ want.Block) s (begin_turn s height digest bytes) (stopped_answer why) s
 begin_stopped s height digest bytes why is = begun_stopped s height digest (block_of bytes) why is
+
+-- where the text of `begin` is not read
+pub begin_pending : (settings : Settings) (s : State) (height : ℕ) (digest : Option (List ℕ)) (bytes : List ℕ) (why : Stop) → StopsAt (block_of bytes) why
+    → IsPending settings s (Begin height digest bytes) (pending.Nothing (stopped_answer why))
+begin_pending settings s height digest bytes (stop.Failed failure) is = (subst (MayFail settings s (Begin height digest bytes)) (sym is) tt, refl)
+begin_pending settings s height digest bytes (stop.Refused refusal) is = begin_stopped s height digest bytes (stop.Refused refusal) is
+
+-- a stage that stopped changes nothing
+pub undone_stopped : (why : Stop) → IsUndone (stopped_answer why)
+undone_stopped (stop.Refused refusal) = tt
+undone_stopped (stop.Failed failure) = tt

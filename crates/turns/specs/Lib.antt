@@ -4,3 +4,4 @@ pub mod Replies
 pub mod Telling
 pub mod Turn
 pub mod Stages
+pub mod Pending

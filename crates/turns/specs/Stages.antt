@@ -1,8 +1,8 @@
--- Private help of proofs: no public clause cites it, but `IsTurn` and `IsAnswered`. How a request is answered stage by stage.
-use Rattle.std.specs.Prelude.{◌≡◌, ◌≢◌, ⊤, ℕ, List, true, false, length, nat_lt, map, Result, Ok, Err, Option, Some, None, Vec}
+-- Private help of proofs: no public clause cites it, but `IsTurn`, `IsAnswered` and `left_of`. How a request is answered stage by stage.
+use Rattle.std.specs.Prelude.{◌≡◌, ⊤, ℕ, List, true, false, map, Result, Ok, Err, Option, Some, None, Vec}
 use Rattle.std.specs.declared.alloc.Global.{Global}
 use Rattle.std.specs.Arc.{arc_value}
-use Rattle.std.specs.FinMap.{contains_key, insert}
+use Rattle.std.specs.FinMap.{contains_key}
 use Rattle.block_file.specs.Block.{BlockValue, block_value}
 use Rattle.block_file.specs.declared.fault.BlockFault.{BlockFault}
 use Rattle.elf32.specs.Image.{image_of}
@@ -13,14 +13,14 @@ use Rattle.rv_ledger.specs.Key.{Storage}
 use Rattle.receipts.specs.Buffer.{IsWritten}
 use Rattle.receipts.specs.declared.buffer.TextBuffer.{TextBuffer}
 use Rattle.turns.specs.Failures.{MayFail}
-use Rattle.turns.specs.Replies.{Reply, Done, Refused, Failed, refused_answer}
+use Rattle.turns.specs.Replies.{Reply, Done, Refused, Failed}
 use Rattle.turns.specs.Telling.{dump_text}
 use Rattle.receipts.specs.Brief.{receipts_text}
 use Rattle.rv_ledger.specs.declared.rules.Rules.{Rules}
 use Rattle.rv_step.specs.Fold.{receipts_of, store_after}
 use Rattle.programs.specs.Programs.{calls_over}
 use Rattle.turns.specs.Programs.{ProgramsByName}
-use Rattle.turns.specs.Turn.{Accepted, Turn, counted, last_reply, program_turn, storage_for, turn}
+use Rattle.turns.specs.Turn.{Accepted, Turn, last_reply, storage_for, turn}
 use Rattle.turns.specs.declared.stages.AcceptedFrame.{AcceptedFrame}
 use Rattle.turns.specs.declared.stages.Stop.{Stop}
 use Rattle.turns.specs.declared.stages.Stop.TheVariants as stop
@@ -58,11 +58,6 @@ IsTurn settings s ask given after = IsAnswered (MayFail settings s ask) s (turn 
 abbrev pub stopped_answer : Stop → Answer
 stopped_answer (stop.Refused why) = answer.Refused why
 stopped_answer (stop.Failed want) = answer.Failed want
-
--- a frame stopped before it ran: it is refused, and counts, or fails, and nothing changes
-abbrev pub IsStopped : State → Stop → Answer → State → Type 0
-IsStopped s (stop.Refused why) given after = IsAnswered (λ _. ⊥) s (counted s (refused_answer why)) given after
-IsStopped s (stop.Failed want) given after = (given ≡ answer.Failed want) × (after ≡ s)
 
 -- a stage gave what is wanted, or its refusal; or memory ran out
 abbrev pub Answers : {A X : Type 0} → (A → X → Type 0) → Result A Refusal → Result X Stop → Type 0
@@ -107,16 +102,6 @@ accepted_value frame = record { block = block_value frame.block; images = map ar
 abbrev pub IsLoaded : ProgramsByName → List ℕ → List ℕ → Option Layout → Type 0
 IsLoaded programs name file None = contains_key programs name ≡ true
 IsLoaded programs name file (Some image) = (contains_key programs name ≡ false) × (image_of file ≡ Ok image)
-
-abbrev pub with_image : ProgramsByName → List ℕ → Option Layout → ProgramsByName
-with_image programs name None = programs
-with_image programs name (Some image) = insert programs name image
-
--- where memory for a program may run out
-abbrev pub MayFailProgram : State → List ℕ → Failure → Type 0
-MayFailProgram s file failure.Program = nat_lt 131072 (length file) ≡ false
-MayFailProgram s file failure.Answer = (refusal : Refusal) → (program_turn s file).reply ≢ Refused refusal
-MayFailProgram s file other = ⊥
 
 -- a text in memory whose end waited in a buffer is whole
 abbrev pub IsFinished : TextBuffer → Vec ℕ Global → Vec ℕ Global → Type 0

@@ -1,31 +1,33 @@
 //! A session that goes on from another one's storage.
 
-ghost use Rattle.std.specs.Prelude.{◌≡◌};
-ghost use Rattle.turns.specs.Stages.{IsAnswered};
-ghost use Rattle.turns.specs.Turn.{begin_turn};
+ghost use Rattle.requests.specs.Requests.{Begin};
+ghost use Rattle.turns.specs.Pending.{IsDue, IsPending};
+ghost use Rattle.turns.specs.declared.settings.Settings.{Settings};
 
 use crate::accepting::parsed;
 use crate::answer::Answer;
-use crate::refusal::{Failure, Refusal};
+use crate::pending::{Pending, PendingBegin};
+use crate::refusal::Refusal;
 use crate::state::State;
 use block_file::BlockText;
 use std::alloc::Global;
 
-/// Puts the storage of a text, its rules, a height and a digest in the place of the session's. The programs stay, and there is
-/// no last answer. Refused by the text's first fault, where the text has programs or calls, or where there is a digest and the
-/// session keeps none, or the other way round.
+/// The storage of a text, its rules, a height and a digest, which are to take the place of the session's. The programs stay, and
+/// there is no last answer. Refused by the text's first fault, where the text has programs or calls, or where there is a digest
+/// and the session keeps none, or the other way round.
 pub(crate) fn begin(
     alloc: Global,
-    state: &mut State,
+    state: &State,
     height: u64,
     digest: Option<[u8; 32]>,
     bytes: &[u8],
-) -> Answer
-    ensures { IsAnswered (λ failure. failure ≡ Failure.Block) state.old (begin_turn state.old height digest bytes.now) result state.new }
+) -> Pending
+    ensures pending { (settings : Settings) → IsPending settings state.now (Begin height digest bytes.now) result }
+    ensures due { IsDue state.now (Begin height digest bytes.now) result }
 {
     let block = match parsed(alloc, bytes) {
         Ok(block) => block,
-        Err(stop) => return stop.answer(),
+        Err(stop) => return Pending::Nothing(stop.answer()),
     };
     let BlockText {
         rules,
@@ -34,15 +36,15 @@ pub(crate) fn begin(
         calls,
     } = block;
     if !programs.is_empty() || !calls.is_empty() {
-        return Answer::Refused(Refusal::NotADump);
+        return Pending::Nothing(Answer::Refused(Refusal::NotADump));
     }
     if digest.is_none() != state.digest.is_none() {
-        return Answer::Refused(Refusal::OtherDigest);
+        return Pending::Nothing(Answer::Refused(Refusal::OtherDigest));
     }
-    state.store = store;
-    state.rules = rules;
-    state.height = height;
-    state.digest = digest;
-    state.last = None;
-    Answer::Done(Vec::new(alloc))
+    Pending::Begin(PendingBegin {
+        store,
+        rules,
+        height,
+        digest,
+    })
 }

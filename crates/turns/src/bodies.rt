@@ -9,6 +9,7 @@ use crate::answer::Answer;
 use crate::begin::begin;
 use crate::frame::{frame, try_frame};
 use crate::handed_in::hand_in;
+use crate::making::take_pending;
 use crate::runner::CallRunner;
 use crate::settings::Settings;
 use crate::state::State;
@@ -18,7 +19,8 @@ use std::alloc::Global;
 pub fn take_program(alloc: Global, state: &mut State, file: &[u8]) -> Answer
     ensures { (settings : Settings) → IsTurn settings state.old (Program file.now) result state.new }
 {
-    hand_in(alloc, state, file)
+    let pending = hand_in(alloc, state, file);
+    take_pending(alloc, state, pending)
 }
 
 /// Runs a frame and keeps what it leaves, as `take_turn` does.
@@ -32,7 +34,8 @@ pub fn take_frame<C: CallRunner>(
     requires ready { C.ready }
     ensures { IsTurn settings state.old (Frame bytes.now) result state.new }
 {
-    frame(alloc, runner, settings, state, bytes)
+    let pending = frame(alloc, runner, settings, state, bytes);
+    take_pending(alloc, state, pending)
 }
 
 /// Runs a frame and keeps nothing of it, as `take_turn` does.
@@ -59,5 +62,6 @@ pub fn take_begin(
 ) -> Answer
     ensures { (settings : Settings) → IsTurn settings state.old (Begin height digest bytes.now) result state.new }
 {
-    begin(alloc, state, height, digest, bytes)
+    let pending = begin(alloc, state, height, digest, bytes);
+    take_pending(alloc, state, pending)
 }

@@ -1,17 +1,20 @@
 //! Frames that are run, and those that are only tried.
 
 ghost use Rattle.std.specs.Prelude.{◌≡◌, ◌<◌, ◌⊎◌, IfErr, IfOk, nat_le, if◌then◌else◌};
+ghost use Rattle.requests.specs.Requests.{Frame};
 ghost use Rattle.turns.specs.Failures.{MayFailFrame};
-ghost use Rattle.turns.specs.Replies.{done_answer};
-ghost use Rattle.turns.specs.Stages.{Answers, FailsOnlyWhere, IsAnswered, IsRan, IsStopped, accepted_value, left_of};
-ghost use Rattle.turns.specs.Turn.{accepted, counted, frame_turn, refused_frame, told, try_turn};
+ghost use Rattle.turns.specs.Pending.{IsDue, IsPending, counting, long_frame, stopped_frame};
+ghost use Rattle.turns.specs.Replies.{Refused, done_answer};
+ghost use Rattle.turns.specs.Stages.{Answers, FailsOnlyWhere, IsAnswered, IsRan, accepted_value};
+ghost use Rattle.turns.specs.Turn.{accepted, refused_frame, try_turn};
 
 use crate::accepting::accepted;
 use crate::answer::Answer;
 use crate::digest::next_digest;
 use crate::kept::{KeptAnswer, KeptBytes};
+use crate::pending::{Pending, PendingFrame, PendingRun};
 use crate::refusal::{Failure, Refusal};
-use crate::run::{Left, keep, run_beside};
+use crate::run::{Left, run_beside};
 use crate::runner::CallRunner;
 use crate::settings::Settings;
 use crate::stages::{AcceptedFrame, Stop};
@@ -27,20 +30,21 @@ const MOST_HEIGHT: u64 = 9_999_999_999;
 /// What a frame that ran gives: the text of its receipts, its rules, and what it leaves.
 type Ran = (Vec<u8>, Rules, Left);
 
-/// Runs a frame, and keeps what it leaves. A frame that is done or refused counts: its answer is kept as the session's last
-/// one. Where it fails nothing changes.
+/// Runs a frame beside the session: what it leaves is to be made. A frame that is done or refused is to count, and its answer
+/// to be kept as the session's last one. Where it fails nothing changes.
 pub(crate) fn frame<C: CallRunner>(
     alloc: Global,
     runner: &mut C,
     settings: Settings,
-    state: &mut State,
+    state: &State,
     bytes: &[u8],
-) -> Answer
+) -> Pending
     requires ready { C.ready }
-    ensures { IsAnswered (λ failure. (state.old.height < 9999999999) × MayFailFrame settings state.old bytes.now failure) state.old (frame_turn settings state.old bytes.now) result state.new }
+    ensures pending { IsPending settings state.now (Frame bytes.now) result }
+    ensures due { IsDue state.now (Frame bytes.now) result }
 {
     if state.height >= MOST_HEIGHT {
-        return Answer::Refused(Refusal::TooHigh);
+        return Pending::Nothing(Answer::Refused(Refusal::TooHigh));
     }
     match ran(alloc, runner, settings, state, bytes) {
         Ok(ran) => kept_frame(state, ran),
@@ -128,63 +132,64 @@ fn ran_accepted<C: CallRunner>(
     }
 }
 
-/// Makes what a frame leaves, and counts it.
-fn kept_frame(state: &mut State, ran: Ran) -> Answer
-    requires { state.old.height < 9999999999 }
-    ensures { IsAnswered (λ failure. failure ≡ Failure.Run) state.old
-        (counted (record state.old { store = left_of state.old.store ran.2; rules = ran.1 }) (done_answer ran.0.items)) result state.new }
+/// A frame that ran is to count, and what it leaves is to be made.
+fn kept_frame(state: &State, ran: Ran) -> Pending
+    requires { state.now.height < 9999999999 }
+    ensures { result ≡ Pending.Frame (counting state.now (Some (record { left = ran.2; rules = ran.1 })) (done_answer ran.0.items)) }
 {
     let (text, rules, left) = ran;
-    match keep(&mut state.store, left) {
-        Ok(()) => {}
-        Err(failure) => return Answer::Failed(failure),
-    }
-    state.rules = rules;
-    count(state, None, KeptBytes::of(text))
+    let run = PendingRun { left, rules };
+    counting(state, Some(run), None, KeptBytes::of(text))
 }
 
-/// Counts a frame that is refused. Where it fails nothing changes.
-fn stopped_frame(alloc: Global, state: &mut State, stop: Stop) -> Answer
-    requires { state.old.height < 9999999999 }
-    ensures { IsStopped state.old stop result state.new }
+/// A frame that is refused is to count. Where it fails nothing changes.
+fn stopped_frame(alloc: Global, state: &State, stop: Stop) -> Pending
+    requires { state.now.height < 9999999999 }
+    ensures { result ≡ stopped_frame state.now stop }
 {
     match stop {
-        Stop::Refused(refusal) => count(state, Some(refusal), KeptBytes::none(alloc)),
-        Stop::Failed(failure) => Answer::Failed(failure),
+        Stop::Refused(refusal) => counting(state, None, Some(refusal), KeptBytes::none(alloc)),
+        Stop::Failed(failure) => Pending::Nothing(Answer::Failed(failure)),
     }
 }
 
-/// Counts a frame: the height goes up, the digest goes on, and the answer is kept.
-fn count(state: &mut State, refusal: Option<Refusal>, bytes: KeptBytes) -> Answer
-    requires { state.old.height < 9999999999 }
-    ensures answer { result ≡ Answer.Last }
-    ensures state { state.new ≡ (counted state.old (record { refusal = refusal; bytes = bytes })).after }
+/// A frame that is to count: the height goes up, the digest goes on, and the answer is kept.
+fn counting(
+    state: &State,
+    run: Option<PendingRun>,
+    refusal: Option<Refusal>,
+    bytes: KeptBytes,
+) -> Pending
+    requires { state.now.height < 9999999999 }
+    ensures { result ≡ Pending.Frame (counting state.now run (record { refusal = refusal; bytes = bytes })) }
 {
-    let kept = KeptAnswer { refusal, bytes };
-    state.digest = next_digest(state.digest, &kept);
-    state.height += 1;
-    state.last = Some(kept);
-    Answer::Last
+    let answer = KeptAnswer { refusal, bytes };
+    Pending::Frame(PendingFrame {
+        run,
+        height: state.height + 1,
+        digest: next_digest(state.digest, &answer),
+        answer,
+    })
 }
 
-/// Answers a frame with more bytes than the settings allow: it counts, as other refused frames do.
-pub(crate) fn long_frame(alloc: Global, state: &mut State) -> Answer
-    ensures { IsAnswered (λ _. ⊥) state.old (refused_frame state.old Refusal.TooLong) result state.new }
-{
-    if state.height >= MOST_HEIGHT {
-        return Answer::Refused(Refusal::TooHigh);
-    }
-    count(state, Some(Refusal::TooLong), KeptBytes::none(alloc))
-}
-
-/// Answers such a frame that is only tried.
-pub(crate) fn long_try(state: &State) -> Answer
-    ensures { IsAnswered (λ _. ⊥) state.now (told state.now (refused_frame state.now Refusal.TooLong).reply) result state.now }
+/// A frame with more bytes than the settings allow: it is to count, as other refused frames.
+pub(crate) fn long_frame(alloc: Global, state: &State) -> Pending
+    ensures { result ≡ long_frame state.now }
 {
     if state.height >= MOST_HEIGHT {
-        return Answer::Refused(Refusal::TooHigh);
+        return Pending::Nothing(Answer::Refused(Refusal::TooHigh));
     }
-    Answer::Refused(Refusal::TooLong)
+    counting(state, None, Some(Refusal::TooLong), KeptBytes::none(alloc))
+}
+
+/// Why such a frame is refused that is only tried.
+pub(crate) fn long_try(state: &State) -> Refusal
+    ensures { Refused result ≡ (refused_frame state.now Refusal.TooLong).reply }
+{
+    if state.height >= MOST_HEIGHT {
+        return Refusal::TooHigh;
+    }
+    Refusal::TooLong
 }
 
 /// Answers a frame for whose bytes memory ran out.

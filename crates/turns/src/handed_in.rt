@@ -1,16 +1,19 @@
 //! Programs that are handed in, given back and named.
 
-ghost use Rattle.std.specs.Prelude.{◌≡◌, ◌⊎◌, ◌∷◌, [], Err, IfErr, IfOk, OnErr, OnOk, false, map};
+ghost use Rattle.std.specs.Prelude.{◌≡◌, ◌⊎◌, ◌∷◌, [], Err, IfErr, IfOk, false, map};
 ghost use Rattle.std.specs.Arc.{arc_value};
 ghost use Rattle.std.specs.FinMap as fin;
 ghost use Rattle.std.specs.Option.{option_map};
 ghost use Rattle.elf32.specs.Image.{image_of};
 ghost use Rattle.receipts.specs.Buffer.{Appended};
-ghost use Rattle.turns.specs.Stages.{IsAnswered, IsLoaded, MayFailProgram, with_image};
+ghost use Rattle.requests.specs.Requests.{Forget, Program};
+ghost use Rattle.turns.specs.Pending.{IsPending};
+ghost use Rattle.turns.specs.Stages.{IsLoaded};
 ghost use Rattle.turns.specs.Telling.{names_text};
-ghost use Rattle.turns.specs.Turn.{forget_turn, program_turn};
+ghost use Rattle.turns.specs.declared.settings.Settings.{Settings};
 
 use crate::answer::Answer;
+use crate::pending::Pending;
 use crate::program_table::ProgramTable;
 use crate::refusal::{Failure, Refusal};
 use crate::state::State;
@@ -26,27 +29,27 @@ use std::sync::Arc;
 /// The greatest length of a program's file, in bytes.
 const FILE_LIMIT: usize = 131_072;
 
-/// Loads a program, whose name is the SHA-256 of its file, and answers the name. One that is here is not loaded again. Refused
-/// where the file has more than 131,072 bytes or is no program.
-pub(crate) fn hand_in(alloc: Global, state: &mut State, file: &[u8]) -> Answer
-    ensures { IsAnswered (MayFailProgram state.old file.now) state.old (program_turn state.old file.now) result state.new }
+/// A program that is to be put under its name, the SHA-256 of its file, which is the answer. One that is here is not loaded
+/// again. Refused where the file has more than 131,072 bytes or is no program.
+pub(crate) fn hand_in(alloc: Global, state: &State, file: &[u8]) -> Pending
+    ensures { (settings : Settings) → IsPending settings state.now (Program file.now) result }
 {
     if file.len() > FILE_LIMIT {
-        return Answer::Refused(Refusal::FileTooLong);
+        return Pending::Nothing(Answer::Refused(Refusal::FileTooLong));
     }
     let name = Key::new(Sha256::digest(file));
     let loaded = match loaded(alloc, &state.programs, &name, file) {
         Ok(loaded) => loaded,
-        Err(ElfError::Memory) => return Answer::Failed(Failure::Program),
-        Err(fault) => return Answer::Refused(Refusal::Elf(fault)),
+        Err(ElfError::Memory) => return Pending::Nothing(Answer::Failed(Failure::Program)),
+        Err(fault) => return Pending::Nothing(Answer::Refused(Refusal::Elf(fault))),
     };
     let text = match name_line(alloc, &name) {
         Ok(text) => text,
-        Err(AllocError) => return Answer::Failed(Failure::Answer),
+        Err(AllocError) => return Pending::Nothing(Answer::Failed(Failure::Answer)),
     };
-    match put(&mut state.programs, name, loaded) {
-        Ok(()) => Answer::Done(text),
-        Err(AllocError) => Answer::Failed(Failure::Program),
+    match loaded {
+        Some(image) => Pending::Program(name, image, text),
+        None => Pending::Nothing(Answer::Done(text)),
     }
 }
 
@@ -70,26 +73,14 @@ fn loaded(
     }
 }
 
-/// Puts a program under its name, if there is one; refused where memory ran out.
-fn put(programs: &mut ProgramTable, name: Key, image: Option<Arc<Image>>) -> Result<(), AllocError>
-    ensures ok { OnOk result (programs.new ≡ with_image programs.old name (option_map arc_value image)) }
-    ensures err { OnErr result (programs.new ≡ programs.old) }
+/// A program that is to go; refused where none of that name is here.
+pub(crate) fn forget(state: &State, name: Key) -> Pending
+    ensures { (settings : Settings) → IsPending settings state.now (Forget name) result }
 {
-    match image {
-        Some(image) => programs.insert(name, image),
-        None => Ok(()),
+    match state.programs.get(&name) {
+        Some(_) => Pending::Forget(name),
+        None => Pending::Nothing(Answer::Refused(Refusal::NoProgram)),
     }
-}
-
-/// Gives back a program; refused where none of that name is here.
-pub(crate) fn forget(alloc: Global, state: &mut State, name: &Key) -> Answer
-    ensures { IsAnswered (λ _. ⊥) state.old (forget_turn state.old name.now) result state.new }
-{
-    if state.programs.get(name).is_none() {
-        return Answer::Refused(Refusal::NoProgram);
-    }
-    state.programs.remove(name);
-    Answer::Done(Vec::new(alloc))
 }
 
 /// The names of the programs that are here, ascending, a line each.

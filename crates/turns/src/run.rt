@@ -1,6 +1,6 @@
-//! Running the calls of a frame beside the storage, and making what they leave.
+//! Running the calls of a frame beside the storage.
 
-ghost use Rattle.std.specs.Prelude.{◌≡◌, ◌⊎◌, IfErr, IfOk, IsTrue, OnErr, OnOk};
+ghost use Rattle.std.specs.Prelude.{◌≡◌, ◌⊎◌, IfErr, IfOk, IsTrue, OnOk};
 ghost use Rattle.std.specs.FinMap as fin;
 ghost use Rattle.overlay.specs.Overlay.{with_changes};
 ghost use Rattle.receipts.specs.Brief.{receipts_text};
@@ -18,7 +18,7 @@ use std::alloc::{AllocError, Global};
 
 /// What a frame leaves, before it is made so.
 #[derive(Drop)]
-pub(crate) enum Left {
+pub enum Left {
     /// Changes of the storage.
     Changed(Overlay),
     /// Another storage in the place of an empty one.
@@ -107,24 +107,6 @@ fn run_changed<C: CallRunner>(
     match receipts_text(alloc, is_brief, receipts.as_slice()) {
         Ok(text) => Ok(text),
         Err(AllocError) => Err(Failure::Answer),
-    }
-}
-
-/// Makes what a frame left. It fails where memory runs out, and then the storage is as it was.
-pub(crate) fn keep(store: &mut Store, left: Left) -> Result<(), Failure>
-    ensures ok { OnOk result (store.new ≡ left_of store.old left) }
-    ensures err { OnErr result (store.new ≡ store.old) }
-    ensures failure { IfErr result (λ failure. failure ≡ Failure.Run) }
-{
-    match left {
-        Left::Changed(changes) => match commit(store, changes) {
-            Ok(()) => Ok(()),
-            Err(AllocError) => Err(Failure::Run),
-        },
-        Left::Begun(begun) => {
-            *store = begun;
-            Ok(())
-        }
     }
 }
 

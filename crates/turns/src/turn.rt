@@ -3,16 +3,19 @@
 ghost use Rattle.std.specs.Prelude.{◌≡◌, ◌<◌, IfOk, List, OnErr, false, length, true, ℕ};
 ghost use Rattle.requests.specs.Reading.{ask_of, is_too_long};
 ghost use Rattle.requests.specs.Requests.{Dump, body_length, with_body};
+ghost use Rattle.turns.specs.Pending.{IsDue, IsPending, IsRefusal, IsTold, IsUndone};
 ghost use Rattle.turns.specs.Stages.{IsAnswered, IsTurn};
 ghost use Rattle.turns.specs.Turn.{last_reply, told, turn};
 ghost use Rattle.turns.specs.declared.settings.Settings.{Settings};
 
 use crate::answer::Answer;
 use crate::begin::begin;
-use crate::bodies::{take_frame, take_try};
+use crate::bodies::take_try;
 use crate::dump::EmptyBuffer;
-use crate::frame::{long_frame, long_try, unkept_frame};
+use crate::frame::{frame, long_frame, long_try, unkept_frame};
 use crate::handed_in::{forget, hand_in, names};
+use crate::making::take_pending;
+use crate::pending::Pending;
 use crate::refusal::{Failure, Refusal};
 use crate::runner::CallRunner;
 use crate::settings::Settings;
@@ -34,18 +37,33 @@ pub fn take_turn<C: CallRunner>(
     requires ready { C.ready }
     ensures { IsTurn settings state.old (ask_of request.now) result state.new }
 {
+    let pending = pending_turn(alloc, runner, settings, state, request);
+    take_pending(alloc, state, pending)
+}
+
+/// What a request asks for, with its answer, before it is made so: the state is as it was.
+pub fn pending_turn<C: CallRunner>(
+    alloc: Global,
+    runner: &mut C,
+    settings: Settings,
+    state: &State,
+    request: &Request,
+) -> Pending
+    requires ready { C.ready }
+    ensures pending { IsPending settings state.now (ask_of request.now) result }
+    ensures due { IsDue state.now (ask_of request.now) result }
+{
     match request {
         Request::Program(file) => hand_in(alloc, state, file.as_slice()),
-        Request::Forget(name) => forget(alloc, state, &Key::new(*name)),
-        Request::Programs => text_answer(names(alloc, &state.programs)),
-        Request::Frame(bytes) => take_frame(alloc, runner, settings, state, bytes.as_slice()),
-        Request::Try(bytes) => take_try(alloc, runner, settings, state, bytes.as_slice()),
-        Request::Last => last(state),
-        Request::Get(key) => text_answer(content(alloc, &state.store, &Key::new(*key))),
-        Request::List(from, count) => {
-            text_answer(listed(alloc, &state.store, &Key::new(*from), *count))
-        }
-        Request::Dump => dump(alloc, state),
+        Request::Forget(name) => forget(state, Key::new(*name)),
+        Request::Frame(bytes) => frame(alloc, runner, settings, state, bytes.as_slice()),
+        Request::Try(bytes) => Pending::Nothing(take_try(
+            alloc,
+            runner,
+            settings,
+            state,
+            bytes.as_slice(),
+        )),
         Request::Begin(height, digest, bytes) => begin(
             alloc,
             state,
@@ -53,8 +71,25 @@ pub fn take_turn<C: CallRunner>(
             *digest,
             bytes.as_slice(),
         ),
+        other => Pending::Nothing(told(alloc, settings, state, other)),
+    }
+}
+
+/// The answer to a request that only tells of the state.
+fn told(alloc: Global, settings: Settings, state: &State, request: &Request) -> Answer
+    requires { IsTold (ask_of request.now) }
+    ensures { IsTurn settings state.now (ask_of request.now) result state.now }
+{
+    match request {
+        Request::Programs => text_answer(names(alloc, &state.programs)),
+        Request::Last => last(state),
+        Request::Get(key) => text_answer(content(alloc, &state.store, &Key::new(*key))),
+        Request::List(from, count) => {
+            text_answer(listed(alloc, &state.store, &Key::new(*from), *count))
+        }
+        Request::Dump => dump(alloc, state),
         Request::State => text_answer(state_text(alloc, settings, state)),
-        Request::Quit => Answer::Done(Vec::new(alloc)),
+        _ => Answer::Done(Vec::new(alloc)),
     }
 }
 
@@ -95,17 +130,29 @@ pub fn refuse_long(alloc: Global, state: &mut State, line: RequestLine) -> Answe
     ensures { (settings : Settings) (bytes : List ℕ) → length bytes ≡ body_length line → is_too_long settings.frame_limit line ≡ true
         → IsAnswered (λ _. ⊥) state.old (turn settings state.old (with_body line bytes)) result state.new }
 {
+    let pending = pending_long(alloc, state, line);
+    take_pending(alloc, state, pending)
+}
+
+/// What such a request comes to, before it is made so: it is refused, and a frame is to count.
+pub fn pending_long(alloc: Global, state: &State, line: RequestLine) -> Pending
+    ensures pending { (settings : Settings) (bytes : List ℕ) → length bytes ≡ body_length line → is_too_long settings.frame_limit line ≡ true
+        → IsPending settings state.now (with_body line bytes) result }
+    ensures refusal { IsRefusal result }
+    ensures due { (bytes : List ℕ) → IsDue state.now (with_body line bytes) result }
+{
     match line {
         RequestLine::Frame(_) => long_frame(alloc, state),
-        RequestLine::Try(_) => long_try(state),
-        _ => Answer::Refused(Refusal::FileTooLong),
+        RequestLine::Try(_) => Pending::Nothing(Answer::Refused(long_try(state))),
+        _ => Pending::Nothing(Answer::Refused(Refusal::FileTooLong)),
     }
 }
 
 /// Answers a request for whose bytes memory ran out, which were passed over. Nothing changes.
 pub fn fail_unkept(state: &State, line: RequestLine) -> Answer
-    ensures { (settings : Settings) (bytes : List ℕ) → length bytes ≡ body_length line → is_too_long settings.frame_limit line ≡ false → 0 < body_length line
+    ensures turn { (settings : Settings) (bytes : List ℕ) → length bytes ≡ body_length line → is_too_long settings.frame_limit line ≡ false → 0 < body_length line
         → IsTurn settings state.now (with_body line bytes) result state.now }
+    ensures undone { IsUndone result }
 {
     match line {
         RequestLine::Frame(_) | RequestLine::Try(_) => unkept_frame(state),

@@ -1,12 +1,15 @@
-use Rattle.std.proofs.Common.{◌≡◌, sym, subst}
-use Rattle.turns.proofs.Stopped.{begin_stopped}
-use Rattle.turns.specs.Stages.{IsAnswered}
-use Rattle.turns.specs.Turn.{begin_turn}
+use Rattle.std.proofs.Common.{sym, subst}
+use Rattle.requests.specs.Requests.{Begin}
+use Rattle.turns.proofs.Stopped.{begin_pending, undone_stopped}
+use Rattle.turns.specs.Pending.{IsPending, IsUndone}
 use Rattle.turns.specs.declared.answer.Answer.{Answer}
-use Rattle.turns.specs.declared.refusal.Failure.TheVariants.{Block}
+use Rattle.turns.specs.declared.pending.Pending.TheVariants.{Nothing}
 use Rattle.turns.proofs.begin.begin.Goals as goal
 
-pub returns-in-Err : goal.returns-in-Err
-returns-in-Err c = subst
-    (λ (a : Answer). IsAnswered (λ failure. failure ≡ Block) c.args.state.now (begin_turn c.args.state.now c.args.height c.args.digest c.args.bytes.now) a c.args.state.now)
-    (sym c.answer.ensures) (begin_stopped c.args.state.now c.args.height c.args.digest c.args.bytes.now c.in-Err.stop c.in-Err.ensures.err)
+pub returns-in-Err-clause-pending : goal.returns-in-Err-clause-pending
+returns-in-Err-clause-pending c settings = subst
+    (λ (a : Answer). IsPending settings c.args.state.now (Begin c.args.height c.args.digest c.args.bytes.now) (Nothing a))
+    (sym c.answer.ensures) (begin_pending settings c.args.state.now c.args.height c.args.digest c.args.bytes.now c.in-Err.stop c.in-Err.ensures.err)
+
+pub returns-in-Err-clause-due : goal.returns-in-Err-clause-due
+returns-in-Err-clause-due c = subst IsUndone (sym c.answer.ensures) (undone_stopped c.in-Err.stop)

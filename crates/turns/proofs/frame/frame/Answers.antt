@@ -1,10 +1,20 @@
-use Rattle.turns.proofs.Frames.{frame_kept, frame_stopped}
+use Rattle.std.proofs.Common.{sym, subst}
+use Rattle.requests.specs.Requests.{Frame}
+use Rattle.turns.proofs.Frames.{due_stopped, frame_kept, frame_stopped}
+use Rattle.turns.specs.Pending.{IsDue, IsPending}
+use Rattle.turns.specs.declared.pending.Pending.{Pending}
 use Rattle.turns.proofs.frame.frame.Goals as goal
 
-pub returns-in-Ok : goal.returns-in-Ok
-returns-in-Ok g c =
-    frame_kept c.args.settings c.args.state.now c.args.bytes.now c.in-Ok.ran c.kept_frame.result c.kept_frame.new.state c.if-state-ge-MOST_HEIGHT.false c.in-Ok.ensures.says c.kept_frame.ensures
+pub returns-in-Ok-clause-pending : goal.returns-in-Ok-clause-pending
+returns-in-Ok-clause-pending g c = subst (λ (p : Pending). IsPending c.args.settings c.args.state.now (Frame c.args.bytes.now) p) (sym c.kept_frame.ensures)
+    (frame_kept c.args.settings c.args.state.now c.args.bytes.now c.in-Ok.ran c.if-state-ge-MOST_HEIGHT.false c.in-Ok.ensures.says)
 
-pub returns-in-Err : goal.returns-in-Err
-returns-in-Err g c =
-    frame_stopped c.args.settings c.args.state.now c.args.bytes.now c.in-Err.stop c.stopped_frame.result c.stopped_frame.new.state c.if-state-ge-MOST_HEIGHT.false c.in-Err.ensures.says c.in-Err.ensures.fails c.stopped_frame.ensures
+pub returns-in-Err-clause-pending : goal.returns-in-Err-clause-pending
+returns-in-Err-clause-pending g c = subst (λ (p : Pending). IsPending c.args.settings c.args.state.now (Frame c.args.bytes.now) p) (sym c.stopped_frame.ensures)
+    (frame_stopped c.args.settings c.args.state.now c.args.bytes.now c.in-Err.stop c.if-state-ge-MOST_HEIGHT.false c.in-Err.ensures.says c.in-Err.ensures.fails)
+
+pub returns-in-Ok-clause-due : goal.returns-in-Ok-clause-due
+returns-in-Ok-clause-due g c = subst (λ (p : Pending). IsDue c.args.state.now (Frame c.args.bytes.now) p) (sym c.kept_frame.ensures) c.if-state-ge-MOST_HEIGHT.false
+
+pub returns-in-Err-clause-due : goal.returns-in-Err-clause-due
+returns-in-Err-clause-due g c = subst (λ (p : Pending). IsDue c.args.state.now (Frame c.args.bytes.now) p) (sym c.stopped_frame.ensures) (due_stopped c.args.state.now c.args.bytes.now c.in-Err.stop c.if-state-ge-MOST_HEIGHT.false)

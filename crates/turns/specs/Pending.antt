@@ -1,0 +1,154 @@
+-- What a request is to change, before it is made so.
+use Rattle.std.specs.Prelude.{◌≡◌, ◌⊎◌, ⊤, ℕ, ◌+◌, ◌<◌, List, [], false, Option, Some, None, Ok, Vec, IsSome, nat_le, if◌then◌else◌}
+use Rattle.std.specs.declared.alloc.Global.{Global}
+use Rattle.std.specs.Arc.{arc_value}
+use Rattle.std.specs.FinMap.{contains_key, insert, remove}
+use Rattle.sha2.specs.Sha256.{sha256}
+use Rattle.elf32.specs.Image.{image_of}
+use Rattle.overlay.specs.Commit.{HasRoom}
+use Rattle.requests.specs.Requests.{Ask, Begin, Forget, Frame, Program, Try}
+use Rattle.rv_ledger.specs.Key.{Storage}
+use Rattle.turns.specs.Failures.{MayFail}
+use Rattle.turns.specs.Replies.{Done, kept_reply, refused_answer}
+use Rattle.turns.specs.Stages.{IsAnswered, IsTurn, left_of, reply_in}
+use Rattle.turns.specs.Turn.{Turn, next_digest, told, turn}
+use Rattle.turns.specs.declared.answer.Answer.{Answer}
+use Rattle.turns.specs.declared.answer.Answer.TheVariants as answer
+use Rattle.turns.specs.declared.kept.KeptAnswer.{KeptAnswer}
+use Rattle.turns.specs.declared.pending.Pending.{Pending}
+use Rattle.turns.specs.declared.pending.Pending.TheVariants as pending
+use Rattle.turns.specs.declared.pending.PendingFrame.{PendingFrame}
+use Rattle.turns.specs.declared.pending.PendingRun.{PendingRun}
+use Rattle.turns.specs.declared.refusal.Failure.{Failure}
+use Rattle.turns.specs.declared.refusal.Failure.TheVariants as want
+use Rattle.turns.specs.declared.refusal.Refusal.TheVariants.{TooHigh, TooLong}
+use Rattle.turns.specs.declared.room.Room.{Room}
+use Rattle.turns.specs.declared.run.Left.{Left}
+use Rattle.turns.specs.declared.run.Left.TheVariants as left
+use Rattle.turns.specs.declared.settings.Settings.{Settings}
+use Rattle.turns.specs.declared.stages.Stop.{Stop}
+use Rattle.turns.specs.declared.stages.Stop.TheVariants as stop
+use Rattle.turns.specs.declared.state.State.{State}
+
+-- ---- what is pending, made
+
+-- the storage and the rules behind a run; those before where nothing ran
+abbrev pub after_run_of : State → Option PendingRun → State
+after_run_of s None = s
+after_run_of s (Some run) = record s { store = left_of s.store run.left; rules = run.rules }
+
+-- the reply of what is pending, and the state that it leaves
+abbrev pub turn_of : State → Pending → Turn
+turn_of s (pending.Nothing given) = told s (reply_in s given)
+turn_of s (pending.Program name image text) = record { reply = Done text.items; after = record s { programs = insert s.programs name (arc_value image) } }
+turn_of s (pending.Forget name) = record { reply = Done []; after = record s { programs = remove s.programs name } }
+turn_of s (pending.Frame frame) = record {
+  reply = kept_reply frame.answer;
+  after = record (after_run_of s frame.run) { height = frame.height; digest = frame.digest; last = Some frame.answer };
+}
+turn_of s (pending.Begin begin) = record {
+  reply = Done [];
+  after = record s { store = begin.store; rules = begin.rules; height = begin.height; digest = begin.digest; last = None };
+}
+
+-- a frame that counts: what its run leaves, if it ran, and its answer
+abbrev pub counting : State → Option PendingRun → KeptAnswer → PendingFrame
+counting s run kept = record { run = run; height = s.height + 1; digest = next_digest s.digest (kept_reply kept); answer = kept }
+
+-- one that stopped before it ran
+abbrev pub stopped_frame : State → Stop → Pending
+stopped_frame s (stop.Refused why) = pending.Frame (counting s None (refused_answer why))
+stopped_frame s (stop.Failed want) = pending.Nothing (answer.Failed want)
+
+-- one that is refused for its length
+abbrev pub long_frame : State → Pending
+long_frame s = if nat_le 9999999999 s.height then pending.Nothing (answer.Refused TooHigh) else pending.Frame (counting s None (refused_answer TooLong))
+
+-- ---- the room that it needs
+
+-- where memory for that room may run out
+abbrev pub MayWantRoom : Pending → Failure → Type 0
+MayWantRoom (pending.Program name image text) failure = failure ≡ want.Program
+MayWantRoom (pending.Frame frame) failure = (failure ≡ want.Run) × IsSome frame.run
+MayWantRoom other failure = ⊥
+
+-- a program that is pending is not here yet
+abbrev pub IsNewProgram : State → Pending → Type 0
+IsNewProgram s (pending.Program name image text) = contains_key s.programs name ≡ false
+IsNewProgram s other = ⊤
+
+-- a storage has the room for what a run leaves: its new keys are in it, with no value
+abbrev pub HasRoomForLeft : Storage → Left → Option (Vec (List ℕ) Global) → Storage → Type 0
+HasRoomForLeft before (left.Changed changes) (Some keys) now = HasRoom before changes keys.items now
+HasRoomForLeft before (left.Changed changes) None now = ⊥
+HasRoomForLeft before (left.Begun begun) keys now = now ≡ before
+
+abbrev pub HasRoomForRun : Storage → Option PendingRun → Option (Vec (List ℕ) Global) → Storage → Type 0
+HasRoomForRun before None keys now = now ≡ before
+HasRoomForRun before (Some run) keys now = HasRoomForLeft before run.left keys now
+
+-- a state has the room for what is pending; a program is in its place already
+abbrev pub HasRoomFor : State → Pending → Room → State → Type 0
+HasRoomFor before (pending.Program name image text) room now =
+    (contains_key before.programs name ≡ false) × (now ≡ record before { programs = insert before.programs name (arc_value image) })
+HasRoomFor before (pending.Frame frame) room now = HasRoomForRun before.store frame.run room.keys now.store × (now ≡ record before { store = now.store })
+HasRoomFor before other room now = now ≡ before
+
+-- what was pending was made, from the state that it was pending in
+abbrev pub IsMade : State → Pending → Answer → State → Type 0
+IsMade before (pending.Nothing answer) given after = (given ≡ answer) × (after ≡ before)
+IsMade before other given after = IsAnswered (λ _. ⊥) before (turn_of before other) given after
+
+-- so it was; or memory for its room ran out, which is told, and all is as it was
+abbrev pub IsTaken : State → Pending → Answer → State → Type 0
+IsTaken before p (answer.Failed failure) after = (IsMade before p (answer.Failed failure) after) ⊎ (MayWantRoom p failure × (after ≡ before))
+IsTaken before p given after = IsMade before p given after
+
+-- ---- what is pending of a request
+
+-- the request that asks for it
+abbrev pub IsAskedBy : Ask → Pending → Type 0
+IsAskedBy ask (pending.Nothing answer) = ⊤
+IsAskedBy ask (pending.Program name image text) = (file : List ℕ) × (ask ≡ Program file) × (name ≡ sha256 file) × (image_of file ≡ Ok (arc_value image))
+IsAskedBy ask (pending.Forget name) = ask ≡ Forget name
+IsAskedBy ask (pending.Frame frame) = (bytes : List ℕ) × (ask ≡ Frame bytes)
+IsAskedBy ask (pending.Begin begin) = (bytes : List ℕ) × (ask ≡ Begin begin.height begin.digest bytes)
+
+-- a change is pending as the request's turn says, and memory for its room may run out only where the request may fail so
+pub record IsPendingChange (settings : Settings) (s : State) (ask : Ask) (p : Pending) : Type 0 where
+  pub turn : turn_of s p ≡ turn settings s ask
+  pub room : (failure : Failure) → MayWantRoom p failure → MayFail settings s ask failure
+  pub new : IsNewProgram s p
+  pub asked : IsAskedBy ask p
+
+-- a request comes to what is pending
+abbrev pub IsPending : Settings → State → Ask → Pending → Type 0
+IsPending settings s ask (pending.Nothing answer) = IsTurn settings s ask answer s
+IsPending settings s ask change = IsPendingChange settings s ask change
+
+-- a request that only tells of the state
+abbrev pub IsTold : Ask → Type 0
+IsTold (Program file) = ⊥
+IsTold (Forget name) = ⊥
+IsTold (Frame bytes) = ⊥
+IsTold (Try bytes) = ⊥
+IsTold (Begin height digest bytes) = ⊥
+IsTold other = ⊤
+
+-- what is pending is a refusal, or a frame that is refused and counts: it takes no memory
+abbrev pub IsRefusal : Pending → Type 0
+IsRefusal (pending.Nothing (answer.Refused why)) = ⊤
+IsRefusal (pending.Frame frame) = (frame.run ≡ None)
+IsRefusal other = ⊥
+
+-- an answer that tells of no change
+abbrev pub IsUndone : Answer → Type 0
+IsUndone (answer.Refused why) = ⊤
+IsUndone (answer.Failed failure) = ⊤
+IsUndone other = ⊥
+
+-- where nothing is pending of a `begin`, it is refused or fails; a frame is pending only below the greatest height
+abbrev pub IsDue : State → Ask → Pending → Type 0
+IsDue s (Begin height digest bytes) (pending.Nothing answer) = IsUndone answer
+IsDue s (Frame bytes) (pending.Frame frame) = s.height < 9999999999
+IsDue s ask p = ⊤
