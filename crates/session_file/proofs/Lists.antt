@@ -12,7 +12,8 @@ use Rattle.rv_ledger.specs.Key.{key_cmp}
 use Rattle.entry_tree.specs.Entries.{ByteMap, row_of, rows_of}
 use Rattle.entry_tree.proofs.Rows.{below_first, row_order, sorted_rest}
 use Rattle.session_file.specs.Kept.{AreNamed}
-use Rattle.session_file.specs.Rows.{AreRising, DoFit, IsAbove}
+use Rattle.session_file.specs.Opening.{AreRising}
+use Rattle.session_file.specs.Rows.{DoFit, IsAbove}
 
 abbrev pub Pairs : Type 0
 Pairs = List (List ℕ × List ℕ)

@@ -1,11 +1,14 @@
 -- What an open finds, and why it may be refused.
 use Rattle.std.specs.Prelude.{◌≡◌, ◌≢◌, ℕ, pos, false, List, [], ◌∷◌, map, ⊤}
 use Rattle.std.specs.FinMap.{from_entries}
+use Rattle.std.specs.List.{AllByRecursion}
 use Rattle.std.specs.Option.{option_map}
+use Rattle.std.specs.declared.cmp.Ordering.TheVariants.{Less}
 use Rattle.sqlite_value.specs.declared.value.Value.{Value}
 use Rattle.sqlite_value.specs.declared.value.Value.TheVariants.{Int}
 use Rattle.sqlite_value.specs.Order.{Row, column}
 use Rattle.sqlite_trees.specs.View.{View}
+use Rattle.rv_ledger.specs.Key.{key_cmp}
 use Rattle.session_file.specs.Kept.{Kept, HoldsIn, format_version, session_tree}
 use Rattle.session_file.specs.Staging.{HasTrees}
 use Rattle.session_file.specs.declared.rows.AnswerRow.{AnswerRow}
@@ -21,6 +24,11 @@ program_entry p = (p.name, p.file.items)
 -- an answer's line and its bytes
 abbrev pub answer_parts : AnswerRow → List ℕ × List ℕ
 answer_parts a = (a.line.items, a.bytes.items)
+
+-- entries by ascending keys
+abbrev pub AreRising : List (List ℕ × List ℕ) → Type 0
+AreRising [] = ⊤
+AreRising (e ∷ es) = AllByRecursion (λ f. key_cmp e.0 f.0 ≡ Less) es × AreRising es
 
 -- what was found, as what is kept
 abbrev pub kept_of : Found → Kept

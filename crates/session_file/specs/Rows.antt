@@ -1,5 +1,5 @@
 -- Private help of proofs; no public clause cites it. Rows on their way into trees and out of them.
-use Rattle.std.specs.Prelude.{◌≡◌, ◌≢◌, ◌<◌, ◌^◌, ℕ, List, [], ◌∷◌, length, Option, Some, None, IfSome, ⊤}
+use Rattle.std.specs.Prelude.{◌≡◌, ◌≢◌, ◌<◌, ◌^◌, ℕ, List, length, Option, Some, None, IfSome, ⊤}
 use Rattle.std.specs.Option.{ForSome}
 use Rattle.std.specs.List.{AllByRecursion}
 use Rattle.std.specs.FinMap.{entries}
@@ -22,11 +22,6 @@ pub record HasSmallNumbers (s : SessionRow) : Type 0 where
 -- entries with keys of 32 bytes and with values that fit
 abbrev pub DoFit : (List ℕ → Type 0) → List (List ℕ × List ℕ) → Type 0
 DoFit fits es = AllByRecursion (λ e. (length e.0 ≡ 32) × fits e.1) es
-
--- entries by ascending keys
-abbrev pub AreRising : List (List ℕ × List ℕ) → Type 0
-AreRising [] = ⊤
-AreRising (e ∷ es) = AllByRecursion (λ f. key_cmp e.0 f.0 ≡ Less) es × AreRising es
 
 -- a key is above the last one, where there is one
 abbrev pub IsAbove : List ℕ → Option (List ℕ) → Type 0

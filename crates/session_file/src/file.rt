@@ -35,7 +35,7 @@ impl<S: Store> Model for SessionFile<S> {
 }
 
 impl<S: Store> SessionFile<S> {
-    ghost use Rattle.std.specs.Prelude.{◌≡◌, ◌⊎◌, ◌≤◌, None, Some, IfErr, OnErr, OnOk};
+    ghost use Rattle.std.specs.Prelude.{◌≡◌, ◌⊎◌, ◌≤◌, false, None, Some, IfErr, OnErr, OnOk};
     ghost use Rattle.std.specs.FinMap as fin;
     ghost use Rattle.sqlite_trees.specs.Tree.{Trees};
     ghost use Rattle.sqlite_trees.specs.View.{IsClean, IsQuiet, Tells, doubt};
@@ -55,7 +55,7 @@ impl<S: Store> SessionFile<S> {
     }
 
     /// The store alone.
-    pub(crate) fn into_store(self) -> S
+    pub fn into_store(self) -> S
         ensures store { result ≡ self }
         ensures shaped { IsClean (S.Store.view self) → IsShaped (S.Store.view self) }
     {
@@ -158,6 +158,7 @@ impl<S: Store> SessionFile<S> {
     /// staged, and the file keeps what it kept before, unless it is shut. After a crash inside it either is kept.
     pub fn commit(&mut self) -> Result<(), StoreError>
         ensures ok { OnOk result (CommitsStaged (S.Store.view self.old) (S.Store.view self.new)) }
+        ensures sound { OnOk result (IsClean (S.Store.view self.new) → (S.Store.view self.new).is_broken ≡ false) }
         ensures err { OnErr result (GivesUp (S.Store.view self.old) (S.Store.view self.new)) }
         ensures crash { (kept next : Kept) → IsStaged (S.Store.view self.old) kept next
             → (db : Trees) → S.Store.recovers self.new db → HoldsIn db next ⊎ S.Store.recovers self.old db }

@@ -1,10 +1,10 @@
 //! Opening the store of a session.
 
-ghost use Rattle.std.specs.Prelude.{◌≡◌, false, IfErr, IfOk, IsTrue, OnOk};
+ghost use Rattle.std.specs.Prelude.{◌≡◌, false, map, IfErr, IfOk, IsTrue, OnOk};
 ghost use Rattle.sqlite_exec.specs.Calls.{OnlyReads};
 ghost use Rattle.sqlite_trees.specs.View.{IsClean, IsQuiet};
 ghost use Rattle.session_file.specs.Kept.{HoldsIn};
-ghost use Rattle.session_file.specs.Opening.{IsFresh, IsRefused, kept_of};
+ghost use Rattle.session_file.specs.Opening.{AreRising, IsFresh, IsRefused, kept_of, program_entry};
 ghost use Rattle.session_file.specs.Staging.{HasTrees, IsKeeping, IsShaped};
 
 use crate::fault::OpenFault;
@@ -33,6 +33,7 @@ fn has_trees<S: Store>(store: &S) -> bool
 fn load<S: Store>(alloc: Global, store: &mut S) -> Result<Found, OpenFault>
     requires { IsClean (S.Store.view store.old) → IsFresh (S.Store.view store.old) }
     ensures ok { IfOk result (λ found. IsClean (S.Store.view store.new) → HoldsIn (S.Store.view store.new).trees (kept_of found)) }
+    ensures rising { IfOk result (λ found. AreRising (map program_entry found.programs.items)) }
     ensures trees { OnOk result (HasTrees (S.Store.view store.old)) }
     ensures err { IfErr result (λ fault. IsClean (S.Store.view store.new) → IsRefused (S.Store.view store.old) fault) }
     ensures same { OnOk result (IsClean (S.Store.view store.new) → OnlyReads (S.Store.view store.old) (S.Store.view store.new)) }
@@ -64,6 +65,7 @@ pub fn open_session<S: Store>(
 ) -> Result<(SessionFile<S>, Found), (OpenFault, S)>
     requires { IsClean (S.Store.view store) → IsFresh (S.Store.view store) }
     ensures ok { IfOk result (λ r. IsKeeping (S.Store.view r.0) (kept_of r.1)) }
+    ensures rising { IfOk result (λ r. AreRising (map program_entry r.1.programs.items)) }
     ensures err { IfErr result (λ e. IsClean (S.Store.view e.1) → IsRefused (S.Store.view store) e.0) }
     ensures same { IfOk result (λ r. IsClean (S.Store.view r.0) → OnlyReads (S.Store.view store) (S.Store.view r.0)) }
     ensures quiet { IfOk result (λ r. IsQuiet S.Store.view S.Store.faults S.Store.recovers S.Store.is_shielded store r.0) }

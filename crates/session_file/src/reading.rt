@@ -10,8 +10,8 @@ ghost use Rattle.sqlite_value.specs.Keys.{plain};
 ghost use Rattle.entry_tree.specs.Entries.{row_of};
 ghost use Rattle.rv_ledger.specs.Key.{key_cmp};
 ghost use Rattle.session_file.specs.Kept.{answer_row, answer_tree, rows_if_any, session_row, session_tree};
-ghost use Rattle.session_file.specs.Opening.{answer_parts};
-ghost use Rattle.session_file.specs.Rows.{AreRising, DoFit, HasNoAnswer, HasNoEntries, HasNoSession, IsAbove, IsReadFault};
+ghost use Rattle.session_file.specs.Opening.{AreRising, answer_parts};
+ghost use Rattle.session_file.specs.Rows.{DoFit, HasNoAnswer, HasNoEntries, HasNoSession, IsAbove, IsReadFault};
 
 use crate::decoding::{answer_in, bytes_of, is_of_other_version, key_in, session_in};
 use crate::entries::Entries;

@@ -1,10 +1,10 @@
 //! A commit, then a stop of the machine, then an open.
 
-ghost use Rattle.std.specs.Prelude.{◌≡◌, ◌⊎◌, IfErr, IfOk, IsTrue};
+ghost use Rattle.std.specs.Prelude.{◌≡◌, ◌⊎◌, ◌≤◌, map, IfErr, IfOk, IsTrue};
 ghost use Rattle.sqlite_trees.specs.Tree.{Trees};
-ghost use Rattle.sqlite_trees.specs.View.{IsClean};
+ghost use Rattle.sqlite_trees.specs.View.{IsClean, doubt};
 ghost use Rattle.session_file.specs.Kept.{Kept, HoldsIn};
-ghost use Rattle.session_file.specs.Opening.{kept_of};
+ghost use Rattle.session_file.specs.Opening.{AreRising, kept_of, program_entry};
 ghost use Rattle.session_file.specs.Staging.{IsKeeping, IsStaged};
 
 use crate::fault::OpenFault;
@@ -22,7 +22,9 @@ pub fn restart<S: Reopen>(
     file: SessionFile<S>,
 ) -> Result<(SessionFile<S>, Found), (OpenFault, S)>
     ensures ok { IfOk result (λ r. IsKeeping (S.Store.view r.0) (kept_of r.1)) }
+    ensures rising { IfOk result (λ r. AreRising (map program_entry r.1.programs.items)) }
     ensures found { IfOk result (λ r. IsTrue (S.Store.view r.0).is_open → (db : Trees) × S.Store.recovers file db × HoldsIn db (kept_of r.1)) }
+    ensures clean { IfOk result (λ r. doubt (S.Store.view file).is_clean ≤ doubt (S.Store.view r.0).is_clean) }
     ensures err { IfErr result (λ e. IsClean (S.Store.view e.1) → ((db : Trees) → S.Store.recovers file db → (k : Kept) × HoldsIn db k) → (error : StoreError) × (e.0 ≡ OpenFault.Store error)) }
 {
     let mut store = file.into_store();
@@ -38,6 +40,7 @@ pub fn commit_and_stop<S: Reopen>(
     alloc: Global,
     file: SessionFile<S>,
 ) -> Result<(SessionFile<S>, Found), (OpenFault, S)>
+    ensures rising { IfOk result (λ r. AreRising (map program_entry r.1.programs.items)) }
     ensures found { IfOk result (λ r. IsTrue (S.Store.view file).is_open → IsTrue (S.Store.view r.0).is_open
         → (kept next : Kept) → IsStaged (S.Store.view file) kept next → (kept_of r.1 ≡ kept) ⊎ (kept_of r.1 ≡ next)) }
     ensures err { IfErr result (λ e. IsTrue (S.Store.view file).is_open → IsClean (S.Store.view e.1)

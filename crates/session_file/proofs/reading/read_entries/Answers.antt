@@ -3,7 +3,8 @@ use Rattle.sqlite_value.specs.Order.{bytes, column}
 use Rattle.sqlite_exec.specs.Loops.{left_of}
 use Rattle.sqlite_exec.proofs.CheckLemmas as lemma
 use Rattle.entry_tree.specs.Entries.{row_of}
-use Rattle.session_file.specs.Rows.{AreRising, DoFit, IsAbove}
+use Rattle.session_file.specs.Opening.{AreRising}
+use Rattle.session_file.specs.Rows.{DoFit, IsAbove}
 use Rattle.session_file.proofs.Lists.{above_all, all_pushed, found_next, last_key, last_pushed, one_key, rising_pushed, rows_pushed}
 use Rattle.session_file.proofs.Loads.{all_left}
 use Rattle.session_file.proofs.reading.read_entries.Goals as goal

@@ -3,7 +3,8 @@ use Rattle.sqlite_trees.specs.View.{IsClean, KeepsSchema, IsQuiet}
 use Rattle.sqlite_exec.specs.Calls.{OnlyReads}
 use Rattle.sqlite_exec.specs.Loops.{left_of}
 use Rattle.entry_tree.specs.Entries.{row_of}
-use Rattle.session_file.specs.Rows.{AreRising, DoFit}
+use Rattle.session_file.specs.Opening.{AreRising}
+use Rattle.session_file.specs.Rows.{DoFit}
 use Rattle.session_file.proofs.Lists.{last_key}
 use Rattle.session_file.proofs.reading.read_entries.Given as goal
 

@@ -2,7 +2,7 @@ use Rattle.std.proofs.Common.{◌≡◌, ◌≢◌, ℕ, map}
 use Rattle.sqlite_trees.specs.View.{IsClean, KeepsSchema, IsQuiet, OnlyWrites}
 use Rattle.entry_tree.specs.Entries.{row_of, rows_of}
 use Rattle.session_file.specs.Kept.{storage_tree}
-use Rattle.session_file.specs.Rows.{AreRising}
+use Rattle.session_file.specs.Opening.{AreRising}
 use Rattle.session_file.proofs.writing.remove_entries.Given as goal
 
 abbrev pub invariant-loop-key : goal.invariant-loop-key
