@@ -22,7 +22,7 @@ pub record IsServing {S : Type 0} (answers : Answering S) (old now : S) (before 
   pub wrote : Appends before mid text
   pub many : length heard ≡ count
 
-known_some : (P : List ℕ → Type 0) (a c : Option (List ℕ)) → WhereKnown a c (λ xs ys. P xs) → IfSome a P
+pub known_some : (P : List ℕ → Type 0) (a c : Option (List ℕ)) → WhereKnown a c (λ xs ys. P xs) → IfSome a P
 known_some P None c h = tt
 known_some P (Some xs) None h = absurd h
 known_some P (Some xs) (Some ys) h = h

@@ -33,7 +33,7 @@ pub fn write_answer<W: Destination>(
     match answer {
         Answer::Done(bytes) => {
             let line = done_line(bytes.len() as u128);
-            print_both(line.as_str().as_bytes(), bytes.as_slice(), out)
+            write_both(line.as_str().as_bytes(), bytes.as_slice(), out)
         }
         Answer::Last => print_last(state, out),
         Answer::Storage(buffer) => print_storage(state, buffer, out),
@@ -70,7 +70,7 @@ fn print_kept<W: Destination>(kept: &KeptAnswer, out: &mut W) -> Result<(), Writ
     ensures no_worse { (W.may_fail out.new → W.may_fail out.old) × (W.may_take_nothing out.new → W.may_take_nothing out.old) }
 {
     let line = line_of_kept(kept);
-    print_both(line.as_str().as_bytes(), bytes_of_kept(kept), out)
+    write_both(line.as_str().as_bytes(), bytes_of_kept(kept), out)
 }
 
 /// Writes the text of the session's storage behind a line with its length.
@@ -105,7 +105,7 @@ pub(crate) fn print_end<W: Destination>(fault: RequestFault, out: &mut W) -> Res
 }
 
 /// Writes a line and the bytes behind it, and flushes them.
-fn print_both<W: Destination>(line: &[u8], bytes: &[u8], out: &mut W) -> Result<(), WriteFault>
+pub fn write_both<W: Destination>(line: &[u8], bytes: &[u8], out: &mut W) -> Result<(), WriteFault>
     ensures says { Says result (W.contents out.old) (W.contents out.new) (line.now ++ bytes.now) }
     ensures refused { IfErr result (MayRefuse (W.may_fail out.old) (W.may_take_nothing out.old)) }
     ensures no_worse { (W.may_fail out.new → W.may_fail out.old) × (W.may_take_nothing out.new → W.may_take_nothing out.old) }

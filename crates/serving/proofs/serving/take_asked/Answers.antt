@@ -19,7 +19,7 @@ returns-in-TooLong g c =
 pub returns-in-Unkept : goal.returns-in-Unkept
 returns-in-Unkept g c =
     subst (λ (asked : Asked). (xs ys : List ℕ) → Tells c.args.settings.frame_limit asked xs ys → IsCourse c.args.settings c.args.state.now (Answers c.fail_unkept.result) c.args.state.now xs ys) (sym c.in-Unkept.is)
-    (unkept_done c.args.settings c.args.state.now c.args.state.now c.in-Unkept.line c.fail_unkept.result c.fail_unkept.ensures)
+    (unkept_done c.args.settings c.args.state.now c.args.state.now c.in-Unkept.line c.fail_unkept.result c.fail_unkept.ensures.turn)
 
 pub returns-in-Broken : goal.returns-in-Broken
 returns-in-Broken g c =
