@@ -1,0 +1,4 @@
+pub mod Programs
+pub mod Once
+pub mod Changes
+mod Outcomes

@@ -1,0 +1,12 @@
+//! The state of a session as a file keeps it, and the state that a file's rows are.
+#![tactic(auto)]
+
+mod fault;
+mod laws;
+mod loading;
+mod rows;
+
+pub use fault::StoreFault;
+pub use laws::kept_state_is_one;
+pub use loading::{LoadFault, Loaded, load_state};
+pub use rows::{has_settings, row_of};
