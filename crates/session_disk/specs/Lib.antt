@@ -1,0 +1,5 @@
+pub mod Tables
+pub mod Faults
+pub mod Sessions
+pub mod Opening
+pub mod Closing

@@ -1,0 +1,43 @@
+-- When the log and the database file are those of a session.
+use Rattle.std.specs.Prelude.{◌≡◌, ◌⊎◌, ℕ, ◌<◌, ◌^◌, true, List, [], length, slice_index, Some}
+use Rattle.sqlite_wal.specs.Recovery as raw
+use Rattle.sqlite_wal.specs.Recovery.{Image}
+use Rattle.sqlite_pages.specs.PageMap.{PageMap}
+use Rattle.sqlite_pool.specs.Opening.{IsBlankFile}
+use Rattle.sqlite_pool.specs.Stored.{Recovers}
+use Rattle.sqlite_trees.specs.Tree.{Trees}
+use Rattle.sqlite_store.specs.Listing.{IsOurs, file_trees}
+use Rattle.sqlite_store.specs.Opening.{IsEmptyFile}
+use Rattle.session_disk.specs.Tables.{session_schema}
+
+-- the number of bytes in a page
+abbrev pub page_size : ℕ
+page_size = 4096
+
+-- a first page that is whole begins with the S of SQLite
+abbrev pub BeginsWell : Image → Type 0
+BeginsWell image =
+    (pages : PageMap) (first : List ℕ) → raw.Recovers page_size image pages → pages 1 ≡ Some first → length first ≡ page_size → slice_index first 0 ≡ 83
+
+-- the files stand for a database with the tables of a session and no other
+pub record IsSessionFile (image : Image) : Type 0 where
+  pub pages : PageMap
+  pub found : Recovers page_size image pages
+  pub ours : IsOurs page_size true session_schema pages
+
+-- there is no database yet, or a sound one with no table
+abbrev pub IsBegun : Image → Type 0
+IsBegun image = IsBlankFile page_size image ⊎ ((pages : PageMap) × Recovers page_size image pages × IsEmptyFile page_size pages)
+
+-- a session left them, wherever it was cut
+abbrev pub IsSession : Image → Type 0
+IsSession image = IsSessionFile image ⊎ IsBegun image
+
+-- the tables of a session hold these rows
+pub record HoldsRows (image : Image) (db : Trees) : Type 0 where
+  pub file : IsSessionFile image
+  pub rows : db ≡ file_trees page_size session_schema file.pages
+
+-- these rows are what the files hold, or they hold no table and there are no rows
+abbrev pub AreFoundIn : Image → Trees → Type 0
+AreFoundIn image db = ∥ HoldsRows image db ∥₁ ⊎ (∥ IsBegun image ∥₁ × ((tree : ℕ) → tree < 2 ^ 32 → db tree ≡ []))

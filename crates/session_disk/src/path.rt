@@ -1,0 +1,124 @@
+//! Opening a session's file by its path.
+
+ghost use Rattle.std.specs.Prelude.{◌≡◌, IfOk, IsTrue};
+ghost use Rattle.std_io.specs.IoError.{error_kind};
+ghost use Rattle.sqlite_wal.specs.Files.{image_at};
+ghost use Rattle.sqlite_wal.specs.Recovery.{Image, IsIgnored};
+ghost use Rattle.sqlite_store.specs.FileStore.{is_shielded, state, view};
+ghost use Rattle.session_disk.specs.Faults.{path_fault, system_fault, told_fault};
+ghost use Rattle.session_disk.specs.Opening.{IsOpened};
+ghost use Rattle.session_disk.specs.Sessions.{IsSessionFile};
+
+use crate::fault::OpenFault;
+use crate::opening::open_files;
+use sqlite_disk::{Disk, Start, Tally};
+use sqlite_std_file::{FileFrom, OpenError as PathError};
+use sqlite_store::FileStore;
+use std::hash::{BuildHasher, RandomState};
+use std::{fs, io};
+
+/// A log that is shorter than its header and the header of a frame holds nothing that was committed.
+const FRAME_END: usize = 32 + 24;
+
+/// The fault of opening the two files at a path.
+fn path_fault(error: PathError) -> OpenFault
+    ensures { result ≡ path_fault error }
+{
+    match error {
+        PathError::Busy => OpenFault::Busy,
+        PathError::HotJournal => OpenFault::HotJournal,
+        PathError::OutOfMemory => OpenFault::Memory,
+        PathError::Io(error) => io_fault(error),
+    }
+}
+
+/// The fault of a call of the system.
+fn io_fault(error: io::Error) -> OpenFault
+    ensures { result ≡ system_fault (error_kind error) }
+{
+    match error.kind() {
+        io::ErrorKind::OutOfMemory => OpenFault::Memory,
+        _ => OpenFault::Unreadable,
+    }
+}
+
+/// Opens the database file at a path, or makes it, as the store of a session, and has it for this process alone until the store
+/// is dropped. A log that this open made is removed again where it refuses the file.
+pub fn open_path<S: Start>(
+    rt: &HostRuntime,
+    path: &str,
+    start: S,
+) -> Result<FileStore<FileFrom<S>>, OpenFault>
+    ensures ok { IfOk result (λ store. IsTrue (view store).is_clean → IsOpened (image_at S.Start) store) }
+    ensures left { IfOk result (λ store. IsTrue (view store).is_clean → (now : Image) → (state store).may_leave now → ∥ IsSessionFile now ∥₁) }
+    ensures guarded { IfOk result (λ store. IsTrue (view store).is_clean → is_shielded store) }
+{
+    let seed = match RandomState::new(rt) {
+        Ok(state) => state.hash_one(&0u8),
+        Err(error) => return Err(io_fault(error)),
+    };
+    let log_path = match log_path(rt, path) {
+        Ok(log_path) => log_path,
+        Err(error) => return Err(io_fault(error)),
+    };
+    let is_new_log = is_free(rt, log_path.as_str());
+    let files = match sqlite_std_file::open(rt, path, start) {
+        Ok(files) => files,
+        Err(error) => return Err(path_fault(error)),
+    };
+    match open_files(rt.alloc(), files, seed) {
+        Ok(store) => Ok(store),
+        Err((fault, rest)) => {
+            let mut files = rest.into_files();
+            if is_new_log && is_idle(&mut files.log, fault) {
+                let _ = fs::remove_file(rt, log_path.as_str());
+            }
+            Err(told_fault(fault, files.tally()))
+        }
+    }
+}
+
+/// The fault of an open: a failed call is told as Full where a write found no room.
+fn told_fault(fault: OpenFault, tally: Tally) -> OpenFault
+    ensures { result ≡ told_fault tally.refused fault }
+{
+    match fault {
+        OpenFault::Unreadable if tally.refused != 0 => OpenFault::Full,
+        other => other,
+    }
+}
+
+/// The path of the log: it lies beside the file that a path leads to.
+fn log_path(rt: &HostRuntime, path: &str) -> io::Result<String> {
+    let real = match fs::canonicalize(rt, path) {
+        Ok(real) => real.into_string(),
+        Err(error) if error.kind() == io::ErrorKind::NotFound => String::from_str(
+            rt.alloc(),
+            path,
+        )?,
+        Err(error) => return Err(error),
+    };
+    Ok(format!(in rt.alloc(); "{}-wal", real.as_str())?)
+}
+
+/// Whether nothing is at a path.
+fn is_free(rt: &HostRuntime, path: &str) -> bool {
+    match fs::symlink_metadata(rt, path) {
+        Ok(_) => false,
+        Err(error) => error.kind() == io::ErrorKind::NotFound,
+    }
+}
+
+/// Whether the log that a refused open found holds nothing: neither a commit of another process, nor the mark of a database
+/// that is only half made.
+fn is_idle<D: Disk>(log: &mut D, fault: OpenFault) -> bool
+    ensures { IsTrue result → IsTrue (D.Disk.is_clean log.new) → IsIgnored (D.Disk.seen log.old) }
+{
+    if !log.may_be_used() {
+        return false;
+    }
+    match log.len() {
+        Ok(len) => len == 0 || (fault == OpenFault::NotASession && len < FRAME_END),
+        Err(_) => false,
+    }
+}
