@@ -1,0 +1,153 @@
+-- The turns of a session over a file, and those of its state in memory.
+use Rattle.std.proofs.Common.{◌≡◌, ◌≢◌, ◌+◌, ◌<◌, ℕ, List, [], ◌∷◌, ◌++◌, Bool, true, false, cond, length, Option, Some, None, Result, Ok, Err, inl, inr, refl, sym, ap, subst, ◌∙◌, arith}
+use Rattle.std.specs.Prelude.{nat_le, nat_lt}
+use Rattle.std.specs.FinMap.{contains_key}
+use Rattle.std.specs.Option.{option_map}
+use Rattle.sha2.specs.Sha256.{sha256}
+use Rattle.block_file.specs.Block.{BlockValue}
+use Rattle.elf32.specs.Layout.{Layout}
+use Rattle.requests.specs.Requests.{Ask, Program, Forget, Programs, Frame, Try, Last, Get, ListEntries, Dump, Begin, Quit, State as AskState}
+use Rattle.round_trips.specs.Begun.{EqualButLast}
+use Rattle.round_trips.proofs.Alike.{after_alike, reply_alike}
+use Rattle.session_file.specs.Opening.{answer_parts}
+use Rattle.session_file.specs.declared.rows.AnswerRow.{AnswerRow}
+use Rattle.session_states.specs.States.{last_of}
+use Rattle.turns.specs.Failures.{MayFail}
+use Rattle.turns.specs.Pending.{IsDue, IsUndone}
+use Rattle.turns.specs.Replies.{Done, Refused, Reply, answer_text}
+use Rattle.turns.specs.Stages.{IsTurn, reply_in}
+use Rattle.turns.specs.Telling.{dump_text}
+use Rattle.turns.specs.Turn.{Accepted, Turn, accepted, frame_answer, last_reply, named_turn, program_of_file, program_turn, told, turn, with_program}
+use Rattle.turns.specs.declared.answer.Answer.{Answer}
+use Rattle.turns.specs.declared.answer.Answer.TheVariants as answer
+use Rattle.turns.specs.declared.kept.KeptAnswer.{KeptAnswer}
+use Rattle.turns.specs.declared.pending.Pending.TheVariants as pending
+use Rattle.turns.specs.declared.refusal.Failure.{Failure}
+use Rattle.turns.specs.declared.refusal.Failure.TheVariants as want
+use Rattle.turns.specs.declared.refusal.Refusal.{Refusal}
+use Rattle.turns.specs.declared.refusal.Refusal.TheVariants.{FileTooLong, NoProgram, TooHigh}
+use Rattle.turns.specs.declared.settings.Settings.{Settings}
+use Rattle.turns.specs.declared.state.State.{State}
+use Rattle.durable_serving.specs.Durable.{IsFileAnswer, last_behind, last_if_begun, last_text}
+use Rattle.durable_serving.specs.Keeping.{IsByTurn, over}
+
+-- ---- a state without its last answer
+
+abbrev pub bare : State → State
+bare s = record s { last = None }
+
+pub bare_alike : (s : State) → EqualButLast s (bare s)
+bare_alike s = record { store = refl; rules = refl; height = refl; digest = refl; programs = refl }
+
+pub same_bare : (a b : State) → EqualButLast a b → bare a ≡ bare b
+same_bare a b e = λ j. record {
+  store = e.store j;
+  rules = e.rules j;
+  height = e.height j;
+  digest = e.digest j;
+  programs = e.programs j;
+  last = None;
+}
+
+-- ---- the last answer behind a turn that counts no frame
+
+either : (b : Bool) (x y : Turn) (last : Option KeptAnswer) → x.after.last ≡ last → y.after.last ≡ last → (cond b x y).after.last ≡ last
+either true x y last h k = h
+either false x y last h k = k
+
+loaded_last : (s : State) (name : List ℕ) (r : Result Layout Refusal) → (with_program s name r).after.last ≡ s.last
+loaded_last s name (Ok image) = refl
+loaded_last s name (Err refusal) = refl
+
+pub program_last : (s : State) (file : List ℕ) → (program_turn s file).after.last ≡ s.last
+program_last s file = either (nat_lt 131072 (length file)) (told s (Refused FileTooLong)) (named_turn s (sha256 file) file) s.last refl
+    (either (contains_key s.programs (sha256 file)) (told s (Done _)) (with_program s (sha256 file) (program_of_file file)) s.last refl (loaded_last s (sha256 file) (program_of_file file)))
+
+pub forget_last : (settings : Settings) (s : State) (name : List ℕ) → (turn settings s (Forget name)).after.last ≡ s.last
+forget_last settings s name = either (contains_key s.programs name) _ (told s (Refused NoProgram)) s.last refl refl
+
+next_height : (n : ℕ) → n + 1 ≡ n → ⊥
+next_height n e = omega arith
+
+-- a frame behind which all is as it was
+uncounted : (settings : Settings) (s : State) (last : Option (List ℕ × List ℕ)) (high : Bool) (wanted : Result Accepted Refusal)
+    → (cond high (told s (Refused TooHigh)) (frame_answer settings s wanted)).after ≡ s
+    → last_of (cond high (told (bare s) (Refused TooHigh)) (frame_answer settings (bare s) wanted)).after.last last ≡ last
+uncounted settings s last true wanted is = refl
+uncounted settings s last false (Ok frame) is = absurd (next_height s.height (ap (λ (z : State). z.height) is))
+uncounted settings s last false (Err refusal) is = absurd (next_height s.height (ap (λ (z : State). z.height) is))
+
+undone_begin : (s : State) (last : Option (List ℕ × List ℕ)) (given : Answer) (height : ℕ) (digest : Option (List ℕ)) (bytes : List ℕ) (reply : Reply)
+    → IsUndone given → reply ≡ reply_in s given → ((failure : Failure) → given ≡ answer.Failed failure → ⊥) → last_if_begun last reply ≡ last
+undone_begin s last (answer.Refused refusal) height digest bytes reply h is failed = ap (last_if_begun last) is
+undone_begin s last (answer.Failed failure) height digest bytes reply h is failed = absurd (failed failure refl)
+undone_begin s last other height digest bytes reply h is failed = absurd h
+
+-- the last answer behind a turn that changes nothing
+unchanged_last : (settings : Settings) (s : State) (last : Option (List ℕ × List ℕ)) (ask : Ask) (given : Answer) → ask ≢ Last → IsDue s ask (pending.Nothing given)
+    → ((failure : Failure) → given ≡ answer.Failed failure → ⊥) → (turn settings (bare s) ask).reply ≡ reply_in s given → (turn settings s ask).after ≡ s
+    → last_behind last ask (turn settings (bare s) ask) ≡ last
+unchanged_last settings s last (Program file) given other h failed reply is = ap (λ (o : Option KeptAnswer). last_of o last) (program_last (bare s) file)
+unchanged_last settings s last (Forget name) given other h failed reply is = ap (λ (o : Option KeptAnswer). last_of o last) (forget_last settings (bare s) name)
+unchanged_last settings s last (Frame bytes) given other h failed reply is = uncounted settings s last (nat_le 9999999999 s.height) (accepted settings s bytes) is
+unchanged_last settings s last Last given other h failed reply is = absurd (other refl)
+unchanged_last settings s last (Begin height digest bytes) given other h failed reply is = undone_begin s last given height digest bytes (turn settings (bare s) (Begin height digest bytes)).reply h reply failed
+unchanged_last settings s last ask given other h failed reply is = refl
+
+-- ---- want of memory
+
+pub may_fail_bare : (settings : Settings) (s : State) (ask : Ask) (failure : Failure) → MayFail settings s ask failure → MayFail settings (bare s) ask failure
+may_fail_bare settings s (Frame bytes) want.Block h = h
+may_fail_bare settings s (Frame bytes) want.Program h = h
+may_fail_bare settings s (Frame bytes) want.Run h = h
+may_fail_bare settings s (Frame bytes) want.Answer h = h
+may_fail_bare settings s (Try bytes) want.Block h = h
+may_fail_bare settings s (Try bytes) want.Program h = h
+may_fail_bare settings s (Try bytes) want.Run h = h
+may_fail_bare settings s (Try bytes) want.Answer h = h
+may_fail_bare settings s (Program file) want.Program h = h
+may_fail_bare settings s (Program file) want.Answer h = λ refusal e. h refusal (reply_alike settings s (bare s) (Program file) (bare_alike s) (λ x. cc) ∙ e)
+may_fail_bare settings s (Begin height digest bytes) want.Block h = h
+may_fail_bare settings s Programs want.Answer h = h
+may_fail_bare settings s (Get key) want.Answer h = h
+may_fail_bare settings s (ListEntries from count) want.Answer h = h
+may_fail_bare settings s AskState want.Answer h = h
+may_fail_bare settings s Dump want.Answer h = h
+may_fail_bare settings s ask failure h = absurd h
+
+-- ---- answers by which nothing changes
+
+by_turn : (settings : Settings) (s : State) (last : Option (List ℕ × List ℕ)) (ask : Ask) (given : Answer) → ask ≢ Last → IsDue s ask (pending.Nothing given)
+    → ((failure : Failure) → given ≡ answer.Failed failure → ⊥) → reply_in s given ≡ (turn settings s ask).reply → s ≡ (turn settings s ask).after
+    → IsFileAnswer settings (over s last) ask (answer_text (reply_in s given)) (over s last)
+by_turn settings s last Last given other h failed reply is = absurd (other refl)
+by_turn settings s last ask given other h failed reply is =
+    let same : (turn settings (bare s) ask).reply ≡ reply_in s given = sym (reply ∙ reply_alike settings s (bare s) ask (bare_alike s) other) in
+    inl (
+      ap answer_text (sym same),
+      λ j. record {
+        state = (ap bare is ∙ same_bare (turn settings s ask).after (turn settings (bare s) ask).after (after_alike settings s (bare s) ask (bare_alike s))) j;
+        last = sym (unchanged_last settings s last ask given other h failed same (sym is)) j;
+      },
+    )
+
+-- `last`, where it is answered by its turn
+last_is : (s : State) (found : Option AnswerRow) → IsByTurn Last s found → (kept : Option KeptAnswer) → s.last ≡ kept → answer_text (last_reply kept) ≡ last_text (last_of kept (option_map answer_parts found))
+last_is s found by (Some kept) is = refl
+last_is s found by None is = ap (λ (o : Option AnswerRow). last_text (option_map answer_parts o)) (sym (by is))
+
+by_reply : (settings : Settings) (s : State) (found : Option AnswerRow) (ask : Ask) (given : Answer) → IsDue s ask (pending.Nothing given) → IsByTurn ask s found
+    → ((failure : Failure) → given ≡ answer.Failed failure → ⊥) → reply_in s given ≡ (turn settings s ask).reply → s ≡ (turn settings s ask).after
+    → IsFileAnswer settings (over s (last_of s.last (option_map answer_parts found))) ask (answer_text (reply_in s given)) (over s (last_of s.last (option_map answer_parts found)))
+by_reply settings s found Last given due by failed reply is = inl (ap answer_text reply ∙ last_is s found by s.last refl, refl)
+by_reply settings s found ask given due by failed reply is = by_turn settings s (last_of s.last (option_map answer_parts found)) ask given (λ e. cc) due failed reply is
+
+-- an answer by which nothing changes
+pub told_answer : (settings : Settings) (s : State) (found : Option AnswerRow) (ask : Ask) (given : Answer) → IsTurn settings s ask given s → IsDue s ask (pending.Nothing given) → IsByTurn ask s found
+    → IsFileAnswer settings (over s (last_of s.last (option_map answer_parts found))) ask (answer_text (reply_in s given)) (over s (last_of s.last (option_map answer_parts found)))
+told_answer settings s found ask (answer.Failed failure) is due by = inr (inl (failure, may_fail_bare settings s ask failure is.0, refl, refl))
+told_answer settings s found ask (answer.Storage buffer) is due by =
+    subst (λ (a : Ask). IsFileAnswer settings (over s (last_of s.last (option_map answer_parts found))) a (answer_text (Done (dump_text s.rules s.store))) (over s (last_of s.last (option_map answer_parts found)))) (sym is.0) (inl (refl, refl))
+told_answer settings s found ask (answer.Done bytes) is due by = by_reply settings s found ask (answer.Done bytes) due by (λ failure e. cc) is.0 is.1
+told_answer settings s found ask answer.Last is due by = by_reply settings s found ask answer.Last due by (λ failure e. cc) is.0 is.1
+told_answer settings s found ask (answer.Refused why) is due by = by_reply settings s found ask (answer.Refused why) due by (λ failure e. cc) is.0 is.1

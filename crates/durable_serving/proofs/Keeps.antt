@@ -1,0 +1,89 @@
+-- A change that was kept.
+use Rattle.std.proofs.Common.{◌≡◌, ◌≢◌, ◌⊎◌, ℕ, List, Option, Some, None, Result, Ok, Err, OnErr, OnOk, IsTrue, false, inl, inr, refl, sym, ap, subst, ◌∙◌}
+use Rattle.std.specs.Option.{option_map}
+use Rattle.session_file.specs.Kept.{HoldsIn, Kept}
+use Rattle.session_file.specs.Opening.{answer_parts}
+use Rattle.session_file.specs.Staging as file
+use Rattle.session_file.proofs.Staged.{sound_open}
+use Rattle.session_file.specs.declared.rows.AnswerRow.{AnswerRow}
+use Rattle.session_states.specs.States.{FileState, KeepsState, file_state, last_of, text_of}
+use Rattle.sqlite_trees.specs.Tree.{Trees}
+use Rattle.sqlite_trees.specs.View.{View}
+use Rattle.turns.specs.Pending.{IsMade, after_run_of, turn_of}
+use Rattle.turns.specs.declared.answer.Answer.{Answer}
+use Rattle.turns.specs.declared.answer.Answer.TheVariants as answer
+use Rattle.turns.specs.declared.pending.Pending.{Pending}
+use Rattle.turns.specs.declared.pending.Pending.TheVariants as pending
+use Rattle.turns.specs.declared.pending.PendingRun.{PendingRun}
+use Rattle.turns.specs.declared.settings.Settings.{Settings}
+use Rattle.turns.specs.declared.state.State.{State}
+use Rattle.durable_serving.specs.Durable.{HoldsState}
+use Rattle.durable_serving.specs.Keeping.{IsFoundBehind, IsKeptBy, Spares, Stages, next_state, over}
+
+-- the state behind what was made
+pub made_after : (s : State) (p : Pending) (given : Answer) (after : State) → IsMade s p given after → after ≡ (turn_of s p).after
+made_after s (pending.Nothing told) given after is = is.1
+made_after s (pending.Program name image text) (answer.Failed failure) after is = absurd is.0
+made_after s (pending.Program name image text) (answer.Storage buffer) after is = absurd is
+made_after s (pending.Program name image text) given after is = is.1
+made_after s (pending.Forget name) (answer.Failed failure) after is = absurd is.0
+made_after s (pending.Forget name) (answer.Storage buffer) after is = absurd is
+made_after s (pending.Forget name) given after is = is.1
+made_after s (pending.Frame frame) (answer.Failed failure) after is = absurd is.0
+made_after s (pending.Frame frame) (answer.Storage buffer) after is = absurd is
+made_after s (pending.Frame frame) given after is = is.1
+made_after s (pending.Begin begin) (answer.Failed failure) after is = absurd is.0
+made_after s (pending.Begin begin) (answer.Storage buffer) after is = absurd is
+made_after s (pending.Begin begin) given after is = is.1
+
+framed : (s : State) (run : Option PendingRun) (height : ℕ) (digest : Option (List ℕ))
+    → record (after_run_of s run) { height = height; digest = digest; last = None } ≡ record (after_run_of (record s { last = None }) run) { height = height; digest = digest; last = None }
+framed s None height digest = refl
+framed s (Some run) height digest = refl
+
+made_state : (s : State) (found later : Option AnswerRow) (p : Pending) → IsFoundBehind p found later → file_state (turn_of s p).after later ≡ next_state (file_state s found) p
+made_state s found later (pending.Nothing told) is = ap (file_state s) is
+made_state s found later (pending.Program name image text) is = ap (file_state (turn_of s (pending.Program name image text)).after) is
+made_state s found later (pending.Forget name) is = ap (file_state (turn_of s (pending.Forget name)).after) is
+made_state s found later (pending.Frame frame) is = λ j. record { state = framed s frame.run frame.height frame.digest j; last = Some (text_of frame.answer) }
+made_state s found later (pending.Begin begin) is = ap (file_state (turn_of s (pending.Begin begin)).after) is
+
+pub next_is : (s after : State) (found later : Option AnswerRow) (p : Pending) (given : Answer) → IsMade s p given after → IsFoundBehind p found later
+    → file_state after later ≡ next_state (file_state s found) p
+next_is s after found later p given is behind = ap (λ (z : State). file_state z later) (made_after s p given after is) ∙ made_state s found later p behind
+
+-- ---- the file
+
+module _ (settings : Settings) (s : State) (found : Option AnswerRow) (old : View) where
+  abbrev kept_before : Type 0
+  kept_before = IsKeptBy settings old (file_state s found)
+
+  pub kept_still : (new : View) → Spares settings s old new → kept_before → IsKeptBy settings new (file_state s found)
+  kept_still new spares (k, keeps, is) = (k, keeps, spares (last_of s.last (option_map answer_parts found)) k keeps is)
+
+  -- what was staged is given up
+  pub kept_again : (p : Pending) (mid new : View) → Stages settings s p old mid → file.GivesUp mid new → kept_before → IsKeptBy settings new (file_state s found)
+  kept_again p mid new stages gives (k, keeps, is) =
+      let (staged, next, now) = stages (last_of s.last (option_map answer_parts found)) k keeps is in (k, keeps, gives k staged now)
+
+  -- what was staged is kept
+  pub kept_next : (p : Pending) (mid new : View) (after : FileState) → Stages settings s p old mid → file.CommitsStaged mid new → after ≡ next_state (file_state s found) p → kept_before → IsKeptBy settings new after
+  kept_next p mid new after stages commits same (k, keeps, is) =
+      let (staged, next, now) = stages (last_of s.last (option_map answer_parts found)) k keeps is in
+      (staged, subst (λ (f : FileState). KeepsState settings f staged) (sym same) next, commits k staged now)
+
+  -- what a crash in the commit leaves
+  pub may_leave : (p : Pending) (mid : View) (db : Trees) (before : Type 0) → Stages settings s p old mid → kept_before
+      → ((kept next : Kept) → file.IsStaged mid kept next → HoldsIn db next ⊎ before) → before ⊎ HoldsState settings (next_state (file_state s found) p) db
+  may_leave p mid db before stages (k, keeps, is) leaves =
+      let (staged, next, now) = stages (last_of s.last (option_map answer_parts found)) k keeps is in
+      elim (leaves k staged now) [ inl holds ↦ inr (staged, holds, next) | inr was ↦ inl was ]
+
+-- ---- what a crash leaves
+
+-- what a file that is open keeps
+pub leaves_kept : (settings : Settings) (v : View) (f : FileState) (recovers : Trees → Type 0) → (v.is_open ≡ false → IsTrue v.is_broken) → ((db : Trees) → IsTrue v.is_open → recovers db → db ≡ v.committed)
+    → v.is_broken ≡ false → IsKeptBy settings v f → (db : Trees) → recovers db → HoldsState settings f db
+leaves_kept settings v f recovers shut settled sound (k, keeps, is) db left =
+    let still : IsTrue v.is_open = sound_open v shut sound in
+    (k, subst (λ (d : Trees). HoldsIn d k) (sym (settled db still left)) (is still).committed, keeps)

@@ -1,0 +1,263 @@
+-- What is pending of a request, and what a session over a file answers it.
+use Rattle.std.proofs.Common.{◌≡◌, ◌≢◌, ◌<◌, ◌⊎◌, ℕ, List, [], Bool, true, false, Option, Some, None, Result, Ok, inl, inr, refl, sym, ap, subst, ◌∙◌}
+use Rattle.std.specs.Arc.{arc_value}
+use Rattle.std.specs.Option.{option_map}
+use Rattle.sha2.specs.Sha256.{sha256}
+use Rattle.elf32.specs.Image.{image_of}
+use Rattle.requests.specs.Requests.{Ask, Program, Forget, Programs, Frame, Try, Last, Get, ListEntries, Dump, Begin, Quit, State as AskState}
+use Rattle.round_trips.specs.Begun.{EqualButLast}
+use Rattle.round_trips.proofs.Alike.{after_alike, frame_after, reply_alike}
+use Rattle.session_file.specs.Opening.{answer_parts}
+use Rattle.session_file.specs.declared.rows.AnswerRow.{AnswerRow}
+use Rattle.session_states.specs.States.{FileState, file_state, last_of, text_of}
+use Rattle.session_states.specs.Faults.{of_store}
+use Rattle.session_states.specs.declared.fault.StoreFault.{StoreFault}
+use Rattle.sqlite_trees.specs.Tree.{Trees}
+use Rattle.sqlite_trees.specs.declared.error.StoreError.{StoreError}
+use Rattle.sqlite_trees.specs.declared.error.StoreError.TheVariants as store
+use Rattle.turns.specs.Failures.{MayFail}
+use Rattle.turns.specs.Pending.{IsDue, IsMade, IsNewProgram, IsPending, IsPendingChange, IsRefusal, after_run_of, turn_of}
+use Rattle.turns.specs.Replies.{Done, Refused, Reply, answer_text}
+use Rattle.turns.specs.Stages.{IsTurn, reply_in}
+use Rattle.turns.specs.Turn.{Turn, turn}
+use Rattle.turns.specs.declared.answer.Answer.{Answer}
+use Rattle.turns.specs.declared.answer.Answer.TheVariants as answer
+use Rattle.turns.specs.declared.kept.KeptAnswer.{KeptAnswer}
+use Rattle.turns.specs.declared.pending.Pending.{Pending}
+use Rattle.turns.specs.declared.pending.Pending.TheVariants as pending
+use Rattle.turns.specs.declared.pending.PendingFrame.{PendingFrame}
+use Rattle.turns.specs.declared.pending.PendingRun.{PendingRun}
+use Rattle.turns.specs.declared.refusal.Failure.{Failure}
+use Rattle.turns.specs.declared.refusal.Refusal.{Refusal}
+use Rattle.turns.specs.declared.settings.Settings.{Settings}
+use Rattle.turns.specs.declared.state.State.{State}
+use Rattle.durable_serving.specs.Durable.{HoldsState, IsFileAnswer, IsStoreFault, MayChange, behind_turn, failed_store, file_turn, last_behind, last_if_begun}
+use Rattle.durable_serving.specs.Keeping.{IsAnsweredBy, IsStorable, IsWanted, Leaves, body_in, course_of, next_state, over, pending_last}
+use Rattle.durable_serving.specs.declared.keeping.KeepFault.{KeepFault}
+use Rattle.durable_serving.specs.declared.keeping.KeepFault.TheVariants.{Room, Store}
+use Rattle.durable_serving.proofs.FileTurns.{bare, bare_alike, forget_last, may_fail_bare, program_last, same_bare}
+
+-- a request that changes is no `last`
+no_last_program : (ask : Ask) (file : List ℕ) → ask ≡ Program file → ask ≢ Last
+no_last_program ask file is e = cc
+
+no_last_forget : (ask : Ask) (name : List ℕ) → ask ≡ Forget name → ask ≢ Last
+no_last_forget ask name is e = cc
+
+no_last_frame : (ask : Ask) (bytes : List ℕ) → ask ≡ Frame bytes → ask ≢ Last
+no_last_frame ask bytes is e = cc
+
+no_last_begin : (ask : Ask) (height : ℕ) (digest : Option (List ℕ)) (bytes : List ℕ) → ask ≡ Begin height digest bytes → ask ≢ Last
+no_last_begin ask height digest bytes is e = cc
+
+-- what is made of a state and of the same without its last answer
+run_alike : (s : State) (frame : PendingFrame) (run : Option PendingRun) → frame.run ≡ run → EqualButLast (turn_of s (pending.Frame frame)).after (turn_of (bare s) (pending.Frame frame)).after
+run_alike s frame run is = record {
+  store = store_same frame.run;
+  rules = rules_same frame.run;
+  height = refl;
+  digest = refl;
+  programs = programs_same frame.run;
+}
+  where
+    store_same : (r : Option PendingRun) → (after_run_of s r).store ≡ (after_run_of (bare s) r).store
+    store_same None = refl
+    store_same (Some x) = refl
+
+    rules_same : (r : Option PendingRun) → (after_run_of s r).rules ≡ (after_run_of (bare s) r).rules
+    rules_same None = refl
+    rules_same (Some x) = refl
+
+    programs_same : (r : Option PendingRun) → (after_run_of s r).programs ≡ (after_run_of (bare s) r).programs
+    programs_same None = refl
+    programs_same (Some x) = refl
+
+made_alike : (s : State) (p : Pending) → EqualButLast (turn_of s p).after (turn_of (bare s) p).after
+made_alike s (pending.Nothing given) = bare_alike s
+made_alike s (pending.Program name image text) = record { store = refl; rules = refl; height = refl; digest = refl; programs = refl }
+made_alike s (pending.Forget name) = record { store = refl; rules = refl; height = refl; digest = refl; programs = refl }
+made_alike s (pending.Frame frame) = run_alike s frame frame.run refl
+made_alike s (pending.Begin begin) = record { store = refl; rules = refl; height = refl; digest = refl; programs = refl }
+
+module _ (settings : Settings) (s : State) (ask : Ask) (p : Pending) (is : IsPendingChange settings s ask p) (other : ask ≢ Last) where
+  -- the reply
+  pub change_reply : (turn settings (bare s) ask).reply ≡ (turn_of s p).reply
+  change_reply = sym (ap (λ (t : Turn). t.reply) is.turn ∙ reply_alike settings s (bare s) ask (bare_alike s) other)
+
+  -- the state
+  change_state : bare (turn_of (bare s) p).after ≡ bare (turn settings (bare s) ask).after
+  change_state =
+      sym (same_bare (turn_of s p).after (turn_of (bare s) p).after (made_alike s p))
+      ∙ ap (λ (t : Turn). bare t.after) is.turn
+      ∙ same_bare (turn settings s ask).after (turn settings (bare s) ask).after (after_alike settings s (bare s) ask (bare_alike s))
+
+  -- the session over the file
+  pub change_next : (last : Option (List ℕ × List ℕ)) → pending_last last p ≡ last_behind last ask (turn settings (bare s) ask) → next_state (over s last) p ≡ behind_turn last ask (turn settings (bare s) ask)
+  change_next last same = λ j. record { state = change_state j; last = same j }
+
+file_turn_is : (settings : Settings) (f : FileState) (ask : Ask) → ask ≢ Last → file_turn settings f ask ≡ (answer_text (turn settings f.state ask).reply, behind_turn f.last ask (turn settings f.state ask))
+file_turn_is settings f Last other = absurd (other refl)
+file_turn_is settings f ask other = refl
+
+-- the last answer behind what was pending
+program_behind : (settings : Settings) (s : State) (last : Option (List ℕ × List ℕ)) (ask : Ask) (file : List ℕ) → ask ≡ Program file → last ≡ last_behind last ask (turn settings (bare s) ask)
+program_behind settings s last ask file is = subst (λ (a : Ask). last ≡ last_behind last a (turn settings (bare s) a)) (sym is) (sym (ap (λ (o : Option KeptAnswer). last_of o last) (program_last (bare s) file)))
+
+forget_behind : (settings : Settings) (s : State) (last : Option (List ℕ × List ℕ)) (ask : Ask) (name : List ℕ) → ask ≡ Forget name → last ≡ last_behind last ask (turn settings (bare s) ask)
+forget_behind settings s last ask name is = subst (λ (a : Ask). last ≡ last_behind last a (turn settings (bare s) a)) (sym is) (sym (ap (λ (o : Option KeptAnswer). last_of o last) (forget_last settings (bare s) name)))
+
+frame_behind : (settings : Settings) (s : State) (last : Option (List ℕ × List ℕ)) (ask : Ask) (bytes : List ℕ) (frame : PendingFrame) → ask ≡ Frame bytes → s.height < 9999999999
+    → turn_of s (pending.Frame frame) ≡ turn settings s (Frame bytes) → Some (text_of frame.answer) ≡ last_behind last ask (turn settings (bare s) ask)
+frame_behind settings s last ask bytes frame is low counts =
+    subst (λ (a : Ask). Some (text_of frame.answer) ≡ last_behind last a (turn settings (bare s) a)) (sym is)
+    (ap (λ (z : State). last_of z.last last) (ap (λ (t : Turn). t.after) counts ∙ frame_after settings s (bare s) bytes (bare_alike s) low))
+
+begun_behind : (settings : Settings) (s : State) (last : Option (List ℕ × List ℕ)) (ask : Ask) (height : ℕ) (digest : Option (List ℕ)) (bytes : List ℕ) → ask ≡ Begin height digest bytes
+    → (turn settings (bare s) ask).reply ≡ Done [] → None ≡ last_behind last ask (turn settings (bare s) ask)
+begun_behind settings s last ask height digest bytes is done =
+    subst (λ (a : Ask). (turn settings (bare s) a).reply ≡ Done [] → None ≡ last_behind last a (turn settings (bare s) a)) (sym is) (λ e. ap (last_if_begun last) (sym e)) done
+
+-- ---- a change
+
+-- what a session over a file answers and leaves is what is pending
+pub record IsFileTurn (settings : Settings) (f : FileState) (ask : Ask) (reply : Reply) (next : FileState) : Type 0 where
+  pub text : (file_turn settings f ask).0 ≡ answer_text reply
+  pub leads : (file_turn settings f ask).1 ≡ next
+  pub changes : MayChange settings f ask
+
+turned : (settings : Settings) (s : State) (ask : Ask) (p : Pending) (last : Option (List ℕ × List ℕ)) → IsPendingChange settings s ask p → ask ≢ Last
+    → pending_last last p ≡ last_behind last ask (turn settings (bare s) ask) → MayChange settings (over s last) ask → IsFileTurn settings (over s last) ask (turn_of s p).reply (next_state (over s last) p)
+turned settings s ask p last is other same changes = record {
+  text = ap (λ (r : List ℕ × FileState). r.0) (file_turn_is settings (over s last) ask other) ∙ ap answer_text (change_reply settings s ask p is other);
+  leads = ap (λ (r : List ℕ × FileState). r.1) (file_turn_is settings (over s last) ask other) ∙ sym (change_next settings s ask p is other last same);
+  changes = changes;
+}
+
+not_refused : (reply : Reply) (bytes : List ℕ) (refusal : Refusal) → reply ≡ Done bytes → reply ≡ Refused refusal → ⊥
+not_refused reply bytes refusal done refused = cc
+
+pub changed : (settings : Settings) (s : State) (ask : Ask) (p : Pending) (last : Option (List ℕ × List ℕ)) → IsPending settings s ask p → IsDue s ask p → ((told : Answer) → p ≡ pending.Nothing told → ⊥)
+    → IsFileTurn settings (over s last) ask (turn_of s p).reply (next_state (over s last) p)
+changed settings s ask (pending.Nothing told) last is due change = absurd (change told refl)
+changed settings s ask (pending.Program name image text) last is due change =
+    let (file, e, hash, loads) = is.asked in
+    let other = no_last_program ask file e in
+    let reply : (turn settings (bare s) (Program file)).reply ≡ Done text.items = subst (λ (a : Ask). (turn settings (bare s) a).reply ≡ Done text.items) e (change_reply settings s ask _ is other) in
+    turned settings s ask _ last is other (program_behind settings s last ask file e)
+    (subst (λ (a : Ask). MayChange settings (over s last) a) (sym e) (λ refusal refused. not_refused _ text.items refusal reply refused))
+changed settings s ask (pending.Forget name) last is due change =
+    let other = no_last_forget ask name is.asked in
+    let reply : (turn settings (bare s) (Forget name)).reply ≡ Done [] = subst (λ (a : Ask). (turn settings (bare s) a).reply ≡ Done []) is.asked (change_reply settings s ask _ is other) in
+    turned settings s ask _ last is other (forget_behind settings s last ask name is.asked)
+    (subst (λ (a : Ask). MayChange settings (over s last) a) (sym is.asked) (λ refusal refused. not_refused _ [] refusal reply refused))
+changed settings s ask (pending.Frame frame) last is due change =
+    let (bytes, e) = is.asked in
+    let other = no_last_frame ask bytes e in
+    let low : s.height < 9999999999 = subst (λ (a : Ask). IsDue s a (pending.Frame frame)) e due in
+    turned settings s ask _ last is other (frame_behind settings s last ask bytes frame e low (subst (λ (a : Ask). turn_of s (pending.Frame frame) ≡ turn settings s a) e is.turn))
+    (subst (λ (a : Ask). MayChange settings (over s last) a) (sym e) low)
+changed settings s ask (pending.Begin begin) last is due change =
+    let (bytes, e) = is.asked in
+    let other = no_last_begin ask begin.height begin.digest bytes e in
+    let reply : (turn settings (bare s) (Begin begin.height begin.digest bytes)).reply ≡ Done [] = subst (λ (a : Ask). (turn settings (bare s) a).reply ≡ Done []) e (change_reply settings s ask _ is other) in
+    turned settings s ask _ last is other (begun_behind settings s last ask begin.height begin.digest bytes e (change_reply settings s ask _ is other))
+    (subst (λ (a : Ask). MayChange settings (over s last) a) (sym e) (λ refusal refused. not_refused _ [] refusal reply refused))
+
+-- ---- its answer
+
+-- the reply to what was made
+pub made_reply : (s : State) (p : Pending) (given : Answer) (after : State) → ((told : Answer) → p ≡ pending.Nothing told → ⊥) → IsMade s p given after → reply_in after given ≡ (turn_of s p).reply
+made_reply s (pending.Nothing told) given after change is = absurd (change told refl)
+made_reply s (pending.Program name image text) (answer.Failed failure) after change is = absurd is.0
+made_reply s (pending.Program name image text) (answer.Storage buffer) after change is = absurd is
+made_reply s (pending.Program name image text) given after change is = is.0
+made_reply s (pending.Forget name) (answer.Failed failure) after change is = absurd is.0
+made_reply s (pending.Forget name) (answer.Storage buffer) after change is = absurd is
+made_reply s (pending.Forget name) given after change is = is.0
+made_reply s (pending.Frame frame) (answer.Failed failure) after change is = absurd is.0
+made_reply s (pending.Frame frame) (answer.Storage buffer) after change is = absurd is
+made_reply s (pending.Frame frame) given after change is = is.0
+made_reply s (pending.Begin begin) (answer.Failed failure) after change is = absurd is.0
+made_reply s (pending.Begin begin) (answer.Storage buffer) after change is = absurd is
+made_reply s (pending.Begin begin) given after change is = is.0
+
+module _ (settings : Settings) (s : State) (found : Option AnswerRow) (ask : Ask) (p : Pending) (was now : Trees → Type 0) where
+  abbrev last_now : Option (List ℕ × List ℕ)
+  last_now = last_of s.last (option_map answer_parts found)
+
+  leaves : IsFileTurn settings (over s last_now) ask (turn_of s p).reply (next_state (over s last_now) p)
+      → ((db : Trees) → now db → was db ⊎ HoldsState settings (next_state (over s last_now) p) db) → Leaves settings (over s last_now) ask was now
+  leaves is crash db left = elim (crash db left) [ inl before ↦ inl before | inr next ↦ inr (subst (λ (f : FileState). HoldsState settings f db) (sym is.leads) next) ]
+
+  -- a change that was kept
+  pub kept_answer : (given : Answer) (after : State) (later : FileState) → IsFileTurn settings (over s last_now) ask (turn_of s p).reply (next_state (over s last_now) p)
+      → reply_in after given ≡ (turn_of s p).reply → later ≡ next_state (over s last_now) p
+      → ((db : Trees) → now db → was db ⊎ HoldsState settings (next_state (over s last_now) p) db)
+      → IsFileAnswer settings (over s last_now) ask (answer_text (reply_in after given)) later × Leaves settings (over s last_now) ask was now
+  kept_answer given after later is reply same crash = (inl (ap answer_text reply ∙ sym is.text, same ∙ sym is.leads), leaves is crash)
+
+store_fault : (error : StoreError) → IsStoreFault (of_store error)
+store_fault store.OutOfMemory = tt
+store_fault store.Io = tt
+store_fault store.Corrupt = tt
+store_fault store.Broken = tt
+store_fault store.Full = tt
+store_fault store.Unstorable = tt
+
+pub change_of : (settings : Settings) (s : State) (ask : Ask) (p : Pending) → IsPending settings s ask p → ((told : Answer) → p ≡ pending.Nothing told → ⊥) → IsPendingChange settings s ask p
+change_of settings s ask (pending.Nothing told) is change = absurd (change told refl)
+change_of settings s ask (pending.Program name image text) is change = is
+change_of settings s ask (pending.Forget name) is change = is
+change_of settings s ask (pending.Frame frame) is change = is
+change_of settings s ask (pending.Begin begin) is change = is
+
+-- a change that was not kept
+pub not_kept : (settings : Settings) (s : State) (found later : Option AnswerRow) (after : State) (ask : Ask) (p : Pending) (was now : Trees → Type 0) (is_shut : Bool) (fault : KeepFault)
+    → IsPendingChange settings s ask p → IsFileTurn settings (file_state s found) ask (turn_of s p).reply (next_state (file_state s found) p) → IsWanted p fault → after ≡ s → later ≡ found
+    → ((db : Trees) → now db → was db ⊎ HoldsState settings (next_state (file_state s found) p) db)
+    → IsAnsweredBy settings (file_state s found) ask (course_of is_shut fault) after later (file_state after later) was now
+not_kept settings s found later after ask p was now is_shut fault change is wanted same_state same_found crash = go is_shut fault wanted
+  where
+    same : file_state after later ≡ file_state s found
+    same = (λ j. file_state (same_state j) (same_found j))
+
+    go : (b : Bool) (e : KeepFault) → IsWanted p e → IsAnsweredBy settings (file_state s found) ask (course_of b e) after later (file_state after later) was now
+    go true (Room failure) wants = (same, tt, is.changes, leaves settings s found ask p was now is crash)
+    go true (Store error) wants = (same, store_fault error, is.changes, leaves settings s found ask p was now is crash)
+    go false (Room failure) wants = (inr (inl (failure, may_fail_bare settings s ask failure (change.room failure wants), refl, same)), leaves settings s found ask p was now is crash)
+    go false (Store error) wants = (inr (inr (of_store error, store_fault error, is.changes, refl, same)), leaves settings s found ask p was now is crash)
+
+-- ---- the file can have it
+
+pub storable : (settings : Settings) (s : State) (ask : Ask) (p : Pending) (body : List ℕ) → IsPending settings s ask p → body ≡ body_in ask → IsStorable body p
+storable settings s ask (pending.Nothing told) body is same = tt
+storable settings s ask (pending.Program name image text) body is same =
+    let (file, e, hash, loads) = is.asked in
+    let whole : body ≡ file = same ∙ ap body_in e in
+    (ap sha256 whole ∙ sym hash, ap image_of whole ∙ loads)
+storable settings s ask (pending.Forget name) body is same = tt
+storable settings s ask (pending.Frame frame) body is same = tt
+storable settings s ask (pending.Begin begin) body is same = tt
+
+-- a refusal can be had whatever bytes came
+pub storable_refusal : (p : Pending) (body : List ℕ) → IsRefusal p → IsStorable body p
+storable_refusal (pending.Nothing told) body refusal = tt
+storable_refusal (pending.Program name image text) body refusal = absurd refusal
+storable_refusal (pending.Forget name) body refusal = tt
+storable_refusal (pending.Frame frame) body refusal = tt
+storable_refusal (pending.Begin begin) body refusal = tt
+
+-- a refusal is no program
+pub new_refusal : (s : State) (p : Pending) → IsRefusal p → IsNewProgram s p
+new_refusal s (pending.Nothing told) refusal = tt
+new_refusal s (pending.Program name image text) refusal = absurd refusal
+new_refusal s (pending.Forget name) refusal = tt
+new_refusal s (pending.Frame frame) refusal = tt
+new_refusal s (pending.Begin begin) refusal = tt
+
+pub is_new : (settings : Settings) (s : State) (ask : Ask) (p : Pending) → IsPending settings s ask p → IsNewProgram s p
+is_new settings s ask (pending.Nothing told) is = tt
+is_new settings s ask (pending.Program name image text) is = is.new
+is_new settings s ask (pending.Forget name) is = tt
+is_new settings s ask (pending.Frame frame) is = tt
+is_new settings s ask (pending.Begin begin) is = tt

@@ -1,0 +1,106 @@
+-- What is pending, staged.
+use Rattle.std.proofs.Common.{◌≡◌, ℕ, List, Option, Some, None, Result, Ok, Err, OnErr, OnOk, refl, sym, ap, subst, ◌∙◌}
+use Rattle.std.specs.Arc.{arc_value}
+use Rattle.std.specs.FinMap as fin
+use Rattle.sha2.specs.Sha256.{sha256}
+use Rattle.elf32.specs.Image.{image_of}
+use Rattle.rv_ledger.specs.Key.{Storage}
+use Rattle.rv_ledger.specs.declared.rules.Rules.{Rules}
+use Rattle.session_file.specs.Kept.{Kept}
+use Rattle.session_file.specs.Staging as staging
+use Rattle.session_file.specs.declared.rows.SessionRow.{SessionRow}
+use Rattle.session_states.proofs.Changes.{frame_counted, program_forgotten, program_put, session_begun}
+use Rattle.session_states.specs.States.{FileState, KeepsState, row_of, text_of}
+use Rattle.sqlite_trees.specs.View.{View}
+use Rattle.turns.specs.Pending.{after_run_of, turn_of}
+use Rattle.turns.specs.declared.answer.Answer.{Answer}
+use Rattle.turns.specs.declared.pending.Pending.{Pending}
+use Rattle.turns.specs.declared.pending.Pending.TheVariants as pending
+use Rattle.turns.specs.declared.pending.PendingBegin.{PendingBegin}
+use Rattle.turns.specs.declared.pending.PendingFrame.{PendingFrame}
+use Rattle.turns.specs.declared.pending.PendingRun.{PendingRun}
+use Rattle.turns.specs.declared.settings.Settings.{Settings}
+use Rattle.turns.specs.declared.state.State.{State}
+use Rattle.durable_serving.specs.Keeping.{IsStorable, Spares, Stages, next_state, over}
+
+-- a state behind a run has the programs of the one before
+pub run_programs : (s : State) (run : Option PendingRun) → (after_run_of s run).programs ≡ s.programs
+run_programs s None = refl
+run_programs s (Some run) = refl
+
+-- what a run leaves of two states with one storage
+pub run_rules : (s t : State) (run : Option PendingRun) → s.rules ≡ t.rules → (after_run_of s run).rules ≡ (after_run_of t run).rules
+run_rules s t None e = e
+run_rules s t (Some run) e = refl
+
+module _ (settings : Settings) (s : State) (old : View) where
+  -- the storage that a run leaves
+  abbrev pub StagesRun : Option PendingRun → View → Type 0
+  StagesRun run mid = (t : State) → t.store ≡ s.store → staging.StagesWhere (λ next. next.storage ≡ s.store) (λ next. record next { storage = (after_run_of t run).store }) old mid
+
+  -- what is given up leaves the file as it was
+  pub spared : (new : View) → staging.GivesUp old new → Spares settings s old new
+  spared new gives last k keeps is = gives k k is
+
+  pub spared_behind : (known : Kept → Type 0) (change : Kept → Kept) (mid new : View) → ((last : Option (List ℕ × List ℕ)) (k : Kept) → KeepsState settings (over s last) k → known k)
+      → staging.StagesWhere known change old mid → staging.GivesUp mid new → Spares settings s old new
+  spared_behind known change mid new knows stages gives last k keeps is = gives k (change k) (stages k k (knows last k keeps) is)
+
+  pub spared_far : (known : Kept → Type 0) (change more : Kept → Kept) (one two new : View) → ((last : Option (List ℕ × List ℕ)) (k : Kept) → KeepsState settings (over s last) k → known k)
+      → staging.StagesWhere known change old one → staging.Stages more one two → staging.GivesUp two new → Spares settings s old new
+  spared_far known change more one two new knows first second gives last k keeps is = gives k (more (change k)) (second k (change k) (first k k (knows last k keeps) is))
+
+  -- a program
+  pub staged_program : (name file : List ℕ) (image : _) (text : _) (new : View) → (sha256 file ≡ name) × (image_of file ≡ Ok (arc_value image))
+      → staging.Stages (λ next. record next { programs = fin.insert next.programs name file }) old new → Stages settings s (pending.Program name image text) old new
+  staged_program name file image text new (hash, loads) stages last k keeps is =
+      (record k { programs = fin.insert k.programs name file }, program_put settings (over s last) k name file (arc_value image) keeps hash loads, stages k k is)
+
+  pub staged_forget : (name : List ℕ) (new : View) → staging.Stages (λ next. record next { programs = fin.remove next.programs name }) old new → Stages settings s (pending.Forget name) old new
+  staged_forget name new stages last k keeps is = (record k { programs = fin.remove k.programs name }, program_forgotten settings (over s last) k name keeps, stages k k is)
+
+  -- a frame
+  pub staged_frame : (frame : PendingFrame) (digest : List ℕ) (row : SessionRow) (rules : Rules) (one two new : View)
+      → frame.digest ≡ Some digest
+      → row ≡ record { frame_limit = settings.frame_limit; frame_gas = settings.frame_gas; is_brief = settings.is_brief; rules = rules; height = frame.height; digest = digest }
+      → ((t : State) → t.rules ≡ s.rules → rules ≡ (after_run_of t frame.run).rules)
+      → StagesRun frame.run one → staging.Stages (λ next. record next { session = Some row }) one two → staging.Stages (λ next. record next { answer = Some (text_of frame.answer) }) two new
+      → Stages settings s (pending.Frame frame) old new
+  staged_frame frame digest row rules one two new kept_digest is_row is_rules first second third last k keeps is =
+      let f : FileState = over s last in
+      let after : State = record (turn_of f.state (pending.Frame frame)).after { last = None } in
+      let same_row : row ≡ row_of settings after digest = is_row ∙ ap (λ (r : Rules). record { frame_limit = settings.frame_limit; frame_gas = settings.frame_gas; is_brief = settings.is_brief; rules = r; height = frame.height; digest = digest }) (is_rules f.state refl) in (
+        record k { storage = after.store; session = Some row; answer = Some (text_of frame.answer) },
+        subst (λ (r : SessionRow). KeepsState settings (next_state f (pending.Frame frame)) (record k { storage = after.store; session = Some r; answer = Some (text_of frame.answer) })) (sym same_row)
+            (frame_counted settings f k after digest (Some (text_of frame.answer)) keeps (run_programs f.state frame.run) kept_digest refl),
+        third k _ (second k _ (first f.state refl k k keeps.storage is)),
+      )
+
+  -- a session that begins anew
+  pub staged_begin : (begin : PendingBegin) (digest : List ℕ) (row : SessionRow) (one two new : View)
+      → begin.digest ≡ Some digest
+      → row ≡ record { frame_limit = settings.frame_limit; frame_gas = settings.frame_gas; is_brief = settings.is_brief; rules = begin.rules; height = begin.height; digest = digest }
+      → staging.StagesWhere (λ next. next.storage ≡ s.store) (λ next. record next { storage = begin.store }) old one
+      → staging.Stages (λ next. record next { session = Some row }) one two → staging.Stages (λ next. record next { answer = None }) two new
+      → Stages settings s (pending.Begin begin) old new
+  staged_begin begin digest row one two new kept_digest is_row first second third last k keeps is =
+      let f : FileState = over s last in
+      let after : State = record (turn_of f.state (pending.Begin begin)).after { last = None } in (
+        record k { storage = begin.store; session = Some row; answer = None },
+        subst (λ (r : SessionRow). KeepsState settings (next_state f (pending.Begin begin)) (record k { storage = begin.store; session = Some r; answer = None })) (sym is_row)
+            (session_begun settings f k after digest keeps refl kept_digest refl),
+        third k _ (second k _ (first k k keeps.storage is)),
+      )
+
+  -- nothing is staged where nothing is pending
+  pub staged_nothing : (told : Answer) → Stages settings s (pending.Nothing told) old old
+  staged_nothing told last k keeps is = (k, keeps, is)
+
+  -- the same, where that is what is pending
+  pub nothing_pending : (p : Pending) (told : Answer) → p ≡ pending.Nothing told → Stages settings s p old old
+  nothing_pending p told is = subst (λ (q : Pending). Stages settings s q old old) (sym is) (staged_nothing told)
+
+  pub program_pending : (p : Pending) (name body : List ℕ) (image : _) (text : _) (new : View) → p ≡ pending.Program name image text → IsStorable body p
+      → staging.Stages (λ next. record next { programs = fin.insert next.programs name body }) old new → Stages settings s p old new
+  program_pending p name body image text new is can stages =
+      subst (λ (q : Pending). Stages settings s q old new) (sym is) (staged_program name body image text new (subst (λ (q : Pending). IsStorable body q) is can) stages)

@@ -1,0 +1,39 @@
+use Rattle.std.proofs.Common.{arith, inl, inr, subst}
+use Rattle.session_file.specs.Opening.{kept_of}
+use Rattle.sqlite_trees.specs.View.{IsClean}
+use Rattle.durable_serving.proofs.Openings.{holds_found, loads_kept, loads_new, ok_both, unloaded}
+use Rattle.durable_serving.proofs.opening.open_durably.Goals as goal
+
+pub returns-in-Err-load_state-clause-refused : goal.returns-in-Err-load_state-clause-refused
+returns-in-Err-load_state-clause-refused g c clean =
+    let v = g.S.Store.view in
+    let now : IsClean (v c.in-Ok.opened.0) = subst (λ s. IsClean (v s)) c.into_store.ensures.store clean in
+    let first : IsClean (v c.args.store) = omega (arith, now, c.in-Ok.ensures.quiet.clean) in
+    rw c.of_load.ensures (unloaded c.args.settings (v c.args.store) (kept_of c.in-Ok.opened.1) c.in-Err-load_state.fault
+    (holds_found (v c.args.store) (v c.in-Ok.opened.0) (kept_of c.in-Ok.opened.1) (g.met.S.Store.broken_if_shut c.args.store) (c.requires.fresh first) (c.in-Ok.ensures.same now) c.in-Ok.ensures.ok)
+    c.in-Err-load_state.ensures.err)
+
+pub returns-then-loaded-clause-opened : goal.returns-then-loaded-clause-opened
+returns-then-loaded-clause-opened g c =
+    let v = g.S.Store.view in
+    ok_both c.begin_new.result (λ s new later clean.
+    let now : IsClean (v c.in-Ok.opened.0) = omega (arith, later, clean) in
+    let first : IsClean (v c.args.store) = omega (arith, now, c.in-Ok.ensures.quiet.clean) in (
+      kept_of c.in-Ok.opened.1,
+      holds_found (v c.args.store) (v c.in-Ok.opened.0) (kept_of c.in-Ok.opened.1) (g.met.S.Store.broken_if_shut c.args.store) (c.requires.fresh first) (c.in-Ok.ensures.same now) c.in-Ok.ensures.ok,
+      inr ((loads_new c.args.settings (kept_of c.in-Ok.opened.1) c.in-Ok-load_state.loaded c.in-Ok-load_state.ensures.ok c.if-loaded.true).0, new),
+    ))
+    c.begin_new.ensures.new c.begin_new.ensures.clean
+
+pub returns-clause-kept : goal.returns-clause-kept
+returns-clause-kept g c =
+    (kept_of c.in-Ok.opened.1, loads_kept c.args.settings (kept_of c.in-Ok.opened.1) c.in-Ok-load_state.loaded c.in-Ok-load_state.ensures.ok c.if-loaded.false, c.in-Ok.ensures.ok)
+
+pub returns-clause-opened : goal.returns-clause-opened
+returns-clause-opened g c now =
+    let v = g.S.Store.view in
+    let first : IsClean (v c.args.store) = omega (arith, now, c.in-Ok.ensures.quiet.clean) in (
+      kept_of c.in-Ok.opened.1,
+      holds_found (v c.args.store) (v c.in-Ok.opened.0) (kept_of c.in-Ok.opened.1) (g.met.S.Store.broken_if_shut c.args.store) (c.requires.fresh first) (c.in-Ok.ensures.same now) c.in-Ok.ensures.ok,
+      inl (loads_kept c.args.settings (kept_of c.in-Ok.opened.1) c.in-Ok-load_state.loaded c.in-Ok-load_state.ensures.ok c.if-loaded.false),
+    )

@@ -1,0 +1,115 @@
+-- A session over a file: what it answers, and what a crash leaves.
+use Rattle.std.specs.Prelude.{◌≡◌, ◌≢◌, ◌<◌, ◌⊎◌, ⊤, ℕ, List, [], ◌∷◌, ◌++◌, codes, Option, Some, None}
+use Rattle.std.specs.Io.KnownBytes.{Appends}
+use Rattle.byte_streams.specs.Refusals.{line_text}
+use Rattle.requests.specs.Requests.{Ask, Program, Forget, Frame, Last, Begin, requests_of}
+use Rattle.requests.specs.declared.request.RequestFault.{RequestFault}
+use Rattle.serving.specs.Serving.{AreAnswered, IsEndedBy, MayEnd, end_text, fault_of, until_quit}
+use Rattle.serving.specs.declared.serving.ServeFault.{ServeFault}
+use Rattle.session_file.specs.Kept.{HoldsIn, Kept}
+use Rattle.session_states.specs.Faults.{parts_of}
+use Rattle.session_states.specs.States.{FileState, KeepsState, last_of}
+use Rattle.session_states.specs.declared.fault.StoreFault.{StoreFault}
+use Rattle.session_states.specs.declared.fault.StoreFault.TheVariants.{Unreadable, Damaged, Full, Memory}
+use Rattle.sqlite_trees.specs.Tree.{Trees}
+use Rattle.turns.specs.Failures.{MayFail}
+use Rattle.turns.specs.Replies.{Failed, Refused, Reply, answer_text}
+use Rattle.turns.specs.Turn.{Turn, turn}
+use Rattle.turns.specs.declared.refusal.Failure.{Failure}
+use Rattle.turns.specs.declared.refusal.Refusal.{Refusal as Refusals}
+use Rattle.turns.specs.declared.refusal.Refusal.TheVariants.{NoFrame}
+use Rattle.turns.specs.declared.settings.Settings.{Settings}
+use Rattle.durable_serving.specs.declared.answering.DurableFault.{DurableFault}
+use Rattle.durable_serving.specs.declared.answering.DurableFault.TheVariants.{Session, Store}
+
+-- ---- answers
+
+-- what `last` is answered
+abbrev pub last_text : Option (List ℕ × List ℕ) → List ℕ
+last_text None = answer_text (Refused NoFrame)
+last_text (Some answer) = answer.0 ++ answer.1
+
+-- the last answer behind a turn: a frame that counts leaves its own, and a session that begins anew has none
+abbrev pub last_if_begun : Option (List ℕ × List ℕ) → Reply → Option (List ℕ × List ℕ)
+last_if_begun last (Refused refusal) = last
+last_if_begun last reply = None
+
+abbrev pub last_behind : Option (List ℕ × List ℕ) → Ask → Turn → Option (List ℕ × List ℕ)
+last_behind last (Begin height digest bytes) t = last_if_begun last t.reply
+last_behind last ask t = last_of t.after.last last
+
+-- a session over a file behind a turn of its state
+abbrev pub behind_turn : Option (List ℕ × List ℕ) → Ask → Turn → FileState
+behind_turn last ask t = record { state = record t.after { last = None }; last = last_behind last ask t }
+
+-- what a session over a file answers a request, and leaves: as its turn says
+abbrev pub file_turn : Settings → FileState → Ask → List ℕ × FileState
+file_turn settings f Last = (last_text f.last, f)
+file_turn settings f ask = (answer_text (turn settings f.state ask).reply, behind_turn f.last ask (turn settings f.state ask))
+
+-- what is told of a change that the file did not take
+abbrev pub failed_store : StoreFault → List ℕ
+failed_store fault = line_text (codes "failed ") (parts_of fault)
+
+-- a request changes the file only where it hands in or gives back a program, is a frame that counts, or begins
+abbrev pub MayChange : Settings → FileState → Ask → Type 0
+MayChange settings f (Program file) = (refusal : Refusals) → (turn settings f.state (Program file)).reply ≢ Refused refusal
+MayChange settings f (Forget name) = (refusal : Refusals) → (turn settings f.state (Forget name)).reply ≢ Refused refusal
+MayChange settings f (Frame bytes) = f.state.height < 9999999999
+MayChange settings f (Begin height digest bytes) = (refusal : Refusals) → (turn settings f.state (Begin height digest bytes)).reply ≢ Refused refusal
+MayChange settings f ask = ⊥
+
+-- what an open file may refuse a change for
+abbrev pub IsStoreFault : StoreFault → Type 0
+IsStoreFault Unreadable = ⊤
+IsStoreFault Damaged = ⊤
+IsStoreFault Full = ⊤
+IsStoreFault Memory = ⊤
+IsStoreFault fault = ⊥
+
+-- a request was answered as wanted; or memory ran out where it may, or the file did not take the change, which is told, and all
+-- is as it was
+abbrev pub IsFileAnswer : Settings → FileState → Ask → List ℕ → FileState → Type 0
+IsFileAnswer settings f ask text after =
+    ((text ≡ (file_turn settings f ask).0) × (after ≡ (file_turn settings f ask).1))
+    ⊎ ((failure : Failure) × MayFail settings f.state ask failure × (text ≡ answer_text (Failed failure)) × (after ≡ f))
+    ⊎ ((fault : StoreFault) × IsStoreFault fault × MayChange settings f ask × (text ≡ failed_store fault) × (after ≡ f))
+
+-- ---- what a crash leaves
+
+-- the trees hold a session of these settings
+abbrev pub HoldsState : Settings → FileState → Trees → Type 0
+HoldsState settings f db = (k : Kept) × HoldsIn db k × KeepsState settings f k
+
+-- they hold what the next request leaves
+abbrev pub HoldsNext : Settings → FileState → List Ask → Trees → Type 0
+HoldsNext settings f [] db = ⊥
+HoldsNext settings f (ask ∷ asks) db = HoldsState settings (file_turn settings f ask).1 db
+
+-- nothing, or a part of the answer to the next request; where none is left, a part of what is written last
+abbrev pub IsPart : Settings → Option RequestFault → FileState → List Ask → List ℕ → Type 0
+IsPart settings fault f [] part = (left : List ℕ) × (part ++ left ≡ end_text fault)
+IsPart settings fault f (ask ∷ asks) part = (part ≡ []) ⊎ ((left : List ℕ) × (next : FileState) × IsFileAnswer settings f ask (part ++ left) next)
+
+-- Wherever a session stops: the first requests of its input were answered in whole, and of the next answer a part; and a crash
+-- leaves what the answered requests leave, or the next one too.
+abbrev pub IsStopped : Settings → FileState → List ℕ → Option (List ℕ) → Option (List ℕ) → (Trees → Type 0) → Type 0
+IsStopped settings old bytes before now recovers =
+    (heard : List Ask) × (rest : List Ask) × (text : List ℕ) × (mid : FileState) × (part : List ℕ)
+    × (until_quit (requests_of bytes).asks ≡ heard ++ rest) × AreAnswered (IsFileAnswer settings) old heard text mid
+    × Appends before now (text ++ part) × IsPart settings (fault_of (requests_of bytes)) mid rest part
+    × ((db : Trees) → recovers db → HoldsState settings mid db ⊎ HoldsNext settings mid rest db)
+
+-- ---- how a session ends
+
+-- by a fault of its input or its writer, as a session without a file; or since the file is shut
+abbrev pub IsDurablyEndedBy : Type 0 → Settings → DurableFault → FileState → List ℕ → FileState → Option (List ℕ) → Option (List ℕ) → Type 0
+IsDurablyEndedBy may_fail settings (Session fault) old bytes new before after = IsEndedBy may_fail (IsFileAnswer settings) fault old bytes new before after
+IsDurablyEndedBy may_fail settings (Store fault) old bytes new before after =
+    IsStoreFault fault × ((heard : List Ask) × (ask : Ask) × (rest : List Ask) × (text : List ℕ) × (until_quit (requests_of bytes).asks ≡ heard ++ ask ∷ rest)
+    × AreAnswered (IsFileAnswer settings) old heard text new × Appends before after text × MayChange settings new ask)
+
+-- a write may have been refused so
+abbrev pub MayDurablyEnd : Type 0 → Type 0 → DurableFault → Type 0
+MayDurablyEnd may_fail may_take_nothing (Session fault) = MayEnd may_fail may_take_nothing fault
+MayDurablyEnd may_fail may_take_nothing (Store fault) = ⊤

@@ -1,0 +1,137 @@
+-- Private help of proofs; no public clause cites it, but `IsKeptBy`. How a change is staged and kept, and what comes of what was read.
+use Rattle.std.specs.Prelude.{◌≡◌, ◌⊎◌, ⊤, ℕ, Bool, true, false, List, [], ◌∷◌, ◌++◌, Option, Some, None, Ok, IsSome}
+use Rattle.std.specs.Arc.{arc_value}
+use Rattle.std.specs.Option.{option_map}
+use Rattle.sha2.specs.Sha256.{sha256}
+use Rattle.elf32.specs.Image.{image_of}
+use Rattle.requests.specs.Requests.{Ask, Last, Program}
+use Rattle.requests.specs.declared.request.RequestFault.{RequestFault}
+use Rattle.serving.specs.Asking.{ComesFirst, NothingComes}
+use Rattle.session_file.specs.Kept.{Kept}
+use Rattle.session_file.specs.Opening.{answer_parts}
+use Rattle.session_file.specs.Staging.{IsKeeping, IsStaged}
+use Rattle.session_file.specs.declared.rows.AnswerRow.{AnswerRow}
+use Rattle.session_states.specs.States.{FileState, KeepsState, last_of, text_of}
+use Rattle.session_states.specs.Faults.{of_store}
+use Rattle.session_states.specs.declared.fault.StoreFault.{StoreFault}
+use Rattle.session_states.specs.declared.fault.StoreFault.TheVariants.{Memory}
+use Rattle.sqlite_trees.specs.Tree.{Trees}
+use Rattle.sqlite_trees.specs.View.{View, IsClean}
+use Rattle.turns.specs.Pending.{MayWantRoom, turn_of}
+use Rattle.turns.specs.Replies.{answer_text}
+use Rattle.turns.specs.Stages.{reply_in}
+use Rattle.turns.specs.declared.answer.Answer.TheVariants as answer
+use Rattle.turns.specs.declared.pending.Pending.{Pending}
+use Rattle.turns.specs.declared.pending.Pending.TheVariants as pending
+use Rattle.turns.specs.declared.settings.Settings.{Settings}
+use Rattle.turns.specs.declared.state.State.{State}
+use Rattle.durable_serving.specs.Durable.{HoldsState, IsFileAnswer, IsStoreFault, MayChange, failed_store, file_turn, last_text}
+use Rattle.durable_serving.specs.declared.asking.FileCourse.{FileCourse}
+use Rattle.durable_serving.specs.declared.asking.FileCourse.TheVariants.{Answers, Ends, Breaks, Shuts}
+use Rattle.durable_serving.specs.declared.keeping.KeepFault.{KeepFault}
+use Rattle.durable_serving.specs.declared.keeping.KeepFault.TheVariants.{Room, Store}
+use Rattle.durable_serving.specs.declared.reply.FileReply.{FileReply}
+use Rattle.durable_serving.specs.declared.reply.FileReply.TheVariants.{Turn, Found, Failed}
+
+-- a file keeps a session while it is open, and nothing is staged
+abbrev pub IsKeptBy : Settings → View → FileState → Type 0
+IsKeptBy settings v f = (k : Kept) × KeepsState settings f k × IsKeeping v k
+
+-- a state in memory with the last answer as a file has it
+abbrev pub over : State → Option (List ℕ × List ℕ) → FileState
+over s last = record { state = record s { last = None }; last = last }
+
+-- the last answer behind what is pending
+abbrev pub pending_last : Option (List ℕ × List ℕ) → Pending → Option (List ℕ × List ℕ)
+pending_last last (pending.Frame frame) = Some (text_of frame.answer)
+pending_last last (pending.Begin begin) = None
+pending_last last other = last
+
+-- the session behind what is pending
+abbrev pub next_state : FileState → Pending → FileState
+next_state f p = over (turn_of f.state p).after (pending_last f.last p)
+
+-- what is pending of a state was staged in a file that keeps it
+abbrev pub Stages : Settings → State → Pending → View → View → Type 0
+Stages settings s p old new = (last : Option (List ℕ × List ℕ)) (k : Kept) → KeepsState settings (over s last) k → IsKeeping old k
+    → (staged : Kept) × KeepsState settings (next_state (over s last) p) staged × IsStaged new k staged
+
+-- a file that keeps a state keeps it still, and nothing is staged
+abbrev pub Spares : Settings → State → View → View → Type 0
+Spares settings s old new = (last : Option (List ℕ × List ℕ)) (k : Kept) → KeepsState settings (over s last) k → IsKeeping old k → IsKeeping new k
+
+-- the file can have what is pending: a program has the bytes that it was loaded from
+abbrev pub IsStorable : List ℕ → Pending → Type 0
+IsStorable body (pending.Program name image text) = (sha256 body ≡ name) × (image_of body ≡ Ok (arc_value image))
+IsStorable body other = ⊤
+
+-- the answer that was found in the file, behind what is pending
+abbrev pub IsFoundBehind : Pending → Option AnswerRow → Option AnswerRow → Type 0
+IsFoundBehind (pending.Begin begin) found later = later ≡ None
+IsFoundBehind other found later = later ≡ found
+
+-- a `last` before the first frame of this run, where an answer was found
+pub record IsFoundAsked (ask : Ask) (s : State) (found : Option AnswerRow) : Type 0 where
+  pub ask_is : ask ≡ Last
+  pub none : s.last ≡ None
+  pub some : IsSome found
+
+-- memory ran out where what is pending needs room, or the file failed
+abbrev pub IsWanted : Pending → KeepFault → Type 0
+IsWanted p (Room failure) = MayWantRoom p failure
+IsWanted p (Store error) = ⊤
+
+-- the text of an answer
+abbrev pub found_text : Option (List ℕ × List ℕ) → List ℕ
+found_text None = []
+found_text (Some answer) = answer.0 ++ answer.1
+
+abbrev pub reply_text : State → Option AnswerRow → FileReply → List ℕ
+reply_text s found (Turn answer) = answer_text (reply_in s answer)
+reply_text s found Found = found_text (option_map answer_parts found)
+reply_text s found (Failed fault) = failed_store fault
+
+-- an answer that was found is there
+abbrev pub HasReply : Option AnswerRow → FileReply → Type 0
+HasReply found Found = IsSome found
+HasReply found reply = ⊤
+
+-- a crash leaves what it left before, or what a request leaves
+abbrev pub Leaves : Settings → FileState → Ask → (Trees → Type 0) → (Trees → Type 0) → Type 0
+Leaves settings f ask was now = (db : Trees) → now db → was db ⊎ HoldsState settings (file_turn settings f ask).1 db
+
+-- a request was answered by this text, or met that the file is shut
+abbrev pub IsAnsweredBy : Settings → FileState → Ask → FileCourse → State → Option AnswerRow → FileState → (Trees → Type 0) → (Trees → Type 0) → Type 0
+IsAnsweredBy settings f ask (Answers reply) s found after was now = IsFileAnswer settings f ask (reply_text s found reply) after × Leaves settings f ask was now
+IsAnsweredBy settings f ask (Shuts fault) s found after was now = (after ≡ f) × IsStoreFault fault × MayChange settings f ask × Leaves settings f ask was now
+IsAnsweredBy settings f ask Ends s found after was now = ⊥
+IsAnsweredBy settings f ask (Breaks fault) s found after was now = ⊥
+
+-- what comes first in xs was done: a request, or none comes
+abbrev pub IsFileCourse : Settings → FileState → FileCourse → State → Option AnswerRow → FileState → (Trees → Type 0) → (Trees → Type 0) → List ℕ → List ℕ → Type 0
+IsFileCourse settings f Ends s found after was now xs ys = NothingComes None f after xs × ((db : Trees) → now db → was db)
+IsFileCourse settings f (Breaks fault) s found after was now xs ys = NothingComes (Some fault) f after xs × ((db : Trees) → now db → was db)
+IsFileCourse settings f course s found after was now xs ys = (ask : Ask) × ComesFirst ask xs ys × IsAnsweredBy settings f ask course s found after was now
+
+-- the file is open but where it shuts the session, and an answer that was found is there
+abbrev pub IsReady : Option AnswerRow → View → FileCourse → Type 0
+IsReady found v (Shuts fault) = ⊤
+IsReady found v (Answers reply) = HasReply found reply × (IsClean v → v.is_broken ≡ false)
+IsReady found v course = IsClean v → v.is_broken ≡ false
+
+-- the bytes of a program that is handed in
+abbrev pub body_in : Ask → List ℕ
+body_in (Program file) = file
+body_in ask = []
+
+-- a `last` that comes to a request's turn is not answered by what was found
+abbrev pub IsByTurn : Ask → State → Option AnswerRow → Type 0
+IsByTurn Last s found = (s.last ≡ None) → (found ≡ None)
+IsByTurn ask s found = ⊤
+
+-- what comes of a change that was not kept
+abbrev pub course_of : Bool → KeepFault → FileCourse
+course_of true (Room failure) = Shuts Memory
+course_of true (Store error) = Shuts (of_store error)
+course_of false (Room failure) = Answers (Turn (answer.Failed failure))
+course_of false (Store error) = Answers (Failed (of_store error))

@@ -1,0 +1,4 @@
+pub mod Durable
+pub mod Keeping
+pub mod Opened
+pub mod Resumed

@@ -1,0 +1,17 @@
+//! Sessions whose storage, programs and last answer stand in a file: what a request changed is on the disk before a byte of its
+//! answer is written.
+#![tactic(auto)]
+
+mod answering;
+mod asking;
+mod keeping;
+mod opening;
+mod reply;
+mod restarting;
+mod session;
+mod staging;
+
+pub use answering::{DurableFault, serve_durably};
+pub use opening::{SessionFault, open_durably};
+pub use restarting::{restart_durably, serve_and_stop};
+pub use session::FileSession;

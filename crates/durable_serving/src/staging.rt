@@ -1,0 +1,135 @@
+//! Staging what is pending.
+
+ghost use Rattle.std.specs.Prelude.{◌≡◌, ℕ, List, Option, IsSome, OnErr, OnOk, map};
+ghost use Rattle.overlay.specs.Overlay.{Changes};
+ghost use Rattle.rv_ledger.specs.Key.{Storage};
+ghost use Rattle.sqlite_trees.specs.View.{IsQuiet};
+ghost use Rattle.session_file.specs.Kept.{Kept};
+ghost use Rattle.session_file.specs.Staging.{GivesUp, Stages as StagesAll, StagesWhere};
+ghost use Rattle.session_states.specs.States.{text_of};
+ghost use Rattle.turns.specs.Pending.{after_run_of};
+ghost use Rattle.turns.specs.Stages.{left_of};
+ghost use Rattle.turns.specs.declared.pending.Pending.TheVariants as pending;
+ghost use Rattle.durable_serving.specs.Keeping.{IsStorable, Spares, Stages};
+
+use rv_ledger::Rules;
+use session_file::SessionFile;
+use session_states::row_of;
+use sqlite_trees::error::StoreError;
+use sqlite_trees::store::Store;
+use turns::{
+    KeptAnswer, Left, Pending, PendingBegin, PendingFrame, PendingRun, Settings, State,
+    bytes_of_kept, line_of_kept,
+};
+
+/// Stages what is pending of a request with these bytes behind its line. Refused where the store fails; then nothing is staged.
+pub(crate) fn stage<S: Store>(
+    file: &mut SessionFile<S>,
+    settings: Settings,
+    state: &State,
+    body: &[u8],
+    pending: &Pending,
+) -> Result<(), StoreError>
+    requires { IsStorable body.now pending.now }
+    ensures ok { OnOk result (Stages settings state.now pending.now (S.Store.view file.old) (S.Store.view file.new)) }
+    ensures err { OnErr result (Spares settings state.now (S.Store.view file.old) (S.Store.view file.new)) }
+    ensures quiet { IsQuiet S.Store.view S.Store.faults S.Store.recovers S.Store.is_shielded file.old file.new }
+{
+    match pending {
+        Pending::Nothing(_) => Ok(()),
+        Pending::Program(name, _, _) => file.stage_program(name, body),
+        Pending::Forget(name) => file.stage_no_program(name),
+        Pending::Frame(frame) => stage_frame(file, settings, state, frame),
+        Pending::Begin(begin) => stage_begin(file, settings, state, begin),
+    }
+}
+
+/// Stages a frame that counts. A session over a file keeps a digest.
+fn stage_frame<S: Store>(
+    file: &mut SessionFile<S>,
+    settings: Settings,
+    state: &State,
+    frame: &PendingFrame,
+) -> Result<(), StoreError>
+    ensures ok { OnOk result (Stages settings state.now (pending.Frame frame.now) (S.Store.view file.old) (S.Store.view file.new)) }
+    ensures err { OnErr result (Spares settings state.now (S.Store.view file.old) (S.Store.view file.new)) }
+    ensures quiet { IsQuiet S.Store.view S.Store.faults S.Store.recovers S.Store.is_shielded file.old file.new }
+{
+    let Some(digest) = frame.digest else {
+        return Err(StoreError::Unstorable);
+    };
+    match stage_run(file, &state.store, &frame.run) {
+        Ok(()) => {}
+        Err(error) => return Err(error),
+    }
+    let rules = rules_behind(state.rules, &frame.run);
+    match file.stage_session(row_of(settings, rules, frame.height, digest)) {
+        Ok(()) => {}
+        Err(error) => return Err(error),
+    }
+    stage_kept(file, &frame.answer)
+}
+
+/// Stages the answer that is kept of a frame.
+fn stage_kept<S: Store>(file: &mut SessionFile<S>, kept: &KeptAnswer) -> Result<(), StoreError>
+    ensures ok { OnOk result (StagesAll (λ next. record next { answer = Some (text_of kept.now) }) (S.Store.view file.old) (S.Store.view file.new)) }
+    ensures err { OnErr result (GivesUp (S.Store.view file.old) (S.Store.view file.new)) }
+    ensures quiet { IsQuiet S.Store.view S.Store.faults S.Store.recovers S.Store.is_shielded file.old file.new }
+{
+    let line = line_of_kept(kept);
+    file.stage_answer(line.as_str().as_bytes(), bytes_of_kept(kept))
+}
+
+/// The rules behind a frame.
+fn rules_behind(rules: Rules, run: &Option<PendingRun>) -> Rules
+    ensures { (s : State) → s.rules ≡ rules → result ≡ (after_run_of s run.now).rules }
+{
+    match run {
+        Some(run) => run.rules,
+        None => rules,
+    }
+}
+
+/// Stages what a run leaves of a storage, if there was one.
+fn stage_run<S: Store>(
+    file: &mut SessionFile<S>,
+    base: &rv_ledger::Store,
+    run: &Option<PendingRun>,
+) -> Result<(), StoreError>
+    ensures ok { OnOk result ((s : State) → s.store ≡ base.now → StagesWhere (λ next. next.storage ≡ base.now) (λ next. record next { storage = (after_run_of s run.now).store }) (S.Store.view file.old) (S.Store.view file.new)) }
+    ensures err { OnErr result (GivesUp (S.Store.view file.old) (S.Store.view file.new)) }
+    ensures quiet { IsQuiet S.Store.view S.Store.faults S.Store.recovers S.Store.is_shielded file.old file.new }
+{
+    let Some(run) = run else {
+        return Ok(());
+    };
+    match &run.left {
+        Left::Changed(changes) => file.stage_changes(base, changes),
+        Left::Begun(storage) => file.stage_storage(base, storage),
+    }
+}
+
+/// Stages a session that begins anew. A session over a file keeps a digest.
+fn stage_begin<S: Store>(
+    file: &mut SessionFile<S>,
+    settings: Settings,
+    state: &State,
+    begin: &PendingBegin,
+) -> Result<(), StoreError>
+    ensures ok { OnOk result (Stages settings state.now (pending.Begin begin.now) (S.Store.view file.old) (S.Store.view file.new)) }
+    ensures err { OnErr result (Spares settings state.now (S.Store.view file.old) (S.Store.view file.new)) }
+    ensures quiet { IsQuiet S.Store.view S.Store.faults S.Store.recovers S.Store.is_shielded file.old file.new }
+{
+    let Some(digest) = begin.digest else {
+        return Err(StoreError::Unstorable);
+    };
+    match file.stage_storage(&state.store, &begin.store) {
+        Ok(()) => {}
+        Err(error) => return Err(error),
+    }
+    match file.stage_session(row_of(settings, begin.rules, begin.height, digest)) {
+        Ok(()) => {}
+        Err(error) => return Err(error),
+    }
+    file.stage_no_answer()
+}
