@@ -2,6 +2,7 @@
 
 ghost use Rattle.std.specs.Prelude.{None};
 
+use crate::fake_stores::FakeStores;
 use engines::{Disk, status};
 use std::alloc::{AllocError, Global};
 use std::cell::{Cell, Ref, RefCell, RefMut};
@@ -456,9 +457,41 @@ pub fn answer_along<T: Threads + Wait + Sync, I: Read, W: Write, E: Write>(
     out: &mut W,
     errors: &mut E,
 ) -> u8 {
+    let mut stores = FakeStores::new(alloc);
+    answer_over(
+        threads,
+        alloc,
+        line,
+        stored,
+        &mut stores,
+        input,
+        out,
+        errors,
+    )
+}
+
+/// The same over the stores of a session.
+pub fn answer_over<T: Threads + Wait + Sync, I: Read, W: Write, E: Write>(
+    threads: &T,
+    alloc: Global,
+    line: &[u8],
+    stored: &Stored,
+    stores: &mut FakeStores,
+    input: &mut I,
+    out: &mut W,
+    errors: &mut E,
+) -> u8 {
     let mut disk = FakeDisk { stored, alloc };
     let words = Words { line };
-    status(&(words, alloc), threads, &mut disk, input, out, errors)
+    status(
+        &(words, alloc),
+        threads,
+        &mut disk,
+        stores,
+        input,
+        out,
+        errors,
+    )
 }
 
 impl Answer {

@@ -35,6 +35,8 @@ mod failing_programs;
 #[cfg(test)]
 mod fake_disk;
 #[cfg(test)]
+mod fake_stores;
+#[cfg(test)]
 mod first_faults;
 #[cfg(test)]
 mod full_arena;
@@ -63,9 +65,17 @@ mod schedules;
 #[cfg(test)]
 mod session_ends;
 #[cfg(test)]
+mod session_file_rows;
+#[cfg(test)]
+mod session_files;
+#[cfg(test)]
+mod session_flaws;
+#[cfg(test)]
 mod session_frames;
 #[cfg(test)]
 mod session_inputs;
+#[cfg(test)]
+mod session_opens;
 #[cfg(test)]
 mod session_rows;
 #[cfg(test)]

@@ -1,6 +1,8 @@
 //! Sessions whose calls run by threads: whatever their number, what is printed is what running them in order prints, also
 //! where the steps of a run by threads come to their limit.
 
+use crate::fake_stores::FakeStores;
+use crate::session_files::answer_in;
 use crate::session_inputs::{printed_by, session_over};
 use crate::sources::assembled;
 use engines::ByThreads;
@@ -120,5 +122,24 @@ fn calls_that_read_behind_calls_that_work(rt: HostRuntime) -> Result<(), Fail> {
     let wanted = printed_by(rt.alloc(), &mut InOrder, SETTINGS, input)?;
     // The threads of the last batch gave no shares back: their run was refused.
     assert!(rt; is_printed(&rt, rt.alloc(), input, wanted.as_slice(), 4, 0)?);
+    Ok(())
+}
+
+#[test]
+fn frames_by_threads_are_kept(rt: HostRuntime) -> Result<(), Fail> {
+    let input = working_session(rt.alloc())?;
+    let wanted = printed_by(rt.alloc(), &mut InOrder, SETTINGS, input.as_slice())?;
+    let mut stores = FakeStores::new(rt.alloc());
+    let first = answer_in(
+        &rt,
+        rt.alloc(),
+        &mut stores,
+        " --workers 2",
+        input.as_slice(),
+    )?;
+    let next = answer_in(&rt, rt.alloc(), &mut stores, "", b"state\ndump\n")?;
+    assert!(rt; first.status == 0 && first.out.as_slice() == wanted.as_slice());
+    assert!(rt; next.status == 0 && next.out.as_slice().ends_with(LAST));
+    assert!(rt; wanted.as_slice().ends_with(next.out.as_slice()));
     Ok(())
 }

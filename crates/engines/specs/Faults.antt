@@ -13,6 +13,7 @@ use Rattle.elf32.specs.declared.error.ElfError.{ElfError}
 use Rattle.rv_text.specs.Faults as asm
 use Rattle.rv_text.specs.declared.fault.AsmCause.{AsmCause}
 use Rattle.rv_text.specs.declared.fault.AsmCause.TheVariants as asm_cause
+use Rattle.session_states.specs.Faults as store
 use Rattle.stm_core.specs.Faults as drive
 use Rattle.workers.specs.Faults as run
 use Rattle.engines.specs.declared.fault.FileFault.{FileFault}
@@ -23,7 +24,7 @@ use Rattle.engines.specs.declared.fault.InputFault.{InputFault}
 use Rattle.engines.specs.declared.fault.InputFault.TheVariants as input
 use Rattle.engines.specs.declared.fault.InputFault.TheVariants.{BadLine, Cut}
 use Rattle.engines.specs.declared.fault.Refusal.{Refusal}
-use Rattle.engines.specs.declared.fault.Refusal.TheVariants.{File, Block, Elf, Asm, Seq, Schedule, Run, Drive, Debug, Request, Output}
+use Rattle.engines.specs.declared.fault.Refusal.TheVariants.{File, Block, Elf, Asm, Seq, Schedule, Run, Drive, Debug, Request, Store, Output}
 
 -- the number of a refusal of a file
 abbrev pub file_number : FileFault → ℕ
@@ -105,6 +106,7 @@ parts_of (Run fault) = without_line (codes "run") (run.name_of fault) (run.numbe
 parts_of (Drive fault) = without_line (codes "drive") (drive.name_of fault) (drive.number_of fault)
 parts_of (Debug fault) = without_line (codes "debug") (debug.name_of fault) (debug.number_of fault)
 parts_of (Request fault) = without_line (codes "request") (input_name fault) (input_number fault)
+parts_of (Store fault) = store.parts_of fault
 parts_of (Output fault) = without_line (codes "output") (output.name_of fault) (output.number_of fault)
 
 -- the line of a refusal

@@ -1,17 +1,24 @@
 //! The engine of `rvstm chain`, over any input and writer.
 
-ghost use Rattle.std.specs.Prelude.{◌≡◌, IfErr, IfSome, None, OnOk};
-ghost use Rattle.engines.specs.Chaining.{cut_of};
+ghost use Rattle.std.specs.Prelude.{◌≡◌, false, IfErr, IfSome, None, OnOk};
+ghost use Rattle.durable_serving.specs.Durable.{IsDurablyEndedBy, IsFileAnswer, IsStopped};
+ghost use Rattle.durable_serving.specs.Keeping.{IsKeptBy};
+ghost use Rattle.durable_serving.specs.declared.answering.DurableFault.{DurableFault};
+ghost use Rattle.engines.specs.Chaining.{cut_of, durably_cut};
 ghost use Rattle.serving.specs.Serving.{IsEndedBy, IsServed, MayEnd};
 ghost use Rattle.serving.specs.declared.serving.ServeFault.{ServeFault};
+ghost use Rattle.session_states.specs.States.{file_state};
+ghost use Rattle.sqlite_trees.specs.View.{IsClean};
 ghost use Rattle.turns.specs.Failures.{IsAnswer};
 ghost use Rattle.turns.specs.Turn.{new_session};
 ghost use Rattle.turns.specs.declared.state.State.{State};
 
 use crate::fault::{InputFault, Refusal};
 use byte_streams::{BufferedSource, Destination};
+use durable_serving::{DurableFault, FileSession, serve_durably};
 use requests::RequestFault;
 use serving::{ServeFault, serve};
+use sqlite_trees::store::Store;
 use std::alloc::Global;
 use turns::{CallRunner, Settings, State};
 
@@ -49,5 +56,42 @@ fn cut_of(fault: ServeFault) -> Refusal
         ServeFault::Broken(RequestFault::Cut) => Refusal::Request(InputFault::Cut),
         ServeFault::Unreadable => Refusal::Request(InputFault::Unreadable),
         ServeFault::Output(fault) => Refusal::Output(fault),
+    }
+}
+
+/// Answers each request of an input in the session of an open file, as `chain_to` does in a new session. What a request changes is
+/// on the disk before its answer is written. Refused as `chain_to` is, and as Store where the file is shut: the request that met
+/// that has no answer.
+pub fn durable_chain_to<R: BufferedSource, S: Store, C: CallRunner, W: Destination>(
+    alloc: Global,
+    input: &mut R,
+    runner: &mut C,
+    settings: Settings,
+    session: &mut FileSession<S>,
+    out: &mut W,
+) -> Result<(), Refusal>
+    requires ready { C.ready }
+    requires kept { IsKeptBy settings (S.Store.view session.old.file) (file_state session.old.state session.old.found) }
+    requires sound { IsClean (S.Store.view session.old.file) → (S.Store.view session.old.file).is_broken ≡ false }
+    ensures ok { OnOk result (IfSome (R.remaining input.old) (λ bytes. IsServed (IsFileAnswer settings) None (file_state session.old.state session.old.found) bytes
+        (file_state session.new.state session.new.found) (W.contents out.old) (W.contents out.new))) }
+    ensures err { IfErr result (λ e. (fault : DurableFault) × (e ≡ durably_cut fault) × IfSome (R.remaining input.old) (λ bytes. IsDurablyEndedBy (R.may_fail input.old) settings fault
+        (file_state session.old.state session.old.found) bytes (file_state session.new.state session.new.found) (W.contents out.old) (W.contents out.new))) }
+    ensures stopped { IsClean (S.Store.view session.new.file) → IfSome (R.remaining input.old) (λ bytes. IsStopped settings (file_state session.old.state session.old.found) bytes
+        (W.contents out.old) (W.contents out.new) (S.Store.recovers session.new.file)) }
+{
+    match serve_durably(alloc, input, runner, settings, session, out) {
+        Ok(()) => Ok(()),
+        Err(fault) => Err(durably_cut(fault)),
+    }
+}
+
+/// Why the command is refused where a fault ended its session over a file.
+fn durably_cut(fault: DurableFault) -> Refusal
+    ensures { result ≡ durably_cut fault }
+{
+    match fault {
+        DurableFault::Session(fault) => cut_of(fault),
+        DurableFault::Store(fault) => Refusal::Store(fault),
     }
 }

@@ -5,7 +5,7 @@ ghost use Rattle.std.specs.Option.{unwrap_or};
 
 use crate::assembling::{SOURCE_MEMORY, file_of_source};
 use crate::by_threads::ByThreads;
-use crate::chaining::chain_to;
+use crate::chaining::{chain_to, durable_chain_to};
 use crate::counts::{RunCounts, write_counts};
 use crate::debugging::debug_block_to;
 use crate::disk::{Disk, LateFile, ProgramFiles};
@@ -18,10 +18,13 @@ use crate::loading::BLOCK_MEMORY;
 use crate::migrating::migrated_file;
 use crate::reporting::report;
 use crate::running::run_to;
+use crate::stores::{SessionStores, fault_of};
 use byte_streams::{
-    Destination, FallibleBuffer, FallibleReader, FallibleWriter, WriteFault, write_whole,
+    BufferedSource, Destination, FallibleBuffer, FallibleReader, FallibleWriter, WriteFault, write_whole,
 };
 use cmdline::{Request, request_of};
+use durable_serving::open_durably;
+use session_states::StoreFault;
 use std::alloc::Global;
 use std::fs::File;
 use std::io::{BufReader, Read, Stderr, Stdin, Stdout, Write};
@@ -38,22 +41,32 @@ const WRONG_LINE: u8 = 2;
 
 /// Does what a runtime's command line asks for, over its files and the standard streams, and returns the exit
 /// code, as `status` does.
-pub fn exit_code<R>(rt: &R, mut input: Stdin, mut out: Stdout, mut errors: Stderr) -> ExitCode
+pub fn exit_code<R, K>(
+    rt: &R,
+    stores: &mut K,
+    mut input: Stdin,
+    mut out: Stdout,
+    mut errors: Stderr,
+) -> ExitCode
 where
     R: Env + Files<File = File> + AllocGlobal + Threads + Wait + Sync,
+    K: SessionStores,
 {
     let mut disk = SystemDisk { rt };
-    ExitCode::from(status(rt, rt, &mut disk, &mut input, &mut out, &mut errors))
+    ExitCode::from(status(
+        rt, rt, &mut disk, stores, &mut input, &mut out, &mut errors,
+    ))
 }
 
 /// Does what the command line asks for, and returns the exit status: 0 where it is done, 1 where it is
 /// refused, 2 where the line is wrong. The lines of `debug` and the requests of `chain` are read from `input`. Results,
 /// answers, help and the version are written to `out`. Refusals, what is wrong with the line, and counts are written to
 /// `errors`.
-pub fn status<R, T, D, I, W, E>(
+pub fn status<R, T, D, K, I, W, E>(
     rt: &R,
     threads: &T,
     disk: &mut D,
+    stores: &mut K,
     input: &mut I,
     out: &mut W,
     errors: &mut E,
@@ -62,6 +75,7 @@ where
     R: Env + AllocGlobal,
     T: Threads + Wait + Sync,
     D: Disk,
+    K: SessionStores,
     I: Read,
     W: Write,
     E: Write,
@@ -77,6 +91,7 @@ where
             threads,
             rt.alloc(),
             disk,
+            stores,
             request,
             input,
             &mut out,
@@ -157,10 +172,11 @@ fn error_text(error: &io::Error) -> &'static str {
 }
 
 /// Does a request.
-fn answer<T: Threads + Wait + Sync, D: Disk, I: Read, W: Destination, E: Destination>(
+fn answer<T: Threads + Wait + Sync, D: Disk, K: SessionStores, I: Read, W: Destination, E: Destination>(
     threads: &T,
     alloc: Global,
     disk: &mut D,
+    stores: &mut K,
     request: Request<'_>,
     input: &mut I,
     out: &mut W,
@@ -196,10 +212,16 @@ fn answer<T: Threads + Wait + Sync, D: Disk, I: Read, W: Destination, E: Destina
             frame_gas,
             digest,
             brief,
-            store: _,
+            store,
         } => {
             let settings = settings_of(frame_limit, frame_gas, digest, brief);
-            chain(threads, alloc, workers, settings, input, out)
+            match workers {
+                None => chain(alloc, stores, store, &mut InOrder, settings, input, out),
+                Some(workers) => {
+                    let mut runner = ByThreads::new(threads, alloc, workers);
+                    chain(alloc, stores, store, &mut runner, settings, input, out)
+                }
+            }
         }
     }
 }
@@ -401,28 +423,11 @@ fn settings_of(
     settings
 }
 
-/// Answers the requests of the input in one session, whose frames run one after another on one storage: by threads where
-/// a number of workers is given and that pays, and else in order.
-fn chain<T: Threads + Wait + Sync, I: Read, W: Destination>(
-    threads: &T,
+/// Answers the requests of the input in one session, whose calls are run by `runner`, in memory or over the file that is given.
+fn chain<K: SessionStores, C: CallRunner, I: Read, W: Destination>(
     alloc: Global,
-    workers: Option<usize>,
-    settings: Settings,
-    input: &mut I,
-    out: &mut W,
-) -> Result<(), Refusal> {
-    match workers {
-        None => chain_by(alloc, &mut InOrder, settings, input, out),
-        Some(workers) => {
-            let mut runner = ByThreads::new(threads, alloc, workers);
-            chain_by(alloc, &mut runner, settings, input, out)
-        }
-    }
-}
-
-/// Answers the requests of the input in one session, whose calls are run by `runner`.
-fn chain_by<C: CallRunner, I: Read, W: Destination>(
-    alloc: Global,
+    stores: &mut K,
+    store: Option<&str>,
     runner: &mut C,
     settings: Settings,
     input: &mut I,
@@ -434,7 +439,45 @@ fn chain_by<C: CallRunner, I: Read, W: Destination>(
         return Err(Refusal::Seq(SeqFault::Memory));
     };
     let mut requests = FallibleBuffer { reader };
-    chain_to(alloc, &mut requests, runner, settings, out)
+    match store {
+        None => chain_to(alloc, &mut requests, runner, settings, out),
+        Some(path) => chain_in(alloc, stores, path, &mut requests, runner, settings, out),
+    }
+}
+
+/// Answers the requests of the input in the session that a file keeps.
+fn chain_in<K: SessionStores, R: BufferedSource, C: CallRunner, W: Destination>(
+    alloc: Global,
+    stores: &mut K,
+    path: &str,
+    requests: &mut R,
+    runner: &mut C,
+    settings: Settings,
+    out: &mut W,
+) -> Result<(), Refusal>
+    requires ready { C.ready }
+{
+    let mut settings = settings;
+    settings.keeps_digest = true;
+    let store = match stores.open_store(path) {
+        Ok(store) => store,
+        Err(fault) => return Err(Refusal::Store(fault_of(fault))),
+    };
+    let mut session = match open_durably(alloc, settings, store) {
+        Ok(session) => session,
+        Err((fault, store)) => {
+            let _ = stores.close_store(store);
+            return Err(Refusal::Store(fault.fault()));
+        }
+    };
+    let ended = durable_chain_to(alloc, requests, runner, settings, &mut session, out);
+    match stores.close_store(session.file.into_store()) {
+        Ok(()) => ended,
+        Err(error) => {
+            ended?;
+            Err(Refusal::Store(StoreFault::of_store(error)))
+        }
+    }
 }
 
 /// Opens a file to read it.

@@ -8,6 +8,7 @@ use byte_streams::WriteFault;
 use debugger::ReplayFault;
 use elf32::ElfError;
 use rv_text::AsmError;
+use session_states::StoreFault;
 use std::fmt;
 use stm_core::DriveFault;
 use thiserror::Error;
@@ -166,6 +167,8 @@ pub enum Refusal {
     Debug(ReplayFault),
     /// The input of a session.
     Request(InputFault),
+    /// The file of a session.
+    Store(StoreFault),
     /// The output.
     Output(WriteFault),
 }

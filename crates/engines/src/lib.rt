@@ -24,11 +24,12 @@ mod refusal_parts;
 mod reporting;
 mod results;
 mod running;
+mod stores;
 mod thread_costs;
 
 pub use assembling::file_of_source;
 pub use by_threads::ByThreads;
-pub use chaining::chain_to;
+pub use chaining::{chain_to, durable_chain_to};
 pub use commands::{exit_code, status};
 pub use counts::{RunCounts, write_counts};
 pub use debugging::debug_block_to;
@@ -44,3 +45,4 @@ pub use migrating::migrated_file;
 pub use program_source::Programs;
 pub use reporting::{report, write_refusal};
 pub use running::run_to;
+pub use stores::{SessionStores, SystemStores};

@@ -31,6 +31,7 @@ impl Refusal {
                 fault.name(),
                 fault.number(),
             ),
+            Refusal::Store(fault) => fault.parts(),
             Refusal::Output(fault) => LineParts::without_line(
                 "output",
                 fault.name(),

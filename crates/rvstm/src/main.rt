@@ -1,9 +1,10 @@
 //! The program `rvstm`: executes blocks of RV32IM contract calls.
 #![tactic(auto)]
 
-use engines::exit_code;
+use engines::{SystemStores, exit_code};
 use std::process::ExitCode;
 
 fn main(rt: HostRuntime) -> ExitCode {
-    exit_code(&rt, rt.stdin(), rt.stdout(), rt.stderr())
+    let mut stores = SystemStores { rt: &rt };
+    exit_code(&rt, &mut stores, rt.stdin(), rt.stdout(), rt.stderr())
 }

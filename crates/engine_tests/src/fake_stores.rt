@@ -1,0 +1,274 @@
+//! Stores of sessions in memory. Their two files stay between sessions, and one call on either file can fail, or all from it on.
+
+ghost use Rattle.std.specs.Prelude.{◌≡◌, ◌+◌, ◌&&◌, not, false};
+ghost use Rattle.sqlite_disk.specs.Disk.{CountsFault};
+ghost use Rattle.sqlite_disk.specs.Refusal.{finds_no_room};
+
+use engines::SessionStores;
+use session_disk::{OpenFault, close_files, open_files};
+use sqlite_disk::{Crash, Disk, Files, Memory, Tally};
+use sqlite_store::FileStore;
+use sqlite_trees::error::StoreError;
+use std::alloc::{AllocError, Global};
+use std::io;
+
+/// Which call on a file fails.
+#[derive(Clone, Copy)]
+pub struct Flaw {
+    /// How many calls are done before it.
+    pub calls_left: u64,
+    /// Whether all calls behind it fail, too.
+    pub is_lasting: bool,
+}
+
+impl Flaw {
+    /// None fails.
+    pub const NONE: Flaw = Flaw {
+        calls_left: u64::MAX,
+        is_lasting: false,
+    };
+}
+
+/// A file in memory with a call that fails.
+#[derive(Drop)]
+pub struct Flawed {
+    inner: Memory,
+    flaw: Flaw,
+    refused: u64,
+    sync_refused: bool,
+}
+
+/// Counts a call; refused where it is one that fails.
+fn spend(flaw: &mut Flaw, refused: &mut u64) -> io::Result<()>
+    ensures faults { CountsFault result refused.old refused.new }
+    ensures kind { finds_no_room result ≡ false }
+{
+    if flaw.calls_left == 0 {
+        if !flaw.is_lasting {
+            flaw.calls_left = u64::MAX;
+        }
+        *refused = refused.saturating_add(1);
+        return Err(io::Error::other("a call that fails"));
+    }
+    flaw.calls_left -= 1;
+    Ok(())
+}
+
+impl Disk for Flawed {
+    ghost seen = { λ f. Memory.Disk.seen f.inner };
+
+    ghost may_leave = { λ f. Memory.Disk.may_leave f.inner };
+
+    ghost is_usable = { λ f. Memory.Disk.is_usable f.inner && not f.sync_refused };
+
+    ghost faults = { λ f. Memory.Disk.faults f.inner + f.refused };
+
+    ghost tally_of = { λ f. Memory.Disk.tally_of f.inner };
+
+    ghost is_rotten = { λ f. Memory.Disk.is_rotten f.inner };
+
+    ghost key_of = { λ f. Memory.Disk.key_of f.inner };
+
+    ghost is_clean = { λ f. Memory.Disk.is_clean f.inner };
+
+    ghost is_fair = { λ f. Memory.Disk.is_fair f.inner };
+
+    ghost fair_if_clean = { λ f. Memory.Disk.fair_if_clean f.inner };
+
+    ghost seen_may_stay = { λ f. Memory.Disk.seen_may_stay f.inner };
+
+    ghost is_mixing = { λ f. Memory.Disk.is_mixing f.inner };
+
+    fn mixes(&self) -> bool {
+        self.inner.mixes()
+    }
+
+    fn key(&self) -> u64 {
+        self.inner.key()
+    }
+
+    fn tally(&self) -> Tally {
+        self.inner.tally()
+    }
+
+    fn may_be_used(&self) -> bool {
+        self.inner.may_be_used() && !self.sync_refused
+    }
+
+    fn len(&mut self) -> io::Result<usize> {
+        spend(&mut self.flaw, &mut self.refused)?;
+        self.inner.len()
+    }
+
+    fn read_at(&mut self, at: usize, buf: &mut [u8]) -> io::Result<()> {
+        spend(&mut self.flaw, &mut self.refused)?;
+        self.inner.read_at(at, buf)
+    }
+
+    fn read_checked(&mut self, key: u64, want: u64, at: usize, buf: &mut [u8]) -> io::Result<()> {
+        spend(&mut self.flaw, &mut self.refused)?;
+        self.inner.read_checked(key, want, at, buf)
+    }
+
+    fn write_at(&mut self, at: usize, bytes: &[u8]) -> io::Result<()> {
+        spend(&mut self.flaw, &mut self.refused)?;
+        self.inner.write_at(at, bytes)
+    }
+
+    fn set_len(&mut self, len: usize) -> io::Result<()> {
+        spend(&mut self.flaw, &mut self.refused)?;
+        self.inner.set_len(len)
+    }
+
+    fn sync(&mut self) -> io::Result<()> {
+        if let Err(error) = spend(&mut self.flaw, &mut self.refused) {
+            self.sync_refused = true;
+            return Err(error);
+        }
+        self.inner.sync()
+    }
+}
+
+/// A file of these bytes, all of them synced.
+fn file_of(alloc: Global, bytes: &[u8], flaw: Flaw) -> io::Result<Flawed> {
+    let mut inner = Memory::new(alloc);
+    inner.write_at(0, bytes)?;
+    inner.sync()?;
+    Ok(Flawed {
+        inner,
+        flaw,
+        refused: 0,
+        sync_refused: false,
+    })
+}
+
+/// How the process of a session ends.
+#[derive(Clone, Copy, PartialEq, Eq)]
+pub enum End {
+    /// By closing its file.
+    Closed,
+    /// By a kill, which leaves all that was written.
+    Killed,
+    /// By a cut of the power, which leaves what was synced.
+    Cut,
+}
+
+/// The stores of one file, by any path.
+#[derive(Drop)]
+pub struct FakeStores {
+    /// What gives memory.
+    pub alloc: Global,
+    /// What it was asked, a line each.
+    pub asked: String,
+    /// The bytes of the log.
+    pub log: Vec<u8>,
+    /// The bytes of the database file.
+    pub db: Vec<u8>,
+    /// Why the file is not opened, if so.
+    pub fault: Option<OpenFault>,
+    /// The call on the log that fails.
+    pub log_flaw: Flaw,
+    /// The call on the database file that fails.
+    pub db_flaw: Flaw,
+    /// How many calls failed in the last session.
+    pub refused: u64,
+    /// How its sessions end.
+    pub end: End,
+}
+
+impl FakeStores {
+    /// The stores of a file that is not there yet.
+    pub fn new(alloc: Global) -> FakeStores {
+        FakeStores {
+            alloc,
+            asked: String::new(alloc),
+            log: Vec::new(alloc),
+            db: Vec::new(alloc),
+            fault: None,
+            log_flaw: Flaw::NONE,
+            db_flaw: Flaw::NONE,
+            refused: 0,
+            end: End::Closed,
+        }
+    }
+
+    /// The same two files, with no call that fails.
+    pub fn copy(&self) -> Result<FakeStores, AllocError> {
+        let mut stores = FakeStores::new(self.alloc);
+        stores.log = self.log.as_slice().to_vec(self.alloc)?;
+        stores.db = self.db.as_slice().to_vec(self.alloc)?;
+        stores.end = self.end;
+        Ok(stores)
+    }
+
+    /// Keeps a record of a request.
+    fn note(&mut self, kind: &str, path: &str) -> Result<(), AllocError> {
+        self.asked.push_str(kind)?;
+        self.asked.push_str(path)?;
+        self.asked.push_str("\n")
+    }
+
+    /// The two files.
+    fn files(&self) -> io::Result<Files<Flawed>> {
+        Ok(Files {
+            log: file_of(self.alloc, self.log.as_slice(), self.log_flaw)?,
+            db: file_of(self.alloc, self.db.as_slice(), self.db_flaw)?,
+        })
+    }
+
+    /// Takes the two files back.
+    fn take(&mut self, files: Files<Flawed>) -> Result<(), AllocError> {
+        let mut files = files;
+        if self.end == End::Cut {
+            files.log.inner.crash();
+            files.db.inner.crash();
+        }
+        self.refused = files.log.refused.saturating_add(files.db.refused);
+        self.log = files.log.inner.bytes().to_vec(self.alloc)?;
+        self.db = files.db.inner.bytes().to_vec(self.alloc)?;
+        Ok(())
+    }
+}
+
+/// What the log is salted with.
+const SEED: u64 = 7;
+
+impl SessionStores for FakeStores {
+    type Kept = FileStore<Flawed>;
+
+    fn open_store(&mut self, path: &str) -> Result<FileStore<Flawed>, OpenFault> {
+        if self.note("open ", path).is_err() {
+            return Err(OpenFault::Memory);
+        }
+        if let Some(fault) = self.fault {
+            return Err(fault);
+        }
+        let Ok(files) = self.files() else {
+            return Err(OpenFault::Memory);
+        };
+        if !files.may_be_used() {
+            return Err(OpenFault::Unreadable);
+        }
+        match open_files(self.alloc, files, SEED) {
+            Ok(store) => Ok(store),
+            Err((fault, rest)) => match self.take(rest.into_files()) {
+                Ok(()) => Err(fault),
+                Err(_) => Err(OpenFault::Memory),
+            },
+        }
+    }
+
+    fn close_store(&mut self, store: FileStore<Flawed>) -> Result<(), StoreError> {
+        let (files, closed) = match self.end {
+            End::Closed => match close_files(store) {
+                Ok(files) => (files, Ok(())),
+                Err((error, store)) => (store.close(), Err(error)),
+            },
+            End::Killed | End::Cut => (store.close(), Ok(())),
+        };
+        match self.note("close", "").and(self.take(files)) {
+            Ok(()) => closed,
+            Err(_) => Err(StoreError::OutOfMemory),
+        }
+    }
+}

@@ -1,0 +1,123 @@
+//! Files that are not opened as sessions, and what is left of them.
+
+use crate::fake_stores::FakeStores;
+use crate::session_files::{DONE, PUT_ONE, answer_in};
+use session_disk::OpenFault;
+use std::alloc::{AllocError, Global};
+use std::process::Abort;
+use std::sync::Wait;
+use std::test::Fail;
+use std::thread::Threads;
+
+/// Why a file is not opened, and the line on standard error.
+const FAULTS: &[(OpenFault, &str)] = &[
+    (OpenFault::Busy, "rvstm: store Busy 1\n"),
+    (OpenFault::HotJournal, "rvstm: store HotJournal 2\n"),
+    (OpenFault::Unreadable, "rvstm: store Unreadable 3\n"),
+    (OpenFault::NotASession, "rvstm: store NotASession 4\n"),
+    (OpenFault::Full, "rvstm: store Full 8\n"),
+    (OpenFault::Memory, "rvstm: store Memory 9\n"),
+];
+
+/// What files that are none of a session are refused with.
+const NOT_A_SESSION: &str = "rvstm: store NotASession 4\n";
+
+/// Whether a session is refused with a line, nothing is printed, and the two files are as before.
+fn is_unopened<R: Threads + Wait + Sync>(
+    rt: &R,
+    alloc: Global,
+    stores: &mut FakeStores,
+    line: &str,
+) -> Result<bool, AllocError> {
+    let before = stores.copy()?;
+    let answer = answer_in(rt, alloc, stores, "", PUT_ONE.as_bytes())?;
+    let is_same = stores.log.as_slice() == before.log.as_slice()
+        && stores.db.as_slice() == before.db.as_slice();
+    Ok(is_same && answer.is(1, "", line))
+}
+
+/// The file of a session that was closed behind a frame.
+fn session_file<R: Threads + Wait + Sync>(rt: &R, alloc: Global) -> Result<FakeStores, AllocError> {
+    let mut stores = FakeStores::new(alloc);
+    answer_in(rt, alloc, &mut stores, "", PUT_ONE.as_bytes())?;
+    Ok(stores)
+}
+
+#[test]
+fn files_that_are_not_opened(rt: HostRuntime) -> Result<(), Fail> {
+    let mut stores = session_file(&rt, rt.alloc())?;
+    for (fault, line) in FAULTS {
+        stores.fault = Some(*fault);
+        let is_right = is_unopened(&rt, rt.alloc(), &mut stores, line)?;
+        assert!(rt; is_right, "{line}");
+    }
+    stores.fault = None;
+    let answer = answer_in(&rt, rt.alloc(), &mut stores, "", b"last\n")?;
+    assert!(rt; answer.is(0, DONE, ""));
+    Ok(())
+}
+
+/// Texts that are no databases.
+const TEXTS: &[&str] = &[
+    "x",
+    "hello\n",
+    "rvblock 1\nstore 0000000000000000000000000000000000000000000000000000000000000009 0a\n",
+    "SQLite format 2\0",
+    "SQLite format 3\0",
+    "S",
+];
+
+#[test]
+fn texts_are_no_sessions(rt: HostRuntime) -> Result<(), Fail> {
+    for text in TEXTS {
+        for times in [1, 1000] {
+            let mut stores = FakeStores::new(rt.alloc());
+            for _ in 0..times {
+                stores.db.extend_from_slice(text.as_bytes())?;
+            }
+            let is_right = is_unopened(&rt, rt.alloc(), &mut stores, NOT_A_SESSION)?;
+            assert!(rt; is_right, "{text:?} {times}");
+        }
+    }
+    Ok(())
+}
+
+/// A piece of each table's text, and another one of the same length.
+const OTHER_TABLES: &[(&[u8], &[u8])] = &[
+    (b"CREATE TABLE storage (", b"CREATE TABLE storagf ("),
+    (b"value BLOB NOT NULL", b"value TEXT NOT NULL"),
+    (b"CREATE TABLE program (", b"CREATE TABLE programs("),
+    (b"frame_gas INTEGER,", b"frame_gas NUMERIC,"),
+    (b"CREATE TABLE answer (", b"CREATE TABLE answers("),
+];
+
+/// Puts bytes in the place of the first such ones in a file; false where there are none.
+fn put_over(file: &mut Vec<u8>, piece: &[u8], other: &[u8]) -> bool {
+    for at in 0..file.len() {
+        if file[at..].starts_with(piece) {
+            file[at..at + other.len()].copy_from_slice(other);
+            return true;
+        }
+    }
+    false
+}
+
+#[test]
+fn other_tables_are_no_session(rt: HostRuntime) -> Result<(), Fail> {
+    for (piece, other) in OTHER_TABLES {
+        let mut stores = session_file(&rt, rt.alloc())?;
+        assert!(rt; put_over(&mut stores.db, piece, other));
+        let is_right = is_unopened(&rt, rt.alloc(), &mut stores, NOT_A_SESSION)?;
+        assert!(rt; is_right, "{piece:?}");
+    }
+    Ok(())
+}
+
+#[test]
+fn a_store_is_opened_and_closed_once(rt: HostRuntime) -> Result<(), Fail> {
+    let mut stores = FakeStores::new(rt.alloc());
+    answer_in(&rt, rt.alloc(), &mut stores, "", PUT_ONE.as_bytes())?;
+    answer_in(&rt, rt.alloc(), &mut stores, " --brief", b"")?;
+    assert!(rt; stores.asked.as_str() == "open f\nclose\nopen f\nclose\n");
+    Ok(())
+}
