@@ -20,7 +20,8 @@ use crate::reporting::report;
 use crate::running::run_to;
 use crate::stores::{SessionStores, fault_of};
 use byte_streams::{
-    BufferedSource, Destination, FallibleBuffer, FallibleReader, FallibleWriter, WriteFault, write_whole,
+    BufferedSource, Destination, FallibleBuffer, FallibleReader, FallibleWriter, WriteFault,
+    write_whole,
 };
 use cmdline::{Request, request_of};
 use durable_serving::open_durably;
@@ -53,9 +54,7 @@ where
     K: SessionStores,
 {
     let mut disk = SystemDisk { rt };
-    ExitCode::from(status(
-        rt, rt, &mut disk, stores, &mut input, &mut out, &mut errors,
-    ))
+    ExitCode::from(status(rt, rt, &mut disk, stores, &mut input, &mut out, &mut errors))
 }
 
 /// Does what the command line asks for, and returns the exit status: 0 where it is done, 1 where it is
@@ -172,7 +171,14 @@ fn error_text(error: &io::Error) -> &'static str {
 }
 
 /// Does a request.
-fn answer<T: Threads + Wait + Sync, D: Disk, K: SessionStores, I: Read, W: Destination, E: Destination>(
+fn answer<
+    T: Threads + Wait + Sync,
+    D: Disk,
+    K: SessionStores,
+    I: Read,
+    W: Destination,
+    E: Destination,
+>(
     threads: &T,
     alloc: Global,
     disk: &mut D,
