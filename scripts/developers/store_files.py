@@ -41,8 +41,12 @@ class Rows(NamedTuple):
 
     storage: dict
     programs: dict
-    session: tuple
+    session: tuple | None
     answer: bytes | None
+
+    def are_none(self):
+        """Whether there is no row, as before a first session has begun."""
+        return not self.storage and not self.programs and self.session is None and self.answer is None
 
 
 def log_of(path):
@@ -144,11 +148,10 @@ def rows_of(path):
     try:
         check = "; ".join(line for line, in base.execute("PRAGMA integrity_check"))
         storage, programs = (dict(base.execute(f"SELECT * FROM {table}")) for table in ("storage", "program"))
-        sessions_there = base.execute("SELECT * FROM session").fetchall()
+        session = base.execute("SELECT * FROM session ORDER BY id").fetchone()
         answers = [line + body for _, line, body in base.execute("SELECT * FROM answer ORDER BY id")]
     finally:
         base.close()
-    (session,) = sessions_there
     return Rows(storage, programs, session, b"".join(answers) if answers else None), check
 
 
