@@ -6,9 +6,11 @@ ghost use Rattle.sqlite_wal.specs.Reads.{AreClean, OnlyReads};
 ghost use Rattle.sqlite_wal.specs.Files.{IsHuge};
 ghost use Rattle.sqlite_wal.specs.PageSize.{bytes_of};
 ghost use Rattle.sqlite_pool.specs.Opening.{IsBlankFile};
+ghost use Rattle.sqlite_trees.specs.View.{IsClean};
 ghost use Rattle.sqlite_store.specs.FileStore.{is_shielded, state, view};
 ghost use Rattle.sqlite_store.specs.Unopened.{Creates, IsUnstarted, StopsCreating, files_of, image, state_of};
 ghost use Rattle.session_disk.specs.Sessions.{page_size, BeginsWell, IsSession, IsSessionFile};
+ghost use Rattle.session_file.specs.Opening.{IsFresh};
 ghost use Rattle.session_disk.specs.Opening.{FailsToOpen, IsCleanLeft, IsFullNow, IsOpened, IsUnopened, LeavesAs, LeavesFiles, MayFail, faults_of, image_of};
 
 use crate::fault::{OpenFault, probe_fault, store_fault};
@@ -189,6 +191,7 @@ pub fn open_files<D: Disk>(
     requires log { IsTrue (D.Disk.is_usable files.log) }
     requires db { IsTrue (D.Disk.is_usable files.db) }
     ensures ok { IfOk result (λ store. IsTrue (view store).is_clean → IsOpened (image_of D.Disk files) store) }
+    ensures fresh { IfOk result (λ store. IsClean (view store) → IsFresh (view store)) }
     ensures left { IfOk result (λ store. IsTrue (view store).is_clean → (now : Image) → (state store).may_leave now → ∥ IsSessionFile now ∥₁) }
     ensures honest { IfOk result (λ store. IsTrue (view store).is_clean → AreClean D.Disk files.log files.db) }
     ensures guarded { IfOk result (λ store. IsTrue (view store).is_clean → is_shielded store) }

@@ -4,8 +4,10 @@ ghost use Rattle.std.specs.Prelude.{◌≡◌, IfOk, IsTrue};
 ghost use Rattle.std_io.specs.IoError.{error_kind};
 ghost use Rattle.sqlite_wal.specs.Files.{image_at};
 ghost use Rattle.sqlite_wal.specs.Recovery.{Image, IsIgnored};
+ghost use Rattle.sqlite_trees.specs.View.{IsClean};
 ghost use Rattle.sqlite_store.specs.FileStore.{is_shielded, state, view};
 ghost use Rattle.session_disk.specs.Faults.{path_fault, system_fault, told_fault};
+ghost use Rattle.session_file.specs.Opening.{IsFresh};
 ghost use Rattle.session_disk.specs.Opening.{IsOpened};
 ghost use Rattle.session_disk.specs.Sessions.{IsSessionFile};
 
@@ -50,6 +52,7 @@ pub fn open_path<S: Start>(
     start: S,
 ) -> Result<FileStore<FileFrom<S>>, OpenFault>
     ensures ok { IfOk result (λ store. IsTrue (view store).is_clean → IsOpened (image_at S.Start) store) }
+    ensures fresh { IfOk result (λ store. IsClean (view store) → IsFresh (view store)) }
     ensures left { IfOk result (λ store. IsTrue (view store).is_clean → (now : Image) → (state store).may_leave now → ∥ IsSessionFile now ∥₁) }
     ensures guarded { IfOk result (λ store. IsTrue (view store).is_clean → is_shielded store) }
 {

@@ -1,5 +1,7 @@
 use Rattle.std.proofs.Common.{sym, subst}
 use Rattle.sqlite_pool.specs.Opening.{IsBlankFile}
+use Rattle.sqlite_store.specs.FileStore.{view}
+use Rattle.sqlite_trees.proofs.Doubt.{clean_of}
 use Rattle.session_disk.specs.Sessions.{page_size}
 use Rattle.session_disk.specs.Opening.{IsOpened}
 use Rattle.session_disk.proofs.Adoptions.{if_err, if_ok}
@@ -60,3 +62,9 @@ returns-else-is_new-clause-cause g c = if_err c.adopt_files.result (λ e cause c
 pub returns-else-is_new-clause-unharmed : goal.returns-else-is_new-clause-unharmed
 returns-else-is_new-clause-unharmed g c = if_err c.adopt_files.result (λ e leaves clean.
     leaves_later g.D.Disk c.args.files c.is_blank.new.files c.is_blank.ensures.log c.is_blank.ensures.db e.1 (leaves clean)) c.adopt_files.ensures.unharmed
+
+pub returns-then-is_new-clause-fresh : goal.returns-then-is_new-clause-fresh
+returns-then-is_new-clause-fresh g c = if_ok c.make_files.result (λ store opened clean. (opened (clean_of (view store).is_clean clean)).fresh) c.make_files.ensures.ok
+
+pub returns-else-is_new-clause-fresh : goal.returns-else-is_new-clause-fresh
+returns-else-is_new-clause-fresh g c = if_ok c.adopt_files.result (λ store opened clean. (opened (clean_of (view store).is_clean clean)).fresh) c.adopt_files.ensures.ok
