@@ -20,7 +20,7 @@ pub trait SessionStores {
 
     /// Opens the store of a session at a path; where nothing is there one is made, with no rows.
     fn open_store(&mut self, path: &str) -> Result<Self::Kept, OpenFault>
-        ensures fresh { IfOk result (λ store. IsClean (Kept.Store.view store) → IsFresh (Kept.Store.view store)) };
+        ensures fresh { IfOk result (λ store. IsClean (Self.Kept.view store) → IsFresh (Self.Kept.view store)) };
 
     /// Closes a store. What was committed stands in its file alone where this is done, and else in its log too.
     fn close_store(&mut self, store: Self::Kept) -> Result<(), StoreError>;
