@@ -1,4 +1,4 @@
-//! Stores of sessions in memory. Their two files stay between sessions, and one call on either file can fail, or all from it on.
+//! Stores of sessions in memory. Their two files stay between sessions, and one call on the log can fail, or all from it on.
 
 ghost use Rattle.std.specs.Prelude.{◌≡◌, ◌+◌, ◌&&◌, not, false};
 ghost use Rattle.sqlite_disk.specs.Disk.{CountsFault};
@@ -31,8 +31,8 @@ impl Flaw {
 
 /// A file in memory with a call that fails.
 #[derive(Drop)]
-pub struct Flawed {
-    inner: Memory,
+pub struct Flawed<D: Disk> {
+    inner: D,
     flaw: Flaw,
     refused: u64,
     sync_refused: bool,
@@ -54,30 +54,30 @@ fn spend(flaw: &mut Flaw, refused: &mut u64) -> io::Result<()>
     Ok(())
 }
 
-impl Disk for Flawed {
-    ghost seen = { λ f. Memory.Disk.seen f.inner };
+impl<D: Disk> Disk for Flawed<D> {
+    ghost seen = { λ f. D.Disk.seen f.inner };
 
-    ghost may_leave = { λ f. Memory.Disk.may_leave f.inner };
+    ghost may_leave = { λ f. D.Disk.may_leave f.inner };
 
-    ghost is_usable = { λ f. Memory.Disk.is_usable f.inner && not f.sync_refused };
+    ghost is_usable = { λ f. D.Disk.is_usable f.inner && not f.sync_refused };
 
-    ghost faults = { λ f. Memory.Disk.faults f.inner + f.refused };
+    ghost faults = { λ f. D.Disk.faults f.inner + f.refused };
 
-    ghost tally_of = { λ f. Memory.Disk.tally_of f.inner };
+    ghost tally_of = { λ f. D.Disk.tally_of f.inner };
 
-    ghost is_rotten = { λ f. Memory.Disk.is_rotten f.inner };
+    ghost is_rotten = { λ f. D.Disk.is_rotten f.inner };
 
-    ghost key_of = { λ f. Memory.Disk.key_of f.inner };
+    ghost key_of = { λ f. D.Disk.key_of f.inner };
 
-    ghost is_clean = { λ f. Memory.Disk.is_clean f.inner };
+    ghost is_clean = { λ f. D.Disk.is_clean f.inner };
 
-    ghost is_fair = { λ f. Memory.Disk.is_fair f.inner };
+    ghost is_fair = { λ f. D.Disk.is_fair f.inner };
 
-    ghost fair_if_clean = { λ f. Memory.Disk.fair_if_clean f.inner };
+    ghost fair_if_clean = { λ f. D.Disk.fair_if_clean f.inner };
 
-    ghost seen_may_stay = { λ f. Memory.Disk.seen_may_stay f.inner };
+    ghost seen_may_stay = { λ f. D.Disk.seen_may_stay f.inner };
 
-    ghost is_mixing = { λ f. Memory.Disk.is_mixing f.inner };
+    ghost is_mixing = { λ f. D.Disk.is_mixing f.inner };
 
     fn mixes(&self) -> bool {
         self.inner.mixes()
@@ -130,7 +130,7 @@ impl Disk for Flawed {
 }
 
 /// A file of these bytes, all of them synced.
-fn file_of(alloc: Global, bytes: &[u8], flaw: Flaw) -> io::Result<Flawed> {
+fn file_of(alloc: Global, bytes: &[u8], flaw: Flaw) -> io::Result<Flawed<Memory>> {
     let mut inner = Memory::new(alloc);
     inner.write_at(0, bytes)?;
     inner.sync()?;
@@ -168,10 +168,10 @@ pub struct FakeStores {
     pub fault: Option<OpenFault>,
     /// The call on the log that fails.
     pub log_flaw: Flaw,
-    /// The call on the database file that fails.
-    pub db_flaw: Flaw,
     /// How many calls failed in the last session.
     pub refused: u64,
+    /// How many calls there were on the log in a session where none failed.
+    pub log_calls: u64,
     /// How its sessions end.
     pub end: End,
 }
@@ -186,8 +186,8 @@ impl FakeStores {
             db: Vec::new(alloc),
             fault: None,
             log_flaw: Flaw::NONE,
-            db_flaw: Flaw::NONE,
             refused: 0,
+            log_calls: 0,
             end: End::Closed,
         }
     }
@@ -209,21 +209,22 @@ impl FakeStores {
     }
 
     /// The two files.
-    fn files(&self) -> io::Result<Files<Flawed>> {
+    fn files(&self) -> io::Result<Files<Flawed<Memory>>> {
         Ok(Files {
             log: file_of(self.alloc, self.log.as_slice(), self.log_flaw)?,
-            db: file_of(self.alloc, self.db.as_slice(), self.db_flaw)?,
+            db: file_of(self.alloc, self.db.as_slice(), Flaw::NONE)?,
         })
     }
 
     /// Takes the two files back.
-    fn take(&mut self, files: Files<Flawed>) -> Result<(), AllocError> {
+    fn take(&mut self, files: Files<Flawed<Memory>>) -> Result<(), AllocError> {
         let mut files = files;
         if self.end == End::Cut {
             files.log.inner.crash();
             files.db.inner.crash();
         }
-        self.refused = files.log.refused.saturating_add(files.db.refused);
+        self.log_calls = u64::MAX.wrapping_sub(files.log.flaw.calls_left);
+        self.refused = files.log.refused;
         self.log = files.log.inner.bytes().to_vec(self.alloc)?;
         self.db = files.db.inner.bytes().to_vec(self.alloc)?;
         Ok(())
@@ -234,9 +235,9 @@ impl FakeStores {
 const SEED: u64 = 7;
 
 impl SessionStores for FakeStores {
-    type Kept = FileStore<Flawed>;
+    type Kept = FileStore<Flawed<Memory>>;
 
-    fn open_store(&mut self, path: &str) -> Result<FileStore<Flawed>, OpenFault> {
+    fn open_store(&mut self, path: &str) -> Result<FileStore<Flawed<Memory>>, OpenFault> {
         if self.note("open ", path).is_err() {
             return Err(OpenFault::Memory);
         }
@@ -258,7 +259,7 @@ impl SessionStores for FakeStores {
         }
     }
 
-    fn close_store(&mut self, store: FileStore<Flawed>) -> Result<(), StoreError> {
+    fn close_store(&mut self, store: FileStore<Flawed<Memory>>) -> Result<(), StoreError> {
         let (files, closed) = match self.end {
             End::Closed => match close_files(store) {
                 Ok(files) => (files, Ok(())),

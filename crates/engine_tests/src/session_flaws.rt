@@ -203,6 +203,15 @@ impl Behind {
 }
 
 impl Change {
+    /// What the session is behind so many times.
+    fn state(&self, done: usize) -> &Behind {
+        match done {
+            0 => &self.states[0],
+            1 => &self.states[1],
+            _ => &self.states[2],
+        }
+    }
+
     /// What is written for an outcome.
     fn text_of(&self, alloc: Global, letters: &str) -> Result<String, AllocError> {
         let mut text = String::new(alloc);
@@ -210,11 +219,11 @@ impl Change {
         for letter in letters.as_bytes() {
             match letter {
                 b'A' => {
-                    text.push_str(self.answers[done])?;
-                    done += 1;
+                    text.push_str(self.answers.get(done).unwrap_or(&""))?;
+                    done = 2.min(done.wrapping_add(1));
                 }
                 b'F' => text.push_str(FAILED)?,
-                _ => self.states[done].push_state(alloc, &mut text)?,
+                _ => self.state(done).push_state(alloc, &mut text)?,
             }
         }
         Ok(text)
@@ -224,8 +233,9 @@ impl Change {
     fn is_behind(&self, alloc: Global, next: &Answer, times: &[usize]) -> Result<bool, AllocError> {
         for done in times {
             let mut text = String::new(alloc);
-            self.states[*done].push_state(alloc, &mut text)?;
-            text.push_str(self.states[*done].last)?;
+            let state = self.state(*done);
+            state.push_state(alloc, &mut text)?;
+            text.push_str(state.last)?;
             if next.is(0, text.as_str(), "") {
                 return Ok(true);
             }
@@ -233,34 +243,31 @@ impl Change {
         Ok(false)
     }
 
-    /// Whether a session and the next one are as the rules have it. A change that failed is done the second time where only
-    /// one call fails.
-    fn is_right(
+    /// The place of the outcome of a session and the next one; `None` where they are not as the rules have it. A change that
+    /// failed is done the second time where only one call fails.
+    fn outcome_of(
         &self,
         alloc: Global,
         is_lasting: bool,
         answer: &Answer,
         next: &Answer,
-    ) -> Result<bool, AllocError> {
-        for (letters, times) in OUTCOMES {
+    ) -> Result<Option<usize>, AllocError> {
+        for (place, (letters, times)) in OUTCOMES.iter().enumerate() {
             let text = self.text_of(alloc, letters)?;
             let is_whole = letters.ends_with("S");
             let has_end = answer.is(1, text.as_str(), SHUT);
             let has_no_end = is_whole && answer.is(0, text.as_str(), "");
             let may_be = is_lasting || *letters != "FFS";
             if may_be && (has_end || has_no_end) && self.is_behind(alloc, next, times)? {
-                return Ok(true);
+                return Ok(Some(place));
             }
         }
-        Ok(false)
+        Ok(None)
     }
 }
 
-/// Which file has a call that fails, and whether all behind it fail, too.
-const FLAWS: &[(bool, bool)] = &[(true, false), (true, true), (false, false), (false, true)];
-
-/// The most calls on a file of which each fails in turn.
-const MOST_CALLS: u64 = 500;
+/// The most calls on a log of which each fails in turn.
+const MOST_CALLS: u64 = 100;
 
 /// The files behind what was done before a change.
 fn stores_before<R: Threads + Wait + Sync>(
@@ -278,70 +285,115 @@ fn stores_before<R: Threads + Wait + Sync>(
     Ok(stores)
 }
 
-/// Asserts that a change is right wherever calls fail, and that they failed at each place.
+/// How many calls on the log an open makes of files that are there; none of files that are made.
+fn calls_to_open<R: Threads + Wait + Sync>(
+    rt: &R,
+    alloc: Global,
+    before: &FakeStores,
+) -> Result<u64, AllocError> {
+    if before.db.is_empty() {
+        return Ok(0);
+    }
+    let mut stores = before.copy()?;
+    stores.end = End::Killed;
+    answer_in(rt, alloc, &mut stores, "", b"")?;
+    Ok(stores.log_calls)
+}
+
+/// Notes an outcome.
+fn note(seen: &mut [bool; 7], place: usize) {
+    if let Some(is_seen) = seen.get_mut(place) {
+        *is_seen = true;
+    }
+}
+
+/// Asserts that a change is right wherever a call on the log fails, up to the first or the second time that it is answered,
+/// and notes its outcomes.
 fn assert_change<R: Threads + Wait + Sync + Abort>(
     rt: &R,
     alloc: Global,
     change: &Change,
     end: End,
-    (is_log, is_lasting): (bool, bool),
+    is_lasting: bool,
+    is_first: bool,
+    seen: &mut [bool; 7],
 ) -> Result<(), Fail> {
     let before = stores_before(rt, alloc, change, end)?;
     let turn = (change.request, "");
     let input = input_of(alloc, &[turn, turn, ("state\n", "")])?;
-    for calls_left in 0..MOST_CALLS {
+    let opening = calls_to_open(rt, alloc, &before)?;
+    for call in 0..MOST_CALLS {
         let mut stores = before.copy()?;
-        let flaw = Flaw {
-            calls_left,
+        stores.log_flaw = Flaw {
+            calls_left: opening.wrapping_add(call),
             is_lasting,
         };
-        if is_log {
-            stores.log_flaw = flaw;
-        } else {
-            stores.db_flaw = flaw;
-        }
         let answer = answer_in(rt, alloc, &mut stores, "", input.as_slice())?;
         if stores.refused == 0 {
             return Ok(());
         }
-        let mut stores = stores.copy()?;
-        let next = answer_in(rt, alloc, &mut stores, "", b"state\nlast\n")?;
-        let is_right = change.is_right(alloc, is_lasting, &answer, &next)?;
-        assert!(rt;
-            is_right,
-            "{} {is_log} {is_lasting} {calls_left}",
-            change.request
-        );
+        let next = answer_in(rt, alloc, &mut stores.copy()?, "", b"state\nlast\n")?;
+        match change.outcome_of(alloc, is_lasting, &answer, &next)? {
+            Some(place) => note(seen, place),
+            None => assert!(rt; false, "{}, call {call}", change.request),
+        }
+        if is_first
+            && answer
+                .out
+                .as_slice()
+                .starts_with(change.answers[0].as_bytes())
+        {
+            return Ok(());
+        }
     }
     assert!(rt; false, "more calls than {MOST_CALLS}");
     Ok(())
 }
 
-/// Asserts the same of all changes, where the processes end so.
+/// Asserts the same of all changes, and that they had these outcomes.
 fn assert_changes<R: Threads + Wait + Sync + Abort>(
     rt: &R,
     alloc: Global,
     end: End,
+    is_lasting: bool,
+    outcomes: [bool; 7],
 ) -> Result<(), Fail> {
+    let mut seen = [false; 7];
     for change in CHANGES {
-        for flaw in FLAWS {
-            assert_change(rt, alloc, change, end, *flaw)?;
-        }
+        assert_change(rt, alloc, change, end, is_lasting, true, &mut seen)?;
     }
+    assert!(rt; seen == outcomes, "{seen:?}");
     Ok(())
 }
 
 #[test]
-fn calls_that_fail_before_a_close(rt: HostRuntime) -> Result<(), Fail> {
-    assert_changes(&rt, rt.alloc(), End::Closed)
+fn a_call_fails_before_a_kill(rt: HostRuntime) -> Result<(), Fail> {
+    let outcomes = [false, true, true, false, true, false, false];
+    assert_changes(&rt, rt.alloc(), End::Killed, false, outcomes)
 }
 
 #[test]
-fn calls_that_fail_before_a_kill(rt: HostRuntime) -> Result<(), Fail> {
-    assert_changes(&rt, rt.alloc(), End::Killed)
+fn calls_fail_up_to_a_power_cut(rt: HostRuntime) -> Result<(), Fail> {
+    let outcomes = [false, false, true, true, true, false, false];
+    assert_changes(&rt, rt.alloc(), End::Cut, true, outcomes)
 }
 
 #[test]
-fn calls_that_fail_before_a_power_cut(rt: HostRuntime) -> Result<(), Fail> {
-    assert_changes(&rt, rt.alloc(), End::Cut)
+fn calls_fail_up_to_a_close(rt: HostRuntime) -> Result<(), Fail> {
+    let mut seen = [false; 7];
+    let refused = &CHANGES[2];
+    assert_change(
+        &rt,
+        rt.alloc(),
+        refused,
+        End::Closed,
+        true,
+        false,
+        &mut seen,
+    )?;
+    assert!(rt;
+        seen == [true, false, true, true, true, true, false],
+        "{seen:?}"
+    );
+    Ok(())
 }
