@@ -52,12 +52,14 @@ class Settings(NamedTuple):
     digest: bool = False
     brief: bool = False
     workers: int | None = None
+    store: str | None = None  # the file that it is kept in
 
     def words(self):
         """The words of the command line."""
         words = ["chain"] + (["--workers", str(self.workers)] if self.workers else [])
         words += ["--frame-limit", str(self.frame_limit)] if self.frame_limit != 1 << 26 else []
         words += ["--frame-gas", str(self.frame_gas)] if self.frame_gas is not None else []
+        words += ["--store", self.store] if self.store is not None else []
         return words + ["--digest"] * self.digest + ["--brief"] * self.brief
 
 
