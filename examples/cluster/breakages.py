@@ -13,12 +13,15 @@ import audits
 import etcd
 import ledger
 import program
-from clusters import HERE, MEMBERS, changed_program, say
+from clusters import HERE, MEMBERS, WITH_FILES, changed_program, say
 
 CALLS, PAUSE = 20, 0.3
 SECONDS_PARTED = 6
+KILLS = 3  # of a node with a file, one behind the other
+SECONDS_ALIVE = 3  # at most, before it is killed again
 SMALL_DISK = 'mount -t tmpfs -o size=64k none "$0" && exec "$@"'  # a dump has more
 SECONDS_A_STRANGER = 120
+FROM_A_FILE = "goes on from its file"
 FAKETIME = Path("/usr/lib/x86_64-linux-gnu/faketime/libfaketime.so.1")  # of Debian's package libfaketime
 
 
@@ -72,8 +75,15 @@ class Trial:
         self.cluster.append(transfers.transfers(self.random, CALLS))
         self.cluster.settle([name])
 
+    def without_a_file(self):
+        """A node that begins again with a dump."""
+        return self.random.choice([name for name in self.names if name not in WITH_FILES])
+
     def count_of(self, name, text):
         return self.cluster.log(name).count(text)
+
+    def told_last(self, name, text):
+        return [line for line in self.cluster.log(name).splitlines() if text in line][-1].split(" ", 2)[2]
 
     def stop(self, name, seconds):
         """Stops a process for a while."""
@@ -123,6 +133,35 @@ def node_killed(trial):
     time.sleep(trial.random.random() * 3)
     trial.cluster.node(name)
     return f"{name} by kill -9, and started again"
+
+
+def node_with_a_file_killed(trial):
+    """Its folder with the dumps goes too: the file has to do."""
+    name, cluster = trial.random.choice(WITH_FILES), trial.cluster
+    before = trial.count_of(name, FROM_A_FILE)
+    for _ in range(KILLS):
+        cluster.kill(name)
+        shutil.rmtree(cluster.folder / name, ignore_errors=True)
+        cluster.node(name)
+        time.sleep(trial.random.random() * SECONDS_ALIVE)
+    cluster.kill(name)
+    trial.again(name)
+    came = trial.count_of(name, FROM_A_FILE) - before
+    if not came or "takes the dump" in cluster.log(name):
+        raise ValueError(f"{name} did not go by its file")
+    return f"{name} {KILLS + 1} times by kill -9, and started again without its folder; it went on from its file {came} times"
+
+
+def engine_with_a_file_killed(trial):
+    name = trial.random.choice(WITH_FILES)
+    before = trial.count_of(name, FROM_A_FILE)
+    os.kill(trial.engine(name), signal.SIGKILL)
+    trial.cluster.kills.append("engine")
+    trial.cluster.append(transfers.transfers(trial.random, CALLS))
+    trial.cluster.settle([name])
+    if trial.count_of(name, FROM_A_FILE) == before:
+        raise ValueError(f"{name} did not go by its file")
+    return f"that of {name} by kill -9, and it {trial.told_last(name, FROM_A_FILE)}"
 
 
 def all_nodes_killed(trial):
@@ -239,7 +278,7 @@ def late_node(trial):
 
 
 def damaged_dump(trial):
-    name = trial.node()
+    name = trial.without_a_file()
     dumps = sorted((trial.cluster.folder / name).glob("*.dump"))
     if not dumps:
         return f"{name} has none yet"
@@ -270,6 +309,24 @@ def full_disk(trial):
     trial.cluster.kill(name)
     trial.cluster.node(name)
     return f"64 KiB for {told.split(' ', 1)[1]}, and it went on; it is started again on the other disk"
+
+
+def full_disk_of_a_file(trial):
+    """The node has to stop by name."""
+    place = trial.cluster.folder / "small-file"
+    place.mkdir(exist_ok=True)
+    told = trial.stranger("full", "--store", place / "file", under=["unshare", "-m", "sh", "-c", SMALL_DISK, place])
+    if "failed store Full 8" not in told.splitlines()[-1]:
+        raise ValueError(f"the node said: {told.splitlines()[-1]}")
+    return f"64 KiB; a node from nothing said: {told.splitlines()[-1].split(' ', 1)[1]}"
+
+
+def two_nodes_on_one_file(trial):
+    """The second one has to stop by name."""
+    told = trial.stranger("twin", "--store", trial.cluster.folder / f"{trial.random.choice(WITH_FILES)}.store")
+    if "store Busy 1" not in told.splitlines()[-1]:
+        raise ValueError(f"the node said: {told.splitlines()[-1]}")
+    return told.splitlines()[-1].split(" ", 1)[1]
 
 
 def clock_wrong(trial):
@@ -354,8 +411,8 @@ def controls(trial):
 
 
 FAULTS = [
-    node_killed, all_nodes_killed, engine_killed, engine_stopped, leader_killed, leader_stopped, leader_parted, node_parted,
-    proposer_parted, proposer_killed, proposer_dies_between_parts_and_block, long_block, strange_blocks, compaction, pruning, late_node,
-    damaged_dump, full_disk, clock_wrong, two_nodes_of_one_name, two_nodes_in_one_folder,
-    member_replaced,
+    node_killed, node_with_a_file_killed, all_nodes_killed, engine_killed, engine_with_a_file_killed, engine_stopped, leader_killed,
+    leader_stopped, leader_parted, node_parted, proposer_parted, proposer_killed, proposer_dies_between_parts_and_block, long_block,
+    strange_blocks, compaction, pruning, late_node, damaged_dump, full_disk, full_disk_of_a_file, clock_wrong, two_nodes_of_one_name,
+    two_nodes_in_one_folder, two_nodes_on_one_file, member_replaced,
 ]

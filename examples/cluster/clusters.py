@@ -21,6 +21,7 @@ from engines import BUILT, C_LIBRARY, PR_SET_PDEATHSIG
 
 HERE = Path(__file__).resolve().parent
 MEMBERS = 3
+WITH_FILES = ("n2", "n3")  # nodes that keep their session in a file
 SECONDS_FOR_ETCD = 300  # a machine with much else to do takes its time
 STARTED = time.monotonic()
 HEIGHT = re.compile(r"height (\d+)")
@@ -53,10 +54,12 @@ def changed_program(path):
     return path
 
 
-def engines_known():
-    """How the four nodes run blocks: the last one by the library for C, where it is built."""
+def engines_known(folder=Path()):
+    """How the four nodes run blocks: two have a file, and the last one goes by the library for C, where it is built."""
     library = os.environ.get("RVSTM_LIBRARY") or (str(BUILT) if BUILT.is_file() else "")
-    return {"n1": [], "n2": ["--workers", "2"], "n3": ["--workers", "4"], **({"n4": ["--library", library]} if library else {})}
+    files = {name: ["--store", folder / f"{name}.store"] for name in WITH_FILES}
+    known = {"n1": [], "n2": ["--workers", "2", *files["n2"]], "n3": ["--workers", "4", *files["n3"]]}
+    return {**known, **({"n4": ["--library", library]} if library else {})}
 
 
 class Cluster:
@@ -65,7 +68,7 @@ class Cluster:
             raise ValueError("there is no etcd: Debian's package etcd-server has it")
         self.folder, self.random, self.network = Path(folder), random.Random(1), network or networks.Loopback()
         self.folder.mkdir(parents=True)
-        self.all, self.logs, self.kills, self.kinds = {}, {}, [], engines_known()
+        self.all, self.logs, self.kills, self.kinds = {}, {}, [], engines_known(self.folder)
         ports = free_ports(2 * MEMBERS)
         self.clients = [f"http://{self.network.address(f'm{number}')}:{port}" for number, port in enumerate(ports[:MEMBERS])]
         self.peers = [f"http://{self.network.address(f'm{number}')}:{port}" for number, port in enumerate(ports[MEMBERS:])]

@@ -41,7 +41,7 @@ class Process(sessions.Session):
     def __init__(self, settings):
         pipe, node = subprocess.PIPE, os.getpid()
         words = [program.rvstm(), *settings.words()]
-        self.process = subprocess.Popen(words, stdin=pipe, stdout=pipe, preexec_fn=lambda: end_with_node(node))
+        self.process = subprocess.Popen(words, stdin=pipe, stdout=pipe, stderr=pipe, preexec_fn=lambda: end_with_node(node))
         self.pid, self.until = self.process.pid, None
         self.patience = SECONDS_BESIDE + (settings.frame_gas or 0) / GAS_A_SECOND
         threading.Thread(target=self.watch, daemon=True).start()
@@ -56,18 +56,24 @@ class Process(sessions.Session):
         self.until = time.monotonic() + self.patience
         try:
             answer = super().ask(request)
+            if answer is None:
+                raise Ended(self.told_at_its_end() or "the process died")
         except (OSError, ValueError) as error:
             raise Ended(str(error)) from error
         finally:
             self.until = None
-        if answer is None:
-            raise Ended("the process died")
         return answer
+
+    def told_at_its_end(self):
+        """What stands on standard error, as why its file is refused."""
+        self.process.wait()
+        return self.process.stderr.read().decode(errors="backslashreplace").strip()
 
     def close(self):
         self.process.kill()
         self.process.wait()
         self.process.stdout.close()
+        self.process.stderr.close()
         try:
             self.process.stdin.close()
         except BrokenPipeError:  # bytes of a request that the process did not take

@@ -231,6 +231,26 @@ class Log:
         return pairs
 
 
+def revision_at(client, height, name):
+    """The revision of the block of a height, by the digests of a node and by the log; None where it, or what follows, is pruned."""
+    known, revision = pruned(client)
+    if height <= known:
+        return revision if height == known else None
+    wanted = keys(at(DIGESTS, name, known), at(DIGESTS, name, height + 1), sort_target="KEY", sort_order="DESCEND", limit=1)
+    _, own = client.range(wanted)
+    if own:
+        known, revision = int(PLACE.fullmatch(own[0].key)[2]), int(own[0].value.split()[1])
+    elif not known:
+        known, revision = int(json.loads(client.get(SETTINGS).value)["as"] == "frame"), client.get(GENESIS).made
+    if height == known:
+        return revision
+    behind_it = {"min_create_revision": revision + 1, "sort_target": "CREATE", "sort_order": "ASCEND", "limit": height - known}
+    _, blocks = client.range(below(BLOCKS, keys_only=True, **behind_it))
+    if len(blocks) < height - known:
+        raise ValueError(f"the session is at height {height}, and the log ends at {known + len(blocks)}: it is another log, or an older one")
+    return blocks[-1].made
+
+
 def programs_until(client, revision):
     """The files of all programs that were put until a revision."""
     _, pairs = client.range(below(PROGRAMS, keys_only=True, max_create_revision=revision, sort_target="CREATE", sort_order="ASCEND"))

@@ -27,6 +27,8 @@ KEPT_ANSWERS = 64
 HEIGHTS_AT_ONCE = 32  # whose digests are published by one request, where the node is behind
 HEIGHTS_BETWEEN_LOOKS = 8
 MOST_DEATHS = 3
+MOST_TRIES, SECONDS_BETWEEN_TRIES = 3, 1  # of a request that the engine's file does not take
+NEVER_RAN = b"refused frame NoFrame 7\n"  # is what `last` answers of no frame
 SECONDS_FOR_A_DUMP = 60
 QUOTA_TOLD = 0.8  # the share of etcd's quota from which on it is told
 
@@ -45,9 +47,9 @@ class Counts:
 
 
 class Node:
-    def __init__(self, name, urls, folder, workers=None, library=None, alike=2, quota=2 << 30):
+    def __init__(self, name, urls, folder, workers=None, library=None, alike=2, quota=2 << 30, store=None):
         self.name, self.urls, self.folder, self.alike, self.quota = name, urls, Path(folder), alike, quota
-        self.workers, self.library = workers, library
+        self.workers, self.library, self.store = workers, library, store
         self.client, self.engine, self.busy = etcd.Etcd(urls, math.inf), None, threading.Lock()
         self.mark, self.settings, self.told = Mark(), None, {}
         self.pending, self.values, self.answers = [], {}, collections.OrderedDict()
@@ -62,11 +64,21 @@ class Node:
 
     def ask(self, word, *fields, body=b""):
         """The answer of the engine, one that all machines give."""
-        with self.busy:
-            answer = self.engine.ask(Request(word, fields, body))
+        answer = self.tried(Request(word, fields, body))
         if answer.kind == b"failed":
             raise engines.Ended(answer.line.decode().strip())
         return answer
+
+    def tried(self, request):
+        """The answer of the engine. What its file does not take is handed in again, some times."""
+        for _ in range(MOST_TRIES):
+            with self.busy:
+                answer = self.engine.ask(request)
+            if not answer.line.startswith(b"failed store "):
+                return answer
+            self.say(f"height {self.mark.height}: {request.word.decode()} is answered {answer.line.decode().strip()}")
+            time.sleep(SECONDS_BETWEEN_TRIES)
+        raise Stop(f"the file {self.store} does not take what follows height {self.mark.height}: {answer.line.decode().strip()}")
 
     def need(self, word, *fields, body=b""):
         """The answer to a request that has to be done."""
@@ -76,12 +88,37 @@ class Node:
         return answer.body
 
     def begin(self):
-        """Starts an engine, and brings it to where it can go on: by a dump, or from the log's begin. A session that keeps its own
-        storage would go on from its height, and take the revision from the digests."""
+        """Starts an engine, and brings it to where it can go on: by its file, by a dump, or from the log's begin."""
         with self.busy:
             if self.engine:
                 self.engine.close()
             self.engine = engines.engine(self.settings, self.library)
+        kept = self.kept() if self.store else None
+        self.go_on(kept) if kept else self.begin_anew()
+        self.looked = self.mark.height
+        self.say(f"begins at height {self.mark.height}, engine {self.engine.pid or 'in this process'}")
+
+    def kept(self):
+        """Where the session in the file is; None where it has run no block, or where the log does not lead on from there."""
+        told = sessions.state_of(self.need(b"state"))
+        height = int(told[b"height"])
+        revision = ledger.revision_at(self.client, height, self.name) if height else None
+        return revision and Mark(height, self.digest_told(told), revision)
+
+    def go_on(self, mark):
+        """Goes on from the file. What it ran last may not have been published: the node died, or the engine before it answered."""
+        self.mark, answer = mark, self.ask(b"last")
+        self.say(f"goes on from its file at height {mark.height}")
+        if answer.line != NEVER_RAN:
+            self.answers[mark.height] = answer
+        if mark.height not in self.values:
+            self.digest_is_to_be_published()
+        self.flush()
+        if mark.height % self.told["every"] == 0:
+            self.make_dump()
+
+    def begin_anew(self):
+        """Begins with a dump, or with the first entry of the log."""
         self.mark, dump = self.newest_dump()
         gone, revision = ledger.pruned(self.client)
         if self.mark.revision < revision:
@@ -90,8 +127,7 @@ class Node:
             self.ask(b"program", body=file)
         if dump is not None:
             self.need(b"begin", b"%d" % self.mark.height, self.mark.digest.encode(), body=dump)
-        self.pending, self.values, self.looked = [], {}, self.mark.height
-        self.say(f"begins at height {self.mark.height}, engine {self.engine.pid or 'in this process'}")
+        self.pending, self.values = [], {}
 
     # ---- dumps
 
@@ -186,8 +222,7 @@ class Node:
         if len(self.answers) > KEPT_ANSWERS:
             self.answers.popitem(last=False)
         self.count(block or b"", answer, times, block is None)
-        self.pending.append((ledger.at(DIGESTS, self.name, self.mark.height), f"{self.mark.digest} {pair.made}"))
-        self.values[self.mark.height] = self.pending[-1][1]
+        self.digest_is_to_be_published()
         is_dump = self.mark.height % self.told["every"] == 0
         if is_dump or len(self.pending) >= HEIGHTS_AT_ONCE:
             self.flush()
@@ -210,6 +245,10 @@ class Node:
             self.say(f"height {self.mark.height}: {'no block, ' if is_refused else ''}{answer.line.decode().strip()}")
 
     # ---- what is published
+
+    def digest_is_to_be_published(self):
+        self.values[self.mark.height] = f"{self.mark.digest} {self.mark.revision}"
+        self.pending.append((ledger.at(DIGESTS, self.name, self.mark.height), self.values[self.mark.height]))
 
     def flush(self):
         began = time.monotonic()
@@ -286,7 +325,7 @@ class Node:
             time.sleep(0.1)
         self.told = json.loads(self.client.get(ledger.SETTINGS).value)
         of_session = {word: self.told[word] for word in ("frame_limit", "frame_gas", "brief")}
-        self.settings = sessions.Settings(digest=True, workers=self.workers, **of_session)
+        self.settings = sessions.Settings(digest=True, workers=self.workers, store=self.store, **of_session)
 
     def follow(self):
         log = ledger.Log(self.urls, self.mark.revision)
@@ -311,7 +350,8 @@ class Node:
                 self.say(f"height {self.mark.height + 1}: its engine can't go on: {error}")
                 deaths[self.mark.height] += 1
                 if deaths[self.mark.height] == MOST_DEATHS:
-                    raise Stop(f"the engine could not run block {self.mark.height + 1} three times") from error
+                    raise Stop(f"the engine could not run block {self.mark.height + 1} three times: {error}") from error
+                time.sleep(SECONDS_BETWEEN_TRIES if self.store else 0)  # another process may have the file for a moment
 
 
 # ---- the command
@@ -331,6 +371,7 @@ def options(doc):
     parser.add_argument("--folder", required=True)
     parser.add_argument("--workers", type=int)
     parser.add_argument("--library")
+    parser.add_argument("--store")
     parser.add_argument("--http", type=address, default=("127.0.0.1", 0))
     parser.add_argument("--told", type=address)
     parser.add_argument("--alike", type=int, default=2)
@@ -338,12 +379,14 @@ def options(doc):
     given = parser.parse_args()
     if not re.fullmatch("[A-Za-z0-9-]+", given.name):
         parser.error("--name has letters, digits and -")
+    if given.store and given.library:
+        parser.error("the library keeps no session in a file: --store goes without --library")
     return given
 
 
 def start(kind, given):
     """Runs a node, and tells why it stopped."""
-    node = kind(given.name, given.etcd, given.folder, given.workers, given.library, given.alike, given.quota << 20)
+    node = kind(given.name, given.etcd, given.folder, given.workers, given.library, given.alike, given.quota << 20, given.store)
     try:
         with node.alone():
             port = status.serve(node, *given.http)

@@ -122,9 +122,9 @@ class Ledger(unittest.TestCase):
     def settle(self, *names):
         return self.cluster.settle(names or self.names)
 
-    def page(self, name, path):
+    def page(self, name, path, seconds=60):
         host, port = self.cluster.address(name).split(":")
-        line = http.client.HTTPConnection(host, int(port), timeout=60)
+        line = http.client.HTTPConnection(host, int(port), timeout=seconds)
         self.addCleanup(line.close)
         line.request("GET", path)
         answer = line.getresponse()
@@ -172,11 +172,18 @@ class Ledger(unittest.TestCase):
         for path in ("/get/0", "/other", "/receipts/9999", "/dump/../../etc/passwd", "/state/0"):
             self.assertEqual(self.page("n1", path)[0], 404, path)
 
+    def is_busy(self):
+        """Whether n1 answers no reader now. One that came before the block waits for the engine, and has it then."""
+        try:
+            return self.page("n1", f"/get/{transfers.ACCOUNTS[0]}", 2)[0] == 503
+        except TimeoutError:
+            return False
+
     def test_4_reads_wait_for_no_block(self):
         engine = int(re.findall(r"engine (\d+)", self.cluster.log("n1"))[-1])
         os.kill(engine, signal.SIGSTOP)
         self.transfers()
-        self.assertTrue(wait(lambda: self.page("n1", f"/get/{transfers.ACCOUNTS[0]}")[0] == 503))
+        self.assertTrue(wait(self.is_busy))
         self.assertEqual(self.page("n1", "/healthz")[0], 200)
         os.kill(engine, signal.SIGCONT)
         self.settle()
@@ -184,16 +191,54 @@ class Ledger(unittest.TestCase):
     def test_5_killed_nodes_begin_with_their_dumps(self):
         self.transfers(BLOCKS)
         self.settle()
-        self.cluster.kill("n2")
+        self.cluster.kill("n1")
         self.transfers(2)
-        self.cluster.node("n2")
+        self.cluster.node("n1")
         self.settle()
-        self.assertIn("takes the dump of height 60 from n2", self.cluster.log("n2"))
+        self.assertIn("takes the dump of height 60 from n1", self.cluster.log("n1"))
         engine = int(re.findall(r"engine (\d+)", self.cluster.log("n1"))[-1])
         os.kill(engine, signal.SIGKILL)
         self.transfers(2)
         self.settle()
         self.assertEqual(audits.audit(self.cluster.client, self.names)[0], [])
+
+    def test_5_killed_nodes_go_on_from_their_files(self):
+        height = len(self.blocks)
+        self.cluster.kill("n2")
+        shutil.rmtree(self.cluster.folder / "n2")
+        self.transfers(2)
+        self.cluster.node("n2")
+        self.settle()
+        self.assertIn(f"goes on from its file at height {height}\n", self.cluster.log("n2"))
+        self.assertNotIn("takes the dump", self.cluster.log("n2"))
+        for _ in range(3):
+            os.kill(int(re.findall(r"engine (\d+)", self.cluster.log("n3"))[-1]), signal.SIGKILL)
+            self.transfers(2)
+            self.settle()
+        self.assertEqual(self.cluster.log("n3").count("goes on from its file"), 3)
+        self.assertNotIn("takes the dump", self.cluster.log("n3"))
+        self.assertEqual(audits.audit(self.cluster.client, self.names)[0], [])
+
+    def test_5_what_was_not_published_is_published_from_the_file(self):
+        self.cluster.kill("n2")
+        self.cluster.client.transact([], [etcd.delete(etcd.keys(ledger.at(ledger.DIGESTS, "n2", len(self.blocks))))])
+        before = self.digest(len(self.blocks))
+        self.cluster.node("n2")
+        self.settle()
+        self.assertIn("n2", self.cluster.digests(len(self.blocks)))
+        self.assertEqual(self.digest(len(self.blocks)), before)
+        self.assertEqual(self.page("n2", f"/receipts/{len(self.blocks)}"), self.page("n1", f"/receipts/{len(self.blocks)}"))
+
+    def test_5_a_file_has_one_node(self):
+        self.cluster.node("second", "--store", self.cluster.folder / "n2.store")
+        self.assertRegex(self.cluster.wait_for("second", "STOPS"), "could not run block 1 three times: rvstm: store Busy 1$")
+
+    def test_5_a_file_is_kept_by_one_ledger(self):
+        path = self.cluster.folder / "other.store"
+        words = [program.rvstm(), "chain", "--store", path]
+        subprocess.run(words, input=b"state\nq\n", stdout=subprocess.DEVNULL, check=True)
+        self.cluster.node("other", "--store", path)
+        self.assertIn("rvstm: store OtherSettings 6", self.cluster.wait_for("other", "STOPS"))
 
     def test_5_a_folder_has_one_node(self):
         self.cluster.node("twin", "--folder", self.cluster.folder / "n1")

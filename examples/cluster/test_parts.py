@@ -1,13 +1,19 @@
 """Tests that need neither etcd nor rvstm: python3 -m unittest, in this folder."""
 
+import os
+import tempfile
+import threading
 import unittest
+import unittest.mock
 import zlib
+from pathlib import Path
 
 import transfers  # first: it finds scripts/
 import audits
 import engines
 import etcd
 import ledger
+import nodes
 import sessions
 import status
 from etcd import Pair
@@ -32,6 +38,11 @@ class Shelf:
     def range(self, wanted):
         first, last = (etcd.unpack(wanted.get(word, "")).decode() for word in ("key", "range_end"))
         found = [pair for key, pair in sorted(self.pairs.items()) if first <= key < last]
+        found = [pair for pair in found if pair.made >= wanted.get("min_create_revision", 0)]
+        if wanted.get("sort_target") == "CREATE":
+            found.sort(key=lambda pair: pair.made)
+        if wanted.get("sort_order") == "DESCEND":
+            found.reverse()
         return 99, found[: wanted.get("limit", len(found))]
 
 
@@ -121,6 +132,97 @@ class Agreement(unittest.TestCase):
         own = [mark.height for mark, _, _ in ledger.agreed_dumps(shelf, 2, "a")]
         self.assertEqual(own, [40, 20])
         self.assertEqual(ledger.agreed_dumps(shelf, 2, "c"), [])
+
+
+class Revisions(unittest.TestCase):
+    """Of the block at which a session in a file stands."""
+
+    def shelf(self, *own, kind="frame"):
+        """A genesis and three blocks, whose names are not in their order, and one that came before; and what a node published."""
+        shelf = Shelf()
+        shelf.put(ledger.SETTINGS, f'{{"as": "{kind}"}}', 10)
+        for name, made in (("z", 5), ("p.1/0000000001", 20), ("a.1/0000000001", 30), ("b.1/0000000001", 45)):
+            shelf.put(ledger.BLOCKS + name, b"parts\n", made)
+        shelf.put(ledger.GENESIS, b"parts\n", 10)
+        for height, revision in own:
+            shelf.put(ledger.at(ledger.DIGESTS, "n1", height), f"{ONE} {revision}", 50)
+        return shelf
+
+    def at(self, shelf, *heights):
+        return [ledger.revision_at(shelf, height, "n1") for height in heights]
+
+    def test_it_is_found_in_the_log(self):
+        self.assertEqual(self.at(self.shelf(), 1, 2, 3, 4), [10, 20, 30, 45])
+        self.assertEqual(self.at(self.shelf(kind="begin"), 1, 2, 3), [20, 30, 45])
+
+    def test_it_is_found_by_the_digests(self):
+        self.assertEqual(self.at(self.shelf((1, 10), (2, 20), (3, 30)), 2, 3, 4), [20, 30, 45])
+
+    def test_other_nodes_digests_do_not_count(self):
+        shelf = self.shelf()
+        shelf.put(ledger.at(ledger.DIGESTS, "n2", 3), f"{OTHER} 31", 50)
+        self.assertEqual(self.at(shelf, 3), [30])
+
+    def test_a_pruned_log_leads_on_from_where_it_begins(self):
+        shelf = self.shelf((2, 20))
+        shelf.put(ledger.PRUNED, "3 30", 60)
+        del shelf.pairs[ledger.BLOCKS + "p.1/0000000001"]
+        self.assertEqual(self.at(shelf, 2, 3, 4), [None, 30, 45])
+
+    def test_a_file_above_the_log_is_told(self):
+        self.assertRaisesRegex(ValueError, "at height 5, and the log ends at 4", self.at, self.shelf(), 5)
+
+
+class Answering:
+    """An engine that gives these answers."""
+
+    pid = None
+
+    def __init__(self, *lines):
+        self.answers, self.asked = [sessions.Answer(line.split()[0], line + b"\n") for line in lines], []
+
+    def ask(self, request):
+        self.asked.append(request)
+        return self.answers.pop(0)
+
+
+class Files(unittest.TestCase):
+    def setUp(self):
+        nodes.SECONDS_BETWEEN_TRIES = 0
+
+    def node(self, *lines):
+        node = object.__new__(nodes.Node)
+        node.engine, node.busy, node.mark, node.store = Answering(*lines), threading.Lock(), ledger.Mark(), "FILE"
+        node.said = []
+        node.say = node.said.append
+        return node
+
+    def test_what_a_file_does_not_take_is_handed_in_again(self):
+        node = self.node(b"failed store Full 8", b"failed store Memory 9", b"ok 0")
+        self.assertEqual(node.ask(b"frame", body=b"block").kind, b"ok")
+        self.assertEqual([request.body for request in node.engine.asked], [b"block"] * 3)
+        self.assertEqual(len(node.said), 2)
+
+    def test_three_times_at_most(self):
+        node = self.node(*[b"failed store Full 8"] * 4)
+        self.assertRaisesRegex(nodes.Stop, "FILE does not take what follows height 0: failed store Full 8", node.ask, b"frame")
+        self.assertEqual(len(node.engine.answers), 1)
+
+    def test_other_failures_take_another_engine(self):
+        node = self.node(b"failed seq Memory 1", b"ok 0")
+        self.assertRaises(engines.Ended, node.ask, b"frame")
+        self.assertEqual(len(node.engine.asked), 1)
+
+    def test_an_engine_tells_why_its_file_is_refused(self):
+        with tempfile.TemporaryDirectory() as place:
+            stub = Path(place) / "rvstm"
+            stub.write_text("#!/bin/sh\necho $* > $0.words\necho rvstm: store Busy 1 >&2\nexit 1\n")
+            stub.chmod(0o755)
+            with unittest.mock.patch.dict(os.environ, {"RVSTM": str(stub)}):
+                engine = engines.Process(sessions.Settings(digest=True, store=f"{place}/FILE"))
+            self.assertRaisesRegex(engines.Ended, "rvstm: store Busy 1", engine.ask, sessions.Request(b"state"))
+            self.assertIn(f"--store {place}/FILE", Path(f"{stub}.words").read_text())
+            engine.close()
 
 
 class Audits(unittest.TestCase):
