@@ -65,11 +65,7 @@ mod schedules;
 #[cfg(test)]
 mod session_ends;
 #[cfg(test)]
-mod session_file_rows;
-#[cfg(test)]
 mod session_files;
-#[cfg(test)]
-mod session_flaws;
 #[cfg(test)]
 mod session_frames;
 #[cfg(test)]

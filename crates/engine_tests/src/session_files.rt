@@ -1,22 +1,11 @@
 //! Sessions one after another over one file: each goes on where the one before ended, by whatever it ended.
 
-use crate::blocks::elf_of;
 use crate::fake_disk::{Answer, Stored, answer_over};
 use crate::fake_stores::{End, FakeStores};
-use crate::rows::ECHO;
-use crate::session_file_rows::ROWS;
-use crate::session_inputs::push_request;
 use std::alloc::{AllocError, Global};
-use std::process::Abort;
 use std::sync::Wait;
 use std::test::Fail;
 use std::thread::Threads;
-
-/// A request, and its answer.
-pub type Turn = (&'static str, &'static str);
-
-/// Options of `chain`, what is asked and answered, and the line on standard error.
-pub type Session = (&'static str, &'static [Turn], &'static str);
 
 /// What a frame is answered that has no call.
 pub const DONE: &str = "\
@@ -31,56 +20,6 @@ pub const PUT_ONE: &str = "\
 
 /// What a frame of no bytes is answered.
 pub const NO_HEADER: &str = "refused block 1 BadHeader 1\n";
-
-/// Stands for a request that hands in the program ECHO.
-pub const PROGRAM_FILE: &str = "PROGRAM";
-
-/// What it is answered.
-pub const NAMED: &str = "\
-    ok 65\n\
-    dcd5bf26ba2fde2b9fbad11501924d587b30d8ba504e3a6bc8a85f8deeae9f5b\n";
-
-/// Gives the program back.
-pub const GIVE_BACK: &str =
-    "forget dcd5bf26ba2fde2b9fbad11501924d587b30d8ba504e3a6bc8a85f8deeae9f5b\n";
-
-/// Begins anew with one entry.
-pub const BEGIN_ANEW: &str = "\
-    begin 7 abababababababababababababababababababababababababababababababab 84\n\
-    rvblock 1\n\
-    store 0000000000000000000000000000000000000000000000000000000000000003 05\n";
-
-/// What `last` is answered where no frame counts.
-pub const NO_FRAME: &str = "refused frame NoFrame 7\n";
-
-/// A frame that is done.
-pub const FRAME: Turn = (PUT_ONE, DONE);
-
-/// A program is handed in.
-pub const PROGRAM: Turn = (PROGRAM_FILE, NAMED);
-
-/// The bytes of requests.
-pub fn input_of(alloc: Global, turns: &[Turn]) -> Result<Vec<u8>, AllocError> {
-    let mut input = Vec::new(alloc);
-    for (request, _) in turns {
-        if *request == PROGRAM_FILE {
-            let file = elf_of(alloc, ECHO)?;
-            push_request(alloc, &mut input, "program", file.as_slice())?;
-        } else {
-            input.extend_from_slice(request.as_bytes())?;
-        }
-    }
-    Ok(input)
-}
-
-/// What they are answered.
-fn text_of(alloc: Global, turns: &[Turn]) -> Result<String, AllocError> {
-    let mut text = String::new(alloc);
-    for (_, answer) in turns {
-        text.push_str(answer)?;
-    }
-    Ok(text)
-}
 
 /// What a session with options is answered over a file.
 pub fn answer_in<R: Threads + Wait + Sync>(
@@ -112,49 +51,47 @@ pub fn answer_in<R: Threads + Wait + Sync>(
     })
 }
 
-/// Whether a session over a file is answered as it says, and ends so.
-fn is_served<R: Threads + Wait + Sync>(
-    rt: &R,
-    alloc: Global,
-    stores: &mut FakeStores,
-    session: &Session,
-) -> Result<bool, AllocError> {
-    let (options, turns, end) = session;
-    let input = input_of(alloc, turns)?;
-    let text = text_of(alloc, turns)?;
-    let answer = answer_in(rt, alloc, stores, options, input.as_slice())?;
-    let status = if end.is_empty() { 0 } else { 1 };
-    Ok(answer.is(status, text.as_str(), end))
+/// What the next session over the file is asked: the last answer, and the storage.
+const NEXT: &[u8] = b"\
+    last\n\
+    list 0000000000000000000000000000000000000000000000000000000000000000 9\n";
+
+/// What it answers behind a frame of one entry and a frame of no bytes.
+const KEPT: &str = "\
+    refused block 1 BadHeader 1\n\
+    ok 74\n\
+    store 0000000000000000000000000000000000000000000000000000000000000009 0a\n";
+
+/// Whether the next session over a file goes on behind two frames, where the process of the first one ends so.
+fn goes_on<R: Threads + Wait + Sync>(rt: &R, alloc: Global, end: End) -> Result<bool, AllocError> {
+    let mut stores = FakeStores::new(alloc);
+    stores.end = end;
+    let mut input = Vec::new(alloc);
+    input.extend_from_slice(PUT_ONE.as_bytes())?;
+    input.extend_from_slice(b"frame 0\n")?;
+    let first = answer_in(rt, alloc, &mut stores, "", input.as_slice())?;
+    let next = answer_in(rt, alloc, &mut stores, "", NEXT)?;
+    Ok(
+        first.status == 0
+            && first.out.as_slice().ends_with(NO_HEADER.as_bytes())
+            && next.is(0, KEPT, ""),
+    )
 }
 
-/// Asserts that the sessions of all rows are answered as they say, where their processes end so.
-fn assert_served<R: Threads + Wait + Sync + Abort>(
-    rt: &R,
-    alloc: Global,
-    end: End,
-) -> Result<(), Fail> {
-    for (row, sessions) in ROWS.iter().enumerate() {
-        let mut stores = FakeStores::new(alloc);
-        stores.end = end;
-        for (place, session) in sessions.iter().enumerate() {
-            let is_right = is_served(rt, alloc, &mut stores, session)?;
-            assert!(rt; is_right, "row {row}, session {place}");
-        }
-    }
+#[test]
+fn a_closed_session_goes_on(rt: HostRuntime) -> Result<(), Fail> {
+    assert!(rt; goes_on(&rt, rt.alloc(), End::Closed)?);
     Ok(())
 }
 
 #[test]
-fn closed_sessions_go_on(rt: HostRuntime) -> Result<(), Fail> {
-    assert_served(&rt, rt.alloc(), End::Closed)
+fn a_killed_session_goes_on(rt: HostRuntime) -> Result<(), Fail> {
+    assert!(rt; goes_on(&rt, rt.alloc(), End::Killed)?);
+    Ok(())
 }
 
 #[test]
-fn killed_sessions_go_on(rt: HostRuntime) -> Result<(), Fail> {
-    assert_served(&rt, rt.alloc(), End::Killed)
-}
-
-#[test]
-fn sessions_go_on_behind_a_power_cut(rt: HostRuntime) -> Result<(), Fail> {
-    assert_served(&rt, rt.alloc(), End::Cut)
+fn a_session_goes_on_behind_a_power_cut(rt: HostRuntime) -> Result<(), Fail> {
+    assert!(rt; goes_on(&rt, rt.alloc(), End::Cut)?);
+    Ok(())
 }
