@@ -1,4 +1,4 @@
--- Private help of proofs: no public clause cites it. How what was read is done.
+-- Private help of proofs: no public clause cites it, but `IsTold`. How what was read is done.
 use Rattle.std.specs.Prelude.{◌≡◌, ℕ, List, [], ◌∷◌, ◌++◌, Option, Some, None}
 use Rattle.std.specs.Io.KnownBytes.{Appends}
 use Rattle.requests.specs.Requests.{Ask, requests_of}
