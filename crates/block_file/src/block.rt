@@ -93,7 +93,10 @@ fn body(alloc: Global, first: usize, rules: Rules, text: &[u8]) -> Result<BlockT
     ensures { Reads block_value result (result_map_both (λ s. s.block) (λ fault. fault) (body_of first rules (cut 10 text.now))) }
 {
     let reader = body_of(alloc, first, rules, text)?;
-    reader.finish().map_err(|_| fault(first, Cause::Memory))
+    match reader.finish() {
+        Ok(block) => Ok(block),
+        Err(AllocError) => Err(fault(first, Cause::Memory)),
+    }
 }
 
 /// What the lines of a text say, the first of which is line `first`.

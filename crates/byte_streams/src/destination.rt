@@ -1,6 +1,6 @@
 //! Where bytes are written to.
 
-ghost use Rattle.std.specs.Prelude.{⊤, ◌≡◌, ◌<◌, length, IfOk, OnErr};
+ghost use Rattle.std.specs.Prelude.{⊤, ◌≡◌, ◌<◌, length, IfOk, OnErr, OnOk};
 ghost use Rattle.std.specs.Io.{WritesAtMost};
 ghost use Rattle.std.specs.Io.KnownBytes.{Keeps, WriteAppends};
 
@@ -15,6 +15,9 @@ pub trait Destination: Write {
     /// Whether a write of some bytes may take none of them.
     ghost may_take_nothing: { Self → Type 0 };
 
+    /// Whether nothing that was written waits, as a flush leaves it. Of a writer that does not say when, this holds at any time.
+    ghost is_flushed: { Self → Type 0 } = { λ _. Unit {0} };
+
     /// Writes as `write` does. Fails only where a write may fail, and takes none of some bytes only where that may be.
     fn write_part(&mut self, bytes: &[u8]) -> io::Result<usize>
         ensures bound { WritesAtMost result bytes.now }
@@ -27,6 +30,7 @@ pub trait Destination: Write {
     fn flush_written(&mut self) -> io::Result<()>
         ensures bytes { Keeps (Self.contents self.old) (Self.contents self.new) }
         ensures fails { OnErr result (may_fail self.old) }
+        ensures flushed { OnOk result (is_flushed self.new) }
         ensures same { (may_fail self.new → may_fail self.old) × (may_take_nothing self.new → may_take_nothing self.old) };
 }
 

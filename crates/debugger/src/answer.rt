@@ -61,8 +61,8 @@ fn step_text(alloc: Global, replay: &mut Replay) -> Result<String, AllocError>
 {
     match replay.step() {
         Ok(()) => where_line(alloc, replay),
-        Err(ReplayFault::AtEnd) => refusal_line(alloc, ReplayFault::AtEnd),
-        Err(_) => Err(AllocError),
+        Err(ReplayFault::Memory) => Err(AllocError),
+        Err(fault) => refusal_line(alloc, fault),
     }
 }
 
@@ -74,8 +74,8 @@ fn back_text(alloc: Global, replay: &mut Replay) -> Result<String, AllocError>
 {
     match replay.back() {
         Ok(()) => where_line(alloc, replay),
-        Err(ReplayFault::AtStart) => refusal_line(alloc, ReplayFault::AtStart),
-        Err(_) => Err(AllocError),
+        Err(ReplayFault::Memory) => Err(AllocError),
+        Err(fault) => refusal_line(alloc, fault),
     }
 }
 
@@ -87,8 +87,8 @@ fn run_to_text(alloc: Global, replay: &mut Replay, pc: u32) -> Result<String, Al
 {
     match replay.run_to(pc) {
         Ok(()) => where_line(alloc, replay),
-        Err(ReplayFault::AtEnd) => refusal_line(alloc, ReplayFault::AtEnd),
-        Err(_) => Err(AllocError),
+        Err(ReplayFault::Memory) => Err(AllocError),
+        Err(fault) => refusal_line(alloc, fault),
     }
 }
 
@@ -100,8 +100,8 @@ fn go_to_text(alloc: Global, replay: &mut Replay, moment: u32) -> Result<String,
 {
     match replay.go_to(u64::from(moment)) {
         Ok(()) => where_line(alloc, replay),
-        Err(ReplayFault::AtEnd) => refusal_line(alloc, ReplayFault::AtEnd),
-        Err(_) => Err(AllocError),
+        Err(ReplayFault::Memory) => Err(AllocError),
+        Err(fault) => refusal_line(alloc, fault),
     }
 }
 
@@ -118,9 +118,8 @@ fn changed_text(
 {
     match replay.run_to_change(address, count) {
         Ok(()) => where_line(alloc, replay),
-        Err(ReplayFault::AtEnd) => refusal_line(alloc, ReplayFault::AtEnd),
-        Err(ReplayFault::BadRange) => refusal_line(alloc, ReplayFault::BadRange),
-        Err(_) => Err(AllocError),
+        Err(ReplayFault::Memory) => Err(AllocError),
+        Err(fault) => refusal_line(alloc, fault),
     }
 }
 
@@ -152,8 +151,10 @@ fn where_line(alloc: Global, replay: &Replay) -> Result<String, AllocError>
     ensures { IfOk result (λ t. string_bytes t ≡ where_line replay.now) }
 {
     let mut text = String::new(alloc);
-    if replay.where_text(&mut text).is_err() {
-        return Err(AllocError);
+    match replay.where_text(&mut text) {
+        Ok(()) => {}
+        Err(ReplayFault::Memory) => return Err(AllocError),
+        Err(_) => unreachable!(),
     }
     text.push_str("\n")?;
     Ok(text)
@@ -169,8 +170,8 @@ fn seen_text(alloc: Global, replay: &Replay, address: u32, count: u32) -> Result
             text.push_str("\n")?;
             Ok(text)
         }
-        Err(ReplayFault::BadRange) => refusal_line(alloc, ReplayFault::BadRange),
-        Err(_) => Err(AllocError),
+        Err(ReplayFault::Memory) => Err(AllocError),
+        Err(fault) => refusal_line(alloc, fault),
     }
 }
 

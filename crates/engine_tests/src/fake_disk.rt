@@ -304,6 +304,8 @@ impl<'a> OutputDisk for FakeDisk<'a> {
 
     ghost entries = { λ _. None };
 
+    ghost asked = { λ _. None };
+
     ghost leads = { λ _ path. path };
 
     fn create_new(&mut self, path: &str) -> io::Result<FakeWriter<'a>> {
@@ -345,7 +347,7 @@ impl<'a> OutputDisk for FakeDisk<'a> {
         Ok(Some(String::from_str(alloc, behind_link(path))?))
     }
 
-    fn sync(&self, _file: &FakeWriter<'a>) -> io::Result<()> {
+    fn sync(&mut self, _file: &FakeWriter<'a>) -> io::Result<()> {
         self.stored.change()
     }
 

@@ -7,6 +7,7 @@ use crate::reading::read_program;
 use elf32::Image;
 use programs::{Loader, ProgramFault, load_file};
 use std::alloc::Global;
+use std::io;
 use std::sync::Arc;
 
 /// What loads programs from their files.
@@ -23,8 +24,9 @@ impl<'a, P: Programs> Loader for FileLoader<'a, P> {
 
     #[tactic(auto, using(crate::proofs::ProgramFiles::file_program, crate::proofs::ProgramFiles::file_fault))]
     fn load(&mut self, path: &str) -> Result<Arc<Image>, ProgramFault> {
-        let Ok(mut file) = self.programs.open(path) else {
-            return Err(ProgramFault::Unreadable);
+        let mut file = match self.programs.open(path) {
+            Ok(file) => file,
+            Err(io::Error { .. }) => return Err(ProgramFault::Unreadable),
         };
         let bytes = read_program(self.alloc, &mut file)?;
         load_file(self.alloc, bytes.as_slice())

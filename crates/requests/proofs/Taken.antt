@@ -1,12 +1,13 @@
 -- What reads of single bytes and of pieces give.
 use Rattle.std.proofs.Common.{◌≡◌, ◌<◌, ◌≤◌, ◌+◌, ◌-◌, ◌==◌, ℕ, zero, suc, true, false, List, [], ◌∷◌, ◌++◌, length, get_or, take, set, Option, Some, None, refl, sym, ap, ◌∙◌, arith, append_assoc, append-nil, length-append}
-use Rattle.std.specs.Prelude.{⊤, OnSome, Vec}
+use Rattle.std.specs.Prelude.{⊤, OnSome}
 use Rattle.std.specs.Option.{option_map}
 use Rattle.std.specs.Io.KnownBytes.{Consumes, IsAtEnd}
-use Rattle.std.specs.declared.alloc.Global.{Global}
 use Rattle.std.proofs.lemmas.List.{length-take, take_more_set}
 use Rattle.requests.specs.Requests.{first_part}
-use Rattle.requests.specs.Reading.{IsKept, LosesSome, WhereKnown}
+use Rattle.requests.specs.Reading.{GoesOn, IsKept, LosesSome, WhereKnown}
+use Rattle.requests.specs.declared.reading.Keeping.{Keeping}
+use Rattle.requests.specs.declared.reading.Keeping.TheVariants.{Kept, Passed, OutOfMemory}
 use Rattle.requests.specs.declared.reading.Body.TheVariants as body
 use Rattle.requests.proofs.Parts.{before, no_front, none_left, scan_end, scan_hit, scan_on}
 
@@ -93,14 +94,14 @@ scans_full room count a b full fits so = known_map (Scans room count) IsBroken a
 -- ---- a body
 
 -- all but `left` of `size` bytes were read, and are kept where there is room
-abbrev pub Passes : ℕ → ℕ → Option (Vec ℕ Global) → List ℕ → List ℕ → Type 0
+abbrev pub Passes : ℕ → ℕ → Keeping → List ℕ → List ℕ → Type 0
 Passes size left kept xs ys = (bs : List ℕ) × (xs ≡ bs ++ ys) × (length bs + left ≡ size) × IsKept kept bs
 
-pub passes_none : (size : ℕ) (kept : Option (Vec ℕ Global)) (a : Option (List ℕ)) → IsKept kept [] → WhereKnown a a (Passes size size kept)
+pub passes_none : (size : ℕ) (kept : Keeping) (a : Option (List ℕ)) → IsKept kept [] → WhereKnown a a (Passes size size kept)
 passes_none size kept None h = tt
 passes_none size kept (Some xs) h = ([], refl, omega arith, h)
 
-pub passes_more : (size left count : ℕ) (kept longer : Option (Vec ℕ Global)) (bytes : List ℕ) (a b c : Option (List ℕ)) → WhereKnown a b (Passes size left kept) → Consumes b c bytes → length bytes ≡ count → count ≤ left
+pub passes_more : (size left count : ℕ) (kept longer : Keeping) (bytes : List ℕ) (a b c : Option (List ℕ)) → WhereKnown a b (Passes size left kept) → Consumes b c bytes → length bytes ≡ count → count ≤ left
     → ((whole : List ℕ) → IsKept kept whole → IsKept longer (whole ++ bytes)) → WhereKnown a c (Passes size (left - count) longer)
 passes_more size left count kept longer bytes a b c so read long few keeps = known_then (Passes size left kept) _ (Passes size (left - count) longer) a b c so (took bytes b c read) (λ xs ys zs (bs, whole, sum, is) e. (
   bs ++ bytes,
@@ -109,27 +110,34 @@ passes_more size left count kept longer bytes a b c so read long few keeps = kno
   keeps bs is,
 ))
 
-pub passes_cut : (size left : ℕ) (kept : Option (Vec ℕ Global)) (bytes : List ℕ) (a b c : Option (List ℕ)) → 0 < left → WhereKnown a b (Passes size left kept) → Consumes b c bytes → length bytes ≡ 0 → OnSome b (IsAtEnd c) → WhereKnown a c (λ xs ys. length xs < size)
+pub passes_cut : (size left : ℕ) (kept : Keeping) (bytes : List ℕ) (a b c : Option (List ℕ)) → 0 < left → WhereKnown a b (Passes size left kept) → Consumes b c bytes → length bytes ≡ 0 → OnSome b (IsAtEnd c) → WhereKnown a c (λ xs ys. length xs < size)
 passes_cut size left kept bytes a b c some so read none end = known_then (Passes size left kept) _ (λ xs ys. length xs < size) a b c so (took_last bytes b c read end) (λ xs ys zs (bs, whole, sum, is) e.
     omega (arith, some, ap length whole, length-append bs ys, ap length e, none, sum))
 
--- bytes that were kept before and are not now
-abbrev pub IsLost : Option (Vec ℕ Global) → Option (Vec ℕ Global) → ℕ → Type 0
-IsLost (Some before) None size = 0 < size
+-- what became of bytes that were to be kept
+abbrev pub IsLost : Keeping → Keeping → ℕ → Type 0
+IsLost (Kept before) Passed size = ⊥
+IsLost (Kept before) OutOfMemory size = 0 < size
 IsLost before now size = ⊤
 
-pub none_lost : (kept : Option (Vec ℕ Global)) (size : ℕ) → IsLost kept kept size
-none_lost None size = tt
-none_lost (Some bytes) size = tt
+pub none_lost : (kept : Keeping) (size : ℕ) → IsLost kept kept size
+none_lost (Kept bytes) size = tt
+none_lost Passed size = tt
+none_lost OutOfMemory size = tt
 
-pub some_lost : (before now : Option (Vec ℕ Global)) (size : ℕ) → 0 < size → IsLost before now size
-some_lost None now size some = tt
-some_lost (Some bytes) None size some = some
-some_lost (Some bytes) (Some more) size some = tt
+pub some_lost : (before now more : Keeping) (size : ℕ) → 0 < size → IsLost before now size → GoesOn now more → IsLost before more size
+some_lost (Kept bytes) (Kept now) (Kept more) size some lost on = tt
+some_lost (Kept bytes) (Kept now) Passed size some lost on = absurd on
+some_lost (Kept bytes) (Kept now) OutOfMemory size some lost on = some
+some_lost (Kept bytes) Passed more size some lost on = absurd lost
+some_lost (Kept bytes) OutOfMemory more size some lost on = rw on some
+some_lost Passed now more size some lost on = tt
+some_lost OutOfMemory now more size some lost on = tt
 
-pub loses : (before now : Option (Vec ℕ Global)) (size : ℕ) → now ≡ None → IsLost before now size → LosesSome before size body.Unkept
-loses None now size none lost = tt
-loses (Some bytes) now size none lost = rw none at lost
+pub loses : (before now : Keeping) (size : ℕ) → now ≡ OutOfMemory → IsLost before now size → LosesSome before size body.Unkept
+loses (Kept bytes) now size none lost = rw none at lost
+loses Passed now size none lost = tt
+loses OutOfMemory now size none lost = tt
 
 -- ---- what a buffer shows
 

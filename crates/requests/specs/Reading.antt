@@ -1,9 +1,10 @@
 -- What is read of an input.
-use Rattle.std.specs.Prelude.{◌≡◌, ⊤, ℕ, ◌<◌, ◌≤◌, nat_lt, Bool, true, false, List, [], ◌∷◌, ◌++◌, length, Option, Some, None, OnSome, Vec, take}
-use Rattle.std.specs.declared.alloc.Global.{Global}
+use Rattle.std.specs.Prelude.{◌≡◌, ⊤, ℕ, ◌<◌, ◌≤◌, nat_lt, Bool, true, false, List, [], ◌∷◌, ◌++◌, length, Option, Some, None, OnSome, take}
 use Rattle.std.specs.Io.KnownBytes.{Consumes, IsAtEnd}
 use Rattle.requests.specs.declared.reading.LineEnd.{LineEnd}
 use Rattle.requests.specs.declared.reading.LineEnd.TheVariants as end
+use Rattle.requests.specs.declared.reading.Keeping.{Keeping}
+use Rattle.requests.specs.declared.reading.Keeping.TheVariants.{Kept, Passed, OutOfMemory}
 use Rattle.requests.specs.declared.reading.Body.{Body}
 use Rattle.requests.specs.declared.reading.Body.TheVariants as body
 use Rattle.requests.specs.declared.request.Asked.{Asked}
@@ -22,9 +23,16 @@ WhereKnown (Some xs) None P = ⊥
 WhereKnown (Some xs) (Some ys) P = P xs ys
 
 -- the bytes so far, if they are kept
-abbrev pub IsKept : Option (Vec ℕ Global) → List ℕ → Type 0
-IsKept None whole = ⊤
-IsKept (Some bytes) whole = bytes.items ≡ whole
+abbrev pub IsKept : Keeping → List ℕ → Type 0
+IsKept (Kept bytes) whole = bytes.items ≡ whole
+IsKept other whole = ⊤
+
+-- what becomes of more bytes: those that are kept may be lost for want of memory alone, and are not lost again
+abbrev pub GoesOn : Keeping → Keeping → Type 0
+GoesOn (Kept bytes) Passed = ⊥
+GoesOn (Kept bytes) other = ⊤
+GoesOn Passed now = now ≡ Passed
+GoesOn OutOfMemory now = now ≡ OutOfMemory
 
 -- the request that a value is
 abbrev pub ask_of : Request → Ask
@@ -87,10 +95,12 @@ IsWithin other = ⊤
 -- what a read of so many bytes gives
 abbrev pub GivesBody : ℕ → Body → List ℕ → List ℕ → Type 0
 GivesBody size (body.Whole bytes) xs ys = (bs : List ℕ) × (xs ≡ bs ++ ys) × (length bs ≡ size) × (bytes.items ≡ bs)
+GivesBody size body.Passed xs ys = (bs : List ℕ) × (xs ≡ bs ++ ys) × (length bs ≡ size)
 GivesBody size body.Unkept xs ys = (bs : List ℕ) × (xs ≡ bs ++ ys) × (length bs ≡ size)
 GivesBody size body.Cut xs ys = length xs < size
 
--- bytes that were to be kept and are not: some, since none take no memory
-abbrev pub LosesSome : Option (Vec ℕ Global) → ℕ → Body → Type 0
-LosesSome (Some bytes) size body.Unkept = 0 < size
+-- bytes that were to be kept are not passed over; those that are lost for want of memory are some, since none take no memory
+abbrev pub LosesSome : Keeping → ℕ → Body → Type 0
+LosesSome (Kept bytes) size body.Passed = ⊥
+LosesSome (Kept bytes) size body.Unkept = 0 < size
 LosesSome kept size other = ⊤

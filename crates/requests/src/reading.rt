@@ -3,7 +3,7 @@
 ghost use Rattle.std.specs.Prelude.{◌≡◌, ◌≤◌, ◌<◌, ◌++◌, [], ℕ, List, length, IfOk, OnErr, OnSome};
 ghost use Rattle.std.specs.Io.KnownBytes.{Consumes, IsAtEnd};
 ghost use Rattle.requests.specs.Requests.{Is, with_body};
-ghost use Rattle.requests.specs.Reading.{GivesByte, GivesBody, GivesLine, IsKept, IsWithin, LosesSome, Tells, TellsBehind, WhereKnown, ask_of};
+ghost use Rattle.requests.specs.Reading.{GivesByte, GivesBody, GivesLine, GoesOn, IsKept, IsWithin, LosesSome, Tells, TellsBehind, WhereKnown, ask_of};
 
 use crate::line::line_of;
 use crate::request::{Asked, Request, RequestFault, RequestLine};
@@ -29,10 +29,23 @@ enum LineEnd {
 enum Body {
     /// They are kept.
     Whole(Vec<u8>),
-    /// They were passed over.
+    /// They were passed over, since they were not to be kept.
+    Passed,
+    /// They were passed over, since memory for them ran out.
     Unkept,
     /// The input ends before.
     Cut,
+}
+
+/// What becomes of the bytes behind a line.
+#[derive(Drop)]
+enum Keeping {
+    /// These came so far, and are kept.
+    Kept(Vec<u8>),
+    /// They are passed over.
+    Passed,
+    /// Memory for them ran out, and they are passed over.
+    OutOfMemory,
 }
 
 /// Reads the next request. `frame_limit` is the greatest length of a frame's body, in bytes; that of a program's file is
@@ -74,14 +87,15 @@ fn read_behind<R: BufferedSource>(
 {
     let size = line.body_length();
     if line.is_too_long(frame_limit) {
-        return match read_body(input, size, None) {
+        return match read_body(input, size, Keeping::Passed) {
             Ok(Body::Cut) => Ok(Asked::Broken(RequestFault::Cut)),
-            Ok(Body::Whole(_) | Body::Unkept) => Ok(Asked::TooLong(line)),
+            Ok(Body::Whole(_) | Body::Passed | Body::Unkept) => Ok(Asked::TooLong(line)),
             Err(error) => Err(error),
         };
     }
-    match read_body(input, size, Some(Vec::new(alloc))) {
+    match read_body(input, size, Keeping::Kept(Vec::new(alloc))) {
         Ok(Body::Whole(body)) => Ok(Asked::Whole(with_body(line, body))),
+        Ok(Body::Passed) => unreachable!(),
         Ok(Body::Unkept) => Ok(Asked::Unkept(line)),
         Ok(Body::Cut) => Ok(Asked::Broken(RequestFault::Cut)),
         Err(error) => Err(error),
@@ -153,8 +167,8 @@ fn next_byte<R: BufferedSource>(input: &mut R) -> io::Result<Option<u8>>
     Ok(Some(byte))
 }
 
-/// Reads `size` bytes, and keeps them where `kept` is Some and memory does not run out. Cut where the input ends before.
-fn read_body<R: BufferedSource>(input: &mut R, size: u64, kept: Option<Vec<u8>>) -> io::Result<Body>
+/// Reads `size` bytes, and keeps them where they are to be kept and memory does not run out. Cut where the input ends before.
+fn read_body<R: BufferedSource>(input: &mut R, size: u64, kept: Keeping) -> io::Result<Body>
     requires { IsKept kept [] }
     ensures bytes { IfOk result (λ body. WhereKnown (R.remaining input.old) (R.remaining input.new) (GivesBody size body)) }
     ensures lost { IfOk result (LosesSome kept size) }
@@ -174,8 +188,9 @@ fn read_body<R: BufferedSource>(input: &mut R, size: u64, kept: Option<Vec<u8>>)
         }
     }
     match kept {
-        Some(bytes) => Ok(Body::Whole(bytes)),
-        None => Ok(Body::Unkept),
+        Keeping::Kept(bytes) => Ok(Body::Whole(bytes)),
+        Keeping::Passed => Ok(Body::Passed),
+        Keeping::OutOfMemory => Ok(Body::Unkept),
     }
 }
 
@@ -183,12 +198,13 @@ fn read_body<R: BufferedSource>(input: &mut R, size: u64, kept: Option<Vec<u8>>)
 fn read_piece<R: BufferedSource>(
     input: &mut R,
     most: u64,
-    kept: Option<Vec<u8>>,
-) -> io::Result<(u64, Option<Vec<u8>>)>
+    kept: Keeping,
+) -> io::Result<(u64, Keeping)>
     requires { 0 < most }
     ensures bytes { IfOk result (λ piece. (bytes : List ℕ) × Consumes (R.remaining input.old) (R.remaining input.new) bytes
         × (length bytes ≡ piece.0) × (piece.0 ≤ most) × (piece.0 ≡ 0 → OnSome (R.remaining input.old) (IsAtEnd (R.remaining input.new)))
         × ((whole : List ℕ) → IsKept kept whole → IsKept piece.1 (whole ++ bytes))) }
+    ensures goes_on { IfOk result (λ piece. GoesOn kept piece.1) }
     ensures fails { OnErr result (R.may_fail input.old) }
     ensures same { R.may_fail input.new → R.may_fail input.old }
 {
@@ -215,13 +231,18 @@ fn at_most(count: usize, most: u64) -> usize
     }
 }
 
-/// The bytes so far with more behind them. None where there are none so far, or memory runs out.
-fn with_part(kept: Option<Vec<u8>>, part: &[u8]) -> Option<Vec<u8>>
-    ensures { (whole : List ℕ) → IsKept kept whole → IsKept result (whole ++ part.now) }
+/// The bytes so far with more behind them, where they are kept and memory does not run out.
+fn with_part(kept: Keeping, part: &[u8]) -> Keeping
+    ensures longer { (whole : List ℕ) → IsKept kept whole → IsKept result (whole ++ part.now) }
+    ensures goes_on { GoesOn kept result }
 {
-    let mut longer = kept?;
+    let mut longer = match kept {
+        Keeping::Kept(bytes) => bytes,
+        Keeping::Passed => return Keeping::Passed,
+        Keeping::OutOfMemory => return Keeping::OutOfMemory,
+    };
     match longer.extend_from_slice(part) {
-        Ok(()) => Some(longer),
-        Err(AllocError) => None,
+        Ok(()) => Keeping::Kept(longer),
+        Err(AllocError) => Keeping::OutOfMemory,
     }
 }

@@ -184,7 +184,7 @@ impl Memory {
         ensures { LeavesMemory result (stored 1 self.old address value) self.old self.new }
     {
         let at = place(&self.pages.base.rights, Access::Write, address, 1)?;
-        write_in_page(&mut self.pages, at, &[value]).map_err(|_| Fault::Memory)
+        write_in_page(&mut self.pages, at, &[value]).map_err(|_: AllocError| Fault::Memory)
     }
 
     /// The same for a halfword, as `store16` does.
@@ -196,7 +196,7 @@ impl Memory {
         let at = place(&self.pages.base.rights, Access::Write, address, 2)?;
         let mut halfword = [0; 2];
         LittleEndian::write_u16(&mut halfword, value);
-        write_in_page(&mut self.pages, at, &halfword).map_err(|_| Fault::Memory)
+        write_in_page(&mut self.pages, at, &halfword).map_err(|_: AllocError| Fault::Memory)
     }
 
     /// The same for a word, as `store32` does.
@@ -208,7 +208,7 @@ impl Memory {
         let at = place(&self.pages.base.rights, Access::Write, address, 4)?;
         let mut word = [0; 4];
         LittleEndian::write_u32(&mut word, value);
-        write_in_page(&mut self.pages, at, &word).map_err(|_| Fault::Memory)
+        write_in_page(&mut self.pages, at, &word).map_err(|_: AllocError| Fault::Memory)
     }
 
     /// Whether each of the `len` bytes from the address on may be loaded. Addresses do not wrap.
@@ -278,6 +278,6 @@ impl Memory {
             return Ok(());
         }
         let at = (address - FIRST_ADDRESS) as usize;
-        write(&mut self.pages, at, bytes).map_err(|_| Fault::Memory)
+        write(&mut self.pages, at, bytes).map_err(|_: AllocError| Fault::Memory)
     }
 }

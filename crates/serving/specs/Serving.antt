@@ -8,7 +8,6 @@ use Rattle.requests.specs.declared.request.RequestFault.{RequestFault}
 use Rattle.requests.specs.declared.request.RequestFault.TheVariants.{BadLine, Cut}
 use Rattle.serving.specs.declared.serving.ServeFault.{ServeFault}
 use Rattle.serving.specs.declared.serving.ServeFault.TheVariants.{Broken, Unreadable, Output}
-use Rattle.turns.specs.Failures.{IsAnswer}
 use Rattle.turns.specs.Replies.{answer_text}
 use Rattle.turns.specs.Turn.{turn}
 use Rattle.turns.specs.declared.settings.Settings.{Settings}

@@ -1,7 +1,7 @@
 //! Answering the requests of an input one after another.
 
-ghost use Rattle.std.specs.Prelude.{◌≡◌, IfErr, IfSome, List, None, OnOk, ℕ};
-ghost use Rattle.requests.specs.Reading.{Tells, ask_of};
+ghost use Rattle.std.specs.Prelude.{◌≡◌, ◌<◌, IfErr, IfOk, IfSome, List, None, OnErr, OnOk, ℕ};
+ghost use Rattle.requests.specs.Reading.{Tells, WhereKnown, ask_of};
 ghost use Rattle.requests.specs.Requests.{Is, request_of};
 ghost use Rattle.serving.specs.Asking.{IsCourse, IsTold};
 ghost use Rattle.serving.specs.Serving.{IsEndedBy, IsServed, MayEnd};
@@ -54,8 +54,8 @@ pub fn serve<R: BufferedSource, C: CallRunner, W: Destination>(
         IsEndedBy (R.may_fail input.old) (IsAnswer settings) fault state.old bytes state.new (W.contents out.old) (W.contents out.new))) }
     ensures refused { IfErr result (MayEnd (W.may_fail out.old) (W.may_take_nothing out.old)) }
 {
-    for _ in 0..u64::MAX {
-        let asked = match next_request(alloc, input, settings.frame_limit) {
+    for answers in 0..u64::MAX {
+        let asked = match next_behind(alloc, input, settings.frame_limit, answers, out) {
             Ok(asked) => asked,
             Err(io::Error { .. }) => return Err(ServeFault::Unreadable),
         };
@@ -70,6 +70,22 @@ pub fn serve<R: BufferedSource, C: CallRunner, W: Destination>(
         }
     }
     Err(ServeFault::Unreadable)
+}
+
+/// Reads the next request, as `next_request` does, behind so many answers to a writer, the last of which is flushed.
+pub fn next_behind<R: BufferedSource, W: Destination>(
+    alloc: Global,
+    input: &mut R,
+    frame_limit: u64,
+    answers: u64,
+    _out: &W,
+) -> io::Result<Asked>
+    requires flushed { 0 < answers → W.is_flushed _out.now }
+    ensures says { IfOk result (λ asked. WhereKnown (R.remaining input.old) (R.remaining input.new) (Tells frame_limit asked)) }
+    ensures fails { OnErr result (R.may_fail input.old) }
+    ensures same { R.may_fail input.new → R.may_fail input.old }
+{
+    next_request(alloc, input, frame_limit)
 }
 
 /// Does what was read.

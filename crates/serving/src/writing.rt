@@ -1,6 +1,6 @@
 //! Writing an answer.
 
-ghost use Rattle.std.specs.Prelude.{◌++◌, IfErr, Some};
+ghost use Rattle.std.specs.Prelude.{◌++◌, IfErr, OnOk, Some};
 ghost use Rattle.std.specs.Io.KnownBytes.{Keeps};
 ghost use Rattle.byte_streams.specs.Written.{MayRefuse};
 ghost use Rattle.serving.specs.Serving.{end_text};
@@ -27,6 +27,7 @@ pub fn write_answer<W: Destination>(
     out: &mut W,
 ) -> Result<(), WriteFault>
     ensures says { Says result (W.contents out.old) (W.contents out.new) (answer_text (reply_in state.now answer)) }
+    ensures flushed { OnOk result (W.is_flushed out.new) }
     ensures refused { IfErr result (MayRefuse (W.may_fail out.old) (W.may_take_nothing out.old)) }
     ensures no_worse { (W.may_fail out.new → W.may_fail out.old) × (W.may_take_nothing out.new → W.may_take_nothing out.old) }
 {
@@ -51,6 +52,7 @@ pub fn write_answer<W: Destination>(
 /// Writes the answer that is kept of the last frame, or the refusal where there is none.
 fn print_last<W: Destination>(state: &State, out: &mut W) -> Result<(), WriteFault>
     ensures says { Says result (W.contents out.old) (W.contents out.new) (answer_text (last_reply state.now.last)) }
+    ensures flushed { OnOk result (W.is_flushed out.new) }
     ensures refused { IfErr result (MayRefuse (W.may_fail out.old) (W.may_take_nothing out.old)) }
     ensures no_worse { (W.may_fail out.new → W.may_fail out.old) × (W.may_take_nothing out.new → W.may_take_nothing out.old) }
 {
@@ -66,6 +68,7 @@ fn print_last<W: Destination>(state: &State, out: &mut W) -> Result<(), WriteFau
 /// Writes an answer that is kept.
 fn print_kept<W: Destination>(kept: &KeptAnswer, out: &mut W) -> Result<(), WriteFault>
     ensures says { Says result (W.contents out.old) (W.contents out.new) (answer_text (kept_reply kept.now)) }
+    ensures flushed { OnOk result (W.is_flushed out.new) }
     ensures refused { IfErr result (MayRefuse (W.may_fail out.old) (W.may_take_nothing out.old)) }
     ensures no_worse { (W.may_fail out.new → W.may_fail out.old) × (W.may_take_nothing out.new → W.may_take_nothing out.old) }
 {
@@ -80,6 +83,7 @@ fn print_storage<W: Destination>(
     out: &mut W,
 ) -> Result<(), WriteFault>
     ensures says { Says result (W.contents out.old) (W.contents out.new) (answer_text (Done (dump_text state.now.rules state.now.store))) }
+    ensures flushed { OnOk result (W.is_flushed out.new) }
     ensures refused { IfErr result (MayRefuse (W.may_fail out.old) (W.may_take_nothing out.old)) }
     ensures no_worse { (W.may_fail out.new → W.may_fail out.old) × (W.may_take_nothing out.new → W.may_take_nothing out.old) }
 {
@@ -97,6 +101,7 @@ fn print_storage<W: Destination>(
 /// Answers bytes that are no request: writes the refusal, and flushes it. Refused where a write failed.
 pub(crate) fn print_end<W: Destination>(fault: RequestFault, out: &mut W) -> Result<(), WriteFault>
     ensures says { Says result (W.contents out.old) (W.contents out.new) (end_text (Some fault)) }
+    ensures flushed { OnOk result (W.is_flushed out.new) }
     ensures refused { IfErr result (MayRefuse (W.may_fail out.old) (W.may_take_nothing out.old)) }
     ensures no_worse { (W.may_fail out.new → W.may_fail out.old) × (W.may_take_nothing out.new → W.may_take_nothing out.old) }
 {
@@ -107,6 +112,7 @@ pub(crate) fn print_end<W: Destination>(fault: RequestFault, out: &mut W) -> Res
 /// Writes a line and the bytes behind it, and flushes them.
 pub fn write_both<W: Destination>(line: &[u8], bytes: &[u8], out: &mut W) -> Result<(), WriteFault>
     ensures says { Says result (W.contents out.old) (W.contents out.new) (line.now ++ bytes.now) }
+    ensures flushed { OnOk result (W.is_flushed out.new) }
     ensures refused { IfErr result (MayRefuse (W.may_fail out.old) (W.may_take_nothing out.old)) }
     ensures no_worse { (W.may_fail out.new → W.may_fail out.old) × (W.may_take_nothing out.new → W.may_take_nothing out.old) }
 {
@@ -119,6 +125,7 @@ pub fn write_both<W: Destination>(line: &[u8], bytes: &[u8], out: &mut W) -> Res
 /// Writes a text and flushes it, so that it is seen before the next request is read.
 fn print<W: Destination>(text: &[u8], out: &mut W) -> Result<(), WriteFault>
     ensures says { Says result (W.contents out.old) (W.contents out.new) text.now }
+    ensures flushed { OnOk result (W.is_flushed out.new) }
     ensures refused { IfErr result (MayRefuse (W.may_fail out.old) (W.may_take_nothing out.old)) }
     ensures no_worse { (W.may_fail out.new → W.may_fail out.old) × (W.may_take_nothing out.new → W.may_take_nothing out.old) }
 {
@@ -131,6 +138,7 @@ fn print<W: Destination>(text: &[u8], out: &mut W) -> Result<(), WriteFault>
 /// Flushes a writer.
 fn flush<W: Destination>(out: &mut W) -> Result<(), WriteFault>
     ensures keeps { Keeps (W.contents out.old) (W.contents out.new) }
+    ensures flushed { OnOk result (W.is_flushed out.new) }
     ensures refused { IfErr result (MayRefuse (W.may_fail out.old) (W.may_take_nothing out.old)) }
     ensures no_worse { (W.may_fail out.new → W.may_fail out.old) × (W.may_take_nothing out.new → W.may_take_nothing out.old) }
 {

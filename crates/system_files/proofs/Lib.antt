@@ -1,1 +1,2 @@
 mod NewPaths
+mod OrderLists

@@ -1,9 +1,10 @@
 //! Where files are made and replaced.
 
-ghost use Rattle.std.specs.Prelude.{◌≡◌, ◌⊎◌, ℕ, List, [], Option, Some, IfOk, IfSome, OnErr, OnOk};
+ghost use Rattle.std.specs.Prelude.{◌≡◌, ◌⊎◌, ℕ, List, [], ◌∷◌, Option, Some, IfOk, IfSome, OnErr, OnOk};
 ghost use Rattle.std.specs.Option.{option_map};
 ghost use Rattle.std.specs.String.{string_bytes};
 ghost use Rattle.system_files.specs.Entries.{Entries, IsPathOf, KeepsBut, Ordinary};
+ghost use Rattle.system_files.specs.Orders.{Asks, Make, Open, Order, Remove, Rename, Sync};
 
 use std::alloc::Global;
 use std::io;
@@ -17,6 +18,9 @@ pub trait OutputDisk {
     /// What stands at each path, links aside, where that is known.
     ghost entries: { Self → Option Entries };
 
+    /// What was asked of the disk so far, the last order last, where that is known.
+    ghost asked: { Self → Option (List Order) };
+
     /// The path that a path leads to, with links followed.
     ghost leads: { Self → List ℕ → List ℕ };
 
@@ -24,12 +28,14 @@ pub trait OutputDisk {
     /// where something is at the path.
     fn create_new(&mut self, path: &str) -> io::Result<Self::NewFile>
         ensures empty { IfOk result (λ file. IfSome (entries self.old) (λ _. Self.NewFile.contents file ≡ Some [])) }
-        ensures others { KeepsBut (λ p. p ≡ path.now) (entries self.old) (entries self.new) };
+        ensures others { KeepsBut (λ p. p ≡ path.now) (entries self.old) (entries self.new) }
+        ensures asks { Asks (asked self.old) (asked self.new) (Make path.now ∷ []) };
 
     /// Removes the file at a path, which a process that has ended made by `create_new`; refused where something
     /// else is there, or the file is still kept.
     fn remove_left_over(&mut self, path: &str) -> io::Result<()>
-        ensures others { KeepsBut (λ p. p ≡ path.now) (entries self.old) (entries self.new) };
+        ensures others { KeepsBut (λ p. p ≡ path.now) (entries self.old) (entries self.new) }
+        ensures asks { Asks (asked self.old) (asked self.new) (Remove path.now ∷ []) };
 
     /// Whether two paths name one ordinary file; not where nothing is at one of them. Refused where that
     /// can't be told.
@@ -37,7 +43,8 @@ pub trait OutputDisk {
 
     /// Opens what is at a path, to write into it from its start.
     fn create(&mut self, path: &str) -> io::Result<Self::NewFile>
-        ensures others { KeepsBut (λ p. p ≡ leads self.old path.now) (entries self.old) (entries self.new) };
+        ensures others { KeepsBut (λ p. p ≡ leads self.old path.now) (entries self.old) (entries self.new) }
+        ensures asks { Asks (asked self.old) (asked self.new) (Open path.now ∷ []) };
 
     /// The path of the ordinary file that a path names, with links followed; the path itself where
     /// nothing is there yet. `None` where something else is there, such as a device or a link to nothing.
@@ -46,16 +53,20 @@ pub trait OutputDisk {
         ensures { IfOk result (λ found. IsPathOf (entries self.now) (leads self.now path.now) (option_map string_bytes found)) };
 
     /// Makes sure that what was written to a file is on the disk.
-    fn sync(&self, file: &Self::NewFile) -> io::Result<()>;
+    fn sync(&mut self, file: &Self::NewFile) -> io::Result<()>
+        ensures same { KeepsBut (λ _. ⊥) (entries self.old) (entries self.new) }
+        ensures asks { Asks (asked self.old) (asked self.new) (Sync (Self.NewFile.contents file.now) ∷ []) };
 
     /// Renames a file that is open. It replaces the file that has the new name, if any. Refused where the old
     /// name is not this file's.
     fn rename(&mut self, file: &Self::NewFile, from: &str, to: &str) -> io::Result<()>
         ensures renamed { OnOk result (IfSome (Self.NewFile.contents file.now) (λ bytes. IfSome (entries self.new) (λ new. new to.now ≡ Ordinary bytes))) }
         ensures others { KeepsBut (λ p. (p ≡ from.now) ⊎ (p ≡ to.now)) (entries self.old) (entries self.new) }
-        ensures stays { OnErr result (KeepsBut (λ p. p ≡ from.now) (entries self.old) (entries self.new)) };
+        ensures stays { OnErr result (KeepsBut (λ p. p ≡ from.now) (entries self.old) (entries self.new)) }
+        ensures asks { Asks (asked self.old) (asked self.new) (Rename (Self.NewFile.contents file.now) from.now to.now ∷ []) };
 
     /// Removes a file.
     fn remove_file(&mut self, path: &str) -> io::Result<()>
-        ensures others { KeepsBut (λ p. p ≡ path.now) (entries self.old) (entries self.new) };
+        ensures others { KeepsBut (λ p. p ≡ path.now) (entries self.old) (entries self.new) }
+        ensures asks { Asks (asked self.old) (asked self.new) (Remove path.now ∷ []) };
 }

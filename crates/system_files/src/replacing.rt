@@ -1,8 +1,9 @@
 //! How a file is put in the place of another.
 
-ghost use Rattle.std.specs.Prelude.{◌≡◌, ◌⊎◌, ◌<◌, [], Some, IfOk, IfSome, OnErr, OnOk};
+ghost use Rattle.std.specs.Prelude.{◌≡◌, ◌⊎◌, ◌<◌, ℕ, List, [], ◌∷◌, Option, Some, IfErr, IfOk, IfSome, OnErr, OnOk};
 ghost use Rattle.std.specs.String.{string_bytes};
-ghost use Rattle.system_files.specs.Entries.{IsBeside, IsNewPath, IsPut, KeepsBut, Ordinary, Stays};
+ghost use Rattle.system_files.specs.Entries.{IsBeside, IsNewPath, IsPut, KeepsBut, Ordinary, Other, Stays};
+ghost use Rattle.system_files.specs.Orders.{Asks, AsksMore, AsksToReplace, Rename, Sync};
 
 use crate::fault::ReplaceFault;
 use crate::output_disk::OutputDisk;
@@ -28,6 +29,8 @@ pub fn replace<D: OutputDisk>(
     ensures put { OnOk result (IsPut (D.entries disk.old) (D.entries disk.new) (D.leads disk.old path.now) bytes.now) }
     ensures stays { OnErr result (Stays (D.entries disk.old) (D.entries disk.new) (D.leads disk.old path.now)) }
     ensures others { KeepsBut (λ p. IsNewPath p ⊎ (p ≡ D.leads disk.old path.now)) (D.entries disk.old) (D.entries disk.new) }
+    ensures ordered { OnOk result (IfSome (D.entries disk.old) (λ entries. (entries (D.leads disk.old path.now) ≡ Other)
+        ⊎ AsksToReplace (D.asked disk.old) (D.asked disk.new) (Some bytes.now) (D.leads disk.old path.now))) }
 {
     match disk.file_path(alloc, path)? {
         Some(path) => replace_file(alloc, disk, path.as_str(), bytes),
@@ -46,6 +49,7 @@ fn replace_file<D: OutputDisk>(
     ensures put { OnOk result (IfSome (D.entries disk.old) (λ _. IfSome (D.entries disk.new) (λ new. new path.now ≡ Ordinary bytes.now))) }
     ensures stays { OnErr result (KeepsBut (IsBeside path.now) (D.entries disk.old) (D.entries disk.new)) }
     ensures others { KeepsBut (λ p. IsNewPath p ⊎ (p ≡ path.now)) (D.entries disk.old) (D.entries disk.new) }
+    ensures ordered { OnOk result (IfSome (D.entries disk.old) (λ _. AsksToReplace (D.asked disk.old) (D.asked disk.new) (Some bytes.now) path.now)) }
 {
     let (name, file) = new_beside(alloc, disk, path)?;
     match put(disk, file, name.as_str(), path, bytes) {
@@ -69,6 +73,7 @@ fn put<D: OutputDisk>(
     ensures renamed { OnOk result (D.NewFile.contents file ≡ Some [] → IfSome (D.entries disk.new) (λ new. new path.now ≡ Ordinary bytes.now)) }
     ensures others { KeepsBut (λ p. (p ≡ name.now) ⊎ (p ≡ path.now)) (D.entries disk.old) (D.entries disk.new) }
     ensures stays { OnErr result (KeepsBut (λ p. p ≡ name.now) (D.entries disk.old) (D.entries disk.new)) }
+    ensures ordered { OnOk result (D.NewFile.contents file ≡ Some [] → Asks (D.asked disk.old) (D.asked disk.new) (Sync (Some bytes.now) ∷ Rename (Some bytes.now) name.now path.now ∷ [])) }
 {
     file.write_all(bytes)?;
     disk.sync(&file)?;
@@ -86,6 +91,7 @@ fn new_beside<D: OutputDisk>(
     ensures beside { IfOk result (λ made. IsBeside path.now (string_bytes made.0)) }
     ensures empty { IfOk result (λ made. IfSome (D.entries disk.old) (λ _. D.NewFile.contents made.1 ≡ Some [])) }
     ensures others { KeepsBut (IsBeside path.now) (D.entries disk.old) (D.entries disk.new) }
+    ensures asks { AsksMore (D.asked disk.old) (D.asked disk.new) }
 {
     for number in 0..NAME_LIMIT {
         let name = new_path(alloc, path, number)?;
@@ -115,6 +121,7 @@ fn new_path(alloc: Global, path: &str, number: usize) -> Result<String, AllocErr
 fn new_file<D: OutputDisk>(disk: &mut D, path: &str) -> io::Result<D::NewFile>
     ensures empty { IfOk result (λ file. IfSome (D.entries disk.old) (λ _. D.NewFile.contents file ≡ Some [])) }
     ensures others { KeepsBut (λ p. p ≡ path.now) (D.entries disk.old) (D.entries disk.new) }
+    ensures asks { AsksMore (D.asked disk.old) (D.asked disk.new) }
 {
     match disk.create_new(path) {
         Err(error) if error.kind() == io::ErrorKind::AlreadyExists => {

@@ -21,6 +21,8 @@ impl<'a, R: Files<File = File>> OutputDisk for SystemDisk<'a, R> {
 
     ghost entries = { λ _. None };
 
+    ghost asked = { λ _. None };
+
     ghost leads = { λ _ path. path };
 
     fn create_new(&mut self, path: &str) -> io::Result<File> {
@@ -64,7 +66,7 @@ impl<'a, R: Files<File = File>> OutputDisk for SystemDisk<'a, R> {
         }
     }
 
-    fn sync(&self, file: &File) -> io::Result<()> {
+    fn sync(&mut self, file: &File) -> io::Result<()> {
         file.sync_all()
     }
 

@@ -13,9 +13,6 @@ pub(crate) const CHUNK_BYTES: usize = 65_536;
 /// The bytes at the end of a chunk that may be too few for a value.
 const TAIL_BYTES: usize = 255;
 
-/// The greatest number of bytes that room is made for at once. The machine's addresses have 48 bits.
-const REQUEST_LIMIT: usize = 281_474_976_710_656;
-
 /// Where bytes lie: the index of their chunk, the place of the first byte in it, and how many there are.
 #[derive(Clone, Copy)]
 pub(crate) struct Span {
@@ -73,11 +70,13 @@ impl Pool {
         if bytes < self.room {
             return Ok(());
         }
-        let missing = bytes - self.room;
-        if missing > REQUEST_LIMIT {
+        let Some(wanted) = (bytes - self.room).checked_add(TAIL_BYTES + 1) else {
             return Err(AllocError);
-        }
-        let size = (missing + TAIL_BYTES + 1).max(CHUNK_BYTES);
+        };
+        let Ok(_) = isize::try_from(wanted) else {
+            return Err(AllocError);
+        };
+        let size = wanted.max(CHUNK_BYTES);
         let promise = size - TAIL_BYTES;
         let Some(capacity) = self.capacity.checked_add(promise) else {
             return Err(AllocError);

@@ -1,4 +1,4 @@
-use Rattle.std.proofs.Common.{◌<◌, arith}
+use Rattle.std.proofs.Common.{arith}
 use Rattle.requests.proofs.Taken.{none_lost, passes_more, passes_none, some_lost}
 use Rattle.requests.proofs.reading.read_body.Goals as goal
 
@@ -12,6 +12,6 @@ loop-left-preserved g c =
       passes = passes_more c.args.size c.loop-left.left c.in-Ok.count c.loop-left.kept c.in-Ok.longer piece.0 (g.R.Read.remaining c.args.input.now) (g.R.Read.remaining c.loop-left.input) (g.R.Read.remaining c.read_piece.new.input)
           c.loop-left.invariant.passes piece.1 piece.2 piece.3 piece.5;
       few = omega (arith, c.loop-left.invariant.few);
-      lost = some_lost c.args.kept c.in-Ok.longer c.args.size (omega (arith, c.loop-left.invariant.few, c.loop-left-test));
+      lost = some_lost c.args.kept c.loop-left.kept c.in-Ok.longer c.args.size (omega (arith, c.loop-left.invariant.few, c.loop-left-test)) c.loop-left.invariant.lost c.in-Ok.ensures.goes_on;
       same = λ h. c.loop-left.invariant.same (c.in-Ok.ensures.same h);
     }

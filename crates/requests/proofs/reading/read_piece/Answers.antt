@@ -20,5 +20,5 @@ returns-clause-bytes g c =
       length-take-le count shown c.at_most-count.ensures.shown,
       c.at_most-count.ensures.most,
       λ none. moved.1 (none_shown count (length shown) c.args.most c.at_most-count.ensures.some c.requires none),
-      c.with_part-longer.ensures,
+      c.with_part-longer.ensures.longer,
     )

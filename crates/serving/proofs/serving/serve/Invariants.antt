@@ -1,11 +1,13 @@
+use Rattle.std.specs.Prelude.{◌<◌}
 use Rattle.requests.specs.Reading.{WhereKnown}
 use Rattle.turns.specs.Failures.{IsAnswer}
 use Rattle.serving.proofs.Serves.{IsServing}
 use Rattle.serving.proofs.serving.serve.Given as goal
 
-abbrev pub invariant-loop : goal.invariant-loop
-invariant-loop g l = record {
+abbrev pub invariant-loop-answers : goal.invariant-loop-answers
+invariant-loop-answers g l = record {
+  flushed : 0 < l.answers → g.W.Destination.is_flushed l.out;
   same : g.R.BufferedSource.may_fail l.input → g.R.BufferedSource.may_fail l.fn.input;
   no_worse : (g.W.Destination.may_fail l.out → g.W.Destination.may_fail l.fn.out) × (g.W.Destination.may_take_nothing l.out → g.W.Destination.may_take_nothing l.fn.out);
-  serves : WhereKnown (g.R.Read.remaining l.fn.input) (g.R.Read.remaining l.input) (IsServing (IsAnswer l.settings) l.fn.state l.state (g.W.Write.contents l.fn.out) (g.W.Write.contents l.out) l.counter);
+  serves : WhereKnown (g.R.Read.remaining l.fn.input) (g.R.Read.remaining l.input) (IsServing (IsAnswer l.settings) l.fn.state l.state (g.W.Write.contents l.fn.out) (g.W.Write.contents l.out) l.answers);
 }

@@ -4,6 +4,7 @@ use Rattle.serving.proofs.writing.print.Goals as goal
 pub returns-in-Err : goal.returns-in-Err
 returns-in-Err g c = record {
   says = part_of c.args.text.now (g.W.Write.contents c.args.out.now) (g.W.Write.contents c.write_whole.new.out) c.in-Err.ensures.err;
+  flushed = tt;
   refused = c.in-Err.ensures.cause;
   no_worse = c.write_whole.ensures.same;
 }
@@ -11,6 +12,7 @@ returns-in-Err g c = record {
 pub returns-in-Ok : goal.returns-in-Ok
 returns-in-Ok g c = record {
   says = flushed c.flush.result c.args.text.now (g.W.Write.contents c.args.out.now) (g.W.Write.contents c.write_whole.new.out) (g.W.Write.contents c.flush.new.out) c.in-Ok.ensures.ok c.flush.ensures.keeps;
+  flushed = c.flush.ensures.flushed;
   refused = refused_before c.flush.result _ _ _ _ c.write_whole.ensures.same c.flush.ensures.refused;
   no_worse = (λ h. c.write_whole.ensures.same.0 (c.flush.ensures.no_worse.0 h), λ h. c.write_whole.ensures.same.1 (c.flush.ensures.no_worse.1 h));
 }

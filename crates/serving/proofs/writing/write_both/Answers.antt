@@ -4,6 +4,7 @@ use Rattle.serving.proofs.writing.write_both.Goals as goal
 pub returns-in-Err : goal.returns-in-Err
 returns-in-Err g c = record {
   says = part_before c.args.line.now c.args.bytes.now (g.W.Write.contents c.args.out.now) (g.W.Write.contents c.write_whole.new.out) c.in-Err.ensures.err;
+  flushed = tt;
   refused = c.in-Err.ensures.cause;
   no_worse = c.write_whole.ensures.same;
 }
@@ -11,6 +12,7 @@ returns-in-Err g c = record {
 pub returns-in-Ok : goal.returns-in-Ok
 returns-in-Ok g c = record {
   says = says_behind c.print.result c.args.line.now c.args.bytes.now (g.W.Write.contents c.args.out.now) (g.W.Write.contents c.write_whole.new.out) (g.W.Write.contents c.print.new.out) c.in-Ok.ensures.ok c.print.ensures.says;
+  flushed = c.print.ensures.flushed;
   refused = refused_before c.print.result _ _ _ _ c.write_whole.ensures.same c.print.ensures.refused;
   no_worse = (λ h. c.write_whole.ensures.same.0 (c.print.ensures.no_worse.0 h), λ h. c.write_whole.ensures.same.1 (c.print.ensures.no_worse.1 h));
 }

@@ -1,0 +1,25 @@
+use Rattle.std.proofs.Common.{◌≡◌, ◌∙◌, sym, subst}
+use Rattle.std.specs.String.{string_bytes}
+use Rattle.system_files.specs.Entries.{IsBeside, KeepsBut}
+use Rattle.system_files.specs.Orders.{AsksMore}
+use Rattle.system_files.proofs.OrderLists.{asked_then, differs, kept_then}
+use Rattle.system_files.proofs.replacing.new_beside.Goals.{then-ne+in-Err, else-ne}
+use Rattle.system_files.proofs.replacing.new_beside.Goals as goal
+
+pub loop-number-preserved : goal.loop-number-preserved
+loop-number-preserved g c = elim c.if-ne.branch [
+  | then-ne+in-Err w ↦ record {
+    others = subst (λ d. KeepsBut (IsBeside c.args.path.now) (g.D.OutputDisk.entries c.args.disk.now) (g.D.OutputDisk.entries d)) (sym w.disk-is)
+        (kept_then (IsBeside c.args.path.now) w.as_str-then-ne.result.now (g.D.OutputDisk.entries c.args.disk.now) (g.D.OutputDisk.entries c.loop-number.disk) (g.D.OutputDisk.entries w.new_file.new.disk)
+        (let same : string_bytes c.in_ok-name.name ≡ w.as_str-then-ne.result.now = cc in
+        let looked : string_bytes c.in_ok-name.name ≡ c.as_str.result.now = cc in
+        subst (IsBeside c.args.path.now) same (c.in_ok-name.ensures, λ is. differs c.as_str.result.now c.args.path.now (sym looked ∙ is) w.if-ne.ensures))
+        c.loop-number.invariant.others w.new_file.ensures.others);
+    asks = subst (λ d. AsksMore (g.D.OutputDisk.asked c.args.disk.now) (g.D.OutputDisk.asked d)) (sym w.disk-is)
+        (asked_then (g.D.OutputDisk.asked c.args.disk.now) (g.D.OutputDisk.asked c.loop-number.disk) (g.D.OutputDisk.asked w.new_file.new.disk) c.loop-number.invariant.asks w.new_file.ensures.asks);
+  }
+  | else-ne w ↦ record {
+    others = subst (λ d. KeepsBut (IsBeside c.args.path.now) (g.D.OutputDisk.entries c.args.disk.now) (g.D.OutputDisk.entries d)) (sym w.disk-is) c.loop-number.invariant.others;
+    asks = subst (λ d. AsksMore (g.D.OutputDisk.asked c.args.disk.now) (g.D.OutputDisk.asked d)) (sym w.disk-is) c.loop-number.invariant.asks;
+  }
+]
