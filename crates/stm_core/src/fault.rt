@@ -21,14 +21,14 @@ impl RecordFault {
     ghost use Rattle.std.specs.Prelude.{◌≡◌};
     ghost use Rattle.stm_core.specs.Faults.{record_name, record_number};
 
-    /// The number in what is printed, 1 to 4.
+    /// Its number, 1 to 4.
     pub fn number(self) -> u8
         ensures { result ≡ record_number self }
     {
         self as u8
     }
 
-    /// The name in what is printed.
+    /// Its name.
     pub fn name(self) -> &'static str
         ensures { result.now ≡ record_name self }
     {

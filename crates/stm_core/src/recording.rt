@@ -22,6 +22,7 @@ use mvmap::MvMap;
 use rv_ledger::{Block, VALUE_LIMIT, Writes, same_call};
 use rv_step::{EndedRun, StorageAnswer};
 use scheduler::{INCARNATION_LIMIT, Scheduler};
+use std::alloc::AllocError;
 use version_arena::{RECORD_LIMIT, ReserveFault};
 
 /// What a record leaves over, so that it can be dropped after a lock: the call and the answers of the run that was
@@ -135,7 +136,7 @@ fn make_record_room(
     call: u16,
     writes: &Writes,
     keys: usize,
-) -> Result<(), ReserveFault>
+) -> Result<(), AllocError>
     requires { length map.old.arena.records + records ≤ RECORD_LIMIT }
     ensures keys { OnOk result (keys ≤ scheduler.new.key_room) }
     ensures same { scheduler.new ≡ record scheduler.old { key_room = scheduler.new.key_room } }
@@ -145,7 +146,11 @@ fn make_record_room(
     ensures bytes { OnOk result (records * VALUE_LIMIT ≤ map.new.arena.bytes) }
     ensures grown { IsGrown map.old map.new }
 {
-    map.reserve_for(writes.as_slice(), call, records, records * VALUE_LIMIT)?;
+    match map.reserve_for(writes.as_slice(), call, records, records * VALUE_LIMIT) {
+        Ok(()) => {}
+        Err(ReserveFault::Memory) => return Err(AllocError),
+        Err(ReserveFault::ArenaFull) => unreachable!(),
+    }
     scheduler.reserve_keys(keys)?;
     Ok(())
 }

@@ -18,14 +18,14 @@ pub enum ReserveFault {
 }
 
 impl ReserveFault {
-    /// The number in the refusal's line, 1 or 2.
+    /// Its number, 1 or 2.
     pub fn number(self) -> u8
         ensures { result ≡ number_of self }
     {
         self as u8
     }
 
-    /// The name in the refusal's line.
+    /// Its name.
     pub fn name(self) -> &'static str
         ensures { result.now ≡ name_of self }
     {

@@ -10,4 +10,4 @@ pub returns-clause-open_ : goal.returns-clause-open_
 returns-clause-open_ c =
     let places = c.reserve_for.new.self.places in
     open_writes places c.args.call (entries c.args.writes.now)
-    (subst (λ (es : List (List ℕ × ContentChange)). All (λ write. IsTrue (contains places (write.0, c.args.call))) es) c.as_slice.ensures c.in_ok-reserve_for.ensures.ok.0)
+    (subst (λ (es : List (List ℕ × ContentChange)). All (λ write. IsTrue (contains places (write.0, c.args.call))) es) c.as_slice.ensures c.in-Ok.ensures.ok.0)
