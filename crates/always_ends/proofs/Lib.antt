@@ -10,6 +10,7 @@ pub mod Prices
 pub mod Changes
 pub mod Causes
 pub mod Powers
+pub mod WorkAlong
 pub mod SmallBlocks
 pub mod Stretches
 pub mod FairSchedules

@@ -8,8 +8,9 @@ use Rattle.stm_state.specs.Steps.{Block, Limit, Step, worker_step}
 use Rattle.stm_state.specs.Done.{MeetsLimit, Reached, block_of}
 use Rattle.stm_state.specs.Dones.{dones_of}
 use Rattle.stm_state.specs.Drive.{drive_of, due_step}
+use Rattle.stm_state.specs.Walk.{LeadsTo}
 use Rattle.never_stuck.specs.Far.{HasAtMostGas}
-use Rattle.always_ends.specs.Work.{HasAtMost, IsSmall, WorksButReadsTo, WorksTo, incarnations, is_idle_asking, most_incarnations, most_work, work_by_incarnation}
+use Rattle.always_ends.specs.Work.{HasAtMost, IsSmall, WorksButReadsTo, WorksTo, incarnations, is_idle_asking, most_incarnations, most_work, work_by_incarnation, work_of_list}
 use Rattle.always_ends.specs.Schedules.{Ends, HasShortRuns, IsEndlessRun, IsFair, IsRound, first_entries, turns}
 
 -- ---- bounded work
@@ -24,6 +25,13 @@ WorkIsBounded = (calls : List Invocation) (store : Storage) (workers gas work : 
 abbrev pub WorkButReadsIsBounded : Type 0
 WorkButReadsIsBounded = (block : Block) (workers reads writes work : ℕ) (s : State) → HasAtMost reads writes block → WorksButReadsTo block workers work s
     → work ≤ (block.count + incarnations s) * work_by_incarnation workers block.count reads writes
+
+-- so of a list of steps of a job that leads to a state, but for its reads: at most so many for each call and for each incarnation
+-- that came on top, and at most so many in all
+abbrev pub WorkOfListsIsBounded : Type 0
+WorkOfListsIsBounded = (calls : List Invocation) (store : Storage) (workers gas : ℕ) (entries : List (ℕ × Step)) (s : State) → HasAtMostGas gas calls → LeadsTo (block_of calls store) workers entries s
+    → (work_of_list (block_of calls store) workers entries ≤ (length calls + incarnations s) * work_by_incarnation workers (length calls) (gas / 200 + 1) 256)
+    × (work_of_list (block_of calls store) workers entries ≤ most_work workers (length calls) gas)
 
 -- ---- no call is taken back without a cause
 

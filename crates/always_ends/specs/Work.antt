@@ -1,5 +1,5 @@
 -- What is work among the steps of a job, and how much work there can be.
-use Rattle.std.specs.Prelude.{◌≡◌, ◌<◌, ◌≤◌, ◌+◌, ◌-◌, ◌*◌, ◌^◌, ◌/◌, ◌==◌, ◌&&◌, min, ℕ, Bool, false, if◌then◌else◌, List, length, Some, Ok}
+use Rattle.std.specs.Prelude.{◌≡◌, ◌<◌, ◌≤◌, ◌+◌, ◌-◌, ◌*◌, ◌^◌, ◌/◌, ◌==◌, ◌&&◌, min, ℕ, Bool, false, if◌then◌else◌, List, [], ◌∷◌, length, Option, None, Some, Result, Ok, Err}
 use Rattle.std.specs.List.{sum_by}
 use Rattle.std.specs.FinMap.{len}
 use Rattle.rv_ledger.specs.Key.{Storage}
@@ -8,7 +8,7 @@ use Rattle.rv_ledger.specs.declared.receipt.Receipt.{Receipt}
 use Rattle.rv_step.specs.Moment.{Reply}
 use Rattle.stm_state.specs.Limits.{incarnation_limit, record_limit}
 use Rattle.stm_state.specs.State.{State, start, task_at}
-use Rattle.stm_state.specs.Steps.{Block, Step, Ask, ReadKey, worker_step}
+use Rattle.stm_state.specs.Steps.{Block, Limit, Step, Ask, ReadKey, worker_step}
 use Rattle.stm_state.specs.Drive.{due_result, due_step}
 
 -- an asking is idle where both indices are past the last call: it gets no task, and no index goes up
@@ -36,6 +36,20 @@ pub data WorksButReadsTo (block : Block) (workers : ℕ) : ℕ → State → Typ
   at_start : WorksButReadsTo block workers 0 (start block.count workers)
   went_on : {work : ℕ} {s t : State} (w : ℕ) (step : Step) → WorksButReadsTo block workers work s → w < workers → worker_step block w step s ≡ Some (Ok t)
       → WorksButReadsTo block workers (work + work_but_reads step s) t
+
+-- how many steps of a list from a state on are work and no read, as far as its steps are made
+abbrev pub work_after : (State → ℕ) → Option (Result State Limit) → ℕ
+work_after rest None = 0
+work_after rest (Some (Ok s)) = rest s
+work_after rest (Some (Err limit)) = 0
+
+unfoldable pub work_along : Block → List (ℕ × Step) → State → ℕ
+work_along block [] s = 0
+work_along block (entry ∷ entries) s = work_but_reads entry.1 s + work_after (λ t. work_along block entries t) (worker_step block entry.0 entry.1 s)
+
+-- the same of a list from the start of a block
+abbrev pub work_of_list : Block → ℕ → List (ℕ × Step) → ℕ
+work_of_list block workers entries = work_along block entries (start block.count workers)
 
 -- how often calls were readied again, all together
 abbrev pub incarnations : State → ℕ
