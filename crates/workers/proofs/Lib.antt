@@ -7,4 +7,5 @@ pub mod Histories
 pub mod Chains
 pub mod Ways
 pub mod Working
+pub mod CountsAlong
 pub mod Runs

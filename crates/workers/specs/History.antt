@@ -1,5 +1,6 @@
 -- The history of a block's run: one list of worker steps.
-use Rattle.std.specs.Prelude.{◌≡◌, ◌<◌, ◌+◌, ◌*◌, ℕ, true, List, [], ◌∷◌, get_or, length, Option}
+use Rattle.std.specs.Prelude.{◌≡◌, ◌<◌, ◌≤◌, ◌+◌, ◌*◌, ◌/◌, ℕ, true, List, [], ◌∷◌, get_or, length, Option}
+use Rattle.std.specs.List.{count_by, sum_by}
 use Rattle.rv_ledger.specs.declared.job.Job.{Job}
 use Rattle.rv_ledger.specs.declared.outcome.Counts.{Counts}
 use Rattle.stm_state.specs.State.{State, is_done, no_counts}
@@ -7,6 +8,8 @@ use Rattle.stm_state.specs.Steps.{Step, Limit}
 use Rattle.stm_state.specs.Done.{MeetsLimit, Reached, block_of}
 use Rattle.stm_state.specs.Walk.{LeadsTo}
 use Rattle.stm_state.specs.Dones.{EndsAtDone}
+use Rattle.stm_core.specs.CoreState.{is_read}
+use Rattle.always_ends.specs.Work.{incarnations, most_work, work_by_incarnation, work_of_list}
 use Rattle.workers.specs.Book.{IsSpent}
 use Rattle.workers.specs.Settle.{AreSharesOf}
 use Rattle.workers.specs.declared.book.share.Share.{Share}
@@ -20,6 +23,17 @@ pub record HasHistory (job : Job) (workers : ℕ) (found : List Counts) : Type 0
   pub done : is_done state ≡ true
   pub counts : found ≡ state.counts
   pub ends : (w : ℕ) → w < workers → EndsAtDone (block_of job.block job.store) workers w entries 0
+
+-- such a list with little work, which are the steps that are neither reads nor idle askings: where no call has more gas, at most
+-- so much for each call and for each incarnation that came on top, and at most so much in all. And all steps of all shares are no more
+-- than their askings, the reads of the list and its work
+pub record IsBoundedHistory (job : Job) (workers gas : ℕ) (found : List Counts) : Type 0 where
+  pub history : HasHistory job workers found
+  pub work : ℕ
+  pub counted : work ≡ work_of_list (block_of job.block job.store) workers history.entries
+  pub by_incarnations : work ≤ (length job.block + incarnations history.state) * work_by_incarnation workers (length job.block) (gas / 200 + 1) 256
+  pub in_all : work ≤ most_work workers (length job.block) gas
+  pub steps : sum_by (λ did. did.steps) found ≤ sum_by (λ did. did.asks) found + count_by (λ entry. is_read entry.1) history.entries + work
 
 -- a job is run by this number of workers: some list of their steps leads from its start to a state where they are done
 pub record IsRunBy (job : Job) (workers : ℕ) : Type 0 where

@@ -37,11 +37,12 @@ pub struct Executor {
 }
 
 impl Executor {
-    ghost use Rattle.std.specs.Prelude.{◌≡◌, ◌<◌, ◌⊎◌, ◌↔◌, [], Err, IfErr, IfOk, None, length};
+    ghost use Rattle.std.specs.Prelude.{◌≡◌, ◌<◌, ◌⊎◌, ◌↔◌, ℕ, [], Err, IfErr, IfOk, None, length};
     ghost use Rattle.rv_step.specs.Fold.{receipts_of, store_after};
     ghost use Rattle.stm_state.specs.Steps as steps;
     ghost use Rattle.workers.specs.declared.fault.RunFault.TheVariants as faults;
-    ghost use Rattle.workers.specs.History.{HasHistory, HasLimit, HasStepLimit, AreOneWorkerCounts};
+    ghost use Rattle.never_stuck.specs.Far.{HasAtMostGas};
+    ghost use Rattle.workers.specs.History.{HasHistory, HasLimit, HasStepLimit, AreOneWorkerCounts, IsBoundedHistory};
     ghost use Rattle.workers.specs.Settle.{AreSharesOf};
 
     /// An executor without shares, whose arena has room for no record yet. Takes no memory.
@@ -80,6 +81,7 @@ impl Executor {
         ensures receipts { IfOk result (λ o. o.receipts.items ≡ receipts_of job.block job.store) }
         ensures store { IfOk result (λ o. o.store ≡ store_after job.block job.store) }
         ensures history { IfOk result (λ o. HasHistory job workers o.counts.items) }
+        ensures bounded { IfOk result (λ o. (gas : ℕ) → HasAtMostGas gas job.block → IsBoundedHistory job workers gas o.counts.items) }
         ensures one_worker { IfOk result (λ o. workers ≡ 1 → AreOneWorkerCounts (length job.block) o.counts.items) }
         ensures shares { IfOk result (λ o. AreSharesOf o.counts.items self.new.shares.items) }
         ensures full { IfErr result (λ e. e ≡ faults.ArenaFull → HasLimit job workers steps.ArenaFull) }
@@ -92,7 +94,7 @@ impl Executor {
 
     /// `run_block` with a gate. Each thread passes it between the end of a run and its record, and may be
     /// held there.
-    #[tactic(auto, using(overlay::proofs::Receipts::receipts_applied))]
+    #[tactic(auto, using(overlay::proofs::Receipts::receipts_applied, crate::proofs::Runs::history_is_bounded))]
     pub fn run_block_with<R: Threads + Wait + Sync, G: Gate + Sync>(
         &mut self,
         rt: &R,
@@ -106,6 +108,7 @@ impl Executor {
         ensures receipts { IfOk result (λ o. o.receipts.items ≡ receipts_of job.block job.store) }
         ensures store { IfOk result (λ o. o.store ≡ store_after job.block job.store) }
         ensures history { IfOk result (λ o. HasHistory job workers o.counts.items) }
+        ensures bounded { IfOk result (λ o. (gas : ℕ) → HasAtMostGas gas job.block → IsBoundedHistory job workers gas o.counts.items) }
         ensures one_worker { IfOk result (λ o. workers ≡ 1 → AreOneWorkerCounts (length job.block) o.counts.items) }
         ensures shares { IfOk result (λ o. AreSharesOf o.counts.items self.new.shares.items) }
         ensures full { IfErr result (λ e. e ≡ faults.ArenaFull → HasLimit job workers steps.ArenaFull) }
@@ -116,6 +119,7 @@ impl Executor {
         let Finished { receipts, counts } = self.run_lent(
             rt, alloc, &job.block, &job.store, workers, None, gate,
         )?;
+        always_ends::work_is_bounded();
         match copy_with_receipts(&job.store, receipts.as_slice()) {
             Ok(store) => Ok(Outcome {
                 job,
