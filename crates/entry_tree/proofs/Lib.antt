@@ -1,2 +1,3 @@
+pub mod Causes
 pub mod Rows
 pub mod Sought

@@ -1,12 +1,13 @@
 //! Giving a key another content where the old one is not known, in the open transaction.
 
-ghost use Rattle.std.specs.Prelude.{◌≡◌, ◌↔◌, ◌∷◌, [], IfErr, IsTrue, OnErr, OnOk};
+ghost use Rattle.std.specs.Prelude.{◌≡◌, ◌↔◌, ◌∷◌, [], Some, IfErr, IsTrue, OnErr, OnOk};
 ghost use Rattle.std.specs.FinMap as fin;
-ghost use Rattle.sqlite_trees.specs.View.{IsClean, IsQuiet, KeepsCommitted, KeepsSchema, OnlyWrites, Tells};
+ghost use Rattle.sqlite_disk.specs.Disk.{MoreFaults};
+ghost use Rattle.sqlite_trees.specs.View.{HasCause, IsClean, IsQuiet, KeepsCommitted, KeepsSchema, OnlyWrites, Tells};
 ghost use Rattle.sqlite_value.specs.Keys.{plain};
 ghost use Rattle.sqlite_value.specs.Order.{column};
 ghost use Rattle.sqlite_value.specs.declared.value.Value.TheVariants.{Blob};
-ghost use Rattle.entry_tree.specs.Entries.{ByteMap, EditsTree, rows_of};
+ghost use Rattle.entry_tree.specs.Entries.{ByteMap, EditsTree, IsTooLong, rows_of};
 
 use crate::changing::change_entry;
 use sqlite_trees::error::StoreError;
@@ -46,6 +47,7 @@ pub fn remove_key<S: Store>(
         → EditsTree (S.Store.view store.old) (S.Store.view store.new) tree (λ _. rows_of (fin.remove m key.now))) }
     ensures frame { OnOk result (IsClean (S.Store.view store.new) → OnlyWrites (S.Store.view store.old) (S.Store.view store.new)) }
     ensures err { IsClean (S.Store.view store.new) → OnErr result (KeepsCommitted (S.Store.view store.old) (S.Store.view store.new)) }
+    ensures cause { IsClean (S.Store.view store.new) → IfErr result (HasCause (S.Store.view store.old) (MoreFaults (S.Store.faults store.old) (S.Store.faults store.new)) ⊥) }
     ensures told { IfErr result (Tells (S.Store.blamed store.new)) }
     ensures schema { KeepsSchema (S.Store.view store.old) (S.Store.view store.new) }
     ensures quiet { IsQuiet S.Store.view S.Store.faults S.Store.recovers S.Store.is_shielded store.old store.new }
@@ -62,7 +64,7 @@ pub fn remove_key<S: Store>(
 }
 
 /// Gives a key of a map a value, in the open transaction, whatever it had before. An error leaves the last commit; the
-/// transaction is to be rolled back.
+/// transaction is to be rolled back. Refused as Unstorable where the entry is too long for the format of databases.
 pub fn set_key<S: Store>(
     store: &mut S,
     tree: u32,
@@ -75,6 +77,7 @@ pub fn set_key<S: Store>(
         → EditsTree (S.Store.view store.old) (S.Store.view store.new) tree (λ _. rows_of (fin.insert m key.now value.now))) }
     ensures frame { OnOk result (IsClean (S.Store.view store.new) → OnlyWrites (S.Store.view store.old) (S.Store.view store.new)) }
     ensures err { IsClean (S.Store.view store.new) → OnErr result (KeepsCommitted (S.Store.view store.old) (S.Store.view store.new)) }
+    ensures cause { IsClean (S.Store.view store.new) → IfErr result (HasCause (S.Store.view store.old) (MoreFaults (S.Store.faults store.old) (S.Store.faults store.new)) (IsTooLong key.now (Some value.now))) }
     ensures told { IfErr result (Tells (S.Store.blamed store.new)) }
     ensures schema { KeepsSchema (S.Store.view store.old) (S.Store.view store.new) }
     ensures quiet { IsQuiet S.Store.view S.Store.faults S.Store.recovers S.Store.is_shielded store.old store.new }
