@@ -17,7 +17,7 @@ use Rattle.sqlite_trees.specs.Tree.{no_trees}
 use Rattle.sqlite_trees.specs.View.{IsClean}
 use Rattle.sqlite_store.specs.declared.store.FileStore.{FileStore}
 use Rattle.sqlite_store.specs.FileStore.{IsReady, log_frames, schema_of, state, view}
-use Rattle.sqlite_store.specs.Listing.{IsOurs, all_shapes, file_trees}
+use Rattle.sqlite_store.specs.Listing.{IsOurs, all_reals, all_shapes, file_trees}
 use Rattle.sqlite_store.specs.Saved.{kept_schema}
 use Rattle.sqlite_store.proofs.FileLemmas.{one_schema}
 use Rattle.session_file.specs.Opening.{IsFresh}
@@ -36,11 +36,11 @@ pool_files it = (refl, refl, λ left may. may.1)
 
 module _ {D : Type 0} {g : Ghosts D} (it : FileStore D g) where
   pub fresh : IsReady it → IsClean (view it) → IsFresh (view it)
-  fresh ready clean = record { sound = ready.sound clean; settled = ready.clean; shaped = ap (λ s. all_shapes (kept_schema s (schema_of it))) (sym ready.unaltered) }
+  fresh ready clean = record { sound = ready.sound clean; settled = ready.clean; shaped = ap (λ s. all_shapes (kept_schema s (schema_of it))) (sym ready.unaltered); typed = ap (λ s. all_reals (kept_schema s (schema_of it))) (sym ready.unaltered) }
 
   pub has_trees : schema_of it ≡ session_schema → HasTrees (view it)
-  unfolding session_schema all_shapes
-  has_trees same = record { storage = rw same refl; programs = rw same refl; session = rw same refl; answer = rw same refl }
+  unfolding session_schema all_shapes all_reals
+  has_trees same = record { storage = rw same refl; programs = rw same refl; session = rw same refl; answer = rw same refl; session_reals = rw same refl; answer_reals = rw same refl }
 
   -- whatever was done to it, a crash leaves a session's files
   pub leaves_session : IsSessionStore it → (now : Image) → (state it).may_leave now → ∥ IsSessionFile now ∥₁

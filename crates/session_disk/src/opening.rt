@@ -26,6 +26,10 @@ use std::alloc::{AllocFailed, Global};
 /// The number of bytes in a page.
 const PAGE_SIZE: usize = 4096;
 
+/// How many pages that were read stay in memory. Room for all of them is made at each open. A session reads its rows once, and
+/// what it writes stays elsewhere, so they only serve the way down to the keys of one commit.
+const CACHE_PAGES: usize = 250;
+
 /// The size of a page.
 fn session_page_size() -> PageSize
     ensures { bytes_of result ≡ page_size }
@@ -78,7 +82,11 @@ fn unopened<D: Disk>(alloc: Global, files: Files<D>, seed: u64) -> Result<Unopen
     ensures files { IfOk result (λ it. files_of it ≡ (files.log, files.db)) }
     ensures unopened { IfOk result IsUnopened }
 {
-    let pager = match Pager::new(alloc, files, session_page_size(), Options::new(seed)) {
+    let options = Options {
+        cache_pages: CACHE_PAGES,
+        ..Options::new(seed)
+    };
+    let pager = match Pager::new(alloc, files, session_page_size(), options) {
         Ok(pager) => pager,
         Err(AllocFailed { value }) => return Err(value),
     };

@@ -1,3 +1,4 @@
+pub mod Causes
 pub mod Changes
 pub mod Limits
 pub mod Lists

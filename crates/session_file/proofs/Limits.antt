@@ -1,13 +1,14 @@
 -- The limits of a storage's entries, when a key gets another content.
-use Rattle.std.proofs.Common.{◌≡◌, ◌≤◌, ℕ, List, [], ◌∷◌, Some, None, Bool, true, false, cond, not, length, IfSome, sym, subst, Ordering, Less, Equal, Greater}
+use Rattle.std.proofs.Common.{◌≡◌, ◌≤◌, ℕ, Bor, List, [], ◌∷◌, Option, Some, None, Bool, true, false, cond, not, length, IfSome, sym, subst, Ordering, Less, Equal, Greater, arith}
 use Rattle.std.specs.List.{AllByRecursion}
+use Rattle.std.specs.Option.{option_copied}
 use Rattle.std.specs.Ordering.{eq_by_cmp}
 use Rattle.std.specs.Cmp.Lexicographic.{nat_list_cmp_total}
 use Rattle.std.specs.FinMap.{entries, entries-insert, insert, put, remove}
 use Rattle.std.specs.FinMap.Entries.{by_order, where_key}
 use Rattle.rv_ledger.specs.Change.{Content}
 use Rattle.rv_ledger.specs.Key.{Storage, key_cmp}
-use Rattle.entry_tree.specs.Entries.{ByteMap}
+use Rattle.entry_tree.specs.Entries.{ByteMap, IsTooLong}
 use Rattle.entry_tree.proofs.Rows.{entries-remove}
 use Rattle.overlay.specs.Overlay.{set_content}
 use Rattle.session_file.specs.Kept.{AreEntries, AreNamed}
@@ -57,3 +58,12 @@ names_insert m k v name all = all-insert _ m k v (λ q w h. h) name all
 
 pub names_remove : (m : ByteMap) (k : List ℕ) → AreNamed m → AreNamed (remove m k)
 names_remove m k all = all-remove _ m k all
+
+-- an entry of a storage can be stored
+pub never_long : (k : List ℕ) (new : Option (List ℕ)) → length k ≡ 32 → IfSome new (λ v. length v ≤ 256) → IsTooLong k new → ⊥
+never_long k None key value long = long
+never_long k (Some v) key value long = omega (arith, key, value, long)
+
+pub copied_short : (o : Option (Bor (List ℕ))) → IfSome o (λ bytes. length bytes.now ≤ 256) → IfSome (option_copied o) (λ v. length v ≤ 256)
+copied_short None short = tt
+copied_short (Some b) short = short

@@ -1,9 +1,11 @@
 -- What an open finds, and when it is refused.
-use Rattle.std.proofs.Common.{◌≡◌, Option, Some, None, Result, Ok, Err, IfErr, refl, sym, ap, subst, ◌∙◌}
+use Rattle.std.proofs.Common.{◌≡◌, ◌≤◌, ℕ, Option, Some, None, Result, Ok, Err, IfErr, refl, sym, ap, subst, ◌∙◌}
+use Rattle.sqlite_disk.specs.Disk.{MoreFaults}
 use Rattle.sqlite_exec.specs.Calls.{OnlyReads}
 use Rattle.sqlite_trees.specs.Tree.{Trees}
 use Rattle.sqlite_trees.specs.View.{View}
 use Rattle.sqlite_trees.specs.declared.error.StoreError.{StoreError}
+use Rattle.entry_tree.proofs.Causes.{later_cause}
 use Rattle.entry_tree.specs.Entries.{rows_of}
 use Rattle.session_file.specs.Kept.{HoldsIn, IsInLimits, Kept, answer_row, answer_tree, program_tree, rows_if_any, session_row, session_tree, storage_tree}
 use Rattle.session_file.specs.Opening.{IsFresh, IsOfOtherVersion, IsRefused}
@@ -26,13 +28,14 @@ pub this_version : (v now : View) (o : Option SessionRow) → OnlyReads v now �
 this_version v now o reads is h = not_other o (subst IsOfOtherVersion (ap (λ (w : View). w.trees session_tree) reads ∙ is) h)
 
 -- a part that was not read
-pub refused_part : (v now : View) (none : Type 0) (fault : OpenFault) → OnlyReads v now → (none → ¬ IsOfOtherVersion (now.trees session_tree) × ((k : Kept) → ¬ HoldsIn now.trees k)) → IsReadFault now none fault → IsRefused v fault
-refused_part v now none NotASession reads gone f = absurd f
-refused_part v now none OtherVersion reads gone f = subst (λ (db : Trees). IsOfOtherVersion (db session_tree)) (ap (λ (w : View). w.trees) reads) f
-refused_part v now none Damaged reads gone f =
+pub refused_part : (v now : View) (a b c : ℕ) (none : Type 0) (fault : OpenFault) → OnlyReads v now → a ≤ b → (none → ¬ IsOfOtherVersion (now.trees session_tree) × ((k : Kept) → ¬ HoldsIn now.trees k))
+    → IsReadFault now (MoreFaults b c) none fault → IsRefused v (MoreFaults a c) fault
+refused_part v now a b c none NotASession reads up gone f = absurd f
+refused_part v now a b c none OtherVersion reads up gone f = subst (λ (db : Trees). IsOfOtherVersion (db session_tree)) (ap (λ (w : View). w.trees) reads) f
+refused_part v now a b c none Damaged reads up gone f =
     let same = sym (ap (λ (w : View). w.trees) reads) in
     (λ other. (gone f).0 (subst (λ (db : Trees). IsOfOtherVersion (db session_tree)) same other), λ k h. (gone f).1 k (subst (λ db. HoldsIn db k) same h))
-refused_part v now none (Store e) reads gone f = tt
+refused_part v now a b c none (Store e) reads up gone f = later_cause v now a b c ⊥ ⊥ e up (ap (λ (w : View). w.is_broken) reads) (λ long. long) f
 
 -- all parts were read
 pub loaded : (v0 v1 v2 v3 v4 : View) (k : Kept) → OnlyReads v0 v1 → OnlyReads v1 v2 → OnlyReads v2 v3 → OnlyReads v3 v4 → v0.trees session_tree ≡ rows_if_any session_row k.session
@@ -60,20 +63,23 @@ keeps_read v now k fresh reads holds =
     }
 
 -- where the trees are a session's, only the store can refuse
-pub only_store : (v : View) (k : Kept) (fault : OpenFault) → HasTrees v → HoldsIn v.trees k → IsRefused v fault → (error : StoreError) × (fault ≡ Store error)
-only_store v k NotASession trees holds f = absurd (f trees)
-only_store v k OtherVersion trees holds f = absurd (not_other k.session (subst IsOfOtherVersion holds.session f))
-only_store v k Damaged trees holds f = absurd (f.1 k holds)
-only_store v k (Store e) trees holds f = (e, refl)
+pub only_store : (v : View) (disk : Type 0) (k : Kept) (fault : OpenFault) → HasTrees v → HoldsIn v.trees k → IsRefused v disk fault → (error : StoreError) × (fault ≡ Store error)
+only_store v disk k NotASession trees holds f = absurd (f trees)
+only_store v disk k OtherVersion trees holds f = absurd (not_other k.session (subst IsOfOtherVersion holds.session f))
+only_store v disk k Damaged trees holds f = absurd (f.1 k holds)
+only_store v disk k (Store e) trees holds f = (e, refl)
 
 -- trees are there after a reopen
-pub trees_again : (old new : View) → IsShaped old → (old.shape ≡ old.committed_shape → new.shape ≡ old.shape) → HasTrees new
-trees_again old new was same =
-    let is = same (sym was.committed) in record {
+pub trees_again : (old new : View) → IsShaped old → (old.shape ≡ old.committed_shape → new.shape ≡ old.shape) → (old.reals ≡ old.committed_reals → new.reals ≡ old.reals) → HasTrees new
+trees_again old new was same alike =
+    let is = same (sym was.committed) in
+    let reals = alike (sym was.committed_reals) in record {
       storage = ap (λ f. f storage_tree) is ∙ was.trees.storage;
       programs = ap (λ f. f program_tree) is ∙ was.trees.programs;
       session = ap (λ f. f session_tree) is ∙ was.trees.session;
       answer = ap (λ f. f answer_tree) is ∙ was.trees.answer;
+      session_reals = ap (λ f. f session_tree) reals ∙ was.trees.session_reals;
+      answer_reals = ap (λ f. f answer_tree) reals ∙ was.trees.answer_reals;
     }
 
 pub err_both : {X E : Type 0} {P Q R : E → Type 0} (r : Result X E) → ((e : E) → P e → Q e → R e) → IfErr r P → IfErr r Q → IfErr r R

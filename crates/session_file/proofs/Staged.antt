@@ -9,7 +9,7 @@ use Rattle.sqlite_trees.specs.Tree.{Trees, put_row, without_rowid}
 use Rattle.sqlite_trees.specs.View.{View, Commits, IsClean, IsRolledBack, KeepsCommitted, OnlyWrites, SetsTree, doubt}
 use Rattle.rv_ledger.specs.Key.{Storage}
 use Rattle.entry_tree.specs.Entries.{ByteMap, EditsTree, rows_of}
-use Rattle.session_file.specs.Kept.{AreEntries, AreNamed, HoldsIn, Kept, answer_row, answer_tree, program_tree, rows_if_any, session_row, session_tree, storage_tree}
+use Rattle.session_file.specs.Kept.{AreEntries, AreNamed, HoldsIn, IsSessionInLimits, Kept, answer_row, answer_tree, program_tree, rows_if_any, session_row, session_tree, storage_tree}
 use Rattle.session_file.specs.Staging.{CommitsStaged, GivesUp, IsStaged, Stages, StagesWhere}
 use Rattle.session_file.specs.declared.rows.SessionRow.{SessionRow}
 
@@ -119,13 +119,13 @@ with_programs old new next m is all h = record {
   limits = record { storage = h.limits.storage; programs = all; session = h.limits.session };
 }
 
-pub with_session : (old new : Trees) (next : Kept) (s : SessionRow) → Differs old new session_tree (session_row s ∷ []) → length s.digest ≡ 32 → HoldsIn old next → HoldsIn new (record next { session = Some s })
-with_session old new next s is digest h = record {
+pub with_session : (old new : Trees) (next : Kept) (s : SessionRow) → Differs old new session_tree (session_row s ∷ []) → IsSessionInLimits s → HoldsIn old next → HoldsIn new (record next { session = Some s })
+with_session old new next s is inside h = record {
   storage = is.others storage_tree (λ e. absurd (cc)) ∙ h.storage;
   programs = is.others program_tree (λ e. absurd (cc)) ∙ h.programs;
   session = is.this;
   answer = is.others answer_tree (λ e. absurd (cc)) ∙ h.answer;
-  limits = record { storage = h.limits.storage; programs = h.limits.programs; session = digest };
+  limits = record { storage = h.limits.storage; programs = h.limits.programs; session = inside };
 }
 
 pub with_answer : (old new : Trees) (next : Kept) (a : Option (List ℕ × List ℕ)) → Differs old new answer_tree (rows_if_any answer_row a) → HoldsIn old next → HoldsIn new (record next { answer = a })
@@ -170,10 +170,10 @@ module _ (old new : View) (shut : new.is_clean ≡ false → new.is_open ≡ fal
       staged old new program_tree _ k next _ shut writes (λ clean h. edits clean h.programs) (λ clean e h. with_programs old.trees new.trees next m (record { this = e.this; others = e.others }) (all h.limits.programs) h) was
 
   -- the session is staged
-  pub session_staged : (s : SessionRow) → length s.digest ≡ 32 → (IsClean new → SetsTree old new session_tree (put_row (session_row s))) → IsStaged new k (record next { session = Some s })
-  session_staged s digest sets =
+  pub session_staged : (s : SessionRow) → IsSessionInLimits s → (IsClean new → SetsTree old new session_tree (put_row (session_row s))) → IsStaged new k (record next { session = Some s })
+  session_staged s inside sets =
       staged old new session_tree _ k next _ shut (λ clean. (edits_tree _ _ _ _ (sets clean)).rest) (λ clean h. edits_tree old new session_tree _ (sets clean)) (λ clean e h.
-      with_session old.trees new.trees next s (record { this = e.this ∙ ap (put_row (session_row s)) h.session ∙ one_session s next.session; others = e.others }) digest h) was
+      with_session old.trees new.trees next s (record { this = e.this ∙ ap (put_row (session_row s)) h.session ∙ one_session s next.session; others = e.others }) inside h) was
 
   -- the answer is staged
   pub answer_staged : (a : List ℕ × List ℕ) → (IsClean new → SetsTree old new answer_tree (put_row (answer_row a))) → IsStaged new k (record next { answer = Some a })
@@ -201,3 +201,10 @@ pub program_ok : {X E : Type 0} (r : Result X E) (old new : View) → (new.is_cl
     → ((m : ByteMap) → AreNamed m → AreNamed (change m)) → OnOk r (Stages (λ next. record next { programs = change next.programs }) old new)
 program_ok (Ok x) old new shut change edits writes named = λ kept next was. program_staged old new shut kept next was (change next.programs) writes (λ clean is. edits clean next.programs is) (named next.programs)
 program_ok (Err e) old new shut change edits writes named = tt
+
+-- a write that was not refused leaves the transaction as sound as it was
+pub writes_still : (old new : View) → OnlyWrites old new → new.is_broken ≡ old.is_broken
+writes_still old new writes = ap (λ (v : View). v.is_broken) writes
+
+pub sets_still : (old new : View) (tree : ℕ) (edit : List Row → List Row) → SetsTree old new tree edit → new.is_broken ≡ old.is_broken
+sets_still old new tree edit sets = ap (λ (v : View). v.is_broken) sets.is

@@ -73,11 +73,16 @@ AreEntries storage = AllByRecursion (λ e. (length e.0 ≡ 32) × (length e.1 �
 abbrev pub AreNamed : ByteMap → Type 0
 AreNamed programs = AllByRecursion (λ e. length e.0 ≡ 32) (entries programs)
 
--- the same of both, and the digest has 32
+-- a digest has 32 bytes, and no session is higher than this
+pub record IsSessionInLimits (s : SessionRow) : Type 0 where
+  pub digest : length s.digest ≡ 32
+  pub height : s.height ≤ 9999999999
+
+-- so it is of each part
 pub record IsInLimits (k : Kept) : Type 0 where
   pub storage : AreEntries k.storage
   pub programs : AreNamed k.programs
-  pub session : IfSome k.session (λ s. length s.digest ≡ 32)
+  pub session : IfSome k.session IsSessionInLimits
 
 -- the trees hold this
 pub record HoldsIn (db : Trees) (k : Kept) : Type 0 where

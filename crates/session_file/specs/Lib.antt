@@ -1,4 +1,5 @@
 pub mod Kept
+pub mod Limits
 pub mod Staging
 pub mod Opening
 pub mod Rows

@@ -7,7 +7,7 @@ use Rattle.std.specs.declared.cmp.Ordering.TheVariants.{Less}
 use Rattle.sqlite_value.specs.declared.value.Value.{Value}
 use Rattle.sqlite_value.specs.declared.value.Value.TheVariants.{Int}
 use Rattle.sqlite_value.specs.Order.{Row, column}
-use Rattle.sqlite_trees.specs.View.{View}
+use Rattle.sqlite_trees.specs.View.{View, HasCause}
 use Rattle.rv_ledger.specs.Key.{key_cmp}
 use Rattle.session_file.specs.Kept.{Kept, HoldsIn, format_version, session_tree}
 use Rattle.session_file.specs.Staging.{HasTrees}
@@ -44,6 +44,7 @@ pub record IsFresh (v : View) : Type 0 where
   pub sound : v.is_broken ≡ false
   pub settled : v.trees ≡ v.committed
   pub shaped : v.shape ≡ v.committed_shape
+  pub typed : v.reals ≡ v.committed_reals
 
 -- a number that is another version of the format
 abbrev pub IsOtherVersion : Value → Type 0
@@ -55,10 +56,10 @@ abbrev pub IsOfOtherVersion : List Row → Type 0
 IsOfOtherVersion [] = ⊥
 IsOfOtherVersion (row ∷ more) = IsOtherVersion (column row 2)
 
--- when a refusal comes: a damaged file tells no other version, and its trees hold no session; of a failure of the store,
--- nothing is said
-abbrev pub IsRefused : View → OpenFault → Type 0
-IsRefused v NotASession = ¬ HasTrees v
-IsRefused v OtherVersion = IsOfOtherVersion (v.trees session_tree)
-IsRefused v Damaged = ¬ IsOfOtherVersion (v.trees session_tree) × ((k : Kept) → ¬ HoldsIn v.trees k)
-IsRefused v (Store error) = ⊤
+-- when a refusal comes, where `disk` says that the disk failed meanwhile: a damaged file tells no other version, and its trees
+-- hold no session
+abbrev pub IsRefused : View → Type 0 → OpenFault → Type 0
+IsRefused v disk NotASession = ¬ HasTrees v
+IsRefused v disk OtherVersion = IsOfOtherVersion (v.trees session_tree)
+IsRefused v disk Damaged = ¬ IsOfOtherVersion (v.trees session_tree) × ((k : Kept) → ¬ HoldsIn v.trees k)
+IsRefused v disk (Store error) = HasCause v disk ⊥ error

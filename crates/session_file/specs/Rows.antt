@@ -4,20 +4,14 @@ use Rattle.std.specs.Option.{ForSome}
 use Rattle.std.specs.List.{AllByRecursion}
 use Rattle.std.specs.FinMap.{entries}
 use Rattle.std.specs.declared.cmp.Ordering.TheVariants.{Less}
-use Rattle.sqlite_trees.specs.View.{View}
+use Rattle.sqlite_trees.specs.View.{View, HasCause}
 use Rattle.rv_ledger.specs.Key.{key_cmp}
 use Rattle.entry_tree.specs.Entries.{ByteMap, rows_of}
-use Rattle.session_file.specs.Kept.{answer_row, answer_tree, rows_if_any, session_row, session_tree}
+use Rattle.session_file.specs.Kept.{IsSessionInLimits, answer_row, answer_tree, rows_if_any, session_row, session_tree}
 use Rattle.session_file.specs.Opening.{IsOfOtherVersion}
 use Rattle.session_file.specs.declared.rows.SessionRow.{SessionRow}
 use Rattle.session_file.specs.declared.fault.OpenFault.{OpenFault}
 use Rattle.session_file.specs.declared.fault.OpenFault.TheVariants.{Damaged, NotASession, OtherVersion, Store}
-
--- the numbers of a session can be kept
-pub record HasSmallNumbers (s : SessionRow) : Type 0 where
-  pub frame_limit : s.frame_limit < 2 ^ 63
-  pub frame_gas : ForSome s.frame_gas (λ n. n < 2 ^ 63)
-  pub height : s.height < 2 ^ 63
 
 -- entries with keys of 32 bytes and with values that fit
 abbrev pub DoFit : (List ℕ → Type 0) → List (List ℕ × List ℕ) → Type 0
@@ -28,12 +22,12 @@ abbrev pub IsAbove : List ℕ → Option (List ℕ) → Type 0
 IsAbove key None = ⊤
 IsAbove key (Some last) = key_cmp last key ≡ Less
 
--- why a part was not read, where `none` says that the tree has none
-abbrev pub IsReadFault : View → Type 0 → OpenFault → Type 0
-IsReadFault v none NotASession = ⊥
-IsReadFault v none OtherVersion = IsOfOtherVersion (v.trees session_tree)
-IsReadFault v none Damaged = none
-IsReadFault v none (Store error) = ⊤
+-- why a part was not read, where `disk` says that the disk failed meanwhile, and `none` that the tree has none
+abbrev pub IsReadFault : View → Type 0 → Type 0 → OpenFault → Type 0
+IsReadFault v disk none NotASession = ⊥
+IsReadFault v disk none OtherVersion = IsOfOtherVersion (v.trees session_tree)
+IsReadFault v disk none Damaged = none
+IsReadFault v disk none (Store error) = HasCause v disk ⊥ error
 
 -- a tree has no map of such entries
 abbrev pub HasNoEntries : (List ℕ → Type 0) → View → ℕ → Type 0
@@ -41,7 +35,7 @@ HasNoEntries fits v tree = (m : ByteMap) → DoFit fits (entries m) → v.trees 
 
 -- a tree tells no other version, and has neither the row of a session nor none
 abbrev pub HasNoSession : View → Type 0
-HasNoSession v = ¬ IsOfOtherVersion (v.trees session_tree) × ((o : Option SessionRow) → IfSome o (λ s. length s.digest ≡ 32) → v.trees session_tree ≢ rows_if_any session_row o)
+HasNoSession v = ¬ IsOfOtherVersion (v.trees session_tree) × ((o : Option SessionRow) → IfSome o IsSessionInLimits → v.trees session_tree ≢ rows_if_any session_row o)
 
 -- a tree has neither the row of an answer nor none
 abbrev pub HasNoAnswer : View → Type 0

@@ -5,17 +5,20 @@ use Rattle.sqlite_trees.specs.View.{View}
 use Rattle.sqlite_trees.specs.declared.store.Shape.TheVariants.{Index, Table}
 use Rattle.session_file.specs.Kept.{Kept, HoldsIn, answer_tree, program_tree, session_tree, storage_tree}
 
--- the four trees have their shapes
+-- the four trees have their shapes, and the two tables no column of real numbers
 pub record HasTrees (v : View) : Type 0 where
   pub storage : v.shape storage_tree ≡ Index plain
   pub programs : v.shape program_tree ≡ Index plain
   pub session : v.shape session_tree ≡ Table
   pub answer : v.shape answer_tree ≡ Table
+  pub session_reals : v.reals session_tree ≡ 0
+  pub answer_reals : v.reals answer_tree ≡ 0
 
 -- they have, and had them at the last commit
 pub record IsShaped (v : View) : Type 0 where
   pub trees : HasTrees v
   pub committed : v.committed_shape ≡ v.shape
+  pub committed_reals : v.committed_reals ≡ v.reals
 
 -- the last commit holds the one, and the open transaction the other
 pub record Holds (v : View) (kept next : Kept) : Type 0 where

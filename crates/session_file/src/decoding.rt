@@ -7,13 +7,12 @@ ghost use Rattle.sqlite_value.specs.Value.{owned};
 ghost use Rattle.sqlite_value.specs.declared.value.Value.TheVariants.{Blob, Int};
 ghost use Rattle.rv_ledger.specs.declared.rules.Rules.{Rules as RulesValue};
 ghost use Rattle.entry_tree.specs.Entries.{row_of};
-ghost use Rattle.session_file.specs.Kept.{answer_row, flag, number_or_null, rules_number, session_row};
+ghost use Rattle.session_file.specs.Kept.{IsSessionInLimits, answer_row, flag, number_or_null, rules_number, session_row};
 ghost use Rattle.session_file.specs.Opening.{IsOtherVersion, answer_parts};
-ghost use Rattle.session_file.specs.Rows.{HasSmallNumbers};
 ghost use Rattle.session_file.specs.declared.rows.SessionRow.{SessionRow as SessionValue};
 
 use crate::rows::{AnswerRow, SessionRow};
-use crate::writing::{FORMAT_VERSION, make_session_row};
+use crate::writing::{FORMAT_VERSION, is_storable, make_session_row};
 use rv_ledger::{Key, Rules};
 use sqlite_value::row::Row;
 use sqlite_value::value::ValueRef;
@@ -129,7 +128,8 @@ fn digest_in(value: ValueRef<'_>) -> [u8; 32]
 /// The session that a row would be of, were it one of a session.
 fn session_by(row: &Row) -> SessionRow
     ensures value { (s : SessionValue) → length s.digest ≡ 32 → row.now ≡ session_row s → result ≡ s }
-    ensures small { HasSmallNumbers result }
+    ensures limit { result.frame_limit < 2 ^ 63 }
+    ensures gas { ForSome result.frame_gas (λ n. n < 2 ^ 63) }
     ensures digest { length result.digest ≡ 32 }
 {
     SessionRow {
@@ -144,10 +144,13 @@ fn session_by(row: &Row) -> SessionRow
 
 /// The session of a row, or None where it is none of a session.
 pub(crate) fn session_in(alloc: Global, row: &Row) -> Result<Option<SessionRow>, AllocError>
-    ensures some { IfOk result (λ found. IfSome found (λ s. (row.now ≡ session_row s) × (length s.digest ≡ 32))) }
-    ensures none { IfOk result (λ found. found ≡ None → (s : SessionValue) → length s.digest ≡ 32 → row.now ≢ session_row s) }
+    ensures some { IfOk result (λ found. IfSome found (λ s. (row.now ≡ session_row s) × IsSessionInLimits s)) }
+    ensures none { IfOk result (λ found. found ≡ None → (s : SessionValue) → IsSessionInLimits s → row.now ≢ session_row s) }
 {
     let session = session_by(row);
+    if !is_storable(&session) {
+        return Ok(None);
+    }
     let mut again = Row::new(alloc);
     make_session_row(&mut again, session)?;
     if !row.is_same(&again) {

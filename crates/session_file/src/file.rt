@@ -35,12 +35,15 @@ impl<S: Store> Model for SessionFile<S> {
 }
 
 impl<S: Store> SessionFile<S> {
-    ghost use Rattle.std.specs.Prelude.{◌≡◌, ◌⊎◌, ◌≤◌, false, None, Some, IfErr, OnErr, OnOk};
+    ghost use Rattle.std.specs.Prelude.{◌≡◌, ◌⊎◌, ◌≤◌, false, None, Some, IfErr, IsTrue, OnErr, OnOk};
     ghost use Rattle.std.specs.FinMap as fin;
     ghost use Rattle.sqlite_trees.specs.Tree.{Trees};
-    ghost use Rattle.sqlite_trees.specs.View.{IsClean, IsQuiet, Tells, doubt};
+    ghost use Rattle.sqlite_disk.specs.Disk.{MoreFaults};
+    ghost use Rattle.sqlite_trees.specs.View.{HasCause, IsClean, IsQuiet, Tells, doubt};
+    ghost use Rattle.entry_tree.specs.Entries.{IsTooLong};
     ghost use Rattle.overlay.specs.Overlay.{with_changes};
     ghost use Rattle.session_file.specs.Kept.{Kept, HoldsIn};
+    ghost use Rattle.session_file.specs.Limits.{HasSmallNumbers, IsLongAnswer};
     ghost use Rattle.session_file.specs.Staging.{CommitsStaged, GivesUp, IsShaped, IsStaged, Stages, StagesWhere};
 
     /// The file over a store that has the trees of a session.
@@ -70,7 +73,9 @@ impl<S: Store> SessionFile<S> {
         changes: &Overlay,
     ) -> Result<(), StoreError>
         ensures ok { OnOk result (StagesWhere (λ next. next.storage ≡ base.now) (λ next. record next { storage = with_changes base.now changes.now }) (S.Store.view self.old) (S.Store.view self.new)) }
+        ensures still { OnOk result (IsClean (S.Store.view self.new) → (S.Store.view self.new).is_broken ≡ (S.Store.view self.old).is_broken) }
         ensures err { OnErr result (GivesUp (S.Store.view self.old) (S.Store.view self.new)) }
+        ensures cause { IsClean (S.Store.view self.new) → IfErr result (HasCause (S.Store.view self.old) (MoreFaults (S.Store.faults self.old) (S.Store.faults self.new)) ⊥) }
         ensures told { IfErr result (Tells (S.Store.blamed self.new)) }
         ensures quiet { IsQuiet S.Store.view S.Store.faults S.Store.recovers S.Store.is_shielded self.old self.new }
     {
@@ -85,7 +90,9 @@ impl<S: Store> SessionFile<S> {
         storage: &rv_ledger::Store,
     ) -> Result<(), StoreError>
         ensures ok { OnOk result (StagesWhere (λ next. next.storage ≡ base.now) (λ next. record next { storage = storage.now }) (S.Store.view self.old) (S.Store.view self.new)) }
+        ensures still { OnOk result (IsClean (S.Store.view self.new) → (S.Store.view self.new).is_broken ≡ (S.Store.view self.old).is_broken) }
         ensures err { OnErr result (GivesUp (S.Store.view self.old) (S.Store.view self.new)) }
+        ensures cause { IsClean (S.Store.view self.new) → IfErr result (HasCause (S.Store.view self.old) (MoreFaults (S.Store.faults self.old) (S.Store.faults self.new)) ⊥) }
         ensures told { IfErr result (Tells (S.Store.blamed self.new)) }
         ensures quiet { IsQuiet S.Store.view S.Store.faults S.Store.recovers S.Store.is_shielded self.old self.new }
     {
@@ -93,10 +100,13 @@ impl<S: Store> SessionFile<S> {
         writing::settled(&mut self.store, result)
     }
 
-    /// Stages a program under its name, in the place of one of that name.
+    /// Stages a program under its name, in the place of one of that name. Refused as Unstorable where its row has over a billion
+    /// bytes.
     pub fn stage_program(&mut self, name: &Key, file: &[u8]) -> Result<(), StoreError>
         ensures ok { OnOk result (Stages (λ next. record next { programs = fin.insert next.programs name.now file.now }) (S.Store.view self.old) (S.Store.view self.new)) }
+        ensures still { OnOk result (IsClean (S.Store.view self.new) → (S.Store.view self.new).is_broken ≡ (S.Store.view self.old).is_broken) }
         ensures err { OnErr result (GivesUp (S.Store.view self.old) (S.Store.view self.new)) }
+        ensures cause { IsClean (S.Store.view self.new) → IfErr result (HasCause (S.Store.view self.old) (MoreFaults (S.Store.faults self.old) (S.Store.faults self.new)) (IsTooLong name.now (Some file.now))) }
         ensures told { IfErr result (Tells (S.Store.blamed self.new)) }
         ensures quiet { IsQuiet S.Store.view S.Store.faults S.Store.recovers S.Store.is_shielded self.old self.new }
     {
@@ -113,7 +123,9 @@ impl<S: Store> SessionFile<S> {
     /// Stages that no program has a name.
     pub fn stage_no_program(&mut self, name: &Key) -> Result<(), StoreError>
         ensures ok { OnOk result (Stages (λ next. record next { programs = fin.remove next.programs name.now }) (S.Store.view self.old) (S.Store.view self.new)) }
+        ensures still { OnOk result (IsClean (S.Store.view self.new) → (S.Store.view self.new).is_broken ≡ (S.Store.view self.old).is_broken) }
         ensures err { OnErr result (GivesUp (S.Store.view self.old) (S.Store.view self.new)) }
+        ensures cause { IsClean (S.Store.view self.new) → IfErr result (HasCause (S.Store.view self.old) (MoreFaults (S.Store.faults self.old) (S.Store.faults self.new)) ⊥) }
         ensures told { IfErr result (Tells (S.Store.blamed self.new)) }
         ensures quiet { IsQuiet S.Store.view S.Store.faults S.Store.recovers S.Store.is_shielded self.old self.new }
     {
@@ -121,10 +133,13 @@ impl<S: Store> SessionFile<S> {
         writing::settled(&mut self.store, result)
     }
 
-    /// Stages the row of the session. Refused as Unstorable where a number is 2^63 or above.
+    /// Stages the row of the session. Refused as Unstorable where the height is above 9,999,999,999, or another number is 2^63 or
+    /// above.
     pub fn stage_session(&mut self, session: SessionRow) -> Result<(), StoreError>
         ensures ok { OnOk result (Stages (λ next. record next { session = Some session }) (S.Store.view self.old) (S.Store.view self.new)) }
+        ensures still { OnOk result (IsClean (S.Store.view self.new) → (S.Store.view self.new).is_broken ≡ (S.Store.view self.old).is_broken) }
         ensures err { OnErr result (GivesUp (S.Store.view self.old) (S.Store.view self.new)) }
+        ensures cause { IsClean (S.Store.view self.new) → IfErr result (HasCause (S.Store.view self.old) (MoreFaults (S.Store.faults self.old) (S.Store.faults self.new)) (¬ HasSmallNumbers session)) }
         ensures told { IfErr result (Tells (S.Store.blamed self.new)) }
         ensures quiet { IsQuiet S.Store.view S.Store.faults S.Store.recovers S.Store.is_shielded self.old self.new }
     {
@@ -132,10 +147,13 @@ impl<S: Store> SessionFile<S> {
         writing::settled(&mut self.store, result)
     }
 
-    /// Stages what the last frame was answered: its line and its bytes.
+    /// Stages what the last frame was answered: its line and its bytes. Refused as Unstorable where the row has over a billion
+    /// bytes.
     pub fn stage_answer(&mut self, line: &[u8], bytes: &[u8]) -> Result<(), StoreError>
         ensures ok { OnOk result (Stages (λ next. record next { answer = Some (line.now, bytes.now) }) (S.Store.view self.old) (S.Store.view self.new)) }
+        ensures still { OnOk result (IsClean (S.Store.view self.new) → (S.Store.view self.new).is_broken ≡ (S.Store.view self.old).is_broken) }
         ensures err { OnErr result (GivesUp (S.Store.view self.old) (S.Store.view self.new)) }
+        ensures cause { IsClean (S.Store.view self.new) → IfErr result (HasCause (S.Store.view self.old) (MoreFaults (S.Store.faults self.old) (S.Store.faults self.new)) (IsLongAnswer (line.now, bytes.now))) }
         ensures told { IfErr result (Tells (S.Store.blamed self.new)) }
         ensures quiet { IsQuiet S.Store.view S.Store.faults S.Store.recovers S.Store.is_shielded self.old self.new }
     {
@@ -146,7 +164,9 @@ impl<S: Store> SessionFile<S> {
     /// Stages that there is no last answer.
     pub fn stage_no_answer(&mut self) -> Result<(), StoreError>
         ensures ok { OnOk result (Stages (λ next. record next { answer = None }) (S.Store.view self.old) (S.Store.view self.new)) }
+        ensures still { OnOk result (IsClean (S.Store.view self.new) → (S.Store.view self.new).is_broken ≡ (S.Store.view self.old).is_broken) }
         ensures err { OnErr result (GivesUp (S.Store.view self.old) (S.Store.view self.new)) }
+        ensures cause { IsClean (S.Store.view self.new) → IfErr result (HasCause (S.Store.view self.old) (MoreFaults (S.Store.faults self.old) (S.Store.faults self.new)) ⊥) }
         ensures told { IfErr result (Tells (S.Store.blamed self.new)) }
         ensures quiet { IsQuiet S.Store.view S.Store.faults S.Store.recovers S.Store.is_shielded self.old self.new }
     {
@@ -162,7 +182,10 @@ impl<S: Store> SessionFile<S> {
         ensures err { OnErr result (GivesUp (S.Store.view self.old) (S.Store.view self.new)) }
         ensures crash { (kept next : Kept) → IsStaged (S.Store.view self.old) kept next
             → (db : Trees) → S.Store.recovers self.new db → HoldsIn db next ⊎ S.Store.recovers self.old db }
+        ensures cause { IsClean (S.Store.view self.new) → IfErr result (HasCause (S.Store.view self.old) (MoreFaults (S.Store.faults self.old) (S.Store.faults self.new)) ⊥) }
         ensures told { IfErr result (Tells (S.Store.blamed self.new)) }
+        ensures open { IsClean (S.Store.view self.new) → IsTrue (S.Store.view self.old).is_open → IsTrue (S.Store.view self.new).is_open ⊎ MoreFaults (S.Store.faults self.old) (S.Store.faults self.new) }
+        ensures counts { S.Store.faults self.old ≤ S.Store.faults self.new }
         ensures clean { doubt (S.Store.view self.old).is_clean ≤ doubt (S.Store.view self.new).is_clean }
     {
         self.store.commit()

@@ -2,6 +2,7 @@
 
 ghost use Rattle.std.specs.Prelude.{◌≡◌, false, map, IfErr, IfOk, IsTrue, OnOk};
 ghost use Rattle.sqlite_exec.specs.Calls.{OnlyReads};
+ghost use Rattle.sqlite_disk.specs.Disk.{MoreFaults};
 ghost use Rattle.sqlite_trees.specs.View.{IsClean, IsQuiet};
 ghost use Rattle.session_file.specs.Kept.{HoldsIn};
 ghost use Rattle.session_file.specs.Opening.{AreRising, IsFresh, IsRefused, kept_of, program_entry};
@@ -27,6 +28,8 @@ fn has_trees<S: Store>(store: &S) -> bool
         && store.shape(PROGRAM_TREE) == Shape::Index(Order::PLAIN)
         && store.shape(SESSION_TREE) == Shape::Table
         && store.shape(ANSWER_TREE) == Shape::Table
+        && store.reals(SESSION_TREE) == 0
+        && store.reals(ANSWER_TREE) == 0
 }
 
 /// Reads what a store that was just opened keeps.
@@ -35,7 +38,7 @@ fn load<S: Store>(alloc: Global, store: &mut S) -> Result<Found, OpenFault>
     ensures ok { IfOk result (λ found. IsClean (S.Store.view store.new) → HoldsIn (S.Store.view store.new).trees (kept_of found)) }
     ensures rising { IfOk result (λ found. AreRising (map program_entry found.programs.items)) }
     ensures trees { OnOk result (HasTrees (S.Store.view store.old)) }
-    ensures err { IfErr result (λ fault. IsClean (S.Store.view store.new) → IsRefused (S.Store.view store.old) fault) }
+    ensures err { IfErr result (λ fault. IsClean (S.Store.view store.new) → IsRefused (S.Store.view store.old) (MoreFaults (S.Store.faults store.old) (S.Store.faults store.new)) fault) }
     ensures same { OnOk result (IsClean (S.Store.view store.new) → OnlyReads (S.Store.view store.old) (S.Store.view store.new)) }
     ensures quiet { IsQuiet S.Store.view S.Store.faults S.Store.recovers S.Store.is_shielded store.old store.new }
 {
@@ -66,7 +69,7 @@ pub fn open_session<S: Store>(
     requires { IsClean (S.Store.view store) → IsFresh (S.Store.view store) }
     ensures ok { IfOk result (λ r. IsKeeping (S.Store.view r.0) (kept_of r.1)) }
     ensures rising { IfOk result (λ r. AreRising (map program_entry r.1.programs.items)) }
-    ensures err { IfErr result (λ e. IsClean (S.Store.view e.1) → IsRefused (S.Store.view store) e.0) }
+    ensures err { IfErr result (λ e. IsClean (S.Store.view e.1) → IsRefused (S.Store.view store) (MoreFaults (S.Store.faults store) (S.Store.faults e.1)) e.0) }
     ensures same { IfOk result (λ r. IsClean (S.Store.view r.0) → OnlyReads (S.Store.view store) (S.Store.view r.0)) }
     ensures quiet { IfOk result (λ r. IsQuiet S.Store.view S.Store.faults S.Store.recovers S.Store.is_shielded store r.0) }
     ensures back { IfErr result (λ e. IsQuiet S.Store.view S.Store.faults S.Store.recovers S.Store.is_shielded store e.1) }

@@ -2,7 +2,8 @@
 
 use rv_ledger::{Key, Rules, Store};
 
-/// The row of a session: its settings, and how far it is. A number of 2^63 or above can't be kept.
+/// The row of a session: its settings, and how far it is. A height above 9,999,999,999 and another number of 2^63 or above can't
+/// be kept.
 #[derive(Clone, Copy, Debug, PartialEq, Eq)]
 pub struct SessionRow {
     /// The greatest length of a frame.

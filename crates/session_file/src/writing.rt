@@ -1,14 +1,15 @@
 //! Writing the parts of a session into the open transaction. Each call leaves the transaction as far as it came.
 
-ghost use Rattle.std.specs.Prelude.{◌≡◌, ◌<◌, ◌^◌, [], ◌∷◌, ◌++◌, length, pos, IfErr, IsTrue, OnErr, OnOk};
+ghost use Rattle.std.specs.Prelude.{◌≡◌, ◌<◌, ◌^◌, [], ◌∷◌, ◌++◌, false, length, pos, IfErr, IsTrue, OnErr, OnOk};
 ghost use Rattle.std.specs.Option.{ForSome};
-ghost use Rattle.sqlite_trees.specs.View.{IsClean, IsQuiet, IsRolledBack, KeepsCommitted, KeepsSchema, OnlyWrites, SetsTree, Tells};
+ghost use Rattle.sqlite_disk.specs.Disk.{MoreFaults};
+ghost use Rattle.sqlite_trees.specs.View.{HasCause, IsClean, IsQuiet, IsRolledBack, KeepsCommitted, KeepsSchema, OnlyWrites, SetsTree, Tells};
 ghost use Rattle.sqlite_trees.specs.Tree.{put_row, without_rowid};
 ghost use Rattle.sqlite_value.specs.Keys.{plain};
 ghost use Rattle.entry_tree.specs.Entries.{EditsTree, rows_of};
 ghost use Rattle.overlay.specs.Overlay.{with_changes};
-ghost use Rattle.session_file.specs.Rows.{HasSmallNumbers};
-ghost use Rattle.session_file.specs.Kept.{AreEntries, answer_row, answer_tree, flag, number_or_null, rules_number, session_row, session_tree, storage_tree};
+ghost use Rattle.session_file.specs.Limits.{HasSmallNumbers, IsLongAnswer};
+ghost use Rattle.session_file.specs.Kept.{AreEntries, IsSessionInLimits, answer_row, answer_tree, flag, number_or_null, rules_number, session_row, session_tree, storage_tree};
 
 use crate::rows::SessionRow;
 use entry_tree::change_entry;
@@ -38,8 +39,11 @@ pub(crate) const FORMAT_VERSION: i64 = 1;
 /// The rowid of the one row of a table.
 const ONLY_ROW: i64 = 1;
 
-/// The least number that can't be kept.
+/// The least number that a row can't have.
 const NUMBER_BOUND: u64 = 1 << 63;
+
+/// The height that no session is above.
+const GREATEST_HEIGHT: u64 = 9_999_999_999;
 
 /// Makes all changes of a storage in its tree.
 pub(crate) fn change_entries<S: Store>(
@@ -54,6 +58,7 @@ pub(crate) fn change_entries<S: Store>(
     ensures frame { OnOk result (IsClean (S.Store.view store.new) → OnlyWrites (S.Store.view store.old) (S.Store.view store.new)) }
     ensures limits { OnOk result (IsClean (S.Store.view store.new) → (S.Store.view store.old).trees storage_tree ≡ rows_of base.now → AreEntries base.now → AreEntries (with_changes base.now changes.now)) }
     ensures err { IsClean (S.Store.view store.new) → OnErr result (KeepsCommitted (S.Store.view store.old) (S.Store.view store.new)) }
+    ensures cause { IsClean (S.Store.view store.new) → IfErr result (HasCause (S.Store.view store.old) (MoreFaults (S.Store.faults store.old) (S.Store.faults store.new)) ⊥) }
     ensures told { IfErr result (Tells (S.Store.blamed store.new)) }
     ensures schema { KeepsSchema (S.Store.view store.old) (S.Store.view store.new) }
     ensures quiet { IsQuiet S.Store.view S.Store.faults S.Store.recovers S.Store.is_shielded store.old store.new }
@@ -77,6 +82,7 @@ fn remove_entries<S: Store>(
         → EditsTree (S.Store.view store.old) (S.Store.view store.new) storage_tree (λ _. [])) }
     ensures frame { OnOk result (IsClean (S.Store.view store.new) → OnlyWrites (S.Store.view store.old) (S.Store.view store.new)) }
     ensures err { IsClean (S.Store.view store.new) → OnErr result (KeepsCommitted (S.Store.view store.old) (S.Store.view store.new)) }
+    ensures cause { IsClean (S.Store.view store.new) → IfErr result (HasCause (S.Store.view store.old) (MoreFaults (S.Store.faults store.old) (S.Store.faults store.new)) ⊥) }
     ensures told { IfErr result (Tells (S.Store.blamed store.new)) }
     ensures schema { KeepsSchema (S.Store.view store.old) (S.Store.view store.new) }
     ensures quiet { IsQuiet S.Store.view S.Store.faults S.Store.recovers S.Store.is_shielded store.old store.new }
@@ -106,6 +112,7 @@ fn insert_entries<S: Store>(
     ensures frame { OnOk result (IsClean (S.Store.view store.new) → OnlyWrites (S.Store.view store.old) (S.Store.view store.new)) }
     ensures limits { OnOk result (AreEntries storage.now) }
     ensures err { IsClean (S.Store.view store.new) → OnErr result (KeepsCommitted (S.Store.view store.old) (S.Store.view store.new)) }
+    ensures cause { IsClean (S.Store.view store.new) → IfErr result (HasCause (S.Store.view store.old) (MoreFaults (S.Store.faults store.old) (S.Store.faults store.new)) ⊥) }
     ensures told { IfErr result (Tells (S.Store.blamed store.new)) }
     ensures schema { KeepsSchema (S.Store.view store.old) (S.Store.view store.new) }
     ensures quiet { IsQuiet S.Store.view S.Store.faults S.Store.recovers S.Store.is_shielded store.old store.new }
@@ -136,6 +143,7 @@ pub(crate) fn replace_entries<S: Store>(
     ensures frame { OnOk result (IsClean (S.Store.view store.new) → OnlyWrites (S.Store.view store.old) (S.Store.view store.new)) }
     ensures limits { OnOk result (AreEntries storage.now) }
     ensures err { IsClean (S.Store.view store.new) → OnErr result (KeepsCommitted (S.Store.view store.old) (S.Store.view store.new)) }
+    ensures cause { IsClean (S.Store.view store.new) → IfErr result (HasCause (S.Store.view store.old) (MoreFaults (S.Store.faults store.old) (S.Store.faults store.new)) ⊥) }
     ensures told { IfErr result (Tells (S.Store.blamed store.new)) }
     ensures schema { KeepsSchema (S.Store.view store.old) (S.Store.view store.new) }
     ensures quiet { IsQuiet S.Store.view S.Store.faults S.Store.recovers S.Store.is_shielded store.old store.new }
@@ -162,13 +170,14 @@ fn push_number(row: &mut Row, number: Option<u64>) -> Result<(), AllocError>
     }
 }
 
-/// Whether the numbers of a session are below 2^63.
-fn is_storable(session: &SessionRow) -> bool
-    ensures { IsTrue result → HasSmallNumbers session.now }
+/// Whether the numbers of a session can be kept.
+pub(crate) fn is_storable(session: &SessionRow) -> bool
+    ensures small { IsTrue result → HasSmallNumbers session.now }
+    ensures other { result ≡ false → ¬ HasSmallNumbers session.now }
 {
     session.frame_limit < NUMBER_BOUND
         && session.frame_gas.unwrap_or(0) < NUMBER_BOUND
-        && session.height < NUMBER_BOUND
+        && session.height <= GREATEST_HEIGHT
 }
 
 /// The digest of a session.
@@ -203,10 +212,12 @@ pub(crate) fn put_session<S: Store>(
     row: &mut Row,
     session: SessionRow,
 ) -> Result<(), StoreError>
-    requires { IsClean (S.Store.view store.old) → (S.Store.view store.old).shape session_tree ≡ Shape.Table }
+    requires shape { IsClean (S.Store.view store.old) → (S.Store.view store.old).shape session_tree ≡ Shape.Table }
+    requires reals { IsClean (S.Store.view store.old) → (S.Store.view store.old).reals session_tree ≡ 0 }
     ensures ok { OnOk result (IsClean (S.Store.view store.new) → SetsTree (S.Store.view store.old) (S.Store.view store.new) session_tree (put_row (session_row session))) }
-    ensures digest { OnOk result (length session.digest ≡ 32) }
+    ensures limits { OnOk result (IsSessionInLimits session) }
     ensures err { IsClean (S.Store.view store.new) → OnErr result (KeepsCommitted (S.Store.view store.old) (S.Store.view store.new)) }
+    ensures cause { IsClean (S.Store.view store.new) → IfErr result (HasCause (S.Store.view store.old) (MoreFaults (S.Store.faults store.old) (S.Store.faults store.new)) (¬ HasSmallNumbers session)) }
     ensures told { IfErr result (Tells (S.Store.blamed store.new)) }
     ensures schema { KeepsSchema (S.Store.view store.old) (S.Store.view store.new) }
     ensures quiet { IsQuiet S.Store.view S.Store.faults S.Store.recovers S.Store.is_shielded store.old store.new }
@@ -236,9 +247,11 @@ pub(crate) fn put_answer<S: Store>(
     line: &[u8],
     bytes: &[u8],
 ) -> Result<(), StoreError>
-    requires { IsClean (S.Store.view store.old) → (S.Store.view store.old).shape answer_tree ≡ Shape.Table }
+    requires shape { IsClean (S.Store.view store.old) → (S.Store.view store.old).shape answer_tree ≡ Shape.Table }
+    requires reals { IsClean (S.Store.view store.old) → (S.Store.view store.old).reals answer_tree ≡ 0 }
     ensures ok { OnOk result (IsClean (S.Store.view store.new) → SetsTree (S.Store.view store.old) (S.Store.view store.new) answer_tree (put_row (answer_row (line.now, bytes.now)))) }
     ensures err { IsClean (S.Store.view store.new) → OnErr result (KeepsCommitted (S.Store.view store.old) (S.Store.view store.new)) }
+    ensures cause { IsClean (S.Store.view store.new) → IfErr result (HasCause (S.Store.view store.old) (MoreFaults (S.Store.faults store.old) (S.Store.faults store.new)) (IsLongAnswer (line.now, bytes.now))) }
     ensures told { IfErr result (Tells (S.Store.blamed store.new)) }
     ensures schema { KeepsSchema (S.Store.view store.old) (S.Store.view store.new) }
     ensures quiet { IsQuiet S.Store.view S.Store.faults S.Store.recovers S.Store.is_shielded store.old store.new }
@@ -252,6 +265,7 @@ pub(crate) fn clear_answer<S: Store>(store: &mut S) -> Result<(), StoreError>
     requires { IsClean (S.Store.view store.old) → (S.Store.view store.old).shape answer_tree ≡ Shape.Table }
     ensures ok { OnOk result (IsClean (S.Store.view store.new) → SetsTree (S.Store.view store.old) (S.Store.view store.new) answer_tree (without_rowid (pos 1))) }
     ensures err { IsClean (S.Store.view store.new) → OnErr result (KeepsCommitted (S.Store.view store.old) (S.Store.view store.new)) }
+    ensures cause { IsClean (S.Store.view store.new) → IfErr result (HasCause (S.Store.view store.old) (MoreFaults (S.Store.faults store.old) (S.Store.faults store.new)) ⊥) }
     ensures told { IfErr result (Tells (S.Store.blamed store.new)) }
     ensures schema { KeepsSchema (S.Store.view store.old) (S.Store.view store.new) }
     ensures quiet { IsQuiet S.Store.view S.Store.faults S.Store.recovers S.Store.is_shielded store.old store.new }

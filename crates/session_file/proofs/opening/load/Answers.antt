@@ -13,7 +13,7 @@ pub returns-in_err-session-clause-err : goal.returns-in_err-session-clause-err
 returns-in_err-session-clause-err g c =
     let v = g.S.Store.view in
     let p = err_from_is_err_and c.from_residual.result c.from_residual.ensures.1 in
-    rw (p.1, p.2) (λ clean. refused_part (v c.args.store.now) (v c.args.store.now) _ _ refl (λ none. (none.0, λ k h. none.1 k.session h.limits.session h.session)) (c.in_err-session.ensures.err clean))
+    rw (p.1, p.2) (λ clean. refused_part (v c.args.store.now) (v c.args.store.now) _ _ _ _ _ refl (omega arith) (λ none. (none.0, λ k h. none.1 k.session h.limits.session h.session)) (c.in_err-session.ensures.err clean))
 
 pub returns-in_err-answer-clause-err : goal.returns-in_err-answer-clause-err
 returns-in_err-answer-clause-err g c =
@@ -22,7 +22,7 @@ returns-in_err-answer-clause-err g c =
     rw (p.1, p.2) (λ clean.
     let at1 : IsClean (v c.read_session.new.store) = omega (arith, c.read_answer.ensures.quiet.clean) in
     let reads = c.in_ok-session.ensures.same at1 in
-    refused_part (v c.args.store.now) (v c.read_session.new.store) _ _ reads (λ none. (this_version (v c.args.store.now) (v c.read_session.new.store) _ reads (c.in_ok-session.ensures.ok at1), λ k h. none k.answer h.answer)) (c.in_err-answer.ensures.err clean))
+    refused_part (v c.args.store.now) (v c.read_session.new.store) _ _ _ _ _ reads (omega (arith, c.read_session.ensures.quiet.counts)) (λ none. (this_version (v c.args.store.now) (v c.read_session.new.store) _ reads (c.in_ok-session.ensures.ok at1), λ k h. none k.answer h.answer)) (c.in_err-answer.ensures.err clean))
 
 pub returns-in_err-read_entries-clause-err : goal.returns-in_err-read_entries-clause-err
 returns-in_err-read_entries-clause-err g c =
@@ -32,7 +32,7 @@ returns-in_err-read_entries-clause-err g c =
     let at2 : IsClean (v c.read_answer.new.store) = omega (arith, c.read_entries.ensures.quiet.clean) in
     let at1 : IsClean (v c.read_session.new.store) = omega (arith, c.read_entries.ensures.quiet.clean, c.read_answer.ensures.quiet.clean) in
     let reads = reads_on (v c.args.store.now) (v c.read_session.new.store) (v c.read_answer.new.store) (c.in_ok-session.ensures.same at1) (c.in_ok-answer.ensures.same at2) in
-    refused_part (v c.args.store.now) (v c.read_answer.new.store) _ _ reads (λ none. (this_version (v c.args.store.now) (v c.read_answer.new.store) _ reads (c.in_ok-session.ensures.ok at1), λ k h. none k.programs (programs_fit k.programs h.limits.programs) h.programs)) (c.in_err-read_entries.ensures.err clean))
+    refused_part (v c.args.store.now) (v c.read_answer.new.store) _ _ _ _ _ reads (omega (arith, c.read_session.ensures.quiet.counts, c.read_answer.ensures.quiet.counts)) (λ none. (this_version (v c.args.store.now) (v c.read_answer.new.store) _ reads (c.in_ok-session.ensures.ok at1), λ k h. none k.programs (programs_fit k.programs h.limits.programs) h.programs)) (c.in_err-read_entries.ensures.err clean))
 
 pub read_entries-requires-2-clause-empty : goal.read_entries-requires-2-clause-empty
 read_entries-requires-2-clause-empty g c = ap entries c.new-entries.ensures ∙ no_entries
@@ -46,7 +46,7 @@ returns-in_err-read_entries-2-clause-err g c =
     let at2 : IsClean (v c.read_answer.new.store) = omega (arith, c.read_entries-2.ensures.quiet.clean, c.read_entries.ensures.quiet.clean) in
     let at1 : IsClean (v c.read_session.new.store) = omega (arith, c.read_entries-2.ensures.quiet.clean, c.read_entries.ensures.quiet.clean, c.read_answer.ensures.quiet.clean) in
     let reads = reads_on (v c.args.store.now) (v c.read_answer.new.store) (v c.read_entries.new.store) (reads_on (v c.args.store.now) (v c.read_session.new.store) (v c.read_answer.new.store) (c.in_ok-session.ensures.same at1) (c.in_ok-answer.ensures.same at2)) (c.in_ok-read_entries.ensures.same at3) in
-    refused_part (v c.args.store.now) (v c.read_entries.new.store) _ _ reads (λ none. (this_version (v c.args.store.now) (v c.read_entries.new.store) _ reads (c.in_ok-session.ensures.ok at1), λ k h. none k.storage h.limits.storage h.storage)) (c.in_err-read_entries-2.ensures.err clean))
+    refused_part (v c.args.store.now) (v c.read_entries.new.store) _ _ _ _ _ reads (omega (arith, c.read_session.ensures.quiet.counts, c.read_answer.ensures.quiet.counts, c.read_entries.ensures.quiet.counts)) (λ none. (this_version (v c.args.store.now) (v c.read_entries.new.store) _ reads (c.in_ok-session.ensures.ok at1), λ k h. none k.storage h.limits.storage h.storage)) (c.in_err-read_entries-2.ensures.err clean))
 
 pub returns-clause-ok : goal.returns-clause-ok
 returns-clause-ok g c clean =
@@ -64,5 +64,5 @@ returns-clause-ok g c clean =
     (record {
       storage = subst AreEntries (sym storage) c.in_ok-read_entries-2.ensures.fits;
       programs = named-from_rising _ programs c.in_ok-read_entries.ensures.rising c.in_ok-read_entries.ensures.fits;
-      session = c.in_ok-session.ensures.digest;
+      session = c.in_ok-session.ensures.limits;
     })

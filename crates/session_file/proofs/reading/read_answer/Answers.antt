@@ -1,7 +1,9 @@
 use Rattle.std.proofs.Common.{◌≡◌, List, [], ◌∷◌, arith, rules, sym, ap, ◌∙◌}
+use Rattle.std.proofs.lemmas.Result.{err_from_is_err_and}
 use Rattle.sqlite_value.specs.Order.{Row}
-use Rattle.sqlite_trees.specs.View.{IsClean}
+use Rattle.sqlite_trees.specs.View.{View, IsClean}
 use Rattle.sqlite_exec.proofs.CheckLemmas as lemma
+use Rattle.entry_tree.proofs.Causes.{later_cause}
 use Rattle.session_file.specs.Kept.{answer_row, answer_tree}
 use Rattle.session_file.specs.Opening.{answer_parts}
 use Rattle.session_file.proofs.Loads.{all_left}
@@ -20,3 +22,27 @@ returns-clause-ok g c clean =
     let none = lemma.ended _ _ 0 c.next-2.new.row (rw c.if-branch.false at (c.in_ok-next-2.ensures.ok clean)) in
     let row : c.next.new.row ≡ answer_row (answer_parts c.in-Some.answer) = search rules in
     sym all ∙ one ∙ ap (λ (l : List Row). c.next.new.row ∷ l) none ∙ ap (λ (r : Row). r ∷ []) row
+
+pub returns-in_err-seek-clause-err : goal.returns-in_err-seek-clause-err
+returns-in_err-seek-clause-err g c =
+    let p = err_from_is_err_and c.from_residual.result c.from_residual.ensures.1 in
+    rw (p.1, p.2) (λ clean. c.in_err-seek.ensures.cause clean)
+
+pub returns-in_err-next-clause-err : goal.returns-in_err-next-clause-err
+returns-in_err-next-clause-err g c =
+    let v = g.S.Store.view in
+    let p = err_from_is_err_and c.from_residual-in_err-next.result c.from_residual-in_err-next.ensures.1 in
+    rw (p.1, p.2) (λ clean.
+    let mid : IsClean (v c.seek.new.self) = omega (arith, c.next.ensures.quiet.clean, clean) in
+    let same = ap (λ (w : View). w.is_broken) (c.in_ok-seek.ensures.ok mid) in
+    later_cause (v c.args.store.now) (v c.seek.new.self) _ _ _ ⊥ ⊥ _ c.seek.ensures.quiet.counts same (λ long. long) (c.in_err-next.ensures.cause clean))
+
+pub returns-in_err-next-2-clause-err : goal.returns-in_err-next-2-clause-err
+returns-in_err-next-2-clause-err g c =
+    let v = g.S.Store.view in
+    let p = err_from_is_err_and c.from_residual-in_err-next-2.result c.from_residual-in_err-next-2.ensures.1 in
+    rw (p.1, p.2) (λ clean.
+    let now : IsClean (v c.next.new.self) = omega (arith, c.next-2.ensures.quiet.clean, clean) in
+    let mid : IsClean (v c.seek.new.self) = omega (arith, c.next.ensures.quiet.clean, now) in
+    let same = ap (λ (w : View). w.is_broken) (c.in_ok-next.ensures.moves now).same ∙ ap (λ (w : View). w.is_broken) (c.in_ok-seek.ensures.ok mid) in
+    later_cause (v c.args.store.now) (v c.next.new.self) _ _ _ ⊥ ⊥ _ (omega (arith, c.seek.ensures.quiet.counts, c.next.ensures.quiet.counts)) same (λ long. long) (c.in_err-next-2.ensures.cause clean))

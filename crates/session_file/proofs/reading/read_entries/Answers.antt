@@ -1,7 +1,10 @@
 use Rattle.std.proofs.Common.{◌≡◌, ◌++◌, [], ◌∷◌, length, arith, rules, sym, ap, ◌∙◌, refl, subst}
+use Rattle.std.proofs.lemmas.Result.{err_from_is_err_and}
 use Rattle.sqlite_value.specs.Order.{bytes, column}
+use Rattle.sqlite_trees.specs.View.{View, IsClean}
 use Rattle.sqlite_exec.specs.Loops.{left_of}
 use Rattle.sqlite_exec.proofs.CheckLemmas as lemma
+use Rattle.entry_tree.proofs.Causes.{later_cause}
 use Rattle.entry_tree.specs.Entries.{row_of}
 use Rattle.session_file.specs.Opening.{AreRising}
 use Rattle.session_file.specs.Rows.{DoFit, IsAbove}
@@ -67,3 +70,17 @@ rows-preserved g c =
       sym (ap last_key is ∙ last_pushed taken (key, value)),
       search rules,
     )
+
+pub returns-in_err-seek-clause-err : goal.returns-in_err-seek-clause-err
+returns-in_err-seek-clause-err g c =
+    let p = err_from_is_err_and c.from_residual.result c.from_residual.ensures.1 in
+    rw (p.1, p.2) (λ clean. c.in_err-seek.ensures.cause clean)
+
+pub returns-in_err-next-clause-err : goal.returns-in_err-next-clause-err
+returns-in_err-next-clause-err g c =
+    let v = g.S.Store.view in
+    let p = err_from_is_err_and c.from_residual-in_err-next.result c.from_residual-in_err-next.ensures.1 in
+    rw (p.1, p.2) (λ clean.
+    let mid : IsClean (v c.rows.store) = omega (arith, c.next.ensures.quiet.clean, clean) in
+    let same = ap (λ (w : View). w.is_broken) (c.rows.invariant.1 mid) in
+    later_cause (v c.args.store.now) (v c.rows.store) _ _ _ ⊥ ⊥ _ c.rows.invariant.2.counts same (λ long. long) (c.in_err-next.ensures.cause clean))

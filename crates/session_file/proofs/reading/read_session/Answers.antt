@@ -1,8 +1,10 @@
 use Rattle.std.proofs.Common.{◌≡◌, ◌≢◌, length, List, [], ◌∷◌, arith, rules, sym, ap, ◌∙◌}
+use Rattle.std.proofs.lemmas.Result.{err_from_is_err_and}
 use Rattle.sqlite_value.specs.Order.{Row}
-use Rattle.sqlite_trees.specs.View.{IsClean}
+use Rattle.sqlite_trees.specs.View.{View, IsClean}
 use Rattle.sqlite_exec.proofs.CheckLemmas as lemma
-use Rattle.session_file.specs.Kept.{session_row, session_tree}
+use Rattle.entry_tree.proofs.Causes.{later_cause}
+use Rattle.session_file.specs.Kept.{IsSessionInLimits, session_row, session_tree}
 use Rattle.session_file.specs.declared.rows.SessionRow.{SessionRow}
 use Rattle.session_file.proofs.Loads.{all_left, no_session, two_sessions}
 use Rattle.session_file.proofs.reading.read_session.Goals as goal
@@ -25,7 +27,7 @@ pub returns-in_default-clause-err : goal.returns-in_default-clause-err
 returns-in_default-clause-err g c clean =
     let all = all_left _ _ _ _ session_tree c.clear.ensures (c.in_ok-seek.ensures.ok (omega (arith, c.next.ensures.quiet.clean))) in
     let one = lemma.stepped _ _ 0 c.next.new.row (rw c.if-not-branch.false at (c.in_ok-next.ensures.ok clean)) in
-    let none : (s : SessionRow) → length s.digest ≡ 32 → c.next.new.row ≢ session_row s = search rules in
+    let none : (s : SessionRow) → IsSessionInLimits s → c.next.new.row ≢ session_row s = search rules in
     no_session (g.S.Store.view c.args.store.now) c.next.new.row _ (sym all ∙ one) (c.is_of_other_version.ensures.this c.if-is_of_other_version.false) none
 
 pub returns-then-branch-clause-err : goal.returns-then-branch-clause-err
@@ -35,3 +37,27 @@ returns-then-branch-clause-err g c clean =
     let one = lemma.stepped _ _ 0 c.next.new.row (rw c.if-not-branch.false at (c.in_ok-next.ensures.ok mid)) in
     let two = lemma.stepped _ _ 0 c.next-2.new.row (rw c.if-branch.true at (c.in_ok-next-2.ensures.ok clean)) in
     two_sessions (g.S.Store.view c.args.store.now) c.next.new.row c.next-2.new.row _ (sym all ∙ one ∙ ap (λ (l : List Row). c.next.new.row ∷ l) two) (c.is_of_other_version.ensures.this c.if-is_of_other_version.false)
+
+pub returns-in_err-seek-clause-err : goal.returns-in_err-seek-clause-err
+returns-in_err-seek-clause-err g c =
+    let p = err_from_is_err_and c.from_residual.result c.from_residual.ensures.1 in
+    rw (p.1, p.2) (λ clean. c.in_err-seek.ensures.cause clean)
+
+pub returns-in_err-next-clause-err : goal.returns-in_err-next-clause-err
+returns-in_err-next-clause-err g c =
+    let v = g.S.Store.view in
+    let p = err_from_is_err_and c.from_residual-in_err-next.result c.from_residual-in_err-next.ensures.1 in
+    rw (p.1, p.2) (λ clean.
+    let mid : IsClean (v c.seek.new.self) = omega (arith, c.next.ensures.quiet.clean, clean) in
+    let same = ap (λ (w : View). w.is_broken) (c.in_ok-seek.ensures.ok mid) in
+    later_cause (v c.args.store.now) (v c.seek.new.self) _ _ _ ⊥ ⊥ _ c.seek.ensures.quiet.counts same (λ long. long) (c.in_err-next.ensures.cause clean))
+
+pub returns-in_err-next-2-clause-err : goal.returns-in_err-next-2-clause-err
+returns-in_err-next-2-clause-err g c =
+    let v = g.S.Store.view in
+    let p = err_from_is_err_and c.from_residual-in_err-next-2.result c.from_residual-in_err-next-2.ensures.1 in
+    rw (p.1, p.2) (λ clean.
+    let now : IsClean (v c.next.new.self) = omega (arith, c.next-2.ensures.quiet.clean, clean) in
+    let mid : IsClean (v c.seek.new.self) = omega (arith, c.next.ensures.quiet.clean, now) in
+    let same = ap (λ (w : View). w.is_broken) (c.in_ok-next.ensures.moves now).same ∙ ap (λ (w : View). w.is_broken) (c.in_ok-seek.ensures.ok mid) in
+    later_cause (v c.args.store.now) (v c.next.new.self) _ _ _ ⊥ ⊥ _ (omega (arith, c.seek.ensures.quiet.counts, c.next.ensures.quiet.counts)) same (λ long. long) (c.in_err-next-2.ensures.cause clean))

@@ -12,8 +12,8 @@ returns-clause-err g c =
     let now : IsClean (v c.crash_and_reopen.new.self) = omega (arith, quiet.clean) in
     let old : IsClean (v c.into_store-store.result) = omega (arith, quiet.clean, c.crash_and_reopen.ensures.clean) in
     let it = all _ (rw (sym c.into_store-store.ensures.store) (c.in_default.ensures.found now)) in
-    let trees = trees_again (v c.into_store-store.result) (v c.crash_and_reopen.new.self) (rw c.into_store-store.ensures.store (c.into_store-store.ensures.shaped (rw (sym c.into_store-store.ensures.store) old))) c.crash_and_reopen.ensures.shape in
-    only_store (v c.crash_and_reopen.new.self) it.0 _ trees (subst (λ db. HoldsIn db it.0) (sym c.in_default.ensures.fresh.clean) it.1) (refused clean))
+    let trees = trees_again (v c.into_store-store.result) (v c.crash_and_reopen.new.self) (rw c.into_store-store.ensures.store (c.into_store-store.ensures.shaped (rw (sym c.into_store-store.ensures.store) old))) c.crash_and_reopen.ensures.shape c.crash_and_reopen.ensures.reals in
+    only_store (v c.crash_and_reopen.new.self) _ it.0 _ trees (subst (λ db. HoldsIn db it.0) (sym c.in_default.ensures.fresh.clean) it.1) (refused clean))
     c.open_session.ensures.err c.open_session.ensures.back
 
 pub returns-clause-clean : goal.returns-clause-clean

@@ -1,11 +1,15 @@
 use Rattle.std.proofs.Common.{◌≡◌, ◌≤◌, ◌∷◌, ◌∙◌, T, IfSome, length, arith, rules, subst, ap, refl}
+use Rattle.std.proofs.lemmas.Result.{err_from_is_err_and}
 use Rattle.std.specs.FinMap.{is_sorted, get, entries, entries_sorted}
+use Rattle.std.specs.Option.{option_copied}
 use Rattle.rv_ledger.specs.Key.{key_cmp}
 use Rattle.session_file.specs.Kept.{storage_tree}
 use Rattle.sqlite_trees.specs.View.{View, IsClean}
 use Rattle.entry_tree.specs.Entries.{changed_rows}
 use Rattle.entry_tree.proofs.Rows.{sorted_rest}
 use Rattle.session_file.proofs.Changes.{IsPartWay, at_first, one_more}
+use Rattle.entry_tree.proofs.Causes.{later_cause}
+use Rattle.session_file.proofs.Limits.{copied_short, never_long}
 use Rattle.session_file.proofs.writing.change_entries.Goals as goal
 
 pub loop-key-init : goal.loop-key-init
@@ -38,3 +42,14 @@ loop-key-preserved g c =
       search rules,
       search rules,
     )
+
+pub returns-in_err-change_entry-clause-cause : goal.returns-in_err-change_entry-clause-cause
+returns-in_err-change_entry-clause-cause g c clean =
+    let old = g.S.Store.view c.args.store.now in
+    let was = g.S.Store.view c.loop-key.store in
+    let early : IsClean was = omega (arith, c.change_entry.ensures.quiet.clean) in
+    let same = ap (λ (w : View). w.is_broken) (c.loop-key.invariant.2 early) in
+    let count : length c.bytes.result.now ≡ 32 = ap length c.bytes.ensures.value ∙ c.bytes.ensures.count in
+    let short = copied_short c.bytes_of-new.result c.bytes_of-new.ensures.short in
+    let p = err_from_is_err_and c.from_residual.result c.from_residual.ensures.1 in
+    rw (p.1, p.2) (later_cause old was _ _ _ _ ⊥ c.in_err-change_entry.field-0.0 c.loop-key.invariant.4.counts same (never_long c.bytes.result.now (option_copied c.bytes_of-new.result) count short) (c.in_err-change_entry.ensures.cause clean))

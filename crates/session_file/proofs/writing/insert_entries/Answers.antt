@@ -1,4 +1,5 @@
-use Rattle.std.proofs.Common.{◌≡◌, ◌≤◌, length, ◌∷◌, ◌∙◌, [], arith, rules, subst, ap, refl}
+use Rattle.std.proofs.Common.{◌≡◌, ◌≤◌, length, Some, ◌∷◌, ◌∙◌, [], arith, rules, subst, ap, refl}
+use Rattle.std.proofs.lemmas.Result.{err_from_is_err_and}
 use Rattle.std.specs.FinMap.{entries}
 use Rattle.sqlite_value.specs.Keys.{plain}
 use Rattle.sqlite_trees.specs.Tree.{insert_entry}
@@ -6,6 +7,8 @@ use Rattle.sqlite_trees.specs.View.{View, IsClean}
 use Rattle.entry_tree.specs.Entries.{row_of}
 use Rattle.session_file.specs.Kept.{storage_tree}
 use Rattle.session_file.proofs.Lists.{IsInserted, at_first, map_rising, one_more}
+use Rattle.entry_tree.proofs.Causes.{later_cause}
+use Rattle.session_file.proofs.Limits.{never_long}
 use Rattle.session_file.proofs.writing.insert_entries.Goals as goal
 
 pub loop-key-init : goal.loop-key-init
@@ -35,3 +38,13 @@ loop-key-preserved g c =
       search rules,
       search rules,
     )
+
+pub returns-in_err-change_entry-clause-cause : goal.returns-in_err-change_entry-clause-cause
+returns-in_err-change_entry-clause-cause g c clean =
+    let old = g.S.Store.view c.args.store.now in
+    let was = g.S.Store.view c.loop-key.store in
+    let early : IsClean was = omega (arith, c.change_entry.ensures.quiet.clean) in
+    let same = ap (λ (w : View). w.is_broken) (c.loop-key.invariant.2 early) in
+    let count : length c.bytes.result.now ≡ 32 = ap length c.bytes.ensures.value ∙ c.bytes.ensures.count in
+    let p = err_from_is_err_and c.from_residual.result c.from_residual.ensures.1 in
+    rw (p.1, p.2) (later_cause old was _ _ _ _ ⊥ c.in_err-change_entry.field-0.0 c.loop-key.invariant.3.counts same (never_long c.bytes.result.now (Some c.bytes-in-loop-key.result.now) count c.bytes-in-loop-key.ensures.short) (c.in_err-change_entry.ensures.cause clean))

@@ -1,4 +1,5 @@
 use Rattle.std.proofs.Common.{◌≡◌, ◌∷◌, ◌∙◌, arith, map, rules, subst, ap, refl}
+use Rattle.std.proofs.lemmas.Result.{err_from_is_err_and}
 use Rattle.std.specs.FinMap.{entries}
 use Rattle.sqlite_value.specs.Keys.{plain}
 use Rattle.sqlite_trees.specs.Tree.{remove_entry}
@@ -7,6 +8,8 @@ use Rattle.entry_tree.specs.Entries.{row_of}
 use Rattle.session_file.specs.Kept.{storage_tree}
 use Rattle.session_file.specs.Opening.{AreRising}
 use Rattle.session_file.proofs.Lists.{first_removed, map_rising}
+use Rattle.entry_tree.proofs.Causes.{later_cause}
+use Rattle.session_file.proofs.Limits.{never_long}
 use Rattle.session_file.proofs.writing.remove_entries.Goals as goal
 
 pub loop-key-init : goal.loop-key-init
@@ -38,3 +41,12 @@ loop-key-preserved g c =
       search rules,
       search rules,
     )
+
+pub returns-in_err-change_entry-clause-cause : goal.returns-in_err-change_entry-clause-cause
+returns-in_err-change_entry-clause-cause g c clean =
+    let old = g.S.Store.view c.args.store.now in
+    let was = g.S.Store.view c.loop-key.store in
+    let early : IsClean was = omega (arith, c.change_entry.ensures.quiet.clean) in
+    let same = ap (λ (w : View). w.is_broken) (c.loop-key.invariant.2 early) in
+    let p = err_from_is_err_and c.from_residual.result c.from_residual.ensures.1 in
+    rw (p.1, p.2) (later_cause old was _ _ _ ⊥ ⊥ c.in_err-change_entry.field-0.0 c.loop-key.invariant.4.counts same (λ long. long) (c.in_err-change_entry.ensures.cause clean))

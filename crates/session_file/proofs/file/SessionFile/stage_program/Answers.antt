@@ -1,8 +1,11 @@
-use Rattle.std.proofs.Common.{List, ℕ, OnOk, ap, length, ◌∙◌, subst}
+use Rattle.std.proofs.lemmas.Result.{IfErr-weaker}
+use Rattle.std.proofs.Common.{arith, List, ℕ, OnOk, ap, length, ◌∙◌, subst}
 use Rattle.std.specs.FinMap.{insert}
 use Rattle.session_file.specs.Staging.{Stages}
 use Rattle.session_file.proofs.Limits.{names_insert}
-use Rattle.session_file.proofs.Staged.{on_ok_both, program_ok, refused}
+use Rattle.session_file.proofs.Staged.{on_ok_both, program_ok, refused, writes_still}
+use Rattle.sqlite_trees.specs.View.{IsClean}
+use Rattle.entry_tree.proofs.Causes.{earlier_cause, other_limit}
 use Rattle.session_file.proofs.file.SessionFile.stage_program.Goals as goal
 
 pub returns-clause-ok : goal.returns-clause-ok
@@ -21,3 +24,14 @@ pub returns-clause-err : goal.returns-clause-err
 returns-clause-err g c =
     rw (← c.self.view_is, c.settled.ensures.given)
     (refused c.set_key-result.result _ _ _ (g.met.S.Store.shut_if_dirty c.settled.new.store) c.settled.ensures.quiet.clean c.set_key-result.ensures.err c.settled.ensures.err)
+
+pub returns-clause-cause : goal.returns-clause-cause
+returns-clause-cause g c =
+    let v = g.S.Store.view in
+    rw (← c.self.view_is, c.settled.ensures.given) (λ clean.
+    let mid : IsClean (v c.set_key-result.new.store) = omega (arith, c.settled.ensures.quiet.clean, clean) in
+    IfErr-weaker c.set_key-result.result _ _ (λ e why. earlier_cause (v c.self.inside.store) _ _ _ _ e c.settled.ensures.quiet.counts (other_limit (v c.self.inside.store) _ _ _ e (λ long. rw c.bytes.ensures.value at long) why)) (c.set_key-result.ensures.cause mid))
+
+pub returns-clause-still : goal.returns-clause-still
+returns-clause-still g c =
+    rw (← c.self.view_is, c.settled.ensures.given) (on_ok_both c.set_key-result.result (λ same it. rw same (λ clean. writes_still (g.S.Store.view c.self.inside.store) (g.S.Store.view c.set_key-result.new.store) (it clean))) c.settled.ensures.ok c.set_key-result.ensures.frame)
