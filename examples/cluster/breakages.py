@@ -13,6 +13,7 @@ import audits
 import etcd
 import ledger
 import program
+import sessions
 from clusters import HERE, MEMBERS, WITH_FILES, changed_program, say
 
 CALLS, PAUSE = 20, 0.3
@@ -21,6 +22,7 @@ KILLS = 3  # of a node with a file, one behind the other
 SECONDS_ALIVE = 3  # at most, before it is killed again
 SMALL_DISK = 'mount -t tmpfs -o size=64k none "$0" && exec "$@"'  # a dump has more
 SECONDS_A_STRANGER = 120
+TRIES_FOR_A_FILE = 50
 FROM_A_FILE = "goes on from its file"
 FAKETIME = Path("/usr/lib/x86_64-linux-gnu/faketime/libfaketime.so.1")  # of Debian's package libfaketime
 
@@ -329,6 +331,33 @@ def two_nodes_on_one_file(trial):
     return told.splitlines()[-1].split(" ", 1)[1]
 
 
+def damaged_file(trial):
+    """One bit of a program in a file. The node has to stop by name, and to begin with a dump where it is told to."""
+    file = trial.cluster.folder / f"spoilt-{trial.faults}.store"
+    trial.stranger("spoilt", "--store", file)
+    flip_in_a_program(file)
+    told = trial.stranger("spoilt", "--store", file)
+    if "is refused: rvstm: store Damaged 7; started with --anew" not in told.splitlines()[-1]:
+        raise ValueError(f"the node said: {told.splitlines()[-1]}")
+    told = trial.stranger("spoilt", "--store", file, "--anew")
+    if "keeps the refused file" not in told or "STOPS" in told:
+        raise ValueError(f"the node said: {told.splitlines()[-1]}")
+    begun = [line for line in told.splitlines() if "begins at" in line][-1]
+    return f"a node stopped by name; with --anew it {begun.split(' ', 2)[2]}"
+
+
+def flip_in_a_program(path):
+    """Changes one bit of a program in a file, when a session has brought all that was kept into it."""
+    of_session = {word: transfers.SETTINGS[word] for word in ("frame_limit", "frame_gas", "brief")}
+    for _ in range(TRIES_FOR_A_FILE):  # the engine of a killed node may have it for a moment
+        if sessions.Session(program.rvstm(), sessions.Settings(digest=True, store=str(path), **of_session)).end()[2] == 0:
+            break
+        time.sleep(0.1)
+    data = bytearray(path.read_bytes())
+    data[data.index(b"\x7fELF") + 4] ^= 1
+    path.write_bytes(data)
+
+
 def clock_wrong(trial):
     if not FAKETIME.exists():
         return "there is no faketime here"
@@ -413,6 +442,6 @@ def controls(trial):
 FAULTS = [
     node_killed, node_with_a_file_killed, all_nodes_killed, engine_killed, engine_with_a_file_killed, engine_stopped, leader_killed,
     leader_stopped, leader_parted, node_parted, proposer_parted, proposer_killed, proposer_dies_between_parts_and_block, long_block,
-    strange_blocks, compaction, pruning, late_node, damaged_dump, full_disk, full_disk_of_a_file, clock_wrong, two_nodes_of_one_name,
+    strange_blocks, compaction, pruning, late_node, damaged_dump, damaged_file, full_disk, full_disk_of_a_file, clock_wrong, two_nodes_of_one_name,
     two_nodes_in_one_folder, two_nodes_on_one_file, member_replaced,
 ]

@@ -29,6 +29,7 @@ HEIGHTS_BETWEEN_LOOKS = 8
 MOST_DEATHS = 3
 MOST_TRIES, SECONDS_BETWEEN_TRIES = 3, 1  # of a request that the engine's file does not take
 NEVER_RAN = b"refused frame NoFrame 7\n"  # is what `last` answers of no frame
+UNFIT = ("rvstm: store NotASession 4", "rvstm: store Damaged 7")  # of a file that stays refused
 SECONDS_FOR_A_DUMP = 60
 QUOTA_TOLD = 0.8  # the share of etcd's quota from which on it is told
 
@@ -47,9 +48,9 @@ class Counts:
 
 
 class Node:
-    def __init__(self, name, urls, folder, workers=None, library=None, alike=2, quota=2 << 30, store=None):
+    def __init__(self, name, urls, folder, workers=None, library=None, alike=2, quota=2 << 30, store=None, anew=False):
         self.name, self.urls, self.folder, self.alike, self.quota = name, urls, Path(folder), alike, quota
-        self.workers, self.library, self.store = workers, library, store
+        self.workers, self.library, self.store, self.anew = workers, library, store, anew
         self.client, self.engine, self.busy = etcd.Etcd(urls, math.inf), None, threading.Lock()
         self.mark, self.settings, self.told = Mark(), None, {}
         self.pending, self.values, self.answers = [], {}, collections.OrderedDict()
@@ -89,21 +90,49 @@ class Node:
 
     def begin(self):
         """Starts an engine, and brings it to where it can go on: by its file, by a dump, or from the log's begin."""
-        with self.busy:
-            if self.engine:
-                self.engine.close()
-            self.engine = engines.engine(self.settings, self.library)
+        self.start_engine()
         kept = self.kept() if self.store else None
         self.go_on(kept) if kept else self.begin_anew()
         self.looked = self.mark.height
         self.say(f"begins at height {self.mark.height}, engine {self.engine.pid or 'in this process'}")
 
+    def start_engine(self):
+        with self.busy:
+            if self.engine:
+                self.engine.close()
+            self.engine = engines.engine(self.settings, self.library)
+
     def kept(self):
-        """Where the session in the file is; None where it has run no block, or where the log does not lead on from there."""
-        told = sessions.state_of(self.need(b"state"))
+        """Where the session in the file is; None where it has run no block, or where the node begins anew."""
+        try:
+            told = sessions.state_of(self.need(b"state"))
+        except engines.Ended as error:
+            if str(error) not in UNFIT:
+                raise
+            self.need_anew(f"its file {self.store} is refused: {error}")
+            self.put_file_aside()
+            return None
         height = int(told[b"height"])
-        revision = ledger.revision_at(self.client, height, self.name) if height else None
-        return revision and Mark(height, self.digest_told(told), revision)
+        revision = ledger.revision_at(self.client, height, self.name) if height else 0
+        if revision is None:
+            self.need_anew(f"its file {self.store} is at height {height}, and the log behind that is pruned")
+        return Mark(height, self.digest_told(told), revision) if revision else None
+
+    def need_anew(self, why):
+        """Goes on where the node was told to begin anew in such a case."""
+        if not self.anew:
+            raise Stop(f"{why}; started with --anew the node begins as a new one does, with a dump")
+        self.say(f"{why}: begins anew")
+
+    def put_file_aside(self):
+        """Renames a file that is refused, and starts an engine with a new one. Its log goes first: beside a new file it would be read."""
+        file = os.path.realpath(self.store)
+        aside = f"{file}.refused-{time.time_ns()}"
+        for end in ("-wal", ""):
+            with contextlib.suppress(FileNotFoundError):
+                os.rename(file + end, aside + end)
+        self.say(f"keeps the refused file as {aside}")
+        self.start_engine()
 
     def go_on(self, mark):
         """Goes on from the file. What it ran last may not have been published: the node died, or the engine before it answered."""
@@ -372,6 +401,7 @@ def options(doc):
     parser.add_argument("--workers", type=int)
     parser.add_argument("--library")
     parser.add_argument("--store")
+    parser.add_argument("--anew", action="store_true")
     parser.add_argument("--http", type=address, default=("127.0.0.1", 0))
     parser.add_argument("--told", type=address)
     parser.add_argument("--alike", type=int, default=2)
@@ -381,12 +411,14 @@ def options(doc):
         parser.error("--name has letters, digits and -")
     if given.store and given.library:
         parser.error("the library keeps no session in a file: --store goes without --library")
+    if given.anew and not given.store:
+        parser.error("--anew is for a node with --store")
     return given
 
 
 def start(kind, given):
     """Runs a node, and tells why it stopped."""
-    node = kind(given.name, given.etcd, given.folder, given.workers, given.library, given.alike, given.quota << 20, given.store)
+    node = kind(given.name, given.etcd, given.folder, given.workers, given.library, given.alike, given.quota << 20, given.store, given.anew)
     try:
         with node.alone():
             port = status.serve(node, *given.http)

@@ -240,6 +240,18 @@ class Ledger(unittest.TestCase):
         self.cluster.node("other", "--store", path)
         self.assertIn("rvstm: store OtherSettings 6", self.cluster.wait_for("other", "STOPS"))
 
+    def test_5_told_so_a_node_puts_a_damaged_file_aside(self):
+        path = self.cluster.folder / "spoilt.store"
+        path.write_bytes(b"x" * 4096)
+        self.cluster.node("spoilt", "--store", path)
+        self.assertRegex(self.cluster.wait_for("spoilt", "STOPS"), "is refused: rvstm: store NotASession 4; started with --anew")
+        self.cluster.node("spoilt", "--store", path, "--anew")
+        self.settle("spoilt")
+        self.cluster.kill("spoilt")
+        self.assertIn("takes the dump of height", self.cluster.log("spoilt"))
+        self.assertEqual([file.read_bytes() for file in self.cluster.folder.glob("spoilt.store.refused-*")], [b"x" * 4096])
+        self.assertEqual(audits.audit(self.cluster.client, self.names)[0], [])
+
     def test_5_a_folder_has_one_node(self):
         self.cluster.node("twin", "--folder", self.cluster.folder / "n1")
         self.assertIn("another node has the folder", self.cluster.wait_for("twin", "STOPS"))

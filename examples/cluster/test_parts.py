@@ -225,6 +225,83 @@ class Files(unittest.TestCase):
             engine.close()
 
 
+class Refusing:
+    """An engine whose file is refused."""
+
+    pid = None
+
+    def __init__(self, why):
+        self.why = why
+
+    def ask(self, request):
+        raise engines.Ended(f"rvstm: store {self.why}")
+
+    def close(self):
+        pass
+
+
+class Anew(unittest.TestCase):
+    """What a node does whose file is refused, or has heights that are gone from the log."""
+
+    def setUp(self):
+        place = tempfile.TemporaryDirectory()
+        self.addCleanup(place.cleanup)
+        self.folder = Path(place.name)
+        for end in ("", "-wal"):
+            (self.folder / f"FILE{end}").write_text(f"old{end}")
+
+    def begin(self, anew, *started):
+        """What a node said that begins with these engines, one behind the other."""
+        node = nodes.Node("n1", "http://127.0.0.1:1", self.folder / "n1", store=str(self.folder / "FILE"), anew=anew)
+        said, left = [], list(started)
+        node.client, node.say = Shelf(), said.append
+        node.client.put(ledger.GENESIS, b"parts\n", 10)
+        node.client.put(ledger.PRUNED, "3 30", 60)
+        node.begin_anew = lambda: said.append("takes a dump")
+        with unittest.mock.patch.object(engines, "engine", lambda *_: left.pop(0)):
+            node.begin()
+        self.assertEqual(left, [])
+        return said
+
+    def at_height(self, height):
+        state = b"height %d\ndigest %s\n" % (height, ONE.encode())
+        engine = Answering(b"ok %d" % len(state), b"refused frame NoFrame 7")
+        engine.answers[0] = engine.answers[0]._replace(body=state)
+        return engine
+
+    def files(self):
+        return {path.name: path.read_text() for path in self.folder.glob("FILE*")}
+
+    def test_a_damaged_file_stops_a_node_and_stays(self):
+        before = self.files()
+        for why in ("Damaged 7", "NotASession 4"):
+            self.assertRaisesRegex(nodes.Stop, f"FILE is refused: rvstm: store {why}; started with --anew", self.begin, False, Refusing(why))
+        self.assertEqual(self.files(), before)
+
+    def test_told_so_a_node_puts_a_damaged_file_aside_and_begins_with_a_dump(self):
+        said = self.begin(True, Refusing("Damaged 7"), Answering())
+        self.assertIn("takes a dump", said)
+        self.assertEqual(sorted(path.read_text() for path in self.folder.glob("FILE.refused-*")), ["old", "old-wal"])
+        self.assertFalse((self.folder / "FILE").exists() or (self.folder / "FILE-wal").exists())
+
+    def test_no_other_refusal_puts_a_file_aside(self):
+        before = self.files()
+        for why in ("Busy 1", "HotJournal 2", "Unreadable 3", "OtherVersion 5", "OtherSettings 6", "Memory 9"):
+            self.assertRaisesRegex(engines.Ended, why, self.begin, True, Refusing(why))
+        self.assertEqual(self.files(), before)
+
+    def test_a_file_behind_which_the_log_is_pruned_stops_a_node(self):
+        self.assertRaisesRegex(nodes.Stop, "FILE is at height 2, and the log behind that is pruned; .*--anew", self.begin, False, self.at_height(2))
+
+    def test_told_so_a_node_begins_with_a_dump_in_that_file(self):
+        before = self.files()
+        self.assertIn("takes a dump", self.begin(True, self.at_height(2)))
+        self.assertEqual(self.files(), before)
+
+    def test_a_new_file_begins_with_a_dump_untold(self):
+        self.assertIn("takes a dump", self.begin(False, self.at_height(0)))
+
+
 class Audits(unittest.TestCase):
     def ledger_of(self, digests):
         """A genesis and two blocks at revisions 10, 20 and 30, and what nodes published of them."""
