@@ -16,6 +16,7 @@ from typing import NamedTuple
 SECONDS_A_REQUEST = 5
 SECONDS_BETWEEN_TRIES = 0.05
 SECONDS_UNTIL_TOLD = 30
+BYTES_AT_ONCE = 1 << 20  # of a watch
 TOKEN_IS_OLD = 16
 # gRPC's codes where another member, or the same one later, may answer
 MAY_ANSWER_LATER = (1, 4, 8, 13, 14, TOKEN_IS_OLD)
@@ -201,29 +202,35 @@ class Etcd:
         return told.get("succeeded", False), told
 
     def watch(self, prefix, revision, quiet):
-        """What is put below a prefix from a revision on, as lists of pairs. Ends where nothing came for some seconds, or the member
-        is gone: the caller then watches on from behind the last one, by the next member."""
+        """What is put below a prefix from a revision on, as lists of pairs: of all that came meanwhile one list. Ends where nothing came
+        for some seconds, or the member is gone: the caller then watches on from behind the last one, by the next member."""
         self.turn()
         self.line = line = self.connection(quiet)
+        line._http_vsn, line._http_vsn_str = 10, "HTTP/1.0"  # which has no chunks: all that came is read at once
         try:
             wanted = {**below(prefix), "start_revision": revision, "filters": ["NODELETE"], "fragment": True}
             line.request("POST", "/v3/watch", json.dumps({"create_request": wanted}), self.headers())
-            answer = line.getresponse()
-            while text := answer.readline():
-                told = json.loads(text)
-                if "error" in told:
-                    self.token = None
+            answer, rest = line.getresponse(), b""
+            while data := answer.read1(BYTES_AT_ONCE):
+                *lines, rest = (rest + data).split(b"\n")
+                told = [json.loads(text) for text in lines]
+                if pairs := [pair_of(event["kv"]) for one in told for event in one.get("result", {}).get("events", [])]:
+                    yield pairs
+                if any(self.is_ended(one) for one in told):
                     return
-                told = told.get("result", {})
-                if int(told.get("compact_revision", 0)):
-                    raise Compacted(int(told["compact_revision"]))
-                if told.get("canceled"):
-                    return
-                if told.get("events"):
-                    yield [pair_of(event["kv"]) for event in told["events"]]
         except TimeoutError:
             pass
         except FAULTS_OF_A_LINE:
             time.sleep(SECONDS_BETWEEN_TRIES)
         finally:
             line.close()
+
+    def is_ended(self, told):
+        """Whether etcd ends a watch by what it tells."""
+        if "error" in told:
+            self.token = None
+            return True
+        told = told.get("result", {})
+        if int(told.get("compact_revision", 0)):
+            raise Compacted(int(told["compact_revision"]))
+        return bool(told.get("canceled"))

@@ -149,16 +149,18 @@ class Proposer:
 
     def begin(self, block, settings):
         """Puts the genesis and the settings, and answers whether none was there before."""
-        return self.put_block(GENESIS, block, [is_absent(SETTINGS)], [put(SETTINGS, json.dumps(settings))])
+        return self.put_block(GENESIS, block, [is_absent(SETTINGS)], [put(SETTINGS, json.dumps(settings))])[0]
 
     def append(self, block, between=lambda: None):
         """Appends a block, and answers its revision."""
         self.number += 1
         key = f"{BLOCKS}{self.name}/{self.number:010d}"
         while True:
-            self.put_block(key, block, [is_there(GENESIS)], [], between)
+            done, told = self.put_block(key, block, [is_there(GENESIS)], [], between)
+            if done:
+                return int(told["header"]["revision"])
             pair = self.client.get(key)
-            if pair:
+            if pair:  # an answer was lost
                 return pair.made
             if not self.client.get(GENESIS):
                 raise ValueError("there is no genesis: propose --genesis puts it")
@@ -177,8 +179,7 @@ class Proposer:
         between()
         head = " ".join(["parts", *map(sha256, parts)]).encode() + b"\n"
         success = [put(key, head + (b"" if parts else data)), *map(keep, names), *beside]
-        done, _ = self.client.transact([is_absent(key), *compare, *map(is_there, names)], success)
-        return done
+        return self.client.transact([is_absent(key), *compare, *map(is_there, names)], success)
 
 
 # ---- who reads
