@@ -288,10 +288,9 @@ class Node:
     def publish(self, pairs):
         """Publishes values, each once. A node that comes to another value than it published before does not go on."""
         names = [key for key, _ in pairs]
-        success = [put(key, value) for key, value in pairs]
-        done, told = self.client.transact(map(is_absent, names), success, [read(keys(key)) for key in names])
-        if done:
+        if self.client.transact(map(is_absent, names), [put(key, value) for key, value in pairs])[0]:
             return
+        _, told = self.client.transact([], [read(keys(key)) for key in names])
         before = {pair.key: pair.value.decode() for found in etcd.pairs_read(told) for pair in found}
         for key, value in pairs:
             if before.get(key, value) != value:
