@@ -137,11 +137,12 @@ class Cluster:
 
     # ---- nodes and proposers
 
-    def begin(self):
+    def begin(self, block=None, **settings):
+        """Starts the members, and puts a genesis, that of the demonstration unless told, with settings beside its own."""
         for number in range(MEMBERS):
             self.member(number)
         self.trial = ledger.Proposer("trial", self.client)
-        self.trial.begin(transfers.genesis(), transfers.SETTINGS)
+        self.trial.begin(block or transfers.genesis(), {**transfers.SETTINGS, **settings})
         for file in transfers.FILES:
             self.trial.put_program(file)
 
