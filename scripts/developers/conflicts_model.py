@@ -56,13 +56,11 @@ def writers_of(receipts, key, reader):
                 return
 
 
-def waits_of(path, receipts):
-    """The waits of each call: its earlier calls, each with the key."""
+def keys_read_of(path, receipts):
+    """The keys that each call reads, by a replay of it."""
     block = Block(path)
     for receipt, limit in zip(receipts, block.limits, strict=True):
-        replay = replays.Replay(path, receipt.number, block.rules)
-        keys = sorted(keys_read(replay, receipt, limit))
-        yield [(writer, key) for key in keys for writer in writers_of(receipts, key, receipt.number)]
+        yield keys_read(replays.Replay(path, receipt.number, block.rules), receipt, limit)
 
 
 def text_of(path):
@@ -71,8 +69,14 @@ def text_of(path):
     if refusal:
         raise ValueError(refusal)
     receipts, _ = results.result_of(text)
+    return text_of_reads(receipts, keys_read_of(path, receipts))
+
+
+def text_of_reads(receipts, keys_of_calls):
+    """The same by the receipts, and the keys that each call reads."""
     calls, paths, counts = [], [], {}
-    for receipt, waits in zip(receipts, waits_of(path, receipts)):
+    for receipt, keys in zip(receipts, keys_of_calls):
+        waits = [(writer, key) for key in sorted(keys) for writer in writers_of(receipts, key, receipt.number)]
         paths.append(receipt.gas + max((paths[writer] for writer, _ in waits), default=0))
         earliest = {}
         for writer, key in waits:
@@ -80,11 +84,11 @@ def text_of(path):
             counts[key] = counts.get(key, 0) + 1
         calls += [f"wait {receipt.number} {earliest[key]} {key}" for key in sorted(earliest)]
         calls.append(f"call {receipt.number} gas {receipt.gas} path {paths[-1]}")
-    heads, keys = [], []
+    heads, totals = [], []
     for key in sorted(counts):
         writers = [str(receipt.number) for receipt in receipts if key in receipt.writes]
         heads.append(f"writers {key} {' '.join(writers)}")
-        keys.append(f"key {key} writers {len(writers)} waits {counts[key]}")
+        totals.append(f"key {key} writers {len(writers)} waits {counts[key]}")
     gas = sum(receipt.gas for receipt in receipts)
     total = f"all calls {len(receipts)} gas {gas} path {max(paths, default=0)}"
-    return "".join(f"{line}\n" for line in [*heads, *calls, *keys, total])
+    return "".join(f"{line}\n" for line in [*heads, *calls, *totals, total])
