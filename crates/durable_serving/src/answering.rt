@@ -11,8 +11,7 @@ use crate::asking::{FileCourse, take_asked};
 use crate::reply::write_reply;
 use crate::session::FileSession;
 use byte_streams::{BufferedSource, Destination};
-use requests::next_request;
-use serving::{ServeFault, answer_broken};
+use serving::{ServeFault, answer_broken, next_behind};
 use session_states::StoreFault;
 use sqlite_trees::store::Store;
 use std::alloc::Global;
@@ -55,8 +54,8 @@ pub fn serve_durably<R: BufferedSource, S: Store, C: CallRunner, W: Destination>
     ensures kept { IsKeptBy settings (S.Store.view session.new.file) (file_state session.new.state session.new.found) }
     ensures refused { IfErr result (MayDurablyEnd (W.may_fail out.old) (W.may_take_nothing out.old)) }
 {
-    for _ in 0..u64::MAX {
-        let asked = match next_request(alloc, input, settings.frame_limit) {
+    for answers in 0..u64::MAX {
+        let asked = match next_behind(alloc, input, settings.frame_limit, answers, out) {
             Ok(asked) => asked,
             Err(io::Error { .. }) => return Err(DurableFault::Session(ServeFault::Unreadable)),
         };

@@ -1,6 +1,6 @@
 //! What a session over a file answers.
 
-ghost use Rattle.std.specs.Prelude.{IfErr};
+ghost use Rattle.std.specs.Prelude.{IfErr, OnOk};
 ghost use Rattle.byte_streams.specs.Written.{MayRefuse};
 ghost use Rattle.serving.specs.Writing.{Says};
 ghost use Rattle.durable_serving.specs.Keeping.{HasReply, reply_text};
@@ -31,6 +31,7 @@ pub(crate) fn write_reply<S: Store, W: Destination>(
 ) -> Result<(), WriteFault>
     requires { HasReply session.now.found reply }
     ensures says { Says result (W.contents out.old) (W.contents out.new) (reply_text session.now.state session.now.found reply) }
+    ensures flushed { OnOk result (W.is_flushed out.new) }
     ensures refused { IfErr result (MayRefuse (W.may_fail out.old) (W.may_take_nothing out.old)) }
     ensures no_worse { (W.may_fail out.new → W.may_fail out.old) × (W.may_take_nothing out.new → W.may_take_nothing out.old) }
 {

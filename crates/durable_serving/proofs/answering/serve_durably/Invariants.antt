@@ -1,4 +1,4 @@
-use Rattle.std.proofs.Common.{◌≡◌, ◌≤◌, false}
+use Rattle.std.proofs.Common.{◌≡◌, ◌<◌, ◌≤◌, false}
 use Rattle.requests.specs.Reading.{WhereKnown}
 use Rattle.serving.proofs.Serves.{IsServing}
 use Rattle.session_states.specs.States.{file_state}
@@ -7,13 +7,14 @@ use Rattle.durable_serving.specs.Durable.{IsFileAnswer}
 use Rattle.durable_serving.specs.Keeping.{IsKeptBy}
 use Rattle.durable_serving.proofs.answering.serve_durably.Given as goal
 
-abbrev pub invariant-loop : goal.invariant-loop
-invariant-loop g l = record {
+abbrev pub invariant-loop-answers : goal.invariant-loop-answers
+invariant-loop-answers g l = record {
+  flushed : 0 < l.answers → g.W.Destination.is_flushed l.out;
   same : g.R.BufferedSource.may_fail l.input → g.R.BufferedSource.may_fail l.fn.input;
   no_worse : (g.W.Destination.may_fail l.out → g.W.Destination.may_fail l.fn.out) × (g.W.Destination.may_take_nothing l.out → g.W.Destination.may_take_nothing l.fn.out);
   kept : IsKeptBy l.settings (g.S.Store.view l.session.file) (file_state l.session.state l.session.found);
   sound : IsClean (g.S.Store.view l.session.file) → (g.S.Store.view l.session.file).is_broken ≡ false;
   clean : doubt (g.S.Store.view l.fn.session.file).is_clean ≤ doubt (g.S.Store.view l.session.file).is_clean;
   serves : WhereKnown (g.R.Read.remaining l.fn.input) (g.R.Read.remaining l.input)
-      (IsServing (IsFileAnswer l.settings) (file_state l.fn.session.state l.fn.session.found) (file_state l.session.state l.session.found) (g.W.Write.contents l.fn.out) (g.W.Write.contents l.out) l.counter);
+      (IsServing (IsFileAnswer l.settings) (file_state l.fn.session.state l.fn.session.found) (file_state l.session.state l.session.found) (g.W.Write.contents l.fn.out) (g.W.Write.contents l.out) l.answers);
 }
