@@ -28,6 +28,9 @@ WRONG = {
     "a parameter": "fn f(want: Fault, n: u64) -> Result<u8, Fault> { if n > 7 { return Err(want); } Ok(1) } fn g() -> Result<u8, Fault> { f(Fault::Memory, 8) }",
     "a function that tells it": "fn failed() -> Answer { Answer::Failed(Failure::Run) } fn f(n: u64) -> Answer { if n > 7 { return failed(); } Answer::Done }",
     "a failure of a turn": "fn f(n: u64) -> Answer { match n { 0 => Answer::Done, _ => Answer::Failed(Failure::Block) } }",
+    "a text's memory for a run's": "fn f() -> Result<Answer, Failure> { match receipts_text() { Ok(x) => Ok(x), Err(AllocError) => Err(Failure::Run) } }",
+    "a run's memory for a text's": "fn f() -> Result<(), Refusal> { let Ok(x) = into_outcome() else { return Err(Refusal::Output(WriteFault::Memory)); }; g(x) } fn into_outcome() -> Result<Outcome, AllocError> { h() }",
+    "a program's memory for a block's": "fn f() -> Result<Answer, Failure> { match loaded() { Ok(x) => Ok(x), Err(ElfError::Memory) => Err(Failure::Block) } }",
     "a body that is not kept": "fn f(n: u64) -> Asked { match n { 0 => Asked::End, _ => Asked::Unkept(n) } }",
 }
 
@@ -48,7 +51,8 @@ RIGHT = {
     "a value that is handed back": "fn g(arena: Arena) -> Result<Core, Arena> { match h() { Ok(x) => Ok(x), Err(AllocError) => Err(arena) } } fn f(arena: Arena) -> Result<Core, Fault> { match g(arena) { Ok(x) => Ok(x), Err(arena) => Err(Fault::Memory) } }",
     "a constant": "const WANT: Fault = Fault::Memory; fn f() -> Result<u8, Fault> { match g() { Ok(x) => Ok(x), Err(AllocError) => Err(WANT) } }",
     "a parameter": "fn f(want: Fault) -> Result<u8, Fault> { match h() { Ok(x) => Ok(x), Err(AllocError) => Err(want) } } fn g() -> Result<u8, Fault> { f(Fault::Memory) }",
-    "a function that tells it": "fn failed() -> Answer { Answer::Failed(Failure::Run) } fn f() -> Answer { match g() { Ok(x) => x, Err(AllocError) => failed() } }",
+    "a function that tells it": "fn unkept_frame() -> Answer { Answer::Failed(Failure::Block) } fn f() -> Answer { match g() { Ok(x) => x, Err(AllocError) => unkept_frame() } }",
+    "the area of a run, and of its text": "fn f() -> Result<Answer, Failure> { match run_calls() { Ok(x) => receipts_text(x).map_err(|_: AllocError| Failure::Answer), Err(AllocError) => Err(Failure::Run) } }",
     "a comparison, a pattern, a comment, a string": 'fn f(e: Fault) -> bool { let _text = "Fault::Memory"; /* Fault::Io */ e == Fault::Memory || matches!(e, Fault::Spawn) }',
     "a clause": "fn f(n: u64) -> bool ensures { result ≡ Err Fault::Memory } { n == 0 }",
 }
