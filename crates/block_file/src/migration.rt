@@ -27,7 +27,10 @@ pub fn migrate(alloc: Global, bytes: &[u8]) -> Result<Vec<u8>, BlockFault>
             cause: Cause::BadHeader,
         });
     }
-    parse(alloc, bytes)?;
+    match parse(alloc, bytes) {
+        Ok(_) => {}
+        Err(fault) => return Err(fault),
+    }
     match in_second_format(alloc, &bytes[FIRST_HEADER.len() + 1..]) {
         Ok(text) => Ok(text),
         Err(AllocError) => Err(BlockFault {

@@ -5,3 +5,5 @@ pub mod Rules
 pub mod Call
 pub mod Job
 pub mod Inserted
+pub mod KeyHash
+pub mod Positions

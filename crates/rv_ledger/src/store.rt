@@ -1,31 +1,38 @@
 //! The storage of a block.
 
+ghost use Rattle.std.specs.Prelude.{IsTrue};
+ghost use Rattle.rv_ledger.specs.Entries.{AreAscending};
+
 use crate::change::add;
+use crate::entry_table::{ENTRY_LIMIT, EntryTable};
 use crate::inline_bytes::Value;
 use crate::key::Key;
+use crate::store_iter::StoreIter;
 use crate::stored_bytes::StoredValue;
 use std::alloc::{AllocError, Global};
-use std::collections::BTreeMap;
-use std::collections::btree_map::Iter;
+use std::cmp::Ordering;
 use std::marker::Model;
 
 /// A storage: a finite map from keys to values, of any number of keys.
 #[derive(Drop)]
 pub struct Store {
     alloc: Global,
-    entries: BTreeMap<Key, StoredValue>,
+    table: EntryTable,
 }
 
 impl Model for Store {
     ghost use Rattle.std.specs.FinMap as map;
     ghost use Rattle.std.specs.Coded.{coded_list, coded_ℕ};
     ghost use Rattle.rv_ledger.specs.Key.{Storage};
+    ghost use Rattle.rv_ledger.specs.Positions.{IsIndexed, by_key};
 
     ghost Value = { Storage };
 
     ghost coded = { map.code (coded_list coded_ℕ) (coded_list coded_ℕ) };
 
-    ghost view = { λ s. map.from_entries s.entries.entries };
+    ghost view = { λ s. map.from_entries (by_key s.table) };
+
+    ghost invariant = { λ s. IsIndexed s.table };
 }
 
 impl Store {
@@ -41,26 +48,38 @@ impl Store {
     {
         Store {
             alloc,
-            entries: BTreeMap::new(alloc),
+            table: EntryTable::new(alloc),
         }
     }
 
-    /// The storage that inserting the entries in turn gives; refused where memory ran out.
+    /// The storage that inserting the entries in turn gives; refused where memory ran out. Where the keys ascend, the
+    /// entries are taken as they stand.
+    #[tactic(auto, using(std::proofs::lemmas::List::Sums::fold_push))]
     pub(crate) fn of_entries(
         alloc: Global,
         entries: Vec<(Key, StoredValue)>,
     ) -> Result<Store, AllocError>
         ensures { IfOk result (λ s. s ≡ inserted entries.items) }
     {
-        let entries = entries.into_iter().collect(alloc)?;
-        Ok(Store { alloc, entries })
+        if entries.len() <= ENTRY_LIMIT && do_ascend(entries.as_slice()) {
+            let table = EntryTable::of_ascending(alloc, entries)?;
+            return Ok(Store { alloc, table });
+        }
+        let mut store = Store::new(alloc);
+        for (key, value) in entries {
+            store.put(key, value)?;
+        }
+        Ok(store)
     }
 
     /// The value at a key, or None where it is absent.
     pub fn get(&self, key: &Key) -> Option<&StoredValue>
         ensures { option_copied result ≡ map.get self.now key.now }
     {
-        self.entries.get(key)
+        match self.table.find(key) {
+            Some(position) => Some(&self.table.list[position].1),
+            None => None,
+        }
     }
 
     /// Sets the value at a key; refused where memory ran out, and then nothing changes.
@@ -106,32 +125,44 @@ impl Store {
         ensures err { OnErr result (self.new ≡ self.old) }
         ensures absent { OnErr result (map.get self.old key ≡ None) }
     {
-        self.entries.insert(key, value)?;
-        Ok(())
+        self.table.put(key, value)
     }
 
     /// Removes a key; nothing changes where it is absent.
     pub fn remove(&mut self, key: &Key)
         ensures { self.new ≡ map.remove self.old key.now }
     {
-        let _ = self.entries.remove(key);
+        self.table.remove(key);
     }
 
     /// The keys, ascending, each with its value.
-    pub fn iter(&self) -> Iter<'_, Key, StoredValue>
+    pub fn iter(&self) -> StoreIter<'_>
         ensures { result ≡ map.entries self.now }
     {
-        self.entries.iter()
+        self.table.iter()
     }
 
     /// An equal storage; refused where memory ran out.
     pub fn copy(&self) -> Result<Store, AllocError>
         ensures { IfOk result (λ s. s ≡ self.now) }
     {
-        let entries = self.entries.clone()?;
+        let table = self.table.copy()?;
         Ok(Store {
             alloc: self.alloc,
-            entries,
+            table,
         })
     }
+}
+
+/// Whether the keys of entries ascend.
+fn do_ascend(entries: &[(Key, StoredValue)]) -> bool
+    ensures { IsTrue result → AreAscending entries.now }
+{
+    for i in 1..entries.len() {
+        match entries[i - 1].0.cmp(&entries[i].0) {
+            Ordering::Less => {}
+            _ => return false,
+        }
+    }
+    true
 }

@@ -10,8 +10,7 @@ use std::marker::Model;
 use std::{fmt, mem};
 
 /// The greatest length that is kept in place, in bytes. `StoredBytes` then take 32 bytes, as with
-/// any lower limit. So a leaf of a storage's tree, of 15 keys and 15 values, takes 968 bytes: glibc's allocator
-/// serves up to 1,032 from its fast list.
+/// any lower limit, and an entry of a storage, a key and its value, takes 64.
 pub const IN_PLACE_LIMIT: usize = 16;
 
 /// A byte string of at most 256 bytes: a short one is kept in place, a longer one in memory of its own.
