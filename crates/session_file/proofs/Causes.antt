@@ -1,5 +1,5 @@
 -- Why a part of a session may not be stored.
-use Rattle.std.proofs.Common.{◌≡◌, ◌≤◌, ◌<◌, ◌+◌, ◌^◌, ℕ, pos, List, [], ◌∷◌, length, Option, Some, None, subst, sym, arith}
+use Rattle.std.proofs.Common.{◌≡◌, ◌≤◌, ◌+◌, ◌^◌, ℕ, List, length, Option, Some, None, arith}
 use Rattle.std.proofs.Math.Nat.{lt_of_not-le}
 use Rattle.std.specs.Float.{NotNan}
 use lib.Ieee.{is_nan}

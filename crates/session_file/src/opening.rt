@@ -1,11 +1,15 @@
 //! Opening the store of a session.
 
-ghost use Rattle.std.specs.Prelude.{◌≡◌, false, map, IfErr, IfOk, IsTrue, OnOk};
+ghost use Rattle.std.specs.Prelude.{◌≡◌, ◌≢◌, false, map, IfErr, IfOk, IsTrue, OnOk};
 ghost use Rattle.sqlite_exec.specs.Calls.{OnlyReads};
 ghost use Rattle.sqlite_disk.specs.Disk.{MoreFaults};
 ghost use Rattle.sqlite_trees.specs.View.{IsClean, IsQuiet};
-ghost use Rattle.session_file.specs.Kept.{HoldsIn};
+ghost use Rattle.sqlite_value.specs.Keys.{plain};
+ghost use Rattle.entry_tree.specs.Entries.{rows_of};
+ghost use Rattle.rv_ledger.specs.Key.{Storage};
+ghost use Rattle.session_file.specs.Kept.{AreEntries, HoldsIn, storage_tree};
 ghost use Rattle.session_file.specs.Opening.{AreRising, IsFresh, IsRefused, kept_of, program_entry};
+ghost use Rattle.session_file.specs.Rows.{IsReadFault};
 ghost use Rattle.session_file.specs.Staging.{HasTrees, IsKeeping, IsShaped};
 
 use crate::fault::OpenFault;
@@ -50,14 +54,31 @@ fn load<S: Store>(alloc: Global, store: &mut S) -> Result<Found, OpenFault>
     let answer = read_answer(alloc, store, &mut row)?;
     let mut programs: Vec<ProgramRow> = Vec::new(alloc);
     read_entries(store, PROGRAM_TREE, &mut row, &mut programs)?;
-    let mut entries = StoreBuilder::new(alloc);
-    read_entries(store, STORAGE_TREE, &mut row, &mut entries)?;
+    let storage = load_storage(alloc, store, &mut row)?;
     Ok(Found {
-        storage: entries.finish()?,
+        storage,
         programs,
         session,
         answer,
     })
+}
+
+/// Reads the storage that a store keeps.
+fn load_storage<S: Store>(
+    alloc: Global,
+    store: &mut S,
+    row: &mut Row,
+) -> Result<rv_ledger::Store, OpenFault>
+    requires { IsClean (S.Store.view store.old) → (S.Store.view store.old).shape storage_tree ≡ Shape.Index plain }
+    ensures ok { IfOk result (λ storage. IsClean (S.Store.view store.new) → (S.Store.view store.old).trees storage_tree ≡ rows_of storage) }
+    ensures limits { IfOk result AreEntries }
+    ensures err { IfErr result (λ fault. IsClean (S.Store.view store.new) → IsReadFault (S.Store.view store.old) (MoreFaults (S.Store.faults store.old) (S.Store.faults store.new)) ((storage : Storage) → AreEntries storage → (S.Store.view store.old).trees storage_tree ≢ rows_of storage) fault) }
+    ensures same { OnOk result (IsClean (S.Store.view store.new) → OnlyReads (S.Store.view store.old) (S.Store.view store.new)) }
+    ensures quiet { IsQuiet S.Store.view S.Store.faults S.Store.recovers S.Store.is_shielded store.old store.new }
+{
+    let mut entries = StoreBuilder::new(alloc);
+    read_entries(store, STORAGE_TREE, row, &mut entries)?;
+    Ok(entries.finish()?)
 }
 
 /// Opens a store that was just opened, or made with no rows, as that of a session, and reads what it keeps. Where this is

@@ -9,7 +9,6 @@ use Rattle.session_file.specs.Kept.{storage_tree}
 use Rattle.session_file.specs.Opening.{AreRising}
 use Rattle.session_file.proofs.Lists.{first_removed, map_rising}
 use Rattle.entry_tree.proofs.Causes.{later_cause}
-use Rattle.session_file.proofs.Limits.{never_long}
 use Rattle.session_file.proofs.writing.remove_entries.Goals as goal
 
 pub loop-key-init : goal.loop-key-init
