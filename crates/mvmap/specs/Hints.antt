@@ -1,6 +1,6 @@
 -- Buckets of keys, each with a hint of where one of its keys stands; only private functions use this.
-use Rattle.std.specs.Prelude.{ℕ, ◌+◌, ◌*◌, ◌/◌, ◌%◌, ◌^◌, ◌==◌, min, bit_xor, if◌then◌else◌, List, drop, Option, Some, None, slice_get, slice_index, slice_set}
-use Rattle.std.specs.Int.{from_le_bytes, w64}
+use Rattle.std.specs.Prelude.{ℕ, ◌/◌, ◌^◌, ◌==◌, min, if◌then◌else◌, List, Option, Some, None, slice_get, slice_index, slice_set}
+use Rattle.rv_ledger.specs.KeyHash.{key_hash}
 use Rattle.mvmap.specs.declared.hints.Hint.{Hint}
 use Rattle.mvmap.specs.declared.hints.Hint.TheVariants.{Nothing, At, Unknown}
 
@@ -12,21 +12,9 @@ no_hint = 65535
 abbrev pub last_hint : ℕ
 last_hint = 65534
 
--- the eight bytes of a key from byte word * 8 on, as a number, the lowest first
-unfoldable pub word_of : List ℕ → ℕ → ℕ
-word_of key word = from_le_bytes w64 (drop (word * 8) key)
-
--- the sum of a key's four words, modulo 2^64
-abbrev pub sum_of : List ℕ → ℕ
-sum_of key = (word_of key 0 + word_of key 1 + word_of key 2 + word_of key 3) % 2 ^ 64
-
--- a number with its higher half mixed into the lower, times an odd number near 2^64 over the golden ratio, modulo 2^64
-unfoldable pub mixed : ℕ → ℕ
-mixed n = bit_xor n (n / 2 ^ 32) * 11400714819323198485 % 2 ^ 64
-
--- the bucket of a key: the highest fourteen bits of its sum, mixed twice
+-- the bucket of a key: the highest fourteen bits of its hash
 unfoldable pub bucket_of : List ℕ → ℕ
-bucket_of key = mixed (mixed (sum_of key)) / 2 ^ 50
+bucket_of key = key_hash key / 2 ^ 50
 
 -- what the content of a bucket says
 abbrev pub hint_in : Option ℕ → Hint

@@ -1,10 +1,10 @@
 //! Hints of where keys stand in a list.
 
 ghost use Rattle.std.specs.Prelude.{◌≡◌, ◌<◌, ◌≤◌, ◌⊎◌, ◌↔◌, [], IsTrue, replicate};
-ghost use Rattle.mvmap.specs.Hints.{bucket_of, hint_of, mixed, noted, word_of};
+ghost use Rattle.mvmap.specs.Hints.{bucket_of, hint_of, noted};
 ghost use Rattle.mvmap.specs.declared.hints.Hint.TheVariants.{Nothing};
 
-use rv_ledger::Key;
+use rv_ledger::{Key, key_hash};
 use std::alloc::Global;
 
 /// How many bits of a hash say the bucket of a key.
@@ -18,15 +18,6 @@ const NO_HINT: u16 = u16::MAX;
 
 /// The last position that a hint can say.
 const LAST_HINT: usize = NO_HINT as usize - 1;
-
-/// An odd number near 2^64 over the golden ratio, whose product spreads numbers that differ little.
-const MULTIPLIER: u64 = 0x9e37_79b9_7f4a_7c15;
-
-/// The number of bytes of a word of a key.
-const WORD_SIZE: usize = 8;
-
-/// The number of such words in a key.
-const WORD_COUNT: usize = 4;
 
 /// What the hints say of a key.
 #[derive(Drop)]
@@ -100,44 +91,12 @@ impl Hints {
     }
 }
 
-/// The bucket of a key, from all of its bytes.
+/// The bucket of a key: the highest bits of its hash.
+#[tactic(auto, unfolding(crate::specs::Hints::bucket_of))]
 #[inline(always)]
 fn bucket_of(key: &Key) -> usize
     ensures value { result ≡ bucket_of key.now }
     ensures count { result < BUCKET_COUNT }
 {
-    let bytes = key.bytes();
-    let sum = word_at(bytes, 0)
-        .wrapping_add(word_at(bytes, 1))
-        .wrapping_add(word_at(bytes, 2))
-        .wrapping_add(word_at(bytes, 3));
-    (mix(mix(sum)) >> (u64::BITS - BUCKET_BITS)) as usize
-}
-
-/// One round of mixing: the higher half of a number goes into the lower, and a product modulo 2^64 spreads both.
-#[tactic(auto, unfolding(crate::specs::Hints::mixed))]
-#[inline(always)]
-fn mix(number: u64) -> u64
-    ensures { result ≡ mixed number }
-{
-    (number ^ (number >> 32)).wrapping_mul(MULTIPLIER)
-}
-
-/// The eight bytes of a key from byte `word * 8` on, as a little-endian number.
-#[inline(always)]
-fn word_at(bytes: &[u8; 32], word: usize) -> u64
-    requires { word < WORD_COUNT }
-    ensures { result ≡ word_of bytes.now word }
-{
-    let start = word * WORD_SIZE;
-    u64::from_le_bytes([
-        bytes[start],
-        bytes[start + 1],
-        bytes[start + 2],
-        bytes[start + 3],
-        bytes[start + 4],
-        bytes[start + 5],
-        bytes[start + 6],
-        bytes[start + 7],
-    ])
+    (key_hash(key) >> (u64::BITS - BUCKET_BITS)) as usize
 }

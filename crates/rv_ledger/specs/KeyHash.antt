@@ -1,4 +1,4 @@
--- A hash of keys; only private functions, of mvmap too, use this.
+-- A hash of keys, for hints of where keys stand.
 use Rattle.std.specs.Prelude.{ℕ, ◌+◌, ◌*◌, ◌/◌, ◌%◌, ◌^◌, bit_xor, List, drop}
 use Rattle.std.specs.Int.{from_le_bytes, w64}
 

@@ -1,8 +1,0 @@
-use Rattle.std.proofs.Common.{◌∙◌, add-zero}
-use Rattle.std.proofs.lemmas.List.{get_or-drop}
-use Rattle.mvmap.specs.Hints.{word_of}
-use Rattle.mvmap.proofs.hints.word_at.Goals as goal
-
-pub returns : goal.returns
-unfolding word_of
-returns c = c.from_le_bytes.ensures ∙ simp (get_or-drop, add-zero)
