@@ -11,5 +11,6 @@ pub mod Charged
 pub mod Steps
 pub mod Reached
 pub mod Stops
+pub mod Walks
 pub mod StorageRuns
 pub mod WriteLimit

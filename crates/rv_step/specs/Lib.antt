@@ -10,3 +10,5 @@ pub mod Meets
 pub mod Asked
 pub mod Over
 pub mod PageSteps
+pub mod Until
+pub mod Walks

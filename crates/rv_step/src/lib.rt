@@ -15,6 +15,7 @@ mod machine_room;
 mod outcome;
 mod over;
 mod page_loop;
+mod page_walk;
 mod run;
 mod run_room;
 mod stage;

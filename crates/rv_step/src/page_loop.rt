@@ -23,7 +23,7 @@ use rv_mem::{code_page, word_in};
 use std::alloc::AllocError;
 
 /// The number of bytes of a page.
-const PAGE: u64 = PAGE_SIZE as u64;
+pub(crate) const PAGE: u64 = PAGE_SIZE as u64;
 
 /// Where a machine stands in a page of code, and the gas that it has left there.
 #[derive(Clone, Copy)]
@@ -179,7 +179,7 @@ impl Machine {
 
     /// Puts the machine where a position is in the page of this first address.
     #[inline(always)]
-    fn stand_at(&mut self, first: u32, position: Position)
+    pub(crate) fn stand_at(&mut self, first: u32, position: Position)
         ensures { self.new ≡ machine_at self.old first position }
     {
         self.pc = position.pc(first);

@@ -11,6 +11,7 @@ use crate::answer::StorageAnswer;
 use crate::ended_run::EndedRun;
 use crate::machine::Machine;
 use crate::outcome::InstructionOutcome;
+use crate::page_walk::is_at;
 use crate::run_room::RunRoom;
 use crate::stage::{Stage, end_with};
 use crate::storage_calls::bytes_of;
@@ -64,6 +65,7 @@ impl Run {
     ghost use Rattle.rv_step.specs.Step.{step};
     ghost use Rattle.rv_step.specs.Asked.{asked_by, asked_of};
     ghost use Rattle.rv_step.specs.Replies.{replies_of};
+    ghost use Rattle.rv_step.specs.Until.{GoesUntil, stops_at};
     ghost use Rattle.rv_step.specs.Run.{IsEnded, IsPause, IsReceiptOf, after_answer, after_result, after_steps, asked_key, is_running, run_at_start, steps_left};
 
     /// A run of a call before its first instruction; refused where memory ran out.
@@ -163,6 +165,62 @@ impl Run {
         ensures grows { OnErr result (TakesMemory self.new.machine) }
     {
         run_until_stop(&mut self.machine, self.call.image().base(), &mut self.stage)
+    }
+
+    /// Makes steps of a run that is running: one at least, `most` at most, and none behind the first moment at which the run
+    /// asks, has ended, or has the pc `stop`. Returns how many. It stops sooner only before an instruction that needs memory
+    /// which ran out. Refused where memory ran out before the first step, and then nothing changes.
+    pub fn go_until(&mut self, stop: Option<u32>, most: u64) -> Result<u64, AllocError>
+        requires running { IsTrue (is_running self.old.stage) }
+        requires some { 0 < most }
+        ensures ok { IfOk result (λ made. GoesUntil stop most made self.old self.new) }
+        ensures sooner { IfOk result (λ made. made < most → stops_at stop self.new ≡ false → TakesMemory self.new.machine) }
+        ensures err { OnErr result (self.new ≡ self.old) }
+        ensures grows { OnErr result (TakesMemory self.old.machine) }
+    {
+        self.step_one()?;
+        let mut made = 1;
+        while made < most && !self.stops_at(stop) {
+            match self.go_on(stop, most - made) {
+                Ok(more) => made += more,
+                Err(AllocError) => return Ok(made),
+            }
+        }
+        Ok(made)
+    }
+
+    /// Whether the run can make no step, or has this pc.
+    fn stops_at(&self, stop: Option<u32>) -> bool
+        ensures { result ≡ stops_at stop self.now }
+    {
+        !self.is_running() || is_at(stop, self.machine.pc)
+    }
+
+    /// The same as `go_until` for a run that does not stop where it stands.
+    fn go_on(&mut self, stop: Option<u32>, most: u64) -> Result<u64, AllocError>
+        requires going { stops_at stop self.old ≡ false }
+        requires some { 0 < most }
+        ensures ok { IfOk result (λ made. GoesUntil stop most made self.old self.new) }
+        ensures err { OnErr result (self.new ≡ self.old) }
+        ensures grows { OnErr result (TakesMemory self.old.machine) }
+    {
+        let made = self.walk(stop, most);
+        if made > 0 {
+            return Ok(made);
+        }
+        self.step_one()?;
+        Ok(1)
+    }
+
+    /// Makes steps in a page of code, at most `most`, up to the first moment at which the pc is `stop`, lies in another page,
+    /// or is that of an instruction that is not made there. Returns how many.
+    fn walk(&mut self, stop: Option<u32>, most: u64) -> u64
+        requires { IsTrue (is_running self.old.stage) }
+        ensures within { result ≤ most }
+        ensures steps { self.new ≡ after_steps result self.old }
+        ensures between { (n : ℕ) → n < result → stops_at stop (after_steps n self.old) ≡ false }
+    {
+        self.machine.walk(self.call.image().base(), stop, most)
     }
 
     /// Why the run stands still. It must not be running.
