@@ -31,6 +31,9 @@ WRONG = {
     "a text's memory for a run's": "fn f() -> Result<Answer, Failure> { match receipts_text() { Ok(x) => Ok(x), Err(AllocError) => Err(Failure::Run) } }",
     "a run's memory for a text's": "fn f() -> Result<(), Refusal> { let Ok(x) = into_outcome() else { return Err(Refusal::Output(WriteFault::Memory)); }; g(x) } fn into_outcome() -> Result<Outcome, AllocError> { h() }",
     "a program's memory for a block's": "fn f() -> Result<Answer, Failure> { match loaded() { Ok(x) => Ok(x), Err(ElfError::Memory) => Err(Failure::Block) } }",
+    "a text's memory for a run's by threads": "fn f() -> Result<Text, RunFault> { match receipts_text() { Ok(x) => Ok(x), Err(AllocError) => Err(RunFault::Memory) } }",
+    "a run's memory for a schedule's": "fn f() -> Result<Outcome, DriveFault> { match outcome_of() { Ok(x) => Ok(x), Err(AllocError) => Err(DriveFault::Memory) } }",
+    "a block's memory for a debugged call's": "fn f() -> Result<Text, ReplayFault> { match parse() { Ok(x) => Ok(x), Err(AllocError) => Err(ReplayFault::Memory) } }",
     "a body that is not kept": "fn f(n: u64) -> Asked { match n { 0 => Asked::End, _ => Asked::Unkept(n) } }",
 }
 
