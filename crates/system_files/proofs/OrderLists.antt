@@ -1,17 +1,29 @@
 -- Orders behind orders.
-use Rattle.std.proofs.Common.{◌≡◌, ◌++◌, ◌⊎◌, inl, inr, ℕ, List, Option, None, Some, sym, subst, ap, ◌∙◌, append_assoc, arith}
+use Rattle.std.proofs.Common.{◌≡◌, ◌++◌, ◌⊎◌, inl, inr, ℕ, List, Option, None, Some, sym, [], ◌∷◌, subst, ap, ◌∙◌, append_assoc, arith}
 use Rattle.std.specs.Prelude.{true, not}
 use Rattle.std.specs.Str.{bytes_eq}
+use Rattle.std.proofs.lemmas.List.Elements.{All-append}
 use Rattle.std.proofs.lemmas.Slice.Eq.{bytes_eq-Decides}
 use Rattle.system_files.specs.Entries.{Entries, Entry, KeepsBut}
-use Rattle.system_files.specs.Orders.{AsksMore, Order}
+use Rattle.system_files.specs.Orders.{Follow, IsNoMake, Make, MakesLast, MakesNone, Order}
 
--- some orders, and then some more
-pub asked_then : (a b c : Option (List Order)) → AsksMore a b → AsksMore b c → AsksMore a c
-asked_then None b c more rest = tt
-asked_then (Some xs) None c more rest = absurd more
-asked_then (Some xs) (Some ys) None more rest = absurd rest
-asked_then (Some xs) (Some ys) (Some zs) (first, is) (second, so) = (first ++ second, so ∙ ap (λ (l : List Order). l ++ second) is ∙ append_assoc xs first second)
+-- orders of one kind, and then of another
+follow_then : (first second both : List Order → Type 0) (joined : (xs ys : List Order) → first xs → second ys → both (xs ++ ys)) (a b c : Option (List Order)) → Follow first a b → Follow second b c → Follow both a c
+follow_then first second both joined None b c one two = tt
+follow_then first second both joined (Some x) None c one two = absurd one
+follow_then first second both joined (Some x) (Some y) None one two = absurd two
+follow_then first second both joined (Some x) (Some y) (Some z) (xs, one, is) (ys, two, so) = (xs ++ ys, joined xs ys one two, so ∙ ap (λ (l : List Order). l ++ ys) is ∙ append_assoc x xs ys)
+
+-- none is made, and then none
+pub none_then : (a b c : Option (List Order)) → Follow MakesNone a b → Follow MakesNone b c → Follow MakesNone a c
+none_then = follow_then MakesNone MakesNone MakesNone (All-append IsNoMake)
+
+made_later : (path : List ℕ) (xs ys : List Order) → MakesNone xs → MakesLast path ys → MakesLast path (xs ++ ys)
+made_later path xs ys none (before, so, is) = (xs ++ before, All-append IsNoMake xs before none so, ap (λ (l : List Order). xs ++ l) is ∙ sym (append_assoc xs before (Make path ∷ [])))
+
+-- none is made, and then one
+pub then_made : (path : List ℕ) (a b c : Option (List Order)) → Follow MakesNone a b → Follow (MakesLast path) b c → Follow (MakesLast path) a c
+then_made path = follow_then MakesNone (MakesLast path) (MakesLast path) (made_later path)
 
 -- a path that may be touched, and then only that one
 both : (touched : List ℕ → Type 0) (name path : List ℕ) (x y z : Entry) → touched name → touched path ⊎ (y ≡ x) → (path ≡ name) ⊎ (z ≡ y) → touched path ⊎ (z ≡ x)

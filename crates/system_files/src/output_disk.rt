@@ -18,7 +18,8 @@ pub trait OutputDisk {
     /// What stands at each path, links aside, where that is known.
     ghost entries: { Self → Option Entries };
 
-    /// What was asked of the disk so far, the last order last, where that is known.
+    /// What was asked of the disk so far, the last order last, where that is known. A file that could not be made was
+    /// not asked for; each other order counts also where it was refused.
     ghost asked: { Self → Option (List Order) };
 
     /// The path that a path leads to, with links followed.
@@ -29,7 +30,8 @@ pub trait OutputDisk {
     fn create_new(&mut self, path: &str) -> io::Result<Self::NewFile>
         ensures empty { IfOk result (λ file. IfSome (entries self.old) (λ _. Self.NewFile.contents file ≡ Some [])) }
         ensures others { KeepsBut (λ p. p ≡ path.now) (entries self.old) (entries self.new) }
-        ensures asks { Asks (asked self.old) (asked self.new) (Make path.now ∷ []) };
+        ensures asks { OnOk result (Asks (asked self.old) (asked self.new) (Make path.now ∷ [])) }
+        ensures asks_nothing { OnErr result (asked self.new ≡ asked self.old) };
 
     /// Removes the file at a path, which a process that has ended made by `create_new`; refused where something
     /// else is there, or the file is still kept.

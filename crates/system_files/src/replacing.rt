@@ -3,7 +3,7 @@
 ghost use Rattle.std.specs.Prelude.{◌≡◌, ◌⊎◌, ◌<◌, ℕ, List, [], ◌∷◌, Option, Some, IfErr, IfOk, IfSome, OnErr, OnOk};
 ghost use Rattle.std.specs.String.{string_bytes};
 ghost use Rattle.system_files.specs.Entries.{IsBeside, IsNewPath, IsPut, KeepsBut, Ordinary, Other, Stays};
-ghost use Rattle.system_files.specs.Orders.{Asks, AsksMore, AsksToReplace, Rename, Sync};
+ghost use Rattle.system_files.specs.Orders.{Asks, Follow, LeavesNoFile, MakesLast, MakesNone, Open, Rename, Replaces, Sync};
 
 use crate::fault::ReplaceFault;
 use crate::output_disk::OutputDisk;
@@ -18,8 +18,9 @@ const NAME_LIMIT: usize = 100;
 const NEW_NAME: &str = ".rvstm.new";
 
 /// Puts bytes at a path. An ordinary file there is replaced in one step, by a file that was written in
-/// full beside it; where this is refused it stays as it was. A device is written directly. Refused as
-/// Memory where memory ran out, and as Unwritable where a file can't be made, written or renamed.
+/// full beside it; where this is refused it stays as it was, and the disk is asked last to remove the new file, if one
+/// was made. A device is written directly. Refused as Memory where memory ran out, and as Unwritable where a file
+/// can't be made, written or renamed.
 pub fn replace<D: OutputDisk>(
     alloc: Global,
     disk: &mut D,
@@ -30,7 +31,8 @@ pub fn replace<D: OutputDisk>(
     ensures stays { OnErr result (Stays (D.entries disk.old) (D.entries disk.new) (D.leads disk.old path.now)) }
     ensures others { KeepsBut (λ p. IsNewPath p ⊎ (p ≡ D.leads disk.old path.now)) (D.entries disk.old) (D.entries disk.new) }
     ensures ordered { OnOk result (IfSome (D.entries disk.old) (λ entries. (entries (D.leads disk.old path.now) ≡ Other)
-        ⊎ AsksToReplace (D.asked disk.old) (D.asked disk.new) (Some bytes.now) (D.leads disk.old path.now))) }
+        ⊎ Follow (Replaces (Some bytes.now) (D.leads disk.old path.now)) (D.asked disk.old) (D.asked disk.new))) }
+    ensures undone { OnErr result (Follow LeavesNoFile (D.asked disk.old) (D.asked disk.new)) }
 {
     match disk.file_path(alloc, path)? {
         Some(path) => replace_file(alloc, disk, path.as_str(), bytes),
@@ -49,7 +51,8 @@ fn replace_file<D: OutputDisk>(
     ensures put { OnOk result (IfSome (D.entries disk.old) (λ _. IfSome (D.entries disk.new) (λ new. new path.now ≡ Ordinary bytes.now))) }
     ensures stays { OnErr result (KeepsBut (IsBeside path.now) (D.entries disk.old) (D.entries disk.new)) }
     ensures others { KeepsBut (λ p. IsNewPath p ⊎ (p ≡ path.now)) (D.entries disk.old) (D.entries disk.new) }
-    ensures ordered { OnOk result (IfSome (D.entries disk.old) (λ _. AsksToReplace (D.asked disk.old) (D.asked disk.new) (Some bytes.now) path.now)) }
+    ensures ordered { OnOk result (IfSome (D.entries disk.old) (λ _. Follow (Replaces (Some bytes.now) path.now) (D.asked disk.old) (D.asked disk.new))) }
+    ensures undone { OnErr result (Follow LeavesNoFile (D.asked disk.old) (D.asked disk.new)) }
 {
     let (name, file) = new_beside(alloc, disk, path)?;
     match put(disk, file, name.as_str(), path, bytes) {
@@ -74,6 +77,7 @@ fn put<D: OutputDisk>(
     ensures others { KeepsBut (λ p. (p ≡ name.now) ⊎ (p ≡ path.now)) (D.entries disk.old) (D.entries disk.new) }
     ensures stays { OnErr result (KeepsBut (λ p. p ≡ name.now) (D.entries disk.old) (D.entries disk.new)) }
     ensures ordered { OnOk result (D.NewFile.contents file ≡ Some [] → Asks (D.asked disk.old) (D.asked disk.new) (Sync (Some bytes.now) ∷ Rename (Some bytes.now) name.now path.now ∷ [])) }
+    ensures undone { OnErr result (Follow MakesNone (D.asked disk.old) (D.asked disk.new)) }
 {
     file.write_all(bytes)?;
     disk.sync(&file)?;
@@ -91,7 +95,8 @@ fn new_beside<D: OutputDisk>(
     ensures beside { IfOk result (λ made. IsBeside path.now (string_bytes made.0)) }
     ensures empty { IfOk result (λ made. IfSome (D.entries disk.old) (λ _. D.NewFile.contents made.1 ≡ Some [])) }
     ensures others { KeepsBut (IsBeside path.now) (D.entries disk.old) (D.entries disk.new) }
-    ensures asks { AsksMore (D.asked disk.old) (D.asked disk.new) }
+    ensures makes { IfOk result (λ made. Follow (MakesLast (string_bytes made.0)) (D.asked disk.old) (D.asked disk.new)) }
+    ensures makes_none { OnErr result (Follow MakesNone (D.asked disk.old) (D.asked disk.new)) }
 {
     for number in 0..NAME_LIMIT {
         let name = new_path(alloc, path, number)?;
@@ -121,7 +126,8 @@ fn new_path(alloc: Global, path: &str, number: usize) -> Result<String, AllocErr
 fn new_file<D: OutputDisk>(disk: &mut D, path: &str) -> io::Result<D::NewFile>
     ensures empty { IfOk result (λ file. IfSome (D.entries disk.old) (λ _. D.NewFile.contents file ≡ Some [])) }
     ensures others { KeepsBut (λ p. p ≡ path.now) (D.entries disk.old) (D.entries disk.new) }
-    ensures asks { AsksMore (D.asked disk.old) (D.asked disk.new) }
+    ensures makes { OnOk result (Follow (MakesLast path.now) (D.asked disk.old) (D.asked disk.new)) }
+    ensures makes_none { OnErr result (Follow MakesNone (D.asked disk.old) (D.asked disk.new)) }
 {
     match disk.create_new(path) {
         Err(error) if error.kind() == io::ErrorKind::AlreadyExists => {
@@ -137,6 +143,7 @@ fn new_file<D: OutputDisk>(disk: &mut D, path: &str) -> io::Result<D::NewFile>
 /// Writes bytes into what is at a path.
 fn write_into<D: OutputDisk>(disk: &mut D, path: &str, bytes: &[u8]) -> Result<(), ReplaceFault>
     ensures others { KeepsBut (λ p. p ≡ D.leads disk.old path.now) (D.entries disk.old) (D.entries disk.new) }
+    ensures opens { Asks (D.asked disk.old) (D.asked disk.new) (Open path.now ∷ []) }
 {
     let mut file = disk.create(path)?;
     file.write_all(bytes)?;
