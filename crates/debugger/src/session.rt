@@ -1,7 +1,8 @@
 //! A session of `debug`, over any reader of lines and any writer.
 
-ghost use Rattle.std.specs.Prelude.{◌≡◌, ◌≢◌, ◌++◌, All, false, not, IfErr, IfOk, IfSome, OnErr, OnOk};
-ghost use Rattle.std.specs.Io.KnownBytes.{Appends};
+ghost use Rattle.std.specs.Prelude.{◌≡◌, ◌≢◌, ◌++◌, All, false, true, not, IfErr, IfOk, IfSome, OnErr, OnOk};
+ghost use Rattle.std.specs.Io.{ReadsAtMost};
+ghost use Rattle.std.specs.Io.KnownBytes.{Appends, ReadConsumes};
 ghost use Rattle.debugger.specs.Command.{heard_of};
 ghost use Rattle.debugger.specs.Session.{AppendsBeginning, EndsAs, IsCutShort, MayBeCutOff, IsPossibleFault, after_line, is_quit, line_text, lines_of, session};
 ghost use Rattle.debugger.specs.Hearing.{Hears, IsCutAnswer, IsCutIn, IsInLine};
@@ -61,8 +62,9 @@ pub fn debug_lines_to<R: Source, W: Destination>(
 {
     let mut line = Vec::new(alloc);
     let mut part = [0u8; READ_SIZE];
+    let mut has_answered = false;
     for _turn in 0..u64::MAX {
-        let Ok(count) = lines.read_part(&mut part) else {
+        let Ok(count) = read_behind(lines, &mut part, has_answered, out) else {
             return Err(DebugFault::Unreadable);
         };
         if count == 0 {
@@ -71,13 +73,38 @@ pub fn debug_lines_to<R: Source, W: Destination>(
                 Err(fault) => return Err(fault),
             }
         }
-        match hear(alloc, has_more, replay, &mut line, &part[..count], out) {
+        match hear(
+            alloc,
+            has_more,
+            replay,
+            &mut line,
+            &part[..count],
+            out,
+            &mut has_answered,
+        ) {
             Ok(true) => {}
             Ok(false) => return Ok(()),
             Err(fault) => return Err(fault),
         }
     }
     Err(DebugFault::Unreadable)
+}
+
+/// Reads the next part of the input, as `read_part` does, behind the answers to a writer: where there are any, the last of
+/// them is flushed.
+fn read_behind<R: Source, W: Destination>(
+    lines: &mut R,
+    part: &mut [u8],
+    has_answered: bool,
+    _out: &W,
+) -> io::Result<usize>
+    requires flushed { has_answered ≡ true → W.is_flushed _out.now }
+    ensures bound { ReadsAtMost result part.new }
+    ensures bytes { ReadConsumes (R.remaining lines.old) (R.remaining lines.new) result part.new }
+    ensures fails { OnErr result (R.may_fail lines.old) }
+    ensures same { R.may_fail lines.new → R.may_fail lines.old }
+{
+    lines.read_part(part)
 }
 
 /// Takes the end of the input. `line` is what came after the last LF.
@@ -105,7 +132,8 @@ fn hear_end<W: Destination>(
 }
 
 /// Takes a part of the input. `line` is the beginning of a line that came before it. Returns whether the
-/// session goes on; then `line` is the beginning of the next line.
+/// session goes on; then `line` is the beginning of the next line, and `has_answered` says whether a line was answered, here or
+/// before: the last answer is flushed.
 fn hear<W: Destination>(
     alloc: Global,
     has_more: bool,
@@ -113,8 +141,12 @@ fn hear<W: Destination>(
     line: &mut Vec<u8>,
     part: &[u8],
     out: &mut W,
+    has_answered: &mut bool,
 ) -> Result<bool, DebugFault>
-    requires { All IsInLine line.old.items }
+    requires begun { All IsInLine line.old.items }
+    requires flushed { has_answered.old ≡ true → W.is_flushed out.old }
+    ensures flushed { OnOk result (has_answered.new ≡ true → W.is_flushed out.new) }
+    ensures quiet { OnOk result (has_answered.new ≡ false → out.new ≡ out.old) }
     ensures ok { IfOk result (λ goes_on.
         Hears has_more goes_on replay.old line.old.items part.now replay.new line.new.items (W.contents out.old) (W.contents out.new)) }
     ensures err { IfErr result (λ fault.
@@ -130,6 +162,7 @@ fn hear<W: Destination>(
                 Err(AllocFailed { .. }) => return Err(DebugFault::Memory),
             }
         }
+        *has_answered = true;
         match answer_line(alloc, has_more, replay, line.as_slice(), out) {
             Ok(true) => line.clear(),
             Ok(false) => return Ok(false),
@@ -149,6 +182,7 @@ fn answer_line<W: Destination>(
 ) -> Result<bool, DebugFault>
     ensures goes_on { IfOk result (λ goes_on. goes_on ≡ not (is_quit (heard_of has_more line.now))) }
     ensures replay { OnOk result (replay.new ≡ after_line replay.old (heard_of has_more line.now)) }
+    ensures flushed { OnOk result (W.is_flushed out.new) }
     ensures text { OnOk result (Appends (W.contents out.old) (W.contents out.new) (line_text replay.old (heard_of has_more line.now))) }
     ensures err { IfErr result (λ fault.
         IsCutAnswer has_more fault replay.old line.now replay.new (W.contents out.old) (W.contents out.new)) }
@@ -179,6 +213,7 @@ fn is_quit(command: &Option<Command>) -> bool
 /// Writes a text and flushes it, so that it is seen before the next line is read.
 fn print<W: Destination>(text: &[u8], out: &mut W) -> Result<(), WriteFault>
     ensures ok { OnOk result (Appends (W.contents out.old) (W.contents out.new) text.now) }
+    ensures flushed { OnOk result (W.is_flushed out.new) }
     ensures err { OnErr result (AppendsBeginning (W.contents out.old) (W.contents out.new) text.now) }
     ensures cause { IfErr result (λ fault. IsPossibleFault (W.may_fail out.old) (W.may_take_nothing out.old) (DebugFault.Output fault)) }
     ensures same { (W.may_fail out.new → W.may_fail out.old) × (W.may_take_nothing out.new → W.may_take_nothing out.old) }

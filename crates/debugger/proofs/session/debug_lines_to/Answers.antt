@@ -15,31 +15,33 @@ loop-turn-init g c = (
   (λ h. h),
   (λ h. h, λ h. h),
   lit≤ tt,
+  λ none. cc,
 )
 
 pub hear_end-requires : goal.hear_end-requires
 hear_end-requires g c = rw c.as_slice.ensures.value c.loop-turn.invariant.2.within
 
-pub hear-requires : goal.hear-requires
-hear-requires g c = c.loop-turn.invariant.2.within
+pub hear-requires-clause-begun : goal.hear-requires-clause-begun
+hear-requires-clause-begun g c = c.loop-turn.invariant.2.within
 
 pub loop-turn-preserved : goal.loop-turn-preserved
 loop-turn-preserved g c = (
-  c.loop-turn.invariant.0 ++ take c.in-Ok.count c.read_part.new.part,
-  Consumes-trans _ _ _ c.loop-turn.invariant.0 (take c.in-Ok.count c.read_part.new.part) c.loop-turn.invariant.1 c.in-Ok.ensures.bytes.0,
-  part_heard c.args.has_more c.args.replay.now c.loop-turn.replay c.loop-turn.invariant.0 c.loop-turn.line.items _ _ c.loop-turn.invariant.2 (take c.in-Ok.count c.read_part.new.part) c.hear.new.line.items c.hear.new.replay _
+  c.loop-turn.invariant.0 ++ take c.in-Ok.count c.read_behind.new.part,
+  Consumes-trans _ _ _ c.loop-turn.invariant.0 (take c.in-Ok.count c.read_behind.new.part) c.loop-turn.invariant.1 c.in-Ok.ensures.bytes.0,
+  part_heard c.args.has_more c.args.replay.now c.loop-turn.replay c.loop-turn.invariant.0 c.loop-turn.line.items _ _ c.loop-turn.invariant.2 (take c.in-Ok.count c.read_behind.new.part) c.hear.new.line.items c.hear.new.replay _
       (rw c.in-Ok-true.field-0-test at c.in-Ok-true.ensures.ok),
-  (λ h. c.loop-turn.invariant.3 (c.read_part.ensures.same h)),
+  (λ h. c.loop-turn.invariant.3 (c.read_behind.ensures.same h)),
   (λ h. c.loop-turn.invariant.4.0 (c.hear.ensures.same.0 h), λ h. c.loop-turn.invariant.4.1 (c.hear.ensures.same.1 h)),
-  one_more c.loop-turn._turn c.loop-turn.invariant.0 c.read_part.new.part c.in-Ok.count c.loop-turn.invariant.5 (omega arith) c.in-Ok.ensures.bound.0,
+  one_more c.loop-turn._turn c.loop-turn.invariant.0 c.read_behind.new.part c.in-Ok.count c.loop-turn.invariant.5 (omega arith) c.in-Ok.ensures.bound.0,
+  c.in-Ok-true.ensures.flushed,
 )
 
 pub returns-in-Err-hear-clause-err : goal.returns-in-Err-hear-clause-err
 returns-in-Err-hear-clause-err g c =
-    cut_over c.args.has_more c.in-Err-hear.fault _ _ c.args.replay.now c.hear.new.replay (c.loop-turn.invariant.0 ++ take c.in-Ok.count c.read_part.new.part) (g.W.Write.contents c.args.out.now) (g.W.Write.contents c.hear.new.out)
-    (Consumes-trans _ _ _ c.loop-turn.invariant.0 (take c.in-Ok.count c.read_part.new.part) c.loop-turn.invariant.1 c.in-Ok.ensures.bytes.0)
+    cut_over c.args.has_more c.in-Err-hear.fault _ _ c.args.replay.now c.hear.new.replay (c.loop-turn.invariant.0 ++ take c.in-Ok.count c.read_behind.new.part) (g.W.Write.contents c.args.out.now) (g.W.Write.contents c.hear.new.out)
+    (Consumes-trans _ _ _ c.loop-turn.invariant.0 (take c.in-Ok.count c.read_behind.new.part) c.loop-turn.invariant.1 c.in-Ok.ensures.bytes.0)
     (cut_inside c.args.has_more c.args.replay.now c.loop-turn.replay c.loop-turn.invariant.0 c.loop-turn.line.items (g.W.Write.contents c.args.out.now) (g.W.Write.contents c.loop-turn.out) c.loop-turn.invariant.2
-    c.in-Err-hear.fault (take c.in-Ok.count c.read_part.new.part) c.hear.new.replay (g.W.Write.contents c.hear.new.out) c.in-Err-hear.ensures.err)
+    c.in-Err-hear.fault (take c.in-Ok.count c.read_behind.new.part) c.hear.new.replay (g.W.Write.contents c.hear.new.out) c.in-Err-hear.ensures.err)
 
 pub returns-in_default-clause-err : goal.returns-in_default-clause-err
 returns-in_default-clause-err g c =
@@ -51,24 +53,24 @@ returns-clause-err g c =
 
 pub returns-in-Err-clause-err : goal.returns-in-Err-clause-err
 returns-in-Err-clause-err g c =
-    cut_at c.args.has_more c.in-Err.fault _ (g.R.Read.remaining c.read_part.new.self) c.args.replay.now c.loop-turn.replay c.hear_end.new.replay c.loop-turn.invariant.0 c.loop-turn.line.items (g.W.Write.contents c.args.out.now) (g.W.Write.contents c.loop-turn.out) (g.W.Write.contents c.hear_end.new.out)
-    (read_none _ _ (g.R.Read.remaining c.read_part.new.self) c.loop-turn.invariant.0 c.read_part.new.part c.in-Ok.count c.if-count-eq0.true c.loop-turn.invariant.1 c.in-Ok.ensures.bytes.0)
+    cut_at c.args.has_more c.in-Err.fault _ (g.R.Read.remaining c.read_behind.new.lines) c.args.replay.now c.loop-turn.replay c.hear_end.new.replay c.loop-turn.invariant.0 c.loop-turn.line.items (g.W.Write.contents c.args.out.now) (g.W.Write.contents c.loop-turn.out) (g.W.Write.contents c.hear_end.new.out)
+    (read_none _ _ (g.R.Read.remaining c.read_behind.new.lines) c.loop-turn.invariant.0 c.read_behind.new.part c.in-Ok.count c.if-count-eq0.true c.loop-turn.invariant.1 c.in-Ok.ensures.bytes.0)
     (c.in-Ok.ensures.bytes.1 c.if-count-eq0.true (omega arith)) c.loop-turn.invariant.2
     (rw c.as_slice.ensures.value at c.in-Err.ensures.err)
 
 pub returns-in-Ok-hear_end-clause-ok : goal.returns-in-Ok-hear_end-clause-ok
 returns-in-Ok-hear_end-clause-ok g c =
-    ended_at c.args.has_more _ (g.R.Read.remaining c.read_part.new.self) c.args.replay.now c.loop-turn.replay c.hear_end.new.replay c.loop-turn.invariant.0 c.loop-turn.line.items (g.W.Write.contents c.args.out.now) (g.W.Write.contents c.loop-turn.out) (g.W.Write.contents c.hear_end.new.out)
-    (read_none _ _ (g.R.Read.remaining c.read_part.new.self) c.loop-turn.invariant.0 c.read_part.new.part c.in-Ok.count c.if-count-eq0.true c.loop-turn.invariant.1 c.in-Ok.ensures.bytes.0)
+    ended_at c.args.has_more _ (g.R.Read.remaining c.read_behind.new.lines) c.args.replay.now c.loop-turn.replay c.hear_end.new.replay c.loop-turn.invariant.0 c.loop-turn.line.items (g.W.Write.contents c.args.out.now) (g.W.Write.contents c.loop-turn.out) (g.W.Write.contents c.hear_end.new.out)
+    (read_none _ _ (g.R.Read.remaining c.read_behind.new.lines) c.loop-turn.invariant.0 c.read_behind.new.part c.in-Ok.count c.if-count-eq0.true c.loop-turn.invariant.1 c.in-Ok.ensures.bytes.0)
     (c.in-Ok.ensures.bytes.1 c.if-count-eq0.true (omega arith)) c.loop-turn.invariant.2
     (rw c.as_slice.ensures.value at c.in-Ok-hear_end.ensures.ok)
 
 pub returns-in-Ok-false-clause-ok : goal.returns-in-Ok-false-clause-ok
 returns-in-Ok-false-clause-ok g c =
-    ended_over c.args.has_more _ _ c.args.replay.now c.hear.new.replay (c.loop-turn.invariant.0 ++ take c.in-Ok.count c.read_part.new.part) c.hear.new.line.items (g.W.Write.contents c.args.out.now) (g.W.Write.contents c.hear.new.out)
-    (Consumes-trans _ _ _ c.loop-turn.invariant.0 (take c.in-Ok.count c.read_part.new.part) c.loop-turn.invariant.1 c.in-Ok.ensures.bytes.0)
+    ended_over c.args.has_more _ _ c.args.replay.now c.hear.new.replay (c.loop-turn.invariant.0 ++ take c.in-Ok.count c.read_behind.new.part) c.hear.new.line.items (g.W.Write.contents c.args.out.now) (g.W.Write.contents c.hear.new.out)
+    (Consumes-trans _ _ _ c.loop-turn.invariant.0 (take c.in-Ok.count c.read_behind.new.part) c.loop-turn.invariant.1 c.in-Ok.ensures.bytes.0)
     (last_heard c.args.has_more c.args.replay.now c.loop-turn.replay c.loop-turn.invariant.0 c.loop-turn.line.items (g.W.Write.contents c.args.out.now) (g.W.Write.contents c.loop-turn.out) c.loop-turn.invariant.2
-    (take c.in-Ok.count c.read_part.new.part) c.hear.new.line.items c.hear.new.replay (g.W.Write.contents c.hear.new.out) (rw c.in-Ok-false.field-0-test at c.in-Ok-false.ensures.ok))
+    (take c.in-Ok.count c.read_behind.new.part) c.hear.new.line.items c.hear.new.replay (g.W.Write.contents c.hear.new.out) (rw c.in-Ok-false.field-0-test at c.in-Ok-false.ensures.ok))
 
 pub returns-in_default-clause-unreadable : goal.returns-in_default-clause-unreadable
 returns-in_default-clause-unreadable g c _ = inl (c.loop-turn.invariant.3 c.in_default.ensures.fails)

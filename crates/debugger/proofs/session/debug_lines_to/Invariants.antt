@@ -1,4 +1,4 @@
-use Rattle.std.proofs.Common.{◌≤◌, List, ℕ, true, length}
+use Rattle.std.proofs.Common.{◌≡◌, ◌≤◌, List, ℕ, true, length}
 use Rattle.std.specs.Io.KnownBytes.{Consumes}
 use Rattle.debugger.specs.Hearing.{HasHeard}
 use Rattle.debugger.proofs.session.debug_lines_to.Given as goal
@@ -10,3 +10,4 @@ invariant-loop-turn g l =
     × (g.R.Source.may_fail l.lines → g.R.Source.may_fail l.fn.lines)
     × ((g.W.Destination.may_fail l.out → g.W.Destination.may_fail l.fn.out) × (g.W.Destination.may_take_nothing l.out → g.W.Destination.may_take_nothing l.fn.out))
     × (l._turn ≤ length heard)
+    × (l.has_answered ≡ true → g.W.Destination.is_flushed l.out)

@@ -1,10 +1,10 @@
-use Rattle.std.proofs.Common.{sym, ◌∙◌}
+use Rattle.std.proofs.Common.{refl, sym, ◌∙◌}
 use Rattle.debugger.proofs.Cuts.{hear_cut, hear_line_cut, possible_before}
 use Rattle.debugger.proofs.SessionInputs.{hear_byte, hear_line, hear_quit, start_heard}
 use Rattle.debugger.proofs.session.hear.Goals as goal
 
 pub loop-byte-init : goal.loop-byte-init
-loop-byte-init g c = (start_heard c.args.has_more c.args.replay.now c.args.line.now.items (g.W.Write.contents c.args.out.now) c.requires, λ h. h, λ h. h)
+loop-byte-init g c = (start_heard c.args.has_more c.args.replay.now c.args.line.now.items (g.W.Write.contents c.args.out.now) c.requires.begun, λ h. h, λ h. h, c.requires.flushed, λ _. refl)
 
 pub loop-byte-preserved-in-Ok : goal.loop-byte-preserved-in-Ok
 loop-byte-preserved-in-Ok g c = (
@@ -12,6 +12,8 @@ loop-byte-preserved-in-Ok g c = (
       (hear_byte c.args.has_more c.args.replay.now c.loop-byte.replay c.args.line.now.items c.args.part.now c.loop-byte.line.items c.loop-byte.byte-index _ _ c.loop-byte-test.true c.loop-byte.invariant.0 c.if-byte-ne-LINE_END.true),
   c.loop-byte.invariant.1,
   c.loop-byte.invariant.2,
+  c.loop-byte.invariant.3,
+  c.loop-byte.invariant.4,
 )
 
 pub returns-in-Ok-false-clause-ok : goal.returns-in-Ok-false-clause-ok
@@ -30,6 +32,8 @@ loop-byte-preserved g c = (
       (sym c.in-Ok-true.field-0-test ∙ rw c.as_slice.ensures.value at c.in-Ok-true.ensures.goes_on)),
   λ h. c.loop-byte.invariant.1 (c.in-Ok-true.ensures.same.0 h),
   λ h. c.loop-byte.invariant.2 (c.in-Ok-true.ensures.same.1 h),
+  λ _. c.in-Ok-true.ensures.flushed,
+  λ none. cc,
 )
 
 pub returns-in-Err-clause-err : goal.returns-in-Err-clause-err
