@@ -10,7 +10,7 @@ use Rattle.requests.specs.declared.request.RequestLine.TheVariants as line
 use Rattle.serving.specs.Asking.{ComesFirst}
 use Rattle.session_file.specs.Opening.{answer_parts}
 use Rattle.session_file.specs.declared.rows.AnswerRow.{AnswerRow}
-use Rattle.session_states.specs.States.{FileState, file_state, last_of}
+use Rattle.session_states.specs.States.{file_state, last_of}
 use Rattle.sqlite_trees.specs.Tree.{Trees}
 use Rattle.sqlite_trees.specs.View.{View, IsClean}
 use Rattle.turns.specs.Pending.{IsDue, IsUndone}
@@ -19,13 +19,14 @@ use Rattle.turns.specs.declared.kept.KeptAnswer.{KeptAnswer}
 use Rattle.turns.specs.declared.pending.Pending.TheVariants as pending
 use Rattle.turns.specs.declared.settings.Settings.{Settings}
 use Rattle.turns.specs.declared.state.State.{State}
-use Rattle.durable_serving.specs.Durable.{IsFileAnswer, last_text}
+use Rattle.durable_serving.specs.Durable.{FileMoment, last_text}
 use Rattle.durable_serving.specs.Keeping.{IsAnsweredBy, IsByTurn, IsFileCourse, IsFoundAsked, IsReady, course_of, found_text, reply_text}
 use Rattle.durable_serving.specs.declared.asking.FileCourse.{FileCourse}
 use Rattle.durable_serving.specs.declared.asking.FileCourse.TheVariants.{Answers, Ends, Breaks, Shuts}
 use Rattle.durable_serving.specs.declared.keeping.KeepFault.{KeepFault}
 use Rattle.durable_serving.specs.declared.keeping.KeepFault.TheVariants.{Room, Store}
 use Rattle.durable_serving.specs.declared.reply.FileReply.TheVariants.{Found}
+use Rattle.durable_serving.proofs.FileTurns.{Stays}
 
 -- a file that is not shut is open
 open_of : (v : View) → (IsClean v → false ≡ v.is_broken) → IsClean v → v.is_broken ≡ false
@@ -38,7 +39,7 @@ ready_course found v false (Room failure) is = (tt, open_of v is)
 ready_course found v false (Store error) is = (tt, open_of v is)
 
 -- a request that was answered came first
-pub course_comes : (settings : Settings) (f : FileState) (ask : Ask) (course : FileCourse) (s : State) (found : Option AnswerRow) (after : FileState) (was now : Trees → Type 0) (xs ys : List ℕ)
+pub course_comes : (settings : Settings) (f : FileMoment) (ask : Ask) (course : FileCourse) (s : State) (found : Option AnswerRow) (after : FileMoment) (was now : Trees → Type 0) (xs ys : List ℕ)
     → ComesFirst ask xs ys → IsAnsweredBy settings f ask course s found after was now → IsFileCourse settings f course s found after was now xs ys
 course_comes settings f ask (Answers reply) s found after was now xs ys comes is = (ask, comes, is)
 course_comes settings f ask (Shuts fault) s found after was now xs ys comes is = (ask, comes, is)
@@ -52,9 +53,9 @@ found_answer None (Some row) none some = refl
 found_answer None None none some = cc
 found_answer (Some k) found none some = cc
 
-pub found_is : (settings : Settings) (s : State) (found : Option AnswerRow) (ask : Ask) → IsFoundAsked ask s found → IsFileAnswer settings (file_state s found) ask (reply_text s found Found) (file_state s found)
+pub found_is : (settings : Settings) (s : State) (found : Option AnswerRow) (ask : Ask) → IsFoundAsked ask s found → Stays settings (file_state s found) ask (reply_text s found Found)
 found_is settings s found ask is =
-    subst (λ (a : Ask). IsFileAnswer settings (file_state s found) a (reply_text s found Found) (file_state s found)) (sym is.ask_is) (inl (found_answer s.last found is.none is.some, refl))
+    subst (λ (a : Ask). Stays settings (file_state s found) a (reply_text s found Found)) (sym is.ask_is) (λ faults is_clean. inl (found_answer s.last found is.none is.some, refl))
 
 pub last_no_quit : (ask : Ask) → ask ≡ Last → ask ≡ Quit → ⊥
 last_no_quit ask is e = cc

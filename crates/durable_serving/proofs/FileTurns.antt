@@ -11,7 +11,8 @@ use Rattle.round_trips.specs.Begun.{EqualButLast}
 use Rattle.round_trips.proofs.Alike.{after_alike, reply_alike}
 use Rattle.session_file.specs.Opening.{answer_parts}
 use Rattle.session_file.specs.declared.rows.AnswerRow.{AnswerRow}
-use Rattle.session_states.specs.States.{last_of}
+use Rattle.session_states.specs.States.{FileState, last_of}
+use Rattle.sqlite_trees.specs.View.{View}
 use Rattle.turns.specs.Failures.{MayFail}
 use Rattle.turns.specs.Pending.{IsDue, IsUndone}
 use Rattle.turns.specs.Replies.{Done, Refused, Reply, answer_text}
@@ -28,7 +29,7 @@ use Rattle.turns.specs.declared.refusal.Refusal.{Refusal}
 use Rattle.turns.specs.declared.refusal.Refusal.TheVariants.{FileTooLong, NoProgram, TooHigh}
 use Rattle.turns.specs.declared.settings.Settings.{Settings}
 use Rattle.turns.specs.declared.state.State.{State}
-use Rattle.durable_serving.specs.Durable.{IsFileAnswer, last_behind, last_if_begun, last_text}
+use Rattle.durable_serving.specs.Durable.{IsFileAnswer, IsFileReply, last_behind, last_if_begun, last_text, moment}
 use Rattle.durable_serving.specs.Keeping.{IsByTurn, over}
 
 -- ---- a state without its last answer
@@ -117,13 +118,21 @@ may_fail_bare settings s ask failure h = absurd h
 
 -- ---- answers by which nothing changes
 
+-- a request is answered so while nothing changes
+abbrev pub Stays : Settings → FileState → Ask → List ℕ → Type 0
+Stays settings f ask text = (faults : ℕ) (is_clean : Bool) → IsFileReply settings (record { session = f; faults = faults; is_clean = is_clean }) ask text (record { session = f; faults = faults; is_clean = is_clean })
+
+-- so it is answered at a moment
+pub stays_at : (settings : Settings) (f : FileState) (ask : Ask) (text : List ℕ) (v : View) (faults : ℕ) → Stays settings f ask text → IsFileAnswer settings (moment f v faults) ask text (moment f v faults)
+stays_at settings f ask text v faults stays = (record { faults = omega arith; clean = omega arith }, stays faults v.is_clean)
+
 by_turn : (settings : Settings) (s : State) (last : Option (List ℕ × List ℕ)) (ask : Ask) (given : Answer) → ask ≢ Last → IsDue s ask (pending.Nothing given)
     → ((failure : Failure) → given ≡ answer.Failed failure → ⊥) → reply_in s given ≡ (turn settings s ask).reply → s ≡ (turn settings s ask).after
-    → IsFileAnswer settings (over s last) ask (answer_text (reply_in s given)) (over s last)
+    → Stays settings (over s last) ask (answer_text (reply_in s given))
 by_turn settings s last Last given other h failed reply is = absurd (other refl)
 by_turn settings s last ask given other h failed reply is =
     let same : (turn settings (bare s) ask).reply ≡ reply_in s given = sym (reply ∙ reply_alike settings s (bare s) ask (bare_alike s) other) in
-    inl (
+    λ faults is_clean. inl (
       ap answer_text (sym same),
       λ j. record {
         state = (ap bare is ∙ same_bare (turn settings s ask).after (turn settings (bare s) ask).after (after_alike settings s (bare s) ask (bare_alike s))) j;
@@ -138,16 +147,16 @@ last_is s found by None is = ap (λ (o : Option AnswerRow). last_text (option_ma
 
 by_reply : (settings : Settings) (s : State) (found : Option AnswerRow) (ask : Ask) (given : Answer) → IsDue s ask (pending.Nothing given) → IsByTurn ask s found
     → ((failure : Failure) → given ≡ answer.Failed failure → ⊥) → reply_in s given ≡ (turn settings s ask).reply → s ≡ (turn settings s ask).after
-    → IsFileAnswer settings (over s (last_of s.last (option_map answer_parts found))) ask (answer_text (reply_in s given)) (over s (last_of s.last (option_map answer_parts found)))
-by_reply settings s found Last given due by failed reply is = inl (ap answer_text reply ∙ last_is s found by s.last refl, refl)
+    → Stays settings (over s (last_of s.last (option_map answer_parts found))) ask (answer_text (reply_in s given))
+by_reply settings s found Last given due by failed reply is = λ faults is_clean. inl (ap answer_text reply ∙ last_is s found by s.last refl, refl)
 by_reply settings s found ask given due by failed reply is = by_turn settings s (last_of s.last (option_map answer_parts found)) ask given (λ e. cc) due failed reply is
 
 -- an answer by which nothing changes
 pub told_answer : (settings : Settings) (s : State) (found : Option AnswerRow) (ask : Ask) (given : Answer) → IsTurn settings s ask given s → IsDue s ask (pending.Nothing given) → IsByTurn ask s found
-    → IsFileAnswer settings (over s (last_of s.last (option_map answer_parts found))) ask (answer_text (reply_in s given)) (over s (last_of s.last (option_map answer_parts found)))
-told_answer settings s found ask (answer.Failed failure) is due by = inr (inl (failure, may_fail_bare settings s ask failure is.0, refl, refl))
+    → Stays settings (over s (last_of s.last (option_map answer_parts found))) ask (answer_text (reply_in s given))
+told_answer settings s found ask (answer.Failed failure) is due by = λ faults is_clean. inr (inl (failure, may_fail_bare settings s ask failure is.0, refl, refl))
 told_answer settings s found ask (answer.Storage buffer) is due by =
-    subst (λ (a : Ask). IsFileAnswer settings (over s (last_of s.last (option_map answer_parts found))) a (answer_text (Done (dump_text s.rules s.store))) (over s (last_of s.last (option_map answer_parts found)))) (sym is.0) (inl (refl, refl))
+    subst (λ (a : Ask). Stays settings (over s (last_of s.last (option_map answer_parts found))) a (answer_text (Done (dump_text s.rules s.store)))) (sym is.0) (λ faults is_clean. inl (refl, refl))
 told_answer settings s found ask (answer.Done bytes) is due by = by_reply settings s found ask (answer.Done bytes) due by (λ failure e. cc) is.0 is.1
 told_answer settings s found ask answer.Last is due by = by_reply settings s found ask answer.Last due by (λ failure e. cc) is.0 is.1
 told_answer settings s found ask (answer.Refused why) is due by = by_reply settings s found ask (answer.Refused why) due by (λ failure e. cc) is.0 is.1

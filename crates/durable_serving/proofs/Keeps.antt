@@ -1,5 +1,5 @@
 -- A change that was kept.
-use Rattle.std.proofs.Common.{◌≡◌, ◌≢◌, ◌⊎◌, ℕ, List, Option, Some, None, Result, Ok, Err, OnErr, OnOk, IsTrue, false, inl, inr, refl, sym, ap, subst, ◌∙◌}
+use Rattle.std.proofs.Common.{◌≡◌, ◌≢◌, ◌≤◌, ◌⊎◌, ℕ, Bool, true, List, Option, Some, None, Result, Ok, Err, OnErr, OnOk, IsTrue, false, inl, inr, refl, sym, ap, subst, ◌∙◌, arith}
 use Rattle.std.specs.Option.{option_map}
 use Rattle.session_file.specs.Kept.{HoldsIn, Kept}
 use Rattle.session_file.specs.Opening.{answer_parts}
@@ -7,6 +7,7 @@ use Rattle.session_file.specs.Staging as file
 use Rattle.session_file.proofs.Staged.{sound_open}
 use Rattle.session_file.specs.declared.rows.AnswerRow.{AnswerRow}
 use Rattle.session_states.specs.States.{FileState, KeepsState, file_state, last_of, text_of}
+use Rattle.sqlite_disk.specs.Disk.{MoreFaults}
 use Rattle.sqlite_trees.specs.Tree.{Trees}
 use Rattle.sqlite_trees.specs.View.{View}
 use Rattle.turns.specs.Pending.{IsMade, after_run_of, turn_of}
@@ -78,6 +79,25 @@ module _ (settings : Settings) (s : State) (found : Option AnswerRow) (old : Vie
   may_leave p mid db before stages (k, keeps, is) leaves =
       let (staged, next, now) = stages (last_of s.last (option_map answer_parts found)) k keeps is in
       elim (leaves k staged now) [ inl holds ↦ inr (staged, holds, next) | inr was ↦ inl was ]
+
+-- ---- why a change is not kept
+
+-- only a failure of the disk shuts a file that was open
+pub shut_failed : (settings : Settings) (old new : View) (failed : Type 0) (f : FileState) → (old.is_open ≡ false → IsTrue old.is_broken) → old.is_broken ≡ false → IsKeptBy settings new f
+    → (IsTrue old.is_open → IsTrue new.is_open ⊎ failed) → new.is_broken ≡ true → failed
+shut_failed settings old new failed f shut sound (k, keeps, is) closes broken =
+    elim (closes (sound_open old shut sound)) [ inl still ↦ absurd (both new.is_broken (is still).sound broken) | inr more ↦ more ]
+  where
+    both : (b : Bool) → b ≡ false → b ≡ true → ⊥
+    both b shown told = cc
+
+-- it stays open from one call to the next, unless the disk failed
+pub open_on : (old mid new : View) (a b c : ℕ) → a ≤ b → b ≤ c → (IsTrue old.is_open → IsTrue mid.is_open ⊎ MoreFaults a b) → (IsTrue mid.is_open → IsTrue new.is_open ⊎ MoreFaults b c)
+    → IsTrue old.is_open → IsTrue new.is_open ⊎ MoreFaults a c
+open_on old mid new a b c up later first second was = elim (first was) [
+  | inl mid_open ↦ elim (second mid_open) [ inl still ↦ inl still | inr more ↦ inr (omega (arith, up, more)) ]
+  | inr more ↦ inr (omega (arith, later, more))
+]
 
 -- ---- what a crash leaves
 

@@ -19,16 +19,16 @@ use Rattle.session_states.proofs.Changes.{session_made}
 use Rattle.turns.specs.declared.settings.Settings.{Settings}
 use Rattle.durable_serving.specs.Durable.{HoldsState}
 use Rattle.durable_serving.specs.Keeping.{IsKeptBy}
-use Rattle.durable_serving.specs.Opened.{IsFoundIn, IsUnopened, new_kept, of_load}
+use Rattle.durable_serving.specs.Opened.{IsFoundIn, IsUnopened, new_kept, fault_of_load}
 use Rattle.durable_serving.specs.declared.opening.SessionFault.TheVariants.{Store}
 
 -- rows that are no state of a session
-pub unloaded : (settings : Settings) (v : View) (k : Kept) (fault : LoadFault) → HoldsIn v.trees k → IsUnloadable settings k fault → IsUnopened settings v (of_load fault)
-unloaded settings v k load.OtherSettings holds is = (k, holds, is)
-unloaded settings v k load.Damaged holds is = λ j other.
+pub unloaded : (settings : Settings) (v : View) (disk : Type 0) (k : Kept) (fault : LoadFault) → HoldsIn v.trees k → IsUnloadable settings k fault → IsUnopened settings v disk (fault_of_load fault)
+unloaded settings v disk k load.OtherSettings holds is = (k, holds, is)
+unloaded settings v disk k load.Damaged holds is = λ j other.
     let same : j ≡ k = holds_once v.trees j k other holds in
     (λ e. is.0 (sym same ∙ e), λ f keeps. is.1 f (subst (λ (x : Kept). KeepsState settings f x) same keeps))
-unloaded settings v k load.Memory holds is = tt
+unloaded settings v disk k load.Memory holds is = tt
 
 -- what was found stands in the trees that were opened
 pub holds_found : (old new : View) (k : Kept) → (old.is_open ≡ false → IsTrue old.is_broken) → IsFresh old → OnlyReads old new → IsKeeping new k → HoldsIn old.trees k
@@ -66,10 +66,10 @@ ok_both (Err e) f p q = tt
 -- a file that keeps a session of these settings is refused for want of memory alone
 other_row : (settings : Settings) (f : FileState) (k : Kept) → KeepsState settings f k → ((row : SessionRow) × (k.session ≡ Some row) × ¬ HasSettings settings row) → ⊥
 other_row settings f k keeps (row, is, other) =
-    let same : Some (row_of settings f.state keeps.session.0) ≡ Some row = sym keeps.session.2 ∙ is in
+    let same : Some (row_of settings f.state.rules f.state.height keeps.session.0) ≡ Some row = sym keeps.session.2 ∙ is in
     other (subst (λ (o : Option SessionRow). IfSome o (HasSettings settings)) same (record { frame_limit = refl; frame_gas = refl; is_brief = refl }))
 
-pub only_memory : (settings : Settings) (f : FileState) (k : Kept) (fault : LoadFault) → KeepsState settings f k → IsUnloadable settings k fault → (error : StoreError) × (of_load fault ≡ Store error)
+pub only_memory : (settings : Settings) (f : FileState) (k : Kept) (fault : LoadFault) → KeepsState settings f k → IsUnloadable settings k fault → (error : StoreError) × (fault_of_load fault ≡ Store error)
 only_memory settings f k load.OtherSettings keeps is = absurd (other_row settings f k keeps is)
 only_memory settings f k load.Damaged keeps is = absurd (is.1 f keeps)
 only_memory settings f k load.Memory keeps is = (OutOfMemory, refl)

@@ -1,5 +1,7 @@
 -- What is pending of a request, and what a session over a file answers it.
-use Rattle.std.proofs.Common.{◌≡◌, ◌≢◌, ◌<◌, ◌⊎◌, ℕ, List, [], Bool, true, false, Option, Some, None, Result, Ok, inl, inr, refl, sym, ap, subst, ◌∙◌}
+use Rattle.std.proofs.Common.{◌≡◌, ◌≢◌, ◌<◌, ◌≤◌, ◌⊎◌, ℕ, List, [], length, Bool, true, false, cond, IsTrue, Option, Some, None, Result, Ok, inl, inr, refl, sym, ap, subst, ◌∙◌, arith}
+use Rattle.std.proofs.lemmas.Bool.Decides.{nat_tests}
+use Rattle.std.specs.Prelude.{nat_lt}
 use Rattle.std.specs.Arc.{arc_value}
 use Rattle.std.specs.Option.{option_map}
 use Rattle.sha2.specs.Sha256.{sha256}
@@ -10,16 +12,17 @@ use Rattle.round_trips.proofs.Alike.{after_alike, frame_after, reply_alike}
 use Rattle.session_file.specs.Opening.{answer_parts}
 use Rattle.session_file.specs.declared.rows.AnswerRow.{AnswerRow}
 use Rattle.session_states.specs.States.{FileState, file_state, last_of, text_of}
-use Rattle.session_states.specs.Faults.{of_store}
-use Rattle.session_states.specs.declared.fault.StoreFault.{StoreFault}
+use Rattle.session_states.specs.Faults.{fault_of_store}
+use Rattle.sqlite_disk.specs.Disk.{MoreFaults}
 use Rattle.sqlite_trees.specs.Tree.{Trees}
+use Rattle.sqlite_trees.specs.View.{View, HasCause, IsClean}
 use Rattle.sqlite_trees.specs.declared.error.StoreError.{StoreError}
 use Rattle.sqlite_trees.specs.declared.error.StoreError.TheVariants as store
 use Rattle.turns.specs.Failures.{MayFail}
 use Rattle.turns.specs.Pending.{IsDue, IsMade, IsNewProgram, IsPending, IsPendingChange, IsRefusal, after_run_of, turn_of}
 use Rattle.turns.specs.Replies.{Done, Refused, Reply, answer_text}
 use Rattle.turns.specs.Stages.{IsTurn, reply_in}
-use Rattle.turns.specs.Turn.{Turn, turn}
+use Rattle.turns.specs.Turn.{Turn, named_turn, program_turn, told, turn}
 use Rattle.turns.specs.declared.answer.Answer.{Answer}
 use Rattle.turns.specs.declared.answer.Answer.TheVariants as answer
 use Rattle.turns.specs.declared.kept.KeptAnswer.{KeptAnswer}
@@ -29,10 +32,11 @@ use Rattle.turns.specs.declared.pending.PendingFrame.{PendingFrame}
 use Rattle.turns.specs.declared.pending.PendingRun.{PendingRun}
 use Rattle.turns.specs.declared.refusal.Failure.{Failure}
 use Rattle.turns.specs.declared.refusal.Refusal.{Refusal}
+use Rattle.turns.specs.declared.refusal.Refusal.TheVariants.{FileTooLong}
 use Rattle.turns.specs.declared.settings.Settings.{Settings}
 use Rattle.turns.specs.declared.state.State.{State}
-use Rattle.durable_serving.specs.Durable.{HoldsState, IsFileAnswer, IsStoreFault, MayChange, behind_turn, failed_store, file_turn, last_behind, last_if_begun}
-use Rattle.durable_serving.specs.Keeping.{IsAnsweredBy, IsStorable, IsWanted, Leaves, body_in, course_of, next_state, over, pending_last}
+use Rattle.durable_serving.specs.Durable.{HoldsState, IsBeyondFormat, IsFileAnswer, IsLater, MayChange, MayRefuse, behind_turn, failed_store, file_turn, last_behind, last_if_begun, moment}
+use Rattle.durable_serving.specs.Keeping.{IsAnsweredBy, IsBeyond, IsKeepCause, IsStorable, IsWanted, Leaves, body_in, course_of, next_state, over, pending_last}
 use Rattle.durable_serving.specs.declared.keeping.KeepFault.{KeepFault}
 use Rattle.durable_serving.specs.declared.keeping.KeepFault.TheVariants.{Room, Store}
 use Rattle.durable_serving.proofs.FileTurns.{bare, bare_alike, forget_last, may_fail_bare, program_last, same_bare}
@@ -181,28 +185,60 @@ made_reply s (pending.Begin begin) (answer.Failed failure) after change is = abs
 made_reply s (pending.Begin begin) (answer.Storage buffer) after change is = absurd is
 made_reply s (pending.Begin begin) given after change is = is.0
 
-module _ (settings : Settings) (s : State) (found : Option AnswerRow) (ask : Ask) (p : Pending) (was now : Trees → Type 0) where
+module _ (settings : Settings) (s : State) (found : Option AnswerRow) (ask : Ask) (p : Pending) (was now : Trees → Type 0) (v w : View) (m n : ℕ) where
   abbrev last_now : Option (List ℕ × List ℕ)
   last_now = last_of s.last (option_map answer_parts found)
 
-  leaves : IsFileTurn settings (over s last_now) ask (turn_of s p).reply (next_state (over s last_now) p)
-      → ((db : Trees) → now db → was db ⊎ HoldsState settings (next_state (over s last_now) p) db) → Leaves settings (over s last_now) ask was now
+  abbrev Turned : Type 0
+  Turned = IsFileTurn settings (over s last_now) ask (turn_of s p).reply (next_state (over s last_now) p)
+
+  leaves : Turned → ((db : Trees) → now db → was db ⊎ HoldsState settings (next_state (over s last_now) p) db) → Leaves settings (over s last_now) ask was now
   leaves is crash db left = elim (crash db left) [ inl before ↦ inl before | inr next ↦ inr (subst (λ (f : FileState). HoldsState settings f db) (sym is.leads) next) ]
 
   -- a change that was kept
-  pub kept_answer : (given : Answer) (after : State) (later : FileState) → IsFileTurn settings (over s last_now) ask (turn_of s p).reply (next_state (over s last_now) p)
+  pub kept_answer : (given : Answer) (after : State) (later : FileState) → Turned → IsLater (moment (over s last_now) v m) (moment later w n)
       → reply_in after given ≡ (turn_of s p).reply → later ≡ next_state (over s last_now) p
       → ((db : Trees) → now db → was db ⊎ HoldsState settings (next_state (over s last_now) p) db)
-      → IsFileAnswer settings (over s last_now) ask (answer_text (reply_in after given)) later × Leaves settings (over s last_now) ask was now
-  kept_answer given after later is reply same crash = (inl (ap answer_text reply ∙ sym is.text, same ∙ sym is.leads), leaves is crash)
+      → IsFileAnswer settings (moment (over s last_now) v m) ask (answer_text (reply_in after given)) (moment later w n) × Leaves settings (over s last_now) ask was now
+  kept_answer given after later is since reply same crash = ((since, inl (ap answer_text reply ∙ sym is.text, same ∙ sym is.leads)), leaves is crash)
 
-store_fault : (error : StoreError) → IsStoreFault (of_store error)
-store_fault store.OutOfMemory = tt
-store_fault store.Io = tt
-store_fault store.Corrupt = tt
-store_fault store.Broken = tt
-store_fault store.Full = tt
-store_fault store.Unstorable = tt
+  abbrev Caused : StoreError → Type 0
+  Caused error = IsClean w → HasCause v (MoreFaults m n) (IsBeyond settings s p) error
+
+  -- the format has no room for what the request leaves
+  beyond : Turned → IsBeyond settings s p → IsBeyondFormat settings (file_turn settings (over s last_now) ask).1
+  beyond is none = subst (λ (f : FileState). IsBeyondFormat settings f) (sym is.leads) (none last_now)
+
+  not_broken : (b : Bool) → b ≡ false → IsTrue b → ⊥
+  not_broken b is t = cc
+
+  -- what is told of a failure has its cause
+  refused_for : (f : FileState) → Turned → (IsClean w → v.is_broken ≡ false) → (error : StoreError) → Caused error
+      → MayRefuse settings (moment (over s last_now) v m) ask (fault_of_store error) (moment f w n)
+  refused_for f is sound store.OutOfMemory cause = tt
+  refused_for f is sound store.Io cause = cause
+  refused_for f is sound store.Corrupt cause = cause
+  refused_for f is sound store.Broken cause = λ clean. absurd (not_broken v.is_broken (sound clean) (cause clean))
+  refused_for f is sound store.Full cause = inl cause
+  refused_for f is sound store.Unstorable cause = inr (λ clean. beyond is (cause clean))
+
+  -- a change that was not kept
+  pub not_kept : (later : Option AnswerRow) (after : State) (is_shut : Bool) (fault : KeepFault) → IsPendingChange settings s ask p → Turned → IsWanted p fault → after ≡ s → later ≡ found
+      → ((db : Trees) → now db → was db ⊎ HoldsState settings (next_state (over s last_now) p) db)
+      → IsLater (moment (over s last_now) v m) (moment (file_state after later) w n) → (IsClean w → v.is_broken ≡ false)
+      → (IsClean w → IsKeepCause v (MoreFaults m n) (IsBeyond settings s p) fault) → (is_shut ≡ true → IsClean w → MoreFaults m n)
+      → IsAnsweredBy settings (moment (file_state s found) v m) ask (course_of is_shut fault) after later (moment (file_state after later) w n) was now
+  not_kept later after is_shut fault change is wanted same_state same_found crash since sound cause shut = go is_shut fault wanted cause shut
+    where
+      same : file_state after later ≡ file_state s found
+      same = (λ j. file_state (same_state j) (same_found j))
+
+      go : (b : Bool) (e : KeepFault) → IsWanted p e → (IsClean w → IsKeepCause v (MoreFaults m n) (IsBeyond settings s p) e) → (b ≡ true → IsClean w → MoreFaults m n)
+          → IsAnsweredBy settings (moment (file_state s found) v m) ask (course_of b e) after later (moment (file_state after later) w n) was now
+      go true (Room failure) wants why failed = (record { later = since; failed = failed refl; cause = tt; may = is.changes; same = same }, leaves is crash)
+      go true (Store error) wants why failed = (record { later = since; failed = failed refl; cause = refused_for (file_state after later) is sound error why; may = is.changes; same = same }, leaves is crash)
+      go false (Room failure) wants why failed = ((since, inr (inl (failure, may_fail_bare settings s ask failure (change.room failure wants), refl, same))), leaves is crash)
+      go false (Store error) wants why failed = ((since, inr (inr (fault_of_store error, refused_for (file_state after later) is sound error why, is.changes, refl, same))), leaves is crash)
 
 pub change_of : (settings : Settings) (s : State) (ask : Ask) (p : Pending) → IsPending settings s ask p → ((told : Answer) → p ≡ pending.Nothing told → ⊥) → IsPendingChange settings s ask p
 change_of settings s ask (pending.Nothing told) is change = absurd (change told refl)
@@ -211,30 +247,24 @@ change_of settings s ask (pending.Forget name) is change = is
 change_of settings s ask (pending.Frame frame) is change = is
 change_of settings s ask (pending.Begin begin) is change = is
 
--- a change that was not kept
-pub not_kept : (settings : Settings) (s : State) (found later : Option AnswerRow) (after : State) (ask : Ask) (p : Pending) (was now : Trees → Type 0) (is_shut : Bool) (fault : KeepFault)
-    → IsPendingChange settings s ask p → IsFileTurn settings (file_state s found) ask (turn_of s p).reply (next_state (file_state s found) p) → IsWanted p fault → after ≡ s → later ≡ found
-    → ((db : Trees) → now db → was db ⊎ HoldsState settings (next_state (file_state s found) p) db)
-    → IsAnsweredBy settings (file_state s found) ask (course_of is_shut fault) after later (file_state after later) was now
-not_kept settings s found later after ask p was now is_shut fault change is wanted same_state same_found crash = go is_shut fault wanted
-  where
-    same : file_state after later ≡ file_state s found
-    same = (λ j. file_state (same_state j) (same_found j))
-
-    go : (b : Bool) (e : KeepFault) → IsWanted p e → IsAnsweredBy settings (file_state s found) ask (course_of b e) after later (file_state after later) was now
-    go true (Room failure) wants = (same, tt, is.changes, leaves settings s found ask p was now is crash)
-    go true (Store error) wants = (same, store_fault error, is.changes, leaves settings s found ask p was now is crash)
-    go false (Room failure) wants = (inr (inl (failure, may_fail_bare settings s ask failure (change.room failure wants), refl, same)), leaves settings s found ask p was now is crash)
-    go false (Store error) wants = (inr (inr (of_store error, store_fault error, is.changes, refl, same)), leaves settings s found ask p was now is crash)
-
 -- ---- the file can have it
+
+-- a program that is taken is no longer than one may be
+short_program : (s : State) (file bytes : List ℕ) → (program_turn s file).reply ≡ Done bytes → length file ≤ 131072
+short_program s file bytes taken = go (nat_lt 131072 (length file)) refl taken
+  where
+    go : (b : Bool) → nat_lt 131072 (length file) ≡ b → (cond b (told s (Refused FileTooLong)) (named_turn s (sha256 file) file)).reply ≡ Done bytes → length file ≤ 131072
+    go true is done = absurd cc
+    go false is done = grind (arith, nat_tests)
 
 pub storable : (settings : Settings) (s : State) (ask : Ask) (p : Pending) (body : List ℕ) → IsPending settings s ask p → body ≡ body_in ask → IsStorable body p
 storable settings s ask (pending.Nothing told) body is same = tt
 storable settings s ask (pending.Program name image text) body is same =
     let (file, e, hash, loads) = is.asked in
     let whole : body ≡ file = same ∙ ap body_in e in
-    (ap sha256 whole ∙ sym hash, ap image_of whole ∙ loads)
+    let reply : (turn settings (bare s) (Program file)).reply ≡ Done text.items =
+    subst (λ (a : Ask). (turn settings (bare s) a).reply ≡ Done text.items) e (change_reply settings s ask _ is (no_last_program ask file e)) in
+    (ap sha256 whole ∙ sym hash, ap image_of whole ∙ loads, rw whole (short_program (bare s) file text.items reply))
 storable settings s ask (pending.Forget name) body is same = tt
 storable settings s ask (pending.Frame frame) body is same = tt
 storable settings s ask (pending.Begin begin) body is same = tt

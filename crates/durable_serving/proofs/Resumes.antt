@@ -7,7 +7,7 @@ use Rattle.session_states.specs.States.{FileState, KeepsState, nothing_kept}
 use Rattle.session_states.proofs.Once.{kept_once}
 use Rattle.sqlite_trees.specs.Tree.{Trees}
 use Rattle.turns.specs.declared.settings.Settings.{Settings}
-use Rattle.durable_serving.specs.Durable.{HoldsNext, HoldsState, IsStopped, file_turn}
+use Rattle.durable_serving.specs.Durable.{FileMoment, HoldsNext, HoldsState, IsStopped, file_turn}
 use Rattle.durable_serving.specs.Opened.{IsFoundIn}
 use Rattle.durable_serving.specs.Resumed.{IsNext, IsResumed}
 
@@ -29,7 +29,7 @@ found_next : (settings : Settings) (db : Trees) (f mid : FileState) (rest : List
 found_next settings db f mid [] found holds = absurd holds
 found_next settings db f mid (ask ∷ asks) found holds = found_is settings db f (file_turn settings mid ask).1 found holds
 
-pub resumed : (settings : Settings) (old : FileState) (bytes : List ℕ) (before now : Option (List ℕ)) (recovers : Trees → Type 0) (db : Trees) (f : FileState) → IsStopped settings old bytes before now recovers → recovers db
+pub resumed : (settings : Settings) (old : FileMoment) (bytes : List ℕ) (before now : Option (List ℕ)) (recovers : Trees → Type 0) (db : Trees) (f : FileState) → IsStopped settings old bytes before now recovers → recovers db
     → IsFoundIn settings db f → IsResumed settings old bytes before now f
 resumed settings old bytes before now recovers db f (heard, rest, text, mid, part, asks, done, wrote, is, leaves) left found = (
   heard,
@@ -41,10 +41,10 @@ resumed settings old bytes before now recovers db f (heard, rest, text, mid, par
   done,
   wrote,
   is,
-  elim (leaves db left) [ inl here ↦ inl (found_is settings db f mid found here) | inr next ↦ inr (found_next settings db f mid rest found next) ],
+  elim (leaves db left) [ inl here ↦ inl (found_is settings db f mid.session found here) | inr next ↦ inr (found_next settings db f mid.session rest found next) ],
 )
 
-pub known_resumed : (settings : Settings) (old : FileState) (before now : Option (List ℕ)) (recovers : Trees → Type 0) (db : Trees) (f : FileState) (a : Option (List ℕ))
+pub known_resumed : (settings : Settings) (old : FileMoment) (before now : Option (List ℕ)) (recovers : Trees → Type 0) (db : Trees) (f : FileState) (a : Option (List ℕ))
     → IfSome a (λ bytes. IsStopped settings old bytes before now recovers) → recovers db → IsFoundIn settings db f → IfSome a (λ bytes. IsResumed settings old bytes before now f)
 known_resumed settings old before now recovers db f None stopped left found = tt
 known_resumed settings old before now recovers db f (Some bytes) stopped left found = resumed settings old bytes before now recovers db f stopped left found

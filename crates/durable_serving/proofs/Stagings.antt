@@ -1,8 +1,10 @@
 -- What is pending, staged.
-use Rattle.std.proofs.Common.{◌≡◌, ℕ, List, Option, Some, None, Result, Ok, Err, OnErr, OnOk, refl, sym, ap, subst, ◌∙◌}
+use Rattle.std.proofs.Common.{◌≡◌, ◌≤◌, ℕ, List, length, Option, Some, None, Result, Ok, Err, OnErr, OnOk, refl, sym, ap, subst, ◌∙◌, arith}
 use Rattle.std.specs.Arc.{arc_value}
 use Rattle.std.specs.FinMap as fin
 use Rattle.sha2.specs.Sha256.{sha256}
+use Rattle.sha2.proofs.Facts256.{length-sha256}
+use Rattle.entry_tree.specs.Entries.{IsTooLong}
 use Rattle.elf32.specs.Image.{image_of}
 use Rattle.rv_ledger.specs.Key.{Storage}
 use Rattle.rv_ledger.specs.declared.rules.Rules.{Rules}
@@ -51,9 +53,9 @@ module _ (settings : Settings) (s : State) (old : View) where
   spared_far known change more one two new knows first second gives last k keeps is = gives k (more (change k)) (second k (change k) (first k k (knows last k keeps) is))
 
   -- a program
-  pub staged_program : (name file : List ℕ) (image : _) (text : _) (new : View) → (sha256 file ≡ name) × (image_of file ≡ Ok (arc_value image))
+  pub staged_program : (name file : List ℕ) (image : _) (text : _) (new : View) → (sha256 file ≡ name) × (image_of file ≡ Ok (arc_value image)) × (length file ≤ 131072)
       → staging.Stages (λ next. record next { programs = fin.insert next.programs name file }) old new → Stages settings s (pending.Program name image text) old new
-  staged_program name file image text new (hash, loads) stages last k keeps is =
+  staged_program name file image text new (hash, loads, short) stages last k keeps is =
       (record k { programs = fin.insert k.programs name file }, program_put settings (over s last) k name file (arc_value image) keeps hash loads, stages k k is)
 
   pub staged_forget : (name : List ℕ) (new : View) → staging.Stages (λ next. record next { programs = fin.remove next.programs name }) old new → Stages settings s (pending.Forget name) old new
@@ -62,14 +64,14 @@ module _ (settings : Settings) (s : State) (old : View) where
   -- a frame
   pub staged_frame : (frame : PendingFrame) (digest : List ℕ) (row : SessionRow) (rules : Rules) (one two new : View)
       → frame.digest ≡ Some digest
-      → row ≡ record { frame_limit = settings.frame_limit; frame_gas = settings.frame_gas; is_brief = settings.is_brief; rules = rules; height = frame.height; digest = digest }
+      → row ≡ row_of settings rules frame.height digest
       → ((t : State) → t.rules ≡ s.rules → rules ≡ (after_run_of t frame.run).rules)
       → StagesRun frame.run one → staging.Stages (λ next. record next { session = Some row }) one two → staging.Stages (λ next. record next { answer = Some (text_of frame.answer) }) two new
       → Stages settings s (pending.Frame frame) old new
   staged_frame frame digest row rules one two new kept_digest is_row is_rules first second third last k keeps is =
       let f : FileState = over s last in
       let after : State = record (turn_of f.state (pending.Frame frame)).after { last = None } in
-      let same_row : row ≡ row_of settings after digest = is_row ∙ ap (λ (r : Rules). record { frame_limit = settings.frame_limit; frame_gas = settings.frame_gas; is_brief = settings.is_brief; rules = r; height = frame.height; digest = digest }) (is_rules f.state refl) in (
+      let same_row : row ≡ row_of settings after.rules after.height digest = is_row ∙ ap (λ (r : Rules). row_of settings r frame.height digest) (is_rules f.state refl) in (
         record k { storage = after.store; session = Some row; answer = Some (text_of frame.answer) },
         subst (λ (r : SessionRow). KeepsState settings (next_state f (pending.Frame frame)) (record k { storage = after.store; session = Some r; answer = Some (text_of frame.answer) })) (sym same_row)
             (frame_counted settings f k after digest (Some (text_of frame.answer)) keeps (run_programs f.state frame.run) kept_digest refl),
@@ -79,7 +81,7 @@ module _ (settings : Settings) (s : State) (old : View) where
   -- a session that begins anew
   pub staged_begin : (begin : PendingBegin) (digest : List ℕ) (row : SessionRow) (one two new : View)
       → begin.digest ≡ Some digest
-      → row ≡ record { frame_limit = settings.frame_limit; frame_gas = settings.frame_gas; is_brief = settings.is_brief; rules = begin.rules; height = begin.height; digest = digest }
+      → row ≡ row_of settings begin.rules begin.height digest
       → staging.StagesWhere (λ next. next.storage ≡ s.store) (λ next. record next { storage = begin.store }) old one
       → staging.Stages (λ next. record next { session = Some row }) one two → staging.Stages (λ next. record next { answer = None }) two new
       → Stages settings s (pending.Begin begin) old new
@@ -104,3 +106,11 @@ module _ (settings : Settings) (s : State) (old : View) where
       → staging.Stages (λ next. record next { programs = fin.insert next.programs name body }) old new → Stages settings s p old new
   program_pending p name body image text new is can stages =
       subst (λ (q : Pending). Stages settings s q old new) (sym is) (staged_program name body image text new (subst (λ (q : Pending). IsStorable body q) is can) stages)
+
+-- ---- why a program is not staged
+
+-- a program that is no longer than one may be has room
+pub short_program : (name body : List ℕ) → sha256 body ≡ name → length body ≤ 131072 → IsTooLong name (Some body) → ⊥
+short_program name body is short long =
+    let key : length name ≡ 32 = ap length (sym is) ∙ length-sha256 body in
+    omega (arith, key, short, long)

@@ -1,17 +1,21 @@
 -- A session over a file: what it answers, and what a crash leaves.
-use Rattle.std.specs.Prelude.{◌≡◌, ◌≢◌, ◌<◌, ◌⊎◌, ⊤, ℕ, List, [], ◌∷◌, ◌++◌, codes, Option, Some, None}
+use Rattle.std.specs.Prelude.{◌≡◌, ◌≢◌, ◌<◌, ◌≤◌, ◌⊎◌, ⊤, ℕ, Bool, List, [], ◌∷◌, ◌++◌, codes, Option, Some, None}
 use Rattle.std.specs.Io.KnownBytes.{Appends}
+use Rattle.std.specs.Option.{ForSome}
 use Rattle.byte_streams.specs.Refusals.{line_text}
 use Rattle.requests.specs.Requests.{Ask, Program, Forget, Frame, Last, Begin, requests_of}
 use Rattle.requests.specs.declared.request.RequestFault.{RequestFault}
 use Rattle.serving.specs.Serving.{AreAnswered, IsEndedBy, MayEnd, end_text, fault_of, until_quit}
 use Rattle.serving.specs.declared.serving.ServeFault.{ServeFault}
 use Rattle.session_file.specs.Kept.{HoldsIn, Kept}
+use Rattle.session_file.specs.Limits.{HasSmallNumbers, IsLongAnswer}
 use Rattle.session_states.specs.Faults.{parts_of}
-use Rattle.session_states.specs.States.{FileState, KeepsState, last_of}
+use Rattle.session_states.specs.States.{FileState, KeepsState, last_of, row_of}
 use Rattle.session_states.specs.declared.fault.StoreFault.{StoreFault}
 use Rattle.session_states.specs.declared.fault.StoreFault.TheVariants.{Unreadable, Damaged, Full, Memory}
+use Rattle.sqlite_disk.specs.Disk.{MoreFaults}
 use Rattle.sqlite_trees.specs.Tree.{Trees}
+use Rattle.sqlite_trees.specs.View.{View, doubt}
 use Rattle.turns.specs.Failures.{MayFail}
 use Rattle.turns.specs.Replies.{Failed, Refused, Reply, answer_text}
 use Rattle.turns.specs.Turn.{Turn, turn}
@@ -19,6 +23,7 @@ use Rattle.turns.specs.declared.refusal.Failure.{Failure}
 use Rattle.turns.specs.declared.refusal.Refusal.{Refusal as Refusals}
 use Rattle.turns.specs.declared.refusal.Refusal.TheVariants.{NoFrame}
 use Rattle.turns.specs.declared.settings.Settings.{Settings}
+use Rattle.turns.specs.declared.state.State.{State}
 use Rattle.durable_serving.specs.declared.answering.DurableFault.{DurableFault}
 use Rattle.durable_serving.specs.declared.answering.DurableFault.TheVariants.{Session, Store}
 
@@ -59,21 +64,57 @@ MayChange settings f (Frame bytes) = f.state.height < 9999999999
 MayChange settings f (Begin height digest bytes) = (refusal : Refusals) → (turn settings f.state (Begin height digest bytes)).reply ≢ Refused refusal
 MayChange settings f ask = ⊥
 
--- what an open file may refuse a change for
-abbrev pub IsStoreFault : StoreFault → Type 0
-IsStoreFault Unreadable = ⊤
-IsStoreFault Damaged = ⊤
-IsStoreFault Full = ⊤
-IsStoreFault Memory = ⊤
-IsStoreFault fault = ⊥
+-- ---- why a file does not take a change
+
+-- A session goes from moment to moment, and a moment counts the failed calls of the disk so far. So the count at the end of a
+-- session bounds how many of its requests were answered for a failure of the disk.
+pub record FileMoment : Type 0 where
+  pub session : FileState
+  pub faults : ℕ
+  -- no wrong answer of the disk was taken as true so far
+  pub is_clean : Bool
+
+-- a session in a store that shows this, after so many failures
+abbrev pub moment : FileState → View → ℕ → FileMoment
+moment f v faults = record { session = f; faults = faults; is_clean = v.is_clean }
+
+-- no failure is forgotten
+pub record IsLater (old new : FileMoment) : Type 0 where
+  pub faults : old.faults ≤ new.faults
+  pub clean : doubt old.is_clean ≤ doubt new.is_clean
+
+-- a call of the disk failed in between
+abbrev pub HasFailed : FileMoment → FileMoment → Type 0
+HasFailed old new = doubt new.is_clean ≡ 0 → MoreFaults old.faults new.faults
+
+-- the format has no row for a session: a number of it is too large, or it has no digest
+abbrev pub HasNoRow : Settings → State → Type 0
+HasNoRow settings s = (digest : List ℕ) → s.digest ≡ Some digest → ¬ HasSmallNumbers (row_of settings s.rules s.height digest)
+
+-- the format has no room for what a request leaves
+abbrev pub IsBeyondFormat : Settings → FileState → Type 0
+IsBeyondFormat settings f = HasNoRow settings f.state ⊎ ForSome f.last IsLongAnswer
+
+-- why a change is refused: the disk failed, or the change is beyond the format; of a want of memory nothing is said
+abbrev pub MayRefuse : Settings → FileMoment → Ask → StoreFault → FileMoment → Type 0
+MayRefuse settings old ask Unreadable new = HasFailed old new
+MayRefuse settings old ask Damaged new = HasFailed old new
+MayRefuse settings old ask Full new = HasFailed old new ⊎ (doubt new.is_clean ≡ 0 → IsBeyondFormat settings (file_turn settings old.session ask).1)
+MayRefuse settings old ask Memory new = ⊤
+MayRefuse settings old ask fault new = ⊥
+
+-- ---- what is answered
 
 -- a request was answered as wanted; or memory ran out where it may, or the file did not take the change, which is told, and all
 -- is as it was
-abbrev pub IsFileAnswer : Settings → FileState → Ask → List ℕ → FileState → Type 0
-IsFileAnswer settings f ask text after =
-    ((text ≡ (file_turn settings f ask).0) × (after ≡ (file_turn settings f ask).1))
-    ⊎ ((failure : Failure) × MayFail settings f.state ask failure × (text ≡ answer_text (Failed failure)) × (after ≡ f))
-    ⊎ ((fault : StoreFault) × IsStoreFault fault × MayChange settings f ask × (text ≡ failed_store fault) × (after ≡ f))
+abbrev pub IsFileReply : Settings → FileMoment → Ask → List ℕ → FileMoment → Type 0
+IsFileReply settings old ask text new =
+    ((text ≡ (file_turn settings old.session ask).0) × (new.session ≡ (file_turn settings old.session ask).1))
+    ⊎ ((failure : Failure) × MayFail settings old.session.state ask failure × (text ≡ answer_text (Failed failure)) × (new.session ≡ old.session))
+    ⊎ ((fault : StoreFault) × MayRefuse settings old ask fault new × MayChange settings old.session ask × (text ≡ failed_store fault) × (new.session ≡ old.session))
+
+abbrev pub IsFileAnswer : Settings → FileMoment → Ask → List ℕ → FileMoment → Type 0
+IsFileAnswer settings old ask text new = IsLater old new × IsFileReply settings old ask text new
 
 -- ---- what a crash leaves
 
@@ -87,27 +128,35 @@ HoldsNext settings f [] db = ⊥
 HoldsNext settings f (ask ∷ asks) db = HoldsState settings (file_turn settings f ask).1 db
 
 -- nothing, or a part of the answer to the next request; where none is left, a part of what is written last
-abbrev pub IsPart : Settings → Option RequestFault → FileState → List Ask → List ℕ → Type 0
-IsPart settings fault f [] part = (left : List ℕ) × (part ++ left ≡ end_text fault)
-IsPart settings fault f (ask ∷ asks) part = (part ≡ []) ⊎ ((left : List ℕ) × (next : FileState) × IsFileAnswer settings f ask (part ++ left) next)
+abbrev pub IsPart : Settings → Option RequestFault → FileMoment → List Ask → List ℕ → Type 0
+IsPart settings fault now [] part = (left : List ℕ) × (part ++ left ≡ end_text fault)
+IsPart settings fault now (ask ∷ asks) part = (part ≡ []) ⊎ ((left : List ℕ) × (next : FileMoment) × IsFileAnswer settings now ask (part ++ left) next)
 
 -- Wherever a session stops: the first requests of its input were answered in whole, and of the next answer a part; and a crash
 -- leaves what the answered requests leave, or the next one too.
-abbrev pub IsStopped : Settings → FileState → List ℕ → Option (List ℕ) → Option (List ℕ) → (Trees → Type 0) → Type 0
+abbrev pub IsStopped : Settings → FileMoment → List ℕ → Option (List ℕ) → Option (List ℕ) → (Trees → Type 0) → Type 0
 IsStopped settings old bytes before now recovers =
-    (heard : List Ask) × (rest : List Ask) × (text : List ℕ) × (mid : FileState) × (part : List ℕ)
+    (heard : List Ask) × (rest : List Ask) × (text : List ℕ) × (mid : FileMoment) × (part : List ℕ)
     × (until_quit (requests_of bytes).asks ≡ heard ++ rest) × AreAnswered (IsFileAnswer settings) old heard text mid
     × Appends before now (text ++ part) × IsPart settings (fault_of (requests_of bytes)) mid rest part
-    × ((db : Trees) → recovers db → HoldsState settings mid db ⊎ HoldsNext settings mid rest db)
+    × ((db : Trees) → recovers db → HoldsState settings mid.session db ⊎ HoldsNext settings mid.session rest db)
 
 -- ---- how a session ends
 
+-- the file was shut by the next request: a call of the disk failed, and memory kept what it had
+pub record IsShutBy (settings : Settings) (old : FileMoment) (ask : Ask) (fault : StoreFault) (new : FileMoment) : Type 0 where
+  pub later : IsLater old new
+  pub failed : HasFailed old new
+  pub cause : MayRefuse settings old ask fault new
+  pub may : MayChange settings old.session ask
+  pub same : new.session ≡ old.session
+
 -- by a fault of its input or its writer, as a session without a file; or since the file is shut
-abbrev pub IsDurablyEndedBy : Type 0 → Settings → DurableFault → FileState → List ℕ → FileState → Option (List ℕ) → Option (List ℕ) → Type 0
+abbrev pub IsDurablyEndedBy : Type 0 → Settings → DurableFault → FileMoment → List ℕ → FileMoment → Option (List ℕ) → Option (List ℕ) → Type 0
 IsDurablyEndedBy may_fail settings (Session fault) old bytes new before after = IsEndedBy may_fail (IsFileAnswer settings) fault old bytes new before after
 IsDurablyEndedBy may_fail settings (Store fault) old bytes new before after =
-    IsStoreFault fault × ((heard : List Ask) × (ask : Ask) × (rest : List Ask) × (text : List ℕ) × (until_quit (requests_of bytes).asks ≡ heard ++ ask ∷ rest)
-    × AreAnswered (IsFileAnswer settings) old heard text new × Appends before after text × MayChange settings new ask)
+    (heard : List Ask) × (ask : Ask) × (rest : List Ask) × (text : List ℕ) × (mid : FileMoment) × (until_quit (requests_of bytes).asks ≡ heard ++ ask ∷ rest)
+    × AreAnswered (IsFileAnswer settings) old heard text mid × Appends before after text × IsShutBy settings mid ask fault new
 
 -- a write may have been refused so
 abbrev pub MayDurablyEnd : Type 0 → Type 0 → DurableFault → Type 0

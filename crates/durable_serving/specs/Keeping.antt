@@ -1,5 +1,5 @@
 -- Private help of proofs; no public clause cites it, but `IsKeptBy`. How a change is staged and kept, and what comes of what was read.
-use Rattle.std.specs.Prelude.{◌≡◌, ◌⊎◌, ⊤, ℕ, Bool, true, false, List, [], ◌∷◌, ◌++◌, Option, Some, None, Ok, IsSome}
+use Rattle.std.specs.Prelude.{◌≡◌, ◌≤◌, ◌⊎◌, ⊤, ℕ, length, Bool, true, false, List, [], ◌∷◌, ◌++◌, Option, Some, None, Ok, IsSome}
 use Rattle.std.specs.Arc.{arc_value}
 use Rattle.std.specs.Option.{option_map}
 use Rattle.sha2.specs.Sha256.{sha256}
@@ -12,11 +12,11 @@ use Rattle.session_file.specs.Opening.{answer_parts}
 use Rattle.session_file.specs.Staging.{IsKeeping, IsStaged}
 use Rattle.session_file.specs.declared.rows.AnswerRow.{AnswerRow}
 use Rattle.session_states.specs.States.{FileState, KeepsState, last_of, text_of}
-use Rattle.session_states.specs.Faults.{of_store}
+use Rattle.session_states.specs.Faults.{fault_of_store}
 use Rattle.session_states.specs.declared.fault.StoreFault.{StoreFault}
 use Rattle.session_states.specs.declared.fault.StoreFault.TheVariants.{Memory}
 use Rattle.sqlite_trees.specs.Tree.{Trees}
-use Rattle.sqlite_trees.specs.View.{View, IsClean}
+use Rattle.sqlite_trees.specs.View.{View, HasCause, IsClean}
 use Rattle.turns.specs.Pending.{MayWantRoom, turn_of}
 use Rattle.turns.specs.Replies.{answer_text}
 use Rattle.turns.specs.Stages.{reply_in}
@@ -25,7 +25,7 @@ use Rattle.turns.specs.declared.pending.Pending.{Pending}
 use Rattle.turns.specs.declared.pending.Pending.TheVariants as pending
 use Rattle.turns.specs.declared.settings.Settings.{Settings}
 use Rattle.turns.specs.declared.state.State.{State}
-use Rattle.durable_serving.specs.Durable.{HoldsState, IsFileAnswer, IsStoreFault, MayChange, failed_store, file_turn, last_text}
+use Rattle.durable_serving.specs.Durable.{FileMoment, HoldsState, IsBeyondFormat, IsFileAnswer, IsShutBy, failed_store, file_turn, last_text}
 use Rattle.durable_serving.specs.declared.asking.FileCourse.{FileCourse}
 use Rattle.durable_serving.specs.declared.asking.FileCourse.TheVariants.{Answers, Ends, Breaks, Shuts}
 use Rattle.durable_serving.specs.declared.keeping.KeepFault.{KeepFault}
@@ -60,10 +60,14 @@ Stages settings s p old new = (last : Option (List ℕ × List ℕ)) (k : Kept) 
 abbrev pub Spares : Settings → State → View → View → Type 0
 Spares settings s old new = (last : Option (List ℕ × List ℕ)) (k : Kept) → KeepsState settings (over s last) k → IsKeeping old k → IsKeeping new k
 
--- the file can have what is pending: a program has the bytes that it was loaded from
+-- the file can have what is pending: a program has the bytes that it was loaded from, and is no longer than one may be
 abbrev pub IsStorable : List ℕ → Pending → Type 0
-IsStorable body (pending.Program name image text) = (sha256 body ≡ name) × (image_of body ≡ Ok (arc_value image))
+IsStorable body (pending.Program name image text) = (sha256 body ≡ name) × (image_of body ≡ Ok (arc_value image)) × (length body ≤ 131072)
 IsStorable body other = ⊤
+
+-- the format has no room for what is pending
+abbrev pub IsBeyond : Settings → State → Pending → Type 0
+IsBeyond settings s p = (last : Option (List ℕ × List ℕ)) → IsBeyondFormat settings (next_state (over s last) p)
 
 -- the answer that was found in the file, behind what is pending
 abbrev pub IsFoundBehind : Pending → Option AnswerRow → Option AnswerRow → Type 0
@@ -75,6 +79,11 @@ pub record IsFoundAsked (ask : Ask) (s : State) (found : Option AnswerRow) : Typ
   pub ask_is : ask ≡ Last
   pub none : s.last ≡ None
   pub some : IsSome found
+
+-- the file failed for this cause, where `disk` says that the disk failed meanwhile, and `limit` that the format has no room
+abbrev pub IsKeepCause : View → Type 0 → Type 0 → KeepFault → Type 0
+IsKeepCause v disk limit (Room failure) = ⊤
+IsKeepCause v disk limit (Store error) = HasCause v disk limit error
 
 -- memory ran out where what is pending needs room, or the file failed
 abbrev pub IsWanted : Pending → KeepFault → Type 0
@@ -101,14 +110,14 @@ abbrev pub Leaves : Settings → FileState → Ask → (Trees → Type 0) → (T
 Leaves settings f ask was now = (db : Trees) → now db → was db ⊎ HoldsState settings (file_turn settings f ask).1 db
 
 -- a request was answered by this text, or met that the file is shut
-abbrev pub IsAnsweredBy : Settings → FileState → Ask → FileCourse → State → Option AnswerRow → FileState → (Trees → Type 0) → (Trees → Type 0) → Type 0
-IsAnsweredBy settings f ask (Answers reply) s found after was now = IsFileAnswer settings f ask (reply_text s found reply) after × Leaves settings f ask was now
-IsAnsweredBy settings f ask (Shuts fault) s found after was now = (after ≡ f) × IsStoreFault fault × MayChange settings f ask × Leaves settings f ask was now
+abbrev pub IsAnsweredBy : Settings → FileMoment → Ask → FileCourse → State → Option AnswerRow → FileMoment → (Trees → Type 0) → (Trees → Type 0) → Type 0
+IsAnsweredBy settings f ask (Answers reply) s found after was now = IsFileAnswer settings f ask (reply_text s found reply) after × Leaves settings f.session ask was now
+IsAnsweredBy settings f ask (Shuts fault) s found after was now = IsShutBy settings f ask fault after × Leaves settings f.session ask was now
 IsAnsweredBy settings f ask Ends s found after was now = ⊥
 IsAnsweredBy settings f ask (Breaks fault) s found after was now = ⊥
 
 -- what comes first in xs was done: a request, or none comes
-abbrev pub IsFileCourse : Settings → FileState → FileCourse → State → Option AnswerRow → FileState → (Trees → Type 0) → (Trees → Type 0) → List ℕ → List ℕ → Type 0
+abbrev pub IsFileCourse : Settings → FileMoment → FileCourse → State → Option AnswerRow → FileMoment → (Trees → Type 0) → (Trees → Type 0) → List ℕ → List ℕ → Type 0
 IsFileCourse settings f Ends s found after was now xs ys = NothingComes None f after xs × ((db : Trees) → now db → was db)
 IsFileCourse settings f (Breaks fault) s found after was now xs ys = NothingComes (Some fault) f after xs × ((db : Trees) → now db → was db)
 IsFileCourse settings f course s found after was now xs ys = (ask : Ask) × ComesFirst ask xs ys × IsAnsweredBy settings f ask course s found after was now
@@ -132,6 +141,6 @@ IsByTurn ask s found = ⊤
 -- what comes of a change that was not kept
 abbrev pub course_of : Bool → KeepFault → FileCourse
 course_of true (Room failure) = Shuts Memory
-course_of true (Store error) = Shuts (of_store error)
+course_of true (Store error) = Shuts (fault_of_store error)
 course_of false (Room failure) = Answers (Turn (answer.Failed failure))
-course_of false (Store error) = Answers (Failed (of_store error))
+course_of false (Store error) = Answers (Failed (fault_of_store error))

@@ -5,7 +5,7 @@ use Rattle.requests.specs.Requests.{Ask, requests_of}
 use Rattle.serving.specs.Serving.{AreAnswered, fault_of, until_quit}
 use Rattle.session_states.specs.States.{FileState}
 use Rattle.turns.specs.declared.settings.Settings.{Settings}
-use Rattle.durable_serving.specs.Durable.{IsFileAnswer, IsPart, file_turn}
+use Rattle.durable_serving.specs.Durable.{FileMoment, IsFileAnswer, IsPart, file_turn}
 
 -- the session that the next request leaves
 abbrev pub IsNext : Settings → FileState → List Ask → FileState → Type 0
@@ -14,9 +14,9 @@ IsNext settings f (ask ∷ asks) next = next ≡ (file_turn settings f ask).1
 
 -- The first requests of an input were answered in whole, and of the next answer a part; and what is found is the session that
 -- they left, or that the next one left too.
-abbrev pub IsResumed : Settings → FileState → List ℕ → Option (List ℕ) → Option (List ℕ) → FileState → Type 0
+abbrev pub IsResumed : Settings → FileMoment → List ℕ → Option (List ℕ) → Option (List ℕ) → FileState → Type 0
 IsResumed settings old bytes before now found =
-    (heard : List Ask) × (rest : List Ask) × (text : List ℕ) × (mid : FileState) × (part : List ℕ)
+    (heard : List Ask) × (rest : List Ask) × (text : List ℕ) × (mid : FileMoment) × (part : List ℕ)
     × (until_quit (requests_of bytes).asks ≡ heard ++ rest) × AreAnswered (IsFileAnswer settings) old heard text mid
     × Appends before now (text ++ part) × IsPart settings (fault_of (requests_of bytes)) mid rest part
-    × ((found ≡ mid) ⊎ IsNext settings mid rest found)
+    × ((found ≡ mid.session) ⊎ IsNext settings mid.session rest found)

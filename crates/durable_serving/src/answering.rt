@@ -4,7 +4,7 @@ ghost use Rattle.std.specs.Prelude.{◌≡◌, false, IfErr, IfSome, None, OnOk}
 ghost use Rattle.serving.specs.Serving.{IsServed};
 ghost use Rattle.session_states.specs.States.{file_state};
 ghost use Rattle.sqlite_trees.specs.View.{IsClean};
-ghost use Rattle.durable_serving.specs.Durable.{IsDurablyEndedBy, IsFileAnswer, IsStopped, MayDurablyEnd};
+ghost use Rattle.durable_serving.specs.Durable.{IsDurablyEndedBy, IsFileAnswer, IsStopped, MayDurablyEnd, moment};
 ghost use Rattle.durable_serving.specs.Keeping.{IsKeptBy};
 
 use crate::asking::{FileCourse, take_asked};
@@ -45,11 +45,11 @@ pub fn serve_durably<R: BufferedSource, S: Store, C: CallRunner, W: Destination>
     requires ready { C.ready }
     requires kept { IsKeptBy settings (S.Store.view session.old.file) (file_state session.old.state session.old.found) }
     requires sound { IsClean (S.Store.view session.old.file) → (S.Store.view session.old.file).is_broken ≡ false }
-    ensures ok { OnOk result (IfSome (R.remaining input.old) (λ bytes. IsServed (IsFileAnswer settings) None (file_state session.old.state session.old.found) bytes
-        (file_state session.new.state session.new.found) (W.contents out.old) (W.contents out.new))) }
+    ensures ok { OnOk result (IfSome (R.remaining input.old) (λ bytes. IsServed (IsFileAnswer settings) None (moment (file_state session.old.state session.old.found) (S.Store.view session.old.file) (S.Store.faults session.old.file)) bytes
+        (moment (file_state session.new.state session.new.found) (S.Store.view session.new.file) (S.Store.faults session.new.file)) (W.contents out.old) (W.contents out.new))) }
     ensures err { IfErr result (λ fault. IfSome (R.remaining input.old) (λ bytes. IsDurablyEndedBy (R.may_fail input.old) settings fault
-        (file_state session.old.state session.old.found) bytes (file_state session.new.state session.new.found) (W.contents out.old) (W.contents out.new))) }
-    ensures stopped { IsClean (S.Store.view session.new.file) → IfSome (R.remaining input.old) (λ bytes. IsStopped settings (file_state session.old.state session.old.found) bytes
+        (moment (file_state session.old.state session.old.found) (S.Store.view session.old.file) (S.Store.faults session.old.file)) bytes (moment (file_state session.new.state session.new.found) (S.Store.view session.new.file) (S.Store.faults session.new.file)) (W.contents out.old) (W.contents out.new))) }
+    ensures stopped { IsClean (S.Store.view session.new.file) → IfSome (R.remaining input.old) (λ bytes. IsStopped settings (moment (file_state session.old.state session.old.found) (S.Store.view session.old.file) (S.Store.faults session.old.file)) bytes
         (W.contents out.old) (W.contents out.new) (S.Store.recovers session.new.file)) }
     ensures kept { IsKeptBy settings (S.Store.view session.new.file) (file_state session.new.state session.new.found) }
     ensures refused { IfErr result (MayDurablyEnd (W.may_fail out.old) (W.may_take_nothing out.old)) }

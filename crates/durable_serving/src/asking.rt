@@ -6,6 +6,7 @@ ghost use Rattle.requests.specs.Requests.{Ask, Is, request_of};
 ghost use Rattle.sqlite_trees.specs.View.{IsClean, doubt};
 ghost use Rattle.session_states.specs.States.{file_state};
 ghost use Rattle.turns.specs.Pending.{IsDue, IsNewProgram, IsPending};
+ghost use Rattle.durable_serving.specs.Durable.{moment};
 ghost use Rattle.durable_serving.specs.Keeping.{IsAnsweredBy, IsByTurn, IsFileCourse, IsFoundAsked, IsKeptBy, IsReady, IsStorable, body_in, course_of};
 
 use crate::keeping::{KeepFault, keep};
@@ -45,7 +46,7 @@ pub(crate) fn take_asked<S: Store, C: CallRunner>(
     requires kept { IsKeptBy settings (S.Store.view session.old.file) (file_state session.old.state session.old.found) }
     requires sound { IsClean (S.Store.view session.old.file) → (S.Store.view session.old.file).is_broken ≡ false }
     ensures says { (xs ys : List ℕ) → Tells settings.frame_limit asked xs ys
-        → IsFileCourse settings (file_state session.old.state session.old.found) result session.new.state session.new.found (file_state session.new.state session.new.found)
+        → IsFileCourse settings (moment (file_state session.old.state session.old.found) (S.Store.view session.old.file) (S.Store.faults session.old.file)) result session.new.state session.new.found (moment (file_state session.new.state session.new.found) (S.Store.view session.new.file) (S.Store.faults session.new.file))
         (S.Store.recovers session.old.file) (S.Store.recovers session.new.file) xs ys }
     ensures kept { IsKeptBy settings (S.Store.view session.new.file) (file_state session.new.state session.new.found) }
     ensures ready { IsReady session.new.found (S.Store.view session.new.file) result }
@@ -77,7 +78,7 @@ fn take_request<S: Store, C: CallRunner>(
     requires kept { IsKeptBy settings (S.Store.view session.old.file) (file_state session.old.state session.old.found) }
     requires sound { IsClean (S.Store.view session.old.file) → (S.Store.view session.old.file).is_broken ≡ false }
     ensures says { (xs ys : List ℕ) → request_of xs ≡ Is (ask_of request) ys
-        → IsFileCourse settings (file_state session.old.state session.old.found) result session.new.state session.new.found (file_state session.new.state session.new.found)
+        → IsFileCourse settings (moment (file_state session.old.state session.old.found) (S.Store.view session.old.file) (S.Store.faults session.old.file)) result session.new.state session.new.found (moment (file_state session.new.state session.new.found) (S.Store.view session.new.file) (S.Store.faults session.new.file))
         (S.Store.recovers session.old.file) (S.Store.recovers session.new.file) xs ys }
     ensures kept { IsKeptBy settings (S.Store.view session.new.file) (file_state session.new.state session.new.found) }
     ensures ready { IsReady session.new.found (S.Store.view session.new.file) result }
@@ -129,7 +130,7 @@ fn take_pending<S: Store>(
     requires new { IsNewProgram session.old.state pending }
     requires storable { IsStorable body.now pending }
     ensures says { (ask : Ask) → IsPending settings session.old.state ask pending → IsDue session.old.state ask pending → IsByTurn ask session.old.state session.old.found
-        → IsAnsweredBy settings (file_state session.old.state session.old.found) ask result session.new.state session.new.found (file_state session.new.state session.new.found)
+        → IsAnsweredBy settings (moment (file_state session.old.state session.old.found) (S.Store.view session.old.file) (S.Store.faults session.old.file)) ask result session.new.state session.new.found (moment (file_state session.new.state session.new.found) (S.Store.view session.new.file) (S.Store.faults session.new.file))
         (S.Store.recovers session.old.file) (S.Store.recovers session.new.file) }
     ensures kept { IsKeptBy settings (S.Store.view session.new.file) (file_state session.new.state session.new.found) }
     ensures ready { IsReady session.new.found (S.Store.view session.new.file) result }
@@ -153,9 +154,9 @@ fn course_of(is_shut: bool, fault: KeepFault) -> FileCourse
         KeepFault::Room(failure) => {
             FileCourse::Answers(FileReply::Turn(Answer::Failed(failure)))
         }
-        KeepFault::Store(error) if is_shut => FileCourse::Shuts(StoreFault::of_store(error)),
+        KeepFault::Store(error) if is_shut => FileCourse::Shuts(StoreFault::of_error(error)),
         KeepFault::Store(error) => {
-            FileCourse::Answers(FileReply::Failed(StoreFault::of_store(error)))
+            FileCourse::Answers(FileReply::Failed(StoreFault::of_error(error)))
         }
     }
 }

@@ -1,12 +1,13 @@
 //! Keeping what is pending: on the disk first, and then in memory.
 
-ghost use Rattle.std.specs.Prelude.{◌≡◌, ◌⊎◌, ◌≤◌, ℕ, List, Option, false, IfErr, IfOk, OnErr, OnOk};
+ghost use Rattle.std.specs.Prelude.{◌≡◌, ◌⊎◌, ◌≤◌, ℕ, List, Option, false, IfErr, IfOk, IsTrue, OnErr, OnOk};
+ghost use Rattle.sqlite_disk.specs.Disk.{MoreFaults};
 ghost use Rattle.sqlite_trees.specs.Tree.{Trees};
 ghost use Rattle.sqlite_trees.specs.View.{IsClean, doubt};
 ghost use Rattle.session_states.specs.States.{file_state};
 ghost use Rattle.turns.specs.Pending.{IsMade, IsNewProgram, MayWantRoom};
 ghost use Rattle.durable_serving.specs.Durable.{HoldsState};
-ghost use Rattle.durable_serving.specs.Keeping.{IsFoundBehind, IsKeptBy, IsStorable, IsWanted, next_state};
+ghost use Rattle.durable_serving.specs.Keeping.{IsBeyond, IsFoundBehind, IsKeepCause, IsKeptBy, IsStorable, IsWanted, next_state};
 
 use crate::session::FileSession;
 use crate::staging::stage;
@@ -41,6 +42,10 @@ pub(crate) fn keep<S: Store>(
     ensures next { OnOk result (file_state session.new.state session.new.found ≡ next_state (file_state session.old.state session.old.found) pending) }
     ensures same { OnErr result ((session.new.state ≡ session.old.state) × (session.new.found ≡ session.old.found)) }
     ensures room { IfErr result (IsWanted pending) }
+    ensures cause { IsClean (S.Store.view session.new.file) → IfErr result (IsKeepCause (S.Store.view session.old.file) (MoreFaults (S.Store.faults session.old.file) (S.Store.faults session.new.file)) (IsBeyond settings session.old.state pending)) }
+    ensures open { IsClean (S.Store.view session.new.file) → IsTrue (S.Store.view session.old.file).is_open
+        → IsTrue (S.Store.view session.new.file).is_open ⊎ MoreFaults (S.Store.faults session.old.file) (S.Store.faults session.new.file) }
+    ensures counts { S.Store.faults session.old.file ≤ S.Store.faults session.new.file }
     ensures kept { IsKeptBy settings (S.Store.view session.new.file) (file_state session.new.state session.new.found) }
     ensures sound { OnOk result (IsClean (S.Store.view session.new.file) → (S.Store.view session.new.file).is_broken ≡ false) }
     ensures crash { (db : Trees) → S.Store.recovers session.new.file db

@@ -1,15 +1,17 @@
 //! Opening the session that a store keeps, or beginning one in it.
 
 ghost use Rattle.std.specs.Prelude.{◌≡◌, ◌⊎◌, ◌≤◌, false, true, IfErr, IfOk, OnOk};
+ghost use Rattle.sqlite_disk.specs.Disk.{MoreFaults};
 ghost use Rattle.sqlite_trees.specs.Tree.{Trees};
-ghost use Rattle.sqlite_trees.specs.View.{IsClean, doubt};
+ghost use Rattle.sqlite_trees.specs.View.{HasCause, IsClean, doubt};
 ghost use Rattle.session_file.specs.Kept.{HoldsIn};
 ghost use Rattle.session_file.specs.Opening.{IsFresh};
 ghost use Rattle.session_file.specs.Staging.{IsKeeping};
 ghost use Rattle.session_states.specs.States.{file_state, new_state, nothing_kept};
-ghost use Rattle.durable_serving.specs.Durable.{HoldsState};
+ghost use Rattle.turns.specs.Turn.{new_session};
+ghost use Rattle.durable_serving.specs.Durable.{HasNoRow, HoldsState};
 ghost use Rattle.durable_serving.specs.Keeping.{IsKeptBy};
-ghost use Rattle.durable_serving.specs.Opened.{IsFoundIn, new_kept, IsUnopened, fault_of, of_load, of_open};
+ghost use Rattle.durable_serving.specs.Opened.{IsFoundIn, new_kept, IsUnopened, fault_of, fault_of_load, fault_of_open};
 
 use crate::session::FileSession;
 use rv_ledger::Rules;
@@ -45,14 +47,15 @@ impl SessionFault {
             SessionFault::OtherVersion => StoreFault::OtherVersion,
             SessionFault::OtherSettings => StoreFault::OtherSettings,
             SessionFault::Damaged => StoreFault::Damaged,
-            SessionFault::Store(error) => StoreFault::of_store(error),
+            SessionFault::Store(error) => StoreFault::of_error(error),
         }
     }
 }
 
 /// Opens a store that was just opened, or made with no rows, as a session of these settings, which keep a digest; a new session
 /// begins where it has no rows, and its row is on the disk before this returns. Refused as NotASession, OtherVersion,
-/// OtherSettings and Damaged by what the store has, and as Store where it fails or memory runs out; then it is given back.
+/// OtherSettings and Damaged by what the store has, and as Store where it fails, where the row of a new session is beyond the
+/// format, or where memory runs out; then it is given back.
 pub fn open_durably<S: Store>(
     alloc: Global,
     settings: Settings,
@@ -64,16 +67,16 @@ pub fn open_durably<S: Store>(
     ensures sound { IfOk result (λ s. IsClean (S.Store.view s.file) → (S.Store.view s.file).is_broken ≡ false) }
     ensures opened { IfOk result (λ s. IsClean (S.Store.view s.file) → IsFoundIn settings (S.Store.view store).trees (file_state s.state s.found)) }
     ensures crash { IfOk result (λ s. (db : Trees) → S.Store.recovers s.file db → S.Store.recovers store db ⊎ HoldsState settings (new_state settings) db) }
-    ensures refused { IfErr result (λ e. IsClean (S.Store.view e.1) → IsUnopened settings (S.Store.view store) e.0) }
+    ensures refused { IfErr result (λ e. IsClean (S.Store.view e.1) → IsUnopened settings (S.Store.view store) (MoreFaults (S.Store.faults store) (S.Store.faults e.1)) e.0) }
     ensures left { IfErr result (λ e. (db : Trees) → S.Store.recovers e.1 db → S.Store.recovers store db ⊎ HoldsState settings (new_state settings) db) }
 {
     let (file, found) = match open_session(alloc, store) {
         Ok(opened) => opened,
-        Err((fault, store)) => return Err((of_open(fault), store)),
+        Err((fault, store)) => return Err((fault_of_open(fault), store)),
     };
     let loaded = match load_state(alloc, settings, found) {
         Ok(loaded) => loaded,
-        Err(fault) => return Err((of_load(fault), file.into_store())),
+        Err(fault) => return Err((fault_of_load(fault), file.into_store())),
     };
     if loaded.is_new {
         return begin_new(settings, file, loaded);
@@ -99,7 +102,8 @@ fn begin_new<S: Store>(
     ensures sound { IfOk result (λ s. IsClean (S.Store.view s.file) → (S.Store.view s.file).is_broken ≡ false) }
     ensures crash { IfOk result (λ s. (db : Trees) → S.Store.recovers s.file db → S.Store.recovers file db ⊎ HoldsState settings (new_state settings) db) }
     ensures clean { IfOk result (λ s. doubt (S.Store.view file).is_clean ≤ doubt (S.Store.view s.file).is_clean) }
-    ensures refused { IfErr result (λ e. (error : StoreError) × (e.0 ≡ SessionFault.Store error)) }
+    ensures refused { IfErr result (λ e. (error : StoreError) × (e.0 ≡ SessionFault.Store error) × (doubt (S.Store.view file).is_clean ≤ doubt (S.Store.view e.1).is_clean)
+        × (IsClean (S.Store.view e.1) → HasCause (S.Store.view file) (MoreFaults (S.Store.faults file) (S.Store.faults e.1)) (HasNoRow settings (new_session settings)) error)) }
     ensures left { IfErr result (λ e. (db : Trees) → S.Store.recovers e.1 db → S.Store.recovers file db ⊎ HoldsState settings (new_state settings) db) }
 {
     let mut file = file;
@@ -117,6 +121,7 @@ fn begin_new<S: Store>(
 fn keep_new<S: Store>(file: &mut SessionFile<S>, settings: Settings) -> Result<(), StoreError>
     ensures ok { OnOk result (IsKeeping (S.Store.view file.old) nothing_kept → IsKeeping (S.Store.view file.new) (new_kept settings)) }
     ensures sound { OnOk result (IsClean (S.Store.view file.new) → (S.Store.view file.new).is_broken ≡ false) }
+    ensures cause { IsClean (S.Store.view file.new) → IfErr result (HasCause (S.Store.view file.old) (MoreFaults (S.Store.faults file.old) (S.Store.faults file.new)) (HasNoRow settings (new_session settings))) }
     ensures crash { IsKeeping (S.Store.view file.old) nothing_kept → (db : Trees) → S.Store.recovers file.new db → S.Store.recovers file.old db ⊎ HoldsIn db (new_kept settings) }
     ensures clean { doubt (S.Store.view file.old).is_clean ≤ doubt (S.Store.view file.new).is_clean }
 {
@@ -128,8 +133,8 @@ fn keep_new<S: Store>(file: &mut SessionFile<S>, settings: Settings) -> Result<(
 }
 
 /// The fault of rows that are none of a session.
-pub(crate) fn of_open(fault: OpenFault) -> SessionFault
-    ensures { result ≡ of_open fault }
+pub(crate) fn fault_of_open(fault: OpenFault) -> SessionFault
+    ensures { result ≡ fault_of_open fault }
 {
     match fault {
         OpenFault::NotASession => SessionFault::NotASession,
@@ -140,8 +145,8 @@ pub(crate) fn of_open(fault: OpenFault) -> SessionFault
 }
 
 /// The fault of rows that are no state of a session.
-pub(crate) fn of_load(fault: LoadFault) -> SessionFault
-    ensures { result ≡ of_load fault }
+pub(crate) fn fault_of_load(fault: LoadFault) -> SessionFault
+    ensures { result ≡ fault_of_load fault }
 {
     match fault {
         LoadFault::OtherSettings => SessionFault::OtherSettings,

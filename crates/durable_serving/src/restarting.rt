@@ -4,13 +4,13 @@ ghost use Rattle.std.specs.Prelude.{◌≡◌, ◌≤◌, false, IfErr, IfOk, If
 ghost use Rattle.sqlite_trees.specs.Tree.{Trees};
 ghost use Rattle.sqlite_trees.specs.View.{IsClean, doubt};
 ghost use Rattle.session_states.specs.States.{FileState, file_state};
-ghost use Rattle.durable_serving.specs.Durable.{HoldsState};
+ghost use Rattle.durable_serving.specs.Durable.{HoldsState, moment};
 ghost use Rattle.durable_serving.specs.Keeping.{IsKeptBy};
 ghost use Rattle.durable_serving.specs.Opened.{IsFoundIn};
 ghost use Rattle.durable_serving.specs.Resumed.{IsResumed};
 
 use crate::answering::serve_durably;
-use crate::opening::{SessionFault, of_load, of_open};
+use crate::opening::{SessionFault, fault_of_load, fault_of_open};
 use crate::session::FileSession;
 use byte_streams::{BufferedSource, Destination};
 use session_file::restart;
@@ -34,7 +34,7 @@ pub fn restart_durably<S: Reopen>(
 {
     let (file, found) = match restart(alloc, session.file) {
         Ok(opened) => opened,
-        Err((fault, store)) => return Err((of_open(fault), store)),
+        Err((fault, store)) => return Err((fault_of_open(fault), store)),
     };
     match load_state(alloc, settings, found) {
         Ok(loaded) => Ok(FileSession {
@@ -42,7 +42,7 @@ pub fn restart_durably<S: Reopen>(
             state: loaded.state,
             found: loaded.answer,
         }),
-        Err(fault) => Err((of_load(fault), file.into_store())),
+        Err(fault) => Err((fault_of_load(fault), file.into_store())),
     }
 }
 
@@ -61,7 +61,7 @@ pub fn serve_and_stop<R: BufferedSource, S: Reopen, C: CallRunner, W: Destinatio
     requires kept { IsKeptBy settings (S.Store.view session.file) (file_state session.state session.found) }
     requires sound { IsClean (S.Store.view session.file) → (S.Store.view session.file).is_broken ≡ false }
     ensures resumed { IfOk result (λ s. IsTrue (S.Store.view s.file).is_open → IfSome (R.remaining input.old) (λ bytes.
-        IsResumed settings (file_state session.state session.found) bytes (W.contents out.old) (W.contents out.new) (file_state s.state s.found))) }
+        IsResumed settings (moment (file_state session.state session.found) (S.Store.view session.file) (S.Store.faults session.file)) bytes (W.contents out.old) (W.contents out.new) (file_state s.state s.found))) }
 {
     let mut session = session;
     let _ = serve_durably(alloc, input, runner, settings, &mut session, out);

@@ -1,16 +1,18 @@
 //! Staging what is pending.
 
-ghost use Rattle.std.specs.Prelude.{◌≡◌, ℕ, List, Option, IsSome, OnErr, OnOk, map};
+ghost use Rattle.std.specs.Prelude.{◌≡◌, ℕ, List, Option, IsSome, IfErr, OnErr, OnOk, map};
 ghost use Rattle.overlay.specs.Overlay.{Changes};
 ghost use Rattle.rv_ledger.specs.Key.{Storage};
-ghost use Rattle.sqlite_trees.specs.View.{IsQuiet};
+ghost use Rattle.sqlite_disk.specs.Disk.{MoreFaults};
+ghost use Rattle.sqlite_trees.specs.View.{HasCause, IsClean, IsQuiet};
 ghost use Rattle.session_file.specs.Kept.{Kept};
+ghost use Rattle.session_file.specs.Limits.{IsLongAnswer};
 ghost use Rattle.session_file.specs.Staging.{GivesUp, Stages as StagesAll, StagesWhere};
 ghost use Rattle.session_states.specs.States.{text_of};
 ghost use Rattle.turns.specs.Pending.{after_run_of};
 ghost use Rattle.turns.specs.Stages.{left_of};
 ghost use Rattle.turns.specs.declared.pending.Pending.TheVariants as pending;
-ghost use Rattle.durable_serving.specs.Keeping.{IsStorable, Spares, Stages};
+ghost use Rattle.durable_serving.specs.Keeping.{IsBeyond, IsStorable, Spares, Stages};
 
 use rv_ledger::Rules;
 use session_file::SessionFile;
@@ -33,6 +35,8 @@ pub(crate) fn stage<S: Store>(
     requires { IsStorable body.now pending.now }
     ensures ok { OnOk result (Stages settings state.now pending.now (S.Store.view file.old) (S.Store.view file.new)) }
     ensures err { OnErr result (Spares settings state.now (S.Store.view file.old) (S.Store.view file.new)) }
+    ensures still { OnOk result (IsClean (S.Store.view file.new) → (S.Store.view file.new).is_broken ≡ (S.Store.view file.old).is_broken) }
+    ensures cause { IsClean (S.Store.view file.new) → IfErr result (HasCause (S.Store.view file.old) (MoreFaults (S.Store.faults file.old) (S.Store.faults file.new)) (IsBeyond settings state.now pending.now)) }
     ensures quiet { IsQuiet S.Store.view S.Store.faults S.Store.recovers S.Store.is_shielded file.old file.new }
 {
     match pending {
@@ -53,6 +57,8 @@ fn stage_frame<S: Store>(
 ) -> Result<(), StoreError>
     ensures ok { OnOk result (Stages settings state.now (pending.Frame frame.now) (S.Store.view file.old) (S.Store.view file.new)) }
     ensures err { OnErr result (Spares settings state.now (S.Store.view file.old) (S.Store.view file.new)) }
+    ensures still { OnOk result (IsClean (S.Store.view file.new) → (S.Store.view file.new).is_broken ≡ (S.Store.view file.old).is_broken) }
+    ensures cause { IsClean (S.Store.view file.new) → IfErr result (HasCause (S.Store.view file.old) (MoreFaults (S.Store.faults file.old) (S.Store.faults file.new)) (IsBeyond settings state.now (pending.Frame frame.now))) }
     ensures quiet { IsQuiet S.Store.view S.Store.faults S.Store.recovers S.Store.is_shielded file.old file.new }
 {
     let Some(digest) = frame.digest else {
@@ -74,6 +80,8 @@ fn stage_frame<S: Store>(
 fn stage_kept<S: Store>(file: &mut SessionFile<S>, kept: &KeptAnswer) -> Result<(), StoreError>
     ensures ok { OnOk result (StagesAll (λ next. record next { answer = Some (text_of kept.now) }) (S.Store.view file.old) (S.Store.view file.new)) }
     ensures err { OnErr result (GivesUp (S.Store.view file.old) (S.Store.view file.new)) }
+    ensures still { OnOk result (IsClean (S.Store.view file.new) → (S.Store.view file.new).is_broken ≡ (S.Store.view file.old).is_broken) }
+    ensures cause { IsClean (S.Store.view file.new) → IfErr result (HasCause (S.Store.view file.old) (MoreFaults (S.Store.faults file.old) (S.Store.faults file.new)) (IsLongAnswer (text_of kept.now))) }
     ensures quiet { IsQuiet S.Store.view S.Store.faults S.Store.recovers S.Store.is_shielded file.old file.new }
 {
     let line = line_of_kept(kept);
@@ -98,6 +106,8 @@ fn stage_run<S: Store>(
 ) -> Result<(), StoreError>
     ensures ok { OnOk result ((s : State) → s.store ≡ base.now → StagesWhere (λ next. next.storage ≡ base.now) (λ next. record next { storage = (after_run_of s run.now).store }) (S.Store.view file.old) (S.Store.view file.new)) }
     ensures err { OnErr result (GivesUp (S.Store.view file.old) (S.Store.view file.new)) }
+    ensures still { OnOk result (IsClean (S.Store.view file.new) → (S.Store.view file.new).is_broken ≡ (S.Store.view file.old).is_broken) }
+    ensures cause { IsClean (S.Store.view file.new) → IfErr result (HasCause (S.Store.view file.old) (MoreFaults (S.Store.faults file.old) (S.Store.faults file.new)) ⊥) }
     ensures quiet { IsQuiet S.Store.view S.Store.faults S.Store.recovers S.Store.is_shielded file.old file.new }
 {
     let Some(run) = run else {
@@ -118,6 +128,8 @@ fn stage_begin<S: Store>(
 ) -> Result<(), StoreError>
     ensures ok { OnOk result (Stages settings state.now (pending.Begin begin.now) (S.Store.view file.old) (S.Store.view file.new)) }
     ensures err { OnErr result (Spares settings state.now (S.Store.view file.old) (S.Store.view file.new)) }
+    ensures still { OnOk result (IsClean (S.Store.view file.new) → (S.Store.view file.new).is_broken ≡ (S.Store.view file.old).is_broken) }
+    ensures cause { IsClean (S.Store.view file.new) → IfErr result (HasCause (S.Store.view file.old) (MoreFaults (S.Store.faults file.old) (S.Store.faults file.new)) (IsBeyond settings state.now (pending.Begin begin.now))) }
     ensures quiet { IsQuiet S.Store.view S.Store.faults S.Store.recovers S.Store.is_shielded file.old file.new }
 {
     let Some(digest) = begin.digest else {

@@ -10,7 +10,7 @@ pub kept_once : (settings : Settings) (f g : FileState) (k : Kept) → KeepsStat
 kept_once settings f g k a b =
     let left = a.session.2 in
     let right = b.session.2 in
-    let row : row_of settings f.state a.session.0 ≡ row_of settings g.state b.session.0 = cc in
+    let row : row_of settings f.state.rules f.state.height a.session.0 ≡ row_of settings g.state.rules g.state.height b.session.0 = cc in
     let store = sym a.storage ∙ b.storage in
     let rules = ap (λ (r : SessionRow). r.rules) row in
     let height = ap (λ (r : SessionRow). r.height) row in

@@ -18,10 +18,10 @@ parts_of Full = without_line (codes "store") (codes "Full") 8
 parts_of Memory = without_line (codes "store") (codes "Memory") 9
 
 -- the fault of a store's error; a row that is too long for the format, or a number of 2^63 or above, has no room
-abbrev pub of_store : StoreError → StoreFault
-of_store store.OutOfMemory = Memory
-of_store store.Io = Unreadable
-of_store store.Corrupt = Damaged
-of_store store.Broken = Damaged
-of_store store.Full = Full
-of_store store.Unstorable = Full
+abbrev pub fault_of_store : StoreError → StoreFault
+fault_of_store store.OutOfMemory = Memory
+fault_of_store store.Io = Unreadable
+fault_of_store store.Corrupt = Damaged
+fault_of_store store.Broken = Damaged
+fault_of_store store.Full = Full
+fault_of_store store.Unstorable = Full

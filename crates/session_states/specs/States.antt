@@ -6,6 +6,7 @@ use Rattle.sha2.specs.Sha256.{sha256}
 use Rattle.elf32.specs.Image.{image_of}
 use Rattle.elf32.specs.Layout.{Layout}
 use Rattle.entry_tree.specs.Entries.{ByteMap}
+use Rattle.rv_ledger.specs.declared.rules.Rules.{Rules}
 use Rattle.session_file.specs.Kept.{Kept}
 use Rattle.session_file.specs.Opening.{answer_parts}
 use Rattle.session_file.specs.declared.rows.AnswerRow.{AnswerRow}
@@ -52,14 +53,14 @@ IsLoadedFrom name file image = ⊥
 abbrev pub AreLoadedFrom : ByteMap → ProgramsByName → Type 0
 AreLoadedFrom files programs = (name : List ℕ) → IsLoadedFrom name (fin.get files name) (fin.get programs name)
 
--- the row of a session of these settings in this state, with this digest
-abbrev pub row_of : Settings → State → List ℕ → SessionRow
-row_of settings s digest = record {
+-- the row of a session of these settings, under these rules, at this height, with this digest
+abbrev pub row_of : Settings → Rules → ℕ → List ℕ → SessionRow
+row_of settings rules height digest = record {
   frame_limit = settings.frame_limit;
   frame_gas = settings.frame_gas;
   is_brief = settings.is_brief;
-  rules = s.rules;
-  height = s.height;
+  rules = rules;
+  height = height;
   digest = digest;
 }
 
@@ -67,7 +68,7 @@ row_of settings s digest = record {
 pub record KeepsState (settings : Settings) (f : FileState) (k : Kept) : Type 0 where
   pub storage : k.storage ≡ f.state.store
   pub programs : AreLoadedFrom k.programs f.state.programs
-  pub session : (digest : List ℕ) × (f.state.digest ≡ Some digest) × (k.session ≡ Some (row_of settings f.state digest))
+  pub session : (digest : List ℕ) × (f.state.digest ≡ Some digest) × (k.session ≡ Some (row_of settings f.state.rules f.state.height digest))
   pub answer : k.answer ≡ f.last
   pub no_other : f.state.last ≡ None
 

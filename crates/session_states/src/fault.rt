@@ -2,7 +2,7 @@
 
 ghost use Rattle.std.specs.Prelude.{◌≡◌};
 ghost use Rattle.byte_streams.specs.Refusals.{parts_in};
-ghost use Rattle.session_states.specs.Faults.{of_store, parts_of};
+ghost use Rattle.session_states.specs.Faults.{fault_of_store, parts_of};
 
 use byte_streams::LineParts;
 use sqlite_trees::error::StoreError;
@@ -49,8 +49,8 @@ impl StoreFault {
     }
 
     /// The fault of a store's error.
-    pub fn of_store(error: StoreError) -> StoreFault
-        ensures { result ≡ of_store error }
+    pub fn of_error(error: StoreError) -> StoreFault
+        ensures { result ≡ fault_of_store error }
     {
         match error {
             StoreError::OutOfMemory => StoreFault::Memory,

@@ -1,7 +1,7 @@
 //! The row of a session.
 
 ghost use Rattle.std.specs.Prelude.{◌≡◌, IsTrue, false};
-ghost use Rattle.session_states.specs.States.{HasSettings};
+ghost use Rattle.session_states.specs.States.{HasSettings, row_of};
 
 use rv_ledger::Rules;
 use session_file::SessionRow;
@@ -9,7 +9,7 @@ use turns::Settings;
 
 /// The row of a session of these settings, under these rules, at this height, with this digest.
 pub fn row_of(settings: Settings, rules: Rules, height: u64, digest: [u8; 32]) -> SessionRow
-    ensures { result ≡ record { frame_limit = settings.frame_limit; frame_gas = settings.frame_gas; is_brief = settings.is_brief; rules = rules; height = height; digest = digest } }
+    ensures { result ≡ row_of settings rules height digest }
 {
     SessionRow {
         frame_limit: settings.frame_limit,

@@ -3,7 +3,7 @@ use Rattle.requests.specs.Reading.{WhereKnown}
 use Rattle.serving.proofs.Serves.{IsServing}
 use Rattle.session_states.specs.States.{file_state}
 use Rattle.sqlite_trees.specs.View.{IsClean, doubt}
-use Rattle.durable_serving.specs.Durable.{IsFileAnswer}
+use Rattle.durable_serving.specs.Durable.{IsFileAnswer, moment}
 use Rattle.durable_serving.specs.Keeping.{IsKeptBy}
 use Rattle.durable_serving.proofs.answering.serve_durably.Given as goal
 
@@ -16,5 +16,6 @@ invariant-loop-answers g l = record {
   sound : IsClean (g.S.Store.view l.session.file) → (g.S.Store.view l.session.file).is_broken ≡ false;
   clean : doubt (g.S.Store.view l.fn.session.file).is_clean ≤ doubt (g.S.Store.view l.session.file).is_clean;
   serves : WhereKnown (g.R.Read.remaining l.fn.input) (g.R.Read.remaining l.input)
-      (IsServing (IsFileAnswer l.settings) (file_state l.fn.session.state l.fn.session.found) (file_state l.session.state l.session.found) (g.W.Write.contents l.fn.out) (g.W.Write.contents l.out) l.answers);
+      (IsServing (IsFileAnswer l.settings) (moment (file_state l.fn.session.state l.fn.session.found) (g.S.Store.view l.fn.session.file) (g.S.Store.faults l.fn.session.file))
+      (moment (file_state l.session.state l.session.found) (g.S.Store.view l.session.file) (g.S.Store.faults l.session.file)) (g.W.Write.contents l.fn.out) (g.W.Write.contents l.out) l.answers);
 }

@@ -1,6 +1,8 @@
-use Rattle.std.proofs.Common.{arith, inl, inr, subst}
+use Rattle.std.proofs.Common.{ap, arith, inl, inr, subst}
+use Rattle.std.proofs.lemmas.Result.{IfErr-weaker}
+use Rattle.entry_tree.proofs.Causes.{later_cause}
 use Rattle.session_file.specs.Opening.{kept_of}
-use Rattle.sqlite_trees.specs.View.{IsClean}
+use Rattle.sqlite_trees.specs.View.{View, IsClean}
 use Rattle.durable_serving.proofs.Openings.{holds_found, loads_kept, loads_new, ok_both, unloaded}
 use Rattle.durable_serving.proofs.opening.open_durably.Goals as goal
 
@@ -9,7 +11,7 @@ returns-in-Err-load_state-clause-refused g c clean =
     let v = g.S.Store.view in
     let now : IsClean (v c.in-Ok.opened.0) = subst (λ s. IsClean (v s)) c.into_store.ensures.store clean in
     let first : IsClean (v c.args.store) = omega (arith, now, c.in-Ok.ensures.quiet.clean) in
-    rw c.of_load.ensures (unloaded c.args.settings (v c.args.store) (kept_of c.in-Ok.opened.1) c.in-Err-load_state.fault
+    rw c.fault_of_load.ensures (unloaded c.args.settings (v c.args.store) _ (kept_of c.in-Ok.opened.1) c.in-Err-load_state.fault
     (holds_found (v c.args.store) (v c.in-Ok.opened.0) (kept_of c.in-Ok.opened.1) (g.met.S.Store.broken_if_shut c.args.store) (c.requires.fresh first) (c.in-Ok.ensures.same now) c.in-Ok.ensures.ok)
     c.in-Err-load_state.ensures.err)
 
@@ -37,3 +39,11 @@ returns-clause-opened g c now =
       holds_found (v c.args.store) (v c.in-Ok.opened.0) (kept_of c.in-Ok.opened.1) (g.met.S.Store.broken_if_shut c.args.store) (c.requires.fresh first) (c.in-Ok.ensures.same now) c.in-Ok.ensures.ok,
       inl (loads_kept c.args.settings (kept_of c.in-Ok.opened.1) c.in-Ok-load_state.loaded c.in-Ok-load_state.ensures.ok c.if-loaded.false),
     )
+
+pub returns-then-loaded-clause-refused : goal.returns-then-loaded-clause-refused
+returns-then-loaded-clause-refused g c =
+    let v = g.S.Store.view in
+    IfErr-weaker c.begin_new.result _ _ (λ e (error, is, later, why) clean.
+    let now : IsClean (v c.in-Ok.opened.0) = omega (arith, later, clean) in
+    rw is (later_cause (v c.args.store) (v c.in-Ok.opened.0) _ _ _ _ _ error c.in-Ok.ensures.quiet.counts (ap (λ (w : View). w.is_broken) (c.in-Ok.ensures.same now)) (λ none. none) (why clean)))
+    c.begin_new.ensures.refused

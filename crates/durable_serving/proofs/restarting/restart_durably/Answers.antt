@@ -4,7 +4,7 @@ use Rattle.session_file.specs.Opening.{kept_of}
 use Rattle.session_file.proofs.Once.{holds_once}
 use Rattle.session_file.proofs.Staged.{open_clean}
 use Rattle.session_states.specs.States.{KeepsState}
-use Rattle.durable_serving.specs.Opened.{of_open}
+use Rattle.durable_serving.specs.Opened.{fault_of_open}
 use Rattle.durable_serving.proofs.Openings.{found_in, only_memory}
 use Rattle.durable_serving.proofs.restarting.restart_durably.Goals as goal
 
@@ -12,7 +12,7 @@ pub returns-in-Err-clause-refused : goal.returns-in-Err-clause-refused
 returns-in-Err-clause-refused g c still all =
     let (error, is) = c.in-Err.ensures.err (open_clean (g.S.Store.view c.in-Err.store) (g.met.S.Store.shut_if_dirty c.in-Err.store) still)
     (λ db left. let (f, (k, holds, keeps)) = all db left in (k, holds)) in
-    (error, c.of_open.ensures ∙ ap of_open is)
+    (error, c.fault_of_open.ensures ∙ ap fault_of_open is)
 
 pub returns-in-Ok-load_state-clause-found : goal.returns-in-Ok-load_state-clause-found
 returns-in-Ok-load_state-clause-found g c still =
@@ -25,4 +25,4 @@ returns-clause-refused g c still all =
     let (f, (k, other, keeps)) = all db left in
     let (error, is) = only_memory c.args.settings f (kept_of c.in-Ok.opened.1) c.in-Err-load_state.fault
     (subst (λ (x : Kept). KeepsState c.args.settings f x) (holds_once db k (kept_of c.in-Ok.opened.1) other holds) keeps) c.in-Err-load_state.ensures.err in
-    (error, c.of_load.ensures ∙ is)
+    (error, c.fault_of_load.ensures ∙ is)

@@ -1,8 +1,9 @@
 use Rattle.std.proofs.Common.{sym, subst, OnOk}
-use Rattle.std.proofs.lemmas.Result.{on_ok_weaker}
+use Rattle.std.proofs.lemmas.Result.{IfErr-weaker, on_ok_weaker}
+use Rattle.entry_tree.proofs.Causes.{other_limit}
 use Rattle.turns.specs.declared.pending.Pending.{Pending}
-use Rattle.durable_serving.specs.Keeping.{Stages}
-use Rattle.durable_serving.proofs.Stagings.{nothing_pending, program_pending, staged_forget}
+use Rattle.durable_serving.specs.Keeping.{IsStorable, Stages}
+use Rattle.durable_serving.proofs.Stagings.{nothing_pending, program_pending, short_program, staged_forget}
 use Rattle.durable_serving.proofs.staging.stage.Goals as goal
 
 pub returns-in-Nothing-clause-ok : goal.returns-in-Nothing-clause-ok
@@ -25,3 +26,11 @@ returns-in-Frame-clause-ok g c =
 pub returns-in-Begin-clause-ok : goal.returns-in-Begin-clause-ok
 returns-in-Begin-clause-ok g c =
     subst (λ (p : Pending). OnOk c.stage_begin.result (Stages c.args.settings c.args.state.now p (g.S.Store.view c.args.file.now) (g.S.Store.view c.stage_begin.new.file))) (sym c.in-Begin.is) c.stage_begin.ensures.ok
+
+pub returns-in-Program-clause-cause : goal.returns-in-Program-clause-cause
+returns-in-Program-clause-cause g c clean =
+    let (hash, loads, short) = subst (λ (p : Pending). IsStorable c.args.body.now p) c.in-Program.is c.requires in
+    IfErr-weaker c.stage_program.result _ _ (λ e why. other_limit (g.S.Store.view c.args.file.now) _ _ _ e (λ long. absurd (short_program _ c.args.body.now hash short long)) why) (c.stage_program.ensures.cause clean)
+
+pub returns-in-Frame-clause-cause : goal.returns-in-Frame-clause-cause
+returns-in-Frame-clause-cause g c = rw c.in-Frame.is c.stage_frame.ensures.cause
