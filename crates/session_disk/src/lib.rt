@@ -4,6 +4,7 @@
 mod closing;
 mod fault;
 mod leftover;
+mod new_log;
 mod opening;
 mod path;
 mod tables;
@@ -11,5 +12,6 @@ mod tables;
 pub use closing::{close, close_files};
 pub use fault::OpenFault;
 pub use leftover::Leftover;
+pub use new_log::{NewLog, abandon};
 pub use opening::open_files;
 pub use path::open_path;

@@ -12,12 +12,13 @@ ghost use Rattle.session_disk.specs.Opening.{IsOpened};
 ghost use Rattle.session_disk.specs.Sessions.{IsSessionFile};
 
 use crate::fault::OpenFault;
+use crate::new_log::NewLog;
 use crate::opening::open_files;
-use sqlite_disk::{Disk, Start, Tally};
+use sqlite_disk::{Disk, Files, Start, Tally};
 use sqlite_std_file::{FileFrom, OpenError as PathError};
 use sqlite_store::FileStore;
 use std::hash::{BuildHasher, RandomState};
-use std::{fs, io};
+use std::io;
 
 /// A log that is shorter than its header and the header of a frame holds nothing that was committed.
 const FRAME_END: usize = 32 + 24;
@@ -45,40 +46,48 @@ fn io_fault(error: io::Error) -> OpenFault
 }
 
 /// Opens the database file at a path, or makes it, as the store of a session, and has it for this process alone until the store
-/// is dropped. A log that this open made is removed again where it refuses the file.
+/// is dropped. A log that this open made is removed again where it refuses the file; where the file is opened and not wanted,
+/// `abandon` removes it.
 pub fn open_path<S: Start>(
     rt: &HostRuntime,
     path: &str,
     start: S,
-) -> Result<FileStore<FileFrom<S>>, OpenFault>
-    ensures ok { IfOk result (λ store. IsTrue (view store).is_clean → IsOpened (image_at S.Start) store) }
-    ensures fresh { IfOk result (λ store. IsClean (view store) → IsFresh (view store)) }
-    ensures left { IfOk result (λ store. IsTrue (view store).is_clean → (now : Image) → (state store).may_leave now → ∥ IsSessionFile now ∥₁) }
-    ensures guarded { IfOk result (λ store. IsTrue (view store).is_clean → is_shielded store) }
+) -> Result<(FileStore<FileFrom<S>>, NewLog), OpenFault>
+    ensures ok { IfOk result (λ opened. IsTrue (view opened.0).is_clean → IsOpened (image_at S.Start) opened.0) }
+    ensures fresh { IfOk result (λ opened. IsClean (view opened.0) → IsFresh (view opened.0)) }
+    ensures left { IfOk result (λ opened. IsTrue (view opened.0).is_clean → (now : Image) → (state opened.0).may_leave now → ∥ IsSessionFile now ∥₁) }
+    ensures guarded { IfOk result (λ opened. IsTrue (view opened.0).is_clean → is_shielded opened.0) }
 {
     let seed = match RandomState::new(rt) {
         Ok(state) => state.hash_one(&0u8),
         Err(error) => return Err(io_fault(error)),
     };
-    let log_path = match log_path(rt, path) {
-        Ok(log_path) => log_path,
+    let log = match NewLog::beside(rt, path) {
+        Ok(log) => log,
         Err(error) => return Err(io_fault(error)),
     };
-    let is_new_log = is_free(rt, log_path.as_str());
     let files = match sqlite_std_file::open(rt, path, start) {
         Ok(files) => files,
         Err(error) => return Err(path_fault(error)),
     };
     match open_files(rt.alloc(), files, seed) {
-        Ok(store) => Ok(store),
-        Err((fault, rest)) => {
-            let mut files = rest.into_files();
-            if is_new_log && is_idle(&mut files.log, fault) {
-                let _ = fs::remove_file(rt, log_path.as_str());
-            }
-            Err(told_fault(fault, files.tally()))
-        }
+        Ok(store) => Ok((store, log)),
+        Err((fault, rest)) => Err(give_up(rt, rest.into_files(), log, fault)),
     }
+}
+
+/// Closes files that were refused, without a log that the open made and that holds nothing, and returns what is told.
+fn give_up<D: Disk + Drop>(
+    rt: &HostRuntime,
+    files: Files<D>,
+    log: NewLog,
+    fault: OpenFault,
+) -> OpenFault {
+    let mut files = files;
+    if is_idle(&mut files.log, fault) {
+        log.remove(rt);
+    }
+    told_fault(fault, files.tally())
 }
 
 /// The fault of an open: a failed call is told as Full where a write found no room.
@@ -88,27 +97,6 @@ fn told_fault(fault: OpenFault, tally: Tally) -> OpenFault
     match fault {
         OpenFault::Unreadable if tally.refused != 0 => OpenFault::Full,
         other => other,
-    }
-}
-
-/// The path of the log: it lies beside the file that a path leads to.
-fn log_path(rt: &HostRuntime, path: &str) -> io::Result<String> {
-    let real = match fs::canonicalize(rt, path) {
-        Ok(real) => real.into_string(),
-        Err(error) if error.kind() == io::ErrorKind::NotFound => String::from_str(
-            rt.alloc(),
-            path,
-        )?,
-        Err(error) => return Err(error),
-    };
-    Ok(format!(in rt.alloc(); "{}-wal", real.as_str())?)
-}
-
-/// Whether nothing is at a path.
-fn is_free(rt: &HostRuntime, path: &str) -> bool {
-    match fs::symlink_metadata(rt, path) {
-        Ok(_) => false,
-        Err(error) => error.kind() == io::ErrorKind::NotFound,
     }
 }
 
