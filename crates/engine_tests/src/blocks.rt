@@ -24,6 +24,8 @@ impl<'a> Programs for InMemory<'a> {
 
     ghost content = { λ _ _. None };
 
+    ghost asked = { λ _. None };
+
     fn open(&mut self, path: &str) -> io::Result<&'a [u8]> {
         let Ok(number) = path.parse::<usize>() else {
             return Err(io::Error::from(io::ErrorKind::NotFound));
@@ -33,6 +35,8 @@ impl<'a> Programs for InMemory<'a> {
             None => Err(io::Error::from(io::ErrorKind::NotFound)),
         }
     }
+
+    fn close(&mut self, _file: &'a [u8]) {}
 }
 
 /// A block file and the files of its programs.

@@ -29,12 +29,16 @@ impl<'a> Programs for FailingProgram<'a> {
 
     ghost content = { λ _ _. None };
 
+    ghost asked = { λ _. None };
+
     fn open(&mut self, _path: &str) -> io::Result<FailingReader<'a>> {
         Ok(FailingReader {
             bytes: self.file,
             reads: self.reads,
         })
     }
+
+    fn close(&mut self, _file: FailingReader<'a>) {}
 }
 
 /// Whether a block is unreadable where the reader of its program fails after so many reads.

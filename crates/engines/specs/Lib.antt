@@ -1,6 +1,7 @@
 pub mod Chaining
 pub mod Engine
 pub mod Listing
+pub mod Opened
 pub mod Driving
 pub mod Faults
 pub mod Finding

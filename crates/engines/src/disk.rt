@@ -39,12 +39,16 @@ impl<'a, D: Disk> Programs for ProgramFiles<'a, D> {
 
     ghost content = { λ _ _. None };
 
+    ghost asked = { λ _. None };
+
     fn open(&mut self, path: &str) -> io::Result<FallibleReader<D::File>> {
         match self.disk.open(path) {
             Ok(reader) => Ok(FallibleReader { reader }),
             Err(error) => Err(error),
         }
     }
+
+    fn close(&mut self, _file: FallibleReader<D::File>) {}
 }
 
 /// A file that is opened when it is first read.

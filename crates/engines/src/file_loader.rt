@@ -1,6 +1,10 @@
 //! The programs in files.
 
-ghost use Rattle.engines.specs.Engine.{programs_in};
+ghost use Rattle.std.specs.Prelude.{◌≡◌, IfErr, IfOk, IfSome};
+ghost use Rattle.std.specs.Option.{option_map};
+ghost use Rattle.engines.specs.Engine.{IsFileFault, programs_in};
+ghost use Rattle.engines.specs.Opened.{AsksForFile};
+ghost use Rattle.programs.specs.Programs.{program_of_file};
 
 use crate::program_source::Programs;
 use crate::reading::read_program;
@@ -24,11 +28,27 @@ impl<'a, P: Programs> Loader for FileLoader<'a, P> {
 
     #[tactic(auto, using(crate::proofs::ProgramFiles::file_program, crate::proofs::ProgramFiles::file_fault))]
     fn load(&mut self, path: &str) -> Result<Arc<Image>, ProgramFault> {
-        let mut file = match self.programs.open(path) {
-            Ok(file) => file,
-            Err(io::Error { .. }) => return Err(ProgramFault::Unreadable),
-        };
-        let bytes = read_program(self.alloc, &mut file)?;
+        let bytes = read_file(self.alloc, self.programs, path)?;
         load_file(self.alloc, bytes.as_slice())
     }
+}
+
+/// The bytes of the program at a path. Its file is closed again, whatever comes of it.
+fn read_file<P: Programs>(
+    alloc: Global,
+    programs: &mut P,
+    path: &str,
+) -> Result<Vec<u8>, ProgramFault>
+    ensures ok { IfOk result (λ v. IfSome (P.content programs.old path.now) (λ bytes. v.items ≡ bytes)) }
+    ensures err { IfErr result (λ fault. IsFileFault (P.content programs.old path.now ≡ None) (option_map program_of_file (P.content programs.old path.now)) fault) }
+    ensures closed { AsksForFile (P.asked programs.old) (P.asked programs.new) path.now }
+    ensures same { P.content programs.new ≡ P.content programs.old }
+{
+    let mut file = match programs.open(path) {
+        Ok(file) => file,
+        Err(io::Error { .. }) => return Err(ProgramFault::Unreadable),
+    };
+    let read = read_program(alloc, &mut file);
+    programs.close(file);
+    read
 }

@@ -1,6 +1,7 @@
 //! Where programs come from.
 
-ghost use Rattle.std.specs.Prelude.{◌≡◌, ℕ, List, Option, None, Some, IfOk, IfSome, OnErr};
+ghost use Rattle.std.specs.Prelude.{◌≡◌, ℕ, List, [], ◌∷◌, Option, None, Some, IfOk, IfSome, OnErr, OnOk};
+ghost use Rattle.engines.specs.Opened.{Asks, Close, FileOrder, Open};
 
 use byte_streams::Source;
 use std::io;
@@ -13,10 +14,20 @@ pub trait Programs {
     /// The bytes of the program at a path, where they are known and nothing keeps them from being read.
     ghost content: { Self → List ℕ → Option (List ℕ) };
 
-    /// Opens the program at a path; refused where it can't be opened.
+    /// What was asked so far, the last order last, where that is known.
+    ghost asked: { Self → Option (List FileOrder) };
+
+    /// Opens the program at a path; refused where it can't be opened, and then nothing is to be closed.
     fn open(&mut self, path: &str) -> io::Result<Self::File>
         ensures opened { IfOk result (λ f. IfSome (content self.old path.now) (λ bytes. Self.File.remaining f ≡ Some bytes)) }
         ensures readable { IfOk result (λ f. Self.File.may_fail f → content self.old path.now ≡ None) }
         ensures refused { OnErr result (content self.old path.now ≡ None) }
+        ensures asks { OnOk result (Asks (asked self.old) (asked self.new) (Open path.now ∷ [])) }
+        ensures asks_nothing { OnErr result (asked self.new ≡ asked self.old) }
+        ensures same { content self.new ≡ content self.old };
+
+    /// Closes a program that this opened.
+    fn close(&mut self, file: Self::File)
+        ensures asks { Asks (asked self.old) (asked self.new) (Close ∷ []) }
         ensures same { content self.new ≡ content self.old };
 }
