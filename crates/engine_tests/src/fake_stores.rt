@@ -237,7 +237,9 @@ const SEED: u64 = 7;
 impl SessionStores for FakeStores {
     type Kept = FileStore<Flawed<Memory>>;
 
-    fn open_store(&mut self, path: &str) -> Result<FileStore<Flawed<Memory>>, OpenFault> {
+    type Log = ();
+
+    fn open_store(&mut self, path: &str) -> Result<(FileStore<Flawed<Memory>>, ()), OpenFault> {
         if self.note("open ", path).is_err() {
             return Err(OpenFault::Memory);
         }
@@ -251,7 +253,7 @@ impl SessionStores for FakeStores {
             return Err(OpenFault::Unreadable);
         }
         match open_files(self.alloc, files, SEED) {
-            Ok(store) => Ok(store),
+            Ok(store) => Ok((store, ())),
             Err((fault, rest)) => match self.take(rest.into_files()) {
                 Ok(()) => Err(fault),
                 Err(_) => Err(OpenFault::Memory),
@@ -271,5 +273,9 @@ impl SessionStores for FakeStores {
             Ok(()) => closed,
             Err(_) => Err(StoreError::OutOfMemory),
         }
+    }
+
+    fn abandon_store(&mut self, store: FileStore<Flawed<Memory>>, _log: ()) {
+        let _ = self.close_store(store);
     }
 }

@@ -1,7 +1,7 @@
 //! The engine of `rvstm chain`, over any input and writer.
 
 ghost use Rattle.std.specs.Prelude.{◌≡◌, false, IfErr, IfSome, None, OnOk};
-ghost use Rattle.durable_serving.specs.Durable.{IsDurablyEndedBy, IsFileAnswer, IsStopped};
+ghost use Rattle.durable_serving.specs.Durable.{IsDurablyEndedBy, IsFileAnswer, IsStopped, moment};
 ghost use Rattle.durable_serving.specs.Keeping.{IsKeptBy};
 ghost use Rattle.durable_serving.specs.declared.answering.DurableFault.{DurableFault};
 ghost use Rattle.engines.specs.Chaining.{cut_of, durably_cut};
@@ -73,11 +73,11 @@ pub fn durable_chain_to<R: BufferedSource, S: Store, C: CallRunner, W: Destinati
     requires ready { C.ready }
     requires kept { IsKeptBy settings (S.Store.view session.old.file) (file_state session.old.state session.old.found) }
     requires sound { IsClean (S.Store.view session.old.file) → (S.Store.view session.old.file).is_broken ≡ false }
-    ensures ok { OnOk result (IfSome (R.remaining input.old) (λ bytes. IsServed (IsFileAnswer settings) None (file_state session.old.state session.old.found) bytes
-        (file_state session.new.state session.new.found) (W.contents out.old) (W.contents out.new))) }
+    ensures ok { OnOk result (IfSome (R.remaining input.old) (λ bytes. IsServed (IsFileAnswer settings) None (moment (file_state session.old.state session.old.found) (S.Store.view session.old.file) (S.Store.faults session.old.file)) bytes
+        (moment (file_state session.new.state session.new.found) (S.Store.view session.new.file) (S.Store.faults session.new.file)) (W.contents out.old) (W.contents out.new))) }
     ensures err { IfErr result (λ e. (fault : DurableFault) × (e ≡ durably_cut fault) × IfSome (R.remaining input.old) (λ bytes. IsDurablyEndedBy (R.may_fail input.old) settings fault
-        (file_state session.old.state session.old.found) bytes (file_state session.new.state session.new.found) (W.contents out.old) (W.contents out.new))) }
-    ensures stopped { IsClean (S.Store.view session.new.file) → IfSome (R.remaining input.old) (λ bytes. IsStopped settings (file_state session.old.state session.old.found) bytes
+        (moment (file_state session.old.state session.old.found) (S.Store.view session.old.file) (S.Store.faults session.old.file)) bytes (moment (file_state session.new.state session.new.found) (S.Store.view session.new.file) (S.Store.faults session.new.file)) (W.contents out.old) (W.contents out.new))) }
+    ensures stopped { IsClean (S.Store.view session.new.file) → IfSome (R.remaining input.old) (λ bytes. IsStopped settings (moment (file_state session.old.state session.old.found) (S.Store.view session.old.file) (S.Store.faults session.old.file)) bytes
         (W.contents out.old) (W.contents out.new) (S.Store.recovers session.new.file)) }
 {
     match serve_durably(alloc, input, runner, settings, session, out) {

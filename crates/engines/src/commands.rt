@@ -465,14 +465,14 @@ fn chain_in<K: SessionStores, R: BufferedSource, C: CallRunner, W: Destination>(
 {
     let mut settings = settings;
     settings.keeps_digest = true;
-    let store = match stores.open_store(path) {
-        Ok(store) => store,
+    let (store, log) = match stores.open_store(path) {
+        Ok(opened) => opened,
         Err(fault) => return Err(Refusal::Store(fault_of(fault))),
     };
     let mut session = match open_durably(alloc, settings, store) {
         Ok(session) => session,
         Err((fault, store)) => {
-            let _ = stores.close_store(store);
+            stores.abandon_store(store, log);
             return Err(Refusal::Store(fault.fault()));
         }
     };
@@ -481,7 +481,7 @@ fn chain_in<K: SessionStores, R: BufferedSource, C: CallRunner, W: Destination>(
         Ok(()) => ended,
         Err(error) => {
             ended?;
-            Err(Refusal::Store(StoreFault::of_store(error)))
+            Err(Refusal::Store(StoreFault::of_error(error)))
         }
     }
 }

@@ -5,7 +5,7 @@ ghost use Rattle.sqlite_trees.specs.View.{IsClean};
 ghost use Rattle.session_file.specs.Opening.{IsFresh};
 ghost use Rattle.engines.specs.Chaining.{fault_of};
 
-use session_disk::{OpenFault, close, open_path};
+use session_disk::{NewLog, OpenFault, abandon, close, open_path};
 use session_states::StoreFault;
 use sqlite_disk::Wary;
 use sqlite_std_file::FileFrom;
@@ -18,12 +18,19 @@ pub trait SessionStores {
     /// A store.
     type Kept: Store + Drop;
 
+    /// The log beside a store's file, where the open of it makes one.
+    type Log: Drop;
+
     /// Opens the store of a session at a path; where nothing is there one is made, with no rows.
-    fn open_store(&mut self, path: &str) -> Result<Self::Kept, OpenFault>
-        ensures fresh { IfOk result (λ store. IsClean (Self.Kept.view store) → IsFresh (Self.Kept.view store)) };
+    fn open_store(&mut self, path: &str) -> Result<(Self::Kept, Self::Log), OpenFault>
+        ensures fresh { IfOk result (λ opened. IsClean (Self.Kept.view opened.0) → IsFresh (Self.Kept.view opened.0)) };
 
     /// Closes a store. What was committed stands in its file alone where this is done, and else in its log too.
     fn close_store(&mut self, store: Self::Kept) -> Result<(), StoreError>;
+
+    /// Closes a store that keeps no session of the settings that are wanted, with the log that its open gave. Where its file
+    /// alone has what was committed, a log that the open made is removed.
+    fn abandon_store(&mut self, store: Self::Kept, log: Self::Log);
 }
 
 /// The stores of the system's files. Each commit is synced twice.
@@ -36,12 +43,18 @@ pub struct SystemStores<'a> {
 impl<'a> SessionStores for SystemStores<'a> {
     type Kept = FileStore<FileFrom<Wary>>;
 
-    fn open_store(&mut self, path: &str) -> Result<FileStore<FileFrom<Wary>>, OpenFault> {
+    type Log = NewLog;
+
+    fn open_store(&mut self, path: &str) -> Result<(FileStore<FileFrom<Wary>>, NewLog), OpenFault> {
         open_path(self.rt, path, Wary)
     }
 
     fn close_store(&mut self, store: FileStore<FileFrom<Wary>>) -> Result<(), StoreError> {
         close(store)
+    }
+
+    fn abandon_store(&mut self, store: FileStore<FileFrom<Wary>>, log: NewLog) {
+        abandon(self.rt, store, log);
     }
 }
 
