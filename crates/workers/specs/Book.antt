@@ -6,13 +6,15 @@ use Rattle.stm_state.specs.State.{task_at, no_counts, is_done}
 use Rattle.stm_state.specs.Steps.{Step, Ask, ReadKey, Park, Record}
 use Rattle.stm_state.specs.Steps as steps
 use Rattle.scheduler.specs.Schedule.{count_limit}
-use Rattle.stm_core.specs.CoreState.{CoreState, HasReadRoom, IsRefused, Makes, next_step_of, read_result_of, step_of}
+use Rattle.stm_core.specs.CoreState.{CoreState, HasReadRoom, IsRefused, IsWithin, Makes, next_step_of, read_result_of, step_of}
 use Rattle.stm_core.specs.declared.next_step.NextStep.{NextStep}
 use Rattle.stm_core.specs.declared.next_step.NextStep.TheVariants as next_step
 use Rattle.stm_core.specs.declared.next_step.ReadResult.{ReadResult}
 use Rattle.stm_core.specs.declared.next_step.StepKind.{StepKind}
 use Rattle.stm_core.specs.declared.fault.RecordFault.{RecordFault}
 use Rattle.stm_core.specs.declared.fault.RecordFault.TheVariants as record_faults
+use Rattle.workers.specs.declared.book.asked.Asked.{Asked}
+use Rattle.workers.specs.declared.book.asked.Asked.TheVariants as asked
 use Rattle.workers.specs.declared.book.share.Share.{Share}
 use Rattle.workers.specs.declared.fault.OutsideFault.{OutsideFault}
 use Rattle.workers.specs.declared.fault.OutsideFault.TheVariants as outside
@@ -71,7 +73,6 @@ run_fault record_faults.IncarnationLimit = faults.IncarnationLimit
 abbrev pub outside_fault : OutsideFault → RunFault
 outside_fault outside.Memory = faults.Memory
 outside_fault outside.Spawn = faults.Spawn
-outside_fault outside.Foreign = faults.Foreign
 
 -- the fault after one is written: the first one that was written
 abbrev pub first_fault : Option RunFault → RunFault → RunFault
@@ -112,7 +113,7 @@ pub record Owes (next : NextStep) (share : Share) (b : CoreState) : Type 0 where
 -- ---- step calls
 
 -- the share's worker owed this step, and it was made; no fault is written, the share agrees with the core before the step
--- and after it, and its pass stays
+-- and after it, and its pass and its limit stay
 pub record IsMade (owed : NextStep) (step : Step) (before after : BookState) (share counted : Share) : Type 0 where
   pub none_before : before.fault ≡ None
   pub owes : Owes owed share before.core
@@ -120,6 +121,7 @@ pub record IsMade (owed : NextStep) (step : Step) (before after : BookState) (sh
   pub none_after : after.fault ≡ None
   pub worker : counted.worker ≡ share.worker
   pub pass : counted.pass ≡ share.pass
+  pub limit : counted.work_limit ≡ share.work_limit
   pub agrees : AgreesWith counted after.core
 
 -- a step call that is refused writes its fault, and leaves the core and the share as they were
@@ -188,7 +190,17 @@ abbrev pub IsStopped : Option RunFault → Option ℕ → Share → CoreState �
 IsStopped (Some first) limit share b fault = fault ≡ first
 IsStopped None limit share b fault = (IsSpentShare limit share b × (fault ≡ faults.StepLimit)) ⊎ ((IsSpentShare limit share b → ⊥) × (fault ≡ faults.Foreign))
 
--- the result of `ask`: None where all was done, with one more answer Done in the share; else the step that is owed now
-abbrev pub IsAsked : Option NextStep → CoreState → CoreState → Share → Share → Type 0
-IsAsked None before after share counted = (is_done before.state ≡ true) × (counted.dones ≡ share.dones + 1)
-IsAsked (Some next) before after share counted = (is_done before.state ≡ false) × (counted.dones ≡ share.dones) × (next ≡ next_step_of after.state (task_at after.state share.worker))
+-- the answer to an asking: where all was done, with one more answer Done in the share; else the step that is owed now
+abbrev pub IsAsked : Asked → CoreState → CoreState → Share → Share → Type 0
+IsAsked (asked.Done all) before after share counted = (is_done before.state ≡ true) × (is_done after.state ≡ true) × (counted.dones ≡ share.dones + 1)
+IsAsked (asked.Owes next) before after share counted = (is_done before.state ≡ false) × (counted.dones ≡ share.dones) × (next ≡ next_step_of after.state (task_at after.state share.worker))
+
+-- a step that it names is of a call with an index below `count`
+abbrev pub IsAskWithin : ℕ → Asked → Type 0
+IsAskWithin count (asked.Done all) = Unit {0}
+IsAskWithin count (asked.Owes next) = IsWithin count next
+
+-- the step that the worker owes then; none where all is done
+abbrev pub owed_by : Asked → Option NextStep
+owed_by (asked.Done all) = None
+owed_by (asked.Owes next) = Some next

@@ -1,45 +1,112 @@
--- What a worker's thread meets outside the lock, and what a book under the lock answered it, for the private functions.
-use Rattle.std.specs.Prelude.{◌≡◌, ◌≤◌, ◌<◌, ◌⊎◌, ℕ, Option, None, Some, Result, Ok}
-use Rattle.stm_state.specs.State.{task_at}
-use Rattle.stm_state.specs.Steps.{Record}
-use Rattle.stm_core.specs.CoreState.{next_step_of}
+-- What a worker's thread is answered by a book under the lock, which step it makes next, and why it ends with a fault.
+use Rattle.std.specs.Prelude.{⊤, ◌≡◌, ◌⊎◌, ℕ, List, Option, None, Some, Result, Ok, Err, length}
+use Rattle.rv_ledger.specs.declared.job.Job.{Job}
+use Rattle.rv_step.specs.declared.ended_run.EndedRun.{EndedRun}
+use Rattle.stm_state.specs.Done.{Reached}
+use Rattle.stm_state.specs.Steps.{Ask, Record}
+use Rattle.stm_core.specs.CoreState.{IsOwn, IsTaken, block_in}
 use Rattle.stm_core.specs.declared.next_step.NextStep.{NextStep}
 use Rattle.stm_core.specs.declared.next_step.NextStep.TheVariants as next_step
+use Rattle.stm_core.specs.declared.next_step.ReadResult.{ReadResult}
+use Rattle.stm_core.specs.declared.next_step.ReadResult.TheVariants as read_result
 use Rattle.stm_core.specs.declared.next_step.StepKind.{StepKind}
 use Rattle.stm_core.specs.declared.next_step.StepKind.TheVariants as kinds
+use Rattle.workers.specs.declared.book.asked.Asked.{Asked}
 use Rattle.workers.specs.declared.book.share.Share.{Share}
 use Rattle.workers.specs.declared.fault.OutsideFault.TheVariants as outside
 use Rattle.workers.specs.declared.fault.RunFault.{RunFault}
+use Rattle.workers.specs.declared.fault.RunFault.TheVariants as faults
 use Rattle.workers.specs.declared.worker.WorkFault.{WorkFault}
 use Rattle.workers.specs.declared.worker.WorkFault.TheVariants.{Met, Refused}
-use Rattle.workers.specs.Book.{BookState, IsMade, IsMakeCall}
+use Rattle.workers.specs.Book.{BookState, FaultFits, IsAsked, IsMakeCall, IsReadCall, IsSpent, IsStepCall, IsStopped, TellsNext, counts_of_share, first_fault, owed_by}
 
--- a worker was refused by a book, or memory ran out
-abbrev pub IsMemoryOrRefused : WorkFault → Type 0
-IsMemoryOrRefused (Refused written) = Unit {0}
-IsMemoryOrRefused (Met fault) = fault.met ≡ outside.Memory
+-- a book is of a job: it has that job, some list of worker steps leads to its state, and its fault is true of its core
+pub record IsBookOf (job : Job) (b : BookState) : Type 0 where
+  pub same_job : b.core.job ≡ job
+  pub reached : Reached (block_in b.core) (length b.core.state.tasks) b.core.state
+  pub fits : FaultFits b.work_limit b.core b.fault
 
--- a worker was refused by a book, or met Memory at a call that is one of so many, or Foreign at one that is none of them
-abbrev pub IsCallFault : ℕ → ℕ → WorkFault → Type 0
-IsCallFault count call (Refused written) = Unit {0}
-IsCallFault count call (Met fault) = ((call < count) × (fault.met ≡ outside.Memory)) ⊎ ((count ≤ call) × (fault.met ≡ outside.Foreign))
+-- ---- what a worker is answered: it made a call of some book of the job, and this is its answer
 
--- some book was asked for a step of a task by its kind, and this is its answer
-abbrev pub IsMakeAnswer : StepKind → ℕ → ℕ → Share → Share → Result NextStep RunFault → Type 0
-IsMakeAnswer kind call n share counted answer = (before : BookState) × (after : BookState) × IsMakeCall kind call n before after share counted answer
+abbrev pub IsAskAnswer : Job → Share → Share → Result Asked RunFault → Type 0
+IsAskAnswer job share counted answer = (before : BookState) × (after : BookState) × IsBookOf job before
+    × IsStepCall next_step.Ask Ask ⊤ ⊥ (λ asked. IsAsked asked before.core after.core share counted) before after share counted answer
 
--- some book took the record of a run, and this step is owed now
-abbrev pub IsRecordAnswer : ℕ → ℕ → Share → Share → NextStep → Type 0
-IsRecordAnswer call n share counted next = (before : BookState) × (after : BookState) × IsMade (next_step.Run call n) Record before after share counted
-    × (next ≡ next_step_of after.core.state (task_at after.core.state counted.worker))
+abbrev pub IsMakeAnswer : Job → StepKind → ℕ → ℕ → Share → Share → Result NextStep RunFault → Type 0
+IsMakeAnswer job kind call n share counted answer = (before : BookState) × (after : BookState) × IsBookOf job before × IsMakeCall kind call n before after share counted answer
 
--- what a worker owes after its run: a park where a read met an estimate, else what a book answered to the record
-abbrev pub IsRunAnswer : ℕ → ℕ → Share → NextStep → Type 0
-IsRunAnswer call n counted next = (next ≡ next_step.Make kinds.Park call n) ⊎ ((share : Share) × IsRecordAnswer call n share counted next)
+abbrev pub IsReadAnswer : Job → List ℕ → ℕ → ℕ → Share → Share → Result ReadResult RunFault → Type 0
+IsReadAnswer job key call n share counted answer = (before : BookState) × (after : BookState) × IsBookOf job before × IsReadCall key call n before after share counted answer
 
--- what a worker owes after a step of its task, by the step; of an asking this says nothing
-abbrev pub IsStepAnswer : NextStep → Share → Share → Option NextStep → Type 0
-IsStepAnswer next_step.Ask share counted next = Unit {0}
-IsStepAnswer (next_step.Run call n) share counted (Some next) = IsRunAnswer call n counted next
-IsStepAnswer (next_step.Make kind call n) share counted (Some next) = IsMakeAnswer kind call n share counted (Ok next)
-IsStepAnswer step share counted None = ⊥
+-- for some run that was handed in
+abbrev pub IsRecordAnswer : Job → ℕ → ℕ → Share → Share → Result NextStep RunFault → Type 0
+IsRecordAnswer job call n share counted answer = (run : EndedRun) × (before : BookState) × (after : BookState) × IsBookOf job before
+    × IsStepCall (next_step.Run call n) Record (IsOwn share.worker run before.core) (IsTaken share.worker Record before.core) (TellsNext after share counted) before after share counted answer
+
+-- ---- the step that a worker makes next
+
+-- the last read of the run of a call at an incarnation met an estimate
+abbrev pub IsBlocked : Job → ℕ → ℕ → Share → Type 0
+IsBlocked job call n counted = (share : Share) × (key : List ℕ) × IsReadAnswer job key call n share counted (Ok read_result.Blocked)
+
+-- what a worker owes after a run: a park where a read met an estimate, else what a book answered to the record
+abbrev pub IsRunAnswer : Job → ℕ → ℕ → Share → NextStep → Type 0
+IsRunAnswer job call n counted next = ((next ≡ next_step.Make kinds.Park call n) × IsBlocked job call n counted)
+    ⊎ ((share : Share) × IsRecordAnswer job call n share counted (Ok next))
+
+-- what a worker owes after it asked, if all was not done: what a book answered. It may look at the cell before it asks and after
+-- that, and then its share has another pass
+abbrev pub IsAsking : Job → Share → Share → Option NextStep → Type 0
+IsAsking job share counted next = (asking : Share) × (told : Share) × (asked : Asked)
+    × (counts_of_share asking ≡ counts_of_share share) × (counts_of_share counted ≡ counts_of_share told) × IsAskAnswer job asking told (Ok asked) × (next ≡ owed_by asked)
+
+-- what a worker owes after a step, by the step; none where all was done
+abbrev pub IsStepAnswer : Job → NextStep → Share → Share → Option NextStep → Type 0
+IsStepAnswer job next_step.Ask share counted next = IsAsking job share counted next
+IsStepAnswer job (next_step.Run call n) share counted (Some next) = IsRunAnswer job call n counted next
+IsStepAnswer job (next_step.Make kind call n) share counted (Some next) = IsMakeAnswer job kind call n share counted (Ok next)
+IsStepAnswer job step share counted None = ⊥
+
+-- the step that a worker makes next: at first it asks, and then it makes the step that it owes after the one before
+abbrev pub IsNext : Job → Share → Share → NextStep → Type 0
+IsNext job first counted next = ((next ≡ next_step.Ask) × (counted ≡ first)) ⊎ ((step : NextStep) × (share : Share) × IsStepAnswer job step share counted (Some next))
+
+-- ---- why a worker ends with a fault
+
+-- some book of the job refused its call for a step with this fault
+abbrev pub IsRefusedBy : Job → NextStep → Share → RunFault → Type 0
+IsRefusedBy job next_step.Ask left fault = IsAskAnswer job left left (Err fault)
+IsRefusedBy job (next_step.Make kind call n) left fault = IsMakeAnswer job kind call n left left (Err fault)
+IsRefusedBy job (next_step.Run call n) left fault = ((key : List ℕ) × IsReadAnswer job key call n left left (Err fault)) ⊎ IsRecordAnswer job call n left left (Err fault)
+
+-- it is spent, and some book of the job stopped it with this fault
+abbrev pub IsStoppedBy : Job → Share → RunFault → Type 0
+IsStoppedBy job left fault = IsSpent left.work_limit left.counts × (book : BookState) × IsBookOf job book × IsStopped book.fault book.work_limit left book.core fault
+
+-- some book of the job was told of a fault of its own, and this one stands written then
+abbrev pub IsWrittenOver : Job → RunFault → RunFault → Type 0
+IsWrittenOver job own fault = (book : BookState) × IsBookOf job book × (fault ≡ first_fault book.fault own)
+
+-- why a worker ends that is to make a step, by the share that it has then: its call was refused, or it was stopped; or memory
+-- ran out outside the lock
+abbrev pub IsStepFault : Job → NextStep → Share → WorkFault → Type 0
+IsStepFault job step left (Refused written) = IsRefusedBy job step left written ⊎ IsStoppedBy job left written
+IsStepFault job step left (Met fault) = (fault.met ≡ outside.Memory) × IsWrittenOver job faults.Memory fault.written
+
+-- the fault that stands written
+abbrev pub fault_of : WorkFault → RunFault
+fault_of (Refused written) = written
+fault_of (Met fault) = fault.written
+
+-- why a worker ends with a fault in place of its share: the step that it was to make, with the share that it had before it, and
+-- what it met, with the share that it had then
+pub record IsWorkersEnd (job : Job) (first : Share) (fault : RunFault) : Type 0 where
+  pub step : NextStep
+  pub before : Share
+  pub next : IsNext job first before step
+  pub left : Share
+  pub worker : left.worker ≡ first.worker
+  pub limit : left.work_limit ≡ first.work_limit
+  pub met : WorkFault
+  pub is : fault ≡ fault_of met
+  pub ends : IsStepFault job step left met

@@ -1,5 +1,6 @@
 //! What stands under the lock: a core, and the first fault that was written.
 
+pub mod asked;
 mod recording;
 pub mod share;
 pub mod written;
@@ -9,6 +10,7 @@ ghost use Rattle.std.specs.FinMap as finite;
 ghost use Rattle.rv_ledger.specs.declared.job.Job.{Job};
 
 use crate::fault::{OutsideFault, RunFault};
+pub use asked::{AllDone, Asked};
 use rv_ledger::{Job, Key, StoredValue};
 use scheduler::COUNT_LIMIT;
 pub use share::Share;
@@ -69,9 +71,9 @@ impl<J: JobName, H: JobSource> Book<J, H> {
     ghost use Rattle.stm_state.specs.Parts.{CallsAreAttended, IsSized, OthersHaveEstimates, ReadsAreWatched, RunsAreBorneOut};
     ghost use Rattle.stm_state.specs.Steps as steps;
     ghost use Rattle.scheduler.specs.Schedule.{count_limit};
-    ghost use Rattle.stm_core.specs.CoreState.{HasReadRoom, IsOwn, IsTaken, block_in, read_result_of};
+    ghost use Rattle.stm_core.specs.CoreState.{HasReadRoom, IsOwn, IsTaken, IsWithin, block_in, read_result_of};
     ghost use Rattle.stm_core.specs.declared.next_step.NextStep.TheVariants as next_step;
-    ghost use Rattle.workers.specs.Book.{FaultFits, IsAsked, IsCause, IsMade, IsMakeCall, IsReadCall, IsStopped, IsUnready, LeavesWritten, MayWrite, Owes, AgreesWith, first_fault, outside_fault};
+    ghost use Rattle.workers.specs.Book.{FaultFits, IsAsked, IsAskWithin, IsCause, IsMade, IsMakeCall, IsReadCall, IsStopped, IsUnready, LeavesWritten, MayWrite, Owes, AgreesWith, first_fault, outside_fault};
 
     /// A core, and no fault. No worker is stopped before it has made 2^64 - 1 steps.
     pub fn new(core: Core<H>) -> Book<J, H>
@@ -157,7 +159,6 @@ impl<J: JobName, H: JobSource> Book<J, H> {
         match fault {
             OutsideFault::Memory => MetFault::of(fault, self.write(RunFault::Memory)),
             OutsideFault::Spawn => MetFault::of(fault, self.write(RunFault::Spawn)),
-            OutsideFault::Foreign => MetFault::of(fault, self.write(RunFault::Foreign)),
         }
     }
 
@@ -182,25 +183,27 @@ impl<J: JobName, H: JobSource> Book<J, H> {
         core
     }
 
-    /// A worker without a task asks for work. Returns None where all is done, else the step that it owes now.
+    /// A worker without a task asks for work. It is told that all is done, or the step that it owes now.
     /// Where a fault was written before, the call is refused with it. Otherwise it is refused as Foreign
     /// where the worker owes another step or its share has other counts than the core, and as StepLimit where
     /// the worker has made 2^64 - 1 steps. A refusal is written, and core and share stay. Takes no memory.
     #[tactic(auto, using(crate::proofs::Stays::stays, crate::proofs::Causes::unready_cause))]
-    pub fn ask(&mut self, share: &mut Share) -> Result<Option<NextStep>, WrittenFault>
+    pub fn ask(&mut self, share: &mut Share) -> Result<Asked, WrittenFault>
         ensures made { OnOk result (IsMade next_step.Ask steps.Ask self.old self.new share.old share.new) }
-        ensures asked { IfOk result (λ next. IsAsked next self.old.core self.new.core share.old share.new) }
+        ensures asked { IfOk result (λ asked. IsAsked asked self.old.core self.new.core share.old share.new) }
+        ensures within { IfOk result (λ asked. IsAskWithin (length J.job.block) asked) }
         ensures refused { IfErr result (λ e. LeavesWritten e self.old self.new share.old share.new) }
         ensures cause { IfErr result (λ e. IsCause (Owes next_step.Ask share.old self.old.core) ⊤ ⊥ steps.Ask share.old.worker self.old e) }
     {
         self.ready(share, NextStep::Ask)?;
         self.core.holds();
         stm_state::dones_grow_at_done();
+        stm_state::done_stays();
         let answer = self.core.ask(share.worker);
         self.update(share);
         Ok(match answer {
-            AskResult::Done => None,
-            AskResult::Nothing | AskResult::Task => Some(self.core.doing(share.worker)),
+            AskResult::Done => Asked::Done(AllDone::of(&self.core)),
+            AskResult::Nothing | AskResult::Task => Asked::Owes(self.core.doing(share.worker)),
         })
     }
 
@@ -261,7 +264,8 @@ impl<J: JobName, H: JobSource> Book<J, H> {
         call: u16,
         incarnation: u16,
     ) -> Result<NextStep, WrittenFault>
-        ensures { IsMakeCall kind call incarnation self.old self.new share.old share.new result }
+        ensures call { IsMakeCall kind call incarnation self.old self.new share.old share.new result }
+        ensures within { IfOk result (λ next. IsWithin (length J.job.block) next) }
     {
         self.ready(
             share,
@@ -410,6 +414,7 @@ impl<J: JobName, H: JobSource> Book<J, H> {
         ensures agrees { AgreesWith share.new self.now.core }
         ensures worker { share.new.worker ≡ share.old.worker }
         ensures pass { share.new.pass ≡ share.old.pass }
+        ensures limit { share.new.work_limit ≡ share.old.work_limit }
     {
         share.counts = self.core.counts(share.worker);
         share.dones = self.core.dones(share.worker);

@@ -3,6 +3,7 @@
 ghost use Rattle.std.specs.Prelude.{◌≡◌};
 ghost use Rattle.workers.specs.DoneCell.{IsOneWay, IsSeen};
 
+use crate::book::AllDone;
 use crate::gate::Spin;
 use crossbeam_utils::atomic::seq_cell::{Pass, RuledSeqCell};
 use crossbeam_utils::rule::{Outcome, Protocol};
@@ -45,7 +46,7 @@ pub struct DoneCell {
 }
 
 impl DoneCell {
-    ghost use Rattle.std.specs.Prelude.{◌≡◌, ◌↔◌, true};
+    ghost use Rattle.std.specs.Prelude.{◌≡◌, ◌+◌, ◌<◌, ◌≤◌, ◌↔◌, true};
     ghost use Rattle.crossbeam_utils.specs.Seq.{IsSamePass, cell_view};
     ghost use Rattle.workers.specs.DoneCell.{IsPassOf};
 
@@ -75,9 +76,9 @@ impl DoneCell {
         self.cell.load_as::<Sees, R>(rt, pass)[0] == DONE
     }
 
-    /// Writes done into the cell.
+    /// Writes done into the cell, where a book answered that all is done.
     #[tactic(auto, using(crate::proofs::Ways::ends))]
-    pub fn set_done<R: Wait>(&self, rt: &R, pass: &mut DonePass)
+    pub fn set_done<R: Wait>(&self, rt: &R, pass: &mut DonePass, _is_done: AllDone)
         requires cell { IsPassOf self.now pass.old }
         ensures cell { IsSamePass pass.old pass.new }
         ensures shown { cell_view pass.new ≡ 1 }
@@ -85,22 +86,37 @@ impl DoneCell {
         let _ = self.cell.swap_as::<Sees, R>(rt, pass, [DONE]);
     }
 
-    /// Looks at the cell as often as `spin` says, at most 64 times, and spins after each look that does not show done.
-    /// Returns at once after a look that shows done. After 64 others it lets another thread run.
-    pub fn look<R: Wait, S: Spin>(&self, rt: &R, pass: &mut DonePass, spin: &mut S)
+    /// Looks at the cell as often as `spin` says, and spins after each look that does not show done. Returns at once after
+    /// a look that shows done. After 64 others it lets another thread run. Returns how often it looked.
+    pub fn look<R: Wait, S: Spin>(&self, rt: &R, pass: &mut DonePass, spin: &mut S) -> usize
         requires cell { IsPassOf self.now pass.old }
         ensures cell { IsSamePass pass.old pass.new }
         ensures stays { cell_view pass.old ≡ 1 → cell_view pass.new ≡ 1 }
+        ensures most { result ≤ 64 }
     {
-        let looks = spin.looks();
-        for _ in 0..looks.min(LOOK_LIMIT) {
-            if self.shows_done(rt, pass) {
-                return;
+        let mut looked = 0;
+        for _ in 0..spin.looks() {
+            if self.look_once(rt, pass, &mut looked) {
+                return looked;
             }
             spin.spin();
         }
-        if looks >= LOOK_LIMIT {
+        if looked >= LOOK_LIMIT {
             yield_now();
         }
+        looked
+    }
+
+    /// Makes one of at most 64 looks, and counts it.
+    #[inline(always)]
+    fn look_once<R: Wait>(&self, rt: &R, pass: &mut DonePass, looked: &mut usize) -> bool
+        requires cell { IsPassOf self.now pass.old }
+        requires most { looked.old < 64 }
+        ensures cell { IsSamePass pass.old pass.new }
+        ensures stays { cell_view pass.old ≡ 1 → cell_view pass.new ≡ 1 }
+        ensures counted { looked.new ≡ looked.old + 1 }
+    {
+        *looked += 1;
+        self.shows_done(rt, pass)
     }
 }

@@ -68,6 +68,4 @@ pub(crate) enum OutsideFault {
     Memory,
     /// The system refused a thread.
     Spawn,
-    /// The calls beside the lock have none of the index that a worker was told.
-    Foreign,
 }

@@ -1,6 +1,8 @@
 //! What a thread does outside the lock at two places: after a run, and between two looks at the cell. Tests put
 //! something of their own there.
 
+ghost use Rattle.std.specs.Prelude.{◌≤◌};
+
 use stm_core::NextStep;
 
 /// What a thread does between the end of a run and its record, outside the lock. Tests hold a worker there.
@@ -21,8 +23,9 @@ impl Gate for Open {
 /// How long a worker without a task stays away from the lock: how often it looks at its block's cell, how it spins between two
 /// looks that do not show done, and what it learns from its steps and from the lock. Tests count its looks there.
 pub trait Spin {
-    /// How often it looks now that an ask gave no task, before it asks again; more than 64 are 64. Promises nothing.
-    fn looks(&mut self) -> usize;
+    /// How often it looks now that an ask gave no task, before it asks again.
+    fn looks(&mut self) -> usize
+        ensures { result ≤ 64 };
 
     /// The cell did not show done. Promises nothing.
     fn spin(&self);

@@ -11,11 +11,12 @@ mod fault;
 mod gate;
 mod on_storage;
 mod patience;
+mod reading;
 mod shared;
 mod worker;
 
 pub use answer::settle;
-pub use book::{Book, JobName, Share, WrittenFault};
+pub use book::{AllDone, Asked, Book, JobName, Share, WrittenFault};
 pub use chain::{Chain, ChainFault};
 pub use done_cell::{DoneCell, DonePass, LOOK_LIMIT, OneWay};
 pub use executor::Executor;

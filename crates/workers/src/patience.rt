@@ -1,12 +1,16 @@
 //! How long a worker stays away from the lock: one that gets no task, and one that found it taken.
 
+ghost use Rattle.std.specs.Prelude.{◌≤◌};
+
 use crate::done_cell::LOOK_LIMIT;
 use crate::gate::Spin;
 use std::hint::spin_loop;
 use stm_core::{NextStep, StepKind};
 
 /// Spins so many times, with the processor's hint for a thread that spins.
-pub(crate) fn spin_for(times: u32) {
+pub(crate) fn spin_for(times: u32)
+    requires { times ≤ 512 }
+{
     for _ in 0..times {
         spin_loop();
     }
@@ -49,6 +53,10 @@ pub(crate) struct Patience {
     backoff: u32,
     most_backoff: u32,
     has_looked: bool,
+    ghost looks_within: { looks ≤ 64 },
+    ghost spins_within: { spins ≤ 512 },
+    ghost backoff_within: { backoff ≤ 512 },
+    ghost most_within: { most_backoff ≤ 512 },
 }
 
 impl Patience {

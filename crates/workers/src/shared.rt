@@ -58,7 +58,8 @@ impl<J: JobName> Shared<J> {
 
 impl<J: JobName, H: JobSource> Shared<J, H> {
     ghost use Rattle.std.specs.Prelude.{◌≡◌, [], length, map, All, IfErr, IfOk};
-    ghost use Rattle.workers.specs.Book.{zero_counts_of_all, counts_of_share};
+    ghost use Rattle.workers.specs.Book.{zero_counts_of_all, counts_of_share, outside_fault};
+    ghost use Rattle.workers.specs.Work.{IsWrittenOver};
     ghost use Rattle.workers.specs.DoneCell.{IsPassOf};
 
     /// The same, where the threads run the calls and search the storage of another holder of the job, and where each makes no
@@ -126,9 +127,13 @@ impl<J: JobName, H: JobSource> Shared<J, H> {
     /// Writes a fault that was met outside the lock, unless one was written before. Returns it with the first one
     /// that was written.
     pub(crate) fn refuse<R: Wait>(&self, rt: &R, fault: OutsideFault) -> MetFault
-        ensures { result.met ≡ fault }
+        ensures met { result.met ≡ fault }
+        ensures written { IsWrittenOver J.job (outside_fault fault) result.written }
     {
-        self.wait_for(rt).write_outside(fault)
+        let mut guard = self.wait_for(rt);
+        let book = &mut *guard;
+        book.holds();
+        book.write_outside(fault)
     }
 }
 

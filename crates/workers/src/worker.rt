@@ -1,26 +1,25 @@
 //! What one thread does: it asks for work, runs calls outside the lock, and makes their steps under it.
 
-ghost use Rattle.std.specs.Prelude.{◌≡◌, ◌+◌, None, Some, true, length, slice_get, IfErr, IfOk, MatchOption, OnErr, OnOk};
+ghost use Rattle.std.specs.Prelude.{◌≡◌, ◌+◌, ◌<◌, ◌≤◌, None, Some, false, true, length, slice_get, IfErr, IfOk, IfSome, MatchOption, OnOk};
 ghost use Rattle.crossbeam_utils.specs.Seq.{cell_view};
-ghost use Rattle.rv_step.specs.Run.{IsEnded};
 ghost use Rattle.rv_step.specs.declared.ended_run.EndedRun.{EndedRun};
-ghost use Rattle.rv_step.specs.declared.stage.Stage.TheVariants.{Asked};
-ghost use Rattle.stm_core.specs.CoreState.{IsReadyOf};
+ghost use Rattle.stm_core.specs.CoreState.{IsReadyOf, IsWithin};
+ghost use Rattle.stm_core.specs.declared.next_step.NextStep.TheVariants as next_step;
 ghost use Rattle.workers.specs.DoneCell.{IsPassOf};
-ghost use Rattle.workers.specs.Book.{IsSpent};
-ghost use Rattle.workers.specs.Work.{IsCallFault, IsMakeAnswer, IsMemoryOrRefused, IsRecordAnswer, IsRunAnswer, IsStepAnswer};
+ghost use Rattle.workers.specs.Work.{IsAskAnswer, IsMakeAnswer, IsRecordAnswer, IsRefusedBy, IsRunAnswer, IsStepAnswer, IsStepFault, IsStoppedBy, IsWorkersEnd, fault_of};
+ghost use Rattle.workers.specs.Book.{IsAskWithin, counts_of_share, owed_by};
 
-use crate::book::{JobName, MetFault, Share, WrittenFault};
+use crate::book::{Asked, JobName, MetFault, Share, WrittenFault};
 use crate::fault::OutsideFault;
 use crate::gate::{Gate, Spin};
 use crate::patience::Patience;
+use crate::reading::run_to_end;
 use crate::shared::Shared;
-use rv_ledger::{Key, StoredValue};
-use rv_step::{Pause, Run, RunRoom};
-use std::alloc::{AllocError, Global};
+use rv_step::{Run, RunRoom};
+use std::alloc::Global;
 use std::mem::replace;
 use std::sync::Wait;
-use stm_core::{JobSource, NextStep, ReadResult, ReadyRecord, StepKind, reads_made};
+use stm_core::{JobSource, NextStep, ReadyRecord, StepKind, reads_made};
 
 /// What a worker keeps from one step to the next: the room that one run leaves to the next one, and how long it stays away
 /// from the lock without a task.
@@ -32,7 +31,7 @@ struct Kept<S: Spin + Drop> {
 
 /// Why a worker makes no further step. The fault is written.
 #[derive(Clone, Copy, Debug)]
-enum WorkFault {
+pub(crate) enum WorkFault {
     /// A step call was refused.
     Refused(WrittenFault),
     /// A fault was met outside the lock.
@@ -40,8 +39,13 @@ enum WorkFault {
 }
 
 impl WorkFault {
+    ghost use Rattle.std.specs.Prelude.{◌≡◌};
+    ghost use Rattle.workers.specs.Work.{fault_of};
+
     /// The fault that stands written.
-    fn written(self) -> WrittenFault {
+    fn written(self) -> WrittenFault
+        ensures { result ≡ fault_of self }
+    {
         match self {
             WorkFault::Refused(written) => written,
             WorkFault::Met(fault) => fault.written(),
@@ -49,21 +53,10 @@ impl WorkFault {
     }
 }
 
-impl From<WrittenFault> for WorkFault {
-    ghost use Rattle.std.specs.Prelude.{◌≡◌};
-    ghost use Rattle.workers.specs.declared.worker.WorkFault.TheVariants.{Refused};
-
-    ghost from_gives = { λ written e. e ≡ Refused written };
-
-    fn from(written: WrittenFault) -> WorkFault {
-        WorkFault::Refused(written)
-    }
-}
-
 /// The work of one thread. It makes the steps of its share's worker until an ask is answered Done, and then
-/// hands the share back; the cell shows done then. Refused as the step call that was refused, as Memory where
-/// memory ran out, as Foreign where the block has no such call, and as StepLimit where the worker has made as many steps, asks
-/// aside, as its share allows. The fault is written, and the steps that were made stand.
+/// hands the share back; the cell shows done then. Refused as the call for its next step was refused, as StepLimit where
+/// the worker has made as many steps, asks aside, as its share allows, and as Memory where memory ran out; or as a fault that
+/// was written before. The fault is written, and the steps that were made stand.
 pub fn work<J: JobName, H: JobSource, R: Wait, G: Gate>(
     rt: &R,
     alloc: Global,
@@ -75,6 +68,7 @@ pub fn work<J: JobName, H: JobSource, R: Wait, G: Gate>(
     ensures worker { IfOk result (λ back. back.worker ≡ share.worker) }
     ensures dones { IfOk result (λ back. back.dones ≡ share.dones + 1) }
     ensures shown { IfOk result (λ back. cell_view back.pass ≡ 1) }
+    ensures fault { IfErr result (λ e. IsWorkersEnd J.job share e) }
 {
     let patience = Patience::of(share.worker());
     work_spinning(rt, alloc, shared, share, gate, patience)
@@ -93,6 +87,7 @@ pub fn work_spinning<J: JobName, H: JobSource, R: Wait, G: Gate, S: Spin + Drop>
     ensures worker { IfOk result (λ back. back.worker ≡ share.worker) }
     ensures dones { IfOk result (λ back. back.dones ≡ share.dones + 1) }
     ensures shown { IfOk result (λ back. cell_view back.pass ≡ 1) }
+    ensures fault { IfErr result (λ e. IsWorkersEnd J.job share e) }
 {
     let mut share = share;
     match make_steps(rt, alloc, shared, &mut share, gate, spin) {
@@ -114,6 +109,7 @@ fn make_steps<J: JobName, H: JobSource, R: Wait, G: Gate, S: Spin + Drop>(
     ensures worker { OnOk result (share.new.worker ≡ share.old.worker) }
     ensures dones { OnOk result (share.new.dones ≡ share.old.dones + 1) }
     ensures shown { OnOk result (cell_view share.new.pass ≡ 1) }
+    ensures fault { IfErr result (λ e. IsWorkersEnd J.job share.old (fault_of e)) }
 {
     let mut next = NextStep::Ask;
     let mut kept = Kept {
@@ -121,10 +117,11 @@ fn make_steps<J: JobName, H: JobSource, R: Wait, G: Gate, S: Spin + Drop>(
         spin,
     };
     for _ in rt.forever() {
-        let Some(owed) = make_step(rt, alloc, shared, share, &mut kept, next, gate)? else {
-            return Ok(());
-        };
-        next = owed;
+        match make_step(rt, alloc, shared, share, &mut kept, next, gate) {
+            Ok(Some(owed)) => next = owed,
+            Ok(None) => return Ok(()),
+            Err(fault) => return Err(fault),
+        }
     }
     unreachable!()
 }
@@ -141,14 +138,21 @@ fn make_step<J: JobName, H: JobSource, R: Wait, G: Gate, S: Spin + Drop>(
     gate: &G,
 ) -> Result<Option<NextStep>, WorkFault>
     requires cell { IsPassOf shared.now.cell share.old.pass }
-    ensures answer { IfOk result (λ next. IsStepAnswer step share.old share.new next) }
+    requires within { IsWithin (length J.job.block) step }
+    ensures answer { IfOk result (λ next. IsStepAnswer J.job step share.old share.new next) }
+    ensures within { IfOk result (λ next. IfSome next (λ owed. IsWithin (length J.job.block) owed)) }
+    ensures fault { IfErr result (λ e. IsStepFault J.job step share.new e) }
     ensures cell { IsPassOf shared.now.cell share.new.pass }
     ensures worker { share.new.worker ≡ share.old.worker }
+    ensures limit { share.new.work_limit ≡ share.old.work_limit }
     ensures dones { IfOk result (λ next. MatchOption next (share.new.dones ≡ share.old.dones + 1) (λ _. share.new.dones ≡ share.old.dones)) }
     ensures shown { IfOk result (λ next. next ≡ None → cell_view share.new.pass ≡ 1) }
 {
     match step {
-        NextStep::Ask => Ok(ask(rt, shared, share, &mut kept.spin)?),
+        NextStep::Ask => match ask(rt, shared, share, &mut kept.spin) {
+            Ok(next) => Ok(next),
+            Err(written) => Err(WorkFault::Refused(written)),
+        },
         NextStep::Run { call, incarnation } => {
             let next = run_call(rt, alloc, shared, share, kept, call, incarnation, gate)?;
             kept.spin.learn(next);
@@ -160,26 +164,36 @@ fn make_step<J: JobName, H: JobSource, R: Wait, G: Gate, S: Spin + Drop>(
             incarnation,
         } => {
             let spin = &mut kept.spin;
-            go_on(rt, shared, share, spin)?;
-            let next = make(rt, shared, share, spin, kind, call, incarnation)?;
-            kept.spin.learn(next);
-            Ok(Some(next))
+            match go_on(rt, shared, share, spin) {
+                Ok(()) => {}
+                Err(written) => return Err(WorkFault::Refused(written)),
+            }
+            match make(rt, shared, share, spin, kind, call, incarnation) {
+                Ok(next) => {
+                    kept.spin.learn(next);
+                    Ok(Some(next))
+                }
+                Err(written) => Err(WorkFault::Refused(written)),
+            }
         }
     }
 }
 
 /// Refused as StepLimit where the share's worker has made as many steps, asks aside, as it may.
 #[inline(always)]
-fn go_on<J: JobName, H: JobSource, R: Wait, S: Spin>(
+pub(crate) fn go_on<J: JobName, H: JobSource, R: Wait, S: Spin>(
     rt: &R,
     shared: &Shared<J, H>,
     share: &Share,
     spin: &mut S,
 ) -> Result<(), WrittenFault>
-    ensures { OnErr result (IsSpent share.now.work_limit share.now.counts) }
+    ensures { IfErr result (λ e. IsStoppedBy J.job share.now e) }
 {
     if share.is_spent() {
-        return Err(shared.hold(rt, spin).stop(share));
+        let mut guard = shared.hold(rt, spin);
+        let book = &mut *guard;
+        book.holds();
+        return Err(book.stop(share));
     }
     Ok(())
 }
@@ -195,16 +209,23 @@ fn make<J: JobName, H: JobSource, R: Wait, S: Spin>(
     call: u16,
     incarnation: u16,
 ) -> Result<NextStep, WrittenFault>
-    ensures answer { IsMakeAnswer kind call incarnation share.old share.new result }
+    ensures answer { IsMakeAnswer J.job kind call incarnation share.old share.new result }
+    ensures refused { IfErr result (λ e. IsRefusedBy J.job (next_step.Make kind call incarnation) share.new e) }
+    ensures within { IfOk result (λ next. IsWithin (length J.job.block) next) }
     ensures worker { share.new.worker ≡ share.old.worker }
     ensures pass { share.new.pass ≡ share.old.pass }
+    ensures limit { share.new.work_limit ≡ share.old.work_limit }
     ensures dones { OnOk result (share.new.dones ≡ share.old.dones) }
 {
-    shared.hold(rt, spin).make(share, kind, call, incarnation)
+    let mut guard = shared.hold(rt, spin);
+    let book = &mut *guard;
+    book.holds();
+    book.make(share, kind, call, incarnation)
 }
 
 /// Asks for work, and returns the step that the worker owes then. Returns None where all is done, and then
 /// the cell shows it. A worker that gets no task looks at the cell before it asks again, and one that backs off before it asks.
+#[tactic(auto, using(crate::proofs::Working::asking_dones))]
 fn ask<J: JobName, H: JobSource, R: Wait, S: Spin>(
     rt: &R,
     shared: &Shared<J, H>,
@@ -212,19 +233,79 @@ fn ask<J: JobName, H: JobSource, R: Wait, S: Spin>(
     spin: &mut S,
 ) -> Result<Option<NextStep>, WrittenFault>
     requires cell { IsPassOf shared.now.cell share.old.pass }
+    ensures answer { IfOk result (λ next. IsStepAnswer J.job next_step.Ask share.old share.new next) }
+    ensures within { IfOk result (λ next. IfSome next (λ owed. IsWithin (length J.job.block) owed)) }
+    ensures refused { IfErr result (λ e. IsRefusedBy J.job next_step.Ask share.new e) }
     ensures cell { IsPassOf shared.now.cell share.new.pass }
     ensures worker { share.new.worker ≡ share.old.worker }
+    ensures limit { share.new.work_limit ≡ share.old.work_limit }
     ensures dones { IfOk result (λ next. MatchOption next (share.new.dones ≡ share.old.dones + 1) (λ _. share.new.dones ≡ share.old.dones)) }
     ensures shown { IfOk result (λ next. next ≡ None → cell_view share.new.pass ≡ 1) }
 {
     back_off(rt, shared, share, spin);
-    let asked = shared.hold(rt, spin).ask(share)?;
-    match asked {
-        None => shared.cell.set_done(rt, &mut share.pass),
-        Some(NextStep::Ask) => shared.cell.look(rt, &mut share.pass, spin),
-        Some(next) => spin.learn(next),
+    match ask_book(rt, shared, share, spin) {
+        Ok(asked) => {
+            heed(rt, shared, share, spin, asked);
+            Ok(asked.owed())
+        }
+        Err(written) => Err(written),
     }
-    Ok(asked)
+}
+
+/// What a worker does after an ask: where all is done it makes the cell show it, and where it gets no task it looks at the cell.
+fn heed<J: JobName, H: JobSource, R: Wait, S: Spin>(
+    rt: &R,
+    shared: &Shared<J, H>,
+    share: &mut Share,
+    spin: &mut S,
+    asked: Asked,
+)
+    requires cell { IsPassOf shared.now.cell share.old.pass }
+    ensures cell { IsPassOf shared.now.cell share.new.pass }
+    ensures counts { counts_of_share share.new ≡ counts_of_share share.old }
+    ensures limit { share.new.work_limit ≡ share.old.work_limit }
+    ensures shown { owed_by asked ≡ None → cell_view share.new.pass ≡ 1 }
+{
+    match asked {
+        Asked::Done(is_done) => shared.cell.set_done(rt, &mut share.pass, is_done),
+        Asked::Owes(NextStep::Ask) => look(rt, shared, share, spin),
+        Asked::Owes(next) => spin.learn(next),
+    }
+}
+
+/// Asks the book under the lock for work.
+fn ask_book<J: JobName, H: JobSource, R: Wait, S: Spin>(
+    rt: &R,
+    shared: &Shared<J, H>,
+    share: &mut Share,
+    spin: &mut S,
+) -> Result<Asked, WrittenFault>
+    ensures answer { IsAskAnswer J.job share.old share.new result }
+    ensures refused { IfErr result (λ e. IsRefusedBy J.job next_step.Ask share.new e) }
+    ensures within { IfOk result (λ asked. IsAskWithin (length J.job.block) asked) }
+    ensures worker { share.new.worker ≡ share.old.worker }
+    ensures pass { share.new.pass ≡ share.old.pass }
+    ensures limit { share.new.work_limit ≡ share.old.work_limit }
+{
+    let mut guard = shared.hold(rt, spin);
+    let book = &mut *guard;
+    book.holds();
+    book.ask(share)
+}
+
+/// Looks at the cell as often as `spin` says.
+fn look<J: JobName, H: JobSource, R: Wait, S: Spin>(
+    rt: &R,
+    shared: &Shared<J, H>,
+    share: &mut Share,
+    spin: &mut S,
+)
+    requires cell { IsPassOf shared.now.cell share.old.pass }
+    ensures cell { IsPassOf shared.now.cell share.new.pass }
+    ensures counts { counts_of_share share.new ≡ counts_of_share share.old }
+    ensures limit { share.new.work_limit ≡ share.old.work_limit }
+{
+    let _ = shared.cell.look(rt, &mut share.pass, spin);
 }
 
 /// Looks at the cell where the worker backs off before an ask.
@@ -236,17 +317,16 @@ fn back_off<J: JobName, H: JobSource, R: Wait, S: Spin>(
 )
     requires cell { IsPassOf shared.now.cell share.old.pass }
     ensures cell { IsPassOf shared.now.cell share.new.pass }
-    ensures worker { share.new.worker ≡ share.old.worker }
-    ensures dones { share.new.dones ≡ share.old.dones }
+    ensures counts { counts_of_share share.new ≡ counts_of_share share.old }
+    ensures limit { share.new.work_limit ≡ share.old.work_limit }
 {
     if spin.backs_off() {
-        shared.cell.look(rt, &mut share.pass, spin);
+        look(rt, shared, share, spin);
     }
 }
 
 /// Runs a call outside the lock up to a read that meets an estimate, or up to its end; then it passes the gate, and
 /// hands the run in. Returns the step that the worker owes then. A run is large, so it stays here until it is finished.
-#[tactic(auto, using(crate::proofs::Working::call_fault_of))]
 fn run_call<J: JobName, H: JobSource, R: Wait, G: Gate, S: Spin + Drop>(
     rt: &R,
     alloc: Global,
@@ -257,15 +337,16 @@ fn run_call<J: JobName, H: JobSource, R: Wait, G: Gate, S: Spin + Drop>(
     incarnation: u16,
     gate: &G,
 ) -> Result<NextStep, WorkFault>
-    ensures answer { IfOk result (λ next. IsRunAnswer call incarnation share.new next) }
-    ensures fault { IfErr result (λ e. IsCallFault (length J.job.block) call e) }
+    requires within { call < length J.job.block }
+    ensures answer { IfOk result (λ next. IsRunAnswer J.job call incarnation share.new next) }
+    ensures within { IfOk result (λ next. IsWithin (length J.job.block) next) }
+    ensures fault { IfErr result (λ e. IsStepFault J.job (next_step.Run call incarnation) share.new e) }
     ensures worker { share.new.worker ≡ share.old.worker }
     ensures pass { share.new.pass ≡ share.old.pass }
+    ensures limit { share.new.work_limit ≡ share.old.work_limit }
     ensures dones { OnOk result (share.new.dones ≡ share.old.dones) }
 {
-    let Some(own) = shared.job.block().calls().get(usize::from(call)) else {
-        return Err(WorkFault::Met(shared.refuse(rt, OutsideFault::Foreign)));
-    };
+    let own = &shared.job.block().calls()[usize::from(call)];
     let Ok(mut run) = Run::start_in(alloc, replace(&mut kept.room, RunRoom::new(alloc)), own) else {
         return Err(WorkFault::Met(shared.refuse(rt, OutsideFault::Memory)));
     };
@@ -292,10 +373,14 @@ fn run_call<J: JobName, H: JobSource, R: Wait, G: Gate, S: Spin + Drop>(
     };
     let mut ready = ReadyRecord::of(ended, reads);
     let spin = &mut kept.spin;
-    let next = record(rt, shared, share, spin, call, incarnation, &mut ready)?;
-    // What else the record left over in `ready` is dropped here, after the lock.
-    kept.room.keep_answers(ready.take_answers());
-    Ok(next)
+    match record(rt, shared, share, spin, call, incarnation, &mut ready) {
+        Ok(next) => {
+            // What else the record left over in `ready` is dropped here, after the lock.
+            kept.room.keep_answers(ready.take_answers());
+            Ok(next)
+        }
+        Err(written) => Err(WorkFault::Refused(written)),
+    }
 }
 
 /// Hands in the ended run of a call, which is ready to be recorded. Returns the step that the worker owes then, as the
@@ -311,79 +396,16 @@ fn record<J: JobName, H: JobSource, R: Wait, S: Spin>(
 ) -> Result<NextStep, WrittenFault>
     requires ready { (run : EndedRun) × IsReadyOf run ready.old }
     requires call { slice_get J.job.block call ≡ Some ready.old.call }
-    ensures answer { IfOk result (λ next. IsRecordAnswer call incarnation share.old share.new next) }
+    ensures answer { IsRecordAnswer J.job call incarnation share.old share.new result }
+    ensures refused { IfErr result (λ e. IsRefusedBy J.job (next_step.Run call incarnation) share.new e) }
+    ensures within { IfOk result (λ next. IsWithin (length J.job.block) next) }
     ensures worker { share.new.worker ≡ share.old.worker }
     ensures pass { share.new.pass ≡ share.old.pass }
+    ensures limit { share.new.work_limit ≡ share.old.work_limit }
     ensures dones { OnOk result (share.new.dones ≡ share.old.dones) }
 {
-    shared
-        .hold(rt, spin)
-        .record_ready(share, call, incarnation, ready)
-}
-
-/// Takes a call's run on to its end. Returns false where it meets an estimate before that.
-fn run_to_end<J: JobName, H: JobSource, R: Wait, S: Spin>(
-    rt: &R,
-    shared: &Shared<J, H>,
-    share: &mut Share,
-    spin: &mut S,
-    call: u16,
-    incarnation: u16,
-    run: &mut Run,
-) -> Result<bool, WorkFault>
-    ensures fault { IfErr result (λ e. IsMemoryOrRefused e) }
-    ensures call { run.new.call ≡ run.old.call }
-    ensures ended { IfOk result (λ ended. ended ≡ true → IsEnded run.new.stage) }
-    ensures worker { share.new.worker ≡ share.old.worker }
-    ensures pass { share.new.pass ≡ share.old.pass }
-    ensures dones { OnOk result (share.new.dones ≡ share.old.dones) }
-{
-    for _ in rt.forever() {
-        let Ok(pause) = run.go() else {
-            return Err(WorkFault::Met(shared.refuse(rt, OutsideFault::Memory)));
-        };
-        let Pause::Ask(key) = pause else {
-            return Ok(true);
-        };
-        if !read(rt, shared, share, spin, call, incarnation, run, &key)? {
-            return Ok(false);
-        }
-    }
-    unreachable!()
-}
-
-/// Reads the key that a call's run asks for, and answers the run. Returns false where the read meets an estimate. The
-/// storage before the block is searched before the lock is taken.
-fn read<J: JobName, H: JobSource, R: Wait, S: Spin>(
-    rt: &R,
-    shared: &Shared<J, H>,
-    share: &mut Share,
-    spin: &mut S,
-    call: u16,
-    incarnation: u16,
-    run: &mut Run,
-    key: &Key,
-) -> Result<bool, WorkFault>
-    requires { run.old.stage ≡ Asked key.now }
-    ensures fault { IfErr result (λ e. IsMemoryOrRefused e) }
-    ensures call { run.new.call ≡ run.old.call }
-    ensures worker { share.new.worker ≡ share.old.worker }
-    ensures pass { share.new.pass ≡ share.old.pass }
-    ensures dones { OnOk result (share.new.dones ≡ share.old.dones) }
-{
-    go_on(rt, shared, share, spin)?;
-    let base = StoredValue::bytes_of(shared.job.content(key));
-    let answer = shared
-        .hold(rt, spin)
-        .read_over(share, call, incarnation, key, base);
-    match answer {
-        Ok(ReadResult::Given(value, origin)) => {
-            match run.answer_bytes(StoredValue::bytes_of(value.as_ref()), origin) {
-                Ok(()) => Ok(true),
-                Err(AllocError) => Err(WorkFault::Met(shared.refuse(rt, OutsideFault::Memory))),
-            }
-        }
-        Ok(ReadResult::Blocked) => Ok(false),
-        Err(written) => Err(WorkFault::Refused(written)),
-    }
+    let mut guard = shared.hold(rt, spin);
+    let book = &mut *guard;
+    book.holds();
+    book.record_ready(share, call, incarnation, ready)
 }

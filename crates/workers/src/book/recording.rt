@@ -10,11 +10,11 @@ use std::alloc::Global;
 use stm_core::{JobSource, NextStep, ReadyRecord, RecordFault};
 
 impl<J: JobName, H: JobSource> Book<J, H> {
-    ghost use Rattle.std.specs.Prelude.{◌≡◌, Some, true, slice_get, IfErr, IfOk, OnOk};
+    ghost use Rattle.std.specs.Prelude.{◌≡◌, Some, true, length, slice_get, IfErr, IfOk, OnOk};
     ghost use Rattle.stm_state.specs.State.{task_at};
     ghost use Rattle.stm_state.specs.Steps as steps;
     ghost use Rattle.rv_step.specs.declared.ended_run.EndedRun.{EndedRun};
-    ghost use Rattle.stm_core.specs.CoreState.{IsOwn, IsReadyOf, IsTaken, next_step_of};
+    ghost use Rattle.stm_core.specs.CoreState.{IsOwn, IsReadyOf, IsTaken, IsWithin, next_step_of};
     ghost use Rattle.stm_core.specs.declared.next_step.NextStep.TheVariants as next_step;
     ghost use Rattle.workers.specs.Book.{IsCause, IsMade, LeavesWritten, Owes};
 
@@ -63,6 +63,7 @@ impl<J: JobName, H: JobSource> Book<J, H> {
         requires call { slice_get J.job.block call ≡ Some ready.old.call }
         ensures made { OnOk result (IsMade (next_step.Run call incarnation) steps.Record self.old self.new share.old share.new) }
         ensures next { IfOk result (λ next. next ≡ next_step_of self.new.core.state (task_at self.new.core.state share.new.worker)) }
+        ensures within { IfOk result (λ next. IsWithin (length J.job.block) next) }
         ensures own { (run : EndedRun) → IsReadyOf run ready.old → OnOk result (IsOwn share.old.worker run self.old.core) }
         ensures dones { OnOk result (share.new.dones ≡ share.old.dones) }
         ensures refused { IfErr result (λ e. LeavesWritten e self.old self.new share.old share.new) }

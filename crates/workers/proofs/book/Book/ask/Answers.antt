@@ -1,6 +1,7 @@
 use Rattle.std.proofs.Common.{◌≡◌, sym, ap, subst, ◌∙◌, inl, inr}
 use Rattle.stm_state.specs.State.{is_done, task_at}
-use Rattle.stm_core.specs.CoreState.{CoreState, next_step_of}
+use Rattle.stm_state.specs.Steps.{Ask}
+use Rattle.stm_core.specs.CoreState.{CoreState, block_in, next_step_of}
 use Rattle.workers.specs.Book.{BookState, IsAsked, AgreesWith}
 use Rattle.workers.proofs.AskResults.{done_where_answered, not_done_where_answered, one_done_more, no_done_more}
 use Rattle.workers.proofs.book.Book.ask.Goals as goal
@@ -22,7 +23,7 @@ returns-clause-asked g c =
       | in-Done x ↦ (
           let done = done_where_answered (is_done old.state) task (sym x.in-Done.is ∙ made.answer) in
           subst (λ r. IsAsked r b.core new c.args.share.now c.update.new.share) (sym x.result-is)
-          (sym before ∙ done, one_done_more c.dones_grow_at_done.ensures.askings old new c.args.share.now c.update.new.share made.makes c.holds.ensures.sized counted c.update.ensures.agrees c.update.ensures.worker done))
+          (sym before ∙ done, c.done_stays.ensures.done (block_in old) w Ask old.state new.state done made.makes.0, one_done_more c.dones_grow_at_done.ensures.askings old new c.args.share.now c.update.new.share made.makes c.holds.ensures.sized counted c.update.ensures.agrees c.update.ensures.worker done))
       | in-Nothing x ↦ (
           let not = not_done_where_answered (is_done old.state) task c.ask-answer.result made.answer (λ e. elim x.in-Nothing.is [ inl n ↦ cc | inr n ↦ cc ]) in
           subst (λ r. IsAsked r b.core new c.args.share.now c.update.new.share) (sym x.result-is) (
@@ -31,3 +32,10 @@ returns-clause-asked g c =
             subst (λ v. x.doing.result ≡ next_step_of new.state (task_at new.state v)) c.update.ensures.worker x.doing.ensures.doing,
           ))
     ]
+
+pub of-requires : goal.of-requires
+of-requires g c =
+    let made = c.ask-answer.ensures in
+    let old = c.self.inside.core in
+    let new = c.ask-answer.new.self in
+    c.done_stays.ensures.done (block_in old) c.args.share.now.worker Ask old.state new.state (done_where_answered (is_done old.state) (task_at new.state c.args.share.now.worker) (sym c.in-Done.is ∙ made.answer)) made.makes.0

@@ -1,8 +1,8 @@
 use Rattle.std.proofs.Common.{◌≡◌}
-use Rattle.workers.proofs.worker.run_to_end.Given as goal
+use Rattle.workers.proofs.reading.run_to_end.Given as goal
 
 abbrev pub invariant-loop : goal.invariant-loop
 invariant-loop g l =
     (goal.iterator-loop g).can_next l.iterator' × (goal.iterator-loop g).is_finite l.iterator'
-    × (l.share.worker ≡ l.fn.share.worker) × (l.share.pass ≡ l.fn.share.pass) × (l.share.dones ≡ l.fn.share.dones)
+    × (l.share.worker ≡ l.fn.share.worker) × (l.share.pass ≡ l.fn.share.pass) × (l.share.work_limit ≡ l.fn.share.work_limit) × (l.share.dones ≡ l.fn.share.dones)
     × (l.run.call ≡ l.fn.run.call)
