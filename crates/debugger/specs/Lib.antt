@@ -1,6 +1,5 @@
 pub mod Replay
 pub mod ReplayMoment
-pub mod Further
 pub mod Faults
 pub mod Command
 pub mod More
