@@ -67,9 +67,9 @@ class Trial:
         return self.random.choice(self.names)
 
     def engine(self, name):
-        """The process of a node's engine, if it is one."""
-        told = re.findall(r"engine (\d+|in this process)", self.cluster.log(name))[-1]
-        return int(told) if told.isdigit() else None
+        """The process of a node's engine, if it is one that the node has told already."""
+        told = re.findall(r"engine (\d+|in this process)", self.cluster.log(name))
+        return int(told[-1]) if told and told[-1].isdigit() else None
 
     def again(self, name):
         """Starts a node, and waits until it has run a block that is new."""
