@@ -336,10 +336,10 @@ def damaged_file(trial):
     file = trial.cluster.folder / f"spoilt-{trial.faults}.store"
     trial.stranger("spoilt", "--store", file)
     flip_in_a_program(file)
-    told = trial.stranger("spoilt", "--store", file)
+    told = trial.stranger("refused", "--store", file)  # by a name that has published nothing yet
     if "is refused: rvstm: store Damaged 7; started with --anew" not in told.splitlines()[-1]:
         raise ValueError(f"the node said: {told.splitlines()[-1]}")
-    told = trial.stranger("spoilt", "--store", file, "--anew")
+    told = trial.stranger("anew", "--store", file, "--anew")
     if "keeps the refused file" not in told or "STOPS" in told:
         raise ValueError(f"the node said: {told.splitlines()[-1]}")
     begun = [line for line in told.splitlines() if "begins at" in line][-1]
