@@ -17,8 +17,8 @@ use std::thread;
 use std::thread::{Threads, yield_now};
 use stm_core::NextStep;
 use workers::{
-    AllDone, Asked, DoneCell, DonePass, Gate, JobName, LOOK_LIMIT, Open, RunFault, Share, Shared,
-    Spin, WrittenFault, work, work_spinning,
+    DoneCell, DonePass, Gate, JobName, LOOK_LIMIT, Open, RunFault, Share, Shared, Spin,
+    WrittenFault, work, work_spinning,
 };
 
 /// How often a worker has looked when the other one, which is held at the end of its run, goes on.
@@ -61,36 +61,12 @@ fn count_looks<R: Wait>(rt: &R, cell: &DoneCell, pass: &mut DonePass) -> u64
     count.load(Ordering::SeqCst)
 }
 
-/// What a job without calls has its one worker told.
-fn all_done_of<J: JobName, R: Abort>(rt: &R, alloc: Global, job: &Job) -> Result<AllDone, Fail>
-    requires { job.now ≡ J.job }
-{
-    let (shared, mut shares) = shares_of::<J, R>(rt, alloc, job, 1)?;
-    assert!(rt; shares.len() == 1);
-    let mut share = shares.remove(0);
-    let mut book = shared.into_book();
-    match book.ask(&mut share) {
-        Ok(Asked::Done(is_done)) => Ok(is_done),
-        _ => panic!(rt; "there is a task"),
-    }
-}
-
-/// The same.
-fn all_done<R: Abort>(rt: &R, alloc: Global) -> Result<AllDone, Fail> {
-    let job = job_of(alloc, &[ECHO], "")?;
-    all_done_of::<Brand, R>(rt, alloc, &job)
-}
-
 #[test]
 fn an_idle_worker_looks_64_times(rt: HostRuntime) -> Result<(), Fail> {
     let cell = DoneCell::new(rt.alloc())?;
     let mut pass = cell.pass();
     let while_running = count_looks(&rt, &cell, &mut pass);
     assert_eq!(rt; while_running, 64);
-    let is_done = all_done(&rt, rt.alloc())?;
-    cell.set_done(&rt, &mut pass, is_done);
-    let once_done = count_looks(&rt, &cell, &mut pass);
-    assert_eq!(rt; once_done, 0);
     Ok(())
 }
 
