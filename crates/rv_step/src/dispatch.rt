@@ -1,7 +1,8 @@
 //! The steps of words in a page of code: each word leads to a branch that names its instruction (known_words.rt), so that
 //! the compiler knows it there. The branches are comparisons. An ordering test stands between two tests of equality, since
 //! the compiler makes a table of tests of equality alone, and a jump through a table may cost more than three branches. The
-//! most frequent instruction of an opcode is tested first.
+//! most frequent instruction of an opcode is tested first. `Loop` says which loop over a page makes the steps: so each loop has
+//! its own copy of these functions, which the compiler builds into it, as it does only where a function has one caller.
 
 ghost use Rattle.std.specs.Prelude.{◌≡◌, ◌≤◌, ◌<◌, ◌+◌, ◌*◌, ◌%◌, ◌^◌};
 ghost use Rattle.rv_isa.specs.Decoded.{decoded};
@@ -21,18 +22,18 @@ impl Machine {
     /// Makes the step of a word, if it goes on to another instruction. False where it does not, and where the word is one
     /// that this leaves out: FENCE, ECALL, EBREAK, an illegal word. Then nothing changes.
     #[inline(always)]
-    pub(crate) fn step_word(&mut self, word: u32, first: u32, position: &mut Position) -> bool
+    pub(crate) fn step_word<Loop>(&mut self, word: u32, first: u32, position: &mut Position) -> bool
         ensures { MeetsTry result (decoded word) (machine_at self.old first position.old) (machine_at self.new first position.new) }
     {
         let code = opcode_of(word);
         if code == opcode::OP_IMM {
-            return self.step_immediate(word, first, position);
+            return self.step_immediate::<Loop>(word, first, position);
         }
         if code < opcode::BRANCH {
-            return self.step_below_branch(word, first, position);
+            return self.step_below_branch::<Loop>(word, first, position);
         }
         if code == opcode::BRANCH {
-            return self.step_branch(word, first, position);
+            return self.step_branch::<Loop>(word, first, position);
         }
         if code > opcode::JALR {
             if code == opcode::JAL {
@@ -48,16 +49,16 @@ impl Machine {
 
     /// The same for an opcode below that of the branches.
     #[inline(always)]
-    fn step_below_branch(&mut self, word: u32, first: u32, position: &mut Position) -> bool
+    fn step_below_branch<Loop>(&mut self, word: u32, first: u32, position: &mut Position) -> bool
         ensures { MeetsTry result (decoded word) (machine_at self.old first position.old) (machine_at self.new first position.new) }
     {
         let code = opcode_of(word);
         if code == opcode::OP {
-            return self.step_compute(word, first, position);
+            return self.step_compute::<Loop>(word, first, position);
         }
         if code < opcode::STORE {
             if code == opcode::LOAD {
-                return self.step_load(word, first, position);
+                return self.step_load::<Loop>(word, first, position);
             }
             if code > opcode::LOAD && code == opcode::AUIPC {
                 return self.auipc_word(word, first, position);
@@ -70,12 +71,12 @@ impl Machine {
             }
             return false;
         }
-        self.step_store(word, first, position)
+        self.step_store::<Loop>(word, first, position)
     }
 
     /// The same for the opcode OP-IMM.
     #[inline(always)]
-    fn step_immediate(&mut self, word: u32, first: u32, position: &mut Position) -> bool
+    fn step_immediate<Loop>(&mut self, word: u32, first: u32, position: &mut Position) -> bool
         requires { word % 2 ^ 7 ≡ 0b0010011 }
         ensures { MeetsTry result (decoded word) (machine_at self.old first position.old) (machine_at self.new first position.new) }
     {
@@ -85,7 +86,7 @@ impl Machine {
         }
         if field > XORI {
             if field == SRLI {
-                return self.step_right_shift(word, first, position);
+                return self.step_right_shift::<Loop>(word, first, position);
             }
             if field > ORI {
                 return self.immediate_word(ImmediateOperation::Andi, word, first, position);
@@ -109,7 +110,7 @@ impl Machine {
 
     /// The same for the shifts to the right by a fixed amount.
     #[inline(always)]
-    fn step_right_shift(&mut self, word: u32, first: u32, position: &mut Position) -> bool
+    fn step_right_shift<Loop>(&mut self, word: u32, first: u32, position: &mut Position) -> bool
         requires opcode { word % 2 ^ 7 ≡ 0b0010011 }
         requires funct3 { (slots_of word).funct3 ≡ 0b101 }
         ensures { MeetsTry result (decoded word) (machine_at self.old first position.old) (machine_at self.new first position.new) }
@@ -125,7 +126,7 @@ impl Machine {
 
     /// The same for the opcode OP.
     #[inline(always)]
-    fn step_compute(&mut self, word: u32, first: u32, position: &mut Position) -> bool
+    fn step_compute<Loop>(&mut self, word: u32, first: u32, position: &mut Position) -> bool
         requires { word % 2 ^ 7 ≡ 0b0110011 }
         ensures { MeetsTry result (decoded word) (machine_at self.old first position.old) (machine_at self.new first position.new) }
     {
@@ -134,7 +135,7 @@ impl Machine {
             return self.compute_word(Operation::Add, word, first, position);
         }
         if fields < OR {
-            return self.step_low_compute(word, first, position);
+            return self.step_low_compute::<Loop>(word, first, position);
         }
         if fields == OR {
             return self.compute_word(Operation::Or, word, first, position);
@@ -143,7 +144,7 @@ impl Machine {
             return self.compute_word(Operation::And, word, first, position);
         }
         if fields <= REMU {
-            return self.step_product(word, first, position);
+            return self.step_product::<Loop>(word, first, position);
         }
         if fields == SUB {
             return self.compute_word(Operation::Sub, word, first, position);
@@ -156,7 +157,7 @@ impl Machine {
 
     /// The same for the computations from SLL to SRL.
     #[inline(always)]
-    fn step_low_compute(&mut self, word: u32, first: u32, position: &mut Position) -> bool
+    fn step_low_compute<Loop>(&mut self, word: u32, first: u32, position: &mut Position) -> bool
         requires opcode { word % 2 ^ 7 ≡ 0b0110011 }
         requires low { (slots_of word).funct7 * 2 ^ 25 + (slots_of word).funct3 * 2 ^ 12 < 0b110 * 2 ^ 12 }
         requires some { 0 < (slots_of word).funct7 * 2 ^ 25 + (slots_of word).funct3 * 2 ^ 12 }
@@ -180,7 +181,7 @@ impl Machine {
 
     /// The same for products, quotients and remainders.
     #[inline(always)]
-    fn step_product(&mut self, word: u32, first: u32, position: &mut Position) -> bool
+    fn step_product<Loop>(&mut self, word: u32, first: u32, position: &mut Position) -> bool
         requires opcode { word % 2 ^ 7 ≡ 0b0110011 }
         requires low { (slots_of word).funct7 * 2 ^ 25 + (slots_of word).funct3 * 2 ^ 12 < 2 ^ 26 }
         requires high { 0b111 * 2 ^ 12 < (slots_of word).funct7 * 2 ^ 25 + (slots_of word).funct3 * 2 ^ 12 }
@@ -191,7 +192,7 @@ impl Machine {
             return self.compute_word(Operation::Mul, word, first, position);
         }
         if fields > MULHU {
-            return self.step_quotient(word, first, position);
+            return self.step_quotient::<Loop>(word, first, position);
         }
         if fields == MULHU {
             return self.compute_word(Operation::Mulhu, word, first, position);
@@ -204,7 +205,7 @@ impl Machine {
 
     /// The same for quotients and remainders.
     #[inline(always)]
-    fn step_quotient(&mut self, word: u32, first: u32, position: &mut Position) -> bool
+    fn step_quotient<Loop>(&mut self, word: u32, first: u32, position: &mut Position) -> bool
         requires opcode { word % 2 ^ 7 ≡ 0b0110011 }
         requires low { (slots_of word).funct7 * 2 ^ 25 + (slots_of word).funct3 * 2 ^ 12 < 2 ^ 26 }
         requires high { 2 ^ 25 + 0b011 * 2 ^ 12 < (slots_of word).funct7 * 2 ^ 25 + (slots_of word).funct3 * 2 ^ 12 }
@@ -225,7 +226,7 @@ impl Machine {
 
     /// The same for the opcode LOAD.
     #[inline(always)]
-    fn step_load(&mut self, word: u32, first: u32, position: &mut Position) -> bool
+    fn step_load<Loop>(&mut self, word: u32, first: u32, position: &mut Position) -> bool
         requires { word % 2 ^ 7 ≡ 0b0000011 }
         ensures { MeetsTry result (decoded word) (machine_at self.old first position.old) (machine_at self.new first position.new) }
     {
@@ -250,7 +251,7 @@ impl Machine {
 
     /// The same for the opcode STORE.
     #[inline(always)]
-    fn step_store(&mut self, word: u32, first: u32, position: &mut Position) -> bool
+    fn step_store<Loop>(&mut self, word: u32, first: u32, position: &mut Position) -> bool
         requires { word % 2 ^ 7 ≡ 0b0100011 }
         ensures { MeetsTry result (decoded word) (machine_at self.old first position.old) (machine_at self.new first position.new) }
     {
@@ -269,7 +270,7 @@ impl Machine {
 
     /// The same for the opcode BRANCH.
     #[inline(always)]
-    fn step_branch(&mut self, word: u32, first: u32, position: &mut Position) -> bool
+    fn step_branch<Loop>(&mut self, word: u32, first: u32, position: &mut Position) -> bool
         requires { word % 2 ^ 7 ≡ 0b1100011 }
         ensures { MeetsTry result (decoded word) (machine_at self.old first position.old) (machine_at self.new first position.new) }
     {

@@ -46,6 +46,12 @@ pub enum PageEnd {
     Stopped,
 }
 
+/// The loop up to the end of a page, to say for which loop a step is.
+pub(crate) struct ToEnd;
+
+/// The loop up to a pc or a number of steps (page_walk.rt), to say the same.
+pub(crate) struct ToStop;
+
 impl Position {
     /// The pc, in the page of this first address.
     #[inline(always)]
@@ -164,7 +170,7 @@ impl Machine {
         };
         while position.offset < PAGE {
             let word = word_in(code, position.offset as usize);
-            if !self.step_word(word, first, &mut position) {
+            if !self.step_word::<ToEnd>(word, first, &mut position) {
                 self.stand_at(first, position);
                 return if word == ECALL {
                     PageEnd::Ecall

@@ -7,7 +7,7 @@ ghost use Rattle.rv_step.specs.Until.{is_at};
 ghost use Rattle.rv_step.specs.Walks.{Walks};
 
 use crate::machine::Machine;
-use crate::page_loop::{PAGE, Position};
+use crate::page_loop::{PAGE, Position, ToStop};
 use elf32::{BasePages, Page};
 use rv_mem::{code_page, word_in};
 
@@ -46,7 +46,7 @@ impl Machine {
         let mut made = 0;
         while made < most && position.offset < PAGE && position.offset != stop {
             let word = word_in(code, position.offset as usize);
-            if !self.step_word(word, first, &mut position) {
+            if !self.step_word::<ToStop>(word, first, &mut position) {
                 self.stand_at(first, position);
                 return made;
             }
