@@ -1,6 +1,7 @@
 pub mod Moments
 pub mod ReplayMoments
 pub mod Stops
+pub mod Further
 pub mod MomentMoves
 pub mod Storages
 pub mod Lines

@@ -1,5 +1,6 @@
 pub mod Replay
 pub mod ReplayMoment
+pub mod Further
 pub mod Faults
 pub mod Command
 pub mod More

@@ -7,7 +7,7 @@ ghost use Rattle.rv_step.specs.Moment.{moment_over};
 ghost use Rattle.debugger.specs.More.{ending_line, last_moment, receipt_line};
 ghost use Rattle.debugger.specs.ReplayMoment.{HasEnded, is_ended};
 
-use crate::running::step_run;
+use crate::running::go_run;
 use receipts::{bytes_text, end_name};
 use rv_ledger::{Call, End, Store};
 use rv_step::{Run, Stage};
@@ -34,8 +34,8 @@ fn run_to_end(alloc: Global, call: &Call, store: &Store) -> Result<(Run, u64), A
     let mut run = Run::start(alloc, call)?;
     let mut moment = 0;
     while !is_ended(&run) {
-        step_run(alloc, &mut run, store)?;
-        moment += 1;
+        let more = go_run(alloc, &mut run, store, None, u64::MAX)?;
+        moment += more;
     }
     Ok((run, moment))
 }

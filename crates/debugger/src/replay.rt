@@ -7,7 +7,7 @@ use crate::content::content_with;
 use crate::ending::end_line;
 use crate::fault::ReplayFault;
 use crate::place::place_text;
-use crate::running::{run_after, step_run};
+use crate::running::{go_run, run_after, step_run};
 use crate::storage::{first_receipts, store_left};
 use elf32::extent::{END_ADDRESS, FIRST_ADDRESS};
 use rv_isa::Regs;
@@ -46,6 +46,7 @@ impl Replay {
     ghost use Rattle.std.specs.Prelude.{◌≡◌, ◌<◌, ◌≤◌, ◌^◌, ◌++◌, false, true, length, not, IfErr, IfOk, MatchResult, OnErr, OnOk};
     ghost use Rattle.std.specs.String.{string_bytes};
     ghost use Rattle.debugger.specs.declared.fault.ReplayFault.TheVariants.{AtEnd, AtStart, Memory};
+    ghost use Rattle.debugger.specs.Further.{GoesFurther};
     ghost use Rattle.debugger.specs.More.{GoesTo, RunsToChange, content_now, end_line, has_changed};
     ghost use Rattle.debugger.specs.Replay.{GoesOnBefore, Moves, Opens, RunsTo, Shows, bytes_seen, has_pc, is_at_end, is_in_memory, machine_at, next_of, opened, previous_of, where_text};
 
@@ -125,11 +126,29 @@ impl Replay {
     pub fn run_to(&mut self, pc: u32) -> Result<(), ReplayFault>
         ensures { RunsTo (has_pc pc) result self.old self.new }
     {
-        self.step()?;
+        self.go_further(Some(pc), u64::MAX)?;
         while !self.is_at_end() && self.pc() != pc {
-            self.step()?;
+            self.go_further(Some(pc), u64::MAX)?;
         }
         Ok(())
+    }
+
+    /// Goes to a later moment: by `most` steps at most, and not behind the first moment at which the call is over or its pc is
+    /// `stop`. Refused as AtEnd where the call is over already, and as Memory where memory ran out; then nothing changes.
+    fn go_further(&mut self, stop: Option<u32>, most: u64) -> Result<(), ReplayFault>
+        requires { 0 < most }
+        ensures { GoesFurther stop most result self.old self.new }
+    {
+        if self.is_at_end() {
+            return Err(ReplayFault::AtEnd);
+        }
+        match go_run(self.alloc, &mut self.run, &self.store, stop, most) {
+            Ok(made) => {
+                self.moment += made;
+                Ok(())
+            }
+            Err(AllocError) => Err(ReplayFault::Memory),
+        }
     }
 
     /// Goes to a moment: on by steps, or back by running the call again from its start. Refused as AtEnd where the call is
@@ -155,7 +174,7 @@ impl Replay {
                 self.go_back_to(first)?;
                 return Err(ReplayFault::AtEnd);
             }
-            self.step()?;
+            self.go_further(None, moment - self.moment())?;
         }
         Ok(())
     }

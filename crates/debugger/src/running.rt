@@ -4,6 +4,7 @@ ghost use Rattle.std.specs.Prelude.{◌≡◌, ◌<◌, ℕ, false, IfOk, IsSome
 ghost use Rattle.rv_step.specs.Run.{asked_key};
 ghost use Rattle.rv_step.specs.Moment.{moment_over};
 ghost use Rattle.rv_step.specs.Step.{Going};
+ghost use Rattle.debugger.specs.Further.{GoesOver};
 ghost use Rattle.debugger.specs.ReplayMoment.{GoesOn, IsAnswered, IsRunAt, advance_over};
 
 use read_set::Origin;
@@ -22,6 +23,37 @@ pub(crate) fn step_run(alloc: Global, run: &mut Run, store: &Store) -> Result<()
         run.step_one()?;
     }
     answer_from(alloc, run, store)
+}
+
+/// Makes steps of a run that goes on, over a storage: one at least, `most` at most, and none behind the first moment at which
+/// the call is over or its pc is `stop`. Returns how many. Refused where memory ran out before the first of them is made, and
+/// then the run stands where it stood.
+pub(crate) fn go_run(
+    alloc: Global,
+    run: &mut Run,
+    store: &Store,
+    stop: Option<u32>,
+    most: u64,
+) -> Result<u64, AllocError>
+    requires going { IsRunAt (Going run.old.machine) run.old }
+    requires some { 0 < most }
+    ensures ok { IfOk result (λ made. GoesOver store.now stop most made (Going run.old.machine) run.new) }
+    ensures err { OnErr result (IsRunAt (Going run.old.machine) run.new) }
+{
+    if !run.is_running() {
+        answer_from(alloc, run, store)?;
+        return Ok(1);
+    }
+    let made = run.go_until(stop, most)?;
+    match answer_from(alloc, run, store) {
+        Ok(()) => Ok(made),
+        Err(AllocError) => {
+            if made == 1 {
+                return Err(AllocError);
+            }
+            Ok(made - 1)
+        }
+    }
 }
 
 /// Answers a run that asks for a key, from a storage. A run that does not ask stays as it is. Refused
@@ -52,8 +84,10 @@ pub(crate) fn run_after(
     ensures { IfOk result (λ run. IsRunAt (moment_over call.now store.now steps) run) }
 {
     let mut run = Run::start(alloc, call)?;
-    for _ in 0..steps {
-        step_run(alloc, &mut run, store)?;
+    let mut made = 0;
+    while made < steps {
+        let more = go_run(alloc, &mut run, store, None, steps - made)?;
+        made += more;
     }
     Ok(run)
 }
