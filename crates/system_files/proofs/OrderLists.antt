@@ -5,7 +5,7 @@ use Rattle.std.specs.Str.{bytes_eq}
 use Rattle.std.proofs.lemmas.List.Elements.{All-append}
 use Rattle.std.proofs.lemmas.Slice.Eq.{bytes_eq-Decides}
 use Rattle.system_files.specs.Entries.{Entries, Entry, KeepsBut}
-use Rattle.system_files.specs.Orders.{Follow, IsNoMake, Make, MakesLast, MakesNone, Order}
+use Rattle.system_files.specs.Orders.{Follow, IsClearing, Make, MakesLast, Clears, Order}
 
 -- orders of one kind, and then of another
 follow_then : (first second both : List Order → Type 0) (joined : (xs ys : List Order) → first xs → second ys → both (xs ++ ys)) (a b c : Option (List Order)) → Follow first a b → Follow second b c → Follow both a c
@@ -14,16 +14,16 @@ follow_then first second both joined (Some x) None c one two = absurd one
 follow_then first second both joined (Some x) (Some y) None one two = absurd two
 follow_then first second both joined (Some x) (Some y) (Some z) (xs, one, is) (ys, two, so) = (xs ++ ys, joined xs ys one two, so ∙ ap (λ (l : List Order). l ++ ys) is ∙ append_assoc x xs ys)
 
--- none is made, and then none
-pub none_then : (a b c : Option (List Order)) → Follow MakesNone a b → Follow MakesNone b c → Follow MakesNone a c
-none_then = follow_then MakesNone MakesNone MakesNone (All-append IsNoMake)
+-- what was left over is removed, and then more of it
+pub cleared_then : (a b c : Option (List Order)) → Follow Clears a b → Follow Clears b c → Follow Clears a c
+cleared_then = follow_then Clears Clears Clears (All-append IsClearing)
 
-made_later : (path : List ℕ) (xs ys : List Order) → MakesNone xs → MakesLast path ys → MakesLast path (xs ++ ys)
-made_later path xs ys none (before, so, is) = (xs ++ before, All-append IsNoMake xs before none so, ap (λ (l : List Order). xs ++ l) is ∙ sym (append_assoc xs before (Make path ∷ [])))
+made_later : (path : List ℕ) (xs ys : List Order) → Clears xs → MakesLast path ys → MakesLast path (xs ++ ys)
+made_later path xs ys none (before, so, is) = (xs ++ before, All-append IsClearing xs before none so, ap (λ (l : List Order). xs ++ l) is ∙ sym (append_assoc xs before (Make path ∷ [])))
 
--- none is made, and then one
-pub then_made : (path : List ℕ) (a b c : Option (List Order)) → Follow MakesNone a b → Follow (MakesLast path) b c → Follow (MakesLast path) a c
-then_made path = follow_then MakesNone (MakesLast path) (MakesLast path) (made_later path)
+-- what was left over is removed, and then a file is made
+pub then_made : (path : List ℕ) (a b c : Option (List Order)) → Follow Clears a b → Follow (MakesLast path) b c → Follow (MakesLast path) a c
+then_made path = follow_then Clears (MakesLast path) (MakesLast path) (made_later path)
 
 -- a path that may be touched, and then only that one
 both : (touched : List ℕ → Type 0) (name path : List ℕ) (x y z : Entry) → touched name → touched path ⊎ (y ≡ x) → (path ≡ name) ⊎ (z ≡ y) → touched path ⊎ (z ≡ x)

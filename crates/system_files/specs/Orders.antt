@@ -2,13 +2,15 @@
 use Rattle.std.specs.Prelude.{◌≡◌, ℕ, ◌++◌, ◌⊎◌, All, List, [], ◌∷◌, Option, None, Some, ⊤}
 
 -- to make a file at a path, to open what is there, to make sure that a file's bytes are on the disk, to give a file of these bytes
--- another name, and to remove what is at a path; None where the bytes are not known. A file that can't be made counts as not asked for
+-- another name, to remove what is at a path, and to remove a file there that a process which has ended left over; None where the
+-- bytes are not known. A file that can't be made and a sync that is refused count as not asked for
 pub data Order : Type 0 where
   Make : (path : List ℕ) → Order
   Open : (path : List ℕ) → Order
   Sync : (bytes : Option (List ℕ)) → Order
   Rename : (bytes : Option (List ℕ)) (from to : List ℕ) → Order
   Remove : (path : List ℕ) → Order
+  RemoveLeftOver : (path : List ℕ) → Order
 
 -- where the orders so far are known, these follow, and no others
 abbrev pub Asks : Option (List Order) → Option (List Order) → List Order → Type 0
@@ -22,23 +24,33 @@ Follow are None new = ⊤
 Follow are (Some old) None = ⊥
 Follow are (Some old) (Some new) = (orders : List Order) × are orders × (new ≡ old ++ orders)
 
--- an order that makes no file
-abbrev pub IsNoMake : Order → Type 0
-IsNoMake (Make path) = ⊥
-IsNoMake order = ⊤
+-- an order to remove what was left over
+abbrev pub IsClearing : Order → Type 0
+IsClearing (RemoveLeftOver path) = ⊤
+IsClearing order = ⊥
 
--- no file is made
-abbrev pub MakesNone : List Order → Type 0
-MakesNone orders = All IsNoMake orders
+-- what was left over is removed, and nothing else is done
+abbrev pub Clears : List Order → Type 0
+Clears orders = All IsClearing orders
 
--- one file is made, at the path, and that comes last
+-- an order to sync or to rename a file
+abbrev pub IsSyncOrRename : Order → Type 0
+IsSyncOrRename (Sync bytes) = ⊤
+IsSyncOrRename (Rename bytes from to) = ⊤
+IsSyncOrRename order = ⊥
+
+-- files are synced and renamed, and nothing else is done
+abbrev pub SyncsAndRenames : List Order → Type 0
+SyncsAndRenames orders = All IsSyncOrRename orders
+
+-- behind what was left over, one file is made at the path
 abbrev pub MakesLast : List ℕ → List Order → Type 0
-MakesLast path orders = (before : List Order) × MakesNone before × (orders ≡ before ++ Make path ∷ [])
+MakesLast path orders = (before : List Order) × Clears before × (orders ≡ before ++ Make path ∷ [])
 
--- one file is made; the last two make sure that its bytes are on the disk, and then give it the path as its name
+-- one file is made; then its bytes are on the disk, and then it is given the path as its name
 abbrev pub Replaces : Option (List ℕ) → List ℕ → List Order → Type 0
-Replaces bytes path orders = (before : List Order) × (name : List ℕ) × MakesNone before × (orders ≡ before ++ Make name ∷ Sync bytes ∷ Rename bytes name path ∷ [])
+Replaces bytes path orders = (before : List Order) × (name : List ℕ) × Clears before × (orders ≡ before ++ Make name ∷ Sync bytes ∷ Rename bytes name path ∷ [])
 
 -- no file is made, or one, and the last order is to remove it
 abbrev pub LeavesNoFile : List Order → Type 0
-LeavesNoFile orders = MakesNone orders ⊎ ((before after : List Order) × (name : List ℕ) × MakesNone before × MakesNone after × (orders ≡ before ++ Make name ∷ after ++ Remove name ∷ []))
+LeavesNoFile orders = Clears orders ⊎ ((before after : List Order) × (name : List ℕ) × Clears before × SyncsAndRenames after × (orders ≡ before ++ Make name ∷ after ++ Remove name ∷ []))

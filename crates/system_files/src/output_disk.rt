@@ -4,7 +4,7 @@ ghost use Rattle.std.specs.Prelude.{◌≡◌, ◌⊎◌, ℕ, List, [], ◌∷�
 ghost use Rattle.std.specs.Option.{option_map};
 ghost use Rattle.std.specs.String.{string_bytes};
 ghost use Rattle.system_files.specs.Entries.{Entries, IsPathOf, KeepsBut, Ordinary};
-ghost use Rattle.system_files.specs.Orders.{Asks, Make, Open, Order, Remove, Rename, Sync};
+ghost use Rattle.system_files.specs.Orders.{Asks, Make, Open, Order, Remove, RemoveLeftOver, Rename, Sync};
 
 use std::alloc::Global;
 use std::io;
@@ -18,8 +18,8 @@ pub trait OutputDisk {
     /// What stands at each path, links aside, where that is known.
     ghost entries: { Self → Option Entries };
 
-    /// What was asked of the disk so far, the last order last, where that is known. A file that could not be made was
-    /// not asked for; each other order counts also where it was refused.
+    /// What was asked of the disk so far, the last order last, where that is known. A file that could not be made and a sync that
+    /// was refused were not asked for; each other order counts also where it was refused.
     ghost asked: { Self → Option (List Order) };
 
     /// The path that a path leads to, with links followed.
@@ -37,7 +37,7 @@ pub trait OutputDisk {
     /// else is there, or the file is still kept.
     fn remove_left_over(&mut self, path: &str) -> io::Result<()>
         ensures others { KeepsBut (λ p. p ≡ path.now) (entries self.old) (entries self.new) }
-        ensures asks { Asks (asked self.old) (asked self.new) (Remove path.now ∷ []) };
+        ensures asks { Asks (asked self.old) (asked self.new) (RemoveLeftOver path.now ∷ []) };
 
     /// Whether two paths name one ordinary file; not where nothing is at one of them. Refused where that
     /// can't be told.
@@ -57,7 +57,8 @@ pub trait OutputDisk {
     /// Makes sure that what was written to a file is on the disk.
     fn sync(&mut self, file: &Self::NewFile) -> io::Result<()>
         ensures same { KeepsBut (λ _. ⊥) (entries self.old) (entries self.new) }
-        ensures asks { Asks (asked self.old) (asked self.new) (Sync (Self.NewFile.contents file.now) ∷ []) };
+        ensures asks { OnOk result (Asks (asked self.old) (asked self.new) (Sync (Self.NewFile.contents file.now) ∷ [])) }
+        ensures asks_nothing { OnErr result (asked self.new ≡ asked self.old) };
 
     /// Renames a file that is open. It replaces the file that has the new name, if any. Refused where the old
     /// name is not this file's.

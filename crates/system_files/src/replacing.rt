@@ -3,7 +3,7 @@
 ghost use Rattle.std.specs.Prelude.{◌≡◌, ◌⊎◌, ◌<◌, ℕ, List, [], ◌∷◌, Option, Some, IfErr, IfOk, IfSome, OnErr, OnOk};
 ghost use Rattle.std.specs.String.{string_bytes};
 ghost use Rattle.system_files.specs.Entries.{IsBeside, IsNewPath, IsPut, KeepsBut, Ordinary, Other, Stays};
-ghost use Rattle.system_files.specs.Orders.{Asks, Follow, LeavesNoFile, MakesLast, MakesNone, Open, Rename, Replaces, Sync};
+ghost use Rattle.system_files.specs.Orders.{Asks, Clears, Follow, LeavesNoFile, MakesLast, Open, Rename, Replaces, Sync, SyncsAndRenames};
 
 use crate::fault::ReplaceFault;
 use crate::output_disk::OutputDisk;
@@ -19,7 +19,7 @@ const NEW_NAME: &str = ".rvstm.new";
 
 /// Puts bytes at a path. An ordinary file there is replaced in one step, by a file that was written in
 /// full beside it; where this is refused it stays as it was, and the disk is asked last to remove the new file, if one
-/// was made. A device is written directly. Refused as Memory where memory ran out, and as Unwritable where a file
+/// was made. A device is opened and written directly. Refused as Memory where memory ran out, and as Unwritable where a file
 /// can't be made, written or renamed.
 pub fn replace<D: OutputDisk>(
     alloc: Global,
@@ -30,9 +30,9 @@ pub fn replace<D: OutputDisk>(
     ensures put { OnOk result (IsPut (D.entries disk.old) (D.entries disk.new) (D.leads disk.old path.now) bytes.now) }
     ensures stays { OnErr result (Stays (D.entries disk.old) (D.entries disk.new) (D.leads disk.old path.now)) }
     ensures others { KeepsBut (λ p. IsNewPath p ⊎ (p ≡ D.leads disk.old path.now)) (D.entries disk.old) (D.entries disk.new) }
-    ensures ordered { OnOk result (IfSome (D.entries disk.old) (λ entries. (entries (D.leads disk.old path.now) ≡ Other)
+    ensures ordered { OnOk result (IfSome (D.entries disk.old) (λ entries. ((entries (D.leads disk.old path.now) ≡ Other) × Asks (D.asked disk.old) (D.asked disk.new) (Open path.now ∷ []))
         ⊎ Follow (Replaces (Some bytes.now) (D.leads disk.old path.now)) (D.asked disk.old) (D.asked disk.new))) }
-    ensures undone { OnErr result (Follow LeavesNoFile (D.asked disk.old) (D.asked disk.new)) }
+    ensures undone { OnErr result (Follow LeavesNoFile (D.asked disk.old) (D.asked disk.new) ⊎ Asks (D.asked disk.old) (D.asked disk.new) (Open path.now ∷ [])) }
 {
     match disk.file_path(alloc, path)? {
         Some(path) => replace_file(alloc, disk, path.as_str(), bytes),
@@ -77,7 +77,7 @@ fn put<D: OutputDisk>(
     ensures others { KeepsBut (λ p. (p ≡ name.now) ⊎ (p ≡ path.now)) (D.entries disk.old) (D.entries disk.new) }
     ensures stays { OnErr result (KeepsBut (λ p. p ≡ name.now) (D.entries disk.old) (D.entries disk.new)) }
     ensures ordered { OnOk result (D.NewFile.contents file ≡ Some [] → Asks (D.asked disk.old) (D.asked disk.new) (Sync (Some bytes.now) ∷ Rename (Some bytes.now) name.now path.now ∷ [])) }
-    ensures undone { OnErr result (Follow MakesNone (D.asked disk.old) (D.asked disk.new)) }
+    ensures undone { OnErr result (Follow SyncsAndRenames (D.asked disk.old) (D.asked disk.new)) }
 {
     file.write_all(bytes)?;
     disk.sync(&file)?;
@@ -96,7 +96,7 @@ fn new_beside<D: OutputDisk>(
     ensures empty { IfOk result (λ made. IfSome (D.entries disk.old) (λ _. D.NewFile.contents made.1 ≡ Some [])) }
     ensures others { KeepsBut (IsBeside path.now) (D.entries disk.old) (D.entries disk.new) }
     ensures makes { IfOk result (λ made. Follow (MakesLast (string_bytes made.0)) (D.asked disk.old) (D.asked disk.new)) }
-    ensures makes_none { OnErr result (Follow MakesNone (D.asked disk.old) (D.asked disk.new)) }
+    ensures makes_none { OnErr result (Follow Clears (D.asked disk.old) (D.asked disk.new)) }
 {
     for number in 0..NAME_LIMIT {
         let name = new_path(alloc, path, number)?;
@@ -127,7 +127,7 @@ fn new_file<D: OutputDisk>(disk: &mut D, path: &str) -> io::Result<D::NewFile>
     ensures empty { IfOk result (λ file. IfSome (D.entries disk.old) (λ _. D.NewFile.contents file ≡ Some [])) }
     ensures others { KeepsBut (λ p. p ≡ path.now) (D.entries disk.old) (D.entries disk.new) }
     ensures makes { OnOk result (Follow (MakesLast path.now) (D.asked disk.old) (D.asked disk.new)) }
-    ensures makes_none { OnErr result (Follow MakesNone (D.asked disk.old) (D.asked disk.new)) }
+    ensures makes_none { OnErr result (Follow Clears (D.asked disk.old) (D.asked disk.new)) }
 {
     match disk.create_new(path) {
         Err(error) if error.kind() == io::ErrorKind::AlreadyExists => {

@@ -1,8 +1,8 @@
 use Rattle.std.proofs.Common.{◌≡◌, ◌∙◌, sym, subst}
 use Rattle.std.specs.String.{string_bytes}
 use Rattle.system_files.specs.Entries.{IsBeside, KeepsBut}
-use Rattle.system_files.specs.Orders.{Follow, MakesLast, MakesNone}
-use Rattle.system_files.proofs.OrderLists.{none_then, then_made, differs, kept_then}
+use Rattle.system_files.specs.Orders.{Follow, MakesLast, Clears}
+use Rattle.system_files.proofs.OrderLists.{cleared_then, then_made, differs, kept_then}
 use Rattle.system_files.proofs.replacing.new_beside.Goals.{then-ne+in-Err, else-ne}
 use Rattle.system_files.proofs.replacing.new_beside.Goals as goal
 
@@ -15,12 +15,12 @@ loop-number-preserved g c = elim c.if-ne.branch [
         let looked : string_bytes c.in_ok-name.name ≡ c.as_str.result.now = cc in
         subst (IsBeside c.args.path.now) same (c.in_ok-name.ensures, λ is. differs c.as_str.result.now c.args.path.now (sym looked ∙ is) w.if-ne.ensures))
         c.loop-number.invariant.others w.new_file.ensures.others);
-    asks = subst (λ d. Follow MakesNone (g.D.OutputDisk.asked c.args.disk.now) (g.D.OutputDisk.asked d)) (sym w.disk-is)
-        (none_then (g.D.OutputDisk.asked c.args.disk.now) (g.D.OutputDisk.asked c.loop-number.disk) (g.D.OutputDisk.asked w.new_file.new.disk) c.loop-number.invariant.asks w.in-Err.ensures.makes_none);
+    asks = subst (λ d. Follow Clears (g.D.OutputDisk.asked c.args.disk.now) (g.D.OutputDisk.asked d)) (sym w.disk-is)
+        (cleared_then (g.D.OutputDisk.asked c.args.disk.now) (g.D.OutputDisk.asked c.loop-number.disk) (g.D.OutputDisk.asked w.new_file.new.disk) c.loop-number.invariant.asks w.in-Err.ensures.makes_none);
   }
   | else-ne w ↦ record {
     others = subst (λ d. KeepsBut (IsBeside c.args.path.now) (g.D.OutputDisk.entries c.args.disk.now) (g.D.OutputDisk.entries d)) (sym w.disk-is) c.loop-number.invariant.others;
-    asks = subst (λ d. Follow MakesNone (g.D.OutputDisk.asked c.args.disk.now) (g.D.OutputDisk.asked d)) (sym w.disk-is) c.loop-number.invariant.asks;
+    asks = subst (λ d. Follow Clears (g.D.OutputDisk.asked c.args.disk.now) (g.D.OutputDisk.asked d)) (sym w.disk-is) c.loop-number.invariant.asks;
   }
 ]
 
@@ -30,4 +30,4 @@ returns-in-Ok-clause-makes g c = let same : string_bytes c.in_ok-name.name ≡ c
     (subst (λ name. Follow (MakesLast name) (g.D.OutputDisk.asked c.loop-number.disk) (g.D.OutputDisk.asked c.new_file.new.disk)) (sym same) c.in-Ok.ensures.makes)
 
 pub returns-in-Err-2-clause-makes_none : goal.returns-in-Err-2-clause-makes_none
-returns-in-Err-2-clause-makes_none g c = none_then (g.D.OutputDisk.asked c.args.disk.now) (g.D.OutputDisk.asked c.loop-number.disk) (g.D.OutputDisk.asked c.new_file.new.disk) c.loop-number.invariant.asks c.in-Err.ensures.makes_none
+returns-in-Err-2-clause-makes_none g c = cleared_then (g.D.OutputDisk.asked c.args.disk.now) (g.D.OutputDisk.asked c.loop-number.disk) (g.D.OutputDisk.asked c.new_file.new.disk) c.loop-number.invariant.asks c.in-Err.ensures.makes_none
