@@ -3,11 +3,12 @@ use Rattle.std.specs.Prelude.{◌≡◌, ℕ, ◌++◌, ◌⊎◌, All, List, []
 
 -- to make a file at a path, to open what is there, to make sure that a file's bytes are on the disk, to give a file of these bytes
 -- another name, to remove what is at a path, and to remove a file there that a process which has ended left over; None where the
--- bytes are not known. A file that can't be made and a sync that is refused count as not asked for
+-- bytes are not known. A file that can't be made counts as not asked for, and a sync that is refused is an order of its own
 pub data Order : Type 0 where
   Make : (path : List ℕ) → Order
   Open : (path : List ℕ) → Order
   Sync : (bytes : Option (List ℕ)) → Order
+  RefusedSync : Order
   Rename : (bytes : Option (List ℕ)) (from to : List ℕ) → Order
   Remove : (path : List ℕ) → Order
   RemoveLeftOver : (path : List ℕ) → Order
@@ -36,6 +37,7 @@ Clears orders = All IsClearing orders
 -- an order to sync or to rename a file
 abbrev pub IsSyncOrRename : Order → Type 0
 IsSyncOrRename (Sync bytes) = ⊤
+IsSyncOrRename RefusedSync = ⊤
 IsSyncOrRename (Rename bytes from to) = ⊤
 IsSyncOrRename order = ⊥
 

@@ -4,7 +4,7 @@ ghost use Rattle.std.specs.Prelude.{◌≡◌, ◌⊎◌, ℕ, List, [], ◌∷�
 ghost use Rattle.std.specs.Option.{option_map};
 ghost use Rattle.std.specs.String.{string_bytes};
 ghost use Rattle.system_files.specs.Entries.{Entries, IsPathOf, KeepsBut, Ordinary};
-ghost use Rattle.system_files.specs.Orders.{Asks, Make, Open, Order, Remove, RemoveLeftOver, Rename, Sync};
+ghost use Rattle.system_files.specs.Orders.{Asks, Make, Open, Order, RefusedSync, Remove, RemoveLeftOver, Rename, Sync};
 
 use std::alloc::Global;
 use std::io;
@@ -18,8 +18,9 @@ pub trait OutputDisk {
     /// What stands at each path, links aside, where that is known.
     ghost entries: { Self → Option Entries };
 
-    /// What was asked of the disk so far, the last order last, where that is known. A file that could not be made and a sync that
-    /// was refused were not asked for; each other order counts also where it was refused.
+    /// What was asked of the disk so far, the last order last, where that is known. A file that could not be made was not asked
+    /// for; each other order counts also where it was refused. A refused sync is an order of its own: to try it again is no way to
+    /// mend it, since a system may have dropped the bytes.
     ghost asked: { Self → Option (List Order) };
 
     /// The path that a path leads to, with links followed.
@@ -58,7 +59,7 @@ pub trait OutputDisk {
     fn sync(&mut self, file: &Self::NewFile) -> io::Result<()>
         ensures same { KeepsBut (λ _. ⊥) (entries self.old) (entries self.new) }
         ensures asks { OnOk result (Asks (asked self.old) (asked self.new) (Sync (Self.NewFile.contents file.now) ∷ [])) }
-        ensures asks_nothing { OnErr result (asked self.new ≡ asked self.old) };
+        ensures asks_in_vain { OnErr result (Asks (asked self.old) (asked self.new) (RefusedSync ∷ [])) };
 
     /// Renames a file that is open. It replaces the file that has the new name, if any. Refused where the old
     /// name is not this file's.
