@@ -4,24 +4,33 @@ import hashlib
 import subprocess
 import sys
 import time
+from concurrent.futures import FIRST_COMPLETED, ThreadPoolExecutor, wait
 from pathlib import Path
 
 TOP = Path(__file__).resolve().parent.parent
+
+# How many crates are proved at once. A proof takes 1 to 4 GB of memory.
+AT_ONCE = 2
 
 
 def tell(text):
     print(text, file=sys.stderr, flush=True)
 
 
-def crates_of(crate):
-    """A crate and those that it stands on, in the order in which rt proves them: each behind those that it stands on."""
+def needs_of_crates():
+    """The crates that each crate stands on, by its name."""
     lines = (line.split(":") for line in (TOP / "crates.txt").read_text().splitlines() if not line.startswith("#"))
     needs = {line[0].split()[0]: line[1].split() for line in lines if len(line) == 2}
-    found = []
+    return {name: [needed for needed in below if needed in needs] for name, below in needs.items()}
+
+
+def crates_of(crate):
+    """A crate and those that it stands on, each behind those that it stands on itself."""
+    needs, found = needs_of_crates(), []
 
     def add(name):
         for needed in needs[name]:
-            if needed in needs and needed not in found:
+            if needed not in found:
                 add(needed)
         found.append(name)
 
@@ -63,22 +72,33 @@ def note_built(made, sources):
     stamp_of(made).write_text(f"{stamp(made, sources)}{kit}\n")
 
 
+def run_rt(words, crate):
+    """Runs rt in the folder of a crate. Returns what it said; refused with that where it ends with another status than 0."""
+    how = {"cwd": TOP / "crates" / crate, "stdout": subprocess.PIPE, "stderr": subprocess.STDOUT, "text": True}
+    ended = subprocess.run(["rt", *words], check=False, **how)
+    if ended.returncode != 0:
+        sys.stderr.write(ended.stdout)
+        raise ValueError(f"rt ended with status {ended.returncode} in {crate}; what it said stands above")
+    return ended.stdout
+
+
 def prove(words, crates):
-    """Proves crates by rt in the folder of the last one; tells of each when it comes to it, and when it is proved."""
-    began, said, crate = time.monotonic(), [], None
-    tell("first rt reads all sources, which takes a minute or more where little is proved yet")
+    """Proves crates, each behind those that it stands on and two at once where two wait for nobody; the last one by these words for
+    rt. Tells of each when it comes to it, and when it is proved."""
+    began, needs, waiting, proved, running = time.monotonic(), needs_of_crates(), list(crates), [], {}
     minutes = lambda: f"{(time.monotonic() - began) / 60:.0f} minutes"
-    how = {"cwd": TOP / "crates" / crates[-1], "stdout": subprocess.PIPE, "stderr": subprocess.STDOUT, "text": True}
-    with subprocess.Popen(["rt", *words], **how) as rt:
-        for line in rt.stdout:
-            said.append(line)
-            if line.startswith("rt: chose --jobs "):
-                crate = line.split()[-1]
-                tell(f"after {minutes()}: proving {crate}")
-            if line.startswith("logic=proved ") and crate in crates:
-                left = len(crates) - 1 - crates.index(crate)
-                tell(f"after {minutes()}: {crate} is proved; {left} of {len(crates)} crates are left")
-    if rt.returncode != 0:
-        sys.stderr.write("".join(said))
-        raise ValueError(f"rt ended with status {rt.returncode}; what it said stands above")
+    with ThreadPoolExecutor(AT_ONCE) as pool:
+        while waiting or running:
+            ready = [name for name in waiting if all(needed in proved for needed in needs[name])]
+            for name in ready[: AT_ONCE - len(running)]:
+                waiting.remove(name)
+                tell(f"after {minutes()}: proving {name}")
+                running[pool.submit(run_rt, words if name == crates[-1] else ["lib"], name)] = name
+            for ended in wait(running, return_when=FIRST_COMPLETED).done:
+                name = running.pop(ended)
+                if ended.exception():
+                    waiting.clear()
+                    raise ended.exception()
+                proved.append(name)
+                tell(f"after {minutes()}: {name} is proved; {len(crates) - len(proved)} of {len(crates)} crates are left")
     tell(f"after {minutes()}: done")
