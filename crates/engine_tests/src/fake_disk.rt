@@ -299,6 +299,26 @@ impl<'a> Disk for FakeDisk<'a> {
     }
 }
 
+impl<'a> FakeDisk<'a> {
+    /// Opens an empty file at a path, in place of the files that have it.
+    fn create(&self, path: &str) -> io::Result<FakeWriter<'a>> {
+        self.stored.note("create", path)?;
+        self.stored.change()?;
+        self.stored.drop_file(self.alloc, path)?;
+        self.stored.put(self.alloc, path, b"")?;
+        Ok(FakeWriter {
+            stored: self.stored,
+            path: String::from_str(self.alloc, path)?,
+        })
+    }
+
+    /// Removes the files with a path.
+    fn remove_at(&self, path: &str) -> io::Result<()> {
+        self.stored.note("remove", path)?;
+        self.stored.drop_file(self.alloc, path)
+    }
+}
+
 impl<'a> OutputDisk for FakeDisk<'a> {
     type NewFile = FakeWriter<'a>;
 
@@ -319,22 +339,16 @@ impl<'a> OutputDisk for FakeDisk<'a> {
         if !self.stored.left_over {
             return Err(io::Error::from(io::ErrorKind::AlreadyExists));
         }
-        self.remove_file(path)
+        self.remove_at(path)
     }
 
     fn is_one_file(&self, left: &str, right: &str) -> io::Result<bool> {
         Ok(behind_link(left) == behind_link(right))
     }
 
-    fn create(&mut self, path: &str) -> io::Result<FakeWriter<'a>> {
-        self.stored.note("create", path)?;
-        self.stored.change()?;
-        self.stored.drop_file(self.alloc, path)?;
-        self.stored.put(self.alloc, path, b"")?;
-        Ok(FakeWriter {
-            stored: self.stored,
-            path: String::from_str(self.alloc, path)?,
-        })
+    fn write_into(&mut self, path: &str, bytes: &[u8]) -> io::Result<()> {
+        let mut file = self.create(path)?;
+        file.write_all(bytes)
     }
 
     fn file_path(&self, alloc: Global, path: &str) -> io::Result<Option<String>> {
@@ -357,9 +371,11 @@ impl<'a> OutputDisk for FakeDisk<'a> {
         self.stored.move_file(self.alloc, from, to)
     }
 
-    fn remove_file(&mut self, path: &str) -> io::Result<()> {
-        self.stored.note("remove", path)?;
-        self.stored.drop_file(self.alloc, path)
+    fn remove(&mut self, file: &FakeWriter<'a>, path: &str) -> io::Result<()> {
+        if file.path.as_str() != path {
+            return Err(io::Error::from(io::ErrorKind::NotFound));
+        }
+        self.remove_at(path)
     }
 }
 

@@ -63,6 +63,30 @@ fn other_names_stay(rt: HostRuntime) -> Result<(), Fail> {
 }
 
 #[test]
+fn only_the_open_file_is_removed(rt: HostRuntime) -> Result<(), Fail> {
+    make_folder(&rt, rt.alloc(), "open")?;
+    let mut disk = SystemDisk { rt: &rt };
+    let kept = disk.create_new("open/.rvstm.new0")?;
+    let file = disk.create_new("open/.rvstm.new1")?;
+    // Somebody removes the file, and puts another at its name.
+    fs::remove_file(&rt, "open/.rvstm.new1")?;
+    fs::write(&rt, "open/.rvstm.new1", OLD)?;
+    for name in ["open/.rvstm.new0", "open/.rvstm.new1", "open/none"] {
+        assert!(rt;
+            disk.remove(&file, name)
+                .is_err_and(|e| e.kind() == io::ErrorKind::NotFound),
+            "{name}"
+        );
+    }
+    assert!(rt; has(&rt, "open/.rvstm.new1", OLD)?);
+    assert!(rt; count(&rt, "open")? == 2);
+    disk.remove(&kept, "open/.rvstm.new0")?;
+    assert!(rt; count(&rt, "open")? == 1);
+    remove_folder(&rt, rt.alloc(), "open")?;
+    Ok(())
+}
+
+#[test]
 fn links_are_followed(rt: HostRuntime) -> Result<(), Fail> {
     make_folder(&rt, rt.alloc(), "links")?;
     make_folder(&rt, rt.alloc(), "links/deep")?;

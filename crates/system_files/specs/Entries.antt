@@ -1,5 +1,5 @@
 -- What stands at the paths of a disk, and how that changes.
-use Rattle.std.specs.Prelude.{◌≡◌, ℕ, ◌<◌, ◌++◌, ◌⊎◌, List, Option, None, Some, ⊤, codes}
+use Rattle.std.specs.Prelude.{◌≡◌, ℕ, ◌<◌, ◌++◌, ◌⊎◌, List, [], length, slice_index, Option, None, Some, ⊤, codes}
 use Rattle.std.specs.Fmt.{decimal}
 
 -- what stands at a path: nothing, an ordinary file with its bytes, or something else, such as a device
@@ -34,10 +34,18 @@ abbrev pub Stays : Option Entries → Option Entries → List ℕ → Type 0
 Stays (Some old) (Some new) path = (old path ≡ Other) ⊎ (new path ≡ old path)
 Stays old new path = ⊤
 
--- the path of a new file: a folder, and the name `.rvstm.new0` to `.rvstm.new99`
-abbrev pub IsNewPath : List ℕ → Type 0
-IsNewPath path = (folder : List ℕ) × (n : ℕ) × (n < 100) × (path ≡ folder ++ codes ".rvstm.new" ++ decimal n)
+-- a name, in which no slash stands
+abbrev pub HasNoSlash : List ℕ → Type 0
+HasNoSlash name = (i : ℕ) → i < length name → slice_index name i ≡ 47 → ⊥
+
+-- what stands before the name in a path: up to its last slash and with it, or nothing
+abbrev pub IsFolderOf : List ℕ → List ℕ → Type 0
+IsFolderOf path folder = (name : List ℕ) × HasNoSlash name × (path ≡ folder ++ name) × ((folder ≡ []) ⊎ ((outer : List ℕ) × (folder ≡ outer ++ codes "/")))
+
+-- the path of a new file: in the folder of the file that it is to replace, with the name `.rvstm.new0` to `.rvstm.new99`
+abbrev pub IsNewPath : List ℕ → List ℕ → Type 0
+IsNewPath replaced path = (folder : List ℕ) × (n : ℕ) × IsFolderOf replaced folder × (n < 100) × (path ≡ folder ++ codes ".rvstm.new" ++ decimal n)
 
 -- the same, and not the path whose file it is to replace
 abbrev pub IsBeside : List ℕ → List ℕ → Type 0
-IsBeside replaced path = IsNewPath path × (path ≡ replaced → ⊥)
+IsBeside replaced path = IsNewPath replaced path × (path ≡ replaced → ⊥)

@@ -4,7 +4,7 @@ ghost use Rattle.std.specs.Prelude.{◌≡◌, ◌⊎◌, ℕ, List, [], ◌∷�
 ghost use Rattle.std.specs.Option.{option_map};
 ghost use Rattle.std.specs.String.{string_bytes};
 ghost use Rattle.system_files.specs.Entries.{Entries, IsPathOf, KeepsBut, Ordinary};
-ghost use Rattle.system_files.specs.Orders.{Asks, Make, Open, Order, RefusedSync, Remove, RemoveLeftOver, Rename, Sync};
+ghost use Rattle.system_files.specs.Orders.{Asks, Make, Order, RefusedSync, Remove, RemoveLeftOver, Rename, Sync, Write};
 
 use std::alloc::Global;
 use std::io;
@@ -44,10 +44,10 @@ pub trait OutputDisk {
     /// can't be told.
     fn is_one_file(&self, left: &str, right: &str) -> io::Result<bool>;
 
-    /// Opens what is at a path, to write into it from its start.
-    fn create(&mut self, path: &str) -> io::Result<Self::NewFile>
+    /// Opens what is at a path, and writes bytes into it from its start.
+    fn write_into(&mut self, path: &str, bytes: &[u8]) -> io::Result<()>
         ensures others { KeepsBut (λ p. p ≡ leads self.old path.now) (entries self.old) (entries self.new) }
-        ensures asks { Asks (asked self.old) (asked self.new) (Open path.now ∷ []) };
+        ensures asks { Asks (asked self.old) (asked self.new) (Write path.now bytes.now ∷ []) };
 
     /// The path of the ordinary file that a path names, with links followed; the path itself where
     /// nothing is there yet. `None` where something else is there, such as a device or a link to nothing.
@@ -69,8 +69,8 @@ pub trait OutputDisk {
         ensures stays { OnErr result (KeepsBut (λ p. p ≡ from.now) (entries self.old) (entries self.new)) }
         ensures asks { Asks (asked self.old) (asked self.new) (Rename (Self.NewFile.contents file.now) from.now to.now ∷ []) };
 
-    /// Removes a file.
-    fn remove_file(&mut self, path: &str) -> io::Result<()>
+    /// Removes a file that is open. Refused where the path is not this file's.
+    fn remove(&mut self, file: &Self::NewFile, path: &str) -> io::Result<()>
         ensures others { KeepsBut (λ p. p ≡ path.now) (entries self.old) (entries self.new) }
         ensures asks { Asks (asked self.old) (asked self.new) (Remove path.now ∷ []) };
 }

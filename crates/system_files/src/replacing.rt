@@ -3,7 +3,7 @@
 ghost use Rattle.std.specs.Prelude.{◌≡◌, ◌⊎◌, ◌<◌, ℕ, List, [], ◌∷◌, Option, Some, IfErr, IfOk, IfSome, OnErr, OnOk};
 ghost use Rattle.std.specs.String.{string_bytes};
 ghost use Rattle.system_files.specs.Entries.{IsBeside, IsNewPath, IsPut, KeepsBut, Ordinary, Other, Stays};
-ghost use Rattle.system_files.specs.Orders.{Asks, Clears, Follow, LeavesNoFile, MakesLast, Open, Rename, Replaces, Sync, SyncsAndRenames};
+ghost use Rattle.system_files.specs.Orders.{Asks, Clears, Follow, LeavesNoFile, MakesLast, Remove, Rename, Replaces, Sync, SyncsAndRenames, Write};
 
 use crate::fault::ReplaceFault;
 use crate::output_disk::OutputDisk;
@@ -19,7 +19,7 @@ const NEW_NAME: &str = ".rvstm.new";
 
 /// Puts bytes at a path. An ordinary file there is replaced in one step, by a file that was written in
 /// full beside it; where this is refused it stays as it was, and the disk is asked last to remove the new file, if one
-/// was made. A device is opened and written directly. Refused as Memory where memory ran out, and as Unwritable where a file
+/// was made. The bytes are written into a device itself. Refused as Memory where memory ran out, and as Unwritable where a file
 /// can't be made, written or renamed.
 pub fn replace<D: OutputDisk>(
     alloc: Global,
@@ -29,14 +29,14 @@ pub fn replace<D: OutputDisk>(
 ) -> Result<(), ReplaceFault>
     ensures put { OnOk result (IsPut (D.entries disk.old) (D.entries disk.new) (D.leads disk.old path.now) bytes.now) }
     ensures stays { OnErr result (Stays (D.entries disk.old) (D.entries disk.new) (D.leads disk.old path.now)) }
-    ensures others { KeepsBut (λ p. IsNewPath p ⊎ (p ≡ D.leads disk.old path.now)) (D.entries disk.old) (D.entries disk.new) }
-    ensures ordered { OnOk result (IfSome (D.entries disk.old) (λ entries. ((entries (D.leads disk.old path.now) ≡ Other) × Asks (D.asked disk.old) (D.asked disk.new) (Open path.now ∷ []))
+    ensures others { KeepsBut (λ p. IsNewPath (D.leads disk.old path.now) p ⊎ (p ≡ D.leads disk.old path.now)) (D.entries disk.old) (D.entries disk.new) }
+    ensures ordered { OnOk result (IfSome (D.entries disk.old) (λ entries. ((entries (D.leads disk.old path.now) ≡ Other) × Asks (D.asked disk.old) (D.asked disk.new) (Write path.now bytes.now ∷ []))
         ⊎ Follow (Replaces (Some bytes.now) (D.leads disk.old path.now)) (D.asked disk.old) (D.asked disk.new))) }
-    ensures undone { OnErr result (Follow LeavesNoFile (D.asked disk.old) (D.asked disk.new) ⊎ Asks (D.asked disk.old) (D.asked disk.new) (Open path.now ∷ [])) }
+    ensures undone { OnErr result (Follow LeavesNoFile (D.asked disk.old) (D.asked disk.new) ⊎ Asks (D.asked disk.old) (D.asked disk.new) (Write path.now bytes.now ∷ [])) }
 {
     match disk.file_path(alloc, path)? {
         Some(path) => replace_file(alloc, disk, path.as_str(), bytes),
-        None => write_into(disk, path, bytes),
+        None => Ok(disk.write_into(path, bytes)?),
     }
 }
 
@@ -50,38 +50,53 @@ fn replace_file<D: OutputDisk>(
 ) -> Result<(), ReplaceFault>
     ensures put { OnOk result (IfSome (D.entries disk.old) (λ _. IfSome (D.entries disk.new) (λ new. new path.now ≡ Ordinary bytes.now))) }
     ensures stays { OnErr result (KeepsBut (IsBeside path.now) (D.entries disk.old) (D.entries disk.new)) }
-    ensures others { KeepsBut (λ p. IsNewPath p ⊎ (p ≡ path.now)) (D.entries disk.old) (D.entries disk.new) }
+    ensures others { KeepsBut (λ p. IsNewPath path.now p ⊎ (p ≡ path.now)) (D.entries disk.old) (D.entries disk.new) }
     ensures ordered { OnOk result (IfSome (D.entries disk.old) (λ _. Follow (Replaces (Some bytes.now) path.now) (D.asked disk.old) (D.asked disk.new))) }
     ensures undone { OnErr result (Follow LeavesNoFile (D.asked disk.old) (D.asked disk.new)) }
 {
-    let (name, file) = new_beside(alloc, disk, path)?;
-    match put(disk, file, name.as_str(), path, bytes) {
-        Ok(()) => Ok(()),
-        Err(error) => {
-            let _ = disk.remove_file(name.as_str());
-            Err(ReplaceFault::from(error))
-        }
-    }
+    let (name, mut file) = new_beside(alloc, disk, path)?;
+    let outcome = put(disk, &mut file, name.as_str(), path, bytes);
+    clear_up(disk, &file, name.as_str(), outcome)
 }
 
-/// Writes bytes to a new file, and renames it while it is still open, so that nobody takes it for one that was left
+/// Writes bytes to a new file, and renames it. It is still open then, so that nobody takes it for one that was left
 /// over.
 fn put<D: OutputDisk>(
     disk: &mut D,
-    mut file: D::NewFile,
+    file: &mut D::NewFile,
     name: &str,
     path: &str,
     bytes: &[u8],
-) -> io::Result<()>
-    ensures renamed { OnOk result (D.NewFile.contents file ≡ Some [] → IfSome (D.entries disk.new) (λ new. new path.now ≡ Ordinary bytes.now)) }
+) -> Result<(), ReplaceFault>
+    ensures renamed { OnOk result (D.NewFile.contents file.old ≡ Some [] → IfSome (D.entries disk.new) (λ new. new path.now ≡ Ordinary bytes.now)) }
     ensures others { KeepsBut (λ p. (p ≡ name.now) ⊎ (p ≡ path.now)) (D.entries disk.old) (D.entries disk.new) }
     ensures stays { OnErr result (KeepsBut (λ p. p ≡ name.now) (D.entries disk.old) (D.entries disk.new)) }
-    ensures ordered { OnOk result (D.NewFile.contents file ≡ Some [] → Asks (D.asked disk.old) (D.asked disk.new) (Sync (Some bytes.now) ∷ Rename (Some bytes.now) name.now path.now ∷ [])) }
+    ensures ordered { OnOk result (D.NewFile.contents file.old ≡ Some [] → Asks (D.asked disk.old) (D.asked disk.new) (Sync (Some bytes.now) ∷ Rename (Some bytes.now) name.now path.now ∷ [])) }
     ensures undone { OnErr result (Follow SyncsAndRenames (D.asked disk.old) (D.asked disk.new)) }
 {
     file.write_all(bytes)?;
-    disk.sync(&file)?;
-    disk.rename(&file, name, path)
+    disk.sync(file)?;
+    disk.rename(file, name, path)?;
+    Ok(())
+}
+
+/// Asks the disk to remove a new file where putting it in place was refused, and hands on how that ended. The file is
+/// still open then, so that no other file is removed which somebody made at its name.
+fn clear_up<D: OutputDisk>(
+    disk: &mut D,
+    file: &D::NewFile,
+    name: &str,
+    outcome: Result<(), ReplaceFault>,
+) -> Result<(), ReplaceFault>
+    ensures told { result ≡ outcome }
+    ensures untouched { OnOk outcome (disk.new ≡ disk.old) }
+    ensures others { KeepsBut (λ p. p ≡ name.now) (D.entries disk.old) (D.entries disk.new) }
+    ensures asks { OnErr outcome (Asks (D.asked disk.old) (D.asked disk.new) (Remove name.now ∷ [])) }
+{
+    if outcome.is_err() {
+        let _ = disk.remove(file, name);
+    }
+    outcome
 }
 
 /// Makes a file in the folder of a path, and returns its path and the file. Its name is `.rvstm.new0` to
@@ -114,7 +129,7 @@ fn new_beside<D: OutputDisk>(
 /// The path of a new file in the folder of a path; refused where memory ran out.
 fn new_path(alloc: Global, path: &str, number: usize) -> Result<String, AllocError>
     requires { number < 100 }
-    ensures { IfOk result (λ name. IsNewPath (string_bytes name)) }
+    ensures { IfOk result (λ name. IsNewPath path.now (string_bytes name)) }
 {
     match path.rsplit_once('/') {
         Some((folder, _)) => format!(in alloc; "{folder}/{NEW_NAME}{number}"),
@@ -138,14 +153,4 @@ fn new_file<D: OutputDisk>(disk: &mut D, path: &str) -> io::Result<D::NewFile>
         }
         made => made,
     }
-}
-
-/// Writes bytes into what is at a path.
-fn write_into<D: OutputDisk>(disk: &mut D, path: &str, bytes: &[u8]) -> Result<(), ReplaceFault>
-    ensures others { KeepsBut (λ p. p ≡ D.leads disk.old path.now) (D.entries disk.old) (D.entries disk.new) }
-    ensures opens { Asks (D.asked disk.old) (D.asked disk.new) (Open path.now ∷ []) }
-{
-    let mut file = disk.create(path)?;
-    file.write_all(bytes)?;
-    Ok(())
 }

@@ -5,6 +5,7 @@ ghost use Rattle.std.specs.Prelude.{None};
 use crate::output_disk::OutputDisk;
 use std::alloc::Global;
 use std::fs::{File, Metadata, OpenFile, OpenOptions, TryLockError};
+use std::io::Write;
 use std::os::unix::fs::MetadataExt;
 use std::rt::Files;
 use std::{fs, io};
@@ -52,8 +53,9 @@ impl<'a, R: Files<File = File>> OutputDisk for SystemDisk<'a, R> {
         }
     }
 
-    fn create(&mut self, path: &str) -> io::Result<File> {
-        fs::create(self.rt, path)
+    fn write_into(&mut self, path: &str, bytes: &[u8]) -> io::Result<()> {
+        let mut file = fs::create(self.rt, path)?;
+        file.write_all(bytes)
     }
 
     fn file_path(&self, alloc: Global, path: &str) -> io::Result<Option<String>> {
@@ -77,7 +79,10 @@ impl<'a, R: Files<File = File>> OutputDisk for SystemDisk<'a, R> {
         fs::rename(self.rt, from, to)
     }
 
-    fn remove_file(&mut self, path: &str) -> io::Result<()> {
+    fn remove(&mut self, file: &File, path: &str) -> io::Result<()> {
+        if !is_at(self.rt, file, path) {
+            return Err(io::Error::from(io::ErrorKind::NotFound));
+        }
         fs::remove_file(self.rt, path)
     }
 }
