@@ -1,7 +1,8 @@
 //! `rvstm asm` over a disk of which each request fails in turn: the file that stood at OUT stays.
 
+use crate::answers::{is_answered, is_refused};
 use crate::asserts::assert_right;
-use crate::fake_disk::{Stored, is_answered, is_refused};
+use crate::fake_disk::Stored;
 use crate::sources::{ECHO_FILE, ECHO_SOURCE};
 use std::alloc::Global;
 use std::io;

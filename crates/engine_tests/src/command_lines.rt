@@ -1,8 +1,9 @@
 //! The program over a disk in memory: command lines, exit statuses, and the order of what is opened.
 
+use crate::answers::{answer_to, is_answered};
 use crate::asserts::{assert_right, has_pieces};
 use crate::blocks::elf_of;
-use crate::fake_disk::{Stored, answer_to, is_answered};
+use crate::fake_disk::Stored;
 use crate::rows::ECHO;
 use crate::sources::{ECHO_LISTING, ECHO_SOURCE};
 use std::alloc::Global;

@@ -2,10 +2,10 @@
 
 ghost use Rattle.std.specs.Prelude.{⊤};
 
+use crate::answers::is_answered;
 use crate::asserts::assert_right;
 use crate::calls::{in_order, job_of_inputs};
 use crate::command_lines::disk_of_echo;
-use crate::fake_disk::is_answered;
 use crate::rows::{COUNT, ECHO};
 use byte_streams::{Destination, Source, WriteFault};
 use debugger::{DebugFault, Replay, debug_to};

@@ -1,8 +1,9 @@
 //! The first fault of readable files, as each command tells it.
 
+use crate::answers::is_refused;
 use crate::asserts::assert_right;
 use crate::command_lines::disk_of_echo;
-use crate::fake_disk::{Stored, is_refused};
+use crate::fake_disk::Stored;
 use std::alloc::Global;
 use std::io;
 use std::sync::Wait;

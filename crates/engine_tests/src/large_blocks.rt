@@ -1,8 +1,9 @@
 //! Blocks at the limits, run by each engine: the most calls, programs, workers and written keys, and calls that read and
 //! touch much. The texts of their results follow from the rules.
 
+use crate::answers::is_answered;
 use crate::blocks::{block_of, count_lines, repeated, result_of_counts};
-use crate::fake_disk::{Stored, is_answered};
+use crate::fake_disk::Stored;
 use crate::sources::{ECHO_SOURCE, assembled};
 use std::alloc::{AllocError, Global};
 use std::process::Abort;

@@ -1,8 +1,9 @@
 //! Files and sessions that are many times as long as the worked ones. The texts of their results follow from the rules.
 
+use crate::answers::is_answered;
 use crate::blocks::repeated;
 use crate::command_lines::disk_of_echo;
-use crate::fake_disk::{Stored, is_answered};
+use crate::fake_disk::Stored;
 use crate::large_blocks::{disk_of, is_printed_by};
 use crate::sizes::push_echo;
 use crate::sources::{ECHO_FILE, ECHO_SOURCE, assembled};

@@ -5,6 +5,8 @@
 #[cfg(test)]
 mod adversary;
 #[cfg(test)]
+mod answers;
+#[cfg(test)]
 mod areas;
 #[cfg(test)]
 mod assembled;

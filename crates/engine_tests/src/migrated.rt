@@ -1,8 +1,9 @@
 //! Block files of format 1 and what they are migrated to.
 
+use crate::answers::is_answered;
 use crate::asserts::assert_right;
 use crate::blocks::{BlockInMemory, printed};
-use crate::fake_disk::{Stored, is_answered};
+use crate::fake_disk::Stored;
 use crate::rows::{Row, rows};
 use engines::migrated_file;
 use std::alloc::Global;

@@ -1,9 +1,10 @@
 //! Tests of the lines that `debug --more` hears.
 
+use crate::answers::is_answered;
 use crate::asserts::assert_right;
 use crate::blocks::elf_of;
 use crate::command_lines::disk_of_echo;
-use crate::fake_disk::{Stored, is_answered};
+use crate::fake_disk::Stored;
 use crate::rows::COUNT;
 use std::alloc::Global;
 use std::process::Abort;

@@ -1,9 +1,9 @@
 //! What the program reports where its input, its output or its standard error fails.
 
+use crate::answers::{answer_along, answer_on};
 use crate::asserts::assert_right;
 use crate::command_lines::{RESULT, disk_of_echo};
 use crate::failing::{FailingReader, FailingWriter};
-use crate::fake_disk::{answer_along, answer_on};
 use crate::sources::ECHO_LISTING;
 use byte_streams::WriteFault;
 use engines::{FileFault, Refusal, report, write_refusal};

@@ -1,6 +1,7 @@
 //! Sessions one after another over one file: each goes on where the one before ended, by whatever it ended.
 
-use crate::fake_disk::{Answer, Stored, answer_over};
+use crate::answers::{Answer, answer_over};
+use crate::fake_disk::Stored;
 use crate::fake_stores::{End, FakeStores};
 use std::alloc::{AllocError, Global};
 use std::sync::Wait;

@@ -1,8 +1,9 @@
 //! Sessions as the program has them: what their requests are answered. Each row is a whole input.
 
+use crate::answers::is_answered;
 use crate::asserts::assert_right;
 use crate::command_lines::disk_of_echo;
-use crate::fake_disk::{Stored, is_answered};
+use crate::fake_disk::Stored;
 use std::alloc::{AllocError, Global};
 use std::process::Abort;
 use std::sync::Wait;

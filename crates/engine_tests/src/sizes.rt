@@ -1,8 +1,9 @@
 //! Files of programs at the greatest size.
 
+use crate::answers::{is_answered, is_refused};
 use crate::blocks::elf_of;
 use crate::command_lines::{BLOCK, RESULT};
-use crate::fake_disk::{Stored, is_answered, is_refused};
+use crate::fake_disk::Stored;
 use crate::rows::ECHO;
 use crate::sources::ECHO_LISTING;
 use std::alloc::{AllocError, Global};
