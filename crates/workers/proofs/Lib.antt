@@ -4,6 +4,7 @@ pub mod Zeros
 pub mod Causes
 pub mod AskResults
 pub mod Histories
+pub mod Limits
 pub mod Chains
 pub mod Ways
 pub mod Working

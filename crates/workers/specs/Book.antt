@@ -42,6 +42,11 @@ abbrev pub IsSpent : Option ℕ → Counts → Type 0
 IsSpent None counts = counts.steps ≡ 18446744073709551615
 IsSpent (Some limit) counts = (counts.steps ≡ 18446744073709551615) ⊎ (limit + counts.asks ≤ counts.steps)
 
+-- a worker has made no more steps, asks aside, than its limit allows, if there is one
+abbrev pub KeepsLimit : Option ℕ → Counts → Type 0
+KeepsLimit None counts = Unit {0}
+KeepsLimit (Some limit) counts = counts.steps ≤ limit + counts.asks
+
 -- some worker makes no further step
 pub record HasSpentWorker (limit : Option ℕ) (b : CoreState) : Type 0 where
   pub worker : ℕ
@@ -98,6 +103,10 @@ zero_counts worker = record { worker = worker; counts = no_counts; dones = 0 }
 unfoldable pub zero_counts_of_all : ℕ → List ShareCounts
 zero_counts_of_all zero = []
 zero_counts_of_all (suc n) = zero_counts_of_all n ++ zero_counts n ∷ []
+
+-- a share has this limit, if there is one, and its worker keeps it
+abbrev pub IsWithinLimit : Option ℕ → Share → Type 0
+IsWithinLimit limit share = (share.work_limit ≡ limit) × KeepsLimit limit share.counts
 
 -- a share agrees with the core on the counts of its worker
 pub record AgreesWith (share : Share) (b : CoreState) : Type 0 where

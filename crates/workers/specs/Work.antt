@@ -1,5 +1,6 @@
 -- What a worker's thread is answered by a book under the lock, which step it makes next, and why it ends with a fault.
-use Rattle.std.specs.Prelude.{⊤, ◌≡◌, ◌⊎◌, ℕ, List, Option, None, Some, Result, Ok, Err, length}
+use Rattle.std.specs.Prelude.{⊤, ◌≡◌, ◌⊎◌, ℕ, List, Option, None, Some, Result, Ok, Err, IfOk, length}
+use Rattle.std.specs.declared.thread.PromisedHandle.{PromisedHandle}
 use Rattle.rv_ledger.specs.declared.job.Job.{Job}
 use Rattle.rv_step.specs.declared.ended_run.EndedRun.{EndedRun}
 use Rattle.stm_state.specs.Done.{Reached}
@@ -13,6 +14,8 @@ use Rattle.stm_core.specs.declared.next_step.StepKind.{StepKind}
 use Rattle.stm_core.specs.declared.next_step.StepKind.TheVariants as kinds
 use Rattle.workers.specs.declared.book.asked.Asked.{Asked}
 use Rattle.workers.specs.declared.book.share.Share.{Share}
+use Rattle.workers.specs.declared.book.written.MetFault.{MetFault}
+use Rattle.workers.specs.declared.executor.WithinLimit.{WithinLimit}
 use Rattle.workers.specs.declared.fault.OutsideFault.TheVariants as outside
 use Rattle.workers.specs.declared.fault.RunFault.{RunFault}
 use Rattle.workers.specs.declared.fault.RunFault.TheVariants as faults
@@ -110,3 +113,9 @@ pub record IsWorkersEnd (job : Job) (first : Share) (fault : RunFault) : Type 0 
   pub met : WorkFault
   pub is : fault ≡ fault_of met
   pub ends : IsStepFault job step left met
+
+-- ---- what the thread of a worker promises
+
+-- where it was started, it promised to keep this limit, if there is one
+abbrev pub HasPromised : Option ℕ → Result (PromisedHandle (Result Share RunFault) WithinLimit) MetFault → Type 0
+HasPromised limit thread = IfOk thread (λ started. started.promise.0 ≡ limit)

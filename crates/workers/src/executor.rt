@@ -4,9 +4,11 @@ ghost use Rattle.std.specs.Prelude.{◌≡◌, ◌≢◌, ◌≤◌, ◌⊎◌, 
 ghost use Rattle.std.specs.Vec.{vec_capacity};
 ghost use Rattle.rv_step.specs.Fold.{receipts_of};
 ghost use Rattle.stm_state.specs.Steps as steps;
+ghost use Rattle.workers.specs.Book.{IsWithinLimit, KeepsLimit};
 ghost use Rattle.workers.specs.DoneCell.{IsPassOf};
 ghost use Rattle.workers.specs.History.{HasHistory, HasLimit, HasStepLimit, AreOneWorkerCounts};
 ghost use Rattle.workers.specs.Settle.{AreSharesOf};
+ghost use Rattle.workers.specs.Work.{HasPromised};
 ghost use Rattle.workers.specs.declared.fault.OutsideFault.TheVariants as outside;
 ghost use Rattle.workers.specs.declared.fault.RunFault.TheVariants as faults;
 
@@ -22,7 +24,7 @@ use rv_step::Contents;
 use std::alloc::{AllocError, Global};
 use std::marker::Brand;
 use std::sync::Wait;
-use std::thread::{JoinHandle, Scope, SpawnError, Threads};
+use std::thread::{Promise, PromisedHandle, Scope, SpawnError, Threads};
 use std::{mem, thread};
 use stm_core::{Core, Finished, JobSource, LentJob, WORKER_LIMIT};
 use version_arena::Arena;
@@ -37,13 +39,14 @@ pub struct Executor {
 }
 
 impl Executor {
-    ghost use Rattle.std.specs.Prelude.{◌≡◌, ◌<◌, ◌⊎◌, ◌↔◌, ℕ, [], Err, IfErr, IfOk, None, length};
+    ghost use Rattle.std.specs.Prelude.{◌≡◌, ◌<◌, ◌⊎◌, ◌↔◌, ℕ, [], All, Err, IfErr, IfOk, None, OnOk, length};
     ghost use Rattle.rv_step.specs.Fold.{receipts_of, store_after};
     ghost use Rattle.stm_state.specs.Steps as steps;
     ghost use Rattle.workers.specs.declared.fault.RunFault.TheVariants as faults;
     ghost use Rattle.never_stuck.specs.Far.{HasAtMostGas};
     ghost use Rattle.workers.specs.History.{HasHistory, HasLimit, HasStepLimit, AreOneWorkerCounts, IsBoundedHistory};
     ghost use Rattle.workers.specs.Settle.{AreSharesOf};
+    ghost use Rattle.workers.specs.Book.{KeepsLimit};
 
     /// An executor without shares, whose arena has room for no record yet. Takes no memory.
     pub fn new(alloc: Global) -> Executor
@@ -132,7 +135,8 @@ impl Executor {
     }
 
     /// Runs a block on 1 to 32 threads over what is lent in place of a storage; nothing is copied. Refused as
-    /// `run_block` is, and as StepLimit, where there is a limit, also where a worker has made so many steps, asks aside.
+    /// `run_block` is, and as StepLimit, where there is a limit, also where a worker has made so many steps, asks aside. Where it
+    /// answers Ok, each worker has made no more steps, asks aside, than the limit.
     pub(crate) fn run_lent<S: Contents + Sync, R: Threads + Wait + Sync, G: Gate + Sync>(
         &mut self,
         rt: &R,
@@ -148,6 +152,7 @@ impl Executor {
         ensures history { IfOk result (λ f. HasHistory (record { block = block.now; store = S.storage contents.now }) workers f.counts.items) }
         ensures one_worker { IfOk result (λ f. workers ≡ 1 → AreOneWorkerCounts (length block.now) f.counts.items) }
         ensures shares { IfOk result (λ f. AreSharesOf f.counts.items self.new.shares.items) }
+        ensures within { OnOk result (All (λ share. KeepsLimit work_limit share.counts) self.new.shares.items) }
         ensures full { IfErr result (λ e. e ≡ faults.ArenaFull → HasLimit (record { block = block.now; store = S.storage contents.now }) workers steps.ArenaFull) }
         ensures limit { IfErr result (λ e. e ≡ faults.IncarnationLimit → HasLimit (record { block = block.now; store = S.storage contents.now }) workers steps.IncarnationLimit) }
         ensures step_limit { IfErr result (λ e. e ≡ faults.StepLimit → HasStepLimit (record { block = block.now; store = S.storage contents.now }) workers work_limit) }
@@ -167,7 +172,8 @@ impl Executor {
 }
 
 /// Runs a block on threads over an arena and over what is lent in place of a storage. The arena comes back without
-/// records. Refused as `Executor::run_lent` is, but never as BadCount. Beside it the shares that the threads gave back.
+/// records. Refused as `Executor::run_lent` is, but never as BadCount. Beside it the shares that the threads gave back, each of a
+/// worker that has made no more steps, asks aside, than the limit.
 fn run_over<J: JobName + Send + Sync, S: Contents + Sync, R: Threads + Wait + Sync, G: Gate + Sync>(
     rt: &R,
     alloc: Global,
@@ -185,6 +191,7 @@ fn run_over<J: JobName + Send + Sync, S: Contents + Sync, R: Threads + Wait + Sy
     ensures history { IfOk result.0 (λ f. HasHistory J.job workers f.counts.items) }
     ensures one_worker { IfOk result.0 (λ f. workers ≡ 1 → AreOneWorkerCounts (length J.job.block) f.counts.items) }
     ensures shares { IfOk result.0 (λ f. AreSharesOf f.counts.items result.2.items) }
+    ensures within { All (λ share. KeepsLimit work_limit share.counts) result.2.items }
     ensures full { IfErr result.0 (λ e. e ≡ faults.ArenaFull → HasLimit J.job workers steps.ArenaFull) }
     ensures limit { IfErr result.0 (λ e. e ≡ faults.IncarnationLimit → HasLimit J.job workers steps.IncarnationLimit) }
     ensures step_limit { IfErr result.0 (λ e. e ≡ faults.StepLimit → HasStepLimit J.job workers work_limit) }
@@ -196,7 +203,7 @@ fn run_over<J: JobName + Send + Sync, S: Contents + Sync, R: Threads + Wait + Sy
         Ok(shared) => shared,
         Err(arena) => return (Err(RunFault::Memory), arena, Vec::new(alloc)),
     };
-    let back = match run_threads(rt, alloc, &shared, shares, gate) {
+    let back = match run_threads(rt, alloc, &shared, shares, gate, work_limit) {
         Ok(back) => back,
         Err(_) => Vec::new(alloc),
     };
@@ -245,17 +252,29 @@ fn share_out<'a, J: JobName, S: Contents>(
     requires count { (1 ≤ workers) × (workers ≤ 32) }
     requires job { J.job ≡ record { block = block.now; store = S.storage contents.now } }
     ensures passes { IfOk result (λ made. All (λ share. IsPassOf made.0.cell share.pass) made.1.items) }
+    ensures limits { IfOk result (λ made. All (IsWithinLimit work_limit) made.1.items) }
     ensures back { IfErr result (λ arena. arena.records ≡ []) }
 {
     let core = Core::of(alloc, arena, LentJob { block, contents }, workers)?;
     Shared::over(alloc, core, LentJob { block, contents }, work_limit)
 }
 
-/// The handle of a thread that runs for a share.
-type Thread = JoinHandle<Result<Share, WrittenFault>>;
+/// What a thread promises: a share that it gives back is of a worker that has made no more steps, asks aside, than this limit.
+#[derive(Clone, Copy)]
+struct WithinLimit(Option<u64>);
 
-/// Runs a thread for each share, and waits for all of them. Returns all their shares, or a fault that stands
-/// written: that of a thread, Spawn where the system refuses a thread, and Memory where memory ran out.
+impl Promise<Result<Share, WrittenFault>> for WithinLimit {
+    ghost use Rattle.std.specs.Prelude.{IfOk};
+    ghost use Rattle.workers.specs.Book.{KeepsLimit};
+
+    ghost kept_by = { λ promise result. IfOk result (λ back. KeepsLimit promise.0 back.counts) };
+}
+
+/// The handle of a thread that runs for a share.
+type Thread = PromisedHandle<Result<Share, WrittenFault>, WithinLimit>;
+
+/// Runs a thread for each share, all of one limit, and waits for all of them. Returns all their shares, or a fault that
+/// stands written: that of a thread, Spawn where the system refuses a thread, and Memory where memory ran out.
 fn run_threads<
     J: JobName + Send + Sync,
     H: JobSource + Send + Sync,
@@ -267,20 +286,23 @@ fn run_threads<
     shared: &Shared<J, H>,
     shares: Vec<Share>,
     gate: &G,
+    work_limit: Option<u64>,
 ) -> Result<Vec<Share>, WrittenFault>
     requires passes { All (λ share. IsPassOf shared.now.cell share.pass) shares.items }
+    requires limits { All (IsWithinLimit work_limit) shares.items }
     ensures all { IfOk result (λ back. length back.items ≡ length shares.items) }
+    ensures within { IfOk result (λ back. All (λ share. KeepsLimit work_limit share.counts) back.items) }
 {
     thread::scope(
         thread::scope_env(),
         rt,
         |scope| -> Result<Vec<Share>, WrittenFault>
-            requires { All (λ share. IsPassOf shared.now.cell share.pass) shares.items }
-            ensures { IfOk result (λ back. length back.items ≡ length shares.items) }
+            requires { All (λ share. IsPassOf shared.now.cell share.pass) shares.items × All (IsWithinLimit work_limit) shares.items }
+            ensures { IfOk result (λ back. (length back.items ≡ length shares.items) × All (λ share. KeepsLimit work_limit share.counts) back.items) }
         {
             let room = room_for_shares(rt, alloc, shared, shares.len())?;
-            let threads = start_threads(scope, rt, alloc, shared, shares, gate)?;
-            join_threads(rt, threads, room)
+            let threads = start_threads(scope, rt, alloc, shared, shares, gate, work_limit)?;
+            join_threads(rt, threads, room, work_limit)
         },
     )
 }
@@ -318,21 +340,24 @@ fn start_threads<
     shared: &'s Shared<J, H>,
     shares: Vec<Share>,
     gate: &'s G,
+    work_limit: Option<u64>,
 ) -> Result<Vec<Result<Thread, MetFault>>, MetFault>
     requires passes { All (λ share. IsPassOf shared.now.cell share.pass) shares.items }
+    requires limits { All (IsWithinLimit work_limit) shares.items }
     ensures all { IfOk result (λ threads. length threads.items ≡ length shares.items) }
+    ensures promises { IfOk result (λ threads. All (HasPromised work_limit) threads.items) }
     ensures memory { IfErr result (λ e. e.met ≡ outside.Memory) }
 {
     let Ok(mut threads) = Vec::with_capacity(alloc, shares.len()) else {
         return Err(shared.refuse(rt, OutsideFault::Memory));
     };
     for share in shares {
-        threads.push_reserved(start_thread(scope, rt, alloc, shared, share, gate));
+        threads.push_reserved(start_thread(scope, rt, alloc, shared, share, gate, work_limit));
     }
     Ok(threads)
 }
 
-/// Starts a thread for a share; refused as Spawn where the system refuses it.
+/// Starts a thread for a share, which promises to keep the limit; refused as Spawn where the system refuses it.
 fn start_thread<
     's,
     E,
@@ -347,14 +372,18 @@ fn start_thread<
     shared: &'s Shared<J, H>,
     share: Share,
     gate: &'s G,
+    work_limit: Option<u64>,
 ) -> Result<Thread, MetFault>
     requires pass { IsPassOf shared.now.cell share.pass }
+    requires limit { IsWithinLimit work_limit share }
+    ensures promise { IfOk result (λ started. started.promise.0 ≡ work_limit) }
     ensures spawn { IfErr result (λ e. e.met ≡ outside.Spawn) }
 {
     let working = move || -> Result<Share, WrittenFault>
-        requires { IsPassOf shared.now.cell share.pass }
+        requires { IsPassOf shared.now.cell share.pass × KeepsLimit share.work_limit share.counts }
+        ensures { IfOk result (λ back. KeepsLimit share.work_limit back.counts) }
     { work(rt, alloc, shared, share, gate) };
-    match scope.spawn(working) {
+    match scope.spawn_with(WithinLimit(work_limit), working) {
         Ok(thread) => Ok(thread),
         Err(SpawnError { .. }) => Err(shared.refuse(rt, OutsideFault::Spawn)),
     }
@@ -366,14 +395,17 @@ fn join_threads<R: Threads>(
     rt: &R,
     threads: Vec<Result<Thread, MetFault>>,
     room: Vec<Share>,
+    work_limit: Option<u64>,
 ) -> Result<Vec<Share>, WrittenFault>
     requires empty { room.items ≡ [] }
     requires room { length threads.items ≤ vec_capacity room }
+    requires promises { All (HasPromised work_limit) threads.items }
     ensures all { IfOk result (λ back. length back.items ≡ length threads.items) }
+    ensures within { IfOk result (λ back. All (λ share. KeepsLimit work_limit share.counts) back.items) }
 {
     let (mut back, mut refused) = (room, None);
     for thread in threads {
-        match join_thread(rt, thread) {
+        match join_thread(rt, thread, work_limit) {
             Ok(share) => back.push_reserved(share),
             Err(written) => refused = Some(written),
         }
@@ -388,7 +420,11 @@ fn join_threads<R: Threads>(
 fn join_thread<R: Threads>(
     rt: &R,
     thread: Result<Thread, MetFault>,
-) -> Result<Share, WrittenFault> {
+    _work_limit: Option<u64>,
+) -> Result<Share, WrittenFault>
+    requires promise { HasPromised _work_limit thread }
+    ensures within { IfOk result (λ back. KeepsLimit _work_limit back.counts) }
+{
     match thread {
         Ok(started) => started.join(rt),
         Err(met) => Err(met.written()),

@@ -12,11 +12,12 @@ use std::thread::Threads;
 use stm_core::Finished;
 
 impl Executor {
-    ghost use Rattle.std.specs.Prelude.{◌≡◌, ◌<◌, ◌⊎◌, ◌↔◌, Err, IfErr, IfOk, None, OnErr, OnOk};
+    ghost use Rattle.std.specs.Prelude.{◌≡◌, ◌<◌, ◌⊎◌, ◌↔◌, All, Err, IfErr, IfOk, None, OnErr, OnOk};
     ghost use Rattle.overlay.specs.Overlay.{with_changes};
     ghost use Rattle.rv_step.specs.Fold.{receipts_of, store_after};
     ghost use Rattle.stm_state.specs.Steps as steps;
     ghost use Rattle.workers.specs.declared.fault.RunFault.TheVariants as faults;
+    ghost use Rattle.workers.specs.Book.{KeepsLimit};
     ghost use Rattle.workers.specs.History.{HasLimit, HasStepLimit, IsRunWithShares};
 
     /// Runs the calls of a block by 1 to 32 threads on a storage, and changes it as they do in order. Refused as
@@ -73,7 +74,7 @@ impl Executor {
     }
 
     /// The same with a limit: where there is one, it is refused as StepLimit also where a worker has made so many steps, asks
-    /// aside.
+    /// aside. Where it answers Ok, each worker has made no more steps, asks aside, than the limit.
     #[tactic(auto, using(overlay::proofs::Receipts::receipts_applied))]
     pub fn run_over_changes_within<R: Threads + Wait + Sync>(
         &mut self,
@@ -90,6 +91,7 @@ impl Executor {
         ensures store { OnOk result (with_changes base.now over.new ≡ store_after block (with_changes base.now over.old)) }
         ensures err { OnErr result (over.new ≡ over.old) }
         ensures history { OnOk result (IsRunWithShares (record { block = block; store = with_changes base.now over.old }) workers self.new.shares.items) }
+        ensures within { OnOk result (All (λ share. KeepsLimit work_limit share.counts) self.new.shares.items) }
         ensures full { IfErr result (λ e. e ≡ faults.ArenaFull → HasLimit (record { block = block; store = with_changes base.now over.old }) workers steps.ArenaFull) }
         ensures limit { IfErr result (λ e. e ≡ faults.IncarnationLimit → HasLimit (record { block = block; store = with_changes base.now over.old }) workers steps.IncarnationLimit) }
         ensures step_limit { IfErr result (λ e. e ≡ faults.StepLimit → HasStepLimit (record { block = block; store = with_changes base.now over.old }) workers work_limit) }
@@ -109,7 +111,8 @@ impl Executor {
         }
     }
 
-    /// The receipts of a block by threads, over what is lent in place of a storage. Refused as `run_lent` is.
+    /// The receipts of a block by threads, over what is lent in place of a storage. Refused as `run_lent` is. Each worker has made
+    /// no more steps, asks aside, than the limit.
     #[tactic(auto, using(crate::proofs::Runs::run_with_shares))]
     fn receipts_by<S: Contents + Sync, R: Threads + Wait + Sync>(
         &mut self,
@@ -123,6 +126,7 @@ impl Executor {
         ensures bad_count { (result ≡ Err faults.BadCount) ↔ ((workers ≡ 0) ⊎ (32 < workers)) }
         ensures receipts { IfOk result (λ r. r.items ≡ receipts_of block.now (S.storage contents.now)) }
         ensures history { OnOk result (IsRunWithShares (record { block = block.now; store = S.storage contents.now }) workers self.new.shares.items) }
+        ensures within { OnOk result (All (λ share. KeepsLimit work_limit share.counts) self.new.shares.items) }
         ensures full { IfErr result (λ e. e ≡ faults.ArenaFull → HasLimit (record { block = block.now; store = S.storage contents.now }) workers steps.ArenaFull) }
         ensures limit { IfErr result (λ e. e ≡ faults.IncarnationLimit → HasLimit (record { block = block.now; store = S.storage contents.now }) workers steps.IncarnationLimit) }
         ensures step_limit { IfErr result (λ e. e ≡ faults.StepLimit → HasStepLimit (record { block = block.now; store = S.storage contents.now }) workers work_limit) }

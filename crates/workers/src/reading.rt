@@ -7,6 +7,7 @@ ghost use Rattle.rv_step.specs.Run.{IsEnded};
 ghost use Rattle.rv_step.specs.declared.stage.Stage.TheVariants as stages;
 ghost use Rattle.stm_core.specs.declared.next_step.NextStep.TheVariants as next_step;
 ghost use Rattle.stm_core.specs.declared.next_step.ReadResult.TheVariants as read_result;
+ghost use Rattle.workers.specs.Book.{IsSpent, KeepsLimit};
 ghost use Rattle.workers.specs.Work.{IsBlocked, IsReadAnswer, IsRefusedBy, IsStepFault};
 
 use crate::book::{JobName, Share, WrittenFault};
@@ -34,6 +35,7 @@ pub(crate) fn run_to_end<J: JobName, H: JobSource, R: Wait, S: Spin>(
     ensures call { run.new.call ≡ run.old.call }
     ensures ended { IfOk result (λ ended. ended ≡ true → IsEnded run.new.stage) }
     ensures blocked { IfOk result (λ ended. ended ≡ false → IsBlocked J.job call incarnation share.new) }
+    ensures keeps { OnOk result (KeepsLimit share.old.work_limit share.old.counts → KeepsLimit share.new.work_limit share.new.counts) }
     ensures worker { share.new.worker ≡ share.old.worker }
     ensures pass { share.new.pass ≡ share.old.pass }
     ensures limit { share.new.work_limit ≡ share.old.work_limit }
@@ -69,6 +71,7 @@ fn read<J: JobName, H: JobSource, R: Wait, S: Spin>(
     ensures fault { IfErr result (λ e. IsStepFault J.job (next_step.Run call incarnation) share.new e) }
     ensures call { run.new.call ≡ run.old.call }
     ensures blocked { IfOk result (λ given. given ≡ false → IsBlocked J.job call incarnation share.new) }
+    ensures keeps { OnOk result (KeepsLimit share.new.work_limit share.new.counts) }
     ensures worker { share.new.worker ≡ share.old.worker }
     ensures pass { share.new.pass ≡ share.old.pass }
     ensures limit { share.new.work_limit ≡ share.old.work_limit }
@@ -107,6 +110,7 @@ fn read_book<J: JobName, H: JobSource, R: Wait, S: Spin>(
     ensures answer { IsReadAnswer J.job key.now call incarnation share.old share.new result }
     ensures refused { IfErr result (λ e. IsRefusedBy J.job (next_step.Run call incarnation) share.new e) }
     ensures blocked { IfOk result (λ read. read ≡ read_result.Blocked → IsBlocked J.job call incarnation share.new) }
+    ensures keeps { OnOk result ((IsSpent share.old.work_limit share.old.counts → ⊥) → KeepsLimit share.new.work_limit share.new.counts) }
     ensures worker { share.new.worker ≡ share.old.worker }
     ensures pass { share.new.pass ≡ share.old.pass }
     ensures limit { share.new.work_limit ≡ share.old.work_limit }

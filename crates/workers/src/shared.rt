@@ -3,7 +3,7 @@
 ghost use Rattle.std.specs.Prelude.{◌≡◌, true, All, IfOk, map};
 ghost use Rattle.std.specs.Coded.{codes};
 ghost use Rattle.rv_ledger.specs.contracts.job.Job.{the_row as job_row};
-ghost use Rattle.workers.specs.Book.{zero_counts_of_all, counts_of_share};
+ghost use Rattle.workers.specs.Book.{IsWithinLimit, zero_counts_of_all, counts_of_share};
 ghost use Rattle.workers.specs.DoneCell.{IsPassOf};
 
 use crate::book::{Book, JobName, MetFault, Share};
@@ -36,17 +36,18 @@ pub struct Shared<J: JobName = Brand, H: JobSource = Job> {
 }
 
 impl<J: JobName> Shared<J> {
-    ghost use Rattle.std.specs.Prelude.{◌≡◌, [], length, map, All, IfErr, IfOk};
-    ghost use Rattle.workers.specs.Book.{zero_counts_of_all, counts_of_share};
+    ghost use Rattle.std.specs.Prelude.{◌≡◌, [], length, map, All, IfErr, IfOk, None};
+    ghost use Rattle.workers.specs.Book.{IsWithinLimit, zero_counts_of_all, counts_of_share};
     ghost use Rattle.workers.specs.DoneCell.{IsPassOf};
 
     /// The lock over a core at its start, with a cell that shows running. Beside it one share per worker, in
-    /// their order, each with counts of zero and a pass of the cell. Where memory ran out the core's arena is
+    /// their order, each with counts of zero, a pass of the cell, and no limit. Where memory ran out the core's arena is
     /// handed back, without records.
     pub fn new(alloc: Global, core: Core) -> Result<(Shared<J>, Vec<Share>), Arena>
         requires { core.job ≡ J.job }
         ensures shares { IfOk result (λ made. map counts_of_share made.1.items ≡ zero_counts_of_all (length core.state.tasks)) }
         ensures passes { IfOk result (λ made. All (λ share. IsPassOf made.0.cell share.pass) made.1.items) }
+        ensures limits { IfOk result (λ made. All (IsWithinLimit None) made.1.items) }
         ensures back { IfErr result (λ arena. arena.records ≡ []) }
     {
         let Ok(job) = core.job().copy() else {
@@ -58,7 +59,7 @@ impl<J: JobName> Shared<J> {
 
 impl<J: JobName, H: JobSource> Shared<J, H> {
     ghost use Rattle.std.specs.Prelude.{◌≡◌, [], length, map, All, IfErr, IfOk};
-    ghost use Rattle.workers.specs.Book.{zero_counts_of_all, counts_of_share, outside_fault};
+    ghost use Rattle.workers.specs.Book.{IsWithinLimit, zero_counts_of_all, counts_of_share, outside_fault};
     ghost use Rattle.workers.specs.Work.{IsWrittenOver};
     ghost use Rattle.workers.specs.DoneCell.{IsPassOf};
 
@@ -74,6 +75,7 @@ impl<J: JobName, H: JobSource> Shared<J, H> {
         requires job { H.job job ≡ J.job }
         ensures shares { IfOk result (λ made. map counts_of_share made.1.items ≡ zero_counts_of_all (length core.state.tasks)) }
         ensures passes { IfOk result (λ made. All (λ share. IsPassOf made.0.cell share.pass) made.1.items) }
+        ensures limits { IfOk result (λ made. All (IsWithinLimit work_limit) made.1.items) }
         ensures back { IfErr result (λ arena. arena.records ≡ []) }
     {
         let Ok(cell) = DoneCell::new(alloc) else {
@@ -137,7 +139,7 @@ impl<J: JobName, H: JobSource> Shared<J, H> {
     }
 }
 
-/// One share per worker, in their order, each with counts of zero and a pass of the cell; refused where
+/// One share per worker, in their order, each with counts of zero, a pass of the cell and the limit; refused where
 /// memory ran out.
 #[tactic(auto, using(crate::proofs::Zeros::no_shares))]
 fn new_shares(
@@ -148,6 +150,7 @@ fn new_shares(
 ) -> Result<Vec<Share>, AllocError>
     ensures shares { IfOk result (λ shares. map counts_of_share shares.items ≡ zero_counts_of_all workers) }
     ensures passes { IfOk result (λ shares. All (λ share. IsPassOf cell.now share.pass) shares.items) }
+    ensures limits { IfOk result (λ shares. All (IsWithinLimit work_limit) shares.items) }
 {
     let mut shares = Vec::with_capacity(alloc, workers)?;
     for worker in 0..workers {

@@ -1,13 +1,13 @@
 //! What one thread does: it asks for work, runs calls outside the lock, and makes their steps under it.
 
-ghost use Rattle.std.specs.Prelude.{◌≡◌, ◌+◌, ◌<◌, ◌≤◌, None, Some, false, true, length, slice_get, IfErr, IfOk, IfSome, MatchOption, OnOk};
+ghost use Rattle.std.specs.Prelude.{◌≡◌, ◌+◌, ◌<◌, ◌≤◌, None, Ok, Some, false, true, length, slice_get, IfErr, IfOk, IfSome, MatchOption, OnOk};
 ghost use Rattle.crossbeam_utils.specs.Seq.{cell_view};
 ghost use Rattle.rv_step.specs.declared.ended_run.EndedRun.{EndedRun};
 ghost use Rattle.stm_core.specs.CoreState.{IsReadyOf, IsWithin};
 ghost use Rattle.stm_core.specs.declared.next_step.NextStep.TheVariants as next_step;
 ghost use Rattle.workers.specs.DoneCell.{IsPassOf};
 ghost use Rattle.workers.specs.Work.{IsAskAnswer, IsMakeAnswer, IsRecordAnswer, IsRefusedBy, IsRunAnswer, IsStepAnswer, IsStepFault, IsStoppedBy, IsWorkersEnd, fault_of};
-ghost use Rattle.workers.specs.Book.{IsAskWithin, counts_of_share, owed_by};
+ghost use Rattle.workers.specs.Book.{IsAskWithin, IsSpent, KeepsLimit, counts_of_share, owed_by};
 
 use crate::book::{Asked, JobName, MetFault, Share, WrittenFault};
 use crate::fault::OutsideFault;
@@ -56,7 +56,8 @@ impl WorkFault {
 /// The work of one thread. It makes the steps of its share's worker until an ask is answered Done, and then
 /// hands the share back; the cell shows done then. Refused as the call for its next step was refused, as StepLimit where
 /// the worker has made as many steps, asks aside, as its share allows, and as Memory where memory ran out; or as a fault that
-/// was written before. The fault is written, and the steps that were made stand.
+/// was written before. The fault is written, and the steps that were made stand. A share that comes back says no more steps, asks
+/// aside, than its limit allows, where it did so before.
 pub fn work<J: JobName, H: JobSource, R: Wait, G: Gate>(
     rt: &R,
     alloc: Global,
@@ -68,6 +69,7 @@ pub fn work<J: JobName, H: JobSource, R: Wait, G: Gate>(
     ensures worker { IfOk result (λ back. back.worker ≡ share.worker) }
     ensures dones { IfOk result (λ back. back.dones ≡ share.dones + 1) }
     ensures shown { IfOk result (λ back. cell_view back.pass ≡ 1) }
+    ensures keeps { IfOk result (λ back. KeepsLimit share.work_limit share.counts → KeepsLimit share.work_limit back.counts) }
     ensures fault { IfErr result (λ e. IsWorkersEnd J.job share e) }
 {
     let patience = Patience::of(share.worker());
@@ -87,6 +89,7 @@ pub fn work_spinning<J: JobName, H: JobSource, R: Wait, G: Gate, S: Spin + Drop>
     ensures worker { IfOk result (λ back. back.worker ≡ share.worker) }
     ensures dones { IfOk result (λ back. back.dones ≡ share.dones + 1) }
     ensures shown { IfOk result (λ back. cell_view back.pass ≡ 1) }
+    ensures keeps { IfOk result (λ back. KeepsLimit share.work_limit share.counts → KeepsLimit share.work_limit back.counts) }
     ensures fault { IfErr result (λ e. IsWorkersEnd J.job share e) }
 {
     let mut share = share;
@@ -109,6 +112,8 @@ fn make_steps<J: JobName, H: JobSource, R: Wait, G: Gate, S: Spin + Drop>(
     ensures worker { OnOk result (share.new.worker ≡ share.old.worker) }
     ensures dones { OnOk result (share.new.dones ≡ share.old.dones + 1) }
     ensures shown { OnOk result (cell_view share.new.pass ≡ 1) }
+    ensures limit { OnOk result (share.new.work_limit ≡ share.old.work_limit) }
+    ensures keeps { OnOk result (KeepsLimit share.old.work_limit share.old.counts → KeepsLimit share.new.work_limit share.new.counts) }
     ensures fault { IfErr result (λ e. IsWorkersEnd J.job share.old (fault_of e)) }
 {
     let mut next = NextStep::Ask;
@@ -145,6 +150,7 @@ fn make_step<J: JobName, H: JobSource, R: Wait, G: Gate, S: Spin + Drop>(
     ensures cell { IsPassOf shared.now.cell share.new.pass }
     ensures worker { share.new.worker ≡ share.old.worker }
     ensures limit { share.new.work_limit ≡ share.old.work_limit }
+    ensures keeps { OnOk result (KeepsLimit share.old.work_limit share.old.counts → KeepsLimit share.new.work_limit share.new.counts) }
     ensures dones { IfOk result (λ next. MatchOption next (share.new.dones ≡ share.old.dones + 1) (λ _. share.new.dones ≡ share.old.dones)) }
     ensures shown { IfOk result (λ next. next ≡ None → cell_view share.new.pass ≡ 1) }
 {
@@ -179,7 +185,8 @@ fn make_step<J: JobName, H: JobSource, R: Wait, G: Gate, S: Spin + Drop>(
     }
 }
 
-/// Refused as StepLimit where the share's worker has made as many steps, asks aside, as it may.
+/// Refused as StepLimit where the share's worker has made as many steps, asks aside, as it may, and not refused where it may
+/// make one more.
 #[inline(always)]
 pub(crate) fn go_on<J: JobName, H: JobSource, R: Wait, S: Spin>(
     rt: &R,
@@ -187,7 +194,8 @@ pub(crate) fn go_on<J: JobName, H: JobSource, R: Wait, S: Spin>(
     share: &Share,
     spin: &mut S,
 ) -> Result<(), WrittenFault>
-    ensures { IfErr result (λ e. IsStoppedBy J.job share.now e) }
+    ensures on { OnOk result (IsSpent share.now.work_limit share.now.counts → ⊥) }
+    ensures stopped { IfErr result (λ e. IsStoppedBy J.job share.now e) }
 {
     if share.is_spent() {
         let mut guard = shared.hold(rt, spin);
@@ -211,6 +219,7 @@ fn make<J: JobName, H: JobSource, R: Wait, S: Spin>(
 ) -> Result<NextStep, WrittenFault>
     ensures answer { IsMakeAnswer J.job kind call incarnation share.old share.new result }
     ensures refused { IfErr result (λ e. IsRefusedBy J.job (next_step.Make kind call incarnation) share.new e) }
+    ensures keeps { OnOk result ((IsSpent share.old.work_limit share.old.counts → ⊥) → KeepsLimit share.new.work_limit share.new.counts) }
     ensures within { IfOk result (λ next. IsWithin (length J.job.block) next) }
     ensures worker { share.new.worker ≡ share.old.worker }
     ensures pass { share.new.pass ≡ share.old.pass }
@@ -225,7 +234,7 @@ fn make<J: JobName, H: JobSource, R: Wait, S: Spin>(
 
 /// Asks for work, and returns the step that the worker owes then. Returns None where all is done, and then
 /// the cell shows it. A worker that gets no task looks at the cell before it asks again, and one that backs off before it asks.
-#[tactic(auto, using(crate::proofs::Working::asking_dones))]
+#[tactic(auto, using(crate::proofs::Working::asking_dones, crate::proofs::Limits::same_keeps))]
 fn ask<J: JobName, H: JobSource, R: Wait, S: Spin>(
     rt: &R,
     shared: &Shared<J, H>,
@@ -236,6 +245,7 @@ fn ask<J: JobName, H: JobSource, R: Wait, S: Spin>(
     ensures answer { IfOk result (λ next. IsStepAnswer J.job next_step.Ask share.old share.new next) }
     ensures within { IfOk result (λ next. IfSome next (λ owed. IsWithin (length J.job.block) owed)) }
     ensures refused { IfErr result (λ e. IsRefusedBy J.job next_step.Ask share.new e) }
+    ensures keeps { OnOk result (KeepsLimit share.old.work_limit share.old.counts → KeepsLimit share.new.work_limit share.new.counts) }
     ensures cell { IsPassOf shared.now.cell share.new.pass }
     ensures worker { share.new.worker ≡ share.old.worker }
     ensures limit { share.new.work_limit ≡ share.old.work_limit }
@@ -282,6 +292,7 @@ fn ask_book<J: JobName, H: JobSource, R: Wait, S: Spin>(
 ) -> Result<Asked, WrittenFault>
     ensures answer { IsAskAnswer J.job share.old share.new result }
     ensures refused { IfErr result (λ e. IsRefusedBy J.job next_step.Ask share.new e) }
+    ensures keeps { OnOk result (KeepsLimit share.old.work_limit share.old.counts → KeepsLimit share.new.work_limit share.new.counts) }
     ensures within { IfOk result (λ asked. IsAskWithin (length J.job.block) asked) }
     ensures worker { share.new.worker ≡ share.old.worker }
     ensures pass { share.new.pass ≡ share.old.pass }
@@ -341,6 +352,7 @@ fn run_call<J: JobName, H: JobSource, R: Wait, G: Gate, S: Spin + Drop>(
     ensures answer { IfOk result (λ next. IsRunAnswer J.job call incarnation share.new next) }
     ensures within { IfOk result (λ next. IsWithin (length J.job.block) next) }
     ensures fault { IfErr result (λ e. IsStepFault J.job (next_step.Run call incarnation) share.new e) }
+    ensures keeps { OnOk result (KeepsLimit share.old.work_limit share.old.counts → KeepsLimit share.new.work_limit share.new.counts) }
     ensures worker { share.new.worker ≡ share.old.worker }
     ensures pass { share.new.pass ≡ share.old.pass }
     ensures limit { share.new.work_limit ≡ share.old.work_limit }
@@ -373,12 +385,40 @@ fn run_call<J: JobName, H: JobSource, R: Wait, G: Gate, S: Spin + Drop>(
     };
     let mut ready = ReadyRecord::of(ended, reads);
     let spin = &mut kept.spin;
-    match record(rt, shared, share, spin, call, incarnation, &mut ready) {
-        Ok(next) => {
-            // What else the record left over in `ready` is dropped here, after the lock.
-            kept.room.keep_answers(ready.take_answers());
-            Ok(next)
-        }
+    let next = hand_in(rt, shared, share, spin, call, incarnation, &mut ready)?;
+    // What else the record left over in `ready` is dropped here, after the lock.
+    kept.room.keep_answers(ready.take_answers());
+    Ok(next)
+}
+
+/// Hands in the ended run of a call, where the worker may make a step. Returns the step that the worker owes then. Refused as
+/// `go_on` or `record` is.
+fn hand_in<J: JobName, H: JobSource, R: Wait, S: Spin>(
+    rt: &R,
+    shared: &Shared<J, H>,
+    share: &mut Share,
+    spin: &mut S,
+    call: u16,
+    incarnation: u16,
+    ready: &mut ReadyRecord,
+) -> Result<NextStep, WorkFault>
+    requires ready { (run : EndedRun) × IsReadyOf run ready.old }
+    requires call { slice_get J.job.block call ≡ Some ready.old.call }
+    ensures answer { IfOk result (λ next. IsRecordAnswer J.job call incarnation share.old share.new (Ok next)) }
+    ensures within { IfOk result (λ next. IsWithin (length J.job.block) next) }
+    ensures fault { IfErr result (λ e. IsStepFault J.job (next_step.Run call incarnation) share.new e) }
+    ensures keeps { OnOk result (KeepsLimit share.new.work_limit share.new.counts) }
+    ensures worker { share.new.worker ≡ share.old.worker }
+    ensures pass { share.new.pass ≡ share.old.pass }
+    ensures limit { share.new.work_limit ≡ share.old.work_limit }
+    ensures dones { OnOk result (share.new.dones ≡ share.old.dones) }
+{
+    match go_on(rt, shared, share, spin) {
+        Ok(()) => {}
+        Err(written) => return Err(WorkFault::Refused(written)),
+    }
+    match record(rt, shared, share, spin, call, incarnation, ready) {
+        Ok(next) => Ok(next),
         Err(written) => Err(WorkFault::Refused(written)),
     }
 }
@@ -398,6 +438,7 @@ fn record<J: JobName, H: JobSource, R: Wait, S: Spin>(
     requires call { slice_get J.job.block call ≡ Some ready.old.call }
     ensures answer { IsRecordAnswer J.job call incarnation share.old share.new result }
     ensures refused { IfErr result (λ e. IsRefusedBy J.job (next_step.Run call incarnation) share.new e) }
+    ensures keeps { OnOk result ((IsSpent share.old.work_limit share.old.counts → ⊥) → KeepsLimit share.new.work_limit share.new.counts) }
     ensures within { IfOk result (λ next. IsWithin (length J.job.block) next) }
     ensures worker { share.new.worker ≡ share.old.worker }
     ensures pass { share.new.pass ≡ share.old.pass }

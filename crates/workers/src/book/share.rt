@@ -18,13 +18,14 @@ pub struct Share {
 }
 
 impl Share {
-    ghost use Rattle.std.specs.Prelude.{◌↔◌, true};
+    ghost use Rattle.std.specs.Prelude.{◌≡◌, ◌↔◌, true};
     ghost use Rattle.workers.specs.Book.{IsSpent, zero_counts, counts_of_share};
 
-    /// The share of a worker that has done nothing yet, with its pass.
+    /// The share of a worker that has done nothing yet, with its pass and its limit.
     pub(crate) fn new(worker: usize, pass: DonePass, work_limit: Option<u64>) -> Share
         ensures counts { counts_of_share result ≡ zero_counts worker }
         ensures pass { result.pass ≡ pass }
+        ensures limit { result.work_limit ≡ work_limit }
     {
         Share {
             worker,

@@ -1,3 +1,4 @@
+use Rattle.workers.proofs.Limits.{ask_keeps}
 use Rattle.workers.proofs.Working.{asking_refused, is_ask_answer}
 use Rattle.workers.proofs.worker.ask_book.Goals as goal
 
@@ -9,3 +10,6 @@ returns-clause-answer g c =
 
 pub returns-clause-refused : goal.returns-clause-refused
 returns-clause-refused g c = asking_refused (g.J.JobName.job) c.args.share.now c.ask.new.share c.ask.result (returns-clause-answer g c)
+
+pub returns-clause-keeps : goal.returns-clause-keeps
+returns-clause-keeps g c = ask_keeps (g.J.JobName.job) c.args.share.now c.ask.new.share c.ask.result (returns-clause-answer g c)

@@ -1,3 +1,4 @@
+use Rattle.workers.proofs.Limits.{make_keeps}
 use Rattle.workers.proofs.Working.{make_refused}
 use Rattle.workers.proofs.worker.make.Goals as goal
 
@@ -6,3 +7,6 @@ returns-clause-answer g c = (c.deref_mut-book.result.now, c.make.new.self, recor
 
 pub returns-clause-refused : goal.returns-clause-refused
 returns-clause-refused g c = make_refused (g.J.JobName.job) c.args.kind c.args.call c.args.incarnation c.args.share.now c.make.new.share c.make.result (returns-clause-answer g c)
+
+pub returns-clause-keeps : goal.returns-clause-keeps
+returns-clause-keeps g c = make_keeps (g.J.JobName.job) c.args.kind c.args.call c.args.incarnation c.args.share.now c.make.new.share c.make.result (returns-clause-answer g c)

@@ -1,3 +1,4 @@
+use Rattle.workers.proofs.Limits.{record_keeps}
 use Rattle.workers.proofs.Working.{is_record_answer, record_refused}
 use Rattle.workers.proofs.worker.record.Goals as goal
 
@@ -10,3 +11,6 @@ returns-clause-answer g c =
 
 pub returns-clause-refused : goal.returns-clause-refused
 returns-clause-refused g c = record_refused (g.J.JobName.job) c.args.call c.args.incarnation c.args.share.now c.record_ready.new.share c.record_ready.result (returns-clause-answer g c)
+
+pub returns-clause-keeps : goal.returns-clause-keeps
+returns-clause-keeps g c = record_keeps (g.J.JobName.job) c.args.call c.args.incarnation c.args.share.now c.record_ready.new.share c.record_ready.result (returns-clause-answer g c)
