@@ -1,5 +1,5 @@
 -- What is found where a machine stopped.
-use Rattle.std.proofs.Common.{◌≡◌, ◌⊎◌, ℕ, List, [], ◌∷◌, ◌++◌, Option, Some, None, IfSome, inl, inr, refl, sym, ap, subst, ◌∙◌}
+use Rattle.std.proofs.Common.{◌≡◌, ◌⊎◌, ℕ, List, [], ◌∷◌, ◌++◌, Option, Some, None, inl, inr, refl, sym, ap, subst, ◌∙◌}
 use Rattle.requests.specs.Requests.{Ask}
 use Rattle.session_file.specs.Kept.{HoldsIn, Kept}
 use Rattle.session_file.proofs.Once.{holds_once}
@@ -43,8 +43,3 @@ resumed settings old bytes before now recovers db f (heard, rest, text, mid, par
   is,
   elim (leaves db left) [ inl here ↦ inl (found_is settings db f mid.session found here) | inr next ↦ inr (found_next settings db f mid.session rest found next) ],
 )
-
-pub known_resumed : (settings : Settings) (old : FileMoment) (before now : Option (List ℕ)) (recovers : Trees → Type 0) (db : Trees) (f : FileState) (a : Option (List ℕ))
-    → IfSome a (λ bytes. IsStopped settings old bytes before now recovers) → recovers db → IsFoundIn settings db f → IfSome a (λ bytes. IsResumed settings old bytes before now f)
-known_resumed settings old before now recovers db f None stopped left found = tt
-known_resumed settings old before now recovers db f (Some bytes) stopped left found = resumed settings old bytes before now recovers db f stopped left found

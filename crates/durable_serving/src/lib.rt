@@ -5,6 +5,7 @@
 mod answering;
 mod asking;
 mod keeping;
+mod laws;
 mod opening;
 mod reply;
 mod restarting;
@@ -12,6 +13,7 @@ mod session;
 mod staging;
 
 pub use answering::{DurableFault, serve_durably};
+pub use laws::stopped_session_goes_on;
 pub use opening::{SessionFault, open_durably};
-pub use restarting::{restart_durably, serve_and_stop};
+pub use restarting::restart_durably;
 pub use session::FileSession;

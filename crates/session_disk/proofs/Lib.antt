@@ -5,3 +5,4 @@ pub mod Leavings
 pub mod Adoptions
 pub mod Stores
 pub mod Readings
+pub mod Removals

@@ -3,3 +3,4 @@ pub mod Faults
 pub mod Sessions
 pub mod Opening
 pub mod Closing
+pub mod Logs

@@ -1,13 +1,17 @@
 //! The end of a session's store.
 
-ghost use Rattle.std.specs.Prelude.{IfErr, IfOk, IsTrue};
+ghost use Rattle.std.specs.Prelude.{[], IfErr, IfOk, IsTrue, OnErr, OnOk};
 ghost use Rattle.sqlite_wal.specs.Files.{outcomes};
 ghost use Rattle.sqlite_wal.specs.Reads.{AreClean};
 ghost use Rattle.sqlite_wal.specs.Recovery.{Image};
 ghost use Rattle.sqlite_trees.specs.Tree.{Trees};
-ghost use Rattle.sqlite_store.specs.FileStore.{recovers, view};
-ghost use Rattle.session_disk.specs.Closing.{AreFolded};
+ghost use Rattle.sqlite_trees.specs.View.{IsClean, Tells};
+ghost use Rattle.sqlite_store.specs.FileStore.{blamed, recovers, view};
+ghost use Rattle.session_disk.specs.Closing.{AreFolded, FailsToClose};
+ghost use Rattle.session_disk.specs.Logs.{Removes, paths_of};
 
+use crate::log_folder::LogFolder;
+use crate::new_log::NewLog;
 use sqlite_disk::{Disk, Files};
 use sqlite_store::FileStore;
 use sqlite_trees::error::StoreError;
@@ -18,6 +22,8 @@ use sqlite_trees::store::Store;
 pub fn close_files<D: Disk>(store: FileStore<D>) -> Result<Files<D>, (StoreError, FileStore<D>)>
     ensures folded { IfOk result (λ files. AreClean D.Disk files.log files.db → IsTrue (view store).is_numbered → (now : Image) → outcomes D.Disk files.log files.db now → AreFolded now (view store).committed) }
     ensures err { IfErr result (λ e. (db : Trees) → recovers e.1 db → recovers store db) }
+    ensures cause { IfErr result (λ e. IsClean (view e.1) → FailsToClose store e.1 e.0) }
+    ensures told { IfErr result (λ e. Tells (blamed e.1) e.0) }
 {
     let mut store = store;
     store.rollback();
@@ -27,10 +33,26 @@ pub fn close_files<D: Disk>(store: FileStore<D>) -> Result<Files<D>, (StoreError
     }
 }
 
-/// As `close_files`, and the files are closed. What was committed is kept where this fails, too: the log has it then.
-pub fn close<D: Disk + Drop>(store: FileStore<D>) -> Result<(), StoreError> {
+/// Closes a store that is not to be used, as `close_files` does. A log that the open made is removed where that is done, while
+/// the files are locked still; else both files stay.
+pub fn abandon<D: Disk, F: LogFolder>(
+    folder: &mut F,
+    store: FileStore<D>,
+    log: NewLog,
+) -> Result<Files<D>, (StoreError, FileStore<D>)>
+    ensures folded { IfOk result (λ files. AreClean D.Disk files.log files.db → IsTrue (view store).is_numbered → (now : Image) → outcomes D.Disk files.log files.db now → AreFolded now (view store).committed) }
+    ensures err { IfErr result (λ e. (db : Trees) → recovers e.1 db → recovers store db) }
+    ensures cause { IfErr result (λ e. IsClean (view e.1) → FailsToClose store e.1 e.0) }
+    ensures told { IfErr result (λ e. Tells (blamed e.1) e.0) }
+    ensures removed { OnOk result (Removes (F.view folder.old) (F.view folder.new) (paths_of log.path)) }
+    ensures kept { OnErr result (Removes (F.view folder.old) (F.view folder.new) []) }
+{
+    // Not by `?`: the proof answers this arm.
     match close_files(store) {
-        Ok(_) => Ok(()),
-        Err((error, _)) => Err(error),
+        Ok(files) => {
+            log.remove(folder);
+            Ok(files)
+        }
+        Err(refused) => Err(refused),
     }
 }

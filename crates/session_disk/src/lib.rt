@@ -4,14 +4,16 @@
 mod closing;
 mod fault;
 mod leftover;
+mod log_folder;
 mod new_log;
 mod opening;
 mod path;
 mod tables;
 
-pub use closing::{close, close_files};
+pub use closing::{abandon, close_files};
 pub use fault::OpenFault;
 pub use leftover::Leftover;
-pub use new_log::{NewLog, abandon};
+pub use log_folder::{LogFolder, SystemFolder};
+pub use new_log::NewLog;
 pub use opening::open_files;
 pub use path::open_path;

@@ -1,9 +1,12 @@
 //! The log that an open makes beside a database file.
 
-use crate::closing::close_files;
-use sqlite_disk::Disk;
-use sqlite_store::FileStore;
-use std::{fs, io};
+ghost use Rattle.std.specs.Prelude.{◌≡◌, ◌++◌, codes, IfOk};
+ghost use Rattle.std.specs.String.{string_bytes};
+ghost use Rattle.session_disk.specs.Logs.{IsBeside, Removes, paths_of};
+
+use crate::log_folder::LogFolder;
+use std::alloc::{AllocError, Global};
+use std::io;
 
 /// The log beside a database file, where the open of that file makes it.
 #[derive(Drop)]
@@ -12,55 +15,33 @@ pub struct NewLog {
 }
 
 impl NewLog {
-    /// The log beside the file that a path leads to, before that is opened: where nothing is there, the open makes it.
-    pub(crate) fn beside(rt: &HostRuntime, path: &str) -> io::Result<NewLog> {
-        let log_path = log_path(rt, path)?;
-        if is_free(rt, log_path.as_str()) {
-            Ok(NewLog {
-                path: Some(log_path),
-            })
+    /// The log beside the file that a path leads to, before that is opened: where nothing is there, the open makes it. Refused
+    /// where the path can't be followed, or memory ran out.
+    pub(crate) fn beside<F: LogFolder>(alloc: Global, folder: &F, path: &str) -> io::Result<NewLog>
+        ensures { IfOk result (λ log. IsBeside (F.view folder.now) path.now log) }
+    {
+        let real = folder.real_path(alloc, path)?;
+        let log = log_path(alloc, real.as_str())?;
+        if folder.is_free(log.as_str()) {
+            Ok(NewLog { path: Some(log) })
         } else {
             Ok(NewLog { path: None })
         }
     }
 
     /// Removes the log, if the open made it. Nothing that was committed may stand in it, and the files are locked still.
-    pub(crate) fn remove(self, rt: &HostRuntime) {
+    pub(crate) fn remove<F: LogFolder>(self, folder: &mut F)
+        ensures { Removes (F.view folder.old) (F.view folder.new) (paths_of self.path) }
+    {
         if let Some(path) = &self.path {
-            let _ = fs::remove_file(rt, path.as_str());
+            folder.remove(path.as_str());
         }
     }
 }
 
-/// Closes a store that is not to be used. Where the database file alone has what was committed, a log that the open made is
-/// removed; else both files stay.
-pub fn abandon<D: Disk + Drop>(rt: &HostRuntime, store: FileStore<D>, log: NewLog) {
-    match close_files(store) {
-        Ok(files) => {
-            log.remove(rt);
-            drop(files);
-        }
-        Err((_, store)) => drop(store),
-    }
-}
-
-/// The path of the log: it lies beside the file that a path leads to.
-fn log_path(rt: &HostRuntime, path: &str) -> io::Result<String> {
-    let real = match fs::canonicalize(rt, path) {
-        Ok(real) => real.into_string(),
-        Err(error) if error.kind() == io::ErrorKind::NotFound => String::from_str(
-            rt.alloc(),
-            path,
-        )?,
-        Err(error) => return Err(error),
-    };
-    Ok(format!(in rt.alloc(); "{}-wal", real.as_str())?)
-}
-
-/// Whether nothing is at a path.
-fn is_free(rt: &HostRuntime, path: &str) -> bool {
-    match fs::symlink_metadata(rt, path) {
-        Ok(_) => false,
-        Err(error) => error.kind() == io::ErrorKind::NotFound,
-    }
+/// The path of the log: it stands beside the database file.
+fn log_path(alloc: Global, path: &str) -> Result<String, AllocError>
+    ensures { IfOk result (λ log. string_bytes log ≡ path.now ++ codes "-wal") }
+{
+    format!(in alloc; "{path}-wal")
 }

@@ -1,22 +1,26 @@
 //! Opening a session's file by its path.
 
-ghost use Rattle.std.specs.Prelude.{◌≡◌, IfOk, IsTrue};
+ghost use Rattle.std.specs.Prelude.{◌≡◌, ℕ, [], IfErr, IfOk, IsTrue, OnErr, OnOk};
 ghost use Rattle.std_io.specs.IoError.{error_kind};
 ghost use Rattle.sqlite_wal.specs.Files.{image_at};
-ghost use Rattle.sqlite_wal.specs.Recovery.{Image, IsIgnored};
+ghost use Rattle.sqlite_disk.specs.Tally.{both_counts};
+ghost use Rattle.sqlite_wal.specs.Recovery.{Image};
 ghost use Rattle.sqlite_trees.specs.View.{IsClean};
 ghost use Rattle.sqlite_store.specs.FileStore.{is_shielded, state, view};
 ghost use Rattle.session_disk.specs.Faults.{path_fault, system_fault, told_fault};
 ghost use Rattle.session_file.specs.Opening.{IsFresh};
-ghost use Rattle.session_disk.specs.Opening.{IsOpened};
+ghost use Rattle.session_disk.specs.Logs.{idle_bound, IsBeside, IsFoundIdle, IsGivenUp, Removes, RemovesOwn};
+ghost use Rattle.session_disk.specs.Opening.{IsOpened, image_of};
 ghost use Rattle.session_disk.specs.Sessions.{IsSessionFile};
 
 use crate::fault::OpenFault;
+use crate::log_folder::LogFolder;
 use crate::new_log::NewLog;
 use crate::opening::open_files;
 use sqlite_disk::{Disk, Files, Start, Tally};
 use sqlite_std_file::{FileFrom, OpenError as PathError};
 use sqlite_store::FileStore;
+use std::alloc::Global;
 use std::hash::{BuildHasher, RandomState};
 use std::io;
 
@@ -48,8 +52,9 @@ fn io_fault(error: io::Error) -> OpenFault
 /// Opens the database file at a path, or makes it, as the store of a session, and has it for this process alone until the store
 /// is dropped. A log that this open made is removed again where it refuses the file; where the file is opened and not wanted,
 /// `abandon` removes it.
-pub fn open_path<S: Start>(
+pub fn open_path<S: Start, F: LogFolder>(
     rt: &HostRuntime,
+    folder: &mut F,
     path: &str,
     start: S,
 ) -> Result<(FileStore<FileFrom<S>>, NewLog), OpenFault>
@@ -57,12 +62,15 @@ pub fn open_path<S: Start>(
     ensures fresh { IfOk result (λ opened. IsClean (view opened.0) → IsFresh (view opened.0)) }
     ensures left { IfOk result (λ opened. IsTrue (view opened.0).is_clean → (now : Image) → (state opened.0).may_leave now → ∥ IsSessionFile now ∥₁) }
     ensures guarded { IfOk result (λ opened. IsTrue (view opened.0).is_clean → is_shielded opened.0) }
+    ensures log { IfOk result (λ opened. IsBeside (F.view folder.old) path.now opened.1) }
+    ensures keeps { OnOk result (Removes (F.view folder.old) (F.view folder.new) []) }
+    ensures own { OnErr result (RemovesOwn (F.view folder.old) (F.view folder.new) path.now) }
 {
     let seed = match RandomState::new(rt) {
         Ok(state) => state.hash_one(&0u8),
         Err(error) => return Err(io_fault(error)),
     };
-    let log = match NewLog::beside(rt, path) {
+    let log = match NewLog::beside(rt.alloc(), folder, path) {
         Ok(log) => log,
         Err(error) => return Err(io_fault(error)),
     };
@@ -70,22 +78,54 @@ pub fn open_path<S: Start>(
         Ok(files) => files,
         Err(error) => return Err(path_fault(error)),
     };
-    match open_files(rt.alloc(), files, seed) {
-        Ok(store) => Ok((store, log)),
-        Err((fault, rest)) => Err(give_up(rt, rest.into_files(), log, fault)),
+    match open_beside(rt.alloc(), folder, files, log, seed) {
+        Ok(opened) => Ok(opened),
+        Err((fault, _)) => Err(fault),
     }
 }
 
-/// Closes files that were refused, without a log that the open made and that holds nothing, and returns what is told.
-fn give_up<D: Disk + Drop>(
-    rt: &HostRuntime,
+/// Opens the two files, with the log that the open of them made. Where they are refused they are given back, and a log that holds
+/// nothing is removed.
+fn open_beside<D: Disk, F: LogFolder>(
+    alloc: Global,
+    folder: &mut F,
     files: Files<D>,
     log: NewLog,
+    seed: u64,
+) -> Result<(FileStore<D>, NewLog), (OpenFault, Files<D>)>
+    requires log { IsTrue (D.Disk.is_usable files.log) }
+    requires db { IsTrue (D.Disk.is_usable files.db) }
+    ensures ok { IfOk result (λ opened. IsTrue (view opened.0).is_clean → IsOpened (image_of D.Disk files) opened.0) }
+    ensures fresh { IfOk result (λ opened. IsClean (view opened.0) → IsFresh (view opened.0)) }
+    ensures left { IfOk result (λ opened. IsTrue (view opened.0).is_clean → (now : Image) → (state opened.0).may_leave now → ∥ IsSessionFile now ∥₁) }
+    ensures guarded { IfOk result (λ opened. IsTrue (view opened.0).is_clean → is_shielded opened.0) }
+    ensures log { IfOk result (λ opened. opened.1 ≡ log) }
+    ensures keeps { OnOk result (Removes (F.view folder.old) (F.view folder.new) []) }
+    ensures given_up { IfErr result (λ e. (before : D) × (fault : OpenFault) × (told : ℕ) × (e.0 ≡ told_fault told fault) × IsGivenUp D.Disk fault before e.1.log log (F.view folder.old) (F.view folder.new)) }
+{
+    match open_files(alloc, files, seed) {
+        Ok(store) => Ok((store, log)),
+        Err((fault, rest)) => {
+            let mut files = rest.into_files();
+            let told = give_up(folder, &mut files, log, fault);
+            Err((told, files))
+        }
+    }
+}
+
+/// Removes a log that the open made and that holds nothing, and returns what is told of a refused open. The files are locked
+/// still.
+fn give_up<D: Disk, F: LogFolder>(
+    folder: &mut F,
+    files: &mut Files<D>,
+    log: NewLog,
     fault: OpenFault,
-) -> OpenFault {
-    let mut files = files;
+) -> OpenFault
+    ensures told { result ≡ told_fault (both_counts (D.Disk.tally_of files.old.log) (D.Disk.tally_of files.old.db)).refused fault }
+    ensures removes { IsGivenUp D.Disk fault files.old.log files.new.log log (F.view folder.old) (F.view folder.new) }
+{
     if is_idle(&mut files.log, fault) {
-        log.remove(rt);
+        log.remove(folder);
     }
     told_fault(fault, files.tally())
 }
@@ -100,16 +140,27 @@ fn told_fault(fault: OpenFault, tally: Tally) -> OpenFault
     }
 }
 
+/// A log with fewer bytes holds nothing where its files are refused for a fault.
+fn idle_bound(fault: OpenFault) -> usize
+    ensures { result ≡ idle_bound fault }
+{
+    match fault {
+        OpenFault::NotASession => FRAME_END,
+        _ => 1,
+    }
+}
+
 /// Whether the log that a refused open found holds nothing: neither a commit of another process, nor the mark of a database
 /// that is only half made.
 fn is_idle<D: Disk>(log: &mut D, fault: OpenFault) -> bool
-    ensures { IsTrue result → IsTrue (D.Disk.is_clean log.new) → IsIgnored (D.Disk.seen log.old) }
+    ensures idle { IsFoundIdle D.Disk fault log.old log.new result }
+    ensures tally { D.Disk.tally_of log.new ≡ D.Disk.tally_of log.old }
 {
     if !log.may_be_used() {
         return false;
     }
     match log.len() {
-        Ok(len) => len == 0 || (fault == OpenFault::NotASession && len < FRAME_END),
+        Ok(len) => len < idle_bound(fault),
         Err(_) => false,
     }
 }

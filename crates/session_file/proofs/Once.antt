@@ -91,8 +91,3 @@ holds_once db j k a b =
     let session = session_once j.session k.session (sym a.session ∙ b.session) in
     let answer = answer_once j.answer k.answer (sym a.answer ∙ b.answer) in
     λ i. record { storage = storage i; programs = programs i; session = session i; answer = answer i }
-
--- what an open finds after a stop in a commit
-pub found_again : (old : View) (was next found : Kept) (db : Trees) (Left : Type 0) → Holds old was next → (Left → db ≡ old.committed) → HoldsIn db next ⊎ Left → HoldsIn db found → (found ≡ was) ⊎ (found ≡ next)
-found_again old was next found db Left it settled (inl now) holds = inr (holds_once db found next holds now)
-found_again old was next found db Left it settled (inr before) holds = inl (holds_once db found was holds (subst (λ d. HoldsIn d was) (sym (settled before)) it.committed))

@@ -85,7 +85,3 @@ trees_again old new was same alike =
 pub err_both : {X E : Type 0} {P Q R : E → Type 0} (r : Result X E) → ((e : E) → P e → Q e → R e) → IfErr r P → IfErr r Q → IfErr r R
 err_both (Ok x) f p q = tt
 err_both (Err e) f p q = f e p q
-
-pub err_weaker : {X E : Type 0} {P Q : E → Type 0} (r : Result X E) → ((e : E) → P e → Q e) → IfErr r P → IfErr r Q
-err_weaker (Ok x) f p = tt
-err_weaker (Err e) f p = f e p

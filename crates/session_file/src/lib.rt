@@ -6,6 +6,7 @@ mod decoding;
 mod entries;
 mod fault;
 mod file;
+mod laws;
 mod opening;
 mod reading;
 mod restarting;
@@ -14,6 +15,7 @@ mod writing;
 
 pub use fault::OpenFault;
 pub use file::SessionFile;
+pub use laws::held_session_is_one;
 pub use opening::open_session;
-pub use restarting::{commit_and_stop, restart};
+pub use restarting::restart;
 pub use rows::{AnswerRow, Found, ProgramRow, SessionRow};

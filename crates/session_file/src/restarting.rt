@@ -1,11 +1,11 @@
-//! A commit, then a stop of the machine, then an open.
+//! An open after a stop of the machine.
 
-ghost use Rattle.std.specs.Prelude.{◌≡◌, ◌⊎◌, ◌≤◌, map, IfErr, IfOk, IsTrue};
+ghost use Rattle.std.specs.Prelude.{◌≡◌, ◌≤◌, map, IfErr, IfOk, IsTrue};
 ghost use Rattle.sqlite_trees.specs.Tree.{Trees};
 ghost use Rattle.sqlite_trees.specs.View.{IsClean, doubt};
 ghost use Rattle.session_file.specs.Kept.{Kept, HoldsIn};
 ghost use Rattle.session_file.specs.Opening.{AreRising, kept_of, program_entry};
-ghost use Rattle.session_file.specs.Staging.{IsKeeping, IsStaged};
+ghost use Rattle.session_file.specs.Staging.{IsKeeping};
 
 use crate::fault::OpenFault;
 use crate::file::SessionFile;
@@ -32,21 +32,4 @@ pub fn restart<S: Reopen>(
         return Err((OpenFault::Store(error), store));
     }
     open_session(alloc, store)
-}
-
-/// Keeps what was staged, or fails to, and then the machine stops: the next open finds what was kept before, or what was staged,
-/// and only the store can refuse it. By the crash argument of the log this covers a stop at any moment of `commit`.
-pub fn commit_and_stop<S: Reopen>(
-    alloc: Global,
-    file: SessionFile<S>,
-) -> Result<(SessionFile<S>, Found), (OpenFault, S)>
-    ensures rising { IfOk result (λ r. AreRising (map program_entry r.1.programs.items)) }
-    ensures found { IfOk result (λ r. IsTrue (S.Store.view file).is_open → IsTrue (S.Store.view r.0).is_open
-        → (kept next : Kept) → IsStaged (S.Store.view file) kept next → (kept_of r.1 ≡ kept) ⊎ (kept_of r.1 ≡ next)) }
-    ensures err { IfErr result (λ e. IsTrue (S.Store.view file).is_open → IsClean (S.Store.view e.1)
-        → (kept next : Kept) → IsStaged (S.Store.view file) kept next → (error : StoreError) × (e.0 ≡ OpenFault.Store error)) }
-{
-    let mut file = file;
-    let _ = file.commit();
-    restart(alloc, file)
 }

@@ -1,9 +1,10 @@
 -- What is asked of a disk, and in which order.
 use Rattle.std.specs.Prelude.{◌≡◌, ℕ, ◌++◌, ◌⊎◌, All, List, [], ◌∷◌, Option, None, Some, ⊤}
 
--- to make a file at a path, to open what is there and write bytes into it, to make sure that a file's bytes are on the disk, to give
--- a file of these bytes another name, to remove an open file that is at a path, and to remove a file there that a process which has
--- ended left over; None where the bytes are not known. A file that can't be made counts as not asked for, and a sync that is refused is an order of its own
+-- to make a file at a path, to open what is there and write bytes into it, to make sure that a file's bytes are on the disk, to
+-- give a file of these bytes another name, to remove an open file that is at a path, and to remove a file there that a process
+-- which has ended left over; None where the bytes are not known. A file that can't be made counts as not asked for, and a sync
+-- that is refused is an order of its own
 pub data Order : Type 0 where
   Make : (path : List ℕ) → Order
   Write : (path bytes : List ℕ) → Order
