@@ -2,5 +2,4 @@ pub mod CallsBehind
 mod Chains
 mod Conflicts
 pub mod ProgramFiles
-pub mod Sessions
 pub mod ShortNames

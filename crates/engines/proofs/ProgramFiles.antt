@@ -1,10 +1,9 @@
 -- The programs of files.
-use Rattle.std.proofs.Common.{◌≡◌, ℕ, List, [], ◌∷◌, Bool, true, false, cond, ap, refl, subst, inl, inr}
+use Rattle.std.proofs.Common.{◌≡◌, ℕ, List, [], ◌∷◌, Bool, true, false, cond, refl, subst, inl, inr}
 use Rattle.std.specs.Prelude.{Option, Some, None, Result, Ok, Err, IfSome, length, nat_lt}
 use Rattle.std.specs.Option.{option_map}
 use Rattle.std.specs.Result.{result_map_both}
 use Rattle.block_file.specs.Block.{BlockValue}
-use Rattle.byte_streams.specs.declared.fault.WriteFault.{WriteFault}
 use Rattle.elf32.specs.Image.{image_of}
 use Rattle.elf32.specs.Layout.{Layout}
 use Rattle.elf32.specs.declared.error.ElfError.{ElfError}
@@ -12,7 +11,6 @@ use Rattle.programs.specs.Programs.{IsProgramFault, file_limit, program_of_file,
 use Rattle.programs.specs.declared.fault.ProgramFault.{ProgramFault}
 use Rattle.programs.specs.declared.fault.ProgramFault.TheVariants.{Elf, TooLong, Unreadable}
 use Rattle.engines.specs.Engine.{IsFileFault, IsJobFault, job_over, programs_in, refusal_of}
-use Rattle.engines.specs.Listing.{IsListingFault, listing_of, listing_of_file}
 
 -- a program that was loaded from an open file
 pub file_program : (content remaining : Option (List ℕ)) (read : List ℕ) (image : Layout) → IfSome content (λ bytes. remaining ≡ Some bytes) → IfSome remaining (λ bytes. read ≡ bytes) → program_of_file read ≡ Ok image → IfSome (option_map program_of_file content) (λ wanted. wanted ≡ Ok image)
@@ -64,12 +62,3 @@ job_fault content block TooLong (inl memory) = cc
 job_fault content block TooLong (inr w) = of_programs block (programs_of (programs_in content) block.programs) TooLong w
 job_fault content block Unreadable (inl memory) = cc
 job_fault content block Unreadable (inr w) = inr (unknown block (programs_of (programs_in content) block.programs) (readable content block.programs) w)
-
--- a fault of a file is one of its listing
-pub listing_fault : (may_fail : Type 0) (may_refuse : WriteFault → Type 0) (input : Option (List ℕ)) (old new : Option (List ℕ)) (fault : ProgramFault) → IsFileFault may_fail (option_map program_of_file input) fault → IfSome input (λ bytes. IsListingFault may_fail may_refuse (listing_of_file bytes) old new (refusal_of fault))
-listing_fault may_fail may_refuse None old new fault h = tt
-listing_fault may_fail may_refuse (Some bytes) old new Unreadable h = h
-listing_fault may_fail may_refuse (Some bytes) old new TooLong (inl memory) = cc
-listing_fault may_fail may_refuse (Some bytes) old new TooLong (inr w) = ap (result_map_both listing_of refusal_of) w
-listing_fault may_fail may_refuse (Some bytes) old new (Elf fault) (inl memory) = inl cc
-listing_fault may_fail may_refuse (Some bytes) old new (Elf fault) (inr w) = inr (ap (result_map_both listing_of refusal_of) w)

@@ -44,17 +44,6 @@ IsSessionFault may_fail may_refuse (Debug debug.Memory) = ⊤
 IsSessionFault may_fail may_refuse _ = ⊥
 
 -- a refusal of a replay of the call at an index: one before the session, or, where there is such a call, one of the session
-abbrev pub IsReplayedFault : Type 0 → (WriteFault → Type 0) → ℕ → Job → Refusal → Type 0
-IsReplayedFault may_fail may_refuse index job = IsRefused (IsReplayFault job index) (λ first. first_moment job index ≡ Some first) (λ first. IsSessionFault may_fail may_refuse)
-
--- where no session is wanted, the output stays as it was
-abbrev pub StaysWithoutSession : Result Job Refusal → ℕ → Option (List ℕ) → Option (List ℕ) → Type 0
-StaysWithoutSession (Err fault) index old new = new ≡ old
-StaysWithoutSession (Ok job) index old new = slice_get job.block index ≡ None → new ≡ old
-
--- a refusal that comes before the session leaves the output as it was
-abbrev pub IsUnwrittenBefore : Option (List ℕ) → Option (List ℕ) → Refusal → Type 0
-IsUnwrittenBefore old new (Output fault) = ⊤
-IsUnwrittenBefore old new (Debug debug.Memory) = ⊤
-IsUnwrittenBefore old new (File Unreadable) = ⊤
-IsUnwrittenBefore old new _ = new ≡ old
+abbrev pub IsReplayedFault : Type 0 → (WriteFault → Type 0) → ℕ → Option (List ℕ) → Option (List ℕ) → Job → Refusal → Type 0
+IsReplayedFault may_fail may_refuse index old new job =
+    IsRefused old new (IsReplayFault job index) (λ first. first_moment job index ≡ Some first) (λ first. IsSessionFault may_fail may_refuse)

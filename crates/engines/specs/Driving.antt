@@ -12,13 +12,12 @@ use Rattle.stm_state.specs.Steps.{ArenaFull, IncarnationLimit}
 use Rattle.stm_core.specs.declared.engine.DriveFault.{DriveFault}
 use Rattle.stm_core.specs.declared.engine.DriveFault.TheVariants as drive
 use Rattle.receipts.specs.Text.{result_text}
-use Rattle.byte_streams.specs.Written.{AppendsPart}
 use Rattle.byte_streams.specs.declared.fault.WriteFault.{WriteFault}
 use Rattle.block_file.specs.Block.{BlockValue}
 use Rattle.block_file.specs.declared.fault.BlockFault.{BlockFault}
 use Rattle.programs.specs.Programs.{calls_over, programs_of}
 use Rattle.programs.specs.declared.fault.ProgramFault.{ProgramFault}
-use Rattle.engines.specs.Engine.{programs_in, refusal_of, IsRefused, IsTextFault}
+use Rattle.engines.specs.Engine.{programs_in, refusal_of, IsOutputFault, IsRefused, IsTextFault}
 use Rattle.engines.specs.declared.fault.Refusal.{Refusal}
 use Rattle.engines.specs.declared.fault.Refusal.TheVariants.{File, Block, Schedule, Drive, Output}
 use Rattle.engines.specs.declared.fault.FileFault.TheVariants.{Unreadable}
@@ -59,15 +58,15 @@ IsScheduleFault may_fail wanted (Schedule fault) = IfSome wanted (λ w. IsTextFa
 IsScheduleFault may_fail wanted (File Unreadable) = may_fail
 IsScheduleFault may_fail wanted _ = ⊥
 
--- a refusal of a run along a list: the wanted one, Memory, or one of the output
+-- a refusal of a run along a list: the wanted one or Memory, and then nothing was written, or one of the output
 abbrev pub IsDriveFault : (WriteFault → Type 0) → Result (List ℕ) Refusal → Option (List ℕ) → Option (List ℕ) → Refusal → Type 0
-IsDriveFault may_refuse wanted old new (Drive fault) = (fault ≡ drive.Memory) ⊎ (wanted ≡ Err (Drive fault))
-IsDriveFault may_refuse wanted old new (Output fault) = may_refuse fault × IsOkAnd wanted (AppendsPart old new)
+IsDriveFault may_refuse wanted old new (Drive fault) = (new ≡ old) × ((fault ≡ drive.Memory) ⊎ (wanted ≡ Err (Drive fault)))
+IsDriveFault may_refuse wanted old new (Output fault) = IsOkAnd wanted (λ text. IsOutputFault may_refuse text old new (Output fault))
 IsDriveFault may_refuse wanted old new _ = ⊥
 
 -- a refusal of a run along a schedule file: one met in this file, or one of the run along its list, which is any list
 -- where the file is unknown
 abbrev pub IsScheduledFault : Type 0 → (WriteFault → Type 0) → ℕ → Option (Result (List ℕ) BlockFault) → Option (List ℕ) → Option (List ℕ) → Job → Refusal → Type 0
 IsScheduledFault may_fail may_refuse workers schedule old new job =
-    IsRefused (IsScheduleFault may_fail schedule) (λ entries. IfSome schedule (λ wanted. wanted ≡ Ok entries))
+    IsRefused old new (IsScheduleFault may_fail schedule) (λ entries. IfSome schedule (λ wanted. wanted ≡ Ok entries))
     (λ entries. IsDriveFault may_refuse (text_along job.block job.store workers entries) old new)

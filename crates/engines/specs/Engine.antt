@@ -1,5 +1,5 @@
 -- What the engine of `rvstm seq` writes, and what it refuses.
-use Rattle.std.specs.Prelude.{ℕ, List, ◌≡◌, ◌⊎◌, ◌≤◌, ⊤, Option, Some, None, IfSome, Result, Ok, Err, IfErr, IsOk}
+use Rattle.std.specs.Prelude.{ℕ, List, ◌≡◌, ◌⊎◌, ◌≤◌, Option, Some, None, IfSome, Result, Ok, Err, IfErr, IsOk}
 use Rattle.std.specs.Option.{option_map}
 use Rattle.std.specs.Result.{result_map_both}
 use Rattle.elf32.specs.Layout.{Layout}
@@ -10,7 +10,7 @@ use Rattle.receipts.specs.Text.{result_text}
 use Rattle.byte_streams.specs.Written.{AppendsPart}
 use Rattle.byte_streams.specs.declared.fault.WriteFault.{WriteFault}
 use Rattle.byte_streams.specs.declared.fault.WriteFault.TheVariants as output
-use Rattle.block_file.specs.Block.{BlockValue}
+use Rattle.block_file.specs.Block.{BlockValue, block_of}
 use Rattle.block_file.specs.declared.fault.BlockFault.{BlockFault}
 use Rattle.block_file.specs.declared.fault.Cause.TheVariants as cause
 use Rattle.programs.specs.Programs.{IsProgramFault, calls_over, program_of_file, programs_of}
@@ -82,26 +82,25 @@ IsJobFault may_fail content block _ = ⊥
 abbrev pub IsLoadFault : Type 0 → (List ℕ → Option (List ℕ)) → Result BlockValue BlockFault → Refusal → Refusal → Type 0
 IsLoadFault may_fail content block memory e = ((e ≡ memory) × IfSome (loaded_job content block) (λ wanted. IsOk wanted)) ⊎ IsJobFault may_fail content block e
 
--- a refusal of what gets something and then uses it: one of the getting, or one of the use of what can have been got
-abbrev pub IsRefused : {X : Type 0} → (Refusal → Type 0) → (X → Type 0) → (X → Refusal → Type 0) → Refusal → Type 0
-IsRefused {X} got is used e = got e ⊎ ((x : X) × is x × used x e)
+-- a refusal of what gets something and then uses it: one of the getting, and then nothing was written, or one of the use of
+-- what can have been got
+abbrev pub IsRefused : {X : Type 0} → Option (List ℕ) → Option (List ℕ) → (Refusal → Type 0) → (X → Type 0) → (X → Refusal → Type 0) → Refusal → Type 0
+IsRefused {X} old new got is used e = ((new ≡ old) × got e) ⊎ ((x : X) × is x × used x e)
 
 -- a refusal of a command over a job: one met before the job is made, `memory` too, or one of the stage over the job of
 -- the files, which is any job where the files are unknown
-abbrev pub IsRefusedJob : Refusal → (Job → Refusal → Type 0) → Type 0 → (List ℕ → Option (List ℕ)) → Result BlockValue BlockFault → Refusal → Type 0
-IsRefusedJob memory stage may_fail content block = IsRefused (IsLoadFault may_fail content block memory) (λ job. IfSome (loaded_job content block) (λ wanted. wanted ≡ Ok job)) stage
+abbrev pub IsRefusedJob : Refusal → (Option (List ℕ) → Option (List ℕ) → Job → Refusal → Type 0) → Type 0 → Option (List ℕ) → (List ℕ → Option (List ℕ)) → Option (List ℕ) → Option (List ℕ) → Refusal → Type 0
+IsRefusedJob memory stage may_fail input content old new =
+    IsRefused old new (λ e. IfSome input (λ bytes. IsLoadFault may_fail content (block_of bytes) memory e))
+    (λ job. IfSome input (λ bytes. IfSome (loaded_job content (block_of bytes)) (λ wanted. wanted ≡ Ok job)))
+    (stage old new)
 
--- a refusal of the output: a beginning of the text was written, and a write may be refused so
+-- a refusal of the output: a beginning of the text was written, nothing where memory ran out, and a write may be refused
+-- so
 abbrev pub IsOutputFault : (WriteFault → Type 0) → List ℕ → Option (List ℕ) → Option (List ℕ) → Refusal → Type 0
-IsOutputFault may_refuse text old new (Output fault) = may_refuse fault × AppendsPart old new text
+IsOutputFault may_refuse text old new (Output fault) = may_refuse fault × AppendsPart old new text × (fault ≡ output.Memory → new ≡ old)
 IsOutputFault may_refuse text old new _ = ⊥
 
--- a refusal of a run in order: Memory, or one of the output
+-- a refusal of a run in order: Memory, and then nothing was written, or one of the output
 abbrev pub IsRunFault : (WriteFault → Type 0) → Option (List ℕ) → Option (List ℕ) → Job → Refusal → Type 0
-IsRunFault may_refuse old new job e = (e ≡ Seq Memory) ⊎ IsOutputFault may_refuse (text_of job) old new e
-
--- a refused command wrote nothing, unless a write failed
-abbrev pub IsUnwritten : Option (List ℕ) → Option (List ℕ) → Refusal → Type 0
-IsUnwritten old new (Output output.Io) = ⊤
-IsUnwritten old new (Output output.WroteNothing) = ⊤
-IsUnwritten old new _ = new ≡ old
+IsRunFault may_refuse old new job e = ((new ≡ old) × (e ≡ Seq Memory)) ⊎ IsOutputFault may_refuse (text_of job) old new e

@@ -26,4 +26,4 @@ AppendsConflicts job old new = (text : List ℕ) × IsConflictsText job text × 
 
 -- a refusal of finding the conflicts of a job and writing them: Memory, or one of the output of their text
 abbrev pub IsConflictsFault : (WriteFault → Type 0) → Option (List ℕ) → Option (List ℕ) → Job → Refusal → Type 0
-IsConflictsFault may_refuse old new job = IsRefused (λ e. e ≡ Seq Memory) (IsConflictsText job) (λ text. IsOutputFault may_refuse text old new)
+IsConflictsFault may_refuse old new job = IsRefused old new (λ e. e ≡ Seq Memory) (IsConflictsText job) (λ text. IsOutputFault may_refuse text old new)

@@ -1,5 +1,6 @@
 -- What `rvstm dis` prints and `rvstm asm` writes, and what they refuse.
-use Rattle.std.specs.Prelude.{◌≡◌, ◌⊎◌, ℕ, List, [], ◌∷◌, ◌++◌, flat_map, Option, Result, Ok, Err, IsOk, IsOkAnd, if◌then◌else◌, length, ◌==◌, IsUtf8}
+use Rattle.std.specs.Prelude.{◌≡◌, ◌≢◌, ◌⊎◌, ℕ, List, [], ◌∷◌, ◌++◌, flat_map, Option, IfSome, Result, Ok, Err, IsOk, if◌then◌else◌, length, ◌==◌, IsUtf8}
+use Rattle.std.specs.Option.{option_map}
 use Rattle.std.specs.Result.{result_map_both}
 use Rattle.elf32.specs.Layout.{Layout}
 use Rattle.elf32.specs.Words.{words_of}
@@ -7,7 +8,6 @@ use Rattle.elf32.specs.Written.{file_of}
 use Rattle.elf32.specs.declared.words.PlacedWord.{PlacedWord}
 use Rattle.elf32.specs.declared.error.ElfError.TheVariants as elf
 use Rattle.receipts.specs.Text.{word_text}
-use Rattle.byte_streams.specs.Written.{AppendsPart}
 use Rattle.byte_streams.specs.declared.fault.WriteFault.{WriteFault}
 use Rattle.byte_streams.specs.declared.fault.WriteFault.TheVariants as output
 use Rattle.rv_names.specs.Text as text
@@ -17,9 +17,10 @@ use Rattle.rv_text.specs.declared.fault.AsmError.{AsmError}
 use Rattle.rv_text.specs.declared.fault.AsmCause.TheVariants as cause
 use Rattle.engines.specs.declared.fault.Refusal.{Refusal}
 use Rattle.engines.specs.declared.fault.Refusal.TheVariants.{File, Elf, Output, Asm}
-use Rattle.engines.specs.declared.fault.FileFault.TheVariants.{Unreadable, TooLong}
-use Rattle.engines.specs.Engine.{refusal_of}
+use Rattle.engines.specs.declared.fault.FileFault.TheVariants.{Unreadable}
+use Rattle.engines.specs.Engine.{refusal_of, IsFileFault, IsOutputFault, IsRefused}
 use Rattle.programs.specs.Programs.{program_of_file}
+use Rattle.programs.specs.declared.fault.ProgramFault.{ProgramFault}
 
 -- a line of the listing: the address and the word in eight hex digits each, and the word's text
 abbrev pub listing_line : PlacedWord → List ℕ
@@ -33,16 +34,12 @@ listing_of image = flat_map listing_line (words_of image)
 abbrev pub listing_of_file : List ℕ → Result (List ℕ) Refusal
 listing_of_file bytes = result_map_both listing_of refusal_of (program_of_file bytes)
 
--- a refusal of `dis`: a fault of the file is the wanted one, or Memory; where the output was refused, a beginning of
--- the wanted text was written, and a write may be refused so. Unreadable comes only where a read may fail, and Memory of
--- the output does not come
-abbrev pub IsListingFault : Type 0 → (WriteFault → Type 0) → Result (List ℕ) Refusal → Option (List ℕ) → Option (List ℕ) → Refusal → Type 0
-IsListingFault may_fail may_refuse answer old new (Elf fault) = (fault ≡ elf.Memory) ⊎ (answer ≡ Err (Elf fault))
-IsListingFault may_fail may_refuse answer old new (File TooLong) = answer ≡ Err (File TooLong)
-IsListingFault may_fail may_refuse answer old new (File Unreadable) = may_fail
-IsListingFault may_fail may_refuse answer old new (Output output.Memory) = ⊥
-IsListingFault may_fail may_refuse answer old new (Output fault) = may_refuse fault × IsOkAnd answer (AppendsPart old new)
-IsListingFault may_fail may_refuse answer old new _ = ⊥
+-- a refusal of `dis`: a fault of the file, or one of the output of its listing, but for Memory
+abbrev pub IsListingFault : Type 0 → (WriteFault → Type 0) → Option (List ℕ) → Option (List ℕ) → Option (List ℕ) → Refusal → Type 0
+IsListingFault may_fail may_refuse input old new =
+    IsRefused old new (λ e. (fault : ProgramFault) × (e ≡ refusal_of fault) × IsFileFault may_fail (option_map program_of_file input) fault)
+    (λ text. IfSome input (λ bytes. listing_of_file bytes ≡ Ok text))
+    (λ text e. (e ≢ Output output.Memory) × IsOutputFault may_refuse text old new e)
 
 -- the file of an assembled program; one without text words has no entry, and is refused as BadEntry
 abbrev pub file_or_fault : Sections → Result (List ℕ) Refusal

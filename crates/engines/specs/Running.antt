@@ -19,7 +19,7 @@ IsRefusalOf job workers run.IncarnationLimit = HasLimit job workers steps.Incarn
 IsRefusalOf job workers run.StepLimit = HasStepLimit job workers None
 IsRefusalOf job workers fault = ⊤
 
--- a refusal of a run by workers: one that the job may meet, or one of the output
+-- a refusal of a run by workers: one that the job may meet, and then nothing was written, or one of the output
 abbrev pub IsWorkersFault : (WriteFault → Type 0) → ℕ → Option (List ℕ) → Option (List ℕ) → Job → Refusal → Type 0
-IsWorkersFault may_refuse workers old new job (Run fault) = IsRefusalOf job workers fault
+IsWorkersFault may_refuse workers old new job (Run fault) = (new ≡ old) × IsRefusalOf job workers fault
 IsWorkersFault may_refuse workers old new job e = IsOutputFault may_refuse (text_of job) old new e

@@ -6,7 +6,7 @@ ghost use Rattle.block_file.specs.Block.{block_of};
 ghost use Rattle.debugger.specs.Session.{AppendsBeginning, MayBeCutOff, lines_of, session};
 ghost use Rattle.byte_streams.specs.Written.{MayRefuse};
 ghost use Rattle.rv_step.specs.Fold.{store_after};
-ghost use Rattle.engines.specs.Debugging.{first_moment, replayed_text, IsReplayFault, IsReplayedFault, IsSessionFault, IsUnwrittenBefore, StaysWithoutSession};
+ghost use Rattle.engines.specs.Debugging.{first_moment, replayed_text, IsReplayFault, IsReplayedFault, IsSessionFault};
 ghost use Rattle.engines.specs.Engine.{loaded_job, IsRefusedJob};
 
 use crate::fault::{FileFault, Refusal, SeqFault};
@@ -36,13 +36,9 @@ pub fn debug_block_to<R: Source, P: Programs, L: Source, W: Destination>(
     ensures written { OnOk result (IfSome (R.remaining block.old) (λ input. IfSome (L.remaining lines.old) (λ typed.
         IfSome (loaded_job (P.content programs.old) (block_of input)) (λ job.
         IsOkAnd (replayed_text has_more job call typed) (Appends (W.contents out.old) (W.contents out.new)))))) }
-    ensures refused { IfErr result (λ e. IfSome (R.remaining block.old) (λ input.
-        IsRefusedJob (Refusal.Seq SeqFault.Memory) (IsReplayedFault (MayBeCutOff (L.may_fail lines.old) (L.remaining lines.old)) (MayRefuse (W.may_fail out.old) (W.may_take_nothing out.old)) call)
-        (R.may_fail block.old) (P.content programs.old) (block_of input) e)) }
-    ensures unwritten { IfErr result (λ e. IsUnwrittenBefore (W.contents out.old) (W.contents out.new) e) }
-    ensures untouched { OnErr result (IfSome (R.remaining block.old) (λ input.
-        IfSome (loaded_job (P.content programs.old) (block_of input)) (λ job.
-        StaysWithoutSession job call (W.contents out.old) (W.contents out.new)))) }
+    ensures refused { IfErr result (IsRefusedJob (Refusal.Seq SeqFault.Memory)
+        (IsReplayedFault (MayBeCutOff (L.may_fail lines.old) (L.remaining lines.old)) (MayRefuse (W.may_fail out.old) (W.may_take_nothing out.old)) call)
+        (R.may_fail block.old) (R.remaining block.old) (P.content programs.old) (W.contents out.old) (W.contents out.new)) }
     ensures cut { OnErr result (IfSome (R.remaining block.old) (λ input. IfSome (L.remaining lines.old) (λ typed.
         IfSome (loaded_job (P.content programs.old) (block_of input)) (λ job.
         IfOk (replayed_text has_more job call typed) (AppendsBeginning (W.contents out.old) (W.contents out.new)))))) }

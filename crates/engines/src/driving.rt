@@ -8,7 +8,7 @@ ghost use Rattle.block_file.specs.Schedule.{schedule_of};
 ghost use Rattle.byte_streams.specs.Written.{MayRefuse};
 ghost use Rattle.engines.specs.Counts.{AreCountsAlong};
 ghost use Rattle.engines.specs.Driving.{driven_answer, text_along, IsDriveFault, IsScheduleFault, IsScheduledFault};
-ghost use Rattle.engines.specs.Engine.{loaded_job, IsRefusedJob, IsUnwritten};
+ghost use Rattle.engines.specs.Engine.{loaded_job, IsRefusedJob};
 
 use crate::counts::RunCounts;
 use crate::fault::Refusal;
@@ -38,20 +38,15 @@ pub fn drive_to<R: Source, P: Programs, S: Source, W: Destination>(
     ensures written { OnOk result (IfSome (R.remaining block.old) (λ input.
         IfSome (driven_answer (P.content programs.old) (block_of input) workers (option_map schedule_of (S.remaining schedule.old))) (λ answer.
         IsOkAnd answer (Appends (W.contents out.old) (W.contents out.new))))) }
-    ensures refused { IfErr result (λ e. IfSome (R.remaining block.old) (λ input.
-        IsRefusedJob (Refusal.Drive DriveFault.Memory)
-        (IsScheduledFault (S.may_fail schedule.old) (MayRefuse (W.may_fail out.old) (W.may_take_nothing out.old)) workers (option_map schedule_of (S.remaining schedule.old)) (W.contents out.old) (W.contents out.new))
-        (R.may_fail block.old) (P.content programs.old) (block_of input) e)) }
-    ensures unwritten { IfErr result (λ e. IsUnwritten (W.contents out.old) (W.contents out.new) e) }
+    ensures refused { IfErr result (IsRefusedJob (Refusal.Drive DriveFault.Memory)
+        (IsScheduledFault (S.may_fail schedule.old) (MayRefuse (W.may_fail out.old) (W.may_take_nothing out.old)) workers (option_map schedule_of (S.remaining schedule.old)))
+        (R.may_fail block.old) (R.remaining block.old) (P.content programs.old) (W.contents out.old) (W.contents out.new)) }
     ensures counts { IfOk result (λ counts. IfSome (R.remaining block.old) (λ input. IfSome (S.remaining schedule.old) (λ bytes.
         IfSome (loaded_job (P.content programs.old) (block_of input)) (λ wanted. IsOkAnd wanted (λ job.
         IsOkAnd (schedule_of bytes) (λ entries. AreCountsAlong job workers entries counts)))))) }
 {
+    let job = load_job(alloc, block, programs, Refusal::Drive(DriveFault::Memory))?;
     // Not by `?`: the proof answers this arm.
-    let job = match load_job(alloc, block, programs, Refusal::Drive(DriveFault::Memory)) {
-        Ok(job) => job,
-        Err(refusal) => return Err(refusal),
-    };
     let entries = match read_schedule(alloc, schedule) {
         Ok(entries) => entries,
         Err(refusal) => return Err(refusal),
@@ -89,7 +84,6 @@ fn drive_job<W: Destination>(
 ) -> Result<RunCounts, Refusal>
     ensures written { OnOk result (IsOkAnd (text_along job.now.block job.now.store workers entries.now) (Appends (W.contents out.old) (W.contents out.new))) }
     ensures refused { IfErr result (λ e. IsDriveFault (MayRefuse (W.may_fail out.old) (W.may_take_nothing out.old)) (text_along job.now.block job.now.store workers entries.now) (W.contents out.old) (W.contents out.new) e) }
-    ensures unwritten { IfErr result (λ e. IsUnwritten (W.contents out.old) (W.contents out.new) e) }
     ensures counts { IfOk result (AreCountsAlong job.now workers entries.now) }
 {
     match drive(alloc, job, workers, entries) {

@@ -5,7 +5,7 @@ ghost use Rattle.std.specs.Io.KnownBytes.{Appends};
 ghost use Rattle.block_file.specs.Block.{block_of};
 ghost use Rattle.byte_streams.specs.Written.{MayRefuse};
 ghost use Rattle.conflicts.specs.Text.{conflicts_text};
-ghost use Rattle.engines.specs.Engine.{loaded_job, IsOutputFault, IsRefusedJob, IsUnwritten};
+ghost use Rattle.engines.specs.Engine.{loaded_job, IsOutputFault, IsRefusedJob};
 ghost use Rattle.engines.specs.Finding.{AppendsConflicts, IsConflictsFault};
 
 use crate::fault::{Refusal, SeqFault};
@@ -29,9 +29,8 @@ pub fn conflicts_to<R: Source, P: Programs, W: Destination>(
     ensures written { OnOk result (IfSome (R.remaining block.old) (λ input.
         IfSome (loaded_job (P.content programs.old) (block_of input)) (λ wanted.
         IsOkAnd wanted (λ job. AppendsConflicts job (W.contents out.old) (W.contents out.new))))) }
-    ensures refused { IfErr result (λ e. IfSome (R.remaining block.old) (λ input.
-        IsRefusedJob (Refusal.Seq SeqFault.Memory) (IsConflictsFault (MayRefuse (W.may_fail out.old) (W.may_take_nothing out.old)) (W.contents out.old) (W.contents out.new)) (R.may_fail block.old) (P.content programs.old) (block_of input) e)) }
-    ensures unwritten { IfErr result (λ e. IsUnwritten (W.contents out.old) (W.contents out.new) e) }
+    ensures refused { IfErr result (IsRefusedJob (Refusal.Seq SeqFault.Memory) (IsConflictsFault (MayRefuse (W.may_fail out.old) (W.may_take_nothing out.old)))
+        (R.may_fail block.old) (R.remaining block.old) (P.content programs.old) (W.contents out.old) (W.contents out.new)) }
 {
     let job = load_job(alloc, block, programs, Refusal::Seq(SeqFault::Memory))?;
     conflicts_job(alloc, &job, out)
@@ -41,7 +40,6 @@ pub fn conflicts_to<R: Source, P: Programs, W: Destination>(
 fn conflicts_job<W: Destination>(alloc: Global, job: &Job, out: &mut W) -> Result<(), Refusal>
     ensures written { OnOk result (AppendsConflicts job.now (W.contents out.old) (W.contents out.new)) }
     ensures refused { IfErr result (IsConflictsFault (MayRefuse (W.may_fail out.old) (W.may_take_nothing out.old)) (W.contents out.old) (W.contents out.new) job.now) }
-    ensures unwritten { IfErr result (λ e. IsUnwritten (W.contents out.old) (W.contents out.new) e) }
 {
     let Ok(conflicts) = find_conflicts(alloc, job) else {
         return Err(Refusal::Seq(SeqFault::Memory));
@@ -59,7 +57,6 @@ fn write_found<W: Destination>(
         (conflicts_text conflicts.now.calls.items conflicts.now.paths.items conflicts.now.keys.items)) }
     ensures refused { IfErr result (λ e. IsOutputFault (MayRefuse (W.may_fail out.old) (W.may_take_nothing out.old))
         (conflicts_text conflicts.now.calls.items conflicts.now.paths.items conflicts.now.keys.items) (W.contents out.old) (W.contents out.new) e) }
-    ensures unwritten { IfErr result (λ e. IsUnwritten (W.contents out.old) (W.contents out.new) e) }
 {
     match write_conflicts(alloc, conflicts, out) {
         Ok(()) => Ok(()),

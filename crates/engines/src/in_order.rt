@@ -4,7 +4,7 @@ ghost use Rattle.std.specs.Prelude.{IfErr, IfSome, IsOkAnd, OnOk};
 ghost use Rattle.std.specs.Io.KnownBytes.{Appends};
 ghost use Rattle.block_file.specs.Block.{block_of};
 ghost use Rattle.byte_streams.specs.Written.{MayRefuse};
-ghost use Rattle.engines.specs.Engine.{answer_of, text_of, IsRefusedJob, IsRunFault, IsUnwritten};
+ghost use Rattle.engines.specs.Engine.{answer_of, text_of, IsRefusedJob, IsRunFault};
 
 use crate::fault::{Refusal, SeqFault};
 use crate::loading::load_job;
@@ -27,9 +27,8 @@ pub fn seq_to<R: Source, P: Programs, W: Destination>(
     ensures written { OnOk result (IfSome (R.remaining block.old) (λ input.
         IfSome (answer_of (P.content programs.old) (block_of input)) (λ answer.
         IsOkAnd answer (Appends (W.contents out.old) (W.contents out.new))))) }
-    ensures refused { IfErr result (λ e. IfSome (R.remaining block.old) (λ input.
-        IsRefusedJob (Refusal.Seq SeqFault.Memory) (IsRunFault (MayRefuse (W.may_fail out.old) (W.may_take_nothing out.old)) (W.contents out.old) (W.contents out.new)) (R.may_fail block.old) (P.content programs.old) (block_of input) e)) }
-    ensures unwritten { IfErr result (λ e. IsUnwritten (W.contents out.old) (W.contents out.new) e) }
+    ensures refused { IfErr result (IsRefusedJob (Refusal.Seq SeqFault.Memory) (IsRunFault (MayRefuse (W.may_fail out.old) (W.may_take_nothing out.old)))
+        (R.may_fail block.old) (R.remaining block.old) (P.content programs.old) (W.contents out.old) (W.contents out.new)) }
 {
     let job = load_job(alloc, block, programs, Refusal::Seq(SeqFault::Memory))?;
     seq_job(alloc, job, out)
@@ -39,7 +38,6 @@ pub fn seq_to<R: Source, P: Programs, W: Destination>(
 fn seq_job<W: Destination>(alloc: Global, job: Job, out: &mut W) -> Result<(), Refusal>
     ensures written { OnOk result (Appends (W.contents out.old) (W.contents out.new) (text_of job)) }
     ensures refused { IfErr result (IsRunFault (MayRefuse (W.may_fail out.old) (W.may_take_nothing out.old)) (W.contents out.old) (W.contents out.new) job) }
-    ensures unwritten { IfErr result (λ e. IsUnwritten (W.contents out.old) (W.contents out.new) e) }
 {
     let Ok(outcome) = into_outcome(alloc, job) else {
         return Err(Refusal::Seq(SeqFault::Memory));

@@ -5,7 +5,7 @@ ghost use Rattle.std.specs.Io.KnownBytes.{Appends};
 ghost use Rattle.std.specs.Option.{option_map};
 ghost use Rattle.std.specs.String.{string_bytes};
 ghost use Rattle.byte_streams.specs.Written.{MayRefuse};
-ghost use Rattle.engines.specs.Engine.{IsFileFault, IsUnwritten};
+ghost use Rattle.engines.specs.Engine.{IsFileFault};
 ghost use Rattle.engines.specs.Listing.{IsListingFault, listing_line, listing_of, listing_of_file};
 ghost use Rattle.programs.specs.Programs.{program_of_file};
 ghost use Rattle.receipts.specs.Text.{word_text};
@@ -30,9 +30,7 @@ pub fn dis_to<R: Source, W: Destination>(
 ) -> Result<(), Refusal>
     ensures written { OnOk result (IfSome (R.remaining file.old) (λ bytes.
         IsOkAnd (listing_of_file bytes) (Appends (W.contents out.old) (W.contents out.new)))) }
-    ensures refused { IfErr result (λ e. IfSome (R.remaining file.old) (λ bytes.
-        IsListingFault (R.may_fail file.old) (MayRefuse (W.may_fail out.old) (W.may_take_nothing out.old)) (listing_of_file bytes) (W.contents out.old) (W.contents out.new) e)) }
-    ensures unwritten { IfErr result (λ e. IsUnwritten (W.contents out.old) (W.contents out.new) e) }
+    ensures refused { IfErr result (IsListingFault (R.may_fail file.old) (MayRefuse (W.may_fail out.old) (W.may_take_nothing out.old)) (R.remaining file.old) (W.contents out.old) (W.contents out.new)) }
 {
     // Not by `?`: the proof answers this arm.
     let listing = match listing(alloc, file) {

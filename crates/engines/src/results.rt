@@ -4,7 +4,7 @@ ghost use Rattle.std.specs.Prelude.{◌≡◌, IfErr, IfOk, OnOk, length};
 ghost use Rattle.std.specs.Io.KnownBytes.{Appends};
 ghost use Rattle.byte_streams.specs.Written.{MayRefuse};
 ghost use Rattle.receipts.specs.Text.{result_text};
-ghost use Rattle.engines.specs.Engine.{IsOutputFault, IsUnwritten};
+ghost use Rattle.engines.specs.Engine.{IsOutputFault};
 
 use crate::counts::RunCounts;
 use crate::fault::Refusal;
@@ -23,7 +23,6 @@ pub(crate) fn write_counted<W: Destination>(
         (result_text outcome.receipts.items outcome.store)) }
     ensures refused { IfErr result (λ e. IsOutputFault (MayRefuse (W.may_fail out.old) (W.may_take_nothing out.old)) (result_text outcome.receipts.items outcome.store)
         (W.contents out.old) (W.contents out.new) e) }
-    ensures unwritten { IfErr result (λ e. IsUnwritten (W.contents out.old) (W.contents out.new) e) }
     ensures calls { IfOk result (λ counts. counts.calls ≡ length outcome.job.block) }
     ensures workers { IfOk result (λ counts. counts.workers.items ≡ outcome.counts.items) }
 {
@@ -55,7 +54,6 @@ pub(crate) fn write_result<W: Destination>(
         (result_text outcome.now.receipts.items outcome.now.store)) }
     ensures refused { IfErr result (λ e. IsOutputFault (MayRefuse (W.may_fail out.old) (W.may_take_nothing out.old)) (result_text outcome.now.receipts.items outcome.now.store)
         (W.contents out.old) (W.contents out.new) e) }
-    ensures unwritten { IfErr result (λ e. IsUnwritten (W.contents out.old) (W.contents out.new) e) }
 {
     match write_outcome(alloc, outcome, out) {
         Ok(()) => Ok(()),

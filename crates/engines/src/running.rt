@@ -5,7 +5,7 @@ ghost use Rattle.std.specs.Io.KnownBytes.{Appends};
 ghost use Rattle.block_file.specs.Block.{block_of};
 ghost use Rattle.byte_streams.specs.Written.{MayRefuse};
 ghost use Rattle.engines.specs.Counts.{AreCountsOfRun};
-ghost use Rattle.engines.specs.Engine.{answer_of, loaded_job, text_of, IsRefusedJob, IsUnwritten};
+ghost use Rattle.engines.specs.Engine.{answer_of, loaded_job, text_of, IsRefusedJob};
 ghost use Rattle.engines.specs.Running.{IsRefusalOf, IsWorkersFault};
 ghost use Rattle.rv_step.specs.Fold.{receipts_of, store_after};
 ghost use Rattle.workers.specs.History.{AreOneWorkerCounts, HasHistory};
@@ -38,9 +38,8 @@ pub fn run_to<T: Threads + Wait + Sync, R: Source, P: Programs, W: Destination>(
     ensures written { OnOk result (IfSome (R.remaining block.old) (λ input.
         IfSome (answer_of (P.content programs.old) (block_of input)) (λ answer.
         IsOkAnd answer (Appends (W.contents out.old) (W.contents out.new))))) }
-    ensures refused { IfErr result (λ e. IfSome (R.remaining block.old) (λ input.
-        IsRefusedJob (Refusal.Run RunFault.Memory) (IsWorkersFault (MayRefuse (W.may_fail out.old) (W.may_take_nothing out.old)) workers (W.contents out.old) (W.contents out.new)) (R.may_fail block.old) (P.content programs.old) (block_of input) e)) }
-    ensures unwritten { IfErr result (λ e. IsUnwritten (W.contents out.old) (W.contents out.new) e) }
+    ensures refused { IfErr result (IsRefusedJob (Refusal.Run RunFault.Memory) (IsWorkersFault (MayRefuse (W.may_fail out.old) (W.may_take_nothing out.old)) workers)
+        (R.may_fail block.old) (R.remaining block.old) (P.content programs.old) (W.contents out.old) (W.contents out.new)) }
     ensures workers { OnOk result ((1 ≤ workers) × (workers ≤ 32)) }
     ensures history { IfOk result (λ counts. IfSome (R.remaining block.old) (λ input.
         IfSome (loaded_job (P.content programs.old) (block_of input)) (λ wanted. IsOkAnd wanted (λ job. AreCountsOfRun job workers counts)))) }
@@ -59,7 +58,6 @@ fn run_threads<T: Threads + Wait + Sync, W: Destination>(
 ) -> Result<RunCounts, Refusal>
     ensures written { OnOk result (Appends (W.contents out.old) (W.contents out.new) (text_of job)) }
     ensures refused { IfErr result (IsWorkersFault (MayRefuse (W.may_fail out.old) (W.may_take_nothing out.old)) workers (W.contents out.old) (W.contents out.new) job) }
-    ensures unwritten { IfErr result (λ e. IsUnwritten (W.contents out.old) (W.contents out.new) e) }
     ensures workers { OnOk result ((1 ≤ workers) × (workers ≤ 32)) }
     ensures history { IfOk result (AreCountsOfRun job workers) }
 {

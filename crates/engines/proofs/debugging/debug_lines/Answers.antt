@@ -1,10 +1,15 @@
 use Rattle.std.proofs.Common.{ℕ, Bool, List, Option, IfSome}
 use Rattle.std.proofs.lemmas.Option.{IfSome_then}
+use Rattle.byte_streams.specs.Written.{MayRefuse}
+use Rattle.byte_streams.specs.declared.fault.WriteFault.{WriteFault}
+use Rattle.byte_streams.specs.declared.fault.WriteFault.TheVariants as output
 use Rattle.debugger.specs.declared.fault.DebugFault.{DebugFault}
+use Rattle.debugger.specs.declared.fault.DebugFault.TheVariants as debug
 use Rattle.debugger.specs.Replay.{ReplayState}
-use Rattle.debugger.specs.Session.{AppendsBeginning, IsCutShort, MayBeCutOff, lines_of, session}
+use Rattle.debugger.specs.Session.{AppendsBeginning, IsCutShort, IsPossibleFault, MayBeCutOff, lines_of, session}
 use Rattle.debugger.proofs.Cuts.{cut_short_begins}
-use Rattle.engines.proofs.Sessions.{of_output}
+use Rattle.engines.specs.declared.fault.Refusal.TheVariants.{Output}
+use Rattle.engines.specs.Debugging.{IsSessionFault}
 use Rattle.engines.proofs.debugging.debug_lines.Goals as goal
 
 -- a session that was cut short has written a beginning of what it prints
@@ -26,6 +31,12 @@ pub returns-in-Err-Memory-clause-cut : goal.returns-in-Err-Memory-clause-cut
 returns-in-Err-Memory-clause-cut g c =
     begins c.args.has_more (g.L.Read.remaining c.args.lines.now) c.in-Err-Memory.field-0 c.args.replay.now c.debug_lines_to.new.replay
     (g.W.Write.contents c.args.out.now) (g.W.Write.contents c.debug_lines_to.new.out) c.in-Err-Memory.ensures.err
+
+-- a refusal of a session's output
+of_output : (lines_may_fail may_fail may_take_nothing : Type 0) (fault : WriteFault) → IsPossibleFault may_fail may_take_nothing (debug.Output fault) → IsSessionFault lines_may_fail (MayRefuse may_fail may_take_nothing) (Output fault)
+of_output lines_may_fail may_fail may_take_nothing output.Io h = h
+of_output lines_may_fail may_fail may_take_nothing output.WroteNothing h = h
+of_output lines_may_fail may_fail may_take_nothing output.Memory h = h
 
 pub returns-in-Err-Output-clause-refused : goal.returns-in-Err-Output-clause-refused
 returns-in-Err-Output-clause-refused g c =
