@@ -1,7 +1,7 @@
 //! The engine of `rvstm chain`, over any input and writer.
 
 ghost use Rattle.std.specs.Prelude.{◌≡◌, false, IfErr, IfSome, None, OnOk};
-ghost use Rattle.durable_serving.specs.Durable.{IsDurablyEndedBy, IsFileAnswer, IsStopped, moment};
+ghost use Rattle.durable_serving.specs.Durable.{IsDurablyEndedBy, IsFileAnswer, IsStopped, MayDurablyEnd, moment};
 ghost use Rattle.durable_serving.specs.Keeping.{IsKeptBy};
 ghost use Rattle.durable_serving.specs.declared.answering.DurableFault.{DurableFault};
 ghost use Rattle.engines.specs.Chaining.{cut_of, durably_cut};
@@ -79,6 +79,7 @@ pub fn durable_chain_to<R: BufferedSource, S: Store, C: CallRunner, W: Destinati
         (moment (file_state session.old.state session.old.found) (S.Store.view session.old.file) (S.Store.faults session.old.file)) bytes (moment (file_state session.new.state session.new.found) (S.Store.view session.new.file) (S.Store.faults session.new.file)) (W.contents out.old) (W.contents out.new))) }
     ensures stopped { IsClean (S.Store.view session.new.file) → IfSome (R.remaining input.old) (λ bytes. IsStopped settings (moment (file_state session.old.state session.old.found) (S.Store.view session.old.file) (S.Store.faults session.old.file)) bytes
         (W.contents out.old) (W.contents out.new) (S.Store.recovers session.new.file)) }
+    ensures refused { IfErr result (λ e. (fault : DurableFault) × (e ≡ durably_cut fault) × MayDurablyEnd (W.may_fail out.old) (W.may_take_nothing out.old) fault) }
 {
     match serve_durably(alloc, input, runner, settings, session, out) {
         Ok(()) => Ok(()),
