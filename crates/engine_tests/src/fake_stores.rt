@@ -1,16 +1,22 @@
 //! Stores of sessions in memory. Their two files stay between sessions, and one call on the log can fail, or all from it on.
 
-ghost use Rattle.std.specs.Prelude.{◌≡◌, ◌+◌, ◌&&◌, not, false};
+ghost use Rattle.std.specs.Prelude.{◌≡◌, ◌+◌, ◌&&◌, not, false, IfOk, None};
+ghost use Rattle.engines.specs.Stores.{AreLeftFolded};
+ghost use Rattle.session_file.specs.Opening.{IsFresh};
 ghost use Rattle.sqlite_disk.specs.Disk.{CountsFault};
 ghost use Rattle.sqlite_disk.specs.Refusal.{finds_no_room};
+ghost use Rattle.sqlite_store.specs.FileStore.{view};
+ghost use Rattle.sqlite_trees.specs.View.{IsClean};
 
-use engines::SessionStores;
+use durable_serving::open_durably;
+use engines::{SessionStores, durable_chain_to};
 use session_disk::{OpenFault, close_files, open_files};
 use sqlite_disk::{Crash, Disk, Files, Memory, Tally};
 use sqlite_store::FileStore;
 use sqlite_trees::error::StoreError;
 use std::alloc::{AllocError, Global};
 use std::io;
+use turns::{InOrder, Settings};
 
 /// Which call on a file fails.
 #[derive(Clone, Copy)]
@@ -142,11 +148,9 @@ fn file_of(alloc: Global, bytes: &[u8], flaw: Flaw) -> io::Result<Flawed<Memory>
     })
 }
 
-/// How the process of a session ends.
+/// How the process of a session ends that does not close its file.
 #[derive(Clone, Copy, PartialEq, Eq)]
 pub enum End {
-    /// By closing its file.
-    Closed,
     /// By a kill, which leaves all that was written.
     Killed,
     /// By a cut of the power, which leaves what was synced.
@@ -172,8 +176,6 @@ pub struct FakeStores {
     pub refused: u64,
     /// How many calls there were on the log in a session where none failed.
     pub log_calls: u64,
-    /// How its sessions end.
-    pub end: End,
 }
 
 impl FakeStores {
@@ -188,7 +190,6 @@ impl FakeStores {
             log_flaw: Flaw::NONE,
             refused: 0,
             log_calls: 0,
-            end: End::Closed,
         }
     }
 
@@ -197,7 +198,6 @@ impl FakeStores {
         let mut stores = FakeStores::new(self.alloc);
         stores.log = self.log.as_slice().to_vec(self.alloc)?;
         stores.db = self.db.as_slice().to_vec(self.alloc)?;
-        stores.end = self.end;
         Ok(stores)
     }
 
@@ -216,33 +216,25 @@ impl FakeStores {
         })
     }
 
-    /// Takes the two files back.
-    fn take(&mut self, files: Files<Flawed<Memory>>) -> Result<(), AllocError> {
-        let mut files = files;
-        if self.end == End::Cut {
-            files.log.inner.crash();
-            files.db.inner.crash();
-        }
+    /// Keeps what the two files have. Where memory runs out the next open is refused as Memory.
+    fn keep(&mut self, files: &Files<Flawed<Memory>>) {
         self.log_calls = u64::MAX.wrapping_sub(files.log.flaw.calls_left);
         self.refused = files.log.refused;
-        self.log = files.log.inner.bytes().to_vec(self.alloc)?;
-        self.db = files.db.inner.bytes().to_vec(self.alloc)?;
-        Ok(())
-    }
-}
-
-/// What the log is salted with.
-const SEED: u64 = 7;
-
-impl SessionStores for FakeStores {
-    type Kept = FileStore<Flawed<Memory>>;
-
-    type Log = ();
-
-    fn open_store(&mut self, path: &str) -> Result<(FileStore<Flawed<Memory>>, ()), OpenFault> {
-        if self.note("open ", path).is_err() {
-            return Err(OpenFault::Memory);
+        let log = files.log.inner.bytes().to_vec(self.alloc);
+        let db = files.db.inner.bytes().to_vec(self.alloc);
+        match (log, db) {
+            (Ok(log), Ok(db)) => {
+                self.log = log;
+                self.db = db;
+            }
+            _ => self.fault = Some(OpenFault::Memory),
         }
+    }
+
+    /// Opens the store of the two files.
+    fn open(&mut self) -> Result<FileStore<Flawed<Memory>>, OpenFault>
+        ensures fresh { IfOk result (λ store. IsClean (view store) → IsFresh (view store)) }
+    {
         if let Some(fault) = self.fault {
             return Err(fault);
         }
@@ -253,29 +245,95 @@ impl SessionStores for FakeStores {
             return Err(OpenFault::Unreadable);
         }
         match open_files(self.alloc, files, SEED) {
-            Ok(store) => Ok((store, ())),
-            Err((fault, rest)) => match self.take(rest.into_files()) {
-                Ok(()) => Err(fault),
-                Err(_) => Err(OpenFault::Memory),
-            },
+            Ok(store) => Ok(store),
+            Err((fault, rest)) => {
+                self.keep(&rest.into_files());
+                Err(fault)
+            }
         }
     }
 
-    fn close_store(&mut self, store: FileStore<Flawed<Memory>>) -> Result<(), StoreError> {
-        let (files, closed) = match self.end {
-            End::Closed => match close_files(store) {
-                Ok(files) => (files, Ok(())),
-                Err((error, store)) => (store.close(), Err(error)),
-            },
-            End::Killed | End::Cut => (store.close(), Ok(())),
+    /// Answers an input in a session whose process ends so, and keeps what that leaves of the two files. False where the session
+    /// is refused.
+    pub fn answer_cut_off(&mut self, input: &[u8], end: End, out: &mut Vec<u8>) -> bool {
+        let mut settings = Settings::new();
+        settings.keeps_digest = true;
+        let Ok(store) = self.open() else {
+            return false;
         };
-        match self.note("close", "").and(self.take(files)) {
-            Ok(()) => closed,
-            Err(_) => Err(StoreError::OutOfMemory),
+        let Ok(mut session) = open_durably(self.alloc, settings, store) else {
+            return false;
+        };
+        let mut requests = input;
+        let ended = durable_chain_to(
+            self.alloc,
+            &mut requests,
+            &mut InOrder,
+            settings,
+            &mut session,
+            out,
+        );
+        let mut files = session.file.into_store().close();
+        if end == End::Cut {
+            files.log.inner.crash();
+            files.db.inner.crash();
+        }
+        self.keep(&files);
+        ended.is_ok()
+    }
+}
+
+/// What the log is salted with.
+const SEED: u64 = 7;
+
+impl SessionStores for FakeStores {
+    type Kept = FileStore<Flawed<Memory>>;
+
+    type Files = Files<Flawed<Memory>>;
+
+    type Log = ();
+
+    ghost asked = { λ _. None };
+
+    ghost are_folded = { AreLeftFolded ⟦<Flawed<Memory> as Disk>⟧ };
+
+    fn open_store(&mut self, path: &str) -> Result<(FileStore<Flawed<Memory>>, ()), OpenFault> {
+        if self.note("open ", path).is_err() {
+            return Err(OpenFault::Memory);
+        }
+        match self.open() {
+            Ok(store) => Ok((store, ())),
+            Err(fault) => Err(fault),
         }
     }
 
-    fn abandon_store(&mut self, store: FileStore<Flawed<Memory>>, _log: ()) {
-        let _ = self.close_store(store);
+    /// Where the close fails, the bytes of before the session stay.
+    fn close_store(
+        &mut self,
+        store: FileStore<Flawed<Memory>>,
+    ) -> Result<Files<Flawed<Memory>>, (StoreError, FileStore<Flawed<Memory>>)> {
+        if self.note("close", "").is_err() {
+            return Err((StoreError::OutOfMemory, store));
+        }
+        let closed = close_files(store);
+        if let Ok(files) = &closed {
+            self.keep(files);
+        }
+        closed
+    }
+
+    fn abandon_store(
+        &mut self,
+        store: FileStore<Flawed<Memory>>,
+        _log: (),
+    ) -> Result<Files<Flawed<Memory>>, (StoreError, FileStore<Flawed<Memory>>)> {
+        if self.note("abandon", "").is_err() {
+            return Err((StoreError::OutOfMemory, store));
+        }
+        let closed = close_files(store);
+        if let Ok(files) = &closed {
+            self.keep(files);
+        }
+        closed
     }
 }

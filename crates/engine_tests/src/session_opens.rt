@@ -130,10 +130,10 @@ fn other_tables_are_no_session(rt: HostRuntime) -> Result<(), Fail> {
 }
 
 #[test]
-fn a_store_is_opened_and_closed_once(rt: HostRuntime) -> Result<(), Fail> {
+fn a_store_is_opened_and_closed_or_abandoned_once(rt: HostRuntime) -> Result<(), Fail> {
     let mut stores = FakeStores::new(rt.alloc());
     answer_in(&rt, rt.alloc(), &mut stores, "", PUT_ONE.as_bytes())?;
     answer_in(&rt, rt.alloc(), &mut stores, " --brief", b"")?;
-    assert!(rt; stores.asked.as_str() == "open f\nclose\nopen f\nclose\n");
+    assert!(rt; stores.asked.as_str() == "open f\nclose\nopen f\nabandon\n");
     Ok(())
 }

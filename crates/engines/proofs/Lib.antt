@@ -1,5 +1,6 @@
 pub mod CallsBehind
 mod Chains
 mod Conflicts
+pub mod Orders
 pub mod ProgramFiles
 pub mod ShortNames

@@ -2,6 +2,7 @@ pub mod Chaining
 pub mod Engine
 pub mod Listing
 pub mod Opened
+pub mod Stores
 pub mod Driving
 pub mod Faults
 pub mod Finding

@@ -7,7 +7,7 @@ pub data FileOrder : Type 0 where
   Close : FileOrder
 
 -- where the orders so far are known, these follow, and no others
-abbrev pub Asks : Option (List FileOrder) → Option (List FileOrder) → List FileOrder → Type 0
+abbrev pub Asks : {X : Type 0} → Option (List X) → Option (List X) → List X → Type 0
 Asks None new orders = ⊤
 Asks (Some old) new orders = new ≡ Some (old ++ orders)
 

@@ -5,12 +5,11 @@ ghost use Rattle.std.specs.Option.{unwrap_or};
 
 use crate::assembling::{SOURCE_MEMORY, file_of_source};
 use crate::by_threads::ByThreads;
-use crate::chaining::{chain_to, durable_chain_to};
 use crate::counts::{RunCounts, write_counts};
 use crate::debugging::debug_block_to;
 use crate::disk::{Disk, LateFile, ProgramFiles};
 use crate::driving::drive_to;
-use crate::fault::{FileFault, Refusal, SeqFault};
+use crate::fault::{FileFault, Refusal};
 use crate::finding::conflicts_to;
 use crate::in_order::seq_to;
 use crate::listing::dis_to;
@@ -18,24 +17,20 @@ use crate::loading::BLOCK_MEMORY;
 use crate::migrating::migrated_file;
 use crate::reporting::report;
 use crate::running::run_to;
-use crate::stores::{SessionStores, fault_of};
-use byte_streams::{
-    BufferedSource, Destination, FallibleBuffer, FallibleReader, FallibleWriter, WriteFault,
-    write_whole,
-};
+use crate::sessions::chain;
+use crate::stores::SessionStores;
+use byte_streams::{Destination, FallibleReader, FallibleWriter, WriteFault, write_whole};
 use cmdline::{Request, request_of};
-use durable_serving::open_durably;
-use session_states::StoreFault;
 use std::alloc::Global;
 use std::fs::File;
-use std::io::{BufReader, Read, Stderr, Stdin, Stdout, Write};
+use std::io::{Read, Stderr, Stdin, Stdout, Write};
 use std::process::ExitCode;
 use std::rt::{Env, Files};
 use std::sync::Wait;
 use std::thread::Threads;
 use std::{env, io};
 use system_files::{OutputDisk, ReplaceFault, SystemDisk, replace};
-use turns::{CallRunner, InOrder, Settings};
+use turns::{InOrder, Settings};
 
 /// The exit status of a wrong command line.
 const WRONG_LINE: u8 = 2;
@@ -427,63 +422,6 @@ fn settings_of(
     settings.keeps_digest = digest;
     settings.is_brief = brief;
     settings
-}
-
-/// Answers the requests of the input in one session, whose calls are run by `runner`, in memory or over the file that is given.
-fn chain<K: SessionStores, C: CallRunner, I: Read, W: Destination>(
-    alloc: Global,
-    stores: &mut K,
-    store: Option<&str>,
-    runner: &mut C,
-    settings: Settings,
-    input: &mut I,
-    out: &mut W,
-) -> Result<(), Refusal>
-    requires ready { C.ready }
-{
-    let Ok(reader) = BufReader::new(alloc, input) else {
-        return Err(Refusal::Seq(SeqFault::Memory));
-    };
-    let mut requests = FallibleBuffer { reader };
-    match store {
-        None => chain_to(alloc, &mut requests, runner, settings, out),
-        Some(path) => chain_in(alloc, stores, path, &mut requests, runner, settings, out),
-    }
-}
-
-/// Answers the requests of the input in the session that a file keeps.
-fn chain_in<K: SessionStores, R: BufferedSource, C: CallRunner, W: Destination>(
-    alloc: Global,
-    stores: &mut K,
-    path: &str,
-    requests: &mut R,
-    runner: &mut C,
-    settings: Settings,
-    out: &mut W,
-) -> Result<(), Refusal>
-    requires ready { C.ready }
-{
-    let mut settings = settings;
-    settings.keeps_digest = true;
-    let (store, log) = match stores.open_store(path) {
-        Ok(opened) => opened,
-        Err(fault) => return Err(Refusal::Store(fault_of(fault))),
-    };
-    let mut session = match open_durably(alloc, settings, store) {
-        Ok(session) => session,
-        Err((fault, store)) => {
-            stores.abandon_store(store, log);
-            return Err(Refusal::Store(fault.fault()));
-        }
-    };
-    let ended = durable_chain_to(alloc, requests, runner, settings, &mut session, out);
-    match stores.close_store(session.file.into_store()) {
-        Ok(()) => ended,
-        Err(error) => {
-            ended?;
-            Err(Refusal::Store(StoreFault::of_error(error)))
-        }
-    }
 }
 
 /// Opens a file to read it.

@@ -24,6 +24,7 @@ mod refusal_parts;
 mod reporting;
 mod results;
 mod running;
+mod sessions;
 mod stores;
 mod thread_costs;
 

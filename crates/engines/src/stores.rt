@@ -1,13 +1,17 @@
 //! Where the stores of sessions are.
 
-ghost use Rattle.std.specs.Prelude.{◌≡◌, IfOk};
-ghost use Rattle.sqlite_trees.specs.View.{IsClean};
+ghost use Rattle.std.specs.Prelude.{◌≡◌, List, [], ◌∷◌, IfErr, IfOk, None, OnErr, OnOk, Option};
+ghost use Rattle.sqlite_disk.specs.Disk.{MoreFaults};
+ghost use Rattle.sqlite_trees.specs.Tree.{Trees};
+ghost use Rattle.sqlite_trees.specs.View.{IsClean, Tells, View};
 ghost use Rattle.session_file.specs.Opening.{IsFresh};
 ghost use Rattle.engines.specs.Chaining.{fault_of};
+ghost use Rattle.engines.specs.Opened.{Asks};
+ghost use Rattle.engines.specs.Stores.{Abandon, AreLeftFolded, Close, MayFailToClose, Open, StoreOrder};
 
-use session_disk::{NewLog, OpenFault, abandon, close, open_path};
+use session_disk::{NewLog, OpenFault, SystemFolder, abandon, close_files, open_path};
 use session_states::StoreFault;
-use sqlite_disk::Wary;
+use sqlite_disk::{Disk as StoreDisk, Files, Wary};
 use sqlite_std_file::FileFrom;
 use sqlite_store::FileStore;
 use sqlite_trees::error::StoreError;
@@ -18,19 +22,42 @@ pub trait SessionStores {
     /// A store.
     type Kept: Store + Drop;
 
+    /// The files of a store.
+    type Files: Drop;
+
     /// The log beside a store's file, where the open of it makes one.
     type Log: Drop;
 
+    /// What was asked so far, the last order last, where that is known.
+    ghost asked: { Self → Option (List StoreOrder) };
+
+    /// Whatever a crash leaves, the files of a store that showed this have what was committed, and so has the database file alone.
+    ghost are_folded: { Self.Files → View → Type 0 };
+
     /// Opens the store of a session at a path; where nothing is there one is made, with no rows.
     fn open_store(&mut self, path: &str) -> Result<(Self::Kept, Self::Log), OpenFault>
-        ensures fresh { IfOk result (λ opened. IsClean (Self.Kept.view opened.0) → IsFresh (Self.Kept.view opened.0)) };
+        ensures fresh { IfOk result (λ opened. IsClean (Self.Kept.view opened.0) → IsFresh (Self.Kept.view opened.0)) }
+        ensures asks { OnOk result (Asks (asked self.old) (asked self.new) (Open path.now ∷ [])) }
+        ensures asks_nothing { OnErr result (asked self.new ≡ asked self.old) };
 
-    /// Closes a store. What was committed stands in its file alone where this is done, and else in its log too.
-    fn close_store(&mut self, store: Self::Kept) -> Result<(), StoreError>;
+    /// Closes a store, and gives its files back. Where this is done the database file alone has what was committed. Where it fails
+    /// the store is given back, and a crash leaves nothing new.
+    fn close_store(&mut self, store: Self::Kept) -> Result<Self::Files, (StoreError, Self::Kept)>
+        ensures folded { IfOk result (λ files. are_folded files (Self.Kept.view store)) }
+        ensures err { IfErr result (λ e. (db : Trees) → Self.Kept.recovers e.1 db → Self.Kept.recovers store db) }
+        ensures cause { IfErr result (λ e. IsClean (Self.Kept.view e.1) → MayFailToClose (MoreFaults (Self.Kept.faults store) (Self.Kept.faults e.1)) (Self.Kept.view e.1) e.0) }
+        ensures told { IfErr result (λ e. Tells (Self.Kept.blamed e.1) e.0) }
+        ensures asks { Asks (asked self.old) (asked self.new) (Close ∷ []) };
 
-    /// Closes a store that keeps no session of the settings that are wanted, with the log that its open gave. Where its file
-    /// alone has what was committed, a log that the open made is removed.
-    fn abandon_store(&mut self, store: Self::Kept, log: Self::Log);
+    /// Closes a store that is not to be used, as `close_store` does, and gives up the log that its open made.
+    fn abandon_store(
+        &mut self,
+        store: Self::Kept,
+        log: Self::Log,
+    ) -> Result<Self::Files, (StoreError, Self::Kept)>
+        ensures folded { IfOk result (λ files. are_folded files (Self.Kept.view store)) }
+        ensures err { IfErr result (λ e. (db : Trees) → Self.Kept.recovers e.1 db → Self.Kept.recovers store db) }
+        ensures asks { Asks (asked self.old) (asked self.new) (Abandon ∷ []) };
 }
 
 /// The stores of the system's files. Each commit is synced twice.
@@ -43,18 +70,33 @@ pub struct SystemStores<'a> {
 impl<'a> SessionStores for SystemStores<'a> {
     type Kept = FileStore<FileFrom<Wary>>;
 
+    type Files = Files<FileFrom<Wary>>;
+
     type Log = NewLog;
 
+    ghost asked = { λ _. None };
+
+    ghost are_folded = { AreLeftFolded ⟦<FileFrom<Wary> as StoreDisk>⟧ };
+
     fn open_store(&mut self, path: &str) -> Result<(FileStore<FileFrom<Wary>>, NewLog), OpenFault> {
-        open_path(self.rt, path, Wary)
+        let mut folder = SystemFolder { rt: self.rt };
+        open_path(self.rt, &mut folder, path, Wary)
     }
 
-    fn close_store(&mut self, store: FileStore<FileFrom<Wary>>) -> Result<(), StoreError> {
-        close(store)
+    fn close_store(
+        &mut self,
+        store: FileStore<FileFrom<Wary>>,
+    ) -> Result<Files<FileFrom<Wary>>, (StoreError, FileStore<FileFrom<Wary>>)> {
+        close_files(store)
     }
 
-    fn abandon_store(&mut self, store: FileStore<FileFrom<Wary>>, log: NewLog) {
-        abandon(self.rt, store, log);
+    fn abandon_store(
+        &mut self,
+        store: FileStore<FileFrom<Wary>>,
+        log: NewLog,
+    ) -> Result<Files<FileFrom<Wary>>, (StoreError, FileStore<FileFrom<Wary>>)> {
+        let mut folder = SystemFolder { rt: self.rt };
+        abandon(&mut folder, store, log)
     }
 }
 

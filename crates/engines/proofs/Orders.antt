@@ -1,0 +1,107 @@
+-- What a session over a file asks of its stores.
+use Rattle.std.proofs.Common.{◌≡◌, ◌∙◌, ℕ, ◌++◌, List, ap, append_assoc, subst, inl, inr}
+use Rattle.std.specs.Prelude.{Option, Some, None, Result, Ok, Err, IfSome, OnErr, OnOk}
+use Rattle.durable_serving.specs.Durable.{FileMoment, IsDurablyEndedBy}
+use Rattle.durable_serving.specs.Opened as session
+use Rattle.durable_serving.specs.declared.answering.DurableFault.{DurableFault}
+use Rattle.durable_serving.specs.declared.answering.DurableFault.TheVariants as durable
+use Rattle.durable_serving.specs.declared.opening.SessionFault.{SessionFault}
+use Rattle.durable_serving.specs.declared.opening.SessionFault.TheVariants as unwanted
+use Rattle.requests.specs.declared.request.RequestFault.TheVariants as request
+use Rattle.serving.specs.declared.serving.ServeFault.{ServeFault}
+use Rattle.serving.specs.declared.serving.ServeFault.TheVariants as serve
+use Rattle.session_disk.specs.declared.fault.OpenFault.{OpenFault}
+use Rattle.session_disk.specs.declared.fault.OpenFault.TheVariants as disk
+use Rattle.session_states.specs.Faults.{fault_of_store}
+use Rattle.session_states.specs.declared.fault.StoreFault.{StoreFault}
+use Rattle.session_states.specs.declared.fault.StoreFault.TheVariants.{Busy, HotJournal, NotASession, OtherVersion, OtherSettings}
+use Rattle.sqlite_trees.specs.declared.error.StoreError.{StoreError}
+use Rattle.sqlite_trees.specs.declared.error.StoreError.TheVariants as failure
+use Rattle.turns.specs.declared.settings.Settings.{Settings}
+use Rattle.engines.specs.Chaining.{cut_of, durably_cut, fault_of}
+use Rattle.engines.specs.Opened.{Asks}
+use Rattle.engines.specs.Stores.{AsksAsTold, AsksForNone, AsksForSession, AsksInVain, IsOfSession, StoreOrder}
+use Rattle.engines.specs.declared.fault.Refusal.{Refusal}
+use Rattle.engines.specs.declared.fault.Refusal.TheVariants.{Store}
+
+-- orders behind orders
+pub asks_then : {X : Type 0} (old mid new : Option (List X)) (first next : List X) → Asks old mid first → Asks mid new next → Asks old new (first ++ next)
+asks_then None mid new first next h k = tt
+asks_then (Some orders) mid new first next h k =
+    let done : new ≡ Some ((orders ++ first) ++ next) = subst (λ m. Asks m new next) h k in done ∙ ap Some (append_assoc orders first next)
+
+-- what holds whatever a call answers
+pub if_done : {T E : Type 0} (r : Result T E) (P : Type 0) → P → OnOk r P
+if_done (Ok x) P h = h
+if_done (Err e) P h = tt
+
+pub if_refused : {T E : Type 0} (r : Result T E) (P : Type 0) → P → OnErr r P
+if_refused (Ok x) P h = tt
+if_refused (Err e) P h = h
+
+-- what holds whatever the input is
+pub if_any : (input : Option (List ℕ)) (P : Type 0) → P → IfSome input (λ _. P)
+if_any None P h = tt
+if_any (Some bytes) P h = h
+
+-- a file that was not opened
+at_fault : (fault : OpenFault) (old new : Option (List StoreOrder)) (path : List ℕ) → new ≡ old → AsksAsTold old new path (Store (fault_of fault))
+at_fault disk.Busy old new path same = same
+at_fault disk.HotJournal old new path same = same
+at_fault disk.Unreadable old new path same = inl same
+at_fault disk.NotASession old new path same = inl same
+at_fault disk.Full old new path same = inl same
+at_fault disk.Memory old new path same = inl same
+
+pub not_opened : (input : Option (List ℕ)) (fault : OpenFault) (told : StoreFault) (old new : Option (List StoreOrder)) (path : List ℕ) → told ≡ fault_of fault → new ≡ old → IfSome input (λ _. AsksAsTold old new path (Store told))
+not_opened input fault told old new path is same = rw is (if_any input _ (at_fault fault old new path same))
+
+-- one that keeps no session of the settings
+vain : (error : StoreError) (old new : Option (List StoreOrder)) (path : List ℕ) → AsksInVain old new path → AsksAsTold old new path (Store (fault_of_store error))
+vain failure.OutOfMemory old new path asks = asks
+vain failure.Io old new path asks = asks
+vain failure.Corrupt old new path asks = asks
+vain failure.Full old new path asks = asks
+vain failure.Broken old new path asks = asks
+vain failure.Unstorable old new path asks = asks
+
+at_none : (fault : SessionFault) (old new : Option (List StoreOrder)) (path : List ℕ) → AsksForNone old new path → AsksAsTold old new path (Store (session.fault_of fault))
+at_none unwanted.NotASession old new path asks = inr asks
+at_none unwanted.OtherVersion old new path asks = asks
+at_none unwanted.OtherSettings old new path asks = asks
+at_none unwanted.Damaged old new path asks = inr (inl asks)
+at_none (unwanted.Store error) old new path asks = vain error old new path (inr (inl asks))
+
+pub not_wanted : (input : Option (List ℕ)) (fault : SessionFault) (told : StoreFault) (old new : Option (List StoreOrder)) (path : List ℕ) → told ≡ session.fault_of fault → AsksForNone old new path → IfSome input (λ _. AsksAsTold old new path (Store told))
+not_wanted input fault told old new path is asks = rw is (if_any input _ (at_none fault old new path asks))
+
+-- and one whose session ended
+pub ended : (fault : Refusal) (old new : Option (List StoreOrder)) (path : List ℕ) → IsOfSession fault → AsksForSession old new path → AsksAsTold old new path fault
+ended (Store Busy) old new path never asks = absurd never
+ended (Store HotJournal) old new path never asks = absurd never
+ended (Store NotASession) old new path never asks = absurd never
+ended (Store OtherVersion) old new path never asks = absurd never
+ended (Store OtherSettings) old new path never asks = absurd never
+ended (Store fault) old new path _ asks = inr (inr asks)
+ended fault old new path _ asks = asks
+
+-- how a session ends
+of_input : (fault : ServeFault) → IsOfSession (cut_of fault)
+of_input (serve.Broken request.BadLine) = tt
+of_input (serve.Broken request.Cut) = tt
+of_input serve.Unreadable = tt
+of_input (serve.Output fault) = tt
+
+of_end : (may_fail : Type 0) (settings : Settings) (fault : DurableFault) (old new : FileMoment) (bytes : List ℕ) (before after : Option (List ℕ)) → IsDurablyEndedBy may_fail settings fault old bytes new before after → IsOfSession (durably_cut fault)
+of_end may_fail settings (durable.Session fault) old new bytes before after h = of_input fault
+of_end may_fail settings (durable.Store Busy) old new bytes before after h = h.8.cause
+of_end may_fail settings (durable.Store HotJournal) old new bytes before after h = h.8.cause
+of_end may_fail settings (durable.Store NotASession) old new bytes before after h = h.8.cause
+of_end may_fail settings (durable.Store OtherVersion) old new bytes before after h = h.8.cause
+of_end may_fail settings (durable.Store OtherSettings) old new bytes before after h = h.8.cause
+of_end may_fail settings (durable.Store fault) old new bytes before after h = tt
+
+pub of_session : (may_fail : Type 0) (settings : Settings) (fault : DurableFault) (old new : FileMoment) (input : Option (List ℕ)) (before after : Option (List ℕ)) (e : Refusal) → e ≡ durably_cut fault
+    → IfSome input (λ bytes. IsDurablyEndedBy may_fail settings fault old bytes new before after) → IfSome input (λ _. IsOfSession e)
+of_session may_fail settings fault old new None before after e is h = tt
+of_session may_fail settings fault old new (Some bytes) before after e is h = rw is (of_end may_fail settings fault old new bytes before after h)

@@ -1,0 +1,67 @@
+-- What a session over a file asks of the stores, in which order, and what a close leaves.
+use Rattle.std.specs.Prelude.{◌≡◌, ◌⊎◌, ⊤, ℕ, List, [], ◌∷◌, false, IsTrue, Option}
+use Rattle.session_disk.specs.Closing.{AreFolded}
+use Rattle.session_states.specs.declared.fault.StoreFault.TheVariants.{Busy, HotJournal, NotASession, OtherVersion, OtherSettings}
+use Rattle.sqlite_disk.specs.declared.Disk.{Ghosts}
+use Rattle.sqlite_disk.specs.declared.Files.{Files}
+use Rattle.sqlite_trees.specs.View.{View}
+use Rattle.sqlite_trees.specs.declared.error.StoreError.{StoreError}
+use Rattle.sqlite_trees.specs.declared.error.StoreError.TheVariants.{OutOfMemory, Io, Corrupt, Full, Broken, Unstorable}
+use Rattle.sqlite_wal.specs.Files.{outcomes}
+use Rattle.sqlite_wal.specs.Reads.{AreClean}
+use Rattle.sqlite_wal.specs.Recovery.{Image}
+use Rattle.engines.specs.Opened.{Asks}
+use Rattle.engines.specs.declared.fault.Refusal.{Refusal}
+use Rattle.engines.specs.declared.fault.Refusal.TheVariants.{Store}
+
+-- a store was opened; one that was open was closed; one was closed that is not to be used, and the log given up that its open
+-- made
+pub data StoreOrder : Type 0 where
+  Open : (path : List ℕ) → StoreOrder
+  Close : StoreOrder
+  Abandon : StoreOrder
+
+-- the store at a path was opened and closed
+abbrev pub AsksForSession : Option (List StoreOrder) → Option (List StoreOrder) → List ℕ → Type 0
+AsksForSession old new path = Asks old new (Open path ∷ Close ∷ [])
+
+-- it was opened and abandoned
+abbrev pub AsksForNone : Option (List StoreOrder) → Option (List StoreOrder) → List ℕ → Type 0
+AsksForNone old new path = Asks old new (Open path ∷ Abandon ∷ [])
+
+-- of a refused command: the store was not opened, or one of the two
+abbrev pub AsksInVain : Option (List StoreOrder) → Option (List StoreOrder) → List ℕ → Type 0
+AsksInVain old new path = (new ≡ old) ⊎ AsksForNone old new path ⊎ AsksForSession old new path
+
+-- The same by what is told. A store that has another session, or none, is abandoned where it was opened, and never closed as the
+-- session's; after a fault of the requests or of the output it was closed.
+abbrev pub AsksAsTold : Option (List StoreOrder) → Option (List StoreOrder) → List ℕ → Refusal → Type 0
+AsksAsTold old new path (Store Busy) = new ≡ old
+AsksAsTold old new path (Store HotJournal) = new ≡ old
+AsksAsTold old new path (Store NotASession) = (new ≡ old) ⊎ AsksForNone old new path
+AsksAsTold old new path (Store OtherVersion) = AsksForNone old new path
+AsksAsTold old new path (Store OtherSettings) = AsksForNone old new path
+AsksAsTold old new path (Store fault) = AsksInVain old new path
+AsksAsTold old new path fault = AsksForSession old new path
+
+-- a session that was opened ends otherwise than by what another session, or none, is told as
+abbrev pub IsOfSession : Refusal → Type 0
+IsOfSession (Store Busy) = ⊥
+IsOfSession (Store HotJournal) = ⊥
+IsOfSession (Store NotASession) = ⊥
+IsOfSession (Store OtherVersion) = ⊥
+IsOfSession (Store OtherSettings) = ⊥
+IsOfSession fault = ⊤
+
+-- whatever a crash leaves, the files of a store that showed this have what was committed, and so has the database file with no log
+abbrev pub AreLeftFolded : {D : Type 0} → Ghosts D → Files D → View → Type 0
+AreLeftFolded g files v = AreClean g files.log files.db → IsTrue v.is_numbered → (now : Image) → outcomes g files.log files.db now → AreFolded now v.committed
+
+-- why a close fails: for memory, since the disk failed meanwhile, or since the store is shut
+abbrev pub MayFailToClose : Type 0 → View → StoreError → Type 0
+MayFailToClose failed new OutOfMemory = ⊤
+MayFailToClose failed new Io = failed
+MayFailToClose failed new Corrupt = failed
+MayFailToClose failed new Full = failed
+MayFailToClose failed new Broken = new.is_open ≡ false
+MayFailToClose failed new Unstorable = ⊥

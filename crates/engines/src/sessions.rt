@@ -1,0 +1,111 @@
+//! The command `chain`: one session, in memory or over a file.
+
+ghost use Rattle.std.specs.Prelude.{◌≡◌, [], ◌∷◌, false, true, IfErr, IfSome, None, OnErr, OnOk};
+ghost use Rattle.durable_serving.specs.Keeping.{IsKeptBy};
+ghost use Rattle.engines.specs.Opened.{Asks};
+ghost use Rattle.engines.specs.Stores.{AsksAsTold, AsksForSession, AsksInVain, Close, IsOfSession};
+ghost use Rattle.session_states.specs.States.{file_state};
+ghost use Rattle.sqlite_trees.specs.View.{IsClean};
+
+use crate::chaining::{chain_to, durable_chain_to};
+use crate::fault::{Refusal, SeqFault};
+use crate::stores::{SessionStores, fault_of};
+use byte_streams::{BufferedSource, Destination, FallibleBuffer};
+use durable_serving::{FileSession, open_durably};
+use session_states::StoreFault;
+use std::alloc::Global;
+use std::io::{BufReader, Read};
+use turns::{CallRunner, Settings};
+
+/// Answers the requests of the input in one session, whose calls are run by `runner`, in memory or over the file that is given.
+pub(crate) fn chain<K: SessionStores, C: CallRunner, I: Read, W: Destination>(
+    alloc: Global,
+    stores: &mut K,
+    store: Option<&str>,
+    runner: &mut C,
+    settings: Settings,
+    input: &mut I,
+    out: &mut W,
+) -> Result<(), Refusal>
+    requires ready { C.ready }
+    ensures none { store.entry ≡ None → K.asked stores.new ≡ K.asked stores.old }
+    ensures ok { OnOk result (IfSome store.entry (λ path. AsksForSession (K.asked stores.old) (K.asked stores.new) path.now)) }
+    ensures err { OnErr result (IfSome store.entry (λ path. AsksInVain (K.asked stores.old) (K.asked stores.new) path.now)) }
+{
+    let Ok(reader) = BufReader::new(alloc, input) else {
+        return Err(Refusal::Seq(SeqFault::Memory));
+    };
+    let mut requests = FallibleBuffer { reader };
+    match store {
+        None => chain_to(alloc, &mut requests, runner, settings, out),
+        Some(path) => chain_in(alloc, stores, path, &mut requests, runner, settings, out),
+    }
+}
+
+/// Answers the requests of the input in the session that a file keeps, and closes the file. A file that keeps no session of these
+/// settings is abandoned.
+fn chain_in<K: SessionStores, R: BufferedSource, C: CallRunner, W: Destination>(
+    alloc: Global,
+    stores: &mut K,
+    path: &str,
+    requests: &mut R,
+    runner: &mut C,
+    settings: Settings,
+    out: &mut W,
+) -> Result<(), Refusal>
+    requires ready { C.ready }
+    ensures ok { OnOk result (AsksForSession (K.asked stores.old) (K.asked stores.new) path.now) }
+    ensures err { OnErr result (AsksInVain (K.asked stores.old) (K.asked stores.new) path.now) }
+    ensures told { IfErr result (λ e. IfSome (R.remaining requests.old) (λ _. AsksAsTold (K.asked stores.old) (K.asked stores.new) path.now e)) }
+{
+    let mut settings = settings;
+    settings.keeps_digest = true;
+    let (store, log) = match stores.open_store(path) {
+        Ok(opened) => opened,
+        Err(fault) => return Err(Refusal::Store(fault_of(fault))),
+    };
+    match open_durably(alloc, settings, store) {
+        Ok(session) => chain_and_close(alloc, stores, session, requests, runner, settings, out),
+        Err((fault, store)) => {
+            let _ = stores.abandon_store(store, log);
+            Err(Refusal::Store(fault.fault()))
+        }
+    }
+}
+
+/// Answers the requests of the input in the session of an open file, and closes the file, whatever comes of them.
+fn chain_and_close<K: SessionStores, R: BufferedSource, C: CallRunner, W: Destination>(
+    alloc: Global,
+    stores: &mut K,
+    session: FileSession<K::Kept>,
+    requests: &mut R,
+    runner: &mut C,
+    settings: Settings,
+    out: &mut W,
+) -> Result<(), Refusal>
+    requires ready { C.ready }
+    requires kept { IsKeptBy settings (K.Kept.view session.file) (file_state session.state session.found) }
+    requires sound { IsClean (K.Kept.view session.file) → (K.Kept.view session.file).is_broken ≡ false }
+    ensures asks { Asks (K.asked stores.old) (K.asked stores.new) (Close ∷ []) }
+    ensures told { IfErr result (λ e. IfSome (R.remaining requests.old) (λ _. IsOfSession e)) }
+{
+    let mut session = session;
+    let ended = durable_chain_to(alloc, requests, runner, settings, &mut session, out);
+    let closed = close(stores, session.file.into_store());
+    // Not by `?`: the proof answers this arm.
+    match ended {
+        Ok(()) => closed,
+        Err(refusal) => Err(refusal),
+    }
+}
+
+/// Closes the store of a session. What the close gives back is dropped here, which unlocks the file.
+fn close<K: SessionStores>(stores: &mut K, store: K::Kept) -> Result<(), Refusal>
+    ensures asks { Asks (K.asked stores.old) (K.asked stores.new) (Close ∷ []) }
+    ensures told { IfErr result IsOfSession }
+{
+    match stores.close_store(store) {
+        Ok(_) => Ok(()),
+        Err((error, _)) => Err(Refusal::Store(StoreFault::of_error(error))),
+    }
+}
