@@ -6,7 +6,7 @@ use Rattle.turns.specs.Failures.{IsAnswer}
 use Rattle.turns.specs.Turn.{new_session}
 use Rattle.turns.specs.declared.settings.Settings.{Settings}
 use Rattle.turns.specs.declared.state.State.{State}
-use Rattle.engines.specs.Chaining.{cut_of}
+use Rattle.engines.specs.Chain.{cut_of}
 use Rattle.engines.specs.declared.fault.Refusal.{Refusal}
 
 some_map : (P Q : List ℕ → Type 0) (a : Option (List ℕ)) → ((bytes : List ℕ) → P bytes → Q bytes) → IfSome a P → IfSome a Q

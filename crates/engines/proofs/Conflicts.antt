@@ -6,7 +6,7 @@ use Rattle.conflicts.specs.Sums.{HotKeyView, keys_of_calls}
 use Rattle.conflicts.specs.Text.{conflicts_text}
 use Rattle.conflicts.specs.Waits.{calls_of}
 use Rattle.rv_ledger.specs.declared.job.Job.{Job}
-use Rattle.engines.specs.Finding.{IsConflictsText}
+use Rattle.engines.specs.Conflicts.{IsConflictsText}
 
 -- the text of what was found is that of the job
 pub is_text : (job : Job) (calls : List CallByKey) (paths : List ℕ) (keys : List HotKeyView) → calls ≡ calls_by_key job.block job.store → ArePaths (calls_of job.block job.store) paths → length paths ≡ length job.block → keys ≡ keys_of_calls job.block job.store → IsConflictsText job (conflicts_text calls paths keys)

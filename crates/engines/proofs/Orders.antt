@@ -18,7 +18,7 @@ use Rattle.session_states.specs.declared.fault.StoreFault.TheVariants.{Busy, Hot
 use Rattle.sqlite_trees.specs.declared.error.StoreError.{StoreError}
 use Rattle.sqlite_trees.specs.declared.error.StoreError.TheVariants as failure
 use Rattle.turns.specs.declared.settings.Settings.{Settings}
-use Rattle.engines.specs.Chaining.{cut_of, durably_cut, fault_of}
+use Rattle.engines.specs.Chain.{cut_of, durably_cut, fault_of}
 use Rattle.engines.specs.Opened.{Asks}
 use Rattle.engines.specs.Stores.{AsksAsTold, AsksForNone, AsksForSession, AsksInVain, IsOfSession, StoreOrder}
 use Rattle.engines.specs.declared.fault.Refusal.{Refusal}

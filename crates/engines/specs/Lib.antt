@@ -1,11 +1,11 @@
-pub mod Chaining
+pub mod Chain
 pub mod Engine
-pub mod Listing
+pub mod Dis
 pub mod Opened
 pub mod Stores
-pub mod Driving
+pub mod Drive
 pub mod Faults
-pub mod Finding
-pub mod Running
+pub mod Conflicts
+pub mod Run
 pub mod Counts
-pub mod Debugging
+pub mod Debug

@@ -3,20 +3,20 @@
 ghost use Rattle.std.specs.Prelude.{◌≡◌};
 ghost use Rattle.std.specs.Option.{unwrap_or};
 
-use crate::assembling::{SOURCE_MEMORY, file_of_source};
+use crate::asm::{SOURCE_MEMORY, file_of_source};
 use crate::by_threads::ByThreads;
+use crate::conflicts_command::conflicts_to;
 use crate::counts::{RunCounts, write_counts};
-use crate::debugging::debug_block_to;
+use crate::debug::debug_block_to;
+use crate::dis::dis_to;
 use crate::disk::{Disk, LateFile, ProgramFiles};
-use crate::driving::drive_to;
+use crate::drive::drive_to;
 use crate::fault::{FileFault, Refusal};
-use crate::finding::conflicts_to;
-use crate::in_order::seq_to;
-use crate::listing::dis_to;
 use crate::loading::BLOCK_MEMORY;
-use crate::migrating::migrated_file;
+use crate::migrate::migrated_file;
 use crate::reporting::report;
-use crate::running::run_to;
+use crate::run::run_to;
+use crate::seq::seq_to;
 use crate::sessions::chain;
 use crate::stores::SessionStores;
 use byte_streams::{Destination, FallibleReader, FallibleWriter, WriteFault, write_whole};

@@ -7,7 +7,7 @@ ghost use Rattle.engines.specs.Stores.{AsksAsTold, AsksForSession, AsksInVain, C
 ghost use Rattle.session_states.specs.States.{file_state};
 ghost use Rattle.sqlite_trees.specs.View.{IsClean};
 
-use crate::chaining::{chain_to, durable_chain_to};
+use crate::chain::{chain_to, durable_chain_to};
 use crate::fault::{Refusal, SeqFault};
 use crate::stores::{SessionStores, fault_of};
 use byte_streams::{BufferedSource, Destination, FallibleBuffer};

@@ -5,7 +5,7 @@ ghost use Rattle.sqlite_disk.specs.Disk.{MoreFaults};
 ghost use Rattle.sqlite_trees.specs.Tree.{Trees};
 ghost use Rattle.sqlite_trees.specs.View.{IsClean, Tells, View};
 ghost use Rattle.session_file.specs.Opening.{IsFresh};
-ghost use Rattle.engines.specs.Chaining.{fault_of};
+ghost use Rattle.engines.specs.Chain.{fault_of};
 ghost use Rattle.engines.specs.Opened.{Asks};
 ghost use Rattle.engines.specs.Stores.{Abandon, AreLeftFolded, Close, MayFailToClose, Open, StoreOrder};
 

@@ -1,6 +1,0 @@
-use Rattle.std.proofs.Common.{refl, inl}
-use Rattle.engines.proofs.listing.dis_to.Goals as goal
-
--- a fault of the file
-pub returns-in-Err-clause-refused : goal.returns-in-Err-clause-refused
-returns-in-Err-clause-refused g c = inl (refl, (c.in-Err.fault, c.refusal_of.ensures, c.in-Err.ensures.err))

@@ -1,0 +1,98 @@
+//! The engine of `rvstm chain`, over any input and writer.
+
+ghost use Rattle.std.specs.Prelude.{◌≡◌, false, IfErr, IfSome, None, OnOk};
+ghost use Rattle.durable_serving.specs.Durable.{IsDurablyEndedBy, IsFileAnswer, IsStopped, MayDurablyEnd, moment};
+ghost use Rattle.durable_serving.specs.Keeping.{IsKeptBy};
+ghost use Rattle.durable_serving.specs.declared.answering.DurableFault.{DurableFault};
+ghost use Rattle.engines.specs.Chain.{cut_of, durably_cut};
+ghost use Rattle.serving.specs.Serving.{IsEndedBy, IsServed, MayEnd};
+ghost use Rattle.serving.specs.declared.serving.ServeFault.{ServeFault};
+ghost use Rattle.session_states.specs.States.{file_state};
+ghost use Rattle.sqlite_trees.specs.View.{IsClean};
+ghost use Rattle.turns.specs.Failures.{IsAnswer};
+ghost use Rattle.turns.specs.Turn.{new_session};
+ghost use Rattle.turns.specs.declared.state.State.{State};
+
+use crate::fault::{InputFault, Refusal};
+use byte_streams::{BufferedSource, Destination};
+use durable_serving::{DurableFault, FileSession, serve_durably};
+use requests::RequestFault;
+use serving::{ServeFault, serve};
+use sqlite_trees::store::Store;
+use std::alloc::Global;
+use turns::{CallRunner, Settings, State};
+
+/// Answers each request of an input in a new session, up to a `q` or the input's end. A runner runs the calls of its frames,
+/// which changes no answer. Each answer is written and flushed before more is read. Refused as BadLine or Cut where the next
+/// bytes are no request, which was answered too; as Unreadable where a read failed, before anything of a request was done;
+/// as Output where a write failed: a beginning of the answer was written.
+pub fn chain_to<R: BufferedSource, C: CallRunner, W: Destination>(
+    alloc: Global,
+    input: &mut R,
+    runner: &mut C,
+    settings: Settings,
+    out: &mut W,
+) -> Result<(), Refusal>
+    requires ready { C.ready }
+    ensures ok { OnOk result (IfSome (R.remaining input.old) (λ bytes. (after : State)
+        × IsServed (IsAnswer settings) None (new_session settings) bytes after (W.contents out.old) (W.contents out.new))) }
+    ensures err { IfErr result (λ e. IfSome (R.remaining input.old) (λ bytes. (fault : ServeFault) × (after : State) × (e ≡ cut_of fault)
+        × IsEndedBy (R.may_fail input.old) (IsAnswer settings) fault (new_session settings) bytes after (W.contents out.old) (W.contents out.new))) }
+    ensures refused { IfErr result (λ e. (fault : ServeFault) × (e ≡ cut_of fault) × MayEnd (W.may_fail out.old) (W.may_take_nothing out.old) fault) }
+{
+    let mut state = State::new(alloc, settings);
+    match serve(alloc, input, runner, settings, &mut state, out) {
+        Ok(()) => Ok(()),
+        Err(fault) => Err(cut_of(fault)),
+    }
+}
+
+/// Why the command is refused where a fault ended its session.
+fn cut_of(fault: ServeFault) -> Refusal
+    ensures { result ≡ cut_of fault }
+{
+    match fault {
+        ServeFault::Broken(RequestFault::BadLine) => Refusal::Request(InputFault::BadLine),
+        ServeFault::Broken(RequestFault::Cut) => Refusal::Request(InputFault::Cut),
+        ServeFault::Unreadable => Refusal::Request(InputFault::Unreadable),
+        ServeFault::Output(fault) => Refusal::Output(fault),
+    }
+}
+
+/// Answers each request of an input in the session of an open file, as `chain_to` does in a new session. What a request changes is
+/// on the disk before its answer is written. Refused as `chain_to` is, and as Store where the file is shut: the request that met
+/// that has no answer.
+pub fn durable_chain_to<R: BufferedSource, S: Store, C: CallRunner, W: Destination>(
+    alloc: Global,
+    input: &mut R,
+    runner: &mut C,
+    settings: Settings,
+    session: &mut FileSession<S>,
+    out: &mut W,
+) -> Result<(), Refusal>
+    requires ready { C.ready }
+    requires kept { IsKeptBy settings (S.Store.view session.old.file) (file_state session.old.state session.old.found) }
+    requires sound { IsClean (S.Store.view session.old.file) → (S.Store.view session.old.file).is_broken ≡ false }
+    ensures ok { OnOk result (IfSome (R.remaining input.old) (λ bytes. IsServed (IsFileAnswer settings) None (moment (file_state session.old.state session.old.found) (S.Store.view session.old.file) (S.Store.faults session.old.file)) bytes
+        (moment (file_state session.new.state session.new.found) (S.Store.view session.new.file) (S.Store.faults session.new.file)) (W.contents out.old) (W.contents out.new))) }
+    ensures err { IfErr result (λ e. (fault : DurableFault) × (e ≡ durably_cut fault) × IfSome (R.remaining input.old) (λ bytes. IsDurablyEndedBy (R.may_fail input.old) settings fault
+        (moment (file_state session.old.state session.old.found) (S.Store.view session.old.file) (S.Store.faults session.old.file)) bytes (moment (file_state session.new.state session.new.found) (S.Store.view session.new.file) (S.Store.faults session.new.file)) (W.contents out.old) (W.contents out.new))) }
+    ensures stopped { IsClean (S.Store.view session.new.file) → IfSome (R.remaining input.old) (λ bytes. IsStopped settings (moment (file_state session.old.state session.old.found) (S.Store.view session.old.file) (S.Store.faults session.old.file)) bytes
+        (W.contents out.old) (W.contents out.new) (S.Store.recovers session.new.file)) }
+    ensures refused { IfErr result (λ e. (fault : DurableFault) × (e ≡ durably_cut fault) × MayDurablyEnd (W.may_fail out.old) (W.may_take_nothing out.old) fault) }
+{
+    match serve_durably(alloc, input, runner, settings, session, out) {
+        Ok(()) => Ok(()),
+        Err(fault) => Err(durably_cut(fault)),
+    }
+}
+
+/// Why the command is refused where a fault ended its session over a file.
+fn durably_cut(fault: DurableFault) -> Refusal
+    ensures { result ≡ durably_cut fault }
+{
+    match fault {
+        DurableFault::Session(fault) => cut_of(fault),
+        DurableFault::Store(fault) => Refusal::Store(fault),
+    }
+}
