@@ -73,3 +73,9 @@ pub only_memory : (settings : Settings) (f : FileState) (k : Kept) (fault : Load
 only_memory settings f k load.OtherSettings keeps is = absurd (other_row settings f k keeps is)
 only_memory settings f k load.Damaged keeps is = absurd (is.1 f keeps)
 only_memory settings f k load.Memory keeps is = (OutOfMemory, refl)
+
+-- and it is told as that
+pub wants_memory : (settings : Settings) (f : FileState) (k : Kept) (fault : LoadFault) → KeepsState settings f k → IsUnloadable settings k fault → fault_of_load fault ≡ Store OutOfMemory
+wants_memory settings f k load.OtherSettings keeps is = absurd (other_row settings f k keeps is)
+wants_memory settings f k load.Damaged keeps is = absurd (is.1 f keeps)
+wants_memory settings f k load.Memory keeps is = refl

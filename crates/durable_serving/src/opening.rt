@@ -3,7 +3,7 @@
 ghost use Rattle.std.specs.Prelude.{◌≡◌, ◌⊎◌, ◌≤◌, false, true, IfErr, IfOk, OnOk};
 ghost use Rattle.sqlite_disk.specs.Disk.{MoreFaults};
 ghost use Rattle.sqlite_trees.specs.Tree.{Trees};
-ghost use Rattle.sqlite_trees.specs.View.{HasCause, IsClean, doubt};
+ghost use Rattle.sqlite_trees.specs.View.{HasCause, IsClean, Tells, doubt};
 ghost use Rattle.session_file.specs.Kept.{HoldsIn};
 ghost use Rattle.session_file.specs.Opening.{IsFresh};
 ghost use Rattle.session_file.specs.Staging.{IsKeeping};
@@ -68,6 +68,7 @@ pub fn open_durably<S: Store>(
     ensures opened { IfOk result (λ s. IsClean (S.Store.view s.file) → IsFoundIn settings (S.Store.view store).trees (file_state s.state s.found)) }
     ensures crash { IfOk result (λ s. (db : Trees) → S.Store.recovers s.file db → S.Store.recovers store db ⊎ HoldsState settings (new_state settings) db) }
     ensures refused { IfErr result (λ e. IsClean (S.Store.view e.1) → IsUnopened settings (S.Store.view store) (MoreFaults (S.Store.faults store) (S.Store.faults e.1)) e.0) }
+    ensures told { IfErr result (λ e. (error : StoreError) → e.0 ≡ SessionFault.Store error → Tells (S.Store.blamed e.1) error) }
     ensures left { IfErr result (λ e. (db : Trees) → S.Store.recovers e.1 db → S.Store.recovers store db ⊎ HoldsState settings (new_state settings) db) }
 {
     let (file, found) = match open_session(alloc, store) {
@@ -104,6 +105,7 @@ fn begin_new<S: Store>(
     ensures clean { IfOk result (λ s. doubt (S.Store.view file).is_clean ≤ doubt (S.Store.view s.file).is_clean) }
     ensures refused { IfErr result (λ e. (error : StoreError) × (e.0 ≡ SessionFault.Store error) × (doubt (S.Store.view file).is_clean ≤ doubt (S.Store.view e.1).is_clean)
         × (IsClean (S.Store.view e.1) → HasCause (S.Store.view file) (MoreFaults (S.Store.faults file) (S.Store.faults e.1)) (HasNoRow settings (new_session settings)) error)) }
+    ensures told { IfErr result (λ e. (error : StoreError) → e.0 ≡ SessionFault.Store error → Tells (S.Store.blamed e.1) error) }
     ensures left { IfErr result (λ e. (db : Trees) → S.Store.recovers e.1 db → S.Store.recovers file db ⊎ HoldsState settings (new_state settings) db) }
 {
     let mut file = file;
@@ -122,6 +124,7 @@ fn keep_new<S: Store>(file: &mut SessionFile<S>, settings: Settings) -> Result<(
     ensures ok { OnOk result (IsKeeping (S.Store.view file.old) nothing_kept → IsKeeping (S.Store.view file.new) (new_kept settings)) }
     ensures sound { OnOk result (IsClean (S.Store.view file.new) → (S.Store.view file.new).is_broken ≡ false) }
     ensures cause { IsClean (S.Store.view file.new) → IfErr result (HasCause (S.Store.view file.old) (MoreFaults (S.Store.faults file.old) (S.Store.faults file.new)) (HasNoRow settings (new_session settings))) }
+    ensures told { IfErr result (Tells (S.Store.blamed file.new)) }
     ensures crash { IsKeeping (S.Store.view file.old) nothing_kept → (db : Trees) → S.Store.recovers file.new db → S.Store.recovers file.old db ⊎ HoldsIn db (new_kept settings) }
     ensures clean { doubt (S.Store.view file.old).is_clean ≤ doubt (S.Store.view file.new).is_clean }
 {

@@ -1,8 +1,9 @@
 //! An open of a session's file after a stop of the machine.
 
-ghost use Rattle.std.specs.Prelude.{◌≡◌, ◌≤◌, IfErr, IfOk, IsTrue};
+ghost use Rattle.std.specs.Prelude.{◌≡◌, ◌⊎◌, ◌≤◌, IfErr, IfOk, IsTrue};
+ghost use Rattle.sqlite_disk.specs.Disk.{MoreFaults};
 ghost use Rattle.sqlite_trees.specs.Tree.{Trees};
-ghost use Rattle.sqlite_trees.specs.View.{doubt};
+ghost use Rattle.sqlite_trees.specs.View.{IsClean, doubt};
 ghost use Rattle.session_states.specs.States.{FileState, file_state};
 ghost use Rattle.durable_serving.specs.Durable.{HoldsState};
 ghost use Rattle.durable_serving.specs.Opened.{IsFoundIn};
@@ -17,7 +18,8 @@ use std::alloc::Global;
 use turns::Settings;
 
 /// Opens the file of a session again after its machine stopped, over a disk that can be made to stop. It keeps then what one of
-/// the outcomes holds that the crash allowed; where each of these holds a session of these settings, only the store can refuse it.
+/// the outcomes holds that the crash allowed. Where each of these holds a session of these settings, it is refused only for want of
+/// memory, or where the disk failed meanwhile.
 pub fn restart_durably<S: Reopen>(
     alloc: Global,
     settings: Settings,
@@ -27,6 +29,8 @@ pub fn restart_durably<S: Reopen>(
     ensures clean { IfOk result (λ s. doubt (S.Store.view session.file).is_clean ≤ doubt (S.Store.view s.file).is_clean) }
     ensures refused { IfErr result (λ e. IsTrue (S.Store.view e.1).is_open → ((db : Trees) → S.Store.recovers session.file db → (f : FileState) × HoldsState settings f db)
         → (error : StoreError) × (e.0 ≡ SessionFault.Store error)) }
+    ensures cause { IfErr result (λ e. IsClean (S.Store.view e.1) → ((db : Trees) → S.Store.recovers session.file db → (f : FileState) × HoldsState settings f db)
+        → (e.0 ≡ SessionFault.Store StoreError.OutOfMemory) ⊎ MoreFaults (S.Store.faults session.file) (S.Store.faults e.1)) }
 {
     let (file, found) = match restart(alloc, session.file) {
         Ok(opened) => opened,

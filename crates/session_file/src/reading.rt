@@ -6,7 +6,7 @@ ghost use Rattle.std.specs.Option.{option_map};
 ghost use Rattle.std.specs.declared.cmp.Ordering.TheVariants.{Less};
 ghost use Rattle.sqlite_exec.specs.Calls.{OnlyReads};
 ghost use Rattle.sqlite_disk.specs.Disk.{MoreFaults};
-ghost use Rattle.sqlite_trees.specs.View.{IsClean, IsQuiet, KeepsSchema};
+ghost use Rattle.sqlite_trees.specs.View.{IsClean, IsQuiet, KeepsSchema, Tells};
 ghost use Rattle.sqlite_value.specs.Keys.{plain};
 ghost use Rattle.entry_tree.specs.Entries.{row_of};
 ghost use Rattle.rv_ledger.specs.Key.{key_cmp};
@@ -49,6 +49,7 @@ pub(crate) fn read_entries<S: Store, E: Entries>(
     ensures rising { OnOk result (AreRising (E.Entries.taken list.new)) }
     ensures fits { OnOk result (DoFit E.Entries.fits (E.Entries.taken list.new)) }
     ensures err { IfErr result (λ fault. IsClean (S.Store.view store.new) → IsReadFault (S.Store.view store.old) (MoreFaults (S.Store.faults store.old) (S.Store.faults store.new)) (HasNoEntries E.Entries.fits (S.Store.view store.old) tree) fault) }
+    ensures told { IfErr result (λ fault. (error : StoreError) → fault ≡ OpenFault.Store error → Tells (S.Store.blamed store.new) error) }
     ensures same { OnOk result (IsClean (S.Store.view store.new) → OnlyReads (S.Store.view store.old) (S.Store.view store.new)) }
     ensures schema { KeepsSchema (S.Store.view store.old) (S.Store.view store.new) }
     ensures quiet { IsQuiet S.Store.view S.Store.faults S.Store.recovers S.Store.is_shielded store.old store.new }
@@ -85,6 +86,7 @@ pub(crate) fn read_session<S: Store>(
     ensures ok { IfOk result (λ found. IsClean (S.Store.view store.new) → (S.Store.view store.old).trees session_tree ≡ rows_if_any session_row found) }
     ensures limits { IfOk result (λ found. IfSome found IsSessionInLimits) }
     ensures err { IfErr result (λ fault. IsClean (S.Store.view store.new) → IsReadFault (S.Store.view store.old) (MoreFaults (S.Store.faults store.old) (S.Store.faults store.new)) (HasNoSession (S.Store.view store.old)) fault) }
+    ensures told { IfErr result (λ fault. (error : StoreError) → fault ≡ OpenFault.Store error → Tells (S.Store.blamed store.new) error) }
     ensures same { OnOk result (IsClean (S.Store.view store.new) → OnlyReads (S.Store.view store.old) (S.Store.view store.new)) }
     ensures schema { KeepsSchema (S.Store.view store.old) (S.Store.view store.new) }
     ensures quiet { IsQuiet S.Store.view S.Store.faults S.Store.recovers S.Store.is_shielded store.old store.new }
@@ -115,6 +117,7 @@ pub(crate) fn read_answer<S: Store>(
     requires { IsClean (S.Store.view store.old) → (S.Store.view store.old).shape answer_tree ≡ Shape.Table }
     ensures ok { IfOk result (λ found. IsClean (S.Store.view store.new) → (S.Store.view store.old).trees answer_tree ≡ rows_if_any answer_row (option_map answer_parts found)) }
     ensures err { IfErr result (λ fault. IsClean (S.Store.view store.new) → IsReadFault (S.Store.view store.old) (MoreFaults (S.Store.faults store.old) (S.Store.faults store.new)) (HasNoAnswer (S.Store.view store.old)) fault) }
+    ensures told { IfErr result (λ fault. (error : StoreError) → fault ≡ OpenFault.Store error → Tells (S.Store.blamed store.new) error) }
     ensures same { OnOk result (IsClean (S.Store.view store.new) → OnlyReads (S.Store.view store.old) (S.Store.view store.new)) }
     ensures schema { KeepsSchema (S.Store.view store.old) (S.Store.view store.new) }
     ensures quiet { IsQuiet S.Store.view S.Store.faults S.Store.recovers S.Store.is_shielded store.old store.new }

@@ -1,11 +1,12 @@
-use Rattle.std.proofs.Common.{IsTrue, ap, subst, ◌∙◌}
+use Rattle.std.proofs.Common.{IsTrue, ap, inl, inr, subst, ◌∙◌}
 use Rattle.session_file.specs.Kept.{Kept}
 use Rattle.session_file.specs.Opening.{kept_of}
 use Rattle.session_file.proofs.Once.{holds_once}
 use Rattle.session_file.proofs.Staged.{open_clean}
 use Rattle.session_states.specs.States.{KeepsState}
+use Rattle.sqlite_trees.specs.View.{IsClean}
 use Rattle.durable_serving.specs.Opened.{fault_of_open}
-use Rattle.durable_serving.proofs.Openings.{found_in, only_memory}
+use Rattle.durable_serving.proofs.Openings.{found_in, only_memory, wants_memory}
 use Rattle.durable_serving.proofs.restarting.restart_durably.Goals as goal
 
 pub returns-in-Err-clause-refused : goal.returns-in-Err-clause-refused
@@ -26,3 +27,18 @@ returns-clause-refused g c still all =
     let (error, is) = only_memory c.args.settings f (kept_of c.in-Ok.opened.1) c.in-Err-load_state.fault
     (subst (λ (x : Kept). KeepsState c.args.settings f x) (holds_once db k (kept_of c.in-Ok.opened.1) other holds) keeps) c.in-Err-load_state.ensures.err in
     (error, c.fault_of_load.ensures ∙ is)
+
+pub returns-in-Err-clause-cause : goal.returns-in-Err-clause-cause
+returns-in-Err-clause-cause g c clean all =
+    elim (c.in-Err.ensures.cause clean (λ db left. let (f, (k, holds, keeps)) = all db left in (k, holds))) [
+      | inl memory ↦ inl (c.fault_of_open.ensures ∙ ap fault_of_open memory)
+      | inr failed ↦ inr failed
+    ]
+
+pub returns-clause-cause : goal.returns-clause-cause
+returns-clause-cause g c clean all =
+    let now : IsClean (g.S.Store.view c.in-Ok.opened.0) = subst (λ s. IsClean (g.S.Store.view s)) c.into_store.ensures.store clean in
+    let (db, left, holds) = c.in-Ok.ensures.found (c.in-Ok.ensures.open now) in
+    let (f, (k, other, keeps)) = all db left in
+    inl (c.fault_of_load.ensures ∙ wants_memory c.args.settings f (kept_of c.in-Ok.opened.1) c.in-Err-load_state.fault
+    (subst (λ (x : Kept). KeepsState c.args.settings f x) (holds_once db k (kept_of c.in-Ok.opened.1) other holds) keeps) c.in-Err-load_state.ensures.err)
