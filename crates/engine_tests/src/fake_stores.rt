@@ -1,7 +1,7 @@
 //! Stores of sessions in memory. Their two files stay between sessions, and one call on the log can fail, or all from it on.
 
 ghost use Rattle.std.specs.Prelude.{◌≡◌, ◌+◌, ◌&&◌, not, false, IfOk, None};
-ghost use Rattle.engines.specs.Stores.{AreLeftFolded};
+ghost use Rattle.session_disk.specs.Closing.{AreLeftFolded};
 ghost use Rattle.session_file.specs.Opening.{IsFresh};
 ghost use Rattle.sqlite_disk.specs.Disk.{CountsFault};
 ghost use Rattle.sqlite_disk.specs.Refusal.{finds_no_room};

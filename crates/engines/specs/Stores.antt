@@ -1,15 +1,6 @@
--- What a session over a file asks of the stores, in which order, and what a close leaves.
-use Rattle.std.specs.Prelude.{◌≡◌, ◌⊎◌, ⊤, ℕ, List, [], ◌∷◌, false, IsTrue, Option}
-use Rattle.session_disk.specs.Closing.{AreFolded}
+-- What a session over a file asks of the stores, in which order.
+use Rattle.std.specs.Prelude.{◌≡◌, ◌⊎◌, ⊤, ℕ, List, [], ◌∷◌, Option}
 use Rattle.session_states.specs.declared.fault.StoreFault.TheVariants.{Busy, HotJournal, NotASession, OtherVersion, OtherSettings}
-use Rattle.sqlite_disk.specs.declared.Disk.{Ghosts}
-use Rattle.sqlite_disk.specs.declared.Files.{Files}
-use Rattle.sqlite_trees.specs.View.{View}
-use Rattle.sqlite_trees.specs.declared.error.StoreError.{StoreError}
-use Rattle.sqlite_trees.specs.declared.error.StoreError.TheVariants.{OutOfMemory, Io, Corrupt, Full, Broken, Unstorable}
-use Rattle.sqlite_wal.specs.Files.{outcomes}
-use Rattle.sqlite_wal.specs.Reads.{AreClean}
-use Rattle.sqlite_wal.specs.Recovery.{Image}
 use Rattle.engines.specs.Opened.{Asks}
 use Rattle.engines.specs.declared.fault.Refusal.{Refusal}
 use Rattle.engines.specs.declared.fault.Refusal.TheVariants.{Store}
@@ -52,16 +43,3 @@ IsOfSession (Store NotASession) = ⊥
 IsOfSession (Store OtherVersion) = ⊥
 IsOfSession (Store OtherSettings) = ⊥
 IsOfSession fault = ⊤
-
--- whatever a crash leaves, the files of a store that showed this have what was committed, and so has the database file with no log
-abbrev pub AreLeftFolded : {D : Type 0} → Ghosts D → Files D → View → Type 0
-AreLeftFolded g files v = AreClean g files.log files.db → IsTrue v.is_numbered → (now : Image) → outcomes g files.log files.db now → AreFolded now v.committed
-
--- why a close fails: for memory, since the disk failed meanwhile, or since the store is shut
-abbrev pub MayFailToClose : Type 0 → View → StoreError → Type 0
-MayFailToClose failed new OutOfMemory = ⊤
-MayFailToClose failed new Io = failed
-MayFailToClose failed new Corrupt = failed
-MayFailToClose failed new Full = failed
-MayFailToClose failed new Broken = new.is_open ≡ false
-MayFailToClose failed new Unstorable = ⊥

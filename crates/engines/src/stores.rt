@@ -7,7 +7,8 @@ ghost use Rattle.sqlite_trees.specs.View.{IsClean, Tells, View};
 ghost use Rattle.session_file.specs.Opening.{IsFresh};
 ghost use Rattle.engines.specs.Chain.{fault_of};
 ghost use Rattle.engines.specs.Opened.{Asks};
-ghost use Rattle.engines.specs.Stores.{Abandon, AreLeftFolded, Close, MayFailToClose, Open, StoreOrder};
+ghost use Rattle.engines.specs.Stores.{Abandon, Close, Open, StoreOrder};
+ghost use Rattle.session_disk.specs.Closing.{AreLeftFolded, MayFailToClose};
 
 use session_disk::{NewLog, OpenFault, SystemFolder, abandon, close_files, open_path};
 use session_states::StoreFault;

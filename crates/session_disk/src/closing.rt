@@ -1,13 +1,11 @@
 //! The end of a session's store.
 
 ghost use Rattle.std.specs.Prelude.{[], IfErr, IfOk, IsTrue, OnErr, OnOk};
-ghost use Rattle.sqlite_wal.specs.Files.{outcomes};
-ghost use Rattle.sqlite_wal.specs.Reads.{AreClean};
-ghost use Rattle.sqlite_wal.specs.Recovery.{Image};
+ghost use Rattle.sqlite_disk.specs.Disk.{MoreFaults};
 ghost use Rattle.sqlite_trees.specs.Tree.{Trees};
 ghost use Rattle.sqlite_trees.specs.View.{IsClean, Tells};
-ghost use Rattle.sqlite_store.specs.FileStore.{blamed, recovers, view};
-ghost use Rattle.session_disk.specs.Closing.{AreFolded, FailsToClose};
+ghost use Rattle.sqlite_store.specs.FileStore.{blamed, faults, recovers, view};
+ghost use Rattle.session_disk.specs.Closing.{AreLeftFolded, MayFailToClose};
 ghost use Rattle.session_disk.specs.Logs.{Removes, paths_of};
 
 use crate::log_folder::LogFolder;
@@ -20,9 +18,9 @@ use sqlite_trees::store::Store;
 /// Gives up what is not committed, copies the log into the database file, and gives the two files back. Where this is done the
 /// database file alone has the last commit. Where it fails the store is given back, and a crash leaves nothing new.
 pub fn close_files<D: Disk>(store: FileStore<D>) -> Result<Files<D>, (StoreError, FileStore<D>)>
-    ensures folded { IfOk result (λ files. AreClean D.Disk files.log files.db → IsTrue (view store).is_numbered → (now : Image) → outcomes D.Disk files.log files.db now → AreFolded now (view store).committed) }
+    ensures folded { IfOk result (λ files. AreLeftFolded D.Disk files (view store)) }
     ensures err { IfErr result (λ e. (db : Trees) → recovers e.1 db → recovers store db) }
-    ensures cause { IfErr result (λ e. IsClean (view e.1) → FailsToClose store e.1 e.0) }
+    ensures cause { IfErr result (λ e. IsClean (view e.1) → MayFailToClose (MoreFaults (faults store) (faults e.1)) (view e.1) e.0) }
     ensures told { IfErr result (λ e. Tells (blamed e.1) e.0) }
 {
     let mut store = store;
@@ -40,9 +38,9 @@ pub fn abandon<D: Disk, F: LogFolder>(
     store: FileStore<D>,
     log: NewLog,
 ) -> Result<Files<D>, (StoreError, FileStore<D>)>
-    ensures folded { IfOk result (λ files. AreClean D.Disk files.log files.db → IsTrue (view store).is_numbered → (now : Image) → outcomes D.Disk files.log files.db now → AreFolded now (view store).committed) }
+    ensures folded { IfOk result (λ files. AreLeftFolded D.Disk files (view store)) }
     ensures err { IfErr result (λ e. (db : Trees) → recovers e.1 db → recovers store db) }
-    ensures cause { IfErr result (λ e. IsClean (view e.1) → FailsToClose store e.1 e.0) }
+    ensures cause { IfErr result (λ e. IsClean (view e.1) → MayFailToClose (MoreFaults (faults store) (faults e.1)) (view e.1) e.0) }
     ensures told { IfErr result (λ e. Tells (blamed e.1) e.0) }
     ensures removed { OnOk result (Removes (F.view folder.old) (F.view folder.new) (paths_of log.path)) }
     ensures kept { OnErr result (Removes (F.view folder.old) (F.view folder.new) []) }
