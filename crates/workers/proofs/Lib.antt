@@ -1,6 +1,7 @@
 pub mod Stays
 pub mod Askings
 pub mod Zeros
+pub mod GivenBack
 pub mod Causes
 pub mod AskResults
 pub mod Histories

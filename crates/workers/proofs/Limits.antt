@@ -37,7 +37,7 @@ adds_step step before after not h = h
 -- ---- one step
 
 module _ (s : State) (w : ℕ) (w_in : w < length s.counts) where
-  -- a step that leaves the counts is counted
+  -- the worker's own counts where a step that leaves the counts is counted
   own : (add : Counts → Counts) (t : State) → t.counts ≡ s.counts → get_or (counted add w t).counts w no_counts ≡ add (get_or s.counts w no_counts)
   own add t same =
       subst (λ c. get_or (set c w (add (get_or c w no_counts))) w no_counts ≡ add (get_or s.counts w no_counts)) (sym same)

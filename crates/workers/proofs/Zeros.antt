@@ -8,7 +8,7 @@ pub no_shares : zero_counts_of_all zero ≡ []
 unfolding zero_counts_of_all
 no_shares = refl
 
-one_zero_more : (n : ℕ) → zero_counts_of_all (n + 1) ≡ zero_counts_of_all n ++ zero_counts n ∷ []
+pub one_zero_more : (n : ℕ) → zero_counts_of_all (n + 1) ≡ zero_counts_of_all n ++ zero_counts n ∷ []
 unfolding zero_counts_of_all
 one_zero_more n = ap zero_counts_of_all (add-one n)
 

@@ -1,5 +1,5 @@
 -- The answer to a job, by its book and the shares that came back.
-use Rattle.std.specs.Prelude.{◌≡◌, ◌≢◌, ◌⊎◌, ℕ, true, List, length, Option, None, Some, Result, Ok, Err, slice_get, get_or}
+use Rattle.std.specs.Prelude.{◌≡◌, ◌≢◌, ◌⊎◌, ℕ, true, List, [], length, Option, None, Some, Result, Ok, Err, slice_get, get_or}
 use Rattle.rv_ledger.specs.declared.job.Job.{Job}
 use Rattle.rv_ledger.specs.declared.outcome.Outcome.{Outcome}
 use Rattle.rv_ledger.specs.declared.outcome.Counts.{Counts}
@@ -10,7 +10,7 @@ use Rattle.stm_core.specs.declared.outcome.Finished.{Finished}
 use Rattle.workers.specs.declared.book.share.Share.{Share}
 use Rattle.workers.specs.declared.fault.RunFault.{RunFault}
 use Rattle.workers.specs.declared.fault.RunFault.TheVariants as faults
-use Rattle.workers.specs.Book.{BookState, AgreesWith, counts_of_share}
+use Rattle.workers.specs.Book.{BookState, AgreesWith, KeepsLimit, counts_of_share}
 
 -- a share is that of a worker, agrees with the core on its counts, and has exactly one ask that was answered Done
 pub record IsShareOf (w : ℕ) (b : CoreState) (share : Share) : Type 0 where
@@ -28,6 +28,20 @@ pub record AreSettled (b : CoreState) (shares : List Share) : Type 0 where
 pub record AreSharesOf (counts : List Counts) (shares : List Share) : Type 0 where
   pub count : length shares ≡ length counts
   pub each : (w : ℕ) (share : Share) → slice_get shares w ≡ Some share → counts_of_share share ≡ record { worker = w; counts = get_or counts w no_counts; dones = 1 }
+
+-- a share that a thread gives back: it is this worker's, with exactly one ask that was answered Done, and with no more steps, asks
+-- aside, than the limit allows, if there is one
+abbrev pub IsGivenBack : Option ℕ → ℕ → Share → Type 0
+IsGivenBack limit w share = (share.worker ≡ w) × (share.dones ≡ 1) × KeepsLimit limit share.counts
+
+-- the shares that the threads of a block gave back: one of each worker, in their order
+pub record AreGivenBack (limit : Option ℕ) (workers : ℕ) (shares : List Share) : Type 0 where
+  pub count : length shares ≡ workers
+  pub each : (w : ℕ) (share : Share) → slice_get shares w ≡ Some share → IsGivenBack limit w share
+
+-- the shares that a block leaves that is refused: none, or those that its threads gave back
+abbrev pub AreLeft : Option ℕ → ℕ → List Share → Type 0
+AreLeft limit workers shares = (shares ≡ []) ⊎ AreGivenBack limit workers shares
 
 -- the outcome of a core that is done
 pub record IsOutcomeOf (b : CoreState) (outcome : Outcome) : Type 0 where

@@ -1,5 +1,5 @@
 -- What a worker's thread is answered by a book under the lock, which step it makes next, and why it ends with a fault.
-use Rattle.std.specs.Prelude.{⊤, ◌≡◌, ◌⊎◌, ℕ, List, Option, None, Some, Result, Ok, Err, IfOk, length}
+use Rattle.std.specs.Prelude.{⊤, ◌≡◌, ◌+◌, ◌⊎◌, ℕ, List, [], ◌∷◌, Option, None, Some, Result, Ok, Err, IfOk, length}
 use Rattle.std.specs.declared.thread.PromisedHandle.{PromisedHandle}
 use Rattle.rv_ledger.specs.declared.job.Job.{Job}
 use Rattle.rv_step.specs.declared.ended_run.EndedRun.{EndedRun}
@@ -15,13 +15,14 @@ use Rattle.stm_core.specs.declared.next_step.StepKind.TheVariants as kinds
 use Rattle.workers.specs.declared.book.asked.Asked.{Asked}
 use Rattle.workers.specs.declared.book.share.Share.{Share}
 use Rattle.workers.specs.declared.book.written.MetFault.{MetFault}
-use Rattle.workers.specs.declared.executor.WithinLimit.{WithinLimit}
+use Rattle.workers.specs.declared.executor.GivesBack.{GivesBack}
 use Rattle.workers.specs.declared.fault.OutsideFault.TheVariants as outside
 use Rattle.workers.specs.declared.fault.RunFault.{RunFault}
 use Rattle.workers.specs.declared.fault.RunFault.TheVariants as faults
 use Rattle.workers.specs.declared.worker.WorkFault.{WorkFault}
 use Rattle.workers.specs.declared.worker.WorkFault.TheVariants.{Met, Refused}
 use Rattle.workers.specs.Book.{BookState, FaultFits, IsAsked, IsMakeCall, IsReadCall, IsSpent, IsStepCall, IsStopped, TellsNext, counts_of_share, first_fault, owed_by}
+use Rattle.workers.specs.Settle.{IsGivenBack}
 
 -- a book is of a job: it has that job, some list of worker steps leads to its state, and its fault is true of its core
 pub record IsBookOf (job : Job) (b : BookState) : Type 0 where
@@ -116,6 +117,23 @@ pub record IsWorkersEnd (job : Job) (first : Share) (fault : RunFault) : Type 0 
 
 -- ---- what the thread of a worker promises
 
--- where it was started, it promised to keep this limit, if there is one
-abbrev pub HasPromised : Option ℕ → Result (PromisedHandle (Result Share RunFault) WithinLimit) MetFault → Type 0
-HasPromised limit thread = IfOk thread (λ started. started.promise.0 ≡ limit)
+-- a fact holds of each element with its index, where the first one has this index
+abbrev pub HoldFrom : {X : Type 0} → (ℕ → X → Type 0) → ℕ → List X → Type 0
+HoldFrom Holds n [] = Unit {0}
+HoldFrom Holds n (x ∷ xs) = Holds n x × HoldFrom Holds (n + 1) xs
+
+-- where it was started, it promised to give back the share of this worker, within this limit, if there is one
+abbrev pub HasPromised : Option ℕ → ℕ → Result (PromisedHandle (Result Share RunFault) GivesBack) MetFault → Type 0
+HasPromised limit w thread = IfOk thread (λ started. (started.promise.worker ≡ w) × (started.promise.work_limit ≡ limit))
+
+-- it was started, and this share is one that it promised to give back
+abbrev pub IsGivenBy : Result (PromisedHandle (Result Share RunFault) GivesBack) MetFault → Share → Type 0
+IsGivenBy (Ok started) back = IsGivenBack started.promise.work_limit started.promise.worker back
+IsGivenBy (Err met) back = ⊥
+
+-- the same for each thread and its share, in their order
+abbrev pub AreGivenBy : List (Result (PromisedHandle (Result Share RunFault) GivesBack) MetFault) → List Share → Type 0
+AreGivenBy [] [] = Unit {0}
+AreGivenBy [] (back ∷ rest) = ⊥
+AreGivenBy (thread ∷ threads) [] = ⊥
+AreGivenBy (thread ∷ threads) (back ∷ rest) = IsGivenBy thread back × AreGivenBy threads rest

@@ -1,14 +1,14 @@
 //! Runs the calls of blocks on several threads, over one arena.
 
-ghost use Rattle.std.specs.Prelude.{◌≡◌, ◌≢◌, ◌≤◌, ◌⊎◌, [], All, Err, IfErr, IfOk, Ok, length, true};
+ghost use Rattle.std.specs.Prelude.{◌≡◌, ◌≢◌, ◌≤◌, ◌⊎◌, [], All, Err, IfErr, IfOk, Ok, length, map, true};
 ghost use Rattle.std.specs.Vec.{vec_capacity};
 ghost use Rattle.rv_step.specs.Fold.{receipts_of};
 ghost use Rattle.stm_state.specs.Steps as steps;
-ghost use Rattle.workers.specs.Book.{IsWithinLimit, KeepsLimit};
+ghost use Rattle.workers.specs.Book.{IsWithinLimit, KeepsLimit, counts_of_share, zero_counts_of_all};
 ghost use Rattle.workers.specs.DoneCell.{IsPassOf};
 ghost use Rattle.workers.specs.History.{HasHistory, HasLimit, HasStepLimit, AreOneWorkerCounts};
-ghost use Rattle.workers.specs.Settle.{AreSharesOf};
-ghost use Rattle.workers.specs.Work.{HasPromised};
+ghost use Rattle.workers.specs.Settle.{AreLeft, AreSharesOf, IsGivenBack};
+ghost use Rattle.workers.specs.Work.{AreGivenBy, HasPromised, HoldFrom, IsGivenBy};
 ghost use Rattle.workers.specs.declared.fault.OutsideFault.TheVariants as outside;
 ghost use Rattle.workers.specs.declared.fault.RunFault.TheVariants as faults;
 
@@ -30,7 +30,7 @@ use stm_core::{Core, Finished, JobSource, LentJob, WORKER_LIMIT};
 use version_arena::Arena;
 
 /// Runs blocks one after another over one arena. The arena has no records between two blocks. The shares are
-/// those that the threads of the last block that was run gave back.
+/// those that the threads of the last block that was run gave back, or none.
 #[derive(Drop)]
 pub struct Executor {
     pub(crate) arena: Arena,
@@ -39,13 +39,13 @@ pub struct Executor {
 }
 
 impl Executor {
-    ghost use Rattle.std.specs.Prelude.{◌≡◌, ◌<◌, ◌⊎◌, ◌↔◌, ℕ, [], All, Err, IfErr, IfOk, None, OnOk, length};
+    ghost use Rattle.std.specs.Prelude.{◌≡◌, ◌≢◌, ◌<◌, ◌⊎◌, ◌↔◌, ℕ, [], All, Err, IfErr, IfOk, None, OnOk, length};
     ghost use Rattle.rv_step.specs.Fold.{receipts_of, store_after};
     ghost use Rattle.stm_state.specs.Steps as steps;
     ghost use Rattle.workers.specs.declared.fault.RunFault.TheVariants as faults;
     ghost use Rattle.never_stuck.specs.Far.{HasAtMostGas};
     ghost use Rattle.workers.specs.History.{HasHistory, HasLimit, HasStepLimit, AreOneWorkerCounts, IsBoundedHistory};
-    ghost use Rattle.workers.specs.Settle.{AreSharesOf};
+    ghost use Rattle.workers.specs.Settle.{AreLeft, AreSharesOf};
     ghost use Rattle.workers.specs.Book.{KeepsLimit};
 
     /// An executor without shares, whose arena has room for no record yet. Takes no memory.
@@ -58,8 +58,8 @@ impl Executor {
         }
     }
 
-    /// The shares that the threads of the last block that was run gave back, in the order of their workers. None
-    /// where no block was run, and where a thread of that block gave none back. A block that is refused as BadCount,
+    /// The shares that the threads of the last block that was run gave back, one of each worker, in their order. None
+    /// where no block was run, and where not each worker of that block gave its share back. A block that is refused as BadCount,
     /// or as TooManyCalls in a chain, is not run: the shares stay.
     pub fn shares(&self) -> &[Share]
         ensures { result.now ≡ self.now.shares.items }
@@ -71,7 +71,8 @@ impl Executor {
     /// this is tested first. Refused as ArenaFull or IncarnationLimit only where some list of worker steps of
     /// this job meets that limit, and as StepLimit only where some list leads to 2^64 - 1 steps of a worker; as
     /// Memory where memory ran out; as Spawn where a thread was refused; and as Foreign where a worker or the
-    /// core is not as it was left. After every answer the executor may be used again.
+    /// core is not as it was left. After every answer the executor may be used again, and its shares are those of this block or none,
+    /// unless it is BadCount.
     pub fn run_block<R: Threads + Wait + Sync>(
         &mut self,
         rt: &R,
@@ -90,6 +91,7 @@ impl Executor {
         ensures full { IfErr result (λ e. e ≡ faults.ArenaFull → HasLimit job workers steps.ArenaFull) }
         ensures limit { IfErr result (λ e. e ≡ faults.IncarnationLimit → HasLimit job workers steps.IncarnationLimit) }
         ensures step_limit { IfErr result (λ e. e ≡ faults.StepLimit → HasStepLimit job workers None) }
+        ensures left { result ≢ Err faults.BadCount → AreLeft None workers self.new.shares.items }
         ensures kept { result ≡ Err faults.BadCount → self.new ≡ self.old }
     {
         self.run_block_with(rt, alloc, job, workers, &Open)
@@ -117,6 +119,7 @@ impl Executor {
         ensures full { IfErr result (λ e. e ≡ faults.ArenaFull → HasLimit job workers steps.ArenaFull) }
         ensures limit { IfErr result (λ e. e ≡ faults.IncarnationLimit → HasLimit job workers steps.IncarnationLimit) }
         ensures step_limit { IfErr result (λ e. e ≡ faults.StepLimit → HasStepLimit job workers None) }
+        ensures left { result ≢ Err faults.BadCount → AreLeft None workers self.new.shares.items }
         ensures kept { result ≡ Err faults.BadCount → self.new ≡ self.old }
     {
         let Finished { receipts, counts } = self.run_lent(
@@ -136,7 +139,8 @@ impl Executor {
 
     /// Runs a block on 1 to 32 threads over what is lent in place of a storage; nothing is copied. Refused as
     /// `run_block` is, and as StepLimit, where there is a limit, also where a worker has made so many steps, asks aside. Where it
-    /// answers Ok, each worker has made no more steps, asks aside, than the limit.
+    /// answers Ok, each worker has made no more steps, asks aside, than the limit. The shares are those that the threads gave back,
+    /// one of each worker, or none.
     pub(crate) fn run_lent<S: Contents + Sync, R: Threads + Wait + Sync, G: Gate + Sync>(
         &mut self,
         rt: &R,
@@ -156,6 +160,7 @@ impl Executor {
         ensures full { IfErr result (λ e. e ≡ faults.ArenaFull → HasLimit (record { block = block.now; store = S.storage contents.now }) workers steps.ArenaFull) }
         ensures limit { IfErr result (λ e. e ≡ faults.IncarnationLimit → HasLimit (record { block = block.now; store = S.storage contents.now }) workers steps.IncarnationLimit) }
         ensures step_limit { IfErr result (λ e. e ≡ faults.StepLimit → HasStepLimit (record { block = block.now; store = S.storage contents.now }) workers work_limit) }
+        ensures left { result ≢ Err faults.BadCount → AreLeft work_limit workers self.new.shares.items }
         ensures kept { result ≡ Err faults.BadCount → self.new ≡ self.old }
     {
         if workers == 0 || workers > WORKER_LIMIT {
@@ -172,8 +177,8 @@ impl Executor {
 }
 
 /// Runs a block on threads over an arena and over what is lent in place of a storage. The arena comes back without
-/// records. Refused as `Executor::run_lent` is, but never as BadCount. Beside it the shares that the threads gave back, each of a
-/// worker that has made no more steps, asks aside, than the limit.
+/// records. Refused as `Executor::run_lent` is, but never as BadCount. Beside it the shares that the threads gave back, one of each
+/// worker, which has made no more steps, asks aside, than the limit; or none.
 fn run_over<J: JobName + Send + Sync, S: Contents + Sync, R: Threads + Wait + Sync, G: Gate + Sync>(
     rt: &R,
     alloc: Global,
@@ -192,6 +197,7 @@ fn run_over<J: JobName + Send + Sync, S: Contents + Sync, R: Threads + Wait + Sy
     ensures one_worker { IfOk result.0 (λ f. workers ≡ 1 → AreOneWorkerCounts (length J.job.block) f.counts.items) }
     ensures shares { IfOk result.0 (λ f. AreSharesOf f.counts.items result.2.items) }
     ensures within { All (λ share. KeepsLimit work_limit share.counts) result.2.items }
+    ensures left { AreLeft work_limit workers result.2.items }
     ensures full { IfErr result.0 (λ e. e ≡ faults.ArenaFull → HasLimit J.job workers steps.ArenaFull) }
     ensures limit { IfErr result.0 (λ e. e ≡ faults.IncarnationLimit → HasLimit J.job workers steps.IncarnationLimit) }
     ensures step_limit { IfErr result.0 (λ e. e ≡ faults.StepLimit → HasStepLimit J.job workers work_limit) }
@@ -203,10 +209,7 @@ fn run_over<J: JobName + Send + Sync, S: Contents + Sync, R: Threads + Wait + Sy
         Ok(shared) => shared,
         Err(arena) => return (Err(RunFault::Memory), arena, Vec::new(alloc)),
     };
-    let back = match run_threads(rt, alloc, &shared, shares, gate, work_limit) {
-        Ok(back) => back,
-        Err(_) => Vec::new(alloc),
-    };
+    let back = shares_back(rt, alloc, &shared, shares, gate, work_limit);
     let book = shared.into_book();
     book.holds();
     stm_state::reached_by_list();
@@ -253,25 +256,57 @@ fn share_out<'a, J: JobName, S: Contents>(
     requires job { J.job ≡ record { block = block.now; store = S.storage contents.now } }
     ensures passes { IfOk result (λ made. All (λ share. IsPassOf made.0.cell share.pass) made.1.items) }
     ensures limits { IfOk result (λ made. All (IsWithinLimit work_limit) made.1.items) }
+    ensures shares { IfOk result (λ made. map counts_of_share made.1.items ≡ zero_counts_of_all workers) }
     ensures back { IfErr result (λ arena. arena.records ≡ []) }
 {
     let core = Core::of(alloc, arena, LentJob { block, contents }, workers)?;
     Shared::over(alloc, core, LentJob { block, contents }, work_limit)
 }
 
-/// What a thread promises: a share that it gives back is of a worker that has made no more steps, asks aside, than this limit.
+/// What a thread promises: a share that it gives back is of this worker, which has got exactly one ask answered Done, and has made
+/// no more steps, asks aside, than this limit.
 #[derive(Clone, Copy)]
-struct WithinLimit(Option<u64>);
+struct GivesBack {
+    worker: usize,
+    work_limit: Option<u64>,
+}
 
-impl Promise<Result<Share, WrittenFault>> for WithinLimit {
+impl Promise<Result<Share, WrittenFault>> for GivesBack {
     ghost use Rattle.std.specs.Prelude.{IfOk};
-    ghost use Rattle.workers.specs.Book.{KeepsLimit};
+    ghost use Rattle.workers.specs.Settle.{IsGivenBack};
 
-    ghost kept_by = { λ promise result. IfOk result (λ back. KeepsLimit promise.0 back.counts) };
+    ghost kept_by = { λ promise result. IfOk result (λ back. IsGivenBack promise.work_limit promise.worker back) };
 }
 
 /// The handle of a thread that runs for a share.
-type Thread = PromisedHandle<Result<Share, WrittenFault>, WithinLimit>;
+type Thread = PromisedHandle<Result<Share, WrittenFault>, GivesBack>;
+
+/// The shares that the threads give back, as `run_threads` returns them; none where it is refused.
+#[tactic(auto, using(crate::proofs::GivenBack::none_left, crate::proofs::GivenBack::all_left, crate::proofs::GivenBack::all_keep))]
+fn shares_back<
+    J: JobName + Send + Sync,
+    H: JobSource + Send + Sync,
+    R: Threads + Wait + Sync,
+    G: Gate + Sync,
+>(
+    rt: &R,
+    alloc: Global,
+    shared: &Shared<J, H>,
+    shares: Vec<Share>,
+    gate: &G,
+    work_limit: Option<u64>,
+) -> Vec<Share>
+    requires passes { All (λ share. IsPassOf shared.now.cell share.pass) shares.items }
+    requires limits { All (IsWithinLimit work_limit) shares.items }
+    requires shares { map counts_of_share shares.items ≡ zero_counts_of_all (length shares.items) }
+    ensures left { AreLeft work_limit (length shares.items) result.items }
+    ensures within { All (λ share. KeepsLimit work_limit share.counts) result.items }
+{
+    match run_threads(rt, alloc, shared, shares, gate, work_limit) {
+        Ok(back) => back,
+        Err(_) => Vec::new(alloc),
+    }
+}
 
 /// Runs a thread for each share, all of one limit, and waits for all of them. Returns all their shares, or a fault that
 /// stands written: that of a thread, Spawn where the system refuses a thread, and Memory where memory ran out.
@@ -290,19 +325,20 @@ fn run_threads<
 ) -> Result<Vec<Share>, WrittenFault>
     requires passes { All (λ share. IsPassOf shared.now.cell share.pass) shares.items }
     requires limits { All (IsWithinLimit work_limit) shares.items }
+    requires shares { map counts_of_share shares.items ≡ zero_counts_of_all (length shares.items) }
     ensures all { IfOk result (λ back. length back.items ≡ length shares.items) }
-    ensures within { IfOk result (λ back. All (λ share. KeepsLimit work_limit share.counts) back.items) }
+    ensures each { IfOk result (λ back. HoldFrom (IsGivenBack work_limit) 0 back.items) }
 {
     thread::scope(
         thread::scope_env(),
         rt,
         |scope| -> Result<Vec<Share>, WrittenFault>
-            requires { All (λ share. IsPassOf shared.now.cell share.pass) shares.items × All (IsWithinLimit work_limit) shares.items }
-            ensures { IfOk result (λ back. (length back.items ≡ length shares.items) × All (λ share. KeepsLimit work_limit share.counts) back.items) }
+            requires { All (λ share. IsPassOf shared.now.cell share.pass) shares.items × All (IsWithinLimit work_limit) shares.items × (map counts_of_share shares.items ≡ zero_counts_of_all (length shares.items)) }
+            ensures { IfOk result (λ back. (length back.items ≡ length shares.items) × HoldFrom (IsGivenBack work_limit) 0 back.items) }
         {
             let room = room_for_shares(rt, alloc, shared, shares.len())?;
             let threads = start_threads(scope, rt, alloc, shared, shares, gate, work_limit)?;
-            join_threads(rt, threads, room, work_limit)
+            join_threads(rt, threads, room)
         },
     )
 }
@@ -326,6 +362,7 @@ fn room_for_shares<J: JobName, H: JobSource, R: Wait>(
 
 /// Starts a thread for each share. Where the system refuses one, Spawn stands written in its place. Refused as
 /// Memory where memory ran out before the first.
+#[tactic(auto, using(crate::proofs::GivenBack::all_new))]
 fn start_threads<
     's,
     E,
@@ -344,8 +381,9 @@ fn start_threads<
 ) -> Result<Vec<Result<Thread, MetFault>>, MetFault>
     requires passes { All (λ share. IsPassOf shared.now.cell share.pass) shares.items }
     requires limits { All (IsWithinLimit work_limit) shares.items }
+    requires shares { map counts_of_share shares.items ≡ zero_counts_of_all (length shares.items) }
     ensures all { IfOk result (λ threads. length threads.items ≡ length shares.items) }
-    ensures promises { IfOk result (λ threads. All (HasPromised work_limit) threads.items) }
+    ensures promises { IfOk result (λ threads. HoldFrom (HasPromised work_limit) 0 threads.items) }
     ensures memory { IfErr result (λ e. e.met ≡ outside.Memory) }
 {
     let Ok(mut threads) = Vec::with_capacity(alloc, shares.len()) else {
@@ -357,7 +395,8 @@ fn start_threads<
     Ok(threads)
 }
 
-/// Starts a thread for a share, which promises to keep the limit; refused as Spawn where the system refuses it.
+/// Starts a thread for a share of a worker that got no ask answered Done. It promises to give it back within the limit; refused as
+/// Spawn where the system refuses it.
 fn start_thread<
     's,
     E,
@@ -376,36 +415,38 @@ fn start_thread<
 ) -> Result<Thread, MetFault>
     requires pass { IsPassOf shared.now.cell share.pass }
     requires limit { IsWithinLimit work_limit share }
-    ensures promise { IfOk result (λ started. started.promise.0 ≡ work_limit) }
+    requires dones { share.dones ≡ 0 }
+    ensures promise { HasPromised work_limit share.worker result }
     ensures spawn { IfErr result (λ e. e.met ≡ outside.Spawn) }
 {
+    let promise = GivesBack {
+        worker: share.worker(),
+        work_limit,
+    };
     let working = move || -> Result<Share, WrittenFault>
-        requires { IsPassOf shared.now.cell share.pass × KeepsLimit share.work_limit share.counts }
-        ensures { IfOk result (λ back. KeepsLimit share.work_limit back.counts) }
+        requires { IsPassOf shared.now.cell share.pass × KeepsLimit share.work_limit share.counts × (share.dones ≡ 0) }
+        ensures { IfOk result (λ back. IsGivenBack share.work_limit share.worker back) }
     { work(rt, alloc, shared, share, gate) };
-    match scope.spawn_with(WithinLimit(work_limit), working) {
+    match scope.spawn_with(promise, working) {
         Ok(thread) => Ok(thread),
         Err(SpawnError { .. }) => Err(shared.refuse(rt, OutsideFault::Spawn)),
     }
 }
 
-/// Waits for all threads that were started. Returns all their shares, in room that was made, or the last fault
+/// Waits for all threads that were started. Returns the share of each, as it promised, in room that was made, or the last fault
 /// among them.
 fn join_threads<R: Threads>(
     rt: &R,
     threads: Vec<Result<Thread, MetFault>>,
     room: Vec<Share>,
-    work_limit: Option<u64>,
 ) -> Result<Vec<Share>, WrittenFault>
     requires empty { room.items ≡ [] }
     requires room { length threads.items ≤ vec_capacity room }
-    requires promises { All (HasPromised work_limit) threads.items }
-    ensures all { IfOk result (λ back. length back.items ≡ length threads.items) }
-    ensures within { IfOk result (λ back. All (λ share. KeepsLimit work_limit share.counts) back.items) }
+    ensures { IfOk result (λ back. AreGivenBy threads.items back.items) }
 {
     let (mut back, mut refused) = (room, None);
     for thread in threads {
-        match join_thread(rt, thread, work_limit) {
+        match join_thread(rt, thread) {
             Ok(share) => back.push_reserved(share),
             Err(written) => refused = Some(written),
         }
@@ -416,14 +457,10 @@ fn join_threads<R: Threads>(
     }
 }
 
-/// The share that a thread gives back, or the fault that stands written in its place.
-fn join_thread<R: Threads>(
-    rt: &R,
-    thread: Result<Thread, MetFault>,
-    _work_limit: Option<u64>,
-) -> Result<Share, WrittenFault>
-    requires promise { HasPromised _work_limit thread }
-    ensures within { IfOk result (λ back. KeepsLimit _work_limit back.counts) }
+/// The share that a thread gives back, as it promised, or the fault that stands written in its place.
+fn join_thread<R: Threads>(rt: &R, thread: Result<Thread, MetFault>) -> Result<Share, WrittenFault>
+    ensures given { IfOk result (IsGivenBy thread) }
+    ensures refused { IfErr result (λ written. IfErr thread (λ met. written ≡ met.written)) }
 {
     match thread {
         Ok(started) => started.join(rt),

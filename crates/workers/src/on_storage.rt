@@ -12,13 +12,14 @@ use std::thread::Threads;
 use stm_core::Finished;
 
 impl Executor {
-    ghost use Rattle.std.specs.Prelude.{◌≡◌, ◌<◌, ◌⊎◌, ◌↔◌, All, Err, IfErr, IfOk, None, OnErr, OnOk};
+    ghost use Rattle.std.specs.Prelude.{◌≡◌, ◌≢◌, ◌<◌, ◌⊎◌, ◌↔◌, All, Err, IfErr, IfOk, None, OnErr, OnOk};
     ghost use Rattle.overlay.specs.Overlay.{with_changes};
     ghost use Rattle.rv_step.specs.Fold.{receipts_of, store_after};
     ghost use Rattle.stm_state.specs.Steps as steps;
     ghost use Rattle.workers.specs.declared.fault.RunFault.TheVariants as faults;
     ghost use Rattle.workers.specs.Book.{KeepsLimit};
     ghost use Rattle.workers.specs.History.{HasLimit, HasStepLimit, IsRunWithShares};
+    ghost use Rattle.workers.specs.Settle.{AreLeft};
 
     /// Runs the calls of a block by 1 to 32 threads on a storage, and changes it as they do in order. Refused as
     /// `run_block` refuses their job, and then the storage is as it was. The threads search the storage itself: it is not copied.
@@ -39,6 +40,7 @@ impl Executor {
         ensures full { IfErr result (λ e. e ≡ faults.ArenaFull → HasLimit (record { block = block; store = store.old }) workers steps.ArenaFull) }
         ensures limit { IfErr result (λ e. e ≡ faults.IncarnationLimit → HasLimit (record { block = block; store = store.old }) workers steps.IncarnationLimit) }
         ensures step_limit { IfErr result (λ e. e ≡ faults.StepLimit → HasStepLimit (record { block = block; store = store.old }) workers None) }
+        ensures left { result ≢ Err faults.BadCount → AreLeft None workers self.new.shares.items }
         ensures kept { result ≡ Err faults.BadCount → self.new ≡ self.old }
     {
         let mut changes = Overlay::new(alloc);
@@ -68,6 +70,7 @@ impl Executor {
         ensures full { IfErr result (λ e. e ≡ faults.ArenaFull → HasLimit (record { block = block; store = with_changes base.now over.old }) workers steps.ArenaFull) }
         ensures limit { IfErr result (λ e. e ≡ faults.IncarnationLimit → HasLimit (record { block = block; store = with_changes base.now over.old }) workers steps.IncarnationLimit) }
         ensures step_limit { IfErr result (λ e. e ≡ faults.StepLimit → HasStepLimit (record { block = block; store = with_changes base.now over.old }) workers None) }
+        ensures left { result ≢ Err faults.BadCount → AreLeft None workers self.new.shares.items }
         ensures kept { result ≡ Err faults.BadCount → self.new ≡ self.old }
     {
         self.run_over_changes_within(rt, alloc, base, over, block, workers, None)
@@ -95,6 +98,7 @@ impl Executor {
         ensures full { IfErr result (λ e. e ≡ faults.ArenaFull → HasLimit (record { block = block; store = with_changes base.now over.old }) workers steps.ArenaFull) }
         ensures limit { IfErr result (λ e. e ≡ faults.IncarnationLimit → HasLimit (record { block = block; store = with_changes base.now over.old }) workers steps.IncarnationLimit) }
         ensures step_limit { IfErr result (λ e. e ≡ faults.StepLimit → HasStepLimit (record { block = block; store = with_changes base.now over.old }) workers work_limit) }
+        ensures left { result ≢ Err faults.BadCount → AreLeft work_limit workers self.new.shares.items }
         ensures kept { result ≡ Err faults.BadCount → self.new ≡ self.old }
     {
         let receipts = self.receipts_by(
@@ -130,6 +134,7 @@ impl Executor {
         ensures full { IfErr result (λ e. e ≡ faults.ArenaFull → HasLimit (record { block = block.now; store = S.storage contents.now }) workers steps.ArenaFull) }
         ensures limit { IfErr result (λ e. e ≡ faults.IncarnationLimit → HasLimit (record { block = block.now; store = S.storage contents.now }) workers steps.IncarnationLimit) }
         ensures step_limit { IfErr result (λ e. e ≡ faults.StepLimit → HasStepLimit (record { block = block.now; store = S.storage contents.now }) workers work_limit) }
+        ensures left { result ≢ Err faults.BadCount → AreLeft work_limit workers self.new.shares.items }
         ensures kept { result ≡ Err faults.BadCount → self.new ≡ self.old }
     {
         let finished = self.run_lent(rt, alloc, block, contents, workers, work_limit, &Open)?;

@@ -56,8 +56,8 @@ impl WorkFault {
 /// The work of one thread. It makes the steps of its share's worker until an ask is answered Done, and then
 /// hands the share back; the cell shows done then. Refused as the call for its next step was refused, as StepLimit where
 /// the worker has made as many steps, asks aside, as its share allows, and as Memory where memory ran out; or as a fault that
-/// was written before. The fault is written, and the steps that were made stand. A share that comes back says no more steps, asks
-/// aside, than its limit allows, where it did so before.
+/// was written before. The fault is written, and the steps that were made stand. Where the share kept its limit before, the worker
+/// has made no more steps, asks aside, than the limit.
 pub fn work<J: JobName, H: JobSource, R: Wait, G: Gate>(
     rt: &R,
     alloc: Global,
@@ -185,8 +185,8 @@ fn make_step<J: JobName, H: JobSource, R: Wait, G: Gate, S: Spin + Drop>(
     }
 }
 
-/// Refused as StepLimit where the share's worker has made as many steps, asks aside, as it may, and not refused where it may
-/// make one more.
+/// Refused just where the share's worker has made as many steps, asks aside, as it may: as StepLimit, where the book agrees and no
+/// fault was written before.
 #[inline(always)]
 pub(crate) fn go_on<J: JobName, H: JobSource, R: Wait, S: Spin>(
     rt: &R,

@@ -1,8 +1,19 @@
-use Rattle.std.proofs.Common.{List, IfOk, subst}
+use Rattle.std.proofs.Common.{ℕ, List, IfOk, ap, subst, sym, ◌∙◌}
 use Rattle.workers.specs.declared.book.share.Share.{Share}
-use Rattle.workers.specs.Settle.{AreSharesOf}
+use Rattle.workers.specs.Book.{zero_counts_of_all}
+use Rattle.workers.specs.Settle.{AreLeft, AreSharesOf}
+use Rattle.workers.proofs.GivenBack.{new_count}
 use Rattle.workers.proofs.Histories.{full_is, history_is, limit_is, never_bad_count, one_worker_is, receipts_are, shares_are, size_is, step_limit_is}
 use Rattle.workers.proofs.executor.run_over.Goals as goal
+
+pub shares_back-back-requires-clause-shares : goal.shares_back-back-requires-clause-shares
+shares_back-back-requires-clause-shares g c κs within =
+    let new = c.in-Ok.ensures.shares in
+    new ∙ ap zero_counts_of_all (sym (new_count c.args.workers c.in-Ok.shared.1.items new))
+
+pub returns-clause-left : goal.returns-clause-left
+returns-clause-left g c =
+    subst (λ (n : ℕ). AreLeft c.args.work_limit n c.shares_back-back.result.items) (new_count c.args.workers c.in-Ok.shared.1.items c.in-Ok.ensures.shares) c.shares_back-back.ensures.left
 
 pub returns-clause-bad_count : goal.returns-clause-bad_count
 returns-clause-bad_count g c =

@@ -1,11 +1,12 @@
-use Rattle.std.proofs.Common.{rules, ◌+◌, [], ◌∷◌, ◌++◌, append_assoc, ap, sym, ◌∙◌}
+use Rattle.std.proofs.Common.{rules, ◌≡◌, ◌+◌, ℕ, [], ◌∷◌, ◌++◌, length, append_assoc, ap, arith, sym, subst, ◌∙◌}
 use Rattle.std.proofs.lemmas.List.{length_push}
-use Rattle.std.proofs.lemmas.List.Elements.{All-push, All-rest, All-same}
+use Rattle.std.proofs.lemmas.List.Elements.{All-rest}
 use Rattle.std.specs.Vec.Iter.{into_iter_items}
 use Rattle.workers.specs.declared.book.share.Share.{Share}
 use Rattle.workers.specs.Book.{IsWithinLimit}
 use Rattle.workers.specs.DoneCell.{IsPassOf}
-use Rattle.workers.specs.Work.{HasPromised}
+use Rattle.workers.specs.Work.{HasPromised, HoldFrom}
+use Rattle.workers.proofs.GivenBack.{IsNew, hold_push}
 use Rattle.workers.proofs.executor.start_threads.Goals as goal
 
 pub loop-share-preserved : goal.loop-share-preserved
@@ -17,12 +18,18 @@ loop-share-preserved g c =
     let rest = into_iter_items c.next.new.self in
     let limit = c.args.work_limit in
     let cell = c.args.shared.now.cell in
+    let longer = length_push before.yielded share in
+    let made = kept.made in
+    let new : HoldFrom IsNew (length before.yielded) (share ∷ rest) = subst (HoldFrom IsNew (length before.yielded)) steps kept.new in
+    let here : share.worker ≡ 0 + length before.threads.items = ap (λ told. told.worker) new.0 ∙ omega (arith, made) in
     let IsOwn : Share → Type 0 = λ x. IsPassOf cell x.pass in record {
       yielded = append_assoc before.yielded (share ∷ []) rest ∙ ap (λ items. before.yielded ++ items) (sym steps) ∙ kept.yielded;
       rest = search rules;
       passes = All-rest IsOwn share rest _ steps kept.passes;
       limits = All-rest (IsWithinLimit limit) share rest _ steps kept.limits;
-      promises = All-same (HasPromised limit) _ _ c.push_reserved.ensures.items (All-push (HasPromised limit) before.threads.items c.start_thread.result kept.promises c.start_thread.ensures.promise);
-      made = c.push_reserved.ensures.len ∙ ap (λ n. n + 1) kept.made ∙ sym (length_push before.yielded share);
+      new = subst (λ (n : ℕ). HoldFrom IsNew n rest) (sym longer) new.1;
+      promises = subst (HoldFrom (HasPromised limit) 0) (sym c.push_reserved.ensures.items)
+          (hold_push (HasPromised limit) 0 before.threads.items c.start_thread.result kept.promises (subst (λ (w : ℕ). HasPromised limit w c.start_thread.result) here c.start_thread.ensures.promise));
+      made = c.push_reserved.ensures.len ∙ ap (λ n. n + 1) kept.made ∙ sym longer;
       room = search rules;
     }

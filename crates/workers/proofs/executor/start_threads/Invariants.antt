@@ -3,7 +3,8 @@ use Rattle.std.specs.Vec.{vec_capacity}
 use Rattle.std.specs.Vec.Iter.{into_iter_items, into_iter_len}
 use Rattle.workers.specs.Book.{IsWithinLimit}
 use Rattle.workers.specs.DoneCell.{IsPassOf}
-use Rattle.workers.specs.Work.{HasPromised}
+use Rattle.workers.specs.Work.{HasPromised, HoldFrom}
+use Rattle.workers.proofs.GivenBack.{IsNew}
 use Rattle.workers.proofs.executor.start_threads.Given as goal
 
 abbrev pub invariant-loop-share : goal.invariant-loop-share
@@ -12,7 +13,8 @@ invariant-loop-share g l = record {
   rest : into_iter_len l.share-iterator ≡ length (into_iter_items l.share-iterator);
   passes : All (λ share. IsPassOf l.fn.shared.cell share.pass) (into_iter_items l.share-iterator);
   limits : All (IsWithinLimit l.fn.work_limit) (into_iter_items l.share-iterator);
-  promises : All (HasPromised l.fn.work_limit) l.threads.items;
+  new : HoldFrom IsNew (length l.yielded) (into_iter_items l.share-iterator);
+  promises : HoldFrom (HasPromised l.fn.work_limit) 0 l.threads.items;
   made : vec_len l.threads ≡ length l.yielded;
   room : vec_capacity l.threads ≡ length l.fn.shares.items;
 }

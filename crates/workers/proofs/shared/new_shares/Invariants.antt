@@ -5,4 +5,4 @@ use Rattle.workers.proofs.shared.new_shares.Given as goal
 
 abbrev pub invariant-loop-worker : goal.invariant-loop-worker
 invariant-loop-worker l =
-    (map counts_of_share l.shares.items ≡ zero_counts_of_all l.worker) × All (λ share. IsPassOf l.cell share.pass) l.shares.items × All (IsWithinLimit l.work_limit) l.shares.items
+    (map counts_of_share l.shares.items ≡ zero_counts_of_all l.worker) × All (λ share. IsPassOf l.cell share.pass) l.shares.items × All (IsWithinLimit l.fn.work_limit) l.shares.items
