@@ -6,8 +6,9 @@ use Rattle.std.proofs.lemmas.Bool.{cases_eq}
 use Rattle.std.proofs.lemmas.List.Elements.{All-append, All-push, All-replicate, All-set}
 use Rattle.elf32.specs.declared.segment.Segment.{Segment}
 use Rattle.elf32.specs.Pages.{overwritten_at, page_at, segment_bytes, zeros, ArePages, HoldSegments}
-use Rattle.rv_mem.specs.declared.pages.Pages.{Pages}
-use Rattle.rv_mem.specs.Paged.{IsPaged, IsWritable, all_pages, base_of, base_pages, memory_bytes}
+use Rattle.rv_mem.specs.declared.pages.Pages.TheInside.{Inside}
+use Rattle.rv_mem.specs.Paged.{IsPaged, IsWritable, all_pages, base_of, base_pages, memory_bytes, space_of}
+use Rattle.rv_mem.specs.Space.{written}
 use Rattle.rv_mem.proofs.Flat.{length_pages}
 use Rattle.rv_mem.proofs.Placed.{placed_none, placed_more}
 use Rattle.rv_mem.proofs.Pools.{copied_bytes, put_bytes, same_flat, sized}
@@ -33,7 +34,7 @@ none_own count index k low few own = elim (dec_lt k (length index)) [
 ]
 
 -- the first: each page is the program's
-pub paged_none : (p : Pages) (segments : List Segment) → HoldSegments (base_of p) segments → p.own.items ≡ [] → p.index.items ≡ (base_of p).index → IsPaged p
+pub paged_none : (p : Inside) (segments : List Segment) → HoldSegments (base_of p) segments → p.own.items ≡ [] → p.index.items ≡ (base_of p).index → IsPaged p
 paged_none p segments h none same =
     let count = h.count in
     record {
@@ -44,7 +45,7 @@ paged_none p segments h none same =
     }
 
 -- its bytes
-pub bytes_none : (p : Pages) (segments : List Segment) → HoldSegments (base_of p) segments → p.own.items ≡ [] → p.index.items ≡ (base_of p).index → memory_bytes p ≡ segment_bytes segments
+pub bytes_none : (p : Inside) (segments : List Segment) → HoldSegments (base_of p) segments → p.own.items ≡ [] → p.index.items ≡ (base_of p).index → memory_bytes p ≡ segment_bytes segments
 bytes_none p segments h none same =
     rw (none, same, append-nil (base_pages p))
     (same_flat (page_at (base_pages p)) (page_at (base_of p).pages.items) (base_of p).index (base_of p).index refl (λ i d e b.
@@ -52,7 +53,7 @@ bytes_none p segments h none same =
     ∙ ap (page_at (base_of p).pages.items) (get_or_default (base_of p).index i d e b))
     ∙ h.bytes)
 
-module _ (p : Pages) (h : IsPaged p) where
+module _ (p : Inside) (h : IsPaged p) where
   pub base_length : length (base_pages p) ≡ 512
   base_length = let few = h.placed.few in padded_length (base_of p).pages.items (omega arith)
 
@@ -92,7 +93,7 @@ module _ (p : Pages) (h : IsPaged p) where
       ∙ h.sizes (512 + place) [] (omega (arith, base_length, length-append (base_pages p) p.own.items))
 
 -- a page that is copied to the call's own
-module _ (p q : Pages) (page : ℕ) (x : List ℕ) (h : IsPaged p) (below : page < 256) (shared : get_or p.index.items page 0 < 512) (base : base_of q ≡ base_of p) (items : q.own.items ≡ p.own.items ++ x ∷ []) (index : q.index.items ≡ set p.index.items page (512 + length p.own.items)) (read : x ≡ get_or (base_of p).pages.items (get_or p.index.items page 0) x) (open_ : IsWritable (base_of p) page) where
+module _ (p q : Inside) (page : ℕ) (x : List ℕ) (h : IsPaged p) (below : page < 256) (shared : get_or p.index.items page 0 < 512) (base : base_of q ≡ base_of p) (items : q.own.items ≡ p.own.items ++ x ∷ []) (index : q.index.items ≡ set p.index.items page (512 + length p.own.items)) (read : x ≡ get_or (base_of p).pages.items (get_or p.index.items page 0) x) (open_ : IsWritable (base_of p).rights page) where
   is_page : x ≡ page_at (all_pages p) (get_or p.index.items page 0)
   is_page =
       let len = h.placed.len in
@@ -121,14 +122,15 @@ module _ (p q : Pages) (page : ℕ) (x : List ℕ) (h : IsPaged p) (below : page
         ];
       }
 
-  pub bytes_more : memory_bytes q ≡ memory_bytes p
-  bytes_more =
+  pub space_more : space_of q ≡ space_of p
+  space_more =
       let len = h.placed.len in
       let end : 512 + length p.own.items ≡ length (all_pages p) = omega (arith, base_length p h, length-append (base_pages p) p.own.items) in
-      rw (all_more, index, end, is_page) (copied_bytes (all_pages p) p.index.items page (all_places p h) (omega arith))
+      rw (all_more, index, end, is_page, base)
+      (ap (λ bytes. record (space_of p) { bytes = bytes }) (copied_bytes (all_pages p) p.index.items page (all_places p h) (omega arith)))
 
 -- a write to a page of the call's own
-module _ (p q : Pages) (place : ℕ) (x : List ℕ) (h : IsPaged p) (inside : place < length p.own.items) (base : base_of q ≡ base_of p) (items : q.own.items ≡ set p.own.items place x) (index : q.index.items ≡ p.index.items) where
+module _ (p q : Inside) (place : ℕ) (x : List ℕ) (h : IsPaged p) (inside : place < length p.own.items) (base : base_of q ≡ base_of p) (items : q.own.items ≡ set p.own.items place x) (index : q.index.items ≡ p.index.items) where
   all_put : all_pages q ≡ set (all_pages p) (512 + place) x
   all_put =
       let e : 512 + place - 512 ≡ place = omega arith in
@@ -146,10 +148,10 @@ module _ (p q : Pages) (place : ℕ) (x : List ℕ) (h : IsPaged p) (inside : pl
         writable = λ k own. rw base (h.writable k (rw index at own));
       }
 
-  pub bytes_put : (old new : List ℕ) (at : ℕ) → at < 1048576 → get_or p.index.items (at / 4096) 0 ≡ 512 + place → at % 4096 + length new ≤ 4096 → old ≡ get_or p.own.items place old → x ≡ overwritten_at old (at % 4096) new → memory_bytes q ≡ overwritten_at (memory_bytes p) at new
-  bytes_put old new at first here room read is =
+  pub space_put : (old new : List ℕ) (at : ℕ) → at < 1048576 → get_or p.index.items (at / 4096) 0 ≡ 512 + place → at % 4096 + length new ≤ 4096 → old ≡ get_or p.own.items place old → x ≡ overwritten_at old (at % 4096) new → space_of q ≡ written (space_of p) new at
+  space_put old new at first here room read is =
       let len = h.placed.len in
       let was = own_is p h place old inside read in
-      rw (all_put, index)
-      (put_bytes (all_pages p) p.index.items new x at (512 + place) h.sizes len (all_places p h) first here (λ j b same.
-      sym (h.placed.alone (at / 4096) j (omega arith) b (omega arith) (here ∙ sym same))) room (is ∙ ap (λ (l : List ℕ). overwritten_at l (at % 4096) new) was))
+      rw (all_put, index, base)
+      (ap (λ bytes. record (space_of p) { bytes = bytes }) (put_bytes (all_pages p) p.index.items new x at (512 + place) h.sizes len (all_places p h) first here (λ j b same.
+      sym (h.placed.alone (at / 4096) j (omega arith) b (omega arith) (here ∙ sym same))) room (is ∙ ap (λ (l : List ℕ). overwritten_at l (at % 4096) new) was)))

@@ -22,7 +22,7 @@ none (s ∷ segments) placed =
     rw (before s (All-head IsPlaced s segments placed)) (none segments (All-tail IsPlaced s segments placed))
 
 -- so it may be stored to
-pub input_writable : (base : BasePages) (segments : List Segment) → All IsPlaced segments → base.rights ≡ page_rights 256 segments → IsWritable base 240
+pub input_writable : (base : BasePages) (segments : List Segment) → All IsPlaced segments → base.rights ≡ page_rights 256 segments → IsWritable base.rights 240
 unfolding page_rights
 input_writable base segments placed is =
     rw (is, get_or-map-range_with_len (rights_of_page segments) 0 256 240 240 no_rights (omega arith) (omega arith), none segments placed) refl

@@ -1,4 +1,5 @@
 pub mod Space
 pub mod Start
+pub mod PagedSpace
 pub mod Paged
 pub mod Code

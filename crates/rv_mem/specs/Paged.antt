@@ -7,30 +7,30 @@ use Rattle.elf32.specs.Pages.{ArePages, page_at, zeros}
 use Rattle.elf32.specs.Places.{first_own}
 use Rattle.elf32.specs.declared.base_pages.BasePages.{BasePages}
 use Rattle.elf32.specs.declared.segment.Rights.{Rights}
-use Rattle.rv_mem.specs.declared.pages.Pages.{Pages}
+use Rattle.rv_mem.specs.declared.pages.Pages.TheInside.{Inside}
 use Rattle.rv_mem.specs.Space.{Space, allows, no_rights}
 use Rattle.rv_mem.specs.declared.access.Access.{Access}
 use Rattle.rv_mem.specs.declared.access.Access.TheVariants.{Write}
 
 -- the pages of the program
-abbrev pub base_of : Pages → BasePages
+abbrev pub base_of : Inside → BasePages
 base_of p = arc_value p.base
 
 -- the first 512 places: the pages of the program, and pages of zeros that no index gives
-abbrev pub base_pages : Pages → List (List ℕ)
+abbrev pub base_pages : Inside → List (List ℕ)
 base_pages p =
     (base_of p).pages.items ++ replicate (first_own - length (base_of p).pages.items) (zeros page_size)
 
 -- they, and after them the call's own
-abbrev pub all_pages : Pages → List (List ℕ)
+abbrev pub all_pages : Inside → List (List ℕ)
 all_pages p = base_pages p ++ p.own.items
 
 -- the bytes of memory
-abbrev pub memory_bytes : Pages → List ℕ
+abbrev pub memory_bytes : Inside → List ℕ
 memory_bytes p = flat_map (page_at (all_pages p)) p.index.items
 
 -- memory as a caller sees it
-abbrev pub space_of : Pages → Space
+abbrev pub space_of : Inside → Space
 space_of p = record { bytes = memory_bytes p; rights = (base_of p).rights }
 
 -- one for a place among the first n pages, else nothing
@@ -56,23 +56,23 @@ abbrev pub input_page : ℕ
 input_page = 240
 
 -- the page k may be stored to
-abbrev pub IsWritable : BasePages → ℕ → Type 0
-IsWritable base k = IsAllowed Write base.rights k
+abbrev pub IsWritable : List Rights → ℕ → Type 0
+IsWritable = IsAllowed Write
 
 -- the pages of a call; those that are its own may be stored to
-pub record IsPaged (p : Pages) : Type 0 where
+pub record IsPaged (p : Inside) : Type 0 where
   pub sizes : ArePages (λ q. q) (all_pages p)
   pub placed : ArePlaced (length (base_of p).pages.items) first_own (length p.own.items) p.index.items
   pub rights : length (base_of p).rights ≡ page_count
-  pub writable : (k : ℕ) → first_own ≤ slice_index p.index.items k → IsWritable (base_of p) k
+  pub writable : (k : ℕ) → first_own ≤ slice_index p.index.items k → IsWritable (base_of p).rights k
 
 -- the pages from one on and below another have the right of an access
 abbrev pub AreAllowed : Access → List Rights → ℕ → ℕ → Type 0
 AreAllowed access rights first end = (k : ℕ) → first ≤ k → k < end → IsAllowed access rights k
 
 -- the pages from one on and below another are the call's own
-abbrev pub AreOwn : Pages → ℕ → ℕ → Type 0
-AreOwn p first end = (k : ℕ) → first ≤ k → k < end → first_own ≤ slice_index p.index.items k
+abbrev pub AreOwn : List ℕ → ℕ → ℕ → Type 0
+AreOwn places first end = (k : ℕ) → first ≤ k → k < end → first_own ≤ slice_index places k
 
 -- a place in memory is a multiple of n, and its page has the right
 abbrev pub is_open : Access → List Rights → ℕ → ℕ → Bool

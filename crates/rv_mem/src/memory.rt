@@ -2,8 +2,7 @@
 
 ghost use Rattle.std.specs.Prelude.{◌≡◌, ◌<◌, ◌≤◌, ◌+◌, ◌-◌, ◌^◌, ◌↔◌, ◌==◌, ◌||◌, true, false, IsTrue, length, Ok, IfOk, OnOk, IsOk, IfErr};
 ghost use Rattle.elf32.specs.Extent.{end_address, first_address, input_address};
-ghost use Rattle.elf32.specs.Pages.{overwritten_at};
-ghost use Rattle.rv_mem.specs.Paged.{IsPaged, IsWritable, base_of, input_page, memory_bytes};
+ghost use Rattle.rv_mem.specs.Paged.{IsWritable, input_page};
 ghost use Rattle.rv_mem.specs.Space.{as_answer, bytes_at, allows_range, from_place, loaded, place_of, stored, copied, written, LeavesMemory};
 ghost use Rattle.rv_mem.specs.Start.{start_space};
 ghost use Rattle.rv_mem.specs.declared.access.Access.TheVariants.{Read, Write, Execute};
@@ -12,8 +11,8 @@ ghost use Rattle.rv_mem.specs.declared.fault.Fault.TheVariants.{MemoryFault};
 use crate::access::Access;
 use crate::fault::Fault;
 use crate::pages::{
-    Pages, begin, byte_at, halfword_at, own_place, program_pages, put_own, read, word_at, write,
-    write_in_page,
+    Pages, begin, byte_at, halfword_at, own_place, program_pages, put_own, read, rights, word_at,
+    write, write_in_page,
 };
 use crate::rights::{aligned_place, place, range_has};
 use byteorder::{ByteOrder, LittleEndian};
@@ -28,11 +27,8 @@ const INPUT: usize = (INPUT_ADDRESS - FIRST_ADDRESS) as usize;
 /// Writes the input at its address; refused where memory ran out.
 fn put_input(pages: &mut Pages, input: &[u8]) -> Result<(), AllocError>
     requires input { length input.now ≤ 4096 }
-    requires paged { IsPaged pages.old }
-    requires writable { IsWritable (base_of pages.old) input_page }
-    ensures ok { OnOk result (memory_bytes pages.new ≡ overwritten_at (memory_bytes pages.old) (input_address - first_address) input.now) }
-    ensures base { base_of pages.new ≡ base_of pages.old }
-    ensures paged { IsPaged pages.new }
+    requires writable { IsWritable pages.old.space.rights input_page }
+    ensures { OnOk result (pages.new.space ≡ written pages.old.space input.now (input_address - first_address)) }
 {
     if input.is_empty() {
         return Ok(());
@@ -48,14 +44,11 @@ pub struct Memory {
 }
 
 impl Model for Memory {
-    ghost use Rattle.rv_mem.specs.Paged.{IsPaged, space_of};
     ghost use Rattle.rv_mem.specs.Space.{Space};
 
     ghost Value = { Space };
 
-    ghost view = { λ m. space_of m.pages };
-
-    ghost invariant = { λ m. IsPaged m.pages };
+    ghost view = { λ m. m.pages.space };
 }
 
 impl Memory {
@@ -87,7 +80,7 @@ impl Memory {
     pub fn fetch(&self, address: u32) -> Result<u32, Fault>
         ensures { result ≡ as_answer (loaded 4 Execute self.now address) }
     {
-        let at = place(&self.pages.base.rights, Access::Execute, address, 4)?;
+        let at = place(rights(&self.pages), Access::Execute, address, 4)?;
         Ok(word_at(&self.pages, at))
     }
 
@@ -96,7 +89,7 @@ impl Memory {
     pub fn load8(&self, address: u32) -> Result<u8, Fault>
         ensures { result ≡ as_answer (loaded 1 Read self.now address) }
     {
-        let at = place(&self.pages.base.rights, Access::Read, address, 1)?;
+        let at = place(rights(&self.pages), Access::Read, address, 1)?;
         Ok(byte_at(&self.pages, at))
     }
 
@@ -106,7 +99,7 @@ impl Memory {
     pub fn load16(&self, address: u32) -> Result<u16, Fault>
         ensures { result ≡ as_answer (loaded 2 Read self.now address) }
     {
-        let at = place(&self.pages.base.rights, Access::Read, address, 2)?;
+        let at = place(rights(&self.pages), Access::Read, address, 2)?;
         Ok(halfword_at(&self.pages, at))
     }
 
@@ -116,7 +109,7 @@ impl Memory {
     pub fn load32(&self, address: u32) -> Result<u32, Fault>
         ensures { result ≡ as_answer (loaded 4 Read self.now address) }
     {
-        let at = place(&self.pages.base.rights, Access::Read, address, 4)?;
+        let at = place(rights(&self.pages), Access::Read, address, 4)?;
         Ok(word_at(&self.pages, at))
     }
 
@@ -183,7 +176,7 @@ impl Memory {
     fn store_byte(&mut self, address: u32, value: u8) -> Result<(), Fault>
         ensures { LeavesMemory result (stored 1 self.old address value) self.old self.new }
     {
-        let at = place(&self.pages.base.rights, Access::Write, address, 1)?;
+        let at = place(rights(&self.pages), Access::Write, address, 1)?;
         write_in_page(&mut self.pages, at, &[value]).map_err(|_: AllocError| Fault::Memory)
     }
 
@@ -193,7 +186,7 @@ impl Memory {
     fn store_halfword(&mut self, address: u32, value: u16) -> Result<(), Fault>
         ensures { LeavesMemory result (stored 2 self.old address value) self.old self.new }
     {
-        let at = place(&self.pages.base.rights, Access::Write, address, 2)?;
+        let at = place(rights(&self.pages), Access::Write, address, 2)?;
         let mut halfword = [0; 2];
         LittleEndian::write_u16(&mut halfword, value);
         write_in_page(&mut self.pages, at, &halfword).map_err(|_: AllocError| Fault::Memory)
@@ -205,7 +198,7 @@ impl Memory {
     fn store_word(&mut self, address: u32, value: u32) -> Result<(), Fault>
         ensures { LeavesMemory result (stored 4 self.old address value) self.old self.new }
     {
-        let at = place(&self.pages.base.rights, Access::Write, address, 4)?;
+        let at = place(rights(&self.pages), Access::Write, address, 4)?;
         let mut word = [0; 4];
         LittleEndian::write_u32(&mut word, value);
         write_in_page(&mut self.pages, at, &word).map_err(|_: AllocError| Fault::Memory)
@@ -215,14 +208,14 @@ impl Memory {
     pub fn range_readable(&self, address: u32, len: u32) -> bool
         ensures { result ≡ allows_range Read self.now.rights address len }
     {
-        range_has(&self.pages.base.rights, Access::Read, address, len)
+        range_has(rights(&self.pages), Access::Read, address, len)
     }
 
     /// Whether each of the `len` bytes from the address on may be stored to. Addresses do not wrap.
     pub fn range_writable(&self, address: u32, len: u32) -> bool
         ensures { result ≡ allows_range Write self.now.rights address len }
     {
-        range_has(&self.pages.base.rights, Access::Write, address, len)
+        range_has(rights(&self.pages), Access::Write, address, len)
     }
 
     /// Fills `out` with the bytes from the address on, at any alignment. Where one of them may not be loaded
@@ -233,12 +226,7 @@ impl Memory {
         ensures ok { IsOk result ↔ (allows_range Read self.now.rights address (length out.old) ≡ true) }
         ensures err { IfErr result (λ e. (e ≡ MemoryFault) × (out.new ≡ out.old)) }
     {
-        if !range_has(
-            &self.pages.base.rights,
-            Access::Read,
-            address,
-            out.len() as u32,
-        ) {
+        if !range_has(rights(&self.pages), Access::Read, address, out.len() as u32) {
             return Err(Fault::MemoryFault);
         }
         if !out.is_empty() {
@@ -267,7 +255,7 @@ impl Memory {
         ensures { LeavesMemory result (copied self.old address bytes.now) self.old self.new }
     {
         if !range_has(
-            &self.pages.base.rights,
+            rights(&self.pages),
             Access::Write,
             address,
             bytes.len() as u32,

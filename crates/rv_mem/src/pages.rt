@@ -2,17 +2,19 @@
 
 ghost use Rattle.std.specs.Prelude.{◌≡◌, ◌+◌, ◌/◌, ◌%◌, ◌-◌, ◌^◌, ◌≤◌, ◌<◌, ◌++◌, ℕ, length, take, drop, slice_index, OnOk, OnErr, IfOk, IfSome, None};
 ghost use Rattle.byteorder.specs.Endian.{little_number};
-ghost use Rattle.elf32.specs.Extent.{first_address, memory_size, page_count, page_size};
-ghost use Rattle.elf32.specs.Pages.{overwritten_at, page_at, page_rights, segment_bytes};
+ghost use Rattle.elf32.specs.Extent.{memory_size, page_count, page_size};
+ghost use Rattle.elf32.specs.Pages.{page_at, page_rights, segment_bytes};
 ghost use Rattle.elf32.specs.Places.{first_own};
 ghost use Rattle.rv_mem.specs.declared.access.Access.TheVariants.{Write};
-ghost use Rattle.rv_mem.specs.Paged.{IsPaged, IsWritable, AreAllowed, AreOwn, base_of, input_page, memory_bytes};
+ghost use Rattle.rv_mem.specs.Paged.{IsWritable, AreAllowed, AreOwn, input_page};
+ghost use Rattle.rv_mem.specs.Space.{written};
 
 use byteorder::{ByteOrder, LittleEndian};
 use elf32::bytes::put;
 use elf32::extent::PAGE_SIZE;
-use elf32::{BasePages, Image, Page, PagePlace};
+use elf32::{BasePages, Image, Page, PagePlace, Rights};
 use std::alloc::{AllocError, Global};
+use std::marker::Model;
 use std::slice::from_ref;
 use std::sync::Arc;
 
@@ -23,19 +25,39 @@ const OWN_ROOM: usize = 2;
 #[derive(Drop)]
 pub struct Pages {
     /// The pages of the program.
-    pub base: Arc<BasePages>,
+    base: Arc<BasePages>,
     /// For each of the 256 pages of memory its place, in `base` or in `own`.
-    pub index: Vec<PagePlace>,
+    index: Vec<PagePlace>,
     /// The pages that the call has written. Each is one page of memory.
-    pub own: Vec<Page>,
+    own: Vec<Page>,
+}
+
+impl Model for Pages {
+    ghost use Rattle.rv_mem.specs.PagedSpace.{PagedSpace};
+
+    ghost Value = { PagedSpace };
+
+    ghost use Rattle.rv_mem.specs.Paged.{IsPaged, space_of};
+
+    ghost view = { λ p. record { space = space_of p; places = p.index.items } };
+
+    ghost invariant = { IsPaged };
+}
+
+/// The rights of the pages.
+#[inline(always)]
+pub fn rights(pages: &Pages) -> &[Rights]
+    ensures value { result.now ≡ pages.now.space.rights }
+    ensures len { length result.now ≡ page_count }
+{
+    &pages.base.rights
 }
 
 /// The pages of a program before its first instruction; refused where memory ran out.
 pub fn program_pages(alloc: Global, image: &Image) -> Result<Pages, AllocError>
-    ensures bytes { IfOk result (λ p. memory_bytes p ≡ segment_bytes image.now.segments) }
-    ensures rights { IfOk result (λ p. (base_of p).rights ≡ page_rights page_count image.now.segments) }
-    ensures paged { IfOk result IsPaged }
-    ensures input { IfOk result (λ p. IsWritable (base_of p) input_page) }
+    ensures bytes { IfOk result (λ p. p.space.bytes ≡ segment_bytes image.now.segments) }
+    ensures rights { IfOk result (λ p. p.space.rights ≡ page_rights page_count image.now.segments) }
+    ensures input { IfOk result (λ p. IsWritable p.space.rights input_page) }
 {
     // For the proof alone: the segments end before the page of the input.
     let _ = image.segments();
@@ -49,11 +71,9 @@ pub fn program_pages(alloc: Global, image: &Image) -> Result<Pages, AllocError>
 /// Makes them the pages of a program before its first instruction, in their own room; refused where memory ran out, and
 /// then nothing changes.
 pub fn begin(pages: &mut Pages, image: &Image) -> Result<(), AllocError>
-    requires paged { IsPaged pages.old }
-    ensures bytes { OnOk result (memory_bytes pages.new ≡ segment_bytes image.now.segments) }
-    ensures rights { OnOk result ((base_of pages.new).rights ≡ page_rights page_count image.now.segments) }
-    ensures paged { IsPaged pages.new }
-    ensures input { OnOk result (IsWritable (base_of pages.new) input_page) }
+    ensures bytes { OnOk result (pages.new.space.bytes ≡ segment_bytes image.now.segments) }
+    ensures rights { OnOk result (pages.new.space.rights ≡ page_rights page_count image.now.segments) }
+    ensures input { OnOk result (IsWritable pages.new.space.rights input_page) }
 {
     // For the proof alone: the segments end before the page of the input.
     let _ = image.segments();
@@ -84,15 +104,12 @@ fn page_at<'a>(base: &'a [Page], own: &'a [Page], place: PagePlace) -> &'a Page
 #[cold]
 #[inline(never)]
 fn copy_page(pages: &mut Pages, page: usize) -> Result<usize, AllocError>
-    requires paged { IsPaged pages.old }
     requires page { page < page_count }
-    requires shared { slice_index pages.old.index.items page < first_own }
-    requires writable { IsWritable (base_of pages.old) page }
-    ensures paged { IsPaged pages.new }
-    ensures base { base_of pages.new ≡ base_of pages.old }
-    ensures bytes { memory_bytes pages.new ≡ memory_bytes pages.old }
-    ensures place { IfOk result (λ k. slice_index pages.new.index.items page ≡ first_own + k) }
-    ensures kept { (k : ℕ) → first_own ≤ slice_index pages.old.index.items k → first_own ≤ slice_index pages.new.index.items k }
+    requires shared { slice_index pages.old.places page < first_own }
+    requires writable { IsWritable pages.old.space.rights page }
+    ensures space { pages.new.space ≡ pages.old.space }
+    ensures place { IfOk result (λ k. slice_index pages.new.places page ≡ first_own + k) }
+    ensures kept { (k : ℕ) → first_own ≤ slice_index pages.old.places k → first_own ≤ slice_index pages.new.places k }
 {
     let shared = &pages.base.pages;
     let place = pages.own.len();
@@ -107,14 +124,11 @@ fn copy_page(pages: &mut Pages, page: usize) -> Result<usize, AllocError>
 /// among its own.
 #[inline(always)]
 pub fn put_own(pages: &mut Pages, place: usize, at: usize, new: &[u8])
-    requires paged { IsPaged pages.old }
     requires first { at < memory_size }
     requires room { at % page_size + length new.now ≤ page_size }
-    requires place { slice_index pages.old.index.items (at / page_size) ≡ first_own + place }
-    ensures paged { IsPaged pages.new }
-    ensures base { base_of pages.new ≡ base_of pages.old }
-    ensures index { pages.new.index.items ≡ pages.old.index.items }
-    ensures bytes { memory_bytes pages.new ≡ overwritten_at (memory_bytes pages.old) at new.now }
+    requires place { slice_index pages.old.places (at / page_size) ≡ first_own + place }
+    ensures places { pages.new.places ≡ pages.old.places }
+    ensures space { pages.new.space ≡ written pages.old.space new.now at }
 {
     put(&mut pages.own[place], at % PAGE_SIZE, new);
 }
@@ -124,15 +138,12 @@ pub fn put_own(pages: &mut Pages, place: usize, at: usize, new: &[u8])
 #[cold]
 #[inline(never)]
 fn copy_and_write(pages: &mut Pages, at: usize, new: &[u8]) -> Result<(), AllocError>
-    requires paged { IsPaged pages.old }
     requires first { at < memory_size }
     requires room { at % page_size + length new.now ≤ page_size }
-    requires shared { slice_index pages.old.index.items (at / page_size) < first_own }
-    requires writable { IsWritable (base_of pages.old) (at / page_size) }
-    ensures paged { IsPaged pages.new }
-    ensures base { base_of pages.new ≡ base_of pages.old }
-    ensures ok { OnOk result (memory_bytes pages.new ≡ overwritten_at (memory_bytes pages.old) at new.now) }
-    ensures err { OnErr result (memory_bytes pages.new ≡ memory_bytes pages.old) }
+    requires shared { slice_index pages.old.places (at / page_size) < first_own }
+    requires writable { IsWritable pages.old.space.rights (at / page_size) }
+    ensures ok { OnOk result (pages.new.space ≡ written pages.old.space new.now at) }
+    ensures err { OnErr result (pages.new.space ≡ pages.old.space) }
 {
     let place = copy_page(pages, at / PAGE_SIZE)?;
     put_own(pages, place, at, new);
@@ -142,11 +153,10 @@ fn copy_and_write(pages: &mut Pages, at: usize, new: &[u8]) -> Result<(), AllocE
 /// The place of the page of a place in memory among the call's own pages; None where it is not its own.
 #[inline(always)]
 pub fn own_place(pages: &Pages, at: usize) -> Option<usize>
-    requires paged { IsPaged pages.now }
     requires first { at < memory_size }
-    ensures place { IfSome result (λ place. slice_index pages.now.index.items (at / page_size) ≡ first_own + place) }
-    ensures writable { IfSome result (λ _. IsWritable (base_of pages.now) (at / page_size)) }
-    ensures shared { result ≡ None → slice_index pages.now.index.items (at / page_size) < first_own }
+    ensures place { IfSome result (λ place. slice_index pages.now.places (at / page_size) ≡ first_own + place) }
+    ensures writable { IfSome result (λ _. IsWritable pages.now.space.rights (at / page_size)) }
+    ensures shared { result ≡ None → slice_index pages.now.places (at / page_size) < first_own }
 {
     let place = pages.index[at / PAGE_SIZE];
     if place.is_shared() {
@@ -158,14 +168,11 @@ pub fn own_place(pages: &Pages, at: usize) -> Option<usize>
 /// Writes the bytes, which lie in one page, at a place in memory; refused where memory ran out, and then
 /// nothing changes.
 pub fn write_in_page(pages: &mut Pages, at: usize, new: &[u8]) -> Result<(), AllocError>
-    requires paged { IsPaged pages.old }
     requires first { at < memory_size }
     requires room { at % page_size + length new.now ≤ page_size }
-    requires writable { IsWritable (base_of pages.old) (at / page_size) }
-    ensures paged { IsPaged pages.new }
-    ensures base { base_of pages.new ≡ base_of pages.old }
-    ensures ok { OnOk result (memory_bytes pages.new ≡ overwritten_at (memory_bytes pages.old) at new.now) }
-    ensures err { OnErr result (memory_bytes pages.new ≡ memory_bytes pages.old) }
+    requires writable { IsWritable pages.old.space.rights (at / page_size) }
+    ensures ok { OnOk result (pages.new.space ≡ written pages.old.space new.now at) }
+    ensures err { OnErr result (pages.new.space ≡ pages.old.space) }
 {
     match own_place(pages, at) {
         Some(place) => {
@@ -179,13 +186,10 @@ pub fn write_in_page(pages: &mut Pages, at: usize, new: &[u8]) -> Result<(), All
 /// Makes the pages from the first to the last the call's own; refused where memory ran out. No byte of
 /// memory changes.
 fn own_pages(pages: &mut Pages, first: usize, last: usize) -> Result<(), AllocError>
-    requires paged { IsPaged pages.old }
     requires last { last < page_count }
-    requires writable { AreAllowed Write (base_of pages.old).rights first (last + 1) }
-    ensures paged { IsPaged pages.new }
-    ensures base { base_of pages.new ≡ base_of pages.old }
-    ensures bytes { memory_bytes pages.new ≡ memory_bytes pages.old }
-    ensures own { OnOk result (AreOwn pages.new first (last + 1)) }
+    requires writable { AreAllowed Write pages.old.space.rights first (last + 1) }
+    ensures space { pages.new.space ≡ pages.old.space }
+    ensures own { OnOk result (AreOwn pages.new.places first (last + 1)) }
 {
     for page in first..last + 1 {
         if pages.index[page].is_shared() {
@@ -197,14 +201,11 @@ fn own_pages(pages: &mut Pages, first: usize, last: usize) -> Result<(), AllocEr
 
 /// Writes the bytes from a place in memory on. Their pages are the call's own.
 fn put_in_pages(pages: &mut Pages, at: usize, new: &[u8])
-    requires paged { IsPaged pages.old }
     requires some { 0 < length new.now }
     requires room { at + length new.now ≤ memory_size }
-    requires own { AreOwn pages.old (at / page_size) ((at + length new.now - 1) / page_size + 1) }
-    ensures paged { IsPaged pages.new }
-    ensures base { base_of pages.new ≡ base_of pages.old }
-    ensures index { pages.new.index.items ≡ pages.old.index.items }
-    ensures bytes { memory_bytes pages.new ≡ overwritten_at (memory_bytes pages.old) at new.now }
+    requires own { AreOwn pages.old.places (at / page_size) ((at + length new.now - 1) / page_size + 1) }
+    ensures places { pages.new.places ≡ pages.old.places }
+    ensures space { pages.new.space ≡ written pages.old.space new.now at }
 {
     let place = pages.index[at / PAGE_SIZE].in_own();
     let room = PAGE_SIZE - at % PAGE_SIZE;
@@ -220,14 +221,11 @@ fn put_in_pages(pages: &mut Pages, at: usize, new: &[u8])
 /// Writes the bytes from a place in memory on; refused where memory ran out, and then nothing changes. To
 /// keep this, all of the pages are the call's own before a byte is written.
 pub fn write(pages: &mut Pages, at: usize, new: &[u8]) -> Result<(), AllocError>
-    requires paged { IsPaged pages.old }
     requires some { 0 < length new.now }
     requires room { at + length new.now ≤ memory_size }
-    requires writable { AreAllowed Write (base_of pages.old).rights (at / page_size) ((at + length new.now - 1) / page_size + 1) }
-    ensures paged { IsPaged pages.new }
-    ensures base { base_of pages.new ≡ base_of pages.old }
-    ensures ok { OnOk result (memory_bytes pages.new ≡ overwritten_at (memory_bytes pages.old) at new.now) }
-    ensures err { OnErr result (memory_bytes pages.new ≡ memory_bytes pages.old) }
+    requires writable { AreAllowed Write pages.old.space.rights (at / page_size) ((at + length new.now - 1) / page_size + 1) }
+    ensures ok { OnOk result (pages.new.space ≡ written pages.old.space new.now at) }
+    ensures err { OnErr result (pages.new.space ≡ pages.old.space) }
 {
     own_pages(pages, at / PAGE_SIZE, (at + (new.len() - 1)) / PAGE_SIZE)?;
     put_in_pages(pages, at, new);
@@ -237,9 +235,8 @@ pub fn write(pages: &mut Pages, at: usize, new: &[u8]) -> Result<(), AllocError>
 /// The bytes from a place in memory to the end of its page.
 #[inline(always)]
 fn rest_of_page(pages: &Pages, at: usize) -> &[u8]
-    requires paged { IsPaged pages.now }
     requires first { at < memory_size }
-    ensures value { result.now ≡ take (page_size - at % page_size) (drop at (memory_bytes pages.now)) }
+    ensures value { result.now ≡ take (page_size - at % page_size) (drop at pages.now.space.bytes) }
     ensures len { length result.now ≡ page_size - at % page_size }
 {
     let place = pages.index[at / PAGE_SIZE];
@@ -249,9 +246,8 @@ fn rest_of_page(pages: &Pages, at: usize) -> &[u8]
 /// The byte at a place in memory.
 #[inline(always)]
 pub fn byte_at(pages: &Pages, at: usize) -> u8
-    requires paged { IsPaged pages.now }
     requires first { at < memory_size }
-    ensures { result ≡ little_number 1 (drop at (memory_bytes pages.now)) }
+    ensures { result ≡ little_number 1 (drop at pages.now.space.bytes) }
 {
     rest_of_page(pages, at)[0]
 }
@@ -259,10 +255,9 @@ pub fn byte_at(pages: &Pages, at: usize) -> u8
 /// The halfword at a place in memory, in one page.
 #[inline(always)]
 pub fn halfword_at(pages: &Pages, at: usize) -> u16
-    requires paged { IsPaged pages.now }
     requires first { at < memory_size }
     requires room { at % page_size + 2 ≤ page_size }
-    ensures { result ≡ little_number 2 (drop at (memory_bytes pages.now)) }
+    ensures { result ≡ little_number 2 (drop at pages.now.space.bytes) }
 {
     LittleEndian::read_u16(rest_of_page(pages, at))
 }
@@ -270,20 +265,18 @@ pub fn halfword_at(pages: &Pages, at: usize) -> u16
 /// The word at a place in memory, in one page.
 #[inline(always)]
 pub fn word_at(pages: &Pages, at: usize) -> u32
-    requires paged { IsPaged pages.now }
     requires first { at < memory_size }
     requires room { at % page_size + 4 ≤ page_size }
-    ensures { result ≡ little_number 4 (drop at (memory_bytes pages.now)) }
+    ensures { result ≡ little_number 4 (drop at pages.now.space.bytes) }
 {
     LittleEndian::read_u32(rest_of_page(pages, at))
 }
 
 /// Fills `out` with the bytes from a place in memory on.
 pub fn read(pages: &Pages, at: usize, out: &mut [u8])
-    requires paged { IsPaged pages.now }
     requires first { at < memory_size }
     requires room { at + length out.old ≤ memory_size }
-    ensures { out.new ≡ take (length out.old) (drop at (memory_bytes pages.now)) }
+    ensures { out.new ≡ take (length out.old) (drop at pages.now.space.bytes) }
 {
     let page = rest_of_page(pages, at);
     if out.len() <= page.len() {

@@ -9,8 +9,8 @@ returns-clause-bytes c =
     bytes_none (record { base = c.in_ok-base.base; index = c.extend_from_slice.new.self; own = c.in_ok-own.own }) c.args.image.now.segments (rw c.in_ok-base.ensures c.base.ensures)
     c.in_ok-own.ensures.items (rw (c.new-index.ensures.items, c.deref.ensures) at c.in_ok-extend_from_slice.ensures.items)
 
-pub returns-clause-paged : goal.returns-clause-paged
-returns-clause-paged c =
+pub invariant_of-result : goal.invariant_of-result
+invariant_of-result c =
     paged_none _ c.args.image.now.segments (rw c.in_ok-base.ensures c.base.ensures) c.in_ok-own.ensures.items (rw (c.new-index.ensures.items, c.deref.ensures) at c.in_ok-extend_from_slice.ensures.items)
 
 pub returns-clause-input : goal.returns-clause-input

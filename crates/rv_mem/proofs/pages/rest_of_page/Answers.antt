@@ -8,26 +8,27 @@ use Rattle.rv_mem.proofs.pages.rest_of_page.Goals as goal
 
 pub returns-clause-value : goal.returns-clause-value
 returns-clause-value c =
-    let p = c.args.pages.now in
+    let p = c.pages.inside in
     let place = c.args.at % 4096 in
     let number = c.args.at / 4096 in
-    let len = c.requires.paged.placed.len in
+    let len = c.pages.invariant.placed.len in
     let there = get_or_read p.index.items number c.index-place.result.now (omega arith) c.index-place.ensures 0 in
     let read = rw (c.deref-2.ensures.value, c.deref-3.ensures.value, c.deref.ensures, there) at c.page_at.ensures in
-    let page = page_is p c.requires.paged (get_or p.index.items number 0) c.page_at.result.now (c.requires.paged.placed.inside number 0 (omega arith)) read.shared read.own in
-    let size : length c.page_at.result.now ≡ 4096 = ap length page ∙ all_sized p c.requires.paged number 0 (omega arith) in
-    take_all (4096 - place) (drop place c.page_at.result.now) (omega (arith, length-drop place c.page_at.result.now))
+    let page = page_is p c.pages.invariant (get_or p.index.items number 0) c.page_at.result.now (c.pages.invariant.placed.inside number 0 (omega arith)) read.shared read.own in
+    let size : length c.page_at.result.now ≡ 4096 = ap length page ∙ all_sized p c.pages.invariant number 0 (omega arith) in
+    rw (← c.pages.view_is)
+    (take_all (4096 - place) (drop place c.page_at.result.now) (omega (arith, length-drop place c.page_at.result.now))
     ∙ ap (drop place) page
-    ∙ rest_one (page_at (all_pages p)) p.index.items c.args.at number 0 (all_sized p c.requires.paged) refl (omega arith)
+    ∙ rest_one (page_at (all_pages p)) p.index.items c.args.at number 0 (all_sized p c.pages.invariant) refl (omega arith))
 
 pub returns-clause-len : goal.returns-clause-len
 returns-clause-len c =
-    let p = c.args.pages.now in
+    let p = c.pages.inside in
     let place = c.args.at % 4096 in
     let number = c.args.at / 4096 in
-    let len = c.requires.paged.placed.len in
+    let len = c.pages.invariant.placed.len in
     let there = get_or_read p.index.items number c.index-place.result.now (omega arith) c.index-place.ensures 0 in
     let read = rw (c.deref-2.ensures.value, c.deref-3.ensures.value, c.deref.ensures, there) at c.page_at.ensures in
-    let page = page_is p c.requires.paged (get_or p.index.items number 0) c.page_at.result.now (c.requires.paged.placed.inside number 0 (omega arith)) read.shared read.own in
-    let size : length c.page_at.result.now ≡ 4096 = ap length page ∙ all_sized p c.requires.paged number 0 (omega arith) in
+    let page = page_is p c.pages.invariant (get_or p.index.items number 0) c.page_at.result.now (c.pages.invariant.placed.inside number 0 (omega arith)) read.shared read.own in
+    let size : length c.page_at.result.now ≡ 4096 = ap length page ∙ all_sized p c.pages.invariant number 0 (omega arith) in
     omega (arith, length-take (4096 - place) (drop place c.page_at.result.now), length-drop place c.page_at.result.now)

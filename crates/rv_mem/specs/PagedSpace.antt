@@ -1,0 +1,8 @@
+-- The pages of a call as their clauses see them. Private help of proofs; no public clause cites it.
+use Rattle.std.specs.Prelude.{ℕ, List}
+use Rattle.rv_mem.specs.Space.{Space}
+
+-- memory, and for each of its pages the place where it stands
+pub record PagedSpace : Type 0 where
+  pub space : Space
+  pub places : List ℕ
