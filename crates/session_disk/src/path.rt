@@ -10,7 +10,8 @@ ghost use Rattle.sqlite_store.specs.FileStore.{is_shielded, state, view};
 ghost use Rattle.session_disk.specs.Faults.{path_fault, system_fault, told_fault};
 ghost use Rattle.session_file.specs.Opening.{IsFresh};
 ghost use Rattle.session_disk.specs.Logs.{idle_bound, IsBeside, IsFoundIdle, IsGivenUp, Removes, RemovesOwn};
-ghost use Rattle.session_disk.specs.Opening.{IsOpened, image_of};
+ghost use Rattle.session_disk.specs.Opening.{files_left, image_of, FailsToOpen, IsCleanLeft, IsOpened};
+ghost use Rattle.session_disk.specs.declared.leftover.Leftover.{Leftover};
 ghost use Rattle.session_disk.specs.Sessions.{IsSessionFile};
 
 use crate::fault::OpenFault;
@@ -101,7 +102,8 @@ fn open_beside<D: Disk, F: LogFolder>(
     ensures guarded { IfOk result (λ opened. IsTrue (view opened.0).is_clean → is_shielded opened.0) }
     ensures log { IfOk result (λ opened. opened.1 ≡ log) }
     ensures keeps { OnOk result (Removes (F.view folder.old) (F.view folder.new) []) }
-    ensures given_up { IfErr result (λ e. (before : D) × (fault : OpenFault) × (told : ℕ) × (e.0 ≡ told_fault told fault) × IsGivenUp D.Disk fault before e.1.log log (F.view folder.old) (F.view folder.new)) }
+    ensures given_up { IfErr result (λ e. (rest : Leftover D D.Disk) × (fault : OpenFault) × (IsCleanLeft rest → FailsToOpen files rest fault) × (e.0 ≡ told_fault (both_counts (D.Disk.tally_of (files_left rest).0) (D.Disk.tally_of (files_left rest).1)).refused fault)
+        × IsGivenUp D.Disk fault (files_left rest).0 e.1.log log (F.view folder.old) (F.view folder.new)) }
 {
     match open_files(alloc, files, seed) {
         Ok(store) => Ok((store, log)),
