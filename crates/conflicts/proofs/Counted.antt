@@ -1,7 +1,7 @@
 -- The writers of each key, and how many waits there are at it.
 use Rattle.std.proofs.Common.{◌≡◌, ◌==◌, ◌+◌, ◌*◌, ◌^◌, ◌<◌, ◌≤◌, ◌++◌, ℕ, zero, suc, Bool, true, false, cond, List, [], ◌∷◌, map, reverse, take, length, Option, Some, None, is_some, T, refl, sym, ap, subst, ◌∙◌, arith, append-nil, append_assoc, length-append}
 use Rattle.std.specs.FinMap as finite
-use Rattle.std.specs.FinMap.Entries.{by_order, put}
+use Rattle.std.specs.FinMap.Entries.{below_all, by_order, put}
 use Rattle.std.specs.List.{enumerate_from, filter, flat_map, fold, range_with_len, slice_get}
 use Rattle.std.specs.Option.{UnwrapsOrElse, unwrap_or}
 use Rattle.std.specs.Ordering.{eq_by_cmp}
@@ -10,6 +10,7 @@ use Rattle.std.specs.declared.cmp.Ordering.{Ordering}
 use Rattle.std.specs.declared.cmp.Ordering.TheVariants.{Less, Equal, Greater}
 use Rattle.std.specs.Cmp.{eq_by_cmp_equiv}
 use Rattle.std.specs.Cmp.Lexicographic.{nat_list_cmp_total}
+use Rattle.std.proofs.Math.Facts.{and_yes}
 use Rattle.std.proofs.lemmas.Grind.{flat_map-append}
 use Rattle.std.proofs.lemmas.List.{length-reverse}
 use Rattle.std.proofs.lemmas.List.Elements.{filter-append}
@@ -17,6 +18,7 @@ use Rattle.std.proofs.lemmas.List.FromFn.{map-range_with_len_more}
 use Rattle.std.proofs.lemmas.List.Sums.{fold-append}
 use Rattle.std.proofs.lemmas.Slice.Eq.{bytes_eq-Decides}
 use Rattle.rv_ledger.proofs.Entries.{key_cmp-IsAntisymmetric}
+use Rattle.rv_ledger.proofs.SortedKeys.{not_below}
 use Rattle.rv_ledger.specs.Call.{Invocation}
 use Rattle.rv_ledger.specs.Change.{ContentChange}
 use Rattle.rv_ledger.specs.Key.{Storage, key_cmp}
@@ -29,7 +31,7 @@ use Rattle.conflicts.specs.Reads.{Keys, keys_read}
 use Rattle.conflicts.specs.Sums.{HotKeyView, all_waits, changes_key, hot_key_of, keys_of_calls, writers_at}
 use Rattle.conflicts.specs.Table.{waits_in}
 use Rattle.conflicts.specs.Waits.{CallView, Wait, call_of, calls_of, change_in, keys_of, waits_at, waits_for, waits_of, waits_over, writers_named}
-use Rattle.conflicts.proofs.Noted.{Names, absent, changed, changes_at, first, named_more, named_none, noted, receipt_at, second, tied}
+use Rattle.conflicts.proofs.Noted.{Names, changed, changes_at, named_more, named_none, noted, receipt_at, tied}
 
 -- the calls that were found at a key, or none yet
 pub found_or_none : (o : Option (List ℕ)) (P : List ℕ → Type 0) (calls : List ℕ) → UnwrapsOrElse o P calls → ((m : List ℕ) → P m → m ≡ []) → calls ≡ unwrap_or o []
@@ -311,14 +313,15 @@ module _ (receipts : List Receipt) (j : ℕ) (q : List ℕ) where
   at_keys (e ∷ es) h =
       let rest = flat_map (waits_at receipts j) (map (λ e. e.0) es) in
       ap length (filter-append (is_at_key q) (waits_at receipts j e.0) rest) ∙ length-append (filter (is_at_key q) (waits_at receipts j e.0)) (filter (is_at_key q) rest)
-      ∙ by_key (eq_by_cmp key_cmp q e.0) refl (at_keys es (second _ _ h))
+      ∙ by_key (eq_by_cmp key_cmp q e.0) refl (at_keys es (and_yes (below_all key_cmp e.0 es) (finite.is_sorted key_cmp es) h).1)
     where
       by_key : (b : Bool) → eq_by_cmp key_cmp q e.0 ≡ b
           → length (filter (is_at_key q) (flat_map (waits_at receipts j) (map (λ e. e.0) es))) ≡ cond (is_some (finite.find key_cmp q es)) here 0
           → length (filter (is_at_key q) (waits_at receipts j e.0)) + length (filter (is_at_key q) (flat_map (waits_at receipts j) (map (λ e. e.0) es))) ≡ cond (is_some (cond b (Some e.1) (finite.find key_cmp q es))) here 0
       by_key true same others =
-          let key : q ≡ e.0 = key_cmp-IsAntisymmetric q e.0 (tied (key_cmp q e.0) same) in
-          let none : finite.find key_cmp q es ≡ None = ap (λ k. finite.find key_cmp k es) key ∙ absent e.0 es (first _ _ h) in
+          let tie : key_cmp q e.0 ≡ Equal = tied (key_cmp q e.0) same in
+          let key : q ≡ e.0 = key_cmp-IsAntisymmetric q e.0 tie in
+          let none : finite.find key_cmp q es ≡ None = not_below q e.0 es tie (and_yes (below_all key_cmp e.0 es) (finite.is_sorted key_cmp es) h).0 in
           let own = at_one_key e.0 (writers_named receipts e.0 j) true (sym (same_test e.0 q) ∙ same) ∙ ap (λ k. length (writers_named receipts k j)) (sym key) in
           let zero_more = others ∙ ap (λ o. cond (is_some o) here 0) none in
           omega (arith, own, zero_more)

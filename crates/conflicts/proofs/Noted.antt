@@ -1,16 +1,18 @@
 -- The table of the pass names what the receipts of the calls before leave.
-use Rattle.std.proofs.Common.{◌≡◌, ◌&&◌, ◌++◌, ◌+◌, ℕ, zero, suc, Bool, true, false, cond, List, [], ◌∷◌, map, reverse, Option, Some, None, T, refl, sym, ap, ◌∙◌, arith}
+use Rattle.std.proofs.Common.{◌≡◌, ◌++◌, ◌+◌, ℕ, zero, suc, Bool, true, false, cond, List, [], ◌∷◌, map, reverse, Option, Some, None, T, refl, sym, ap, ◌∙◌, arith}
 use Rattle.std.specs.FinMap as finite
 use Rattle.std.specs.FinMap.Entries.{below_all}
 use Rattle.std.specs.List.{flat_map, fold, range_with_len, slice_get}
 use Rattle.std.specs.Option.{unwrap_or}
-use Rattle.std.specs.Ordering.{eq_by_cmp, is_eq, is_lt}
+use Rattle.std.specs.Ordering.{eq_by_cmp, is_eq}
 use Rattle.std.specs.declared.cmp.Ordering.{Ordering}
 use Rattle.std.specs.declared.cmp.Ordering.TheVariants.{Less, Equal, Greater}
 use Rattle.std.proofs.lemmas.List.{reverse-append}
 use Rattle.std.proofs.lemmas.List.FromFn.{map-range_with_len_more}
 use Rattle.std.specs.Cmp.Lexicographic.{nat_list_cmp_total}
+use Rattle.std.proofs.Math.Facts.{and_yes}
 use Rattle.rv_ledger.proofs.Entries.{key_cmp-IsAntisymmetric}
+use Rattle.rv_ledger.proofs.SortedKeys.{not_below}
 use Rattle.rv_ledger.specs.Call.{Invocation}
 use Rattle.rv_ledger.specs.Change.{ContentChange}
 use Rattle.rv_ledger.specs.Key.{Storage, key_cmp}
@@ -58,19 +60,6 @@ named_none receipts key = refl
 
 -- ---- the table
 
-pub first : (a b : Bool) → T (a && b) → T a
-first true b h = tt
-first false b h = h
-
-pub second : (a b : Bool) → T (a && b) → T b
-second true b h = h
-second false b h = absurd h
-
-not_tied : (o : Ordering) → T (is_lt o) → is_eq o ≡ false
-not_tied Less h = refl
-not_tied Equal h = absurd h
-not_tied Greater h = absurd h
-
 pub tied : (o : Ordering) → is_eq o ≡ true → o ≡ Equal
 tied Less e = cc
 tied Equal e = refl
@@ -78,11 +67,6 @@ tied Greater e = cc
 
 abbrev pub Changes : Type 0
 Changes = List (List ℕ × ContentChange)
-
-pub absent : {X : Type 0} (key : List ℕ) (es : List (List ℕ × X)) → T (below_all key_cmp key es) → finite.find key_cmp key es ≡ None
-absent key [] h = refl
-absent key (e ∷ es) h =
-    ap (λ b. cond b (Some e.1) (finite.find key_cmp key es)) (not_tied (key_cmp key e.0) (first _ _ h)) ∙ absent key es (second _ _ h)
 
 -- the calls at a key after a change there, if there is one
 abbrev pub changed : (ContentChange → List ℕ → List ℕ) → Option ContentChange → List ℕ → List ℕ
@@ -101,15 +85,17 @@ module _ (next : ContentChange → List ℕ → List ℕ) (q : List ℕ) where
   module _ (e : List ℕ × ContentChange) (es : Changes) (before : CallLists) (h : T (finite.is_sorted key_cmp (e ∷ es))) where
     first_change : (b : Bool) → eq_by_cmp key_cmp q e.0 ≡ b → changed next (finite.find key_cmp q es) (calls_at (one_changed before e) q) ≡ changed next (cond b (Some e.1) (finite.find key_cmp q es)) (calls_at before q)
     first_change true same =
-        let key : q ≡ e.0 = key_cmp-IsAntisymmetric q e.0 (tied (key_cmp q e.0) same) in
-        ap (λ o. changed next o (calls_at (one_changed before e) q)) (ap (λ k. finite.find key_cmp k es) key ∙ absent e.0 es (first _ _ h))
+        let tie : key_cmp q e.0 ≡ Equal = tied (key_cmp q e.0) same in
+        let key : q ≡ e.0 = key_cmp-IsAntisymmetric q e.0 tie in
+        let order = and_yes (below_all key_cmp e.0 es) (finite.is_sorted key_cmp es) h in
+        ap (λ o. changed next o (calls_at (one_changed before e) q)) (not_below q e.0 es tie order.0)
         ∙ at_insert before e.0 (next e.1 (calls_at before e.0)) true same
         ∙ ap (λ k. next e.1 (calls_at before k)) (sym key)
     first_change false other = ap (changed next (finite.find key_cmp q es)) (at_insert before e.0 (next e.1 (calls_at before e.0)) false other)
 
   pub changes_at : (es : Changes) (before : CallLists) → T (finite.is_sorted key_cmp es) → calls_at (fold one_changed before es) q ≡ changed next (finite.find key_cmp q es) (calls_at before q)
   changes_at [] before h = refl
-  changes_at (e ∷ es) before h = changes_at es (one_changed before e) (second _ _ h) ∙ first_change e es before h (eq_by_cmp key_cmp q e.0) refl
+  changes_at (e ∷ es) before h = changes_at es (one_changed before e) (and_yes (below_all key_cmp e.0 es) (finite.is_sorted key_cmp es) h).1 ∙ first_change e es before h (eq_by_cmp key_cmp q e.0) refl
 
 -- the calls that reads name, ascending
 abbrev rising : ℕ → ContentChange → List ℕ → List ℕ

@@ -1,5 +1,5 @@
 -- A table of the slots at each key: where a key stands, and what an edit does to it.
-use Rattle.std.proofs.Common.{◌≡◌, ◌<◌, ◌+◌, ◌⊎◌, ◌++◌, ℕ, suc, zero, Bool, true, false, ◌&&◌, T, cond, List, [], ◌∷◌, get_or, length, set, Option, None, Some, refl, sym, ap, subst, ◌∙◌, arith, inl, inr, slice_get}
+use Rattle.std.proofs.Common.{◌≡◌, ◌<◌, ◌+◌, ◌⊎◌, ◌++◌, ℕ, suc, zero, Bool, true, false, T, cond, List, [], ◌∷◌, get_or, length, set, Option, None, Some, refl, sym, ap, subst, ◌∙◌, arith, inl, inr, slice_get}
 use mathlib.Core.Bool.{false≢true}
 use Rattle.std.specs.BTreeMap.{is_at}
 use Rattle.std.specs.Cmp.{eq_by_cmp_equiv, tied_itself}
@@ -11,13 +11,14 @@ use Rattle.std.specs.List.Sorted.{IsStrictlySortedBy}
 use Rattle.std.specs.Map.{keys_of, lookup}
 use Rattle.std.specs.Option.{option_map, unwrap_or}
 use Rattle.std.specs.Ordering.{is_eq, is_lt}
-use Rattle.std.specs.declared.cmp.Ordering.{Ordering}
-use Rattle.std.specs.declared.cmp.Ordering.TheVariants.{Less, Equal, Greater}
+use Rattle.std.specs.declared.cmp.Ordering.TheVariants.{Less}
+use Rattle.std.proofs.Math.Facts.{and_yes}
 use Rattle.std.proofs.lemmas.Bool.{cases_eq}
 use Rattle.std.proofs.lemmas.Map.Lookups.{exact_bytes}
 use Rattle.std.proofs.lemmas.Map.Views.{tells_apart}
 use Rattle.std.proofs.lemmas.Option.{slice_get-get_or}
 use Rattle.rv_ledger.specs.Key.{key_cmp}
+use Rattle.rv_ledger.proofs.SortedKeys.{less}
 use Rattle.mvmap.specs.Hints.{hint_of, noted}
 use Rattle.mvmap.specs.KeyTable.{AreFound, AreIndexed, IsSetAt, Positions, in_order, key_at, numbered, position_of, positions_of, slots_in, writers_at}
 use Rattle.mvmap.specs.Slots.{ByKey}
@@ -52,23 +53,14 @@ position_is : (list : List KeySlots) (q : List ℕ) → position_of (positions_o
 unfolding positions_of
 position_is list q = looked_up (positions_of list) q ∙ sym (get-entries (from_entries (numbered 0 list)) q) ∙ get-from_entries nat_list_cmp_total (numbered 0 list) q
 
-both_true : (a b : Bool) → T (a && b) → (T a) × (T b)
-both_true true b h = (tt, h)
-both_true false b h = absurd h
-
-is_less : (r : Ordering) → T (is_lt r) → r ≡ Less
-is_less Less h = refl
-is_less Equal h = absurd h
-is_less Greater h = absurd h
-
 below_keys : (key : List ℕ) (es : Positions) → T (below_all key_cmp key es) → AllByRecursion (λ y. key_cmp key y ≡ Less) (keys_of es)
 below_keys key [] h = tt
-below_keys key (e ∷ es) h = let both = both_true (is_lt (key_cmp key e.0)) (below_all key_cmp key es) h in (is_less (key_cmp key e.0) both.0, below_keys key es both.1)
+below_keys key (e ∷ es) h = let both = and_yes (is_lt (key_cmp key e.0)) (below_all key_cmp key es) h in (less (key_cmp key e.0) both.0, below_keys key es both.1)
 
 rising : (es : Positions) → T (is_sorted key_cmp es) → IsStrictlySortedBy key_cmp (keys_of es)
 unfolding IsStrictlySortedBy
 rising [] h = tt
-rising (e ∷ es) h = let both = both_true (below_all key_cmp e.0 es) (is_sorted key_cmp es) h in (below_keys e.0 es both.0, rising es both.1)
+rising (e ∷ es) h = let both = and_yes (below_all key_cmp e.0 es) (is_sorted key_cmp es) h in (below_keys e.0 es both.0, rising es both.1)
 
 -- the keys ascend
 pub positions_sorted : (list : List KeySlots) → IsStrictlySortedBy key_cmp (keys_of (positions_of list))

@@ -3,6 +3,8 @@ use Rattle.std.proofs.Common.{◌≡◌, ◌≤◌, ◌<◌, ◌+◌, ◌==◌, 
 use Rattle.std.specs.Prelude.{codes, flat_map}
 use Rattle.std.specs.FinMap.{entries, entries_sorted, insert, empty}
 use Rattle.std.specs.FinMap.Entries.{below_all, is_sorted}
+use Rattle.std.specs.Ordering.{is_lt}
+use Rattle.std.proofs.Math.Facts.{and_yes}
 use Rattle.std.proofs.lemmas.Bool.Decides.{nat_tests}
 use Rattle.std.proofs.lemmas.List.Elements.{All-cons, All-head, All-tail}
 use Rattle.hex.specs.Hex.{encode_lower}
@@ -16,7 +18,7 @@ use Rattle.block_file.specs.Line.{◌>>=◌, cut, read_parts}
 use Rattle.block_file.specs.Block.{is_above, stored_of, with_line, with_fields, behind, block_of}
 use Rattle.block_file.proofs.Lines.{goes_on}
 use Rattle.round_trips.specs.Chained.{AreShort, IsEntry, IsReadBack, block_with, store_lines}
-use Rattle.round_trips.proofs.Sorted.{Entry, first, second, stored, stored_again}
+use Rattle.round_trips.proofs.Sorted.{Entry, stored, stored_again}
 use Rattle.round_trips.proofs.LineKinds.{state}
 use Rattle.round_trips.proofs.Lines.{content, line_cut, fields_cut, key_read, value_read, key_some, value_some}
 
@@ -57,7 +59,9 @@ is_true false h = absurd h
 
 next : (e : Entry) (es : List Entry) → T (is_sorted key_cmp (e ∷ es)) → GoesOn (Some e.0) es
 next e [] h = tt
-next e (f ∷ es) h = is_true _ (first _ _ (first (below_all key_cmp e.0 (f ∷ es)) _ h))
+next e (f ∷ es) h =
+    let below = (and_yes (below_all key_cmp e.0 (f ∷ es)) (is_sorted key_cmp (f ∷ es)) h).0 in
+    is_true (is_lt (key_cmp e.0 f.0)) (and_yes (is_lt (key_cmp e.0 f.0)) (below_all key_cmp e.0 es) below).0
 
 abbrev pub last_of : Option (List ℕ) → List Entry → Option (List ℕ)
 last_of last [] = last
@@ -68,7 +72,7 @@ pub lines_read : (rules : Rules) (programs : List (List ℕ)) (n : ℕ) (m : Sto
 lines_read rules programs n m last [] h sorted above = refl
 lines_read rules programs n m last (e ∷ es) h sorted above =
     goes_on with_line BadLine n (state rules programs m [] last) (state rules programs (insert m e.0 e.1) [] (Some e.0)) (content e) (map content es ++ [] ∷ []) (omega (arith, length-append (map content es) ([] ∷ []))) (line_read rules programs m last e (All-head (IsEntry rules) e es h) above)
-    ∙ lines_read rules programs (n + 1) (insert m e.0 e.1) (Some e.0) es (All-tail (IsEntry rules) e es h) (second (below_all key_cmp e.0 es) _ sorted) (next e es sorted)
+    ∙ lines_read rules programs (n + 1) (insert m e.0 e.1) (Some e.0) es (All-tail (IsEntry rules) e es h) (and_yes (below_all key_cmp e.0 es) (is_sorted key_cmp es) sorted).1 (next e es sorted)
 
 some_parts : (es : List Entry) → (length (map content es ++ [] ∷ []) == 0) ≡ false
 some_parts es = some (length (map content es ++ [] ∷ [])) (omega (arith, length-append (map content es) ([] ∷ [])))

@@ -1,40 +1,29 @@
 -- Entries that are put into a map in the order of their keys stand behind those before.
-use Rattle.std.proofs.Common.{◌≡◌, ℕ, Bool, true, false, ◌&&◌, T, List, [], ◌∷◌, ◌++◌, append_assoc, append-nil, length, arith, refl, sym, ap, subst, ◌∙◌}
-use Rattle.std.specs.declared.cmp.Ordering.{Ordering}
-use Rattle.std.specs.declared.cmp.Ordering.TheVariants.{Less, Equal, Greater}
+use Rattle.std.proofs.Common.{◌≡◌, ℕ, T, List, [], ◌∷◌, ◌++◌, append_assoc, append-nil, length, arith, refl, sym, ap, subst, ◌∙◌}
+use Rattle.std.specs.declared.cmp.Ordering.TheVariants.{Less, Greater}
 use Rattle.std.specs.Ordering.{is_lt, ordering_reverse}
 use Rattle.std.specs.Cmp.Lexicographic.{nat_list_cmp_total}
 use Rattle.std.specs.FinMap.{entries, entries_sorted, entries-insert, insert, empty, same_entries_map, len-entries, len-empty}
 use Rattle.std.specs.FinMap.Entries.{put, below_all, is_sorted}
+use Rattle.std.proofs.Math.Facts.{and_yes}
 use Rattle.rv_ledger.specs.Key.{Storage, key_cmp}
+use Rattle.rv_ledger.proofs.SortedKeys.{less}
 
 abbrev pub Entry : Type 0
 Entry = List ℕ × List ℕ
 
-pub first : (a b : Bool) → T (a && b) → T a
-first true b p = tt
-first false b p = absurd p
-
-pub second : (a b : Bool) → T (a && b) → T b
-second true b p = p
-second false b p = absurd p
-
-is_less : (o : Ordering) → T (is_lt o) → o ≡ Less
-is_less Less p = refl
-is_less Equal p = absurd p
-is_less Greater p = absurd p
-
 -- a key below all is below one of them
 below_one : (k : List ℕ) (xs ys : List Entry) (e : Entry) → T (below_all key_cmp k (xs ++ e ∷ ys)) → key_cmp k e.0 ≡ Less
-below_one k [] ys e h = is_less _ (first _ _ h)
-below_one k (x ∷ xs) ys e h = below_one k xs ys e (second _ _ h)
+below_one k [] ys e h = less (key_cmp k e.0) (and_yes (is_lt (key_cmp k e.0)) (below_all key_cmp k ys) h).0
+below_one k (x ∷ xs) ys e h = below_one k xs ys e (and_yes (is_lt (key_cmp k x.0)) (below_all key_cmp k (xs ++ e ∷ ys)) h).1
 
 -- an entry above all others is put behind them
 put_last : (xs ys : List Entry) (e : Entry) → T (is_sorted key_cmp (xs ++ e ∷ ys)) → put key_cmp e.0 e.1 xs ≡ xs ++ e ∷ []
 put_last [] ys e h = refl
 put_last (x ∷ xs) ys e h =
-    let above : key_cmp e.0 x.0 ≡ Greater = nat_list_cmp_total.antisymm e.0 x.0 ∙ ap ordering_reverse (below_one x.0 xs ys e (first _ _ h)) in
-    rw above (ap (λ (es : List Entry). x ∷ es) (put_last xs ys e (second _ _ h)))
+    let order = and_yes (below_all key_cmp x.0 (xs ++ e ∷ ys)) (is_sorted key_cmp (xs ++ e ∷ ys)) h in
+    let above : key_cmp e.0 x.0 ≡ Greater = nat_list_cmp_total.antisymm e.0 x.0 ∙ ap ordering_reverse (below_one x.0 xs ys e order.0) in
+    rw above (ap (λ (es : List Entry). x ∷ es) (put_last xs ys e order.1))
 
 -- the map with these entries put into it
 abbrev pub stored : Storage → List Entry → Storage

@@ -6,10 +6,10 @@ use Rattle.std.specs.Cmp.{tied_itself}
 use Rattle.std.specs.Cmp.Lexicographic.{nat_list_cmp_total}
 use Rattle.std.specs.FinMap.{FinMap, find, get, insert, remove, empty, entries, entries_sorted, is_sorted, get-entries, get-empty, get-insert, get-remove}
 use Rattle.std.specs.FinMap.Entries.{below_all}
+use Rattle.std.proofs.Math.Facts.{and_yes}
 use Rattle.std.proofs.lemmas.List.Elements.{All-nil, All-cons, All-head, All-tail}
 use Rattle.rv_ledger.specs.Key.{key_cmp}
-use Rattle.overlay.proofs.Commits.{not_below}
-use Rattle.round_trips.proofs.Sorted.{first, second}
+use Rattle.rv_ledger.proofs.SortedKeys.{not_below}
 
 module _ {X : Type 0} (P : X → Type 0) where
   abbrev pub EachValue : FinMap key_cmp X → Type 0
@@ -55,7 +55,8 @@ module _ {X : Type 0} (P : X → Type 0) where
   each_held [] sorted h = All-nil (λ entry. P entry.1)
   each_held (e ∷ es) sorted h =
       let here : P e.1 = rw (tied_itself nat_list_cmp_total e.0) at (h e.0) in
-      All-cons (λ entry. P entry.1) e es here (each_held es (second _ _ sorted) (behind_first e es (first _ _ sorted) h))
+      let order = and_yes (below_all key_cmp e.0 es) (is_sorted key_cmp es) sorted in
+      All-cons (λ entry. P entry.1) e es here (each_held es order.1 (behind_first e es order.0 h))
 
   pub entries_from : (m : FinMap key_cmp X) → EachValue m → EachEntry (entries m)
   entries_from m h = each_held (entries m) (entries_sorted m) (λ q. subst (λ (o : Option X). IfSome o P) (get-entries m q) (h q))

@@ -1,5 +1,5 @@
 -- A map of entries as a finite map: its values, one entry set, one gone, and its entries in order.
-use Rattle.std.proofs.Common.{◌≡◌, ◌+◌, ◌<◌, ◌≤◌, arith, length, nat_lt, is_some, if◌then◌else◌, ◌||◌, ℕ, List, [], ◌∷◌, Option, Some, None, Result, Ok, Err, OnErr, Bool, true, false, ◌&&◌, cond, refl, sym, ap, subst, ◌∙◌, T}
+use Rattle.std.proofs.Common.{◌≡◌, ◌+◌, ◌<◌, ◌≤◌, arith, length, nat_lt, is_some, if◌then◌else◌, ◌||◌, ℕ, List, [], ◌∷◌, Option, Some, None, Result, Ok, Err, OnErr, Bool, true, false, cond, refl, sym, ap, subst, ◌∙◌, T}
 use Rattle.std.specs.declared.cmp.Ordering.TheVariants.{Less}
 use Rattle.std.specs.List.{AllByRecursion, fold}
 use Rattle.std.specs.List.Sorted.{IsStrictlySortedBy}
@@ -11,6 +11,7 @@ use Rattle.std.specs.Cmp.Lexicographic.{nat_list_cmp_total}
 use Rattle.std.specs.FinMap.{find, empty, get, get-empty, insert, remove, from_entries, from_sorted, entries, len, len-entries, entries-from_sorted, get-from_sorted, is_sorted, get-from_entries, get-insert, get-remove, same_map, slice_cmp-IsAntisymmetric, nat_cmp-IsAntisymmetric, IsAntisymmetric}
 use Rattle.std.specs.FinMap.Entries.{below_all}
 use Rattle.std.specs.Map.{lookup, keys_of, update, update_all}
+use Rattle.std.proofs.Math.Facts.{yes_and}
 use Rattle.std.proofs.lemmas.Bool.Decides.{nat_tests}
 use Rattle.std.specs.BTreeMap.{is_at}
 use Rattle.rv_ledger.specs.Change.{ContentChange}
@@ -55,18 +56,14 @@ pub all_inserted : (es fs : List (List ℕ × List ℕ)) → ((q : List ℕ) →
 all_inserted es fs h = same_map nat_list_cmp_total key_cmp-IsAntisymmetric (from_entries fs) (inserted es) (λ q.
     get_value fs q ∙ h q ∙ sym (get_inserted es empty (λ _. None) (get-empty key_cmp) q))
 
-both_true : (a b : Bool) → T a → T b → T (a && b)
-both_true true b p q = q
-both_true false b p q = p
-
 below_all_of : {X : Type 0} (k : List ℕ) (es : List (List ℕ × X)) → AllByRecursion (λ y. key_cmp k y ≡ Less) (keys_of es) → T (below_all key_cmp k es)
 below_all_of k [] h = tt
-below_all_of k (e ∷ es) h = both_true _ _ (subst (λ r. T (is_lt r)) (sym h.0) tt) (below_all_of k es h.1)
+below_all_of k (e ∷ es) h = yes_and _ _ (subst (λ r. T (is_lt r)) (sym h.0) tt) (below_all_of k es h.1)
 
 sorted_of : {X : Type 0} (es : List (List ℕ × X)) → IsStrictlySortedBy key_cmp (keys_of es) → T (is_sorted key_cmp es)
 unfolding IsStrictlySortedBy
 sorted_of [] h = tt
-sorted_of (e ∷ es) h = both_true _ _ (below_all_of e.0 es h.0) (sorted_of es h.1)
+sorted_of (e ∷ es) h = yes_and _ _ (below_all_of e.0 es h.0) (sorted_of es h.1)
 
 -- the entries of the map that ascending entries make are those entries
 pub entries_in_order : {X : Type 0} (es : List (List ℕ × X)) → IsStrictlySortedBy key_cmp (keys_of es) → entries (from_entries {R = key_cmp} es) ≡ es

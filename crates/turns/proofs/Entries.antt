@@ -5,9 +5,12 @@ use Rattle.std.specs.Cmp.Lexicographic.{nat_list_cmp_total}
 use Rattle.std.specs.FinMap as map
 use Rattle.std.specs.List.{fold}
 use Rattle.std.specs.FinMap.{find, get, get-empty, get-entries, get-insert, insert, empty, is_sorted, entries_sorted}
+use Rattle.std.specs.FinMap.Entries.{below_all}
+use Rattle.std.proofs.Math.Facts.{and_yes}
 use Rattle.rv_ledger.specs.Key.{Storage, key_cmp}
+use Rattle.rv_ledger.proofs.SortedKeys.{not_below}
 use Rattle.overlay.specs.Overlay.{Changes, with_changes}
-use Rattle.overlay.proofs.Commits.{equal, first, not_below, second}
+use Rattle.overlay.proofs.Commits.{equal}
 use Rattle.overlay.proofs.WithChanges.{one_more_change, same_at_all}
 use Rattle.turns.specs.Turn.{put_over}
 
@@ -40,9 +43,10 @@ or_none None = refl
 get_put : (s : Storage) (es : List (List ℕ × List ℕ)) (q : List ℕ) → T (is_sorted key_cmp es) → get (put_each s es) q ≡ or_else (find key_cmp q es) (get s q)
 get_put s [] q h = refl
 get_put s (e ∷ es) q h =
-    get_put (insert s e.0 e.1) es q (second _ _ h) ∙ ap (or_else (find key_cmp q es)) (get-insert nat_list_cmp_total s e.0 e.1 q)
+    let order = and_yes (below_all key_cmp e.0 es) (is_sorted key_cmp es) h in
+    get_put (insert s e.0 e.1) es q order.1 ∙ ap (or_else (find key_cmp q es)) (get-insert nat_list_cmp_total s e.0 e.1 q)
     ∙ elim (eq_by_cmp key_cmp q e.0) as (λ b. eq_by_cmp key_cmp q e.0 ≡ b → or_else (find key_cmp q es) (cond b (Some e.1) (get s q)) ≡ or_else (cond b (Some e.1) (find key_cmp q es)) (get s q)) [
-      | true ↦ λ t. ap (λ o. or_else o (Some e.1)) (not_below q e.0 es (equal _ t) (first _ _ h))
+      | true ↦ λ t. ap (λ o. or_else o (Some e.1)) (not_below q e.0 es (equal _ t) order.0)
       | false ↦ λ t. refl
     ] refl
 
