@@ -9,8 +9,8 @@ ghost use Rattle.engines.specs.Engine.{IsOutputFault};
 use crate::counts::RunCounts;
 use crate::fault::Refusal;
 use byte_streams::Destination;
-use receipts::write_outcome;
-use rv_ledger::Outcome;
+use receipts::write_result;
+use rv_ledger::{Outcome, Receipt, Store};
 use std::alloc::Global;
 
 /// Writes the result of a run, and returns what its workers did.
@@ -26,7 +26,7 @@ pub(crate) fn write_counted<W: Destination>(
     ensures calls { IfOk result (λ counts. counts.calls ≡ length outcome.job.block) }
     ensures workers { IfOk result (λ counts. counts.workers.items ≡ outcome.counts.items) }
 {
-    match write_result(alloc, &outcome, out) {
+    match write_run(alloc, outcome.receipts.as_slice(), &outcome.store, out) {
         Ok(()) => Ok(counts_of(outcome)),
         Err(refusal) => Err(refusal),
     }
@@ -44,18 +44,19 @@ fn counts_of(outcome: Outcome) -> RunCounts
     }
 }
 
-/// Writes the result of a run.
-pub(crate) fn write_result<W: Destination>(
+/// Writes the result of a run: what each call did, and the storage after the last one.
+pub(crate) fn write_run<W: Destination>(
     alloc: Global,
-    outcome: &Outcome,
+    receipts: &[Receipt],
+    store: &Store,
     out: &mut W,
 ) -> Result<(), Refusal>
     ensures written { OnOk result (Appends (W.contents out.old) (W.contents out.new)
-        (result_text outcome.now.receipts.items outcome.now.store)) }
-    ensures refused { IfErr result (λ e. IsOutputFault (MayRefuse (W.may_fail out.old) (W.may_take_nothing out.old)) (result_text outcome.now.receipts.items outcome.now.store)
+        (result_text receipts.now store.now)) }
+    ensures refused { IfErr result (λ e. IsOutputFault (MayRefuse (W.may_fail out.old) (W.may_take_nothing out.old)) (result_text receipts.now store.now)
         (W.contents out.old) (W.contents out.new) e) }
 {
-    match write_outcome(alloc, outcome, out) {
+    match write_result(alloc, receipts, store, out) {
         Ok(()) => Ok(()),
         Err(fault) => Err(Refusal::Output(fault)),
     }

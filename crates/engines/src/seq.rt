@@ -9,10 +9,10 @@ ghost use Rattle.engines.specs.Engine.{answer_of, text_of, IsRefusedJob, IsRunFa
 use crate::fault::{Refusal, SeqFault};
 use crate::loading::load_job;
 use crate::program_source::Programs;
-use crate::results::write_result;
+use crate::results::write_run;
 use byte_streams::{Destination, Source};
 use rv_ledger::Job;
-use seq_exec::into_outcome;
+use seq_exec::into_result;
 use std::alloc::Global;
 
 /// Reads a block file to its end and parses it. Opens, reads and loads its programs in the order of their
@@ -39,8 +39,8 @@ fn seq_job<W: Destination>(alloc: Global, job: Job, out: &mut W) -> Result<(), R
     ensures written { OnOk result (Appends (W.contents out.old) (W.contents out.new) (text_of job)) }
     ensures refused { IfErr result (IsRunFault (MayRefuse (W.may_fail out.old) (W.may_take_nothing out.old)) (W.contents out.old) (W.contents out.new) job) }
 {
-    let Ok(outcome) = into_outcome(alloc, job) else {
+    let Ok(ran) = into_result(alloc, job) else {
         return Err(Refusal::Seq(SeqFault::Memory));
     };
-    write_result(alloc, &outcome, out)
+    write_run(alloc, ran.receipts.as_slice(), &ran.store, out)
 }

@@ -1,7 +1,7 @@
 //! The text, compared with one that was written by hand.
 
 use crate::asserts::assert_right;
-use receipts::{end_name, one_text_of, result_text, write_outcome};
+use receipts::{end_name, one_text_of, result_text, write_result};
 use rv_isa::{Reg, Regs};
 use rv_ledger::{
     Change, End, InlineBytes, Job, Key, Outcome, Receipt, Store, StoredOutput, Trap, Value,
@@ -112,11 +112,11 @@ fn write(writes: &mut Writes, key: [u8; 32], change: Change<Value>) -> Result<()
     Ok(())
 }
 
-/// Whether an outcome is written behind what an output holds.
+/// Whether an outcome's result is written behind what an output holds.
 fn is_written(alloc: Global, outcome: &Outcome) -> Result<bool, Fail> {
     let mut out = Vec::new(alloc);
     out.push(7)?;
-    write_outcome(alloc, outcome, &mut out)?;
+    write_result(alloc, outcome.receipts.as_slice(), &outcome.store, &mut out)?;
     Ok(match out.as_slice() {
         [7, rest @ ..] => rest == TEXT.as_bytes(),
         _ => false,

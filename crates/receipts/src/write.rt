@@ -8,20 +8,21 @@ ghost use Rattle.receipts.specs.Text.{result_text};
 use crate::buffer::TextBuffer;
 use crate::text::push_result;
 use byte_streams::{Destination, WriteFault};
-use rv_ledger::Outcome;
+use rv_ledger::{Receipt, Store};
 use std::alloc::Global;
 
-/// Writes the text of an outcome's receipts and storage, in pieces of 64 KiB. Refused as Memory before anything is
+/// Writes the text of receipts and a storage, in pieces of 64 KiB. Refused as Memory before anything is
 /// written, or as `write_whole` is; then a beginning of the text was written, and not all of it.
-pub fn write_outcome<W: Destination>(
+pub fn write_result<W: Destination>(
     alloc: Global,
-    outcome: &Outcome,
+    receipts: &[Receipt],
+    store: &Store,
     out: &mut W,
 ) -> Result<(), WriteFault>
     ensures ok { OnOk result (Appends (W.contents out.old) (W.contents out.new)
-        (result_text outcome.now.receipts.items outcome.now.store)) }
+        (result_text receipts.now store.now)) }
     ensures err { OnErr result (AppendsPart (W.contents out.old) (W.contents out.new)
-        (result_text outcome.now.receipts.items outcome.now.store)) }
+        (result_text receipts.now store.now)) }
     ensures cause { IfErr result (MayRefuse (W.may_fail out.old) (W.may_take_nothing out.old)) }
     ensures memory { IfErr result (λ e. e ≡ WriteFault.Memory → out.new ≡ out.old) }
     ensures same { (W.may_fail out.new → W.may_fail out.old) × (W.may_take_nothing out.new → W.may_take_nothing out.old) }
@@ -29,6 +30,6 @@ pub fn write_outcome<W: Destination>(
     let Ok(mut text) = TextBuffer::new(alloc) else {
         return Err(WriteFault::Memory);
     };
-    push_result(&mut text, outcome.receipts.as_slice(), &outcome.store, out);
+    push_result(&mut text, receipts, store, out);
     text.finish(out)
 }

@@ -32,7 +32,7 @@ pub use key::Key;
 pub use outcome::{Counts, Outcome};
 pub use receipt::Receipt;
 pub use rules::{Rules, SHORT_VALUE_LIMIT};
-pub use same::{same_call, same_content, same_job, same_store};
+pub use same::{same_call, same_job, same_store};
 pub use store::Store;
 pub use store_builder::StoreBuilder;
 pub use store_iter::StoreIter;

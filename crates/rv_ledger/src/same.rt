@@ -3,7 +3,6 @@
 ghost use Rattle.std.specs.Prelude.{◌≡◌, ◌↔◌, true};
 
 use crate::call::Call;
-use crate::inline_bytes::Value;
 use crate::job::Job;
 use crate::store::Store;
 use elf32::{Image, Segment};
@@ -87,16 +86,5 @@ pub fn same_store(left: &Store, right: &Store) -> bool
     match rest.next() {
         None => true,
         Some(_) => false,
-    }
-}
-
-/// Whether two contents are equal: both absent, or equal values.
-pub fn same_content(left: &Option<Value>, right: &Option<Value>) -> bool
-    ensures { (result ≡ true) ↔ (left.now ≡ right.now) }
-{
-    match (left, right) {
-        (None, None) => true,
-        (Some(left), Some(right)) => left.bytes() == right.bytes(),
-        _ => false,
     }
 }

@@ -40,6 +40,25 @@ pub fn into_outcome(alloc: Global, job: Job) -> Result<Outcome, AllocError>
     })
 }
 
+/// What the calls of a job did, in block order, and the storage after the last one.
+#[derive(Drop)]
+pub struct JobResult {
+    /// What each call did.
+    pub receipts: Vec<Receipt>,
+    /// The storage after the last call.
+    pub store: Store,
+}
+
+/// Runs the calls of a job one after another on its own storage, without a copy of it. Refused where memory ran out.
+pub fn into_result(alloc: Global, job: Job) -> Result<JobResult, AllocError>
+    ensures receipts { IfOk result (λ r. r.receipts.items ≡ receipts_of job.block job.store) }
+    ensures store { IfOk result (λ r. r.store ≡ store_after job.block job.store) }
+{
+    let Job { block, mut store } = job;
+    let receipts = run_all(alloc, block.calls(), &mut store)?;
+    Ok(JobResult { receipts, store })
+}
+
 /// Runs calls in order, each on the storage that the ones before it left. Refused where memory ran out,
 /// and then the storage may have some of their writes.
 #[tactic(auto, unfolding(rv_step::specs::Fold::receipts_of, rv_step::specs::Fold::store_after))]
