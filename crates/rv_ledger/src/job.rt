@@ -3,6 +3,7 @@
 ghost use Rattle.std.specs.Prelude.{◌≡◌, IfOk};
 
 use crate::call::Call;
+use crate::lent_block::LentBlock;
 use crate::store::Store;
 use std::alloc::{AllocError, Global};
 use std::marker::Model;
@@ -45,6 +46,16 @@ impl Block {
         ensures count { length self.now ≤ 1024 }
     {
         self.calls.as_slice()
+    }
+
+    /// The calls, lent.
+    pub fn lent(&self) -> LentBlock<'_>
+        ensures { result.calls.now ≡ self.now }
+    {
+        match LentBlock::of(self.calls()) {
+            Some(block) => block,
+            None => unreachable!(),
+        }
     }
 
     /// An equal block; refused where memory ran out.
