@@ -11,7 +11,8 @@ use Rattle.rv_ledger.specs.Key.{Storage, WriteMap, key_cmp}
 use Rattle.rv_ledger.specs.declared.change.Change.TheVariants as change
 use Rattle.rv_ledger.specs.declared.receipt.Receipt.{Receipt}
 use Rattle.rv_step.specs.Chain.{ends}
-use Rattle.rv_step.specs.Fold.{apply_writes, receipts_of, store_after_call, store_before}
+use Rattle.rv_ledger.specs.Applied.{apply_writes}
+use Rattle.rv_step.specs.Fold.{receipts_of, store_after_call, store_before}
 use Rattle.conflicts.specs.LeftOut.{IsClosed, Needs, items_where}
 use Rattle.conflicts.specs.Paths.{IsChain, WaitsFor, waits_in_call}
 use Rattle.conflicts.specs.Reads.{Keys, keys_read}

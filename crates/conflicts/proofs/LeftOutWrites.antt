@@ -5,7 +5,7 @@ use Rattle.std.specs.Ordering.{eq_by_cmp}
 use Rattle.rv_ledger.specs.Change.{Content, ContentChange, add, apply_change}
 use Rattle.rv_ledger.specs.Key.{Storage, WriteMap, key_cmp}
 use Rattle.rv_ledger.specs.declared.change.Change.TheVariants as change
-use Rattle.rv_step.specs.Fold.{apply_each, apply_write, apply_writes}
+use Rattle.rv_ledger.specs.Applied.{apply_each, apply_write, apply_writes}
 use Rattle.mvmap.proofs.Storages.{amount_added, key_removed, value_written}
 
 -- a change hides what was there

@@ -20,8 +20,8 @@ use crate::keys::KeySet;
 use crate::paths::path_over;
 use crate::reading::read_over;
 use crate::wait_counts::WaitCounts;
-use rv_ledger::{Call, Job, Key, Store};
-use rv_step::{RunRoom, apply_writes};
+use rv_ledger::{Call, Job, Key, Store, apply_writes};
+use rv_step::RunRoom;
 use std::alloc::{AllocError, Global};
 use std::marker::Model;
 

@@ -12,7 +12,7 @@ use Rattle.rv_mem.specs.declared.access.Access.TheVariants.{Execute}
 use Rattle.rv_names.specs.Text as names
 use Rattle.receipts.specs.Text.{word_text}
 use Rattle.rv_step.specs.declared.machine.Machine.{Machine}
-use Rattle.rv_step.specs.Fold.{apply_writes}
+use Rattle.rv_ledger.specs.Applied.{apply_writes}
 use Rattle.debugger.specs.declared.fault.ReplayFault.{ReplayFault}
 use Rattle.debugger.specs.declared.fault.ReplayFault.TheVariants.{NoSuchCall, AtEnd, BadRange, Memory}
 use Rattle.rv_step.specs.Step.{Progress}

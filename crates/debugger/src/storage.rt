@@ -3,8 +3,7 @@
 ghost use Rattle.std.specs.Prelude.{◌≡◌, take, IfOk};
 ghost use Rattle.debugger.specs.Replay.{store_left};
 
-use rv_ledger::{Receipt, Store};
-use rv_step::apply_writes;
+use rv_ledger::{Receipt, Store, apply_writes};
 use std::alloc::AllocError;
 
 /// The first `count` receipts, or all where there are fewer.

@@ -5,7 +5,7 @@ use Rattle.rv_ledger.specs.Call.{Invocation}
 use Rattle.rv_ledger.specs.Key.{Storage}
 use Rattle.rv_ledger.specs.declared.receipt.Receipt.{Receipt}
 use Rattle.rv_step.specs.Fold.{receipts_of, store_after}
-use Rattle.overlay.proofs.Receipts.{after_append, receipts_append}
+use Rattle.rv_step.proofs.CallsInOrder.{after_append, receipts_append}
 
 module _ (n : ℕ) (left now later : List Invocation) (s next : Storage) (front : now ≡ take n left) (back : later ≡ drop n left) (is : next ≡ store_after now s) where
   parts : now ++ later ≡ left

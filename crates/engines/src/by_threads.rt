@@ -44,7 +44,7 @@ impl<'a, R: Threads + Wait + Sync> ByThreads<'a, R> {
 
     /// Runs the calls of a frame behind the first ones: some in order where those used little gas, and the others by threads where
     /// that pays.
-    #[tactic(auto, using(overlay::proofs::Receipts::receipts_append, overlay::proofs::Receipts::after_append))]
+    #[tactic(auto, using(rv_step::proofs::CallsInOrder::receipts_append, rv_step::proofs::CallsInOrder::after_append))]
     fn run_behind(
         &mut self,
         alloc: Global,
@@ -128,7 +128,7 @@ impl<'a, R: Threads + Wait + Sync> ByThreads<'a, R> {
 impl<R: Threads + Wait + Sync> CallRunner for ByThreads<'_, R> {
     ghost ready = { IsSync R.row };
 
-    #[tactic(auto, using(overlay::proofs::Receipts::receipts_append, overlay::proofs::Receipts::after_append))]
+    #[tactic(auto, using(rv_step::proofs::CallsInOrder::receipts_append, rv_step::proofs::CallsInOrder::after_append))]
     fn run_calls(
         &mut self,
         alloc: Global,

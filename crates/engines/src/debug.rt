@@ -14,8 +14,8 @@ use crate::loading::load_job;
 use crate::program_source::Programs;
 use byte_streams::{Destination, Source};
 use debugger::{DebugFault, Replay, ReplayFault, debug_lines_to, opens_over_its_storage};
-use rv_ledger::{Call, Job, Store};
-use rv_step::{MachineRoom, apply_writes, receipt_over};
+use rv_ledger::{Call, Job, Store, apply_writes};
+use rv_step::{MachineRoom, receipt_over};
 use seq_exec::run_in_order;
 use std::alloc::{AllocError, Global};
 

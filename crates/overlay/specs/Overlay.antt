@@ -1,19 +1,13 @@
 -- Changes of a storage that are not made yet.
-use Rattle.std.specs.Prelude.{ℕ, List, [], ◌∷◌, Some, None, fold}
+use Rattle.std.specs.Prelude.{ℕ, List, [], ◌∷◌}
 use Rattle.std.specs.FinMap as map
 use Rattle.rv_ledger.specs.Change.{Content}
+use Rattle.rv_ledger.specs.Applied.{set_content}
 use Rattle.rv_ledger.specs.Key.{Storage, key_cmp}
-use Rattle.rv_ledger.specs.declared.receipt.Receipt.{Receipt}
-use Rattle.rv_step.specs.Fold.{apply_writes}
 
 -- what some keys are to have: a value, or None where the key is to be absent
 abbrev pub Changes : Type 0
 Changes = map.FinMap key_cmp Content
-
--- a storage in which a key has a content
-abbrev pub set_content : Storage → List ℕ → Content → Storage
-set_content store key (Some value) = map.insert store key value
-set_content store key None = map.remove store key
 
 -- a storage in which keys have contents, one set after another, the first of the list last
 abbrev pub with_contents : Storage → List (List ℕ × Content) → Storage
@@ -23,7 +17,3 @@ with_contents store (e ∷ es) = set_content (with_contents store es) e.0 e.1
 -- a storage with all changes made
 unfoldable pub with_changes : Storage → Changes → Storage
 with_changes store changes = with_contents store (map.entries changes)
-
--- a storage after the writes of receipts, one receipt after another
-abbrev pub apply_receipts : Storage → List Receipt → Storage
-apply_receipts store receipts = fold (λ before receipt. apply_writes before receipt.writes) store receipts

@@ -2,7 +2,8 @@
 
 ghost use Rattle.std.specs.Prelude.{◌≡◌, ℕ, List, IfOk, OnErr, OnOk};
 ghost use Rattle.std.specs.FinMap as map;
-ghost use Rattle.overlay.specs.Overlay.{Changes, with_changes, set_content};
+ghost use Rattle.rv_ledger.specs.Applied.{set_content};
+ghost use Rattle.overlay.specs.Overlay.{Changes, with_changes};
 ghost use Rattle.rv_ledger.specs.Key.{Storage};
 ghost use Rattle.overlay.specs.Commit.{AreAbsent, Fits, HasRoom, IsKnown, absent_of, all_set, grown, shrunk};
 

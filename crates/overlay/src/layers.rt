@@ -3,12 +3,12 @@
 ghost use Rattle.std.specs.Prelude.{◌≡◌, IfOk, OnErr, OnOk};
 ghost use Rattle.std.specs.FinMap as map;
 ghost use Rattle.std.specs.Option.{option_copied};
-ghost use Rattle.rv_step.specs.Fold.{apply_write, apply_writes};
-ghost use Rattle.overlay.specs.Overlay.{apply_receipts, set_content, with_changes};
+ghost use Rattle.rv_ledger.specs.Applied.{apply_write, apply_writes};
+ghost use Rattle.rv_ledger.specs.Applied.{apply_receipts, set_content};
+ghost use Rattle.overlay.specs.Overlay.{with_changes};
 
 use crate::overlay::Overlay;
-use rv_ledger::{Change, Key, Receipt, Store, StoredValue, Writes, add};
-use rv_step::Contents;
+use rv_ledger::{Change, Contents, Key, Receipt, Store, StoredValue, Writes, add};
 use std::alloc::AllocError;
 
 /// A storage with changes over it. It stands for the storage that has them.
@@ -63,13 +63,13 @@ pub fn copy_with_receipts(store: &Store, receipts: &[Receipt]) -> Result<Store, 
 {
     let mut after = store.copy()?;
     for receipt in receipts {
-        rv_step::apply_writes(&mut after, &receipt.writes)?;
+        rv_ledger::apply_writes(&mut after, &receipt.writes)?;
     }
     Ok(after)
 }
 
 /// Adds the writes of a call to the changes over a storage. Refused where memory ran out, and then some of them may be added.
-#[tactic(auto, unfolding(rv_step::specs::Fold::apply_writes))]
+#[tactic(auto, unfolding(rv_ledger::specs::Applied::apply_writes))]
 pub fn apply_writes(base: &Store, over: &mut Overlay, writes: &Writes) -> Result<(), AllocError>
     ensures { OnOk result (with_changes base.now over.new ≡ apply_writes (with_changes base.now over.old) writes.now) }
 {

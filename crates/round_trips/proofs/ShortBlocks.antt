@@ -17,7 +17,8 @@ use Rattle.rv_ledger.specs.Rules.{longest_value}
 use Rattle.rv_ledger.specs.declared.rules.Rules.{Rules}
 use Rattle.rv_ledger.specs.declared.rules.Rules.TheVariants.{One}
 use Rattle.rv_step.specs.Chain.{ends}
-use Rattle.rv_step.specs.Fold.{apply_each, apply_write, apply_writes, store_after, store_after_call}
+use Rattle.rv_ledger.specs.Applied.{apply_each, apply_write, apply_writes}
+use Rattle.rv_step.specs.Fold.{store_after, store_after_call}
 use Rattle.programs.specs.Programs.{call_over}
 use Rattle.block_file.specs.declared.fault.Cause.{Cause}
 use Rattle.block_file.specs.declared.fault.Cause.TheVariants.{BadLine}

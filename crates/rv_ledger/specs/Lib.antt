@@ -7,3 +7,4 @@ pub mod Job
 pub mod Inserted
 pub mod KeyHash
 pub mod Positions
+pub mod Applied

@@ -3,8 +3,10 @@
 //! them.
 #![tactic(auto)]
 
+mod applying;
 mod call;
 mod change;
+mod contents;
 mod end;
 mod entry_table;
 mod hash;
@@ -23,8 +25,10 @@ mod store_iter;
 mod stored_bytes;
 mod writes;
 
+pub use applying::apply_writes;
 pub use call::{Call, CallFault, GAS_LIMIT, INPUT_LIMIT};
 pub use change::{Change, add, wrapping_sum};
+pub use contents::Contents;
 pub use end::{End, Trap};
 pub use hash::key_hash;
 pub use inline_bytes::{InlineBytes, OUTPUT_LIMIT, Output, VALUE_LIMIT, Value};

@@ -14,3 +14,4 @@ pub mod Stops
 pub mod Walks
 pub mod StorageRuns
 pub mod WriteLimit
+pub mod CallsInOrder

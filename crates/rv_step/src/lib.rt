@@ -19,7 +19,6 @@ mod page_walk;
 mod run;
 mod run_room;
 mod stage;
-mod storage;
 mod storage_calls;
 
 pub use answer::StorageAnswer;
@@ -27,8 +26,7 @@ pub use ended_run::EndedRun;
 pub use laws::{call_ends, charged_steps_within_gas, each_step_takes_gas, one_receipt};
 pub use machine::Machine;
 pub use machine_room::MachineRoom;
-pub use over::{Contents, receipt_over};
+pub use over::receipt_over;
 pub use run::{Pause, Run};
 pub use run_room::RunRoom;
 pub use stage::Stage;
-pub use storage::apply_writes;

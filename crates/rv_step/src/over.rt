@@ -1,10 +1,7 @@
 //! The run of one call over a storage, without a list of the storage's answers.
 
-ghost use Rattle.std.specs.FinMap as map;
-ghost use Rattle.std.specs.Option.{option_copied};
 ghost use Rattle.std.specs.Prelude.{◌≡◌, ◌<◌, IfOk, OnOk, false};
 ghost use Rattle.rv_mem.specs.Code.{HasCode};
-ghost use Rattle.rv_ledger.specs.Key.{Storage};
 ghost use Rattle.rv_ledger.specs.Call.{Invocation};
 ghost use Rattle.rv_step.specs.Chain.{ends};
 ghost use Rattle.rv_step.specs.Over.{IsBeginningOver, is_ended};
@@ -15,25 +12,8 @@ use crate::machine_room::MachineRoom;
 use crate::run::{receipt, run_until_stop};
 use crate::stage::{Stage, is_ended};
 use elf32::BasePages;
-use rv_ledger::{Call, Key, Receipt, Store, StoredValue};
+use rv_ledger::{Call, Contents, Receipt, StoredValue};
 use std::alloc::{AllocError, Global};
-
-/// What a call reads: a storage, or what stands for one.
-pub trait Contents {
-    ghost storage: { Self → Storage };
-
-    /// The value at a key, or None where it is absent.
-    fn get(&self, key: &Key) -> Option<&StoredValue>
-        ensures { option_copied result ≡ map.get (storage self.now) key.now };
-}
-
-impl Contents for Store {
-    ghost storage = { λ s. s };
-
-    fn get(&self, key: &Key) -> Option<&StoredValue> {
-        Store::get(self, key)
-    }
-}
 
 /// The receipt of a call that is run over a storage. It takes no room for the storage's answers. The call's machine
 /// begins in the place of an earlier call's, and leaves it to the next. Refused where memory ran out.

@@ -1,8 +1,7 @@
 //! A storage with changes over it, which counts how often it is asked.
 
 use overlay::Layers;
-use rv_ledger::{Key, StoredValue};
-use rv_step::Contents;
+use rv_ledger::{Contents, Key, StoredValue};
 use std::cell::Cell;
 
 /// A storage with changes over it, and a count of how often it was asked for a key.

@@ -8,8 +8,8 @@ ghost use Rattle.std.specs.Prelude.{◌≡◌, [], IfOk, OnOk};
 ghost use Rattle.rv_step.specs.Fold.{receipts_of, store_after};
 
 pub use on_storage::{run_counted, run_over};
-use rv_ledger::{Call, Job, Outcome, Receipt, Store};
-use rv_step::{MachineRoom, apply_writes, receipt_over};
+use rv_ledger::{Call, Job, Outcome, Receipt, Store, apply_writes};
+use rv_step::{MachineRoom, receipt_over};
 use std::alloc::{AllocError, Global};
 
 /// Runs the calls of a job one after another on one storage, which starts as the job's. The outcome has

@@ -8,7 +8,8 @@ use Rattle.rv_ledger.specs.Change.{Content}
 use Rattle.rv_ledger.specs.Key.{Storage, key_cmp}
 use Rattle.entry_tree.specs.Entries.{rows_of, with_content, changed_rows}
 use Rattle.entry_tree.proofs.Rows.{changed, below_first, sorted_rest}
-use Rattle.overlay.specs.Overlay.{Changes, set_content, with_changes}
+use Rattle.rv_ledger.specs.Applied.{set_content}
+use Rattle.overlay.specs.Overlay.{Changes, with_changes}
 use Rattle.session_file.specs.Kept.{AreEntries}
 use Rattle.session_file.proofs.Limits.{entries_set}
 use Rattle.overlay.proofs.WithChanges.{content_or, same_at_all, get_set, get_with_changes}

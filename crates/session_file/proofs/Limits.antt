@@ -10,7 +10,7 @@ use Rattle.rv_ledger.specs.Change.{Content}
 use Rattle.rv_ledger.specs.Key.{Storage, key_cmp}
 use Rattle.entry_tree.specs.Entries.{ByteMap, IsTooLong}
 use Rattle.entry_tree.proofs.Rows.{entries-remove}
-use Rattle.overlay.specs.Overlay.{set_content}
+use Rattle.rv_ledger.specs.Applied.{set_content}
 use Rattle.session_file.specs.Kept.{AreEntries, AreNamed}
 
 abbrev Pairs : Type 0

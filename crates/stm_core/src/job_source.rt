@@ -5,8 +5,7 @@ ghost use Rattle.std.specs.Option.{option_copied};
 ghost use Rattle.std.specs.Prelude.{◌≡◌};
 ghost use Rattle.rv_ledger.specs.declared.job.Job.{Job};
 
-use rv_ledger::{Block, Job, Key, StoredValue};
-use rv_step::Contents;
+use rv_ledger::{Block, Contents, Job, Key, StoredValue};
 
 /// What holds a job: its calls, and its storage or what stands for one.
 pub trait JobSource: Drop {

@@ -9,7 +9,8 @@ use Rattle.rv_ledger.specs.declared.outcome.Counts.{Counts}
 use Rattle.rv_ledger.specs.declared.receipt.Receipt.{Receipt}
 use Rattle.rv_step.specs.Moment.{Reply}
 use Rattle.rv_step.specs.Chain.{AreFrom, borne_out, ends}
-use Rattle.rv_step.specs.Fold.{apply_writes, store_after, store_after_call, store_before}
+use Rattle.rv_ledger.specs.Applied.{apply_writes}
+use Rattle.rv_step.specs.Fold.{store_after, store_after_call, store_before}
 use Rattle.rv_step.specs.Replies.{reply_of, replies_of}
 use Rattle.rv_step.specs.declared.answer.StorageAnswer.{StorageAnswer}
 use Rattle.rv_step.proofs.Askings.{chain_asks}

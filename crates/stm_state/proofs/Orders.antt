@@ -7,7 +7,8 @@ use Rattle.rv_ledger.specs.Call.{Invocation}
 use Rattle.rv_ledger.specs.declared.receipt.Receipt.{Receipt}
 use Rattle.rv_step.specs.Moment.{Reply}
 use Rattle.rv_step.specs.Chain.{AreFrom, ends}
-use Rattle.rv_step.specs.Fold.{apply_writes, receipts_of, store_after, store_after_call}
+use Rattle.rv_ledger.specs.Applied.{apply_writes}
+use Rattle.rv_step.specs.Fold.{receipts_of, store_after, store_after_call}
 use Rattle.rv_step.proofs.Receipts.{one_receipt_lem}
 use Rattle.stm_state.specs.State.{fresh}
 use Rattle.stm_state.specs.Done.{last_receipt, borne_out_by, block_of, DoneIsInOrder}

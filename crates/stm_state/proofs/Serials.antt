@@ -12,7 +12,7 @@ use Rattle.rv_ledger.specs.declared.receipt.Receipt.{Receipt}
 use Rattle.read_set.specs.Origin.{Origin, named}
 use Rattle.rv_step.specs.Moment.{Reply}
 use Rattle.rv_step.specs.Chain.{AreFrom}
-use Rattle.rv_step.specs.Fold.{apply_writes}
+use Rattle.rv_ledger.specs.Applied.{apply_writes}
 use Rattle.rv_step.specs.Replies.{replies_of}
 use Rattle.rv_step.specs.declared.answer.StorageAnswer.{StorageAnswer}
 use Rattle.mvmap.specs.Versions.{Versions, Estimate, Stands, entry_at}

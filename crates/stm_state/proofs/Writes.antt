@@ -15,7 +15,7 @@ use Rattle.std.proofs.lemmas.Map.Views.{tells_apart}
 use Rattle.rv_ledger.specs.Change.{Content, ContentChange, add, apply_change}
 use Rattle.rv_ledger.specs.declared.change.Change.TheVariants as change
 use Rattle.rv_ledger.specs.Key.{Storage, WriteMap, key_cmp}
-use Rattle.rv_step.specs.Fold.{apply_writes, apply_write}
+use Rattle.rv_ledger.specs.Applied.{apply_writes, apply_write}
 use Rattle.mvmap.specs.Versions.{Entry, Stands, Estimate, Place, Versions, changed, place_cmp}
 use Rattle.mvmap.proofs.Places.{get_changed, get_other}
 use Rattle.stm_state.specs.declared.state.Recorded.{Recorded}

@@ -7,7 +7,8 @@ use Rattle.rv_ledger.specs.Call.{Invocation}
 use Rattle.rv_ledger.specs.declared.receipt.Receipt.{Receipt}
 use Rattle.rv_step.specs.Moment.{Reply}
 use Rattle.rv_step.specs.Chain.{AreFrom, borne_out}
-use Rattle.rv_step.specs.Fold.{apply_writes, receipts_of, store_after}
+use Rattle.rv_ledger.specs.Applied.{apply_writes}
+use Rattle.rv_step.specs.Fold.{receipts_of, store_after}
 use Rattle.mvmap.specs.Versions.{HasNoEstimate, entry_at}
 use Rattle.mvmap.specs.Reading.{value_seen, reading}
 use Rattle.stm_state.specs.declared.state.CallState.{CallState}

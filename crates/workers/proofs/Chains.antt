@@ -4,7 +4,7 @@ use Rattle.std.specs.Global.{Vec}
 use Rattle.rv_ledger.specs.Key.{Storage}
 use Rattle.rv_ledger.specs.Call.{Invocation}
 use Rattle.rv_ledger.specs.declared.receipt.Receipt.{Receipt}
-use Rattle.overlay.proofs.Receipts.{after_append}
+use Rattle.rv_step.proofs.CallsInOrder.{after_append}
 use Rattle.rv_step.specs.Fold.{store_after}
 use Rattle.rv_ledger.specs.declared.job.Job.{Job}
 use Rattle.stm_state.specs.Steps as steps

@@ -19,8 +19,7 @@ use crate::gate::{Gate, Open};
 use crate::shared::Shared;
 use crate::worker::work;
 use overlay::copy_with_receipts;
-use rv_ledger::{Block, Job, Outcome};
-use rv_step::Contents;
+use rv_ledger::{Block, Contents, Job, Outcome};
 use std::alloc::{AllocError, Global};
 use std::marker::Brand;
 use std::sync::Wait;
@@ -99,7 +98,7 @@ impl Executor {
 
     /// `run_block` with a gate. Each thread passes it between the end of a run and its record, and may be
     /// held there.
-    #[tactic(auto, using(overlay::proofs::Receipts::receipts_applied, crate::proofs::Runs::history_is_bounded))]
+    #[tactic(auto, using(rv_step::proofs::CallsInOrder::receipts_applied, crate::proofs::Runs::history_is_bounded))]
     pub fn run_block_with<R: Threads + Wait + Sync, G: Gate + Sync>(
         &mut self,
         rt: &R,

@@ -4,8 +4,7 @@ use crate::executor::Executor;
 use crate::fault::RunFault;
 use crate::gate::Open;
 use overlay::{Layers, Overlay, apply_receipts, commit};
-use rv_ledger::{Block, Receipt, Store};
-use rv_step::Contents;
+use rv_ledger::{Block, Contents, Receipt, Store};
 use std::alloc::{AllocError, Global};
 use std::sync::Wait;
 use std::thread::Threads;
@@ -78,7 +77,7 @@ impl Executor {
 
     /// The same with a limit: where there is one, it is refused as StepLimit also where a worker has made so many steps, asks
     /// aside. Where it answers Ok, each worker has made no more steps, asks aside, than the limit.
-    #[tactic(auto, using(overlay::proofs::Receipts::receipts_applied))]
+    #[tactic(auto, using(rv_step::proofs::CallsInOrder::receipts_applied))]
     pub fn run_over_changes_within<R: Threads + Wait + Sync>(
         &mut self,
         rt: &R,

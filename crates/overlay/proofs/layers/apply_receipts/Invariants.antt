@@ -1,5 +1,6 @@
 use Rattle.std.proofs.Common.{◌≡◌, take}
-use Rattle.overlay.specs.Overlay.{apply_receipts, with_changes}
+use Rattle.rv_ledger.specs.Applied.{apply_receipts}
+use Rattle.overlay.specs.Overlay.{with_changes}
 use Rattle.overlay.proofs.layers.apply_receipts.Given as goal
 
 abbrev pub invariant-loop-receipt : goal.invariant-loop-receipt

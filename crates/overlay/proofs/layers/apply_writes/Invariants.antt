@@ -1,6 +1,6 @@
 use Rattle.std.proofs.Common.{◌≡◌, take}
 use Rattle.std.specs.FinMap as fin
-use Rattle.rv_step.specs.Fold.{apply_each}
+use Rattle.rv_ledger.specs.Applied.{apply_each}
 use Rattle.overlay.specs.Overlay.{with_changes}
 use Rattle.overlay.proofs.layers.apply_writes.Given as goal
 

@@ -1,5 +1,5 @@
 use Rattle.std.proofs.Common.{◌≡◌, take}
-use Rattle.overlay.specs.Overlay.{apply_receipts}
+use Rattle.rv_ledger.specs.Applied.{apply_receipts}
 use Rattle.overlay.proofs.layers.copy_with_receipts.Given as goal
 
 abbrev pub invariant-loop-receipt : goal.invariant-loop-receipt

@@ -1,10 +1,10 @@
 -- The writes of the receipts of calls, and calls after calls.
 use Rattle.std.proofs.Common.{◌≡◌, List, [], ◌∷◌, ◌++◌, ap, refl}
+use Rattle.rv_ledger.specs.Applied.{apply_receipts}
 use Rattle.rv_ledger.specs.Call.{Invocation}
 use Rattle.rv_ledger.specs.Key.{Storage}
 use Rattle.rv_step.specs.Chain.{ends}
 use Rattle.rv_step.specs.Fold.{receipts_of, store_after, store_after_call}
-use Rattle.overlay.specs.Overlay.{apply_receipts}
 
 -- the writes of the receipts of calls leave what the calls do
 pub receipts_applied : (calls : List Invocation) (s : Storage) → apply_receipts s (receipts_of calls s) ≡ store_after calls s
