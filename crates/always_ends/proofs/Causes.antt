@@ -27,16 +27,16 @@ use Rattle.stm_state.specs.Done.{started}
 use Rattle.stm_state.specs.Parts.{has_key}
 use Rattle.stm_state.proofs.Invariant.{view_of, Invariant, IsMoved, IsUnmovedEntry, named_by, owned_by, run_by}
 use Rattle.stm_state.proofs.Lists.{ChangesAt, all_same, each_at, replicated, stays_at, set_at}
-use Rattle.stm_state.proofs.Cases.{IsMade, by_ask, by_read, by_park, by_record, by_move, by_finish, by_check, by_decide, by_mark, by_abort, made}
+use Rattle.stm_state.proofs.StepsByTask.{IsMade, by_ask, by_read, by_park, by_record, by_move, by_finish, by_check, by_decide, by_mark, by_abort, made}
 use Rattle.stm_state.proofs.Checks.{executed_at_says}
 use Rattle.stm_state.proofs.OneCallChanges.{marked_owned, owned_status, unowned}
 use Rattle.stm_state.proofs.Resumptions.{readied_cases, parked_aborting}
 use Rattle.stm_state.proofs.Rounds.{each_stands}
 use Rattle.stm_state.proofs.SafeReads.{on_estimates}
 use Rattle.stm_state.proofs.Tests.{lt_is, lt_says, equal_says}
-use Rattle.stm_state.proofs.Whole.{invariant_kept, worker_kept}
+use Rattle.stm_state.proofs.InvariantKept.{invariant_kept, worker_kept}
 use Rattle.stm_state.proofs.Writes.{changed_other}
-use Rattle.never_stuck.proofs.Seen.{AllStand, ReadOutcome, answers_run, blocks_run, answered_stand, read_outcome}
+use Rattle.never_stuck.proofs.RunReads.{AllStand, ReadOutcome, answers_run, blocks_run, answered_stand, read_outcome}
 use Rattle.always_ends.proofs.Finished.{ended, resumed, resumed_at, resumed_other}
 use Rattle.always_ends.proofs.Measure.{Bounds}
 use Rattle.always_ends.proofs.NewKeys.{if_new}

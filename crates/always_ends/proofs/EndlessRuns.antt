@@ -8,9 +8,9 @@ use Rattle.stm_state.specs.State.{State, start, task_at, is_done}
 use Rattle.stm_state.specs.Steps.{Block, Step, Ask, ReadKey, Park, Record, MoveKey, FinishExecution, CheckRead, Decide, MarkEstimate, FinishAbort, worker_step}
 use Rattle.stm_state.specs.Done.{Reached, started, stepped}
 use Rattle.stm_state.specs.Dones.{dones_of}
-use Rattle.stm_state.proofs.Cases.{IsMade, by_ask, by_read, by_park, by_record, by_move, by_finish, by_check, by_decide, by_mark, by_abort, made}
+use Rattle.stm_state.proofs.StepsByTask.{IsMade, by_ask, by_read, by_park, by_record, by_move, by_finish, by_check, by_decide, by_mark, by_abort, made}
 use Rattle.stm_state.proofs.Dones.{asked_at_done, done_after, dones_grow, others_stay}
-use Rattle.stm_state.proofs.Whole.{invariant_kept}
+use Rattle.stm_state.proofs.InvariantKept.{invariant_kept}
 use Rattle.never_stuck.proofs.IdleStates.{done_is}
 use Rattle.always_ends.specs.Work.{is_idle_asking, most_incarnations, work_of}
 use Rattle.always_ends.specs.Schedules.{IsFair}

@@ -10,11 +10,11 @@ use Rattle.rv_ledger.specs.Call.{Invocation}
 use Rattle.stm_state.specs.State.{State, start, is_done}
 use Rattle.stm_state.specs.Steps.{Limit}
 use Rattle.stm_state.specs.Dones.{dones_of}
-use Rattle.stm_state.specs.Drive.{DrivenTo, at_start, Refusal, Limited, driven, drive_of}
+use Rattle.stm_state.specs.Drive.{DrivenTo, at_start, DriveRefusal, Limited, driven, drive_of}
 use Rattle.stm_state.specs.Done.{block_of}
 use Rattle.stm_state.proofs.Lists.{all_append}
 use Rattle.stm_state.proofs.DueSteps.{reached_where_led}
-use Rattle.stm_state.proofs.Whole.{invariant_kept}
+use Rattle.stm_state.proofs.InvariantKept.{invariant_kept}
 use Rattle.never_stuck.specs.Far.{HasAtMostGas}
 use Rattle.always_ends.specs.Work.{HasAtMost, IsSmall, incarnations, most_incarnations, most_work, work_by_incarnation}
 use Rattle.always_ends.specs.Schedules.{IsRound, first_entries, Ends, at_end, at_limit}
@@ -53,13 +53,13 @@ module _ (calls : List Invocation) (store : Storage) (workers gas : ℕ) (some :
   begins_with = length calls * cost bounds
 
   -- what a list comes to from a state on
-  abbrev IsAtEnd : Result State Refusal → Type 0
+  abbrev IsAtEnd : Result State DriveRefusal → Type 0
   IsAtEnd r = ((t : State) × (r ≡ Ok t) × ((w : ℕ) → w < workers → 0 < dones_of w t)) ⊎ ((limit : Limit) × (r ≡ Err (Limited limit)))
 
   abbrev Comes : List ℕ → State → Type 0
   Comes list s = IsAtEnd (driven calls store workers list s)
 
-  comes_by : (list : List ℕ) (s : State) (r : Result State Refusal) → driven calls store workers list s ≡ r → IsAtEnd r → Comes list s
+  comes_by : (list : List ℕ) (s : State) (r : Result State DriveRefusal) → driven calls store workers list s ≡ r → IsAtEnd r → Comes list s
   comes_by list s r e (inl h) = inl (h.0, e ∙ h.1, h.2)
   comes_by list s r e (inr h) = inr (h.0, e ∙ h.1)
 

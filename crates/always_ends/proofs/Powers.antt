@@ -6,7 +6,7 @@ use Rattle.stm_state.specs.Limits.{incarnation_limit}
 use Rattle.stm_state.specs.State.{State, fresh, call_at, task_at}
 use Rattle.stm_state.specs.Steps.{Block}
 use Rattle.stm_state.specs.Done.{Reached, started, stepped}
-use Rattle.stm_state.proofs.Whole.{invariant_kept}
+use Rattle.stm_state.proofs.InvariantKept.{invariant_kept}
 use Rattle.always_ends.specs.Work.{HasAtMost, incarnations, most_incarnations}
 use Rattle.always_ends.specs.Laws.{AllIncarnationsAreBounded, IncarnationsAreBounded, IncarnationsHaveCauses}
 use Rattle.always_ends.proofs.Sums.{sum_to, sum_alike, sum_le, sum_list, sum_none, sum_pair, sum_same, grown, grows}

@@ -19,13 +19,13 @@ use Rattle.stm_state.specs.Steps.{Step, Record, MoveKey, FinishExecution, MarkEs
 use Rattle.stm_state.specs.Done.{Reached, started, stepped}
 use Rattle.stm_state.proofs.Invariant.{Invariant, entry_by, named_by, owned_by, run_by, turned_by, view_of}
 use Rattle.stm_state.proofs.Lists.{ChangesAt, replicated, stays_at, set_at}
-use Rattle.stm_state.proofs.Cases.{IsMade, by_ask, by_read, by_park, by_record, by_move, by_finish, by_check, by_decide, by_mark, by_abort, made}
+use Rattle.stm_state.proofs.StepsByTask.{IsMade, by_ask, by_read, by_park, by_record, by_move, by_finish, by_check, by_decide, by_mark, by_abort, made}
 use Rattle.stm_state.proofs.Checks.{executed_at_says}
 use Rattle.stm_state.proofs.OneCallChanges.{unturned_run}
 use Rattle.stm_state.proofs.Resumptions.{readied_cases}
 use Rattle.stm_state.proofs.Tests.{is_ready_says, lt_is, lt_says, not_lt_is}
-use Rattle.stm_state.proofs.Whole.{invariant_kept}
-use Rattle.never_stuck.proofs.Seen.{ReadOutcome, answers_run, blocks_run, read_outcome}
+use Rattle.stm_state.proofs.InvariantKept.{invariant_kept}
+use Rattle.never_stuck.proofs.RunReads.{ReadOutcome, answers_run, blocks_run, read_outcome}
 use Rattle.always_ends.proofs.Sums.{sum_to, sum_pair, sum_pair_at, sum_part, sum_le, sum_same, sum_none, sum_times}
 use Rattle.always_ends.proofs.Finished.{resumed, resumed_at, resumed_other}
 use Rattle.always_ends.proofs.Measure.{Bounds}

@@ -14,9 +14,9 @@ use Rattle.stm_state.specs.State.{State, call_at, task_at, is_done, is_executed,
 use Rattle.stm_state.specs.Steps.{Block, Step, Ask, ReadKey, Park, Record, MoveKey, FinishExecution, CheckRead, Decide, MarkEstimate, FinishAbort, Limit, ArenaFull, IncarnationLimit, counted, one_execution, one_step, ask_validation, ask_execution, after_ask, after_park, after_record, after_finish_execution, after_check_read, after_decide, after_finish_abort, is_executed_at, next_stands, record_within, resume_dependents, step_with, to_validate}
 use Rattle.stm_state.specs.Done.{Reached, started, stepped}
 use Rattle.stm_state.proofs.Invariant.{Invariant}
-use Rattle.stm_state.proofs.Cases.{IsMade, by_ask, by_read, by_park, by_record, by_move, by_finish, by_check, by_decide, by_mark, by_abort, made}
+use Rattle.stm_state.proofs.StepsByTask.{IsMade, by_ask, by_read, by_park, by_record, by_move, by_finish, by_check, by_decide, by_mark, by_abort, made}
 use Rattle.stm_state.proofs.Tests.{lt_is, lt_says}
-use Rattle.stm_state.proofs.Whole.{invariant_kept}
+use Rattle.stm_state.proofs.InvariantKept.{invariant_kept}
 use Rattle.std.proofs.lemmas.Bool.{cond-true}
 use Rattle.always_ends.specs.Work.{IsSmall, incarnations, most_incarnations}
 use Rattle.always_ends.specs.Laws.{SmallBlocksMeetNoLimit, EightCallsAreSmall}

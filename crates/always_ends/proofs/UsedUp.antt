@@ -22,11 +22,11 @@ use Rattle.stm_state.specs.State.{State, fresh, call_at, task_at, with_call, wit
 use Rattle.stm_state.specs.Steps.{Step, Ask, ReadKey, counted, one_asking, one_execution, one_step, one_validation, next_incarnation, ask_validation, ask_execution, after_ask, answered_with, after_read_key, after_park, after_record, after_move_key, after_finish_execution, after_check_read, after_decide, after_mark_estimate, after_finish_abort, has_new_key, is_executed_at, keys_of, keys_to_move, least_parked_call, left_over, next_stands, read_of, reads_of, recorded_run, resume_dependents, resume_if_parked, to_validate, written_by}
 use Rattle.stm_state.proofs.Invariant.{Invariant, named_by, run_by}
 use Rattle.stm_state.proofs.Lists.{ChangesAt, each_at, stays_at, set_at}
-use Rattle.stm_state.proofs.Cases.{IsMade, by_ask, by_read, by_park, by_record, by_move, by_finish, by_check, by_decide, by_mark, by_abort}
+use Rattle.stm_state.proofs.StepsByTask.{IsMade, by_ask, by_read, by_park, by_record, by_move, by_finish, by_check, by_decide, by_mark, by_abort}
 use Rattle.stm_state.proofs.Checks.{executed_at_says}
 use Rattle.stm_state.proofs.Resumptions.{readied_cases}
 use Rattle.stm_state.proofs.Tests.{equal_says, equal_itself, is_executed_says, is_ready_says, lt_says, not_lt_says}
-use Rattle.never_stuck.proofs.Seen.{ReadOutcome, answers_run, blocks_run, blocker_is, read_outcome}
+use Rattle.never_stuck.proofs.RunReads.{ReadOutcome, answers_run, blocks_run, blocker_is, read_outcome}
 use Rattle.always_ends.specs.Work.{work_of}
 use Rattle.always_ends.proofs.Sums.{sum_pair_at, sum_more_at, sum_none}
 use Rattle.always_ends.proofs.Finished.{ended, resumed, resumed_at, resumed_other}

@@ -9,8 +9,8 @@ use Rattle.stm_state.specs.State.{State, task_at, is_done}
 use Rattle.stm_state.specs.Steps.{Block, Step, Ask, Limit, counted, one_asking, after_ask, step_with}
 use Rattle.stm_state.specs.Done.{block_of}
 use Rattle.stm_state.specs.Dones.{dones_of}
-use Rattle.stm_state.specs.Drive.{DrivenTo, made_step, Refusal, Limited, continue_drive, driven, due_result, due_step}
-use Rattle.stm_state.proofs.Cases.{IsMade, by_ask, by_read, by_park, by_record, by_move, by_finish, by_check, by_decide, by_mark, by_abort, made}
+use Rattle.stm_state.specs.Drive.{DrivenTo, made_step, DriveRefusal, Limited, continue_drive, driven, due_result, due_step}
+use Rattle.stm_state.proofs.StepsByTask.{IsMade, by_ask, by_read, by_park, by_record, by_move, by_finish, by_check, by_decide, by_mark, by_abort, made}
 use Rattle.stm_state.proofs.Dones.{done_after, dones_grow, others_stay}
 use Rattle.stm_state.proofs.DueSteps.{due_where_led}
 use Rattle.stm_state.proofs.Tests.{idle_at_done, lt_is, lt_says}
@@ -66,7 +66,7 @@ module _ (calls : List Invocation) (store : Storage) (workers gas : ℕ) (most :
   abbrev bounds : Bounds
   bounds = job calls store workers gas most
 
-  abbrev comes_to : List ℕ → State → Result State Refusal
+  abbrev comes_to : List ℕ → State → Result State DriveRefusal
   comes_to list s = driven calls store workers list s
 
   -- on the way from one state to another there was work; or they agree, and each worker of the list owes an idle asking

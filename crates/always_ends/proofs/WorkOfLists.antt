@@ -13,11 +13,11 @@ use Rattle.stm_state.specs.Done.{Reached, started, stepped, block_of}
 use Rattle.stm_state.specs.Drive.{DrivenTo, at_start, made_step, due_result, due_step, due_step_of_run, asked_at}
 use Rattle.stm_state.proofs.Invariant.{Invariant}
 use Rattle.stm_state.proofs.Lists.{replicated}
-use Rattle.stm_state.proofs.Cases.{made}
-use Rattle.stm_state.proofs.Whole.{invariant_kept}
+use Rattle.stm_state.proofs.StepsByTask.{made}
+use Rattle.stm_state.proofs.InvariantKept.{invariant_kept}
 use Rattle.stm_state.proofs.DueSteps.{reached_where_led}
 use Rattle.never_stuck.specs.Far.{HasAtMostGas}
-use Rattle.never_stuck.proofs.Settings.{Setting}
+use Rattle.never_stuck.proofs.UnstuckGoals.{Setting}
 use Rattle.never_stuck.proofs.Bounded.{asks_early}
 use Rattle.never_stuck.proofs.Sizes.{borne_small}
 use Rattle.always_ends.specs.Work.{HasAtMost, WorksButReadsTo, at_start, went_on, WorksTo, begun, goes_on, incarnations, work_of, work_but_reads, work_by_incarnation}

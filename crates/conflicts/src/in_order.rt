@@ -18,10 +18,10 @@ use crate::call_lists::CallLists;
 use crate::key_waits::KeyWaits;
 use crate::keys::KeySet;
 use crate::paths::path_over;
-use crate::reading::read_over;
+use crate::reading::reading_of;
 use crate::wait_counts::WaitCounts;
 use rv_ledger::{Call, Job, Key, Store, apply_writes};
-use rv_step::RunRoom;
+use rv_step::SpareRun;
 use std::alloc::{AllocError, Global};
 use std::marker::Model;
 
@@ -96,8 +96,8 @@ struct Pass {
     waits: WaitCounts,
     /// The paths of the calls.
     paths: Vec<u64>,
-    /// Room for the run of the next call.
-    room: RunRoom,
+    /// What the run of one call leaves to the next.
+    spare: SpareRun,
 }
 
 /// The same for some calls and a storage. Refused where memory ran out.
@@ -116,7 +116,7 @@ fn all_waits(alloc: Global, calls: &[Call], store: Store) -> Result<Found, Alloc
         writers: CallLists::new(alloc),
         waits: WaitCounts::new(alloc),
         paths,
-        room: RunRoom::new(alloc),
+        spare: SpareRun::new(alloc),
     };
     let mut all = Vec::with_capacity(alloc, calls.len())?;
     for (index, call) in calls.iter().enumerate() {
@@ -162,7 +162,7 @@ impl Pass {
         ensures writers { OnOk result (self.new.writers ≡ with_changes index (map.entries (ends call.now self.old.store).writes) self.old.writers) }
         ensures named { OnOk result (self.new.named ≡ after_changes index (map.entries (ends call.now self.old.store).writes) self.old.named) }
     {
-        let reading = read_over(alloc, &mut self.room, call, &self.store)?;
+        let reading = reading_of(alloc, &mut self.spare, call, &self.store)?;
         let waits = key_waits_in(alloc, &self.named, &reading.keys)?;
         count_waits(&mut self.waits, &self.named, &reading.keys)?;
         let path = path_over(

@@ -10,7 +10,7 @@ ghost use Rattle.rv_step.specs.Run.{asked_key, steps_left};
 use crate::keys::KeySet;
 use read_set::Origin;
 use rv_ledger::{Call, Key, Receipt, Store, StoredValue};
-use rv_step::{EndedRun, Pause, Run, RunRoom, StorageAnswer};
+use rv_step::{EndedRun, Pause, Run, SpareRun, StorageAnswer};
 use std::alloc::{AllocError, Global};
 use std::mem::replace;
 
@@ -21,20 +21,20 @@ pub(crate) struct Reading {
     pub(crate) keys: KeySet,
 }
 
-/// Runs a call over a storage. The run takes the room of an earlier call's, and leaves it to the next. Refused where
+/// Runs a call over a storage. The run takes the machine and the list of an earlier call's, and leaves them to the next. Refused where
 /// memory ran out.
-pub(crate) fn read_over(
+pub(crate) fn reading_of(
     alloc: Global,
-    room: &mut RunRoom,
+    spare: &mut SpareRun,
     call: &Call,
     store: &Store,
 ) -> Result<Reading, AllocError>
     ensures receipt { IfOk result (λ r. r.receipt ≡ ends call.now store.now) }
     ensures keys { IfOk result (λ r. r.keys ≡ keys_read call.now store.now) }
 {
-    let ended = run_over(alloc, room, call, store)?;
+    let ended = run_answered(alloc, spare, call, store)?;
     let keys = keys_answered(alloc, ended.answers.as_slice())?;
-    room.keep_answers(ended.answers);
+    spare.keep_answers(ended.answers);
     Ok(Reading {
         receipt: ended.receipt,
         keys,
@@ -42,22 +42,22 @@ pub(crate) fn read_over(
 }
 
 /// Runs a call whose answers are the storage's.
-fn run_over(
+fn run_answered(
     alloc: Global,
-    room: &mut RunRoom,
+    spare: &mut SpareRun,
     call: &Call,
     store: &Store,
 ) -> Result<EndedRun, AllocError>
     ensures call { IfOk result (λ r. r.call ≡ call.now) }
     ensures from { IfOk result (λ r. AreFrom store.now (replies_of r.answers.items)) }
 {
-    let mut run = Run::start_in(alloc, replace(room, RunRoom::new(alloc)), call)?;
+    let mut run = Run::start_in(alloc, replace(spare, SpareRun::new(alloc)), call)?;
     let mut pause = run.go()?;
     while let Pause::Ask(key) = pause {
         answer_from(alloc, &mut run, &key, store)?;
         pause = run.go()?;
     }
-    Ok(run.finish_in(room))
+    Ok(run.finish_in(spare))
 }
 
 /// Answers a run that asks for a key, from a storage. Refused where memory ran out.

@@ -23,7 +23,7 @@ use Rattle.engines.specs.declared.fault.Refusal.TheVariants.{File, Block, Schedu
 use Rattle.engines.specs.declared.fault.FileFault.TheVariants.{Unreadable}
 
 -- the refusal of a list of worker numbers
-abbrev pub drive_fault : list.Refusal → DriveFault
+abbrev pub drive_fault : list.DriveRefusal → DriveFault
 drive_fault list.NotDone = drive.NotDone
 drive_fault list.BadWorker = drive.BadWorker
 drive_fault (list.Limited ArenaFull) = drive.ArenaFull

@@ -15,7 +15,7 @@ use crate::program_source::Programs;
 use byte_streams::{Destination, Source};
 use debugger::{DebugFault, Replay, ReplayFault, debug_lines_to, opens_over_its_storage};
 use rv_ledger::{Call, Job, Store, apply_writes};
-use rv_step::{MachineRoom, receipt_over};
+use rv_step::{SpareMachine, receipt_over};
 use seq_exec::run_in_order;
 use std::alloc::{AllocError, Global};
 
@@ -98,10 +98,10 @@ fn store_behind(alloc: Global, calls: &[Call], store: &Store) -> Result<Store, A
     ensures { IfOk result (λ s. s ≡ store_after calls.now store.now) }
 {
     let mut left = store.copy()?;
-    let mut room = MachineRoom::new();
+    let mut spare = SpareMachine::new();
     for call in calls {
         // A `?` would copy the receipt, which is large, once more.
-        let Ok(receipt) = receipt_over(alloc, &mut room, call, &left) else {
+        let Ok(receipt) = receipt_over(alloc, &mut spare, call, &left) else {
             return Err(AllocError);
         };
         apply_writes(&mut left, &receipt.writes)?;

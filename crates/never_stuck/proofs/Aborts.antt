@@ -10,10 +10,10 @@ use Rattle.stm_state.specs.declared.state.Task.TheVariants.{Idle, Running, Marki
 use Rattle.stm_state.specs.State.{State, fresh, call_at, task_at, with_call, with_task}
 use Rattle.stm_state.specs.Steps.{counted, one_step, next_incarnation, after_mark_estimate, after_finish_abort}
 use Rattle.stm_state.proofs.Tests.{not_lt_says}
-use Rattle.never_stuck.proofs.Settings.{Setting}
-use Rattle.never_stuck.proofs.Comes.{Comes, comes_here, comes_so}
+use Rattle.never_stuck.proofs.UnstuckGoals.{Setting}
+use Rattle.never_stuck.proofs.OwedLists.{Comes, comes_here, comes_so}
 use Rattle.never_stuck.proofs.Kept.{OnlyCall, Kept, call_kept, kept_on, new_entry}
-use Rattle.never_stuck.proofs.Owed.{IsSound, worker_there, named_there, due_at, steps_on}
+use Rattle.never_stuck.proofs.OwedSteps.{IsSound, worker_there, named_there, due_at, steps_on}
 
 -- call i is at its next incarnation. Its run begins again, or it is READY at or above the execution index
 pub data AbortOutcome (w i : ℕ) (s t : State) : Type 0 where

@@ -9,11 +9,11 @@ use Rattle.stm_state.specs.declared.state.Task.TheVariants.{Idle, Running, Valid
 use Rattle.stm_state.specs.Limits.{incarnation_limit}
 use Rattle.stm_state.specs.State.{State, fresh, call_at, task_at, with_call, with_task}
 use Rattle.stm_state.specs.Steps.{counted, one_asking, reads_of}
-use Rattle.never_stuck.proofs.Settings.{Setting, block}
-use Rattle.never_stuck.proofs.Comes.{Comes, comes_here, comes_so}
+use Rattle.never_stuck.proofs.UnstuckGoals.{Setting, block}
+use Rattle.never_stuck.proofs.OwedLists.{Comes, comes_here, comes_so}
 use Rattle.never_stuck.proofs.Kept.{OnlyTask, OnlyCall, Kept, Stays, task_kept, call_kept, kept_on, stays_on}
-use Rattle.never_stuck.proofs.Seen.{AllStand}
-use Rattle.never_stuck.proofs.Owed.{IsSound, worker_there, due_at, steps_on, comes_then}
+use Rattle.never_stuck.proofs.RunReads.{AllStand}
+use Rattle.never_stuck.proofs.OwedSteps.{IsSound, worker_there, due_at, steps_on, comes_then}
 use Rattle.never_stuck.proofs.Validations.{ValidationOutcome, passes, takes_back, validation_ends}
 use Rattle.never_stuck.proofs.Aborts.{AbortOutcome, runs_again, readies, abort_ends}
 use Rattle.never_stuck.proofs.Tasks.{FreshOutcome, executes, parks_call, fresh_ends, same_call}

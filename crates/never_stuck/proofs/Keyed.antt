@@ -17,13 +17,13 @@ use Rattle.stm_state.specs.declared.state.Task.TheVariants.{Idle, Running}
 use Rattle.stm_state.specs.State.{State, start, fresh, call_at, task_at, with_call, with_task, is_done}
 use Rattle.stm_state.specs.Steps.{Block, Step, Ask, ReadKey, counted, one_asking, one_step, answered_with, step_with, worker_step}
 use Rattle.stm_state.specs.Done.{Reached, started, stepped, block_of}
-use Rattle.stm_state.proofs.Cases.{IsMade, by_ask, by_read, by_park, by_record, by_move, by_finish, by_check, by_decide, by_mark, by_abort, made}
+use Rattle.stm_state.proofs.StepsByTask.{IsMade, by_ask, by_read, by_park, by_record, by_move, by_finish, by_check, by_decide, by_mark, by_abort, made}
 use Rattle.stm_state.proofs.Lists.{replicated}
 use Rattle.stm_state.proofs.Tests.{idle_at_done}
 use Rattle.stm_state.proofs.Walks.{walk_first, walk_none}
-use Rattle.stm_state.proofs.Whole.{start_kept}
+use Rattle.stm_state.proofs.InvariantKept.{start_kept}
 use Rattle.never_stuck.specs.Astray.{KeyedListsGoAstray, NeverEnds}
-use Rattle.never_stuck.proofs.Seen.{ReadOutcome, answers_run, blocks_run, read_outcome, blocker_lower}
+use Rattle.never_stuck.proofs.RunReads.{ReadOutcome, answers_run, blocks_run, read_outcome, blocker_lower}
 use Rattle.never_stuck.proofs.IdleStates.{asks_run}
 
 -- worker 0 runs call 0, whose first answer was to this key

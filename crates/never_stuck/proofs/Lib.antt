@@ -1,11 +1,11 @@
-pub mod Settings
-pub mod Comes
+pub mod UnstuckGoals
+pub mod OwedLists
 pub mod Kept
-pub mod Seen
+pub mod RunReads
 pub mod Bounded
 pub mod Sizes
-pub mod Fewness
-pub mod Owed
+pub mod KeysLeft
+pub mod OwedSteps
 pub mod Validations
 pub mod Aborts
 pub mod Runs

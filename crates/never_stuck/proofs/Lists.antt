@@ -13,15 +13,15 @@ use Rattle.stm_state.specs.Steps.{Limit}
 use Rattle.stm_state.specs.Done.{Reached}
 use Rattle.stm_state.specs.Drive.{DrivenTo, at_start, made_step, NotDone, BadWorker, continue_drive, due_result, driven, drive_of}
 use Rattle.stm_state.proofs.Tests.{lt_says}
-use Rattle.stm_state.proofs.Whole.{invariant_kept}
+use Rattle.stm_state.proofs.InvariantKept.{invariant_kept}
 use Rattle.stm_state.proofs.DueSteps.{Goes, AllGo, all_go, reached_where_led, due_where_led}
 use Rattle.never_stuck.specs.Ending.{CanEnd, ends, meets, EndsWithin, IsContinued, to_end, to_limit}
 use Rattle.never_stuck.specs.Far.{HasAtMostGas, IsFarFromLimits, entries_to_end}
 use Rattle.never_stuck.specs.Stuck.{NeverStuck, NeverStuckFarFromLimits, NeverStuckWhereReached, NoListIsDeadEnd, RunsGoOn}
-use Rattle.never_stuck.proofs.Settings.{Setting, block}
-use Rattle.never_stuck.proofs.Fewness.{few_where_reached}
-use Rattle.never_stuck.proofs.Comes.{can_end, ends_within}
-use Rattle.never_stuck.proofs.Owed.{IsSound}
+use Rattle.never_stuck.proofs.UnstuckGoals.{Setting, block}
+use Rattle.never_stuck.proofs.KeysLeft.{few_where_reached}
+use Rattle.never_stuck.proofs.OwedLists.{can_end, ends_within}
+use Rattle.never_stuck.proofs.OwedSteps.{IsSound}
 use Rattle.never_stuck.proofs.Unstuck.{comes_to_end}
 
 -- ---- sound states

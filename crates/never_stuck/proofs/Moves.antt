@@ -13,11 +13,11 @@ use Rattle.stm_state.specs.Steps.{counted, one_step, reads_of, is_parked_on, res
 use Rattle.stm_state.proofs.Resumptions.{readied_cases, parked_aborting}
 use Rattle.stm_state.proofs.Finishes.{mapped_at}
 use Rattle.stm_state.proofs.Tests.{lt_says}
-use Rattle.never_stuck.proofs.Settings.{Setting}
-use Rattle.never_stuck.proofs.Comes.{Comes, comes_here, comes_so}
+use Rattle.never_stuck.proofs.UnstuckGoals.{Setting}
+use Rattle.never_stuck.proofs.OwedLists.{Comes, comes_here, comes_so}
 use Rattle.never_stuck.proofs.Kept.{OnlyCall, Kept, IsAtMostLowered, Stays, IsLoweredTo, call_kept, kept_on, new_entry, lowered_is}
-use Rattle.never_stuck.proofs.Seen.{AllStand, stand_still}
-use Rattle.never_stuck.proofs.Owed.{IsSound, worker_there, named_there, due_at, steps_on}
+use Rattle.never_stuck.proofs.RunReads.{AllStand, stand_still}
+use Rattle.never_stuck.proofs.OwedSteps.{IsSound, worker_there, named_there, due_at, steps_on}
 
 -- call i is EXECUTED at its incarnation, and its reads stand if they did
 pub record IsExecutedFrom (w i : ℕ) (s t : State) : Type 0 where

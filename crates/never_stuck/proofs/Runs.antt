@@ -17,14 +17,14 @@ use Rattle.stm_state.specs.Steps.{counted, one_step, one_execution, answered_wit
 use Rattle.stm_state.specs.Drive.{asked_at, due_step_of_run}
 use Rattle.stm_state.proofs.Invariant.{named_by}
 use Rattle.stm_state.proofs.Tests.{is_executed_says}
-use Rattle.stm_state.proofs.Phases.{call_there}
+use Rattle.stm_state.proofs.OneWorkerPhases.{call_there}
 use Rattle.stm_state.proofs.Rounds.{Answered}
-use Rattle.never_stuck.proofs.Settings.{Setting, block, due}
-use Rattle.never_stuck.proofs.Comes.{Comes, comes_here, comes_more, comes_so}
+use Rattle.never_stuck.proofs.UnstuckGoals.{Setting, block, due}
+use Rattle.never_stuck.proofs.OwedLists.{Comes, comes_here, comes_more, comes_so}
 use Rattle.never_stuck.proofs.Kept.{OnlyCall, task_call, call_on, new_task, new_call}
-use Rattle.never_stuck.proofs.Seen.{AllStand, ReadOutcome, answers_run, blocks_run, read_outcome, blocker_is, answered_stand}
+use Rattle.never_stuck.proofs.RunReads.{AllStand, ReadOutcome, answers_run, blocks_run, read_outcome, blocker_is, answered_stand}
 use Rattle.never_stuck.proofs.Bounded.{asks_early}
-use Rattle.never_stuck.proofs.Owed.{IsSound, worker_there, named_there, due_at, steps_on, parks_on, records_on}
+use Rattle.never_stuck.proofs.OwedSteps.{IsSound, worker_there, named_there, due_at, steps_on, parks_on, records_on}
 
 -- call i's run is kept and its keys are to move, and its reads stand if the answers so far did; or the call is parked on a lower
 -- one that is not EXECUTED

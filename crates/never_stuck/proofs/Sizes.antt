@@ -15,7 +15,7 @@ use Rattle.stm_state.specs.Steps.{keys_of, read_of, reads_of, written_by}
 use Rattle.stm_state.specs.Done.{borne_out_by}
 use Rattle.stm_state.proofs.Invariant.{view_of, ViewInvariant}
 use Rattle.rv_step.proofs.WriteLimit.{LeavesFew, few_at, moments_few}
-use Rattle.never_stuck.proofs.Settings.{Setting, block}
+use Rattle.never_stuck.proofs.UnstuckGoals.{Setting, block}
 use Rattle.never_stuck.proofs.Bounded.{IsPaid, moments_paid}
 
 -- the replies of a call that is over

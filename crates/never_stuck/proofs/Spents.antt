@@ -8,11 +8,11 @@ use Rattle.stm_state.specs.declared.state.Status.TheVariants.{Executed}
 use Rattle.stm_state.specs.State.{State, fresh, call_at, is_executed, is_ready, is_done}
 use Rattle.stm_state.specs.Steps.{Block, Step, ask_validation, ask_execution, after_ask, after_park, resume_if_parked, resume_dependents, to_validate, after_finish_execution, after_check_read, after_decide, after_finish_abort, is_executed_at, next_stands}
 use Rattle.stm_state.specs.Walk.{walk}
-use Rattle.stm_state.proofs.Cases.{IsMade, by_ask, by_park, by_record, by_finish, by_check, by_decide, by_abort, made}
+use Rattle.stm_state.proofs.StepsByTask.{IsMade, by_ask, by_park, by_record, by_finish, by_check, by_decide, by_abort, made}
 use Rattle.stm_state.proofs.Resumptions.{readied_cases}
 use Rattle.stm_state.proofs.Finishes.{mapped_at}
 use Rattle.stm_state.proofs.Walks.{walk_first, walk_none, reached_on}
-use Rattle.stm_state.proofs.Whole.{invariant_kept}
+use Rattle.stm_state.proofs.InvariantKept.{invariant_kept}
 use Rattle.stm_state.proofs.Serials.{all_executed}
 use Rattle.stm_state.proofs.Rounds.{not_done}
 use Rattle.never_stuck.specs.Astray.{SpentCallsNeverEnd}

@@ -13,11 +13,11 @@ use Rattle.stm_state.specs.Limits.{incarnation_limit}
 use Rattle.stm_state.specs.State.{State, fresh, call_at, task_at, with_call, with_task, is_executed}
 use Rattle.stm_state.specs.Steps.{counted, one_step, after_park, read_of, reads_of}
 use Rattle.stm_state.proofs.Tests.{not_executed_says}
-use Rattle.never_stuck.proofs.Settings.{Setting}
-use Rattle.never_stuck.proofs.Comes.{Comes, comes_here, comes_more, comes_so}
+use Rattle.never_stuck.proofs.UnstuckGoals.{Setting}
+use Rattle.never_stuck.proofs.OwedLists.{Comes, comes_here, comes_more, comes_so}
 use Rattle.never_stuck.proofs.Kept.{OnlyTask, Kept, Stays, task_kept, call_kept, kept_on, new_task, new_call}
-use Rattle.never_stuck.proofs.Seen.{AllStand}
-use Rattle.never_stuck.proofs.Owed.{IsSound, worker_there, named_there, task_few, comes_then, parks_on}
+use Rattle.never_stuck.proofs.RunReads.{AllStand}
+use Rattle.never_stuck.proofs.OwedSteps.{IsSound, worker_there, named_there, task_few, comes_then, parks_on}
 use Rattle.never_stuck.proofs.Validations.{ValidationOutcome, passes, takes_back, validation_ends}
 use Rattle.never_stuck.proofs.Aborts.{AbortOutcome, runs_again, readies, abort_ends}
 use Rattle.never_stuck.proofs.Runs.{RunOutcome, hands_in, parks, waiting, parked_is, run_ends}

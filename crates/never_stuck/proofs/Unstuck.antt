@@ -8,10 +8,10 @@ use Rattle.stm_state.specs.declared.state.Task.TheVariants.{Idle}
 use Rattle.stm_state.specs.Limits.{incarnation_limit}
 use Rattle.stm_state.specs.State.{State, call_at, task_at}
 use Rattle.stm_state.specs.Steps.{counted, one_asking}
-use Rattle.never_stuck.proofs.Settings.{Setting, block}
-use Rattle.never_stuck.proofs.Comes.{AreDone, Comes, comes_here, comes_more, comes_so}
+use Rattle.never_stuck.proofs.UnstuckGoals.{Setting, block}
+use Rattle.never_stuck.proofs.OwedLists.{AreDone, Comes, comes_here, comes_more, comes_so}
 use Rattle.never_stuck.proofs.Kept.{Stays}
-use Rattle.never_stuck.proofs.Owed.{IsSound, due_at, steps_on, comes_then}
+use Rattle.never_stuck.proofs.OwedSteps.{IsSound, due_at, steps_on, comes_then}
 use Rattle.never_stuck.proofs.Tasks.{IsBelow}
 use Rattle.never_stuck.proofs.Workers.{workers_settle}
 use Rattle.never_stuck.proofs.IdleStates.{below_executed, next_status, done_is, asks_past}

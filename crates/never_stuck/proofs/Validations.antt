@@ -12,12 +12,12 @@ use Rattle.stm_state.specs.Steps.{counted, one_step, one_validation, after_check
 use Rattle.stm_state.proofs.Invariant.{IsChecked}
 use Rattle.stm_state.proofs.Checks.{executed_at_says}
 use Rattle.stm_state.proofs.Rounds.{each_stands}
-use Rattle.never_stuck.proofs.Settings.{Setting}
-use Rattle.never_stuck.proofs.Comes.{Comes, comes_here, comes_more, comes_so}
+use Rattle.never_stuck.proofs.UnstuckGoals.{Setting}
+use Rattle.never_stuck.proofs.OwedLists.{Comes, comes_here, comes_more, comes_so}
 use Rattle.never_stuck.proofs.Kept.{OnlyTask, OnlyCall, task_call, task_on, call_on, new_task, new_call}
-use Rattle.never_stuck.proofs.Seen.{AllStand}
+use Rattle.never_stuck.proofs.RunReads.{AllStand}
 use Rattle.never_stuck.proofs.Sizes.{reads_short, written_few}
-use Rattle.never_stuck.proofs.Owed.{IsSound, worker_there, named_there, due_at, steps_on}
+use Rattle.never_stuck.proofs.OwedSteps.{IsSound, worker_there, named_there, due_at, steps_on}
 
 -- a call that is taken back
 abbrev pub taken_back : CallState → CallState

@@ -4,9 +4,9 @@ use Rattle.std.proofs.lemmas.Bool.{cases_eq}
 use Rattle.stm_state.specs.declared.state.Task.TheVariants.{Idle}
 use Rattle.stm_state.specs.Limits.{incarnation_limit}
 use Rattle.stm_state.specs.State.{State, task_at}
-use Rattle.never_stuck.proofs.Settings.{Setting}
-use Rattle.never_stuck.proofs.Comes.{Comes, comes_here, comes_so}
-use Rattle.never_stuck.proofs.Owed.{IsSound, comes_then}
+use Rattle.never_stuck.proofs.UnstuckGoals.{Setting}
+use Rattle.never_stuck.proofs.OwedLists.{Comes, comes_here, comes_so}
+use Rattle.never_stuck.proofs.OwedSteps.{IsSound, comes_then}
 use Rattle.never_stuck.proofs.Tasks.{IsBelow, Settles, worker_settles}
 
 -- nobody has a task, and incarnations are below a number

@@ -8,8 +8,8 @@ ghost use Rattle.rv_step.specs.Over.{IsBeginningOver, is_ended};
 ghost use Rattle.rv_step.specs.Run.{left_for};
 
 use crate::machine::Machine;
-use crate::machine_room::MachineRoom;
 use crate::run::{receipt, run_until_stop};
+use crate::spare_machine::SpareMachine;
 use crate::stage::{Stage, is_ended};
 use elf32::BasePages;
 use rv_ledger::{Call, Contents, Receipt, StoredValue};
@@ -19,13 +19,13 @@ use std::alloc::{AllocError, Global};
 /// begins in the place of an earlier call's, and leaves it to the next. Refused where memory ran out.
 pub fn receipt_over<S: Contents>(
     alloc: Global,
-    room: &mut MachineRoom,
+    spare: &mut SpareMachine,
     call: &Call,
     store: &S,
 ) -> Result<Receipt, AllocError>
     ensures { IfOk result (λ r. r ≡ ends call.now (S.storage store.now)) }
 {
-    let mut machine = room.start(alloc, call)?;
+    let mut machine = spare.start(alloc, call)?;
     let program: &BasePages = call.image().base();
     let mut stage = Stage::Running;
     while !is_ended(&stage) {
@@ -34,7 +34,7 @@ pub fn receipt_over<S: Contents>(
     match stage {
         Stage::Ended(end, out) => {
             let receipt = receipt(call.gas(), end, out, &mut machine);
-            room.keep(machine);
+            spare.keep(machine);
             Ok(receipt)
         }
         _ => unreachable!(),

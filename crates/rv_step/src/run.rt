@@ -12,7 +12,7 @@ use crate::ended_run::EndedRun;
 use crate::machine::Machine;
 use crate::outcome::InstructionOutcome;
 use crate::page_walk::is_at;
-use crate::run_room::RunRoom;
+use crate::spare_run::SpareRun;
 use crate::stage::{Stage, end_with};
 use crate::storage_calls::bytes_of;
 use elf32::BasePages;
@@ -72,18 +72,18 @@ impl Run {
     pub fn start(alloc: Global, call: &Call) -> Result<Run, AllocError>
         ensures { IfOk result (λ r. r ≡ run_at_start call.now) }
     {
-        Run::start_in(alloc, RunRoom::new(alloc), call)
+        Run::start_in(alloc, SpareRun::new(alloc), call)
     }
 
-    /// The same in the room of an earlier run.
+    /// The same with the machine and the list of an earlier run.
     #[inline(always)]
-    pub fn start_in(alloc: Global, room: RunRoom, call: &Call) -> Result<Run, AllocError>
+    pub fn start_in(alloc: Global, spare: SpareRun, call: &Call) -> Result<Run, AllocError>
         ensures { IfOk result (λ r. r ≡ run_at_start call.now) }
     {
-        let RunRoom {
+        let SpareRun {
             mut machine,
             answers,
-        } = room;
+        } = spare;
         let machine = machine.start(alloc, call)?;
         Ok(Run {
             call: call.copy()?,
@@ -280,13 +280,13 @@ impl Run {
         ensures answers { result.answers.items ≡ self.answers }
         ensures receipt { IsReceiptOf result.receipt self }
     {
-        let mut room = RunRoom::new(*self.answers.allocator());
-        self.finish_in(&mut room)
+        let mut spare = SpareRun::new(*self.answers.allocator());
+        self.finish_in(&mut spare)
     }
 
-    /// The same, and its machine is left in `room`.
+    /// The same, and its machine is left in `spare`.
     #[inline(always)]
-    pub fn finish_in(self, room: &mut RunRoom) -> EndedRun
+    pub fn finish_in(self, spare: &mut SpareRun) -> EndedRun
         requires { IsEnded self.stage }
         ensures call { result.call ≡ self.call }
         ensures answers { result.answers.items ≡ self.answers }
@@ -301,7 +301,7 @@ impl Run {
         match stage {
             Stage::Ended(end, out) => {
                 let receipt = receipt(call.gas(), end, out, &mut machine);
-                room.machine.keep(machine);
+                spare.machine.keep(machine);
                 EndedRun {
                     call,
                     answers,
@@ -312,17 +312,17 @@ impl Run {
         }
     }
 
-    /// The room of a run that is given up: its machine, and the list of its answers.
-    pub fn into_room(self) -> RunRoom {
+    /// What a run that is given up leaves to the next: its machine, and the list of its answers.
+    pub fn into_spare(self) -> SpareRun {
         let Run {
             machine,
             answers,
             ..
         } = self;
-        let mut room = RunRoom::new(*answers.allocator());
-        room.machine.keep(machine);
-        room.keep_answers(answers);
-        room
+        let mut spare = SpareRun::new(*answers.allocator());
+        spare.machine.keep(machine);
+        spare.keep_answers(answers);
+        spare
     }
 }
 

@@ -1,4 +1,4 @@
-//! The engine that runs the calls of a block one after another, in block order.
+//! Runs the calls of a block one after another, in block order.
 #![tactic(auto)]
 
 mod counted_layers;
@@ -9,7 +9,7 @@ ghost use Rattle.rv_step.specs.Fold.{receipts_of, store_after};
 
 pub use on_storage::{run_counted, run_over};
 use rv_ledger::{Call, Job, Outcome, Receipt, Store, apply_writes};
-use rv_step::{MachineRoom, receipt_over};
+use rv_step::{SpareMachine, receipt_over};
 use std::alloc::{AllocError, Global};
 
 /// Runs the calls of a job one after another on one storage, which starts as the job's. The outcome has
@@ -67,10 +67,10 @@ fn run_all(alloc: Global, calls: &[Call], store: &mut Store) -> Result<Vec<Recei
     ensures store { OnOk result (store.new ≡ store_after calls.now store.old) }
 {
     let mut receipts = Vec::with_capacity(alloc, calls.len())?;
-    let mut room = MachineRoom::new();
+    let mut spare = SpareMachine::new();
     for call in calls {
         // A `?` would copy the receipt, which is large, once more.
-        let Ok(receipt) = receipt_over(alloc, &mut room, call, store) else {
+        let Ok(receipt) = receipt_over(alloc, &mut spare, call, store) else {
             return Err(AllocError);
         };
         apply_writes(store, &receipt.writes)?;

@@ -7,7 +7,7 @@ ghost use Rattle.overlay.specs.Overlay.{with_changes};
 use crate::counted_layers::CountedLayers;
 use overlay::{Layers, Overlay, apply_writes};
 use rv_ledger::{Call, Receipt, Store};
-use rv_step::{MachineRoom, receipt_over};
+use rv_step::{SpareMachine, receipt_over};
 use std::alloc::{AllocError, Global};
 use std::cell::Cell;
 
@@ -38,7 +38,7 @@ pub fn run_counted(
     ensures store { OnOk result (with_changes base.now over.new ≡ store_after calls.now (with_changes base.now over.old)) }
 {
     let mut receipts = Vec::with_capacity(alloc, calls.len())?;
-    let mut room = MachineRoom::new();
+    let mut spare = SpareMachine::new();
     let reads = Cell::new(0);
     for call in calls {
         let contents = CountedLayers {
@@ -46,7 +46,7 @@ pub fn run_counted(
             reads: &reads,
         };
         // A `?` would copy the receipt, which is large, once more.
-        let Ok(receipt) = receipt_over(alloc, &mut room, call, &contents) else {
+        let Ok(receipt) = receipt_over(alloc, &mut spare, call, &contents) else {
             return Err(AllocError);
         };
         apply_writes(base, over, &receipt.writes)?;

@@ -16,7 +16,7 @@ use Rattle.stm_state.specs.declared.state.Task.TheVariants.{Idle, Running}
 use Rattle.stm_state.specs.State.{State, task_at}
 use Rattle.stm_state.specs.Steps.{Block, ReadKey, answered_by, answered_with, counted, one_step, after_read_key, step_with, worker_step}
 use Rattle.stm_state.proofs.Tests.{equal_itself}
-use Rattle.stm_state.proofs.Whole.{same_state}
+use Rattle.stm_state.proofs.InvariantKept.{same_state}
 use Rattle.stm_core.specs.CoreState.{read_result_by, read_result_of, runs}
 use Rattle.stm_core.specs.Driving.{IsRunOf}
 use Rattle.stm_core.specs.declared.next_step.ReadResult.{ReadResult}

@@ -24,7 +24,7 @@ use Rattle.stm_state.specs.Steps.{Block, Step, Ask, ReadKey, Park, Record, MoveK
 use Rattle.stm_state.specs.Done.{Reached, started, stepped, block_of, borne_out_by}
 use Rattle.stm_state.specs.Parts.{has_key}
 use Rattle.stm_state.proofs.Invariant.{Invariant, named_by, owned_by, run_by}
-use Rattle.stm_state.proofs.Whole.{invariant_kept}
+use Rattle.stm_state.proofs.InvariantKept.{invariant_kept}
 use Rattle.stm_state.proofs.Counted.{counts_within}
 use Rattle.scheduler.specs.Schedule.{KeepsRooms, Schedule, MayCount, state_of}
 use Rattle.scheduler.specs.Workers.{NobodyMoves}

@@ -14,7 +14,7 @@ use Rattle.stm_state.specs.declared.state.CallState.{CallState}
 use Rattle.stm_state.specs.State.{State, fresh, call_at, task_at, with_task, no_counts, is_ready, is_executed, is_done}
 use Rattle.stm_state.specs.Steps.{Block, Step, Ask, ReadKey, Park, Record, MoveKey, FinishExecution, CheckRead, Decide, MarkEstimate, FinishAbort, ArenaFull, IncarnationLimit, counted, one_step, one_asking, one_execution, one_validation, after_ask, ask_validation, ask_execution, count_done, answered_by, after_read_key, after_park, after_record, after_move_key, after_finish_execution, next_incarnation, is_parked_on, resume_if_parked, resume_dependents, to_validate, after_check_read, next_stands, after_decide, after_mark_estimate, after_finish_abort, is_executed_at, record_within, step_with, worker_step}
 use Rattle.stm_state.proofs.Invariant.{owned_by}
-use Rattle.stm_state.proofs.Whole.{same_state, none_ok, err_ok}
+use Rattle.stm_state.proofs.InvariantKept.{same_state, none_ok, err_ok}
 use Rattle.stm_core.specs.Driving.{HasNoAnswers}
 
 -- each call but the one that worker w has keeps its last recorded run

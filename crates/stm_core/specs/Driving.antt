@@ -6,12 +6,12 @@ use Rattle.stm_state.specs.declared.state.Task.{Task}
 use Rattle.stm_state.specs.declared.state.Task.TheVariants.{Running}
 use Rattle.stm_state.specs.State.{State}
 use Rattle.stm_state.specs.Steps.{Limit, ArenaFull, IncarnationLimit}
-use Rattle.stm_state.specs.Drive.{Refusal, NotDone, BadWorker, Limited}
+use Rattle.stm_state.specs.Drive.{DriveRefusal, NotDone, BadWorker, Limited}
 use Rattle.stm_core.specs.declared.engine.DriveFault.{DriveFault}
 use Rattle.stm_core.specs.declared.engine.DriveFault.TheVariants as fault
 
 -- what a list comes to, by its refusal; where memory ran out nothing is said of it
-abbrev pub IsRefusal : DriveFault → Result State Refusal → Type 0
+abbrev pub IsRefusal : DriveFault → Result State DriveRefusal → Type 0
 IsRefusal fault.NotDone r = r ≡ Err NotDone
 IsRefusal fault.BadWorker r = r ≡ Err BadWorker
 IsRefusal fault.ArenaFull r = r ≡ Err (Limited ArenaFull)

@@ -18,7 +18,7 @@ use Rattle.stm_state.proofs.OneCallChanges.{StatusOwes, TaskOwes, entries_stay}
 use Rattle.stm_state.proofs.SafeReads.{others_kept}
 use Rattle.stm_state.proofs.Asks.{executed_entries}
 use Rattle.stm_state.proofs.Checks.{executed_at_says, ends}
-use Rattle.stm_state.proofs.Targets.{amid_end}
+use Rattle.stm_state.proofs.KeyTargets.{amid_end}
 use Rattle.stm_state.proofs.Tests.{not_lt_says, resized}
 use Rattle.stm_state.proofs.Writes.{at_key_last}
 

@@ -9,10 +9,10 @@ use Rattle.stm_state.specs.Done.{Reached}
 use Rattle.stm_state.specs.Walk.{walk}
 use Rattle.stm_state.specs.Dones.{dones_of, DoneIsAsked, DoneStays, OtherDonesStay, DonesAreAsked, DonesGrowAtDone, LastEntryIsDone}
 use Rattle.stm_state.proofs.Tests.{idle_at_done}
-use Rattle.stm_state.proofs.Cases.{IsMade, by_ask, by_read, by_park, by_record, by_move, by_finish, by_check, by_decide, by_mark, by_abort, made}
+use Rattle.stm_state.proofs.StepsByTask.{IsMade, by_ask, by_read, by_park, by_record, by_move, by_finish, by_check, by_decide, by_mark, by_abort, made}
 use Rattle.stm_state.proofs.Counted.{ask_validation_silent, ask_execution_silent, parked_silent, executed_silent, checked_silent, decided_silent, aborted_silent}
 use Rattle.stm_state.proofs.Lists.{replicated, all_before}
-use Rattle.stm_state.proofs.Whole.{invariant_kept}
+use Rattle.stm_state.proofs.InvariantKept.{invariant_kept}
 use Rattle.stm_state.proofs.Walks.{walk_on, walk_first, walk_none, walk_here, reached_by_list}
 
 -- ---- where workers are done

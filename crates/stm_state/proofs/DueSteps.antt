@@ -20,9 +20,9 @@ use Rattle.stm_state.specs.Steps.{Step, ReadKey, ask_validation, ask_execution, 
 use Rattle.stm_state.specs.Done.{Reached, started, stepped, borne_out_by, block_of}
 use Rattle.stm_state.specs.Drive.{due_step_of_run, asked_at, due_step, DrivenTo, at_start, made_step, DueStepHasResult}
 use Rattle.stm_state.proofs.Invariant.{Invariant, named_by}
-use Rattle.stm_state.proofs.Cases.{IsMade, by_ask, by_read, by_park, by_record, by_move, by_finish, by_check, by_decide, by_mark, by_abort, made}
-use Rattle.stm_state.proofs.Whole.{invariant_kept}
-use Rattle.stm_state.proofs.Phases.{call_there}
+use Rattle.stm_state.proofs.StepsByTask.{IsMade, by_ask, by_read, by_park, by_record, by_move, by_finish, by_check, by_decide, by_mark, by_abort, made}
+use Rattle.stm_state.proofs.InvariantKept.{invariant_kept}
+use Rattle.stm_state.proofs.OneWorkerPhases.{call_there}
 use Rattle.stm_state.proofs.FurtherAsks.{GoesOn, goes_first, goes_next, goes_last}
 
 -- the states of lists are reached

@@ -16,7 +16,7 @@ use Rattle.stm_state.proofs.OneCallChanges.{Frame, Keeps, TaskOwes, entries_stay
 use Rattle.stm_state.proofs.SafeReads.{others_kept, safe_begun}
 use Rattle.stm_state.proofs.Tests.{lt_says, not_lt_says, resized}
 use Rattle.stm_state.proofs.Resumptions.{woken_view, woken_facts, parked_aborting, not_parked, none_parked, lowered_low, lowered_at}
-use Rattle.stm_state.proofs.Targets.{amid_end}
+use Rattle.stm_state.proofs.KeyTargets.{amid_end}
 
 -- a mapped list at an index, also past the end
 pub mapped_at : {X : Type 0} (g : X → X) (xs : List X) (j : ℕ) (d : X) → g d ≡ d → get_or (map g xs) j d ≡ g (get_or xs j d)

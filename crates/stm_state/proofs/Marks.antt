@@ -16,7 +16,7 @@ use Rattle.stm_state.proofs.Lists.{stays_at, set_at}
 use Rattle.stm_state.proofs.OneCallChanges.{Frame, StatusOwes, frame_kept, keeps_itself}
 use Rattle.stm_state.proofs.SafeReads.{on_below, safe_ahead, safe_other}
 use Rattle.stm_state.proofs.Tests.{resized}
-use Rattle.stm_state.proofs.Targets.{amid_step, amid_cases}
+use Rattle.stm_state.proofs.KeyTargets.{amid_step, amid_cases}
 use Rattle.stm_state.proofs.Writes.{changed_at, changed_other, or_true}
 
 module _ (block : Block) (s : State) (w i : ℕ) (key : List ℕ) (keys : List (List ℕ)) (f : ViewInvariant block (view_of s)) (marks : task_at s w ≡ Marking i (key ∷ keys)) (w_in : w < length s.tasks) where

@@ -16,7 +16,7 @@ use Rattle.stm_state.proofs.OneCallChanges.{Frame, frame_kept, keeps_itself, sti
 use Rattle.stm_state.proofs.SafeReads.{StandsOn, on_below, on_estimates, safe_ahead, safe_other}
 use Rattle.stm_state.proofs.Tests.{resized}
 use Rattle.stm_state.proofs.Writes.{changed_other, or_true, version_is}
-use Rattle.stm_state.proofs.Targets.{amid_step, amid_cases, left_stays}
+use Rattle.stm_state.proofs.KeyTargets.{amid_step, amid_cases, left_stays}
 
 module _ (block : Block) (s : State) (w i : ℕ) (key : List ℕ) (keys : List (List ℕ)) (new : Bool) (f : ViewInvariant block (view_of s)) (moves : task_at s w ≡ Moving i (key ∷ keys) new) (w_in : w < length s.tasks) where
   -- call i is EXECUTING

@@ -16,11 +16,11 @@ use Rattle.stm_state.specs.Steps.{Block, Step, Ask, ReadKey, Record, MoveKey, Fi
 use Rattle.stm_state.proofs.Invariant.{Invariant}
 use Rattle.stm_state.specs.Done.{Reached, started, stepped}
 use Rattle.stm_state.specs.OneWorker.{OneWorkerDid, OneWorkerCountsWhereReached}
-use Rattle.stm_state.proofs.Cases.{same_state, none_ok, err_ok}
-use Rattle.stm_state.proofs.Whole.{worker_kept, invariant_kept}
+use Rattle.stm_state.proofs.StepsByTask.{same_state, none_ok, err_ok}
+use Rattle.stm_state.proofs.InvariantKept.{worker_kept, invariant_kept}
 use Rattle.stm_state.proofs.Serials.{IsOver, over_at_done}
 use Rattle.stm_state.proofs.Rounds.{answered_here, clear_below, to_run, run_asked, recorded_state, after_move, finished, executed_is, to_check, check_asked, check_stands, none_taken}
-use Rattle.stm_state.proofs.Phases.{Comes, Rests, Runs, Moves, Waits, Checks, within_block, first, begins, told_asked, told_so, did_all, reads_on, records_on, moves_on, finishes_on, waits_on, checks_on, decides_on}
+use Rattle.stm_state.proofs.OneWorkerPhases.{Comes, Rests, Runs, Moves, Waits, Checks, within_block, first, begins, told_asked, told_so, did_all, reads_on, records_on, moves_on, finishes_on, waits_on, checks_on, decides_on}
 
 module _ (block : Block) where
   -- where it is

@@ -12,7 +12,7 @@ use Rattle.rv_step.specs.Fold.{receipts_of, store_after, store_after_call}
 use Rattle.rv_step.proofs.Receipts.{one_receipt_lem}
 use Rattle.stm_state.specs.State.{fresh}
 use Rattle.stm_state.specs.Done.{last_receipt, borne_out_by, block_of, DoneIsInOrder}
-use Rattle.stm_state.proofs.Whole.{invariant_kept}
+use Rattle.stm_state.proofs.InvariantKept.{invariant_kept}
 use Rattle.stm_state.proofs.Serials.{serial_at_done}
 
 -- each call has the receipt that answers of the storage before it bear out

@@ -16,7 +16,7 @@ use Rattle.stm_state.proofs.Invariant.{view_of, ViewInvariant, IsCovered, IsRigh
 use Rattle.stm_state.proofs.OneCallChanges.{owned_status, turned_owned, unturned, unturned_run}
 use Rattle.stm_state.proofs.Asks.{same_entries, executed_entries}
 use Rattle.stm_state.proofs.Writes.{no_version, version_is}
-use Rattle.stm_state.proofs.Whole.{invariant_kept}
+use Rattle.stm_state.proofs.InvariantKept.{invariant_kept}
 
 -- a worker that has a call runs it or moves its keys
 run_of : (s : State) (w i : ℕ) (task : Task) → task_at s w ≡ task → run_by task ≡ Some i → IsRun s i

@@ -6,22 +6,22 @@ use Rattle.stm_state.specs.State.{State, start, task_at, is_done}
 use Rattle.stm_state.specs.Steps.{Limit}
 use Rattle.stm_state.specs.Done.{MeetsLimit, Reached, started, stepped, block_of}
 use Rattle.stm_state.proofs.Tests.{lt_says}
-use Rattle.stm_state.specs.Drive.{Refusal, NotDone, BadWorker, Limited, continue_drive, driven, drive_of, due_step, due_result}
+use Rattle.stm_state.specs.Drive.{DriveRefusal, NotDone, BadWorker, Limited, continue_drive, driven, drive_of, due_step, due_result}
 
 module _ (calls : List Invocation) (store : Storage) (workers : ℕ) (limit : Limit) where
   -- the limit is that of the refused step
-  same_limit : (other : Limit) → ◌≡◌ {A = Result State Refusal} (Err (Limited other)) (Err (Limited limit)) → other ≡ limit
+  same_limit : (other : Limit) → ◌≡◌ {A = Result State DriveRefusal} (Err (Limited other)) (Err (Limited limit)) → other ≡ limit
   same_limit other h = cc
 
   -- a list that is used up meets none
-  used_up : (b : Bool) (s : State) → ◌≡◌ {A = Result State Refusal} (if b then Ok s else Err NotDone) (Err (Limited limit)) → ⊥
+  used_up : (b : Bool) (s : State) → ◌≡◌ {A = Result State DriveRefusal} (if b then Ok s else Err NotDone) (Err (Limited limit)) → ⊥
   used_up true s h = cc
   used_up false s h = cc
 
-  not_done : ◌≡◌ {A = Result State Refusal} (Err NotDone) (Err (Limited limit)) → ⊥
+  not_done : ◌≡◌ {A = Result State DriveRefusal} (Err NotDone) (Err (Limited limit)) → ⊥
   not_done h = cc
 
-  bad_worker : ◌≡◌ {A = Result State Refusal} (Err BadWorker) (Err (Limited limit)) → ⊥
+  bad_worker : ◌≡◌ {A = Result State DriveRefusal} (Err BadWorker) (Err (Limited limit)) → ⊥
   bad_worker h = cc
 
   -- a state from which a list that is refused so meets the limit

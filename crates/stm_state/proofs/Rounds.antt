@@ -29,7 +29,7 @@ use Rattle.stm_state.proofs.Origins.{own_origin}
 use Rattle.stm_state.proofs.Asks.{executed_entries}
 use Rattle.stm_state.proofs.Writes.{changed_other}
 use Rattle.stm_state.proofs.Lists.{replicated, all_same}
-use Rattle.stm_state.proofs.Whole.{start_kept}
+use Rattle.stm_state.proofs.InvariantKept.{start_kept}
 use Rattle.stm_state.proofs.Serials.{IsOver, over_at_done, no_estimate}
 
 -- ---- where each call is

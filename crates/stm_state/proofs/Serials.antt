@@ -31,7 +31,7 @@ use Rattle.stm_state.proofs.Origins.{made_of_changes, seen_changes}
 use Rattle.stm_state.proofs.Tests.{equal_says, idle_at_done}
 use Rattle.stm_state.proofs.Writes.{content_after, applied_get}
 use Rattle.stm_state.proofs.Asks.{executed_entries}
-use Rattle.stm_state.proofs.Whole.{invariant_kept}
+use Rattle.stm_state.proofs.InvariantKept.{invariant_kept}
 
 -- ---- what done says
 

@@ -54,25 +54,25 @@ DueStepHasResult = (calls : List Invocation) (store : Storage) (workers : ℕ) (
 
 -- why a list is refused: it is used up and workers are not done; an entry is not a worker's number, or the number of
 -- workers is not 1 to 32; or a step is refused for a limit
-pub data Refusal : Type 0 where
-  NotDone : Refusal
-  BadWorker : Refusal
-  Limited : Limit → Refusal
+pub data DriveRefusal : Type 0 where
+  NotDone : DriveRefusal
+  BadWorker : DriveRefusal
+  Limited : Limit → DriveRefusal
 
 -- what follows a step; the first case does not occur (`DueStepHasResult`)
-abbrev pub continue_drive : (State → Result State Refusal) → Option (Result State Limit) → Result State Refusal
+abbrev pub continue_drive : (State → Result State DriveRefusal) → Option (Result State Limit) → Result State DriveRefusal
 continue_drive rest None = Err NotDone
 continue_drive rest (Some (Ok s)) = rest s
 continue_drive rest (Some (Err limit)) = Err (Limited limit)
 
 -- what a list comes to from a state on
-unfoldable pub driven : List Invocation → Storage → ℕ → List ℕ → State → Result State Refusal
+unfoldable pub driven : List Invocation → Storage → ℕ → List ℕ → State → Result State DriveRefusal
 driven calls store workers [] s = if is_done s then Ok s else Err NotDone
 driven calls store workers (w ∷ ws) s =
     if nat_lt w workers then continue_drive (λ t. driven calls store workers ws t) (due_result calls store w s) else Err BadWorker
 
 -- what a list comes to from the start of a job
-abbrev pub drive_of : List Invocation → Storage → ℕ → List ℕ → Result State Refusal
+abbrev pub drive_of : List Invocation → Storage → ℕ → List ℕ → Result State DriveRefusal
 drive_of calls store workers schedule =
     if nat_le 1 workers && nat_le workers 32 then driven calls store workers schedule (start (length calls) workers) else Err BadWorker
 

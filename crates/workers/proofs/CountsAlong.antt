@@ -9,10 +9,10 @@ use Rattle.stm_state.specs.State.{State, is_done, no_counts, start}
 use Rattle.stm_state.specs.Steps.{Block, Step, after_ask, after_decide, after_finish_abort, after_finish_execution, after_check_read, after_mark_estimate, after_move_key, after_park, after_read_key, after_record, ask_execution, ask_validation, count_done, counted, one_asking, one_execution, one_step, one_validation}
 use Rattle.stm_state.specs.Done.{Reached, started, stepped}
 use Rattle.stm_state.specs.Walk.{LeadsTo, walk}
-use Rattle.stm_state.proofs.Cases.{IsMade, by_ask, by_read, by_park, by_record, by_move, by_finish, by_check, by_decide, by_mark, by_abort, made}
+use Rattle.stm_state.proofs.StepsByTask.{IsMade, by_ask, by_read, by_park, by_record, by_move, by_finish, by_check, by_decide, by_mark, by_abort, made}
 use Rattle.stm_state.proofs.Counted.{aborted_silent, ask_execution_silent, ask_validation_silent, checked_silent, decided_silent, executed_silent, parked_silent}
 use Rattle.stm_state.proofs.Walks.{walk_first, walk_none}
-use Rattle.stm_state.proofs.Whole.{invariant_kept}
+use Rattle.stm_state.proofs.InvariantKept.{invariant_kept}
 use Rattle.stm_core.specs.CoreState.{is_read}
 use Rattle.always_ends.specs.Work.{work_along, work_but_reads, work_of_list}
 use Rattle.always_ends.proofs.WorkAlong.{works_first}

@@ -6,10 +6,10 @@ use Rattle.rv_ledger.specs.declared.job.Job.{Job}
 use Rattle.rv_ledger.specs.declared.outcome.Counts.{Counts}
 use Rattle.stm_state.specs.State.{State, is_done, no_counts}
 use Rattle.stm_state.specs.Steps.{Block, Step, Ask, ReadKey, Record, after_ask, after_decide, after_finish_abort, after_finish_execution, after_check_read, after_mark_estimate, after_move_key, after_park, after_read_key, after_record, ask_execution, ask_validation, count_done, counted, one_asking, one_execution, one_step, one_validation}
-use Rattle.stm_state.proofs.Cases as cases
-use Rattle.stm_state.proofs.Cases.{by_ask, by_read, by_park, by_record, by_move, by_finish, by_check, by_decide, by_mark, by_abort, made}
+use Rattle.stm_state.proofs.StepsByTask as cases
+use Rattle.stm_state.proofs.StepsByTask.{by_ask, by_read, by_park, by_record, by_move, by_finish, by_check, by_decide, by_mark, by_abort, made}
 use Rattle.stm_state.proofs.Counted.{aborted_silent, ask_execution_silent, ask_validation_silent, checked_silent, decided_silent, executed_silent, parked_silent}
-use Rattle.stm_state.proofs.Whole.{invariant_kept}
+use Rattle.stm_state.proofs.InvariantKept.{invariant_kept}
 use Rattle.stm_core.specs.CoreState.{block_in, step_of}
 use Rattle.stm_core.specs.declared.next_step.NextStep.{NextStep}
 use Rattle.stm_core.specs.declared.next_step.ReadResult.{ReadResult}

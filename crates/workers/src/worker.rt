@@ -15,17 +15,17 @@ use crate::gate::{Gate, Spin};
 use crate::patience::Patience;
 use crate::reading::run_to_end;
 use crate::shared::Shared;
-use rv_step::{Run, RunRoom};
+use rv_step::{Run, SpareRun};
 use std::alloc::Global;
 use std::mem::replace;
 use std::sync::Wait;
 use stm_core::{JobSource, NextStep, ReadyRecord, StepKind, reads_made};
 
-/// What a worker keeps from one step to the next: the room that one run leaves to the next one, and how long it stays away
+/// What a worker keeps from one step to the next: what one run leaves to the next one, and how long it stays away
 /// from the lock without a task.
 #[derive(Drop)]
 struct Kept<S: Spin + Drop> {
-    room: RunRoom,
+    spare: SpareRun,
     spin: S,
 }
 
@@ -118,7 +118,7 @@ fn make_steps<J: JobName, H: JobSource, R: Wait, G: Gate, S: Spin + Drop>(
 {
     let mut next = NextStep::Ask;
     let mut kept = Kept {
-        room: RunRoom::new(alloc),
+        spare: SpareRun::new(alloc),
         spin,
     };
     for _ in rt.forever() {
@@ -359,7 +359,8 @@ fn run_call<J: JobName, H: JobSource, R: Wait, G: Gate, S: Spin + Drop>(
     ensures dones { OnOk result (share.new.dones ≡ share.old.dones) }
 {
     let own = &shared.job.block().calls()[usize::from(call)];
-    let Ok(mut run) = Run::start_in(alloc, replace(&mut kept.room, RunRoom::new(alloc)), own) else {
+    let Ok(mut run) = Run::start_in(alloc, replace(&mut kept.spare, SpareRun::new(alloc)), own)
+    else {
         return Err(WorkFault::Met(shared.refuse(rt, OutsideFault::Memory)));
     };
     if !run_to_end(
@@ -371,7 +372,7 @@ fn run_call<J: JobName, H: JobSource, R: Wait, G: Gate, S: Spin + Drop>(
         incarnation,
         &mut run,
     )? {
-        kept.room = run.into_room();
+        kept.spare = run.into_spare();
         return Ok(NextStep::Make {
             kind: StepKind::Park,
             call,
@@ -379,7 +380,7 @@ fn run_call<J: JobName, H: JobSource, R: Wait, G: Gate, S: Spin + Drop>(
         });
     }
     gate.held(share.worker());
-    let ended = run.finish_in(&mut kept.room);
+    let ended = run.finish_in(&mut kept.spare);
     let Ok(reads) = reads_made(alloc, &ended) else {
         return Err(WorkFault::Met(shared.refuse(rt, OutsideFault::Memory)));
     };
@@ -387,7 +388,7 @@ fn run_call<J: JobName, H: JobSource, R: Wait, G: Gate, S: Spin + Drop>(
     let spin = &mut kept.spin;
     let next = hand_in(rt, shared, share, spin, call, incarnation, &mut ready)?;
     // What else the record left over in `ready` is dropped here, after the lock.
-    kept.room.keep_answers(ready.take_answers());
+    kept.spare.keep_answers(ready.take_answers());
     Ok(next)
 }
 

@@ -1,4 +1,4 @@
-use Rattle.stm_state.proofs.Alone.{counts_alone}
+use Rattle.stm_state.proofs.OneWorkerRounds.{counts_alone}
 use Rattle.stm_state.proofs.laws.one_worker_counts.Goals as goal
 
 pub returns : goal.returns

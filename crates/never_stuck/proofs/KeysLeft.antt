@@ -18,10 +18,10 @@ use Rattle.stm_state.specs.State.{State, call_at, task_at, is_executed, is_ready
 use Rattle.stm_state.specs.Steps.{Step, answered_with, ask_validation, ask_execution, after_ask, after_park, resume_dependents, to_validate, after_finish_execution, after_check_read, after_decide, after_finish_abort, is_executed_at, keys_of, keys_to_move, left_over, next_stands, written_by, worker_step}
 use Rattle.stm_state.specs.Done.{Reached, started, stepped}
 use Rattle.stm_state.proofs.Invariant.{Invariant}
-use Rattle.stm_state.proofs.Cases.{IsMade, by_ask, by_read, by_park, by_record, by_move, by_finish, by_check, by_decide, by_mark, by_abort, made}
-use Rattle.stm_state.proofs.Whole.{invariant_kept}
-use Rattle.never_stuck.proofs.Settings.{Setting, block}
-use Rattle.never_stuck.proofs.Seen.{ReadOutcome, answers_run, blocks_run, read_outcome}
+use Rattle.stm_state.proofs.StepsByTask.{IsMade, by_ask, by_read, by_park, by_record, by_move, by_finish, by_check, by_decide, by_mark, by_abort, made}
+use Rattle.stm_state.proofs.InvariantKept.{invariant_kept}
+use Rattle.never_stuck.proofs.UnstuckGoals.{Setting, block}
+use Rattle.never_stuck.proofs.RunReads.{ReadOutcome, answers_run, blocks_run, read_outcome}
 use Rattle.never_stuck.proofs.Sizes.{borne_small, written_few}
 
 -- a task has at most 512 keys left

@@ -13,16 +13,16 @@ use Rattle.stm_state.specs.Steps.{ArenaFull, IncarnationLimit, counted, one_exec
 use Rattle.stm_state.specs.Done.{borne_out_by}
 use Rattle.stm_state.specs.Drive.{asked_at, due_step, due_step_of_run}
 use Rattle.stm_state.proofs.Invariant.{Invariant, named_by}
-use Rattle.stm_state.proofs.Cases.{made}
+use Rattle.stm_state.proofs.StepsByTask.{made}
 use Rattle.stm_state.proofs.Tests.{lt_says, not_le_is}
-use Rattle.stm_state.proofs.Whole.{worker_kept}
-use Rattle.stm_state.proofs.Phases.{call_there}
+use Rattle.stm_state.proofs.InvariantKept.{worker_kept}
+use Rattle.stm_state.proofs.OneWorkerPhases.{call_there}
 use Rattle.stm_state.proofs.FurtherAsks.{goes_last}
 use Rattle.stm_state.proofs.DueSteps.{Goes, AllGo, made_goes}
-use Rattle.never_stuck.proofs.Settings.{Setting, block, due}
+use Rattle.never_stuck.proofs.UnstuckGoals.{Setting, block, due}
 use Rattle.never_stuck.proofs.Sizes.{borne_small}
-use Rattle.never_stuck.proofs.Fewness.{AllFewKeys, HasFewKeys, few_after}
-use Rattle.never_stuck.proofs.Comes.{Comes, comes_here, comes_on, meets_full, meets_spent, comes_more}
+use Rattle.never_stuck.proofs.KeysLeft.{AllFewKeys, HasFewKeys, few_after}
+use Rattle.never_stuck.proofs.OwedLists.{Comes, comes_here, comes_on, meets_full, meets_spent, comes_more}
 
 -- the invariant holds, each run goes on, and each task has few keys left
 pub record IsSound (setting : Setting) (s : State) : Type 0 where

@@ -4,7 +4,7 @@ use Rattle.rv_step.specs.Replies.{replies_of}
 use Rattle.rv_step.proofs.Receipts.{one_receipt_lem}
 use Rattle.conflicts.specs.Reads.{keys_in}
 use Rattle.conflicts.proofs.Used.{keys_used}
-use Rattle.conflicts.proofs.reading.read_over.Goals as goal
+use Rattle.conflicts.proofs.reading.reading_of.Goals as goal
 
 pub returns-clause-receipt : goal.returns-clause-receipt
 returns-clause-receipt c =

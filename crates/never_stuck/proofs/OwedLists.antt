@@ -4,10 +4,10 @@ use Rattle.std.proofs.lemmas.Bool.{cond-true}
 use Rattle.stm_state.specs.Limits.{record_limit}
 use Rattle.stm_state.specs.State.{State, is_done}
 use Rattle.stm_state.specs.Steps.{Limit, ArenaFull, IncarnationLimit}
-use Rattle.stm_state.specs.Drive.{Refusal, Limited, continue_drive, driven}
+use Rattle.stm_state.specs.Drive.{DriveRefusal, Limited, continue_drive, driven}
 use Rattle.stm_state.proofs.Tests.{lt_is}
 use Rattle.never_stuck.specs.Ending.{CanEnd, ends, meets, EndsWithin}
-use Rattle.never_stuck.proofs.Settings.{Setting, due}
+use Rattle.never_stuck.proofs.UnstuckGoals.{Setting, due}
 
 -- workers are done
 abbrev pub AreDone : State → Type 0
@@ -40,7 +40,7 @@ module _ {setting : Setting} where
 
 module _ (setting : Setting) where
   -- what a list comes to
-  abbrev comes_to : List ℕ → State → Result State Refusal
+  abbrev comes_to : List ℕ → State → Result State DriveRefusal
   comes_to list s = driven setting.calls setting.store setting.workers list s
 
   -- an entry of a list, whose step is made

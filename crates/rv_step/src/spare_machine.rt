@@ -10,14 +10,14 @@ use std::alloc::{AllocError, Global};
 /// The machine of an earlier call, in whose place the next one begins, so that the allocator and the copying have less
 /// to do.
 #[derive(Drop)]
-pub struct MachineRoom {
+pub struct SpareMachine {
     machine: Option<Box<Machine>>,
 }
 
-impl MachineRoom {
+impl SpareMachine {
     /// No machine yet. Takes no memory.
-    pub fn new() -> MachineRoom {
-        MachineRoom { machine: None }
+    pub fn new() -> SpareMachine {
+        SpareMachine { machine: None }
     }
 
     /// The machine of a call before its first instruction, in the place of the machine that is here; refused where memory

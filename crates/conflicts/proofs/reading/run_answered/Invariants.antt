@@ -2,7 +2,7 @@ use Rattle.std.proofs.Common.{◌≡◌}
 use Rattle.rv_step.specs.Chain.{AreFrom}
 use Rattle.rv_step.specs.Replies.{replies_of}
 use Rattle.rv_step.specs.Run.{IsPause, steps_left}
-use Rattle.conflicts.proofs.reading.run_over.Given as goal
+use Rattle.conflicts.proofs.reading.run_answered.Given as goal
 
 abbrev pub invariant-loop-pause : goal.invariant-loop-pause
 invariant-loop-pause l = record {

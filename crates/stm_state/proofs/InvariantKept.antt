@@ -13,8 +13,8 @@ use Rattle.stm_state.specs.Done.{Reached, started, stepped}
 use Rattle.stm_state.proofs.Invariant.{entry_of, Invariant}
 use Rattle.stm_state.proofs.Lists.{replicated}
 use Rattle.stm_state.proofs.Tests.{resized}
-pub use Rattle.stm_state.proofs.Cases.{same_state, none_ok, err_ok}
-use Rattle.stm_state.proofs.Cases.{IsMade, by_ask, by_read, by_park, by_record, by_move, by_finish, by_check, by_decide, by_mark, by_abort, made}
+pub use Rattle.stm_state.proofs.StepsByTask.{same_state, none_ok, err_ok}
+use Rattle.stm_state.proofs.StepsByTask.{IsMade, by_ask, by_read, by_park, by_record, by_move, by_finish, by_check, by_decide, by_mark, by_abort, made}
 use Rattle.stm_state.proofs.Asks.{ask_kept}
 use Rattle.stm_state.proofs.Runs.{read_kept, park_kept}
 use Rattle.stm_state.proofs.Records.{record_kept}

@@ -26,16 +26,16 @@ use Rattle.stm_state.specs.Limits.{record_limit, incarnation_limit}
 use Rattle.stm_state.specs.State.{State, start, call_at, with_task, is_done}
 use Rattle.stm_state.specs.Steps.{Block, Limit, read_of, reads_of, counted, one_step, one_asking, one_execution, one_validation, count_done, keys_of, keys_to_move, record_within, step_with, write_of}
 use Rattle.stm_state.specs.Done.{borne_out_by, block_of}
-use Rattle.stm_state.specs.Drive.{Refusal, NotDone, due_step_of_run, asked_at, due_step, due_result, continue_drive, driven}
+use Rattle.stm_state.specs.Drive.{DriveRefusal, NotDone, due_step_of_run, asked_at, due_step, due_result, continue_drive, driven}
 use Rattle.stm_state.proofs.Invariant.{view_of, Invariant}
 use Rattle.stm_state.specs.OneWorker.{Work, no_work, IsWork, rounds, MeetsNoEstimate, HoldsAfter, NeverMeetsEstimate, OneWorkerDid, HasOneWorkerCounts}
 use Rattle.stm_state.proofs.Tests.{not_lt_is, not_le_is}
 use Rattle.stm_state.proofs.Asks.{executed_entries}
-use Rattle.stm_state.proofs.Whole.{worker_kept}
+use Rattle.stm_state.proofs.InvariantKept.{worker_kept}
 use Rattle.stm_state.proofs.Serials.{seen_after}
 use Rattle.rv_step.proofs.WriteLimit.{ends_few}
 use Rattle.stm_state.proofs.Rounds.{Stage, not_done, answered_here, clear_below, to_run, run_asked, recorded_state, after_move, moved_seen, finished, done_last, executed_is, to_check, check_asked, check_stands, none_taken}
-use Rattle.stm_state.proofs.Phases.{call_there, Comes, Rests, Runs, Moves, Waits, Checks, within_block, first, begins, told_asked, told_so, over, did_all, reads_on, records_on, moves_on, finishes_on, waits_on, checks_on, decides_on}
+use Rattle.stm_state.proofs.OneWorkerPhases.{call_there, Comes, Rests, Runs, Moves, Waits, Checks, within_block, first, begins, told_asked, told_so, over, did_all, reads_on, records_on, moves_on, finishes_on, waits_on, checks_on, decides_on}
 
 -- ---- what each call takes
 
@@ -233,7 +233,7 @@ module _ (calls : List Invocation) (store : Storage) where
   -- ---- lists of steps
 
   -- so many steps from a state on
-  abbrev alone : ℕ → State → Result State Refusal
+  abbrev alone : ℕ → State → Result State DriveRefusal
   alone k s = driven calls store 1 (replicate k 0) s
 
   used_up : (s : State) {b : Bool} → is_done s ≡ b → alone 0 s ≡ (if b then Ok s else Err NotDone)
