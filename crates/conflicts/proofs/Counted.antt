@@ -245,7 +245,7 @@ all_writers block store lists n all h key =
 
 -- ---- both
 
--- what the pass has are the keys of the definition
+-- what the run in order has are the keys of the definition
 module _ (block : List Invocation) (store : Storage) (writers : CallLists) (h : (key : List ℕ) → calls_at writers key ≡ writers_at (receipts_of block store) key) where
   abbrev calls : List CallView
   calls = calls_of block store
@@ -267,9 +267,9 @@ module _ (block : List Invocation) (store : Storage) (writers : CallLists) (h : 
   keys_are =
       same_keys (finite.keys waits) ∙ ap (map (hot_key_of (receipts_of block store) calls)) (keys_counted (all_waits calls) finite.empty finite.empty (no_keys ℕ ∙ sym (no_keys (Unit {0}))))
 
--- ---- the counts of the pass
+-- ---- the counts of the run in order
 
--- a call's waits, as the pass has them
+-- a call's waits, as the run in order has them
 same_counts : (table : CallLists) (receipts : List Receipt) (i : ℕ) → Names table receipts i → (keys : List (List ℕ)) (m : Counts)
     → with_waits m (flat_map (λ key. waits_for key (calls_at table key)) keys) ≡ with_waits m (flat_map (waits_at receipts i) keys)
 same_counts table receipts i names [] m = refl

@@ -152,7 +152,7 @@ module _ (calls : List CallView) (earlier : AreEarlier calls) (paths : List ℕ)
       by_place (inl before) = are i p before
       by_place (inr (same, is)) = subst (λ (n : ℕ). IsPath calls n p) (sym same) (subst (IsPath calls j) (sym is) is_path)
 
--- ---- the waits of a call as the pass has them
+-- ---- the waits of a call as the run in order has them
 
 not_above : (g a b : ℕ) → greater (greater g a) b ≤ greater (greater g b) a
 not_above g a b =

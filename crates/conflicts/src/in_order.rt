@@ -58,7 +58,7 @@ impl CallWaits {
     }
 }
 
-/// What the pass over the calls of a block found.
+/// What running the calls of a block in order found.
 #[derive(Drop)]
 pub(crate) struct Found {
     /// What each call waits for, in block order.
@@ -85,7 +85,7 @@ pub(crate) fn call_waits(alloc: Global, job: &Job) -> Result<Found, AllocError>
 
 /// How far the calls of a block were run.
 #[derive(Drop)]
-struct Pass {
+struct Progress {
     /// The storage after the last call.
     store: Store,
     /// The calls that reads of each key would name.
@@ -110,7 +110,7 @@ fn all_waits(alloc: Global, calls: &[Call], store: Store) -> Result<Found, Alloc
     ensures waits { IfOk result (λ found. found.waits ≡ with_waits map.empty (all_waits (calls_of calls.now store))) }
 {
     let paths = Vec::with_capacity(alloc, calls.len())?;
-    let mut pass = Pass {
+    let mut progress = Progress {
         store,
         named: CallLists::new(alloc),
         writers: CallLists::new(alloc),
@@ -120,15 +120,15 @@ fn all_waits(alloc: Global, calls: &[Call], store: Store) -> Result<Found, Alloc
     };
     let mut all = Vec::with_capacity(alloc, calls.len())?;
     for (index, call) in calls.iter().enumerate() {
-        let next = pass.run_next(alloc, index as u16, call)?;
+        let next = progress.run_next(alloc, index as u16, call)?;
         all.push(next)?;
     }
-    let Pass {
+    let Progress {
         writers,
         waits,
         paths,
         ..
-    } = pass;
+    } = progress;
     Ok(Found {
         calls: all,
         paths,
@@ -137,7 +137,7 @@ fn all_waits(alloc: Global, calls: &[Call], store: Store) -> Result<Found, Alloc
     })
 }
 
-impl Pass {
+impl Progress {
     ghost use Rattle.std.specs.FinMap as map;
     ghost use Rattle.std.specs.Prelude.{◌≡◌, ◌++◌, ◌∷◌, ◌≤◌, ◌<◌, ◌+◌, ◌*◌, ◌^◌, [], ℕ, List, All, IfOk, OnOk};
     ghost use Rattle.conflicts.specs.Calls.{count_at, with_changes, with_waits};

@@ -40,9 +40,9 @@ run_next-requires-clause-waits c = λ q.
     let block = c.args.calls.now in
     let index = c.loop-index.index in
     let call = c.index-calls-index.result in
-    let named = c.loop-index.pass.named in
+    let named = c.loop-index.progress.named in
     let at : slice_get block index ≡ Some call = slice_get_read block _ index call refl (omega arith) c.index-calls-index.is in
-    let same = ap (λ s. with_waits c.loop-index.pass.waits (waits_in named (keys_read call s))) c.loop-index.invariant.store
+    let same = ap (λ s. with_waits c.loop-index.progress.waits (waits_in named (keys_read call s))) c.loop-index.invariant.store
     ∙ ap (λ m. with_waits m (waits_in named (keys_read call (store_before block index c.args.store)))) c.loop-index.invariant.waits
     ∙ counts_next block c.args.store index call at named c.loop-index.invariant.named in
     subst (λ m. count_at m q < 2 ^ 64) (sym same) (few_waits block c.args.store q (index + 1) (omega (arith, c.requires)))
@@ -54,13 +54,13 @@ loop-index-preserved c =
     let receipts = receipts_of block store in
     let index = c.loop-index.index in
     let call = c.index-calls-index.result in
-    let named = c.loop-index.pass.named in
-    let old = c.loop-index.pass.paths.items in
+    let named = c.loop-index.progress.named in
+    let old = c.loop-index.progress.paths.items in
     let at : slice_get block index ≡ Some call = slice_get_read block _ index call refl (omega arith) c.index-calls-index.is in
     let before = store_before block index store in
-    let same : c.loop-index.pass.store ≡ before = c.loop-index.invariant.store in
+    let same : c.loop-index.progress.store ≡ before = c.loop-index.invariant.store in
     let names = c.loop-index.invariant.named in
-    let path = (ends call c.loop-index.pass.store).gas + greatest_from old 0 (waits_in named (keys_read call c.loop-index.pass.store)) in
+    let path = (ends call c.loop-index.progress.store).gas + greatest_from old 0 (waits_in named (keys_read call c.loop-index.progress.store)) in
     let items = c.in_ok-next.ensures.path in
     let value = ap (λ s. (ends call s).gas + greatest_from old 0 (waits_in named (keys_read call s))) same
     ∙ ap (λ g. g + greatest_from old 0 (waits_in named (keys_read call before))) (ap gas_in (sym (receipt_at call block store index at)))
@@ -75,9 +75,9 @@ loop-index-preserved c =
           (sym (c.in_ok-next.ensures.named ∙ ap (λ s. after_changes index (finite.entries (ends call s).writes) named) same))
           (names_next block store index call at named names);
       writers = subst (λ t. AreWriters t receipts (index + 1))
-          (sym (c.in_ok-next.ensures.writers ∙ ap (λ s. with_changes index (finite.entries (ends call s).writes) c.loop-index.pass.writers) same))
-          (writers_next block store index call at c.loop-index.pass.writers c.loop-index.invariant.writers);
-      waits = c.in_ok-next.ensures.counts ∙ ap (λ s. with_waits c.loop-index.pass.waits (waits_in named (keys_read call s))) same
+          (sym (c.in_ok-next.ensures.writers ∙ ap (λ s. with_changes index (finite.entries (ends call s).writes) c.loop-index.progress.writers) same))
+          (writers_next block store index call at c.loop-index.progress.writers c.loop-index.invariant.writers);
+      waits = c.in_ok-next.ensures.counts ∙ ap (λ s. with_waits c.loop-index.progress.waits (waits_in named (keys_read call s))) same
           ∙ ap (λ m. with_waits m (waits_in named (keys_read call before))) c.loop-index.invariant.waits
           ∙ counts_next block store index call at named names;
       count = ap length items ∙ length-append old (path ∷ []) ∙ ap (λ n. n + 1) c.loop-index.invariant.count;
@@ -89,4 +89,4 @@ loop-index-preserved c =
     }
 
 pub returns-clause-writers : goal.returns-clause-writers
-returns-clause-writers c = all_writers c.args.calls.now c.args.store c.loop-index.pass.writers c.loop-index.index (omega arith) c.loop-index.invariant.writers
+returns-clause-writers c = all_writers c.args.calls.now c.args.store c.loop-index.progress.writers c.loop-index.index (omega arith) c.loop-index.invariant.writers
