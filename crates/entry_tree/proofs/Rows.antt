@@ -1,11 +1,12 @@
 -- The rows of a map, when a key gets another content.
-use Rattle.std.proofs.Common.{◌≡◌, ℕ, List, [], ◌∷◌, map, Option, Some, None, Bool, true, false, cond, not, T, refl, sym, ap, ◌∙◌, ◌&&◌, Ordering, Less, Equal, Greater, is_eq, is_lt}
+use Rattle.std.proofs.Common.{◌≡◌, ℕ, List, [], ◌∷◌, map, Option, Some, None, Bool, true, false, cond, not, T, refl, sym, ap, ◌∙◌, Ordering, Less, Equal, Greater, is_eq, is_lt}
 use Rattle.std.specs.List.{AllByRecursion}
 use Rattle.std.specs.Ordering.{nat_cmp, ordering_then, ordering_reverse, match_ordering, eq_by_cmp}
 use Rattle.std.specs.Cmp.{tied_itself, alike_right, eq_by_cmp_equiv}
 use Rattle.std.specs.Cmp.Lexicographic.{slice_cmp, nat_list_cmp_total}
 use Rattle.std.specs.FinMap.{find, put, get, insert, remove, entries, entries_sorted, entries-insert, get-entries, get-insert, get-remove, same_map, get_tied, slice_cmp-IsAntisymmetric, nat_cmp-IsAntisymmetric, IsAntisymmetric, is_sorted}
 use Rattle.std.specs.FinMap.Entries.{by_order, where_key, below_all, same_entries, is_sorted-where_key, find-where_key}
+use Rattle.std.proofs.Math.Facts.{and_yes}
 use Rattle.sqlite_value.specs.Keys.{plain, entry_cmp}
 use Rattle.sqlite_value.proofs.OrderLemmas.{value_cmp-Blob, then-Equal}
 use Rattle.sqlite_value.proofs.KeyLemmas.{first_key-plain}
@@ -24,14 +25,6 @@ bytes_one = slice_cmp-IsAntisymmetric nat_cmp-IsAntisymmetric
 less_not_equal : Less ≡ Equal → ⊥
 less_not_equal h = cc
 
-and_first : (a b : Bool) → T (a && b) → T a
-and_first true b h = tt
-and_first false b h = absurd h
-
-and_second : (a b : Bool) → T (a && b) → T b
-and_second true b h = h
-and_second false b h = absurd h
-
 is_less : (o : Ordering) → T (is_lt o) → o ≡ Less
 is_less Less h = refl
 is_less Equal h = absurd h
@@ -39,13 +32,13 @@ is_less Greater h = absurd h
 
 all_below : {X : Type 0} (k : List ℕ) (es : List (List ℕ × X)) → T (below_all R k es) → AllByRecursion (λ f. R k f.0 ≡ Less) es
 all_below k [] h = tt
-all_below k (e ∷ es) h = (is_less _ (and_first _ _ h), all_below k es (and_second (is_lt (R k e.0)) _ h))
+all_below k (e ∷ es) h = let both = and_yes (is_lt (R k e.0)) (below_all R k es) h in (is_less _ both.0, all_below k es both.1)
 
 pub below_first : {X : Type 0} (e : List ℕ × X) (es : List (List ℕ × X)) → T (is_sorted R (e ∷ es)) → AllByRecursion (λ f. R e.0 f.0 ≡ Less) es
-below_first e es up = all_below e.0 es (and_first _ _ up)
+below_first e es up = all_below e.0 es (and_yes (below_all R e.0 es) (is_sorted R es) up).0
 
 pub sorted_rest : {X : Type 0} (e : List ℕ × X) (es : List (List ℕ × X)) → T (is_sorted R (e ∷ es)) → T (is_sorted R es)
-sorted_rest e es up = and_second (below_all R e.0 es) _ up
+sorted_rest e es up = (and_yes (below_all R e.0 es) (is_sorted R es) up).1
 
 -- two entries compare by their keys, and then by their values
 pub row_order : (e f : List ℕ × List ℕ) → entry_cmp plain (row_of e) (row_of f) ≡ ordering_then (R e.0 f.0) (R e.1 f.1)

@@ -14,7 +14,9 @@ use Rattle.std.proofs.lemmas.Map.Lookups.{exact_bytes}
 use Rattle.std.proofs.lemmas.Map.Views.{tells_apart}
 use Rattle.rv_ledger.specs.Change.{Content, ContentChange, add, apply_change}
 use Rattle.rv_ledger.specs.declared.change.Change.TheVariants as change
+use Rattle.std.proofs.Math.Facts.{and_yes}
 use Rattle.rv_ledger.specs.Key.{Storage, WriteMap, key_cmp}
+use Rattle.rv_ledger.proofs.SortedKeys.{less}
 use Rattle.rv_ledger.specs.Applied.{apply_writes, apply_write}
 use Rattle.mvmap.specs.Versions.{Entry, Stands, Estimate, Place, Versions, changed, place_cmp}
 use Rattle.mvmap.proofs.Places.{get_changed, get_other}
@@ -25,36 +27,21 @@ use Rattle.stm_state.proofs.Invariant.{AreDistinct}
 
 -- ---- each entry of a map is what the map has at its key
 
--- the first of two tests
-first_true : (a b : Bool) → T (a && b) → T a
-first_true true b h = tt
-first_true false b h = absurd h
-
--- the second of two tests
-second_true : (a b : Bool) → T (a && b) → T b
-second_true true b h = h
-second_true false b h = absurd h
-
--- what the test for less says
-is_less : (o : Ordering) → T (is_lt o) → o ≡ Less
-is_less Less h = refl
-is_less Equal h = absurd h
-is_less Greater h = absurd h
-
 -- an entry is found behind a lower key
 found_later : {X : Type 0} (e : List ℕ × X) (es xs : List (List ℕ × X)) → T (below_all key_cmp e.0 xs) → AllByRecursion (λ x. find key_cmp x.0 es ≡ Some x.1) xs → AllByRecursion (λ x. find key_cmp x.0 (e ∷ es) ≡ Some x.1) xs
 found_later e es [] h k = tt
 found_later e es (x ∷ xs) h k =
-    let below : key_cmp e.0 x.0 ≡ Less = is_less (key_cmp e.0 x.0) (first_true _ _ h) in
+    let both = and_yes (is_lt (key_cmp e.0 x.0)) (below_all key_cmp e.0 xs) h in
+    let below : key_cmp e.0 x.0 ≡ Less = less (key_cmp e.0 x.0) both.0 in
     let other : eq_by_cmp key_cmp x.0 e.0 ≡ false = (eq_by_cmp_equiv nat_list_cmp_total).symm x.0 e.0 ∙ ap is_eq below in
-    (ap (λ b. cond b (Some e.1) (find key_cmp x.0 es)) other ∙ k.0, found_later e es xs (second_true _ _ h) k.1)
+    (ap (λ b. cond b (Some e.1) (find key_cmp x.0 es)) other ∙ k.0, found_later e es xs both.1 k.1)
 
 -- each entry of a list in order is found at its key
 found_each : {X : Type 0} (es : List (List ℕ × X)) → T (is_sorted key_cmp es) → AllByRecursion (λ x. find key_cmp x.0 es ≡ Some x.1) es
 found_each [] h = tt
-found_each (e ∷ es) h = (
+found_each (e ∷ es) h = let both = and_yes (below_all key_cmp e.0 es) (is_sorted key_cmp es) h in (
   ap (λ o. cond (is_eq o) (Some e.1) (find key_cmp e.0 es)) (tied_itself nat_list_cmp_total e.0),
-  found_later e es es (first_true _ _ h) (found_each es (second_true _ _ h)),
+  found_later e es es both.0 (found_each es both.1),
 )
 
 -- what follows of one follows of all
@@ -146,12 +133,14 @@ to_move key last writes =
 -- keys in order are distinct from the first
 not_above : {X : Type 0} (e : List ℕ × X) (es : List (List ℕ × X)) → T (below_all key_cmp e.0 es) → at_key e.0 es ≡ false
 not_above e [] h = refl
-not_above e (x ∷ es) h = ap (λ b. b || at_key e.0 es) (ap is_eq (is_less (key_cmp e.0 x.0) (first_true _ _ h))) ∙ not_above e es (second_true _ _ h)
+not_above e (x ∷ es) h =
+    let both = and_yes (is_lt (key_cmp e.0 x.0)) (below_all key_cmp e.0 es) h in
+    ap (λ b. b || at_key e.0 es) (ap is_eq (less (key_cmp e.0 x.0) both.0)) ∙ not_above e es both.1
 
 -- and so are all of them
 distinct_in_order : {X : Type 0} (es : List (List ℕ × X)) → T (is_sorted key_cmp es) → AreDistinct (map (λ e. e.0) es)
 distinct_in_order [] h = tt
-distinct_in_order (e ∷ es) h = (not_above e es (first_true _ _ h), distinct_in_order es (second_true _ _ h))
+distinct_in_order (e ∷ es) h = let both = and_yes (below_all key_cmp e.0 es) (is_sorted key_cmp es) h in (not_above e es both.0, distinct_in_order es both.1)
 
 -- a conjunction with false
 and_false : (a : Bool) → (a && false) ≡ false
