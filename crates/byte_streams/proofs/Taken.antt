@@ -7,8 +7,8 @@ use Rattle.std.proofs.KnownBytes.{Appends-trans, Appends-kept}
 use Rattle.std.proofs.Math.Seq.{take-append_seam}
 use Rattle.std.proofs.lemmas.Bool.Decides.{nat_tests}
 use Rattle.byte_streams.specs.declared.fault.WriteFault.{WriteFault}
-use Rattle.byte_streams.specs.declared.fault.WriteFault.TheVariants.{Io, WroteNothing, Memory}
-use Rattle.byte_streams.specs.Written.{taken_by, AppendsPart, IsWrittenBefore, MayRefuse}
+use Rattle.byte_streams.specs.declared.fault.WriteFault.TheVariants.{Io, WroteNothing}
+use Rattle.byte_streams.specs.Written.{taken_by, AppendsPart, IsWrittenBefore}
 
 above_zero : (n : ℕ) → (suc n == 0) ≡ false
 above_zero n = grind (arith, nat_tests)
@@ -31,16 +31,10 @@ none_taken (Ok (suc n)) a b bs writes = rw above_zero tt
 none_taken (Err e) a b bs writes = writes
 
 -- a fault that comes is possible
-pub may_come : {E : Type 0} (r : Result ℕ E) (bs : List ℕ) (may_fail may_take_nothing : Type 0) → 0 < length bs → OnErr r may_fail → IfOk r (λ n. n ≡ 0 → 0 < length bs → may_take_nothing) → IfErr (taken_by r) (MayRefuse may_fail may_take_nothing)
-may_come (Ok zero) bs may_fail may_take_nothing some fails nothing = nothing refl some
-may_come (Ok (suc n)) bs may_fail may_take_nothing some fails nothing = rw above_zero tt
-may_come (Err e) bs may_fail may_take_nothing some fails nothing = fails
-
--- what may come later may come now
-pub may_come_before : (f : WriteFault) (fails nothing later_fails later_nothing : Type 0) → (later_fails → fails) × (later_nothing → nothing) → MayRefuse later_fails later_nothing f → MayRefuse fails nothing f
-may_come_before Io fails nothing later_fails later_nothing same h = same.0 h
-may_come_before WroteNothing fails nothing later_fails later_nothing same h = same.1 h
-may_come_before Memory fails nothing later_fails later_nothing same h = tt
+pub may_come : {E : Type 0} (r : Result ℕ E) (bs : List ℕ) (may_refuse : WriteFault → Type 0) → 0 < length bs → OnErr r (may_refuse Io) → IfOk r (λ n. n ≡ 0 → 0 < length bs → may_refuse WroteNothing) → IfErr (taken_by r) may_refuse
+may_come (Ok zero) bs may_refuse some fails nothing = nothing refl some
+may_come (Ok (suc n)) bs may_refuse some fails nothing = rw above_zero tt
+may_come (Err e) bs may_refuse some fails nothing = fails
 
 -- some first bytes are written, and then n more
 pub written_more : (a b c : Option (List ℕ)) (rest bytes : List ℕ) (n : ℕ) → IsWrittenBefore a b rest bytes → Appends b c (take n rest) → IsWrittenBefore a c (drop n rest) bytes

@@ -1,18 +1,16 @@
 -- Writing bytes to a writer.
-use Rattle.std.specs.Prelude.{◌≡◌, ⊤, ℕ, List, ◌<◌, ◌++◌, Option, Result, Ok, Err, take, length, ◌==◌, if◌then◌else◌}
+use Rattle.std.specs.Prelude.{◌≡◌, ℕ, List, ◌<◌, ◌++◌, Option, Result, Ok, Err, take, length, ◌==◌, if◌then◌else◌}
 use Rattle.std.specs.Io.KnownBytes.{Appends}
 use Rattle.byte_streams.specs.declared.fault.WriteFault.{WriteFault}
-use Rattle.byte_streams.specs.declared.fault.WriteFault.TheVariants.{Io, WroteNothing, Memory}
+use Rattle.byte_streams.specs.declared.fault.WriteFault.TheVariants.{Io, WroteNothing}
 
 -- the known bytes grow by a beginning of bs, and not by all of it
 abbrev pub AppendsPart : Option (List ℕ) → Option (List ℕ) → List ℕ → Type 0
 AppendsPart old new bs = (n : ℕ) × (n < length bs) × Appends old new (take n bs)
 
--- a write may be refused so: as Io only where one may fail, and as WroteNothing only where one may take nothing
-abbrev pub MayRefuse : Type 0 → Type 0 → WriteFault → Type 0
-MayRefuse may_fail may_take_nothing Io = may_fail
-MayRefuse may_fail may_take_nothing WroteNothing = may_take_nothing
-MayRefuse may_fail may_take_nothing Memory = ⊤
+-- what refuses so may refuse at most as this did
+abbrev pub AtMostAs : (WriteFault → Type 0) → (WriteFault → Type 0) → Type 0
+AtMostAs may_refuse before = (fault : WriteFault) → may_refuse fault → before fault
 
 -- what a writer's answer means: the number of bytes that it took, at least one, or the fault
 abbrev pub taken_by : {E : Type 0} → Result ℕ E → Result ℕ WriteFault

@@ -1,19 +1,20 @@
 //! Where bytes are written to.
 
-ghost use Rattle.std.specs.Prelude.{⊤, ◌≡◌, ◌<◌, length, IfOk, OnErr, OnOk};
+ghost use Rattle.std.specs.Prelude.{⊤, ◌≡◌, ◌≢◌, ◌<◌, length, IfOk, OnErr, OnOk, refl};
 ghost use Rattle.std.specs.Io.{WritesAtMost};
 ghost use Rattle.std.specs.Io.KnownBytes.{Keeps, WriteAppends};
+ghost use Rattle.std.proofs.Common.{rules};
+ghost use Rattle.byte_streams.specs.Written.{AtMostAs};
+ghost use Rattle.byte_streams.specs.declared.fault.WriteFault.{WriteFault};
+ghost use Rattle.byte_streams.specs.declared.fault.WriteFault.TheVariants.{Io, WroteNothing, Memory};
 
 use std::io;
 use std::io::{Sink, Write};
 
-/// What takes bytes, and says whether a write of it may fail, and whether it may take nothing.
+/// What takes bytes, and says how a write of it may be refused.
 pub trait Destination: Write {
-    /// Whether a write or a flush may fail.
-    ghost may_fail: { Self → Type 0 };
-
-    /// Whether a write of some bytes may take none of them.
-    ghost may_take_nothing: { Self → Type 0 };
+    /// How a write or a flush may be refused: as Io where one may fail, as WroteNothing where a write of some bytes may take none of them.
+    ghost may_refuse: { Self → WriteFault → Type 0 };
 
     /// Whether nothing that was written waits, as a flush leaves it. Of a writer that does not say when, this holds at any time.
     ghost is_flushed: { Self → Type 0 } = { λ _. Unit {0} };
@@ -22,23 +23,26 @@ pub trait Destination: Write {
     fn write_part(&mut self, bytes: &[u8]) -> io::Result<usize>
         ensures bound { WritesAtMost result bytes.now }
         ensures bytes { WriteAppends (Self.contents self.old) (Self.contents self.new) result bytes.now }
-        ensures fails { OnErr result (may_fail self.old) }
-        ensures nothing { IfOk result (λ n. n ≡ 0 → 0 < length bytes.now → may_take_nothing self.old) }
-        ensures same { (may_fail self.new → may_fail self.old) × (may_take_nothing self.new → may_take_nothing self.old) };
+        ensures fails { OnErr result (may_refuse self.old Io) }
+        ensures nothing { IfOk result (λ n. n ≡ 0 → 0 < length bytes.now → may_refuse self.old WroteNothing) }
+        ensures same { AtMostAs (may_refuse self.new) (may_refuse self.old) };
 
     /// Flushes as `flush` does. Fails only where a flush may fail.
     fn flush_written(&mut self) -> io::Result<()>
         ensures bytes { Keeps (Self.contents self.old) (Self.contents self.new) }
-        ensures fails { OnErr result (may_fail self.old) }
+        ensures fails { OnErr result (may_refuse self.old Io) }
         ensures flushed { OnOk result (is_flushed self.new) }
-        ensures same { (may_fail self.new → may_fail self.old) × (may_take_nothing self.new → may_take_nothing self.old) };
+        ensures same { AtMostAs (may_refuse self.new) (may_refuse self.old) };
+
+    /// Memory for a text may run out, whatever writer it is for.
+    ghost memory: { (writer : Self) → may_refuse writer Memory };
 }
 
 /// Bytes in memory. A write fails only where memory ran out, and takes all the bytes where it does not.
 impl Destination for Vec<u8> {
-    ghost may_fail = { λ _. ⊤ };
+    ghost may_refuse = { λ _ fault. fault ≢ WroteNothing };
 
-    ghost may_take_nothing = { λ _. ⊥ };
+    ghost memory = { λ _. Prim.search rules };
 
     fn write_part(&mut self, bytes: &[u8]) -> io::Result<usize> {
         self.write(bytes)
@@ -51,9 +55,9 @@ impl Destination for Vec<u8> {
 
 /// A writer that takes all bytes and keeps none.
 impl Destination for Sink {
-    ghost may_fail = { λ _. ⊥ };
+    ghost may_refuse = { λ _ fault. fault ≡ Memory };
 
-    ghost may_take_nothing = { λ _. ⊥ };
+    ghost memory = { λ _. refl };
 
     fn write_part(&mut self, bytes: &[u8]) -> io::Result<usize> {
         self.write(bytes)
@@ -84,9 +88,9 @@ impl<W: Write> Write for FallibleWriter<W> {
 }
 
 impl<W: Write> Destination for FallibleWriter<W> {
-    ghost may_fail = { λ _. ⊤ };
+    ghost may_refuse = { λ _ _. ⊤ };
 
-    ghost may_take_nothing = { λ _. ⊤ };
+    ghost memory = { λ _. tt };
 
     fn write_part(&mut self, bytes: &[u8]) -> io::Result<usize> {
         self.write(bytes)

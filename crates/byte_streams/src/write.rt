@@ -2,7 +2,7 @@
 
 ghost use Rattle.std.specs.Prelude.{◌≡◌, ◌≢◌, ◌<◌, ◌≤◌, length, take, IfOk, IfErr, OnErr, OnOk};
 ghost use Rattle.std.specs.Io.KnownBytes.{Appends, Keeps};
-ghost use Rattle.byte_streams.specs.Written.{AppendsPart, MayRefuse, taken_by};
+ghost use Rattle.byte_streams.specs.Written.{AppendsPart, AtMostAs, taken_by};
 
 use crate::destination::Destination;
 use crate::fault::WriteFault;
@@ -14,8 +14,8 @@ pub fn write_whole<W: Destination>(bytes: &[u8], out: &mut W) -> Result<(), Writ
     ensures ok { OnOk result (Appends (W.contents out.old) (W.contents out.new) bytes.now) }
     ensures err { OnErr result (AppendsPart (W.contents out.old) (W.contents out.new) bytes.now) }
     ensures fault { IfErr result (λ e. e ≢ WriteFault.Memory) }
-    ensures cause { IfErr result (MayRefuse (W.may_fail out.old) (W.may_take_nothing out.old)) }
-    ensures same { (W.may_fail out.new → W.may_fail out.old) × (W.may_take_nothing out.new → W.may_take_nothing out.old) }
+    ensures cause { IfErr result (W.may_refuse out.old) }
+    ensures same { AtMostAs (W.may_refuse out.new) (W.may_refuse out.old) }
 {
     let mut rest = bytes;
     while !rest.is_empty() {
@@ -36,8 +36,8 @@ fn write_some<W: Destination>(bytes: &[u8], out: &mut W) -> Result<usize, WriteF
         × Appends (W.contents out.old) (W.contents out.new) (take n bytes.now)) }
     ensures err { OnErr result (Keeps (W.contents out.old) (W.contents out.new)) }
     ensures fault { IfErr result (λ e. e ≢ WriteFault.Memory) }
-    ensures cause { IfErr result (MayRefuse (W.may_fail out.old) (W.may_take_nothing out.old)) }
-    ensures same { (W.may_fail out.new → W.may_fail out.old) × (W.may_take_nothing out.new → W.may_take_nothing out.old) }
+    ensures cause { IfErr result (W.may_refuse out.old) }
+    ensures same { AtMostAs (W.may_refuse out.new) (W.may_refuse out.old) }
 {
     taken(out.write_part(bytes))
 }

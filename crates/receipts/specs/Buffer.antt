@@ -1,40 +1,39 @@
 -- Text on its way to a writer.
 use Rattle.std.specs.Prelude.{ℕ, List, ◌++◌, MatchOption, Option}
 use Rattle.std.specs.Io.KnownBytes.{Appends}
-use Rattle.byte_streams.specs.Written.{AppendsPart, IsWrittenBefore, MayRefuse}
+use Rattle.byte_streams.specs.Written.{AppendsPart, AtMostAs, IsWrittenBefore}
 use Rattle.byte_streams.specs.declared.fault.WriteFault.{WriteFault}
 use Rattle.receipts.specs.declared.buffer.TextBuffer.{TextBuffer}
 
 -- what of a text is not written yet waits, or a write was refused, and a beginning of the text was written, and not all
 -- of it; the writer had `start`, of which a write might be refused so
-abbrev pub IsKept : {S : Type 0} → (S → Option (List ℕ)) → (S → Type 0) → (S → Type 0) → Option WriteFault → List ℕ → S → S → List ℕ → Type 0
-IsKept contents may_fail may_take_nothing refused waiting start now text =
+abbrev pub IsKept : {S : Type 0} → (S → Option (List ℕ)) → (S → WriteFault → Type 0) → Option WriteFault → List ℕ → S → S → List ℕ → Type 0
+IsKept contents may_refuse refused waiting start now text =
     MatchOption refused (IsWrittenBefore (contents start) (contents now) waiting text)
-    (λ fault. AppendsPart (contents start) (contents now) text × MayRefuse (may_fail start) (may_take_nothing start) fault)
+    (λ fault. AppendsPart (contents start) (contents now) text × may_refuse start fault)
 
 -- since the writer had `start`, this text was appended; what may be refused now might be refused then
-abbrev pub Holds : {S : Type 0} → (S → Option (List ℕ)) → (S → Type 0) → (S → Type 0) → TextBuffer → S → S → List ℕ → Type 0
-Holds contents may_fail may_take_nothing buffer start now text =
-    ((may_fail now → may_fail start) × (may_take_nothing now → may_take_nothing start))
-    × IsKept contents may_fail may_take_nothing buffer.refused buffer.waiting.items start now text
+abbrev pub Holds : {S : Type 0} → (S → Option (List ℕ)) → (S → WriteFault → Type 0) → TextBuffer → S → S → List ℕ → Type 0
+Holds contents may_refuse buffer start now text =
+    AtMostAs (may_refuse now) (may_refuse start) × IsKept contents may_refuse buffer.refused buffer.waiting.items start now text
 
 -- bytes were appended to a text, whatever it was
-pub record Appended {S : Type 0} (contents : S → Option (List ℕ)) (may_fail may_take_nothing : S → Type 0) (old : TextBuffer) (before : S) (new : TextBuffer) (after : S) (bytes : List ℕ) : Type 0 where
-  pub holds : (start : S) (text : List ℕ) → Holds contents may_fail may_take_nothing old start before text → Holds contents may_fail may_take_nothing new start after (text ++ bytes)
+pub record Appended {S : Type 0} (contents : S → Option (List ℕ)) (may_refuse : S → WriteFault → Type 0) (old : TextBuffer) (before : S) (new : TextBuffer) (after : S) (bytes : List ℕ) : Type 0 where
+  pub holds : (start : S) (text : List ℕ) → Holds contents may_refuse old start before text → Holds contents may_refuse new start after (text ++ bytes)
 
 -- a text that was appended, whatever it is, is written
-abbrev pub IsWritten : {S : Type 0} → (S → Option (List ℕ)) → (S → Type 0) → (S → Type 0) → TextBuffer → S → S → Type 0
-IsWritten {S} contents may_fail may_take_nothing buffer now after =
-    (start : S) (text : List ℕ) → Holds contents may_fail may_take_nothing buffer start now text → Appends (contents start) (contents after) text
+abbrev pub IsWritten : {S : Type 0} → (S → Option (List ℕ)) → (S → WriteFault → Type 0) → TextBuffer → S → S → Type 0
+IsWritten {S} contents may_refuse buffer now after =
+    (start : S) (text : List ℕ) → Holds contents may_refuse buffer start now text → Appends (contents start) (contents after) text
 
 -- or a beginning of it, and not all, since a write was refused so
-abbrev pub IsCutOff : {S : Type 0} → (S → Option (List ℕ)) → (S → Type 0) → (S → Type 0) → TextBuffer → S → S → WriteFault → Type 0
-IsCutOff {S} contents may_fail may_take_nothing buffer now after fault =
-    (start : S) (text : List ℕ) → Holds contents may_fail may_take_nothing buffer start now text
-    → AppendsPart (contents start) (contents after) text × MayRefuse (may_fail start) (may_take_nothing start) fault
+abbrev pub IsCutOff : {S : Type 0} → (S → Option (List ℕ)) → (S → WriteFault → Type 0) → TextBuffer → S → S → WriteFault → Type 0
+IsCutOff {S} contents may_refuse buffer now after fault =
+    (start : S) (text : List ℕ) → Holds contents may_refuse buffer start now text
+    → AppendsPart (contents start) (contents after) text × may_refuse start fault
 
 -- what may be refused after a text was appended and written might be refused before it
-abbrev pub IsNoWorse : {S : Type 0} → (S → Option (List ℕ)) → (S → Type 0) → (S → Type 0) → TextBuffer → S → S → Type 0
-IsNoWorse {S} contents may_fail may_take_nothing buffer now after =
-    (start : S) (text : List ℕ) → Holds contents may_fail may_take_nothing buffer start now text
-    → (may_fail after → may_fail start) × (may_take_nothing after → may_take_nothing start)
+abbrev pub IsNoWorse : {S : Type 0} → (S → Option (List ℕ)) → (S → WriteFault → Type 0) → TextBuffer → S → S → Type 0
+IsNoWorse {S} contents may_refuse buffer now after =
+    (start : S) (text : List ℕ) → Holds contents may_refuse buffer start now text
+    → AtMostAs (may_refuse after) (may_refuse start)

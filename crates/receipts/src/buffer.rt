@@ -4,7 +4,7 @@ ghost use Rattle.std.specs.Prelude.{◌≡◌, ◌≢◌, ◌≤◌, IfSome, Mat
 ghost use Rattle.std.specs.Io.KnownBytes.{Appends};
 ghost use Rattle.std.specs.Option.{ForSome};
 ghost use Rattle.std.specs.Vec.{vec_capacity, vec_len};
-ghost use Rattle.byte_streams.specs.Written.{AppendsPart, MayRefuse};
+ghost use Rattle.byte_streams.specs.Written.{AppendsPart, AtMostAs};
 ghost use Rattle.byte_streams.specs.declared.fault.WriteFault.TheVariants.{Memory};
 
 use byte_streams::{Destination, WriteFault, write_whole};
@@ -43,7 +43,7 @@ impl TextBuffer {
     #[inline(always)]
     pub fn push<W: Destination>(&mut self, bytes: &[u8], out: &mut W)
         requires { length bytes.now ≤ PIECE }
-        ensures { Appended W.contents W.may_fail W.may_take_nothing self.old out.old self.new out.new bytes.now }
+        ensures { Appended W.contents W.may_refuse self.old out.old self.new out.new bytes.now }
     {
         self.make_room(bytes.len(), out);
         match self.waiting.extend_from_slice(bytes) {
@@ -56,7 +56,7 @@ impl TextBuffer {
     #[inline(always)]
     fn make_room<W: Destination>(&mut self, count: usize, out: &mut W)
         requires { count ≤ PIECE }
-        ensures appended { Appended W.contents W.may_fail W.may_take_nothing self.old out.old self.new out.new [] }
+        ensures appended { Appended W.contents W.may_refuse self.old out.old self.new out.new [] }
         ensures room { vec_len self.new.waiting + count ≤ PIECE }
     {
         if count > PIECE - self.waiting.len() {
@@ -68,7 +68,7 @@ impl TextBuffer {
     #[cold]
     #[inline(never)]
     fn write_waiting<W: Destination>(&mut self, out: &mut W)
-        ensures appended { Appended W.contents W.may_fail W.may_take_nothing self.old out.old self.new out.new [] }
+        ensures appended { Appended W.contents W.may_refuse self.old out.old self.new out.new [] }
         ensures empty { self.new.waiting.items ≡ [] }
     {
         self.refused = first_refusal(self.refused, self.waiting.as_slice(), out);
@@ -77,10 +77,10 @@ impl TextBuffer {
 
     /// Writes what waits. Refused as the first write that was refused.
     pub fn finish<W: Destination>(self, out: &mut W) -> Result<(), WriteFault>
-        ensures ok { OnOk result (IsWritten W.contents W.may_fail W.may_take_nothing self out.old out.new) }
-        ensures err { IfErr result (IsCutOff W.contents W.may_fail W.may_take_nothing self out.old out.new) }
+        ensures ok { OnOk result (IsWritten W.contents W.may_refuse self out.old out.new) }
+        ensures err { IfErr result (IsCutOff W.contents W.may_refuse self out.old out.new) }
         ensures fault { IfErr result (λ e. e ≢ WriteFault.Memory) }
-        ensures same { IsNoWorse W.contents W.may_fail W.may_take_nothing self out.old out.new }
+        ensures same { IsNoWorse W.contents W.may_refuse self out.old out.new }
     {
         let mut text = self;
         text.write_waiting(out);
@@ -98,9 +98,9 @@ fn first_refusal<W: Destination>(
     out: &mut W,
 ) -> Option<WriteFault>
     ensures none { refused ≡ None → MatchOption result (Appends (W.contents out.old) (W.contents out.new) bytes.now)
-        (λ fault. AppendsPart (W.contents out.old) (W.contents out.new) bytes.now × MayRefuse (W.may_fail out.old) (W.may_take_nothing out.old) fault) }
+        (λ fault. AppendsPart (W.contents out.old) (W.contents out.new) bytes.now × W.may_refuse out.old fault) }
     ensures before { IfSome refused (λ fault. (result ≡ Some fault) × (out.new ≡ out.old)) }
-    ensures same { (W.may_fail out.new → W.may_fail out.old) × (W.may_take_nothing out.new → W.may_take_nothing out.old) }
+    ensures same { AtMostAs (W.may_refuse out.new) (W.may_refuse out.old) }
     ensures fault { IfSome result (λ fault. refused ≡ None → fault ≢ Memory) }
 {
     match refused {

@@ -2,7 +2,7 @@
 
 ghost use Rattle.std.specs.Prelude.{◌≡◌, IfErr, OnErr, OnOk};
 ghost use Rattle.std.specs.Io.KnownBytes.{Appends};
-ghost use Rattle.byte_streams.specs.Written.{AppendsPart, MayRefuse};
+ghost use Rattle.byte_streams.specs.Written.{AppendsPart, AtMostAs};
 ghost use Rattle.receipts.specs.Text.{result_text};
 
 use crate::buffer::TextBuffer;
@@ -23,9 +23,9 @@ pub fn write_result<W: Destination>(
         (result_text receipts.now store.now)) }
     ensures err { OnErr result (AppendsPart (W.contents out.old) (W.contents out.new)
         (result_text receipts.now store.now)) }
-    ensures cause { IfErr result (MayRefuse (W.may_fail out.old) (W.may_take_nothing out.old)) }
+    ensures cause { IfErr result (W.may_refuse out.old) }
     ensures memory { IfErr result (λ e. e ≡ WriteFault.Memory → out.new ≡ out.old) }
-    ensures same { (W.may_fail out.new → W.may_fail out.old) × (W.may_take_nothing out.new → W.may_take_nothing out.old) }
+    ensures same { AtMostAs (W.may_refuse out.new) (W.may_refuse out.old) }
 {
     let Ok(mut text) = TextBuffer::new(alloc) else {
         return Err(WriteFault::Memory);

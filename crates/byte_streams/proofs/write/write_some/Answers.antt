@@ -10,4 +10,4 @@ returns-clause-err g c = rw c.taken.ensures (none_taken c.write_part.result _ _ 
 
 pub returns-clause-cause : goal.returns-clause-cause
 returns-clause-cause g c =
-    rw c.taken.ensures (may_come c.write_part.result c.args.bytes.now (g.W.Destination.may_fail c.args.out.now) (g.W.Destination.may_take_nothing c.args.out.now) c.requires c.write_part.ensures.fails c.write_part.ensures.nothing)
+    rw c.taken.ensures (may_come c.write_part.result c.args.bytes.now (g.W.Destination.may_refuse c.args.out.now) c.requires c.write_part.ensures.fails c.write_part.ensures.nothing)

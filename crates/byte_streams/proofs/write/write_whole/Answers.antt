@@ -1,12 +1,12 @@
 use Rattle.std.proofs.Common.{◌<◌, length, arith}
 use Rattle.std.proofs.lemmas.Bool.Decides.{nat_tests}
-use Rattle.byte_streams.proofs.Taken.{may_come_before, written_more, written_part}
+use Rattle.byte_streams.proofs.Taken.{written_more, written_part}
 use Rattle.byte_streams.proofs.write.write_whole.Goals as goal
 
 pub loop-rest-preserved : goal.loop-rest-preserved
 loop-rest-preserved g c = record {
   written = rw c.split_at.ensures.back (written_more _ _ _ _ _ _ c.loop-rest.invariant.written c.in-Ok.ensures.ok.2);
-  same = (λ h. c.loop-rest.invariant.same.0 (c.in-Ok.ensures.same.0 h), λ h. c.loop-rest.invariant.same.1 (c.in-Ok.ensures.same.1 h));
+  same = λ fault h. c.loop-rest.invariant.same fault (c.in-Ok.ensures.same fault h);
 }
 
 pub returns-in-Err-clause-err : goal.returns-in-Err-clause-err
@@ -15,4 +15,4 @@ returns-in-Err-clause-err g c =
     written_part _ _ _ _ _ left c.loop-rest.invariant.written c.in-Err.ensures.err
 
 pub returns-in-Err-clause-cause : goal.returns-in-Err-clause-cause
-returns-in-Err-clause-cause g c = may_come_before c.in-Err.fault _ _ _ _ c.loop-rest.invariant.same c.in-Err.ensures.cause
+returns-in-Err-clause-cause g c = c.loop-rest.invariant.same c.in-Err.fault c.in-Err.ensures.cause

@@ -1,12 +1,12 @@
 use Rattle.std.proofs.Common.{length}
-use Rattle.byte_streams.specs.Written.{IsWrittenBefore}
+use Rattle.byte_streams.specs.Written.{AtMostAs, IsWrittenBefore}
 use Rattle.byte_streams.proofs.write.write_whole.Given as goal
 
 -- some first bytes are written, and what is left follows them; what may come now might have come before
 abbrev pub invariant-loop-rest : goal.invariant-loop-rest
 invariant-loop-rest g l = record {
   written : IsWrittenBefore (g.W.Write.contents l.fn.out) (g.W.Write.contents l.out) l.rest l.bytes;
-  same : (g.W.Destination.may_fail l.out → g.W.Destination.may_fail l.fn.out) × (g.W.Destination.may_take_nothing l.out → g.W.Destination.may_take_nothing l.fn.out);
+  same : AtMostAs (g.W.Destination.may_refuse l.out) (g.W.Destination.may_refuse l.fn.out);
 }
 
 abbrev pub decreases-loop-rest : goal.decreases-loop-rest

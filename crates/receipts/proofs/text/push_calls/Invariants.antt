@@ -5,4 +5,4 @@ use Rattle.receipts.specs.Text.{call_lines}
 use Rattle.receipts.proofs.text.push_calls.Given as goal
 
 abbrev pub invariant-loop-index : goal.invariant-loop-index
-invariant-loop-index g l = IsAppendedBefore g.W.Write.contents g.W.Destination.may_fail g.W.Destination.may_take_nothing l.fn.text l.fn.out l.text l.out (flat_map call_lines (enumerate_from l.index (drop l.index l.receipts))) (flat_map call_lines (enumerate_from 0 l.receipts))
+invariant-loop-index g l = IsAppendedBefore g.W.Write.contents g.W.Destination.may_refuse l.fn.text l.fn.out l.text l.out (flat_map call_lines (enumerate_from l.index (drop l.index l.receipts))) (flat_map call_lines (enumerate_from 0 l.receipts))

@@ -4,4 +4,4 @@ use Rattle.receipts.specs.Text.{more_fields, word_text}
 use Rattle.receipts.proofs.text.push_words.Given as goal
 
 abbrev pub invariant-loop-word : goal.invariant-loop-word
-invariant-loop-word g l = IsAppendedBefore g.W.Write.contents g.W.Destination.may_fail g.W.Destination.may_take_nothing l.fn.text l.fn.out l.text l.out (more_fields (map word_text (drop l.word-index l.words))) (more_fields (map word_text l.words))
+invariant-loop-word g l = IsAppendedBefore g.W.Write.contents g.W.Destination.may_refuse l.fn.text l.fn.out l.text l.out (more_fields (map word_text (drop l.word-index l.words))) (more_fields (map word_text l.words))

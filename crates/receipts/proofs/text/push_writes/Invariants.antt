@@ -6,4 +6,4 @@ use Rattle.receipts.specs.Text.{write_line}
 use Rattle.receipts.proofs.text.push_writes.Given as goal
 
 abbrev pub invariant-loop-key : goal.invariant-loop-key
-invariant-loop-key g l = IsAppendedBefore g.W.Write.contents g.W.Destination.may_fail g.W.Destination.may_take_nothing l.fn.text l.fn.out l.text l.out (flat_map (write_line l.index) (drop l.key-index (entries l.writes))) (flat_map (write_line l.index) (entries l.writes))
+invariant-loop-key g l = IsAppendedBefore g.W.Write.contents g.W.Destination.may_refuse l.fn.text l.fn.out l.text l.out (flat_map (write_line l.index) (drop l.key-index (entries l.writes))) (flat_map (write_line l.index) (entries l.writes))
