@@ -2,7 +2,7 @@
 
 ghost use Rattle.std.specs.Prelude.{◌≡◌, IfErr, OnErr, OnOk};
 ghost use Rattle.std.specs.Io.KnownBytes.{Appends};
-ghost use Rattle.byte_streams.specs.Written.{AppendsPart, MayRefuse};
+ghost use Rattle.byte_streams.specs.Written.{AppendsPart, AtMostAs};
 ghost use Rattle.conflicts.specs.Text.{conflicts_text};
 
 use crate::block::Conflicts;
@@ -22,9 +22,9 @@ pub fn write_conflicts<W: Destination>(
         (conflicts_text conflicts.now.calls.items conflicts.now.paths.items conflicts.now.keys.items)) }
     ensures err { OnErr result (AppendsPart (W.contents out.old) (W.contents out.new)
         (conflicts_text conflicts.now.calls.items conflicts.now.paths.items conflicts.now.keys.items)) }
-    ensures cause { IfErr result (MayRefuse (W.may_fail out.old) (W.may_take_nothing out.old)) }
+    ensures cause { IfErr result (W.may_refuse out.old) }
     ensures memory { IfErr result (λ e. e ≡ WriteFault.Memory → out.new ≡ out.old) }
-    ensures same { (W.may_fail out.new → W.may_fail out.old) × (W.may_take_nothing out.new → W.may_take_nothing out.old) }
+    ensures same { AtMostAs (W.may_refuse out.new) (W.may_refuse out.old) }
 {
     let Ok(mut text) = TextBuffer::new(alloc) else {
         return Err(WriteFault::Memory);

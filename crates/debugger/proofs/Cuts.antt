@@ -3,7 +3,8 @@ use Rattle.std.proofs.Common.{◌≡◌, ℕ, ◌+◌, ◌<◌, ◌==◌, Bool, 
 use Rattle.std.specs.Io.KnownBytes.{Appends, Consumes, IsAtEnd}
 use Rattle.std.proofs.KnownBytes.{Appends-nil, Consumes-trans, Consumes-whole}
 use Rattle.std.proofs.lemmas.List.Elements.{All-append, All-nil}
-use Rattle.byte_streams.specs.Written.{AppendsPart}
+use Rattle.byte_streams.specs.Written.{AppendsPart, AtMostAs}
+use Rattle.byte_streams.specs.declared.fault.WriteFault.{WriteFault}
 use Rattle.byte_streams.specs.declared.fault.WriteFault.TheVariants as output
 use Rattle.debugger.specs.declared.command.Command.{Command}
 use Rattle.debugger.specs.declared.command.Command.TheVariants.{Step, Back, RunTo, Where, Registers, Bytes, Quit, GoTo, RunToChange, End, Value, Help}
@@ -24,12 +25,12 @@ pub part_begins : (a b : Option (List ℕ)) (text : List ℕ) → AppendsPart a 
 part_begins a b text h = (take h.0 text, drop h.0 text, sym (take-append-drop h.0 text), h.2)
 
 -- a fault that is possible later is possible now
-pub possible_before : (fault : DebugFault) (fails nothing later_fails later_nothing : Type 0) → (later_fails → fails) × (later_nothing → nothing) → IsPossibleFault later_fails later_nothing fault → IsPossibleFault fails nothing fault
-possible_before (Output output.Io) fails nothing later_fails later_nothing same h = same.0 h
-possible_before (Output output.WroteNothing) fails nothing later_fails later_nothing same h = same.1 h
-possible_before (Output output.Memory) fails nothing later_fails later_nothing same h = h
-possible_before Memory fails nothing later_fails later_nothing same h = tt
-possible_before Unreadable fails nothing later_fails later_nothing same h = tt
+pub possible_before : (fault : DebugFault) (before later : WriteFault → Type 0) → AtMostAs later before → IsPossibleFault later fault → IsPossibleFault before fault
+possible_before (Output output.Io) before later same h = same output.Io h
+possible_before (Output output.WroteNothing) before later same h = same output.WroteNothing h
+possible_before (Output output.Memory) before later same h = absurd h
+possible_before Memory before later same h = tt
+possible_before Unreadable before later same h = tt
 
 none_begins : (part text : List ℕ) → part ≡ [] → (left : List ℕ) × (text ≡ part ++ left)
 none_begins part text none = (text, sym (ap (λ (t : List ℕ). t ++ text) none))

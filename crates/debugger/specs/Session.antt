@@ -2,7 +2,7 @@
 use Rattle.std.specs.Prelude.{◌≡◌, ⊤, ℕ, ◌+◌, ◌-◌, ◌^◌, ◌<◌, ◌≤◌, ◌==◌, ◌⊎◌, Bool, true, false, All, List, [], ◌∷◌, ◌++◌, codes, length, Option, Some, None, IfSome, if◌then◌else◌}
 use Rattle.std.specs.Io.KnownBytes.{Appends}
 use Rattle.block_file.specs.Line.{cut}
-use Rattle.byte_streams.specs.Written.{MayRefuse}
+use Rattle.byte_streams.specs.declared.fault.WriteFault.{WriteFault}
 use Rattle.byte_streams.specs.declared.fault.WriteFault.TheVariants as output
 use Rattle.receipts.specs.Text.{bytes_text, regs_line}
 use Rattle.debugger.specs.declared.command.Command.{Command}
@@ -120,10 +120,10 @@ abbrev pub MayBeCutOff : Type 0 → Option (List ℕ) → Type 0
 MayBeCutOff may_fail input = may_fail ⊎ IfSome input (λ bytes. 2 ^ 64 - 1 ≤ length bytes)
 
 -- a session may be refused so: for its output only where a write may be refused so, and never as Memory of the output
-abbrev pub IsPossibleFault : Type 0 → Type 0 → DebugFault → Type 0
-IsPossibleFault may_fail may_take_nothing (Output output.Memory) = ⊥
-IsPossibleFault may_fail may_take_nothing (Output fault) = MayRefuse may_fail may_take_nothing fault
-IsPossibleFault may_fail may_take_nothing _ = ⊤
+abbrev pub IsPossibleFault : (WriteFault → Type 0) → DebugFault → Type 0
+IsPossibleFault may_refuse (Output output.Memory) = ⊥
+IsPossibleFault may_refuse (Output fault) = may_refuse fault
+IsPossibleFault may_refuse _ = ⊤
 
 -- the known bytes grow by a beginning of a text
 abbrev pub AppendsBeginning : Option (List ℕ) → Option (List ℕ) → List ℕ → Type 0

@@ -3,6 +3,7 @@
 ghost use Rattle.std.specs.Prelude.{◌≡◌, ◌≢◌, ◌++◌, All, false, true, not, IfErr, IfOk, IfSome, OnErr, OnOk};
 ghost use Rattle.std.specs.Io.{ReadsAtMost};
 ghost use Rattle.std.specs.Io.KnownBytes.{Appends, ReadConsumes};
+ghost use Rattle.byte_streams.specs.Written.{AtMostAs};
 ghost use Rattle.debugger.specs.Command.{heard_of};
 ghost use Rattle.debugger.specs.Session.{AppendsBeginning, EndsAs, IsCutShort, MayBeCutOff, IsPossibleFault, after_line, is_quit, line_text, lines_of, session};
 ghost use Rattle.debugger.specs.Hearing.{Hears, IsCutAnswer, IsCutIn, IsInLine};
@@ -33,7 +34,7 @@ pub fn debug_to<R: Source, W: Destination>(
         EndsAs (session false replay.old (lines_of input)) replay.new (W.contents out.old) (W.contents out.new))) }
     ensures err { IfErr result (λ fault. IfSome (R.remaining lines.old) (λ input.
         IsCutShort false fault replay.old (lines_of input) replay.new (W.contents out.old) (W.contents out.new))) }
-    ensures cause { IfErr result (IsPossibleFault (W.may_fail out.old) (W.may_take_nothing out.old)) }
+    ensures cause { IfErr result (IsPossibleFault (W.may_refuse out.old)) }
     ensures unreadable { IfErr result (λ fault. fault ≡ DebugFault.Unreadable → MayBeCutOff (R.may_fail lines.old) (R.remaining lines.old)) }
 {
     debug_lines_to(alloc, false, replay, lines, out)
@@ -57,7 +58,7 @@ pub fn debug_lines_to<R: Source, W: Destination>(
         EndsAs (session has_more replay.old (lines_of input)) replay.new (W.contents out.old) (W.contents out.new))) }
     ensures err { IfErr result (λ fault. IfSome (R.remaining lines.old) (λ input.
         IsCutShort has_more fault replay.old (lines_of input) replay.new (W.contents out.old) (W.contents out.new))) }
-    ensures cause { IfErr result (IsPossibleFault (W.may_fail out.old) (W.may_take_nothing out.old)) }
+    ensures cause { IfErr result (IsPossibleFault (W.may_refuse out.old)) }
     ensures unreadable { IfErr result (λ fault. fault ≡ DebugFault.Unreadable → MayBeCutOff (R.may_fail lines.old) (R.remaining lines.old)) }
 {
     let mut line = Vec::new(alloc);
@@ -120,7 +121,7 @@ fn hear_end<W: Destination>(
     ensures err { IfErr result (λ fault.
         IsCutShort has_more fault replay.old (lines_of line.now) replay.new (W.contents out.old) (W.contents out.new)) }
     ensures fault { IfErr result (λ fault. fault ≢ DebugFault.Unreadable) }
-    ensures cause { IfErr result (IsPossibleFault (W.may_fail out.old) (W.may_take_nothing out.old)) }
+    ensures cause { IfErr result (IsPossibleFault (W.may_refuse out.old)) }
 {
     if line.is_empty() {
         return Ok(());
@@ -152,8 +153,8 @@ fn hear<W: Destination>(
     ensures err { IfErr result (λ fault.
         IsCutIn has_more fault replay.old (line.old.items ++ part.now) replay.new (W.contents out.old) (W.contents out.new)) }
     ensures fault { IfErr result (λ fault. fault ≢ DebugFault.Unreadable) }
-    ensures cause { IfErr result (IsPossibleFault (W.may_fail out.old) (W.may_take_nothing out.old)) }
-    ensures same { (W.may_fail out.new → W.may_fail out.old) × (W.may_take_nothing out.new → W.may_take_nothing out.old) }
+    ensures cause { IfErr result (IsPossibleFault (W.may_refuse out.old)) }
+    ensures same { AtMostAs (W.may_refuse out.new) (W.may_refuse out.old) }
 {
     for byte in part {
         if *byte != LINE_END {
@@ -187,8 +188,8 @@ fn answer_line<W: Destination>(
     ensures err { IfErr result (λ fault.
         IsCutAnswer has_more fault replay.old line.now replay.new (W.contents out.old) (W.contents out.new)) }
     ensures fault { IfErr result (λ fault. fault ≢ DebugFault.Unreadable) }
-    ensures cause { IfErr result (IsPossibleFault (W.may_fail out.old) (W.may_take_nothing out.old)) }
-    ensures same { (W.may_fail out.new → W.may_fail out.old) × (W.may_take_nothing out.new → W.may_take_nothing out.old) }
+    ensures cause { IfErr result (IsPossibleFault (W.may_refuse out.old)) }
+    ensures same { AtMostAs (W.may_refuse out.new) (W.may_refuse out.old) }
 {
     let Ok(command) = heard_of(alloc, has_more, line) else {
         return Err(DebugFault::Memory);
@@ -215,8 +216,8 @@ fn print<W: Destination>(text: &[u8], out: &mut W) -> Result<(), WriteFault>
     ensures ok { OnOk result (Appends (W.contents out.old) (W.contents out.new) text.now) }
     ensures flushed { OnOk result (W.is_flushed out.new) }
     ensures err { OnErr result (AppendsBeginning (W.contents out.old) (W.contents out.new) text.now) }
-    ensures cause { IfErr result (λ fault. IsPossibleFault (W.may_fail out.old) (W.may_take_nothing out.old) (DebugFault.Output fault)) }
-    ensures same { (W.may_fail out.new → W.may_fail out.old) × (W.may_take_nothing out.new → W.may_take_nothing out.old) }
+    ensures cause { IfErr result (λ fault. IsPossibleFault (W.may_refuse out.old) (DebugFault.Output fault)) }
+    ensures same { AtMostAs (W.may_refuse out.new) (W.may_refuse out.old) }
 {
     match write_whole(text, out) {
         Ok(()) => {}

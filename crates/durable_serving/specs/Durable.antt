@@ -3,6 +3,7 @@ use Rattle.std.specs.Prelude.{◌≡◌, ◌≢◌, ◌<◌, ◌≤◌, ◌⊎�
 use Rattle.std.specs.Io.KnownBytes.{Appends}
 use Rattle.std.specs.Option.{ForSome}
 use Rattle.byte_streams.specs.Refusals.{line_text}
+use Rattle.byte_streams.specs.declared.fault.WriteFault.{WriteFault}
 use Rattle.requests.specs.Requests.{Ask, Program, Forget, Frame, Last, Begin, requests_of}
 use Rattle.requests.specs.declared.request.RequestFault.{RequestFault}
 use Rattle.serving.specs.Serving.{AreAnswered, IsEndedBy, MayEnd, end_text, fault_of, until_quit}
@@ -159,6 +160,6 @@ IsDurablyEndedBy may_fail settings (Store fault) old bytes new before after =
     × AreAnswered (IsFileAnswer settings) old heard text mid × Appends before after text × IsShutBy settings mid ask fault new
 
 -- a write may have been refused so
-abbrev pub MayDurablyEnd : Type 0 → Type 0 → DurableFault → Type 0
-MayDurablyEnd may_fail may_take_nothing (Session fault) = MayEnd may_fail may_take_nothing fault
-MayDurablyEnd may_fail may_take_nothing (Store fault) = ⊤
+abbrev pub MayDurablyEnd : (WriteFault → Type 0) → DurableFault → Type 0
+MayDurablyEnd may_refuse (Session fault) = MayEnd may_refuse fault
+MayDurablyEnd may_refuse (Store fault) = ⊤

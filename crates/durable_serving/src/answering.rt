@@ -52,7 +52,7 @@ pub fn serve_durably<R: BufferedSource, S: Store, C: CallRunner, W: Destination>
     ensures stopped { IsClean (S.Store.view session.new.file) → IfSome (R.remaining input.old) (λ bytes. IsStopped settings (moment (file_state session.old.state session.old.found) (S.Store.view session.old.file) (S.Store.faults session.old.file)) bytes
         (W.contents out.old) (W.contents out.new) (S.Store.recovers session.new.file)) }
     ensures kept { IsKeptBy settings (S.Store.view session.new.file) (file_state session.new.state session.new.found) }
-    ensures refused { IfErr result (MayDurablyEnd (W.may_fail out.old) (W.may_take_nothing out.old)) }
+    ensures refused { IfErr result (MayDurablyEnd (W.may_refuse out.old)) }
 {
     for answers in 0..u64::MAX {
         let asked = match next_behind(alloc, input, settings.frame_limit, answers, out) {

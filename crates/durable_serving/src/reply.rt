@@ -1,7 +1,7 @@
 //! What a session over a file answers.
 
 ghost use Rattle.std.specs.Prelude.{IfErr, OnOk};
-ghost use Rattle.byte_streams.specs.Written.{MayRefuse};
+ghost use Rattle.byte_streams.specs.Written.{AtMostAs};
 ghost use Rattle.serving.specs.Writing.{Says};
 ghost use Rattle.durable_serving.specs.Keeping.{HasReply, reply_text};
 
@@ -32,8 +32,8 @@ pub(crate) fn write_reply<S: Store, W: Destination>(
     requires { HasReply session.now.found reply }
     ensures says { Says result (W.contents out.old) (W.contents out.new) (reply_text session.now.state session.now.found reply) }
     ensures flushed { OnOk result (W.is_flushed out.new) }
-    ensures refused { IfErr result (MayRefuse (W.may_fail out.old) (W.may_take_nothing out.old)) }
-    ensures no_worse { (W.may_fail out.new → W.may_fail out.old) × (W.may_take_nothing out.new → W.may_take_nothing out.old) }
+    ensures refused { IfErr result (W.may_refuse out.old) }
+    ensures no_worse { AtMostAs (W.may_refuse out.new) (W.may_refuse out.old) }
 {
     match reply {
         FileReply::Turn(answer) => write_answer(&session.state, answer, out),

@@ -99,9 +99,9 @@ impl Write for FailingWriter {
 }
 
 impl Destination for FailingWriter {
-    ghost may_fail = { λ _. ⊤ };
+    ghost may_refuse = { λ _ _. ⊤ };
 
-    ghost may_take_nothing = { λ _. ⊤ };
+    ghost memory = { λ _. tt };
 
     fn write_part(&mut self, bytes: &[u8]) -> io::Result<usize> {
         self.write(bytes)

@@ -38,7 +38,7 @@ pub fn chain_to<R: BufferedSource, C: CallRunner, W: Destination>(
         × IsServed (IsAnswer settings) None (new_session settings) bytes after (W.contents out.old) (W.contents out.new))) }
     ensures err { IfErr result (λ e. IfSome (R.remaining input.old) (λ bytes. (fault : ServeFault) × (after : State) × (e ≡ cut_of fault)
         × IsEndedBy (R.may_fail input.old) (IsAnswer settings) fault (new_session settings) bytes after (W.contents out.old) (W.contents out.new))) }
-    ensures refused { IfErr result (λ e. (fault : ServeFault) × (e ≡ cut_of fault) × MayEnd (W.may_fail out.old) (W.may_take_nothing out.old) fault) }
+    ensures refused { IfErr result (λ e. (fault : ServeFault) × (e ≡ cut_of fault) × MayEnd (W.may_refuse out.old) fault) }
 {
     let mut state = State::new(alloc, settings);
     match serve(alloc, input, runner, settings, &mut state, out) {
@@ -79,7 +79,7 @@ pub fn durable_chain_to<R: BufferedSource, S: Store, C: CallRunner, W: Destinati
         (moment (file_state session.old.state session.old.found) (S.Store.view session.old.file) (S.Store.faults session.old.file)) bytes (moment (file_state session.new.state session.new.found) (S.Store.view session.new.file) (S.Store.faults session.new.file)) (W.contents out.old) (W.contents out.new))) }
     ensures stopped { IsClean (S.Store.view session.new.file) → IfSome (R.remaining input.old) (λ bytes. IsStopped settings (moment (file_state session.old.state session.old.found) (S.Store.view session.old.file) (S.Store.faults session.old.file)) bytes
         (W.contents out.old) (W.contents out.new) (S.Store.recovers session.new.file)) }
-    ensures refused { IfErr result (λ e. (fault : DurableFault) × (e ≡ durably_cut fault) × MayDurablyEnd (W.may_fail out.old) (W.may_take_nothing out.old) fault) }
+    ensures refused { IfErr result (λ e. (fault : DurableFault) × (e ≡ durably_cut fault) × MayDurablyEnd (W.may_refuse out.old) fault) }
 {
     match serve_durably(alloc, input, runner, settings, session, out) {
         Ok(()) => Ok(()),

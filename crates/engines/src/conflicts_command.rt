@@ -3,7 +3,6 @@
 ghost use Rattle.std.specs.Prelude.{IfErr, IfSome, IsOkAnd, OnOk};
 ghost use Rattle.std.specs.Io.KnownBytes.{Appends};
 ghost use Rattle.block_file.specs.Block.{block_of};
-ghost use Rattle.byte_streams.specs.Written.{MayRefuse};
 ghost use Rattle.conflicts.specs.Text.{conflicts_text};
 ghost use Rattle.engines.specs.Engine.{loaded_job, IsOutputFault, IsRefusedJob};
 ghost use Rattle.engines.specs.Conflicts.{AppendsConflicts, IsConflictsFault};
@@ -29,7 +28,7 @@ pub fn conflicts_to<R: Source, P: Programs, W: Destination>(
     ensures written { OnOk result (IfSome (R.remaining block.old) (λ input.
         IfSome (loaded_job (P.content programs.old) (block_of input)) (λ wanted.
         IsOkAnd wanted (λ job. AppendsConflicts job (W.contents out.old) (W.contents out.new))))) }
-    ensures refused { IfErr result (IsRefusedJob (Refusal.Seq SeqFault.Memory) (IsConflictsFault (MayRefuse (W.may_fail out.old) (W.may_take_nothing out.old)))
+    ensures refused { IfErr result (IsRefusedJob (Refusal.Seq SeqFault.Memory) (IsConflictsFault (W.may_refuse out.old))
         (R.may_fail block.old) (R.remaining block.old) (P.content programs.old) (W.contents out.old) (W.contents out.new)) }
 {
     let job = load_job(alloc, block, programs, Refusal::Seq(SeqFault::Memory))?;
@@ -39,7 +38,7 @@ pub fn conflicts_to<R: Source, P: Programs, W: Destination>(
 /// Finds the conflicts of a job and writes them.
 fn conflicts_job<W: Destination>(alloc: Global, job: &Job, out: &mut W) -> Result<(), Refusal>
     ensures written { OnOk result (AppendsConflicts job.now (W.contents out.old) (W.contents out.new)) }
-    ensures refused { IfErr result (IsConflictsFault (MayRefuse (W.may_fail out.old) (W.may_take_nothing out.old)) (W.contents out.old) (W.contents out.new) job.now) }
+    ensures refused { IfErr result (IsConflictsFault (W.may_refuse out.old) (W.contents out.old) (W.contents out.new) job.now) }
 {
     let Ok(conflicts) = find_conflicts(alloc, job) else {
         return Err(Refusal::Seq(SeqFault::Memory));
@@ -55,7 +54,7 @@ fn write_found<W: Destination>(
 ) -> Result<(), Refusal>
     ensures written { OnOk result (Appends (W.contents out.old) (W.contents out.new)
         (conflicts_text conflicts.now.calls.items conflicts.now.paths.items conflicts.now.keys.items)) }
-    ensures refused { IfErr result (λ e. IsOutputFault (MayRefuse (W.may_fail out.old) (W.may_take_nothing out.old))
+    ensures refused { IfErr result (λ e. IsOutputFault (W.may_refuse out.old)
         (conflicts_text conflicts.now.calls.items conflicts.now.paths.items conflicts.now.keys.items) (W.contents out.old) (W.contents out.new) e) }
 {
     match write_conflicts(alloc, conflicts, out) {

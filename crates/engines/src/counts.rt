@@ -6,7 +6,7 @@ ghost use Rattle.std.specs.Io.KnownBytes.{Appends};
 ghost use Rattle.std.specs.List.{sum_by};
 ghost use Rattle.std.specs.String.{string_bytes};
 ghost use Rattle.engines.specs.Counts.{counts_text, sums_line, worker_line, worker_lines};
-ghost use Rattle.byte_streams.specs.Written.{AppendsPart, MayRefuse};
+ghost use Rattle.byte_streams.specs.Written.{AppendsPart};
 
 use byte_streams::{Destination, WriteFault, write_whole};
 use rv_ledger::Counts;
@@ -40,7 +40,7 @@ pub fn write_counts<W: Destination>(
 ) -> Result<(), WriteFault>
     ensures ok { OnOk result (Appends (W.contents out.old) (W.contents out.new) (counts_text counts.now)) }
     ensures err { OnErr result (AppendsPart (W.contents out.old) (W.contents out.new) (counts_text counts.now)) }
-    ensures cause { IfErr result (MayRefuse (W.may_fail out.old) (W.may_take_nothing out.old)) }
+    ensures cause { IfErr result (W.may_refuse out.old) }
     ensures memory { IfErr result (λ e. e ≡ WriteFault.Memory → out.new ≡ out.old) }
 {
     let Ok(text) = counts_text(alloc, counts) else {

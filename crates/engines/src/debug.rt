@@ -4,7 +4,6 @@ ghost use Rattle.std.specs.Prelude.{◌≡◌, ◌⊎◌, None, Some, Ok, slice_
 ghost use Rattle.std.specs.Io.KnownBytes.{Appends};
 ghost use Rattle.block_file.specs.Block.{block_of};
 ghost use Rattle.debugger.specs.Session.{AppendsBeginning, MayBeCutOff, lines_of, session};
-ghost use Rattle.byte_streams.specs.Written.{MayRefuse};
 ghost use Rattle.rv_step.specs.Fold.{store_after};
 ghost use Rattle.engines.specs.Debug.{first_moment, replayed_text, IsReplayFault, IsReplayedFault, IsSessionFault};
 ghost use Rattle.engines.specs.Engine.{loaded_job, IsRefusedJob};
@@ -37,7 +36,7 @@ pub fn debug_block_to<R: Source, P: Programs, L: Source, W: Destination>(
         IfSome (loaded_job (P.content programs.old) (block_of input)) (λ job.
         IsOkAnd (replayed_text has_more job call typed) (Appends (W.contents out.old) (W.contents out.new)))))) }
     ensures refused { IfErr result (IsRefusedJob (Refusal.Seq SeqFault.Memory)
-        (IsReplayedFault (MayBeCutOff (L.may_fail lines.old) (L.remaining lines.old)) (MayRefuse (W.may_fail out.old) (W.may_take_nothing out.old)) call)
+        (IsReplayedFault (MayBeCutOff (L.may_fail lines.old) (L.remaining lines.old)) (W.may_refuse out.old) call)
         (R.may_fail block.old) (R.remaining block.old) (P.content programs.old) (W.contents out.old) (W.contents out.new)) }
     ensures cut { OnErr result (IfSome (R.remaining block.old) (λ input. IfSome (L.remaining lines.old) (λ typed.
         IfSome (loaded_job (P.content programs.old) (block_of input)) (λ job.
@@ -119,7 +118,7 @@ fn debug_lines<L: Source, W: Destination>(
 ) -> Result<(), Refusal>
     ensures written { OnOk result (IfSome (L.remaining lines.old) (λ typed.
         Appends (W.contents out.old) (W.contents out.new) (session has_more replay.old (lines_of typed)).text)) }
-    ensures refused { IfErr result (IsSessionFault (MayBeCutOff (L.may_fail lines.old) (L.remaining lines.old)) (MayRefuse (W.may_fail out.old) (W.may_take_nothing out.old))) }
+    ensures refused { IfErr result (IsSessionFault (MayBeCutOff (L.may_fail lines.old) (L.remaining lines.old)) (W.may_refuse out.old)) }
     ensures cut { OnErr result (IfSome (L.remaining lines.old) (λ typed.
         AppendsBeginning (W.contents out.old) (W.contents out.new) (session has_more replay.old (lines_of typed)).text)) }
 {

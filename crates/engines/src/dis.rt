@@ -4,7 +4,6 @@ ghost use Rattle.std.specs.Prelude.{◌≡◌, ◌++◌, [], ◌∷◌, flat_map
 ghost use Rattle.std.specs.Io.KnownBytes.{Appends};
 ghost use Rattle.std.specs.Option.{option_map};
 ghost use Rattle.std.specs.String.{string_bytes};
-ghost use Rattle.byte_streams.specs.Written.{MayRefuse};
 ghost use Rattle.engines.specs.Engine.{IsFileFault};
 ghost use Rattle.engines.specs.Dis.{IsListingFault, listing_line, listing_of, listing_of_file};
 ghost use Rattle.programs.specs.Programs.{program_of_file};
@@ -30,7 +29,7 @@ pub fn dis_to<R: Source, W: Destination>(
 ) -> Result<(), Refusal>
     ensures written { OnOk result (IfSome (R.remaining file.old) (λ bytes.
         IsOkAnd (listing_of_file bytes) (Appends (W.contents out.old) (W.contents out.new)))) }
-    ensures refused { IfErr result (IsListingFault (R.may_fail file.old) (MayRefuse (W.may_fail out.old) (W.may_take_nothing out.old)) (R.remaining file.old) (W.contents out.old) (W.contents out.new)) }
+    ensures refused { IfErr result (IsListingFault (R.may_fail file.old) (W.may_refuse out.old) (R.remaining file.old) (W.contents out.old) (W.contents out.new)) }
 {
     // Not by `?`: the proof answers this arm.
     let listing = match listing(alloc, file) {

@@ -5,7 +5,6 @@ ghost use Rattle.std.specs.Io.KnownBytes.{Appends};
 ghost use Rattle.std.specs.Option.{option_map};
 ghost use Rattle.block_file.specs.Block.{block_of};
 ghost use Rattle.block_file.specs.Schedule.{schedule_of};
-ghost use Rattle.byte_streams.specs.Written.{MayRefuse};
 ghost use Rattle.engines.specs.Counts.{AreCountsAlong};
 ghost use Rattle.engines.specs.Drive.{driven_answer, text_along, IsDriveFault, IsScheduleFault, IsScheduledFault};
 ghost use Rattle.engines.specs.Engine.{loaded_job, IsRefusedJob};
@@ -39,7 +38,7 @@ pub fn drive_to<R: Source, P: Programs, S: Source, W: Destination>(
         IfSome (driven_answer (P.content programs.old) (block_of input) workers (option_map schedule_of (S.remaining schedule.old))) (λ answer.
         IsOkAnd answer (Appends (W.contents out.old) (W.contents out.new))))) }
     ensures refused { IfErr result (IsRefusedJob (Refusal.Drive DriveFault.Memory)
-        (IsScheduledFault (S.may_fail schedule.old) (MayRefuse (W.may_fail out.old) (W.may_take_nothing out.old)) workers (option_map schedule_of (S.remaining schedule.old)))
+        (IsScheduledFault (S.may_fail schedule.old) (W.may_refuse out.old) workers (option_map schedule_of (S.remaining schedule.old)))
         (R.may_fail block.old) (R.remaining block.old) (P.content programs.old) (W.contents out.old) (W.contents out.new)) }
     ensures counts { IfOk result (λ counts. IfSome (R.remaining block.old) (λ input. IfSome (S.remaining schedule.old) (λ bytes.
         IfSome (loaded_job (P.content programs.old) (block_of input)) (λ wanted. IsOkAnd wanted (λ job.
@@ -83,7 +82,7 @@ fn drive_job<W: Destination>(
     out: &mut W,
 ) -> Result<RunCounts, Refusal>
     ensures written { OnOk result (IsOkAnd (text_along job.now.block job.now.store workers entries.now) (Appends (W.contents out.old) (W.contents out.new))) }
-    ensures refused { IfErr result (λ e. IsDriveFault (MayRefuse (W.may_fail out.old) (W.may_take_nothing out.old)) (text_along job.now.block job.now.store workers entries.now) (W.contents out.old) (W.contents out.new) e) }
+    ensures refused { IfErr result (λ e. IsDriveFault (W.may_refuse out.old) (text_along job.now.block job.now.store workers entries.now) (W.contents out.old) (W.contents out.new) e) }
     ensures counts { IfOk result (AreCountsAlong job.now workers entries.now) }
 {
     match drive(alloc, job, workers, entries) {

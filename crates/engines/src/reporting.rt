@@ -4,7 +4,7 @@ ghost use Rattle.std.specs.Prelude.{◌≡◌, ◌≢◌, IfErr, OnErr, OnOk};
 ghost use Rattle.std.specs.Io.KnownBytes.{Appends};
 ghost use Rattle.debugger.specs.Session.{AppendsBeginning};
 ghost use Rattle.engines.specs.Faults.{refusal_line};
-ghost use Rattle.byte_streams.specs.Written.{AppendsPart, MayRefuse};
+ghost use Rattle.byte_streams.specs.Written.{AppendsPart};
 
 use crate::fault::Refusal;
 use byte_streams::{Destination, WriteFault, refusal_line, write_whole};
@@ -13,7 +13,7 @@ use byte_streams::{Destination, WriteFault, refusal_line, write_whole};
 /// refused, a beginning of the line was written.
 pub fn report<W: Destination>(refusal: &Refusal, out: &mut W) -> u8
     ensures status { result ≡ 1 }
-    ensures whole { ¬ (W.may_fail out.old) → ¬ (W.may_take_nothing out.old) → Appends (W.contents out.old) (W.contents out.new) (refusal_line refusal.now) }
+    ensures whole { ¬ (W.may_refuse out.old WriteFault.Io) → ¬ (W.may_refuse out.old WriteFault.WroteNothing) → Appends (W.contents out.old) (W.contents out.new) (refusal_line refusal.now) }
     ensures line { AppendsBeginning (W.contents out.old) (W.contents out.new) (refusal_line refusal.now) }
 {
     let _ = write_refusal(refusal, out);
@@ -26,7 +26,7 @@ pub fn report<W: Destination>(refusal: &Refusal, out: &mut W) -> u8
 pub fn write_refusal<W: Destination>(refusal: &Refusal, out: &mut W) -> Result<(), WriteFault>
     ensures written { OnOk result (Appends (W.contents out.old) (W.contents out.new) (refusal_line refusal.now)) }
     ensures cut { OnErr result (AppendsPart (W.contents out.old) (W.contents out.new) (refusal_line refusal.now)) }
-    ensures cause { IfErr result (MayRefuse (W.may_fail out.old) (W.may_take_nothing out.old)) }
+    ensures cause { IfErr result (W.may_refuse out.old) }
     ensures room { IfErr result (λ e. e ≢ WriteFault.Memory) }
 {
     let line = refusal_line("rvstm: ", refusal.parts());

@@ -2,7 +2,6 @@
 
 ghost use Rattle.std.specs.Prelude.{◌≡◌, IfErr, IfOk, OnOk, length};
 ghost use Rattle.std.specs.Io.KnownBytes.{Appends};
-ghost use Rattle.byte_streams.specs.Written.{MayRefuse};
 ghost use Rattle.receipts.specs.Text.{result_text};
 ghost use Rattle.engines.specs.Engine.{IsOutputFault};
 
@@ -21,7 +20,7 @@ pub(crate) fn write_counted<W: Destination>(
 ) -> Result<RunCounts, Refusal>
     ensures written { OnOk result (Appends (W.contents out.old) (W.contents out.new)
         (result_text outcome.receipts.items outcome.store)) }
-    ensures refused { IfErr result (λ e. IsOutputFault (MayRefuse (W.may_fail out.old) (W.may_take_nothing out.old)) (result_text outcome.receipts.items outcome.store)
+    ensures refused { IfErr result (λ e. IsOutputFault (W.may_refuse out.old) (result_text outcome.receipts.items outcome.store)
         (W.contents out.old) (W.contents out.new) e) }
     ensures calls { IfOk result (λ counts. counts.calls ≡ length outcome.job.block) }
     ensures workers { IfOk result (λ counts. counts.workers.items ≡ outcome.counts.items) }
@@ -53,7 +52,7 @@ pub(crate) fn write_run<W: Destination>(
 ) -> Result<(), Refusal>
     ensures written { OnOk result (Appends (W.contents out.old) (W.contents out.new)
         (result_text receipts.now store.now)) }
-    ensures refused { IfErr result (λ e. IsOutputFault (MayRefuse (W.may_fail out.old) (W.may_take_nothing out.old)) (result_text receipts.now store.now)
+    ensures refused { IfErr result (λ e. IsOutputFault (W.may_refuse out.old) (result_text receipts.now store.now)
         (W.contents out.old) (W.contents out.new) e) }
 {
     match write_result(alloc, receipts, store, out) {

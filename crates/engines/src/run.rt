@@ -3,7 +3,6 @@
 ghost use Rattle.std.specs.Prelude.{◌≡◌, ◌≤◌, length, IfErr, IfOk, IfSome, IsOkAnd, OnOk};
 ghost use Rattle.std.specs.Io.KnownBytes.{Appends};
 ghost use Rattle.block_file.specs.Block.{block_of};
-ghost use Rattle.byte_streams.specs.Written.{MayRefuse};
 ghost use Rattle.engines.specs.Counts.{AreCountsOfRun};
 ghost use Rattle.engines.specs.Engine.{answer_of, loaded_job, text_of, IsRefusedJob};
 ghost use Rattle.engines.specs.Run.{IsRefusalOf, IsWorkersFault};
@@ -38,7 +37,7 @@ pub fn run_to<T: Threads + Wait + Sync, R: Source, P: Programs, W: Destination>(
     ensures written { OnOk result (IfSome (R.remaining block.old) (λ input.
         IfSome (answer_of (P.content programs.old) (block_of input)) (λ answer.
         IsOkAnd answer (Appends (W.contents out.old) (W.contents out.new))))) }
-    ensures refused { IfErr result (IsRefusedJob (Refusal.Run RunFault.Memory) (IsWorkersFault (MayRefuse (W.may_fail out.old) (W.may_take_nothing out.old)) workers)
+    ensures refused { IfErr result (IsRefusedJob (Refusal.Run RunFault.Memory) (IsWorkersFault (W.may_refuse out.old) workers)
         (R.may_fail block.old) (R.remaining block.old) (P.content programs.old) (W.contents out.old) (W.contents out.new)) }
     ensures workers { OnOk result ((1 ≤ workers) × (workers ≤ 32)) }
     ensures history { IfOk result (λ counts. IfSome (R.remaining block.old) (λ input.
@@ -57,7 +56,7 @@ fn run_threads<T: Threads + Wait + Sync, W: Destination>(
     out: &mut W,
 ) -> Result<RunCounts, Refusal>
     ensures written { OnOk result (Appends (W.contents out.old) (W.contents out.new) (text_of job)) }
-    ensures refused { IfErr result (IsWorkersFault (MayRefuse (W.may_fail out.old) (W.may_take_nothing out.old)) workers (W.contents out.old) (W.contents out.new) job) }
+    ensures refused { IfErr result (IsWorkersFault (W.may_refuse out.old) workers (W.contents out.old) (W.contents out.new) job) }
     ensures workers { OnOk result ((1 ≤ workers) × (workers ≤ 32)) }
     ensures history { IfOk result (AreCountsOfRun job workers) }
 {

@@ -3,7 +3,6 @@
 ghost use Rattle.std.specs.Prelude.{IfErr, IfSome, IsOkAnd, OnOk};
 ghost use Rattle.std.specs.Io.KnownBytes.{Appends};
 ghost use Rattle.block_file.specs.Block.{block_of};
-ghost use Rattle.byte_streams.specs.Written.{MayRefuse};
 ghost use Rattle.engines.specs.Engine.{answer_of, text_of, IsRefusedJob, IsRunFault};
 
 use crate::fault::{Refusal, SeqFault};
@@ -27,7 +26,7 @@ pub fn seq_to<R: Source, P: Programs, W: Destination>(
     ensures written { OnOk result (IfSome (R.remaining block.old) (λ input.
         IfSome (answer_of (P.content programs.old) (block_of input)) (λ answer.
         IsOkAnd answer (Appends (W.contents out.old) (W.contents out.new))))) }
-    ensures refused { IfErr result (IsRefusedJob (Refusal.Seq SeqFault.Memory) (IsRunFault (MayRefuse (W.may_fail out.old) (W.may_take_nothing out.old)))
+    ensures refused { IfErr result (IsRefusedJob (Refusal.Seq SeqFault.Memory) (IsRunFault (W.may_refuse out.old))
         (R.may_fail block.old) (R.remaining block.old) (P.content programs.old) (W.contents out.old) (W.contents out.new)) }
 {
     let job = load_job(alloc, block, programs, Refusal::Seq(SeqFault::Memory))?;
@@ -37,7 +36,7 @@ pub fn seq_to<R: Source, P: Programs, W: Destination>(
 /// Runs a job in order and writes the result.
 fn seq_job<W: Destination>(alloc: Global, job: Job, out: &mut W) -> Result<(), Refusal>
     ensures written { OnOk result (Appends (W.contents out.old) (W.contents out.new) (text_of job)) }
-    ensures refused { IfErr result (IsRunFault (MayRefuse (W.may_fail out.old) (W.may_take_nothing out.old)) (W.contents out.old) (W.contents out.new) job) }
+    ensures refused { IfErr result (IsRunFault (W.may_refuse out.old) (W.contents out.old) (W.contents out.new) job) }
 {
     let Ok(ran) = into_result(alloc, job) else {
         return Err(Refusal::Seq(SeqFault::Memory));

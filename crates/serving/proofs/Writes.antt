@@ -3,10 +3,7 @@ use Rattle.std.proofs.Common.{◌≡◌, ℕ, List, [], ◌++◌, take, drop, Op
 use Rattle.std.proofs.lemmas.List.{take-append-drop}
 use Rattle.std.proofs.KnownBytes.{Appends-kept, Appends-trans}
 use Rattle.std.specs.Io.KnownBytes.{Appends, Keeps}
-use Rattle.std.specs.Prelude.{IfErr}
-use Rattle.byte_streams.specs.Written.{AppendsPart, MayRefuse}
-use Rattle.byte_streams.specs.declared.fault.WriteFault.{WriteFault}
-use Rattle.byte_streams.proofs.Taken.{may_come_before}
+use Rattle.byte_streams.specs.Written.{AppendsPart}
 use Rattle.serving.specs.Writing.{Says}
 
 -- a part of a text is a beginning of it
@@ -45,8 +42,3 @@ says_behind (Err e) line text before mid after a (part, left, whole, s) = (
   append_assoc line part left ∙ ap (λ (t : List ℕ). line ++ t) whole,
   Appends-trans before mid after line part a s,
 )
-
--- what may be refused so later may be refused so now
-pub refused_before : {X : Type 0} (r : Result X WriteFault) (fails nothing later_fails later_nothing : Type 0) → (later_fails → fails) × (later_nothing → nothing) → IfErr r (MayRefuse later_fails later_nothing) → IfErr r (MayRefuse fails nothing)
-refused_before (Ok x) fails nothing later_fails later_nothing same may = tt
-refused_before (Err fault) fails nothing later_fails later_nothing same may = may_come_before fault fails nothing later_fails later_nothing same may

@@ -2,7 +2,7 @@
 use Rattle.std.specs.Prelude.{◌≡◌, ◌⊎◌, ⊤, ℕ, List, [], ◌∷◌, ◌++◌, codes, length, Bool, true, false, Option, Some, None, if◌then◌else◌}
 use Rattle.std.specs.Io.KnownBytes.{Appends}
 use Rattle.byte_streams.specs.Refusals.{Parts, line_text, without_line}
-use Rattle.byte_streams.specs.Written.{MayRefuse}
+use Rattle.byte_streams.specs.declared.fault.WriteFault.{WriteFault}
 use Rattle.requests.specs.Requests.{AllRequests, Ask, Quit, requests_of}
 use Rattle.requests.specs.declared.request.RequestFault.{RequestFault}
 use Rattle.requests.specs.declared.request.RequestFault.TheVariants.{BadLine, Cut}
@@ -98,6 +98,6 @@ IsEndedBy may_fail answers Unreadable old bytes new before after = IsUnread may_
 IsEndedBy may_fail answers (Output fault) old bytes new before after = IsCutOff answers old bytes new before after
 
 -- a write may have been refused so
-abbrev pub MayEnd : Type 0 → Type 0 → ServeFault → Type 0
-MayEnd may_fail may_take_nothing (Output fault) = MayRefuse may_fail may_take_nothing fault
-MayEnd may_fail may_take_nothing other = ⊤
+abbrev pub MayEnd : (WriteFault → Type 0) → ServeFault → Type 0
+MayEnd may_refuse (Output fault) = may_refuse fault
+MayEnd may_refuse other = ⊤

@@ -52,7 +52,7 @@ pub fn serve<R: BufferedSource, C: CallRunner, W: Destination>(
     ensures ok { OnOk result (IfSome (R.remaining input.old) (λ bytes. IsServed (IsAnswer settings) None state.old bytes state.new (W.contents out.old) (W.contents out.new))) }
     ensures err { IfErr result (λ fault. IfSome (R.remaining input.old) (λ bytes.
         IsEndedBy (R.may_fail input.old) (IsAnswer settings) fault state.old bytes state.new (W.contents out.old) (W.contents out.new))) }
-    ensures refused { IfErr result (MayEnd (W.may_fail out.old) (W.may_take_nothing out.old)) }
+    ensures refused { IfErr result (MayEnd (W.may_refuse out.old)) }
 {
     for answers in 0..u64::MAX {
         let asked = match next_behind(alloc, input, settings.frame_limit, answers, out) {
@@ -128,7 +128,7 @@ fn take_request<C: CallRunner>(
 /// Answers bytes that are no request, and returns why the session ends: Broken, or Output where a write failed.
 pub fn answer_broken<W: Destination>(fault: RequestFault, out: &mut W) -> ServeFault
     ensures told { IsTold fault result (W.contents out.old) (W.contents out.new) }
-    ensures refused { MayEnd (W.may_fail out.old) (W.may_take_nothing out.old) result }
+    ensures refused { MayEnd (W.may_refuse out.old) result }
 {
     match print_end(fault, out) {
         Ok(()) => ServeFault::Broken(fault),

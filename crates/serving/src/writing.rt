@@ -2,7 +2,7 @@
 
 ghost use Rattle.std.specs.Prelude.{◌++◌, IfErr, OnOk, Some};
 ghost use Rattle.std.specs.Io.KnownBytes.{Keeps};
-ghost use Rattle.byte_streams.specs.Written.{MayRefuse};
+ghost use Rattle.byte_streams.specs.Written.{AtMostAs};
 ghost use Rattle.serving.specs.Serving.{end_text};
 ghost use Rattle.serving.specs.Writing.{Says};
 ghost use Rattle.turns.specs.Replies.{Done, answer_text, kept_reply};
@@ -28,8 +28,8 @@ pub fn write_answer<W: Destination>(
 ) -> Result<(), WriteFault>
     ensures says { Says result (W.contents out.old) (W.contents out.new) (answer_text (reply_in state.now answer)) }
     ensures flushed { OnOk result (W.is_flushed out.new) }
-    ensures refused { IfErr result (MayRefuse (W.may_fail out.old) (W.may_take_nothing out.old)) }
-    ensures no_worse { (W.may_fail out.new → W.may_fail out.old) × (W.may_take_nothing out.new → W.may_take_nothing out.old) }
+    ensures refused { IfErr result (W.may_refuse out.old) }
+    ensures no_worse { AtMostAs (W.may_refuse out.new) (W.may_refuse out.old) }
 {
     match answer {
         Answer::Done(bytes) => {
@@ -53,8 +53,8 @@ pub fn write_answer<W: Destination>(
 fn print_last<W: Destination>(state: &State, out: &mut W) -> Result<(), WriteFault>
     ensures says { Says result (W.contents out.old) (W.contents out.new) (answer_text (last_reply state.now.last)) }
     ensures flushed { OnOk result (W.is_flushed out.new) }
-    ensures refused { IfErr result (MayRefuse (W.may_fail out.old) (W.may_take_nothing out.old)) }
-    ensures no_worse { (W.may_fail out.new → W.may_fail out.old) × (W.may_take_nothing out.new → W.may_take_nothing out.old) }
+    ensures refused { IfErr result (W.may_refuse out.old) }
+    ensures no_worse { AtMostAs (W.may_refuse out.new) (W.may_refuse out.old) }
 {
     match &state.last {
         Some(kept) => print_kept(kept, out),
@@ -69,8 +69,8 @@ fn print_last<W: Destination>(state: &State, out: &mut W) -> Result<(), WriteFau
 fn print_kept<W: Destination>(kept: &KeptAnswer, out: &mut W) -> Result<(), WriteFault>
     ensures says { Says result (W.contents out.old) (W.contents out.new) (answer_text (kept_reply kept.now)) }
     ensures flushed { OnOk result (W.is_flushed out.new) }
-    ensures refused { IfErr result (MayRefuse (W.may_fail out.old) (W.may_take_nothing out.old)) }
-    ensures no_worse { (W.may_fail out.new → W.may_fail out.old) × (W.may_take_nothing out.new → W.may_take_nothing out.old) }
+    ensures refused { IfErr result (W.may_refuse out.old) }
+    ensures no_worse { AtMostAs (W.may_refuse out.new) (W.may_refuse out.old) }
 {
     let line = line_of_kept(kept);
     write_both(line.as_str().as_bytes(), bytes_of_kept(kept), out)
@@ -84,8 +84,8 @@ fn print_storage<W: Destination>(
 ) -> Result<(), WriteFault>
     ensures says { Says result (W.contents out.old) (W.contents out.new) (answer_text (Done (dump_text state.now.rules state.now.store))) }
     ensures flushed { OnOk result (W.is_flushed out.new) }
-    ensures refused { IfErr result (MayRefuse (W.may_fail out.old) (W.may_take_nothing out.old)) }
-    ensures no_worse { (W.may_fail out.new → W.may_fail out.old) × (W.may_take_nothing out.new → W.may_take_nothing out.old) }
+    ensures refused { IfErr result (W.may_refuse out.old) }
+    ensures no_worse { AtMostAs (W.may_refuse out.new) (W.may_refuse out.old) }
 {
     let line = done_line(dump_length(state.rules, &state.store));
     match write_whole(line.as_str().as_bytes(), out) {
@@ -102,8 +102,8 @@ fn print_storage<W: Destination>(
 pub(crate) fn print_end<W: Destination>(fault: RequestFault, out: &mut W) -> Result<(), WriteFault>
     ensures says { Says result (W.contents out.old) (W.contents out.new) (end_text (Some fault)) }
     ensures flushed { OnOk result (W.is_flushed out.new) }
-    ensures refused { IfErr result (MayRefuse (W.may_fail out.old) (W.may_take_nothing out.old)) }
-    ensures no_worse { (W.may_fail out.new → W.may_fail out.old) × (W.may_take_nothing out.new → W.may_take_nothing out.old) }
+    ensures refused { IfErr result (W.may_refuse out.old) }
+    ensures no_worse { AtMostAs (W.may_refuse out.new) (W.may_refuse out.old) }
 {
     let line = refusal_line("refused ", parts_of(fault));
     print(line.as_str().as_bytes(), out)
@@ -113,8 +113,8 @@ pub(crate) fn print_end<W: Destination>(fault: RequestFault, out: &mut W) -> Res
 pub fn write_both<W: Destination>(line: &[u8], bytes: &[u8], out: &mut W) -> Result<(), WriteFault>
     ensures says { Says result (W.contents out.old) (W.contents out.new) (line.now ++ bytes.now) }
     ensures flushed { OnOk result (W.is_flushed out.new) }
-    ensures refused { IfErr result (MayRefuse (W.may_fail out.old) (W.may_take_nothing out.old)) }
-    ensures no_worse { (W.may_fail out.new → W.may_fail out.old) × (W.may_take_nothing out.new → W.may_take_nothing out.old) }
+    ensures refused { IfErr result (W.may_refuse out.old) }
+    ensures no_worse { AtMostAs (W.may_refuse out.new) (W.may_refuse out.old) }
 {
     match write_whole(line, out) {
         Ok(()) => print(bytes, out),
@@ -126,8 +126,8 @@ pub fn write_both<W: Destination>(line: &[u8], bytes: &[u8], out: &mut W) -> Res
 fn print<W: Destination>(text: &[u8], out: &mut W) -> Result<(), WriteFault>
     ensures says { Says result (W.contents out.old) (W.contents out.new) text.now }
     ensures flushed { OnOk result (W.is_flushed out.new) }
-    ensures refused { IfErr result (MayRefuse (W.may_fail out.old) (W.may_take_nothing out.old)) }
-    ensures no_worse { (W.may_fail out.new → W.may_fail out.old) × (W.may_take_nothing out.new → W.may_take_nothing out.old) }
+    ensures refused { IfErr result (W.may_refuse out.old) }
+    ensures no_worse { AtMostAs (W.may_refuse out.new) (W.may_refuse out.old) }
 {
     match write_whole(text, out) {
         Ok(()) => flush(out),
@@ -139,8 +139,8 @@ fn print<W: Destination>(text: &[u8], out: &mut W) -> Result<(), WriteFault>
 fn flush<W: Destination>(out: &mut W) -> Result<(), WriteFault>
     ensures keeps { Keeps (W.contents out.old) (W.contents out.new) }
     ensures flushed { OnOk result (W.is_flushed out.new) }
-    ensures refused { IfErr result (MayRefuse (W.may_fail out.old) (W.may_take_nothing out.old)) }
-    ensures no_worse { (W.may_fail out.new → W.may_fail out.old) × (W.may_take_nothing out.new → W.may_take_nothing out.old) }
+    ensures refused { IfErr result (W.may_refuse out.old) }
+    ensures no_worse { AtMostAs (W.may_refuse out.new) (W.may_refuse out.old) }
 {
     match out.flush_written() {
         Ok(()) => Ok(()),

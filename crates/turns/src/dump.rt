@@ -4,7 +4,7 @@ ghost use Rattle.std.specs.Prelude.{◌≡◌, ◌≢◌, ◌<◌, ◌≤◌, �
 ghost use Rattle.std.specs.Io.KnownBytes.{Appends};
 ghost use Rattle.std.specs.FinMap.{entries};
 ghost use Rattle.std.specs.List.{flat_map};
-ghost use Rattle.byte_streams.specs.Written.{AppendsPart, MayRefuse};
+ghost use Rattle.byte_streams.specs.Written.{AppendsPart, AtMostAs};
 ghost use Rattle.receipts.specs.Buffer.{Appended};
 ghost use Rattle.receipts.specs.Text.{bytes_text, store_line};
 ghost use Rattle.turns.specs.Telling.{dump_head, dump_text};
@@ -88,8 +88,8 @@ pub fn write_dump<W: Destination>(
     ensures ok { OnOk result (Appends (W.contents out.old) (W.contents out.new) (dump_text rules store.now)) }
     ensures err { OnErr result (AppendsPart (W.contents out.old) (W.contents out.new) (dump_text rules store.now)) }
     ensures fault { IfErr result (λ fault. fault ≢ WriteFault.Memory) }
-    ensures cause { IfErr result (MayRefuse (W.may_fail out.old) (W.may_take_nothing out.old)) }
-    ensures same { (W.may_fail out.new → W.may_fail out.old) × (W.may_take_nothing out.new → W.may_take_nothing out.old) }
+    ensures cause { IfErr result (W.may_refuse out.old) }
+    ensures same { AtMostAs (W.may_refuse out.new) (W.may_refuse out.old) }
 {
     let EmptyBuffer { buffer } = buffer;
     let mut text = buffer;
@@ -99,7 +99,7 @@ pub fn write_dump<W: Destination>(
 
 /// Appends the text of a storage: a block file of the session's rules.
 fn push_dump<W: Destination>(text: &mut TextBuffer, rules: Rules, store: &Store, out: &mut W)
-    ensures { Appended W.contents W.may_fail W.may_take_nothing text.old out.old text.new out.new (dump_text rules store.now) }
+    ensures { Appended W.contents W.may_refuse text.old out.old text.new out.new (dump_text rules store.now) }
 {
     push_head(text, rules, out);
     push_store(text, store, out);
@@ -107,7 +107,7 @@ fn push_dump<W: Destination>(text: &mut TextBuffer, rules: Rules, store: &Store,
 
 /// Appends the lines before the first entry's.
 fn push_head<W: Destination>(text: &mut TextBuffer, rules: Rules, out: &mut W)
-    ensures { Appended W.contents W.may_fail W.may_take_nothing text.old out.old text.new out.new (dump_head rules) }
+    ensures { Appended W.contents W.may_refuse text.old out.old text.new out.new (dump_head rules) }
 {
     text.push(b"rvblock 2\ngas ", out);
     push_decimal(text, u64::from(number_of(rules)), out);
@@ -116,7 +116,7 @@ fn push_head<W: Destination>(text: &mut TextBuffer, rules: Rules, out: &mut W)
 
 /// Appends the lines of the entries.
 fn push_store<W: Destination>(text: &mut TextBuffer, store: &Store, out: &mut W)
-    ensures { Appended W.contents W.may_fail W.may_take_nothing text.old out.old text.new out.new (flat_map store_line (entries store.now)) }
+    ensures { Appended W.contents W.may_refuse text.old out.old text.new out.new (flat_map store_line (entries store.now)) }
 {
     for (key, value) in store.iter() {
         push_entry(text, key, value, out);

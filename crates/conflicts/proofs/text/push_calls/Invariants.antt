@@ -5,4 +5,4 @@ use Rattle.conflicts.specs.Text.{call_lines}
 use Rattle.conflicts.proofs.text.push_calls.Given as goal
 
 abbrev pub invariant-loop-index : goal.invariant-loop-index
-invariant-loop-index g l = IsAppendedBefore g.W.Write.contents g.W.Destination.may_fail g.W.Destination.may_take_nothing l.fn.text l.fn.out l.text l.out (flat_map call_lines (enumerate_from l.index (zip (drop l.index l.calls) (drop l.index l.paths)))) (flat_map call_lines (enumerate_from 0 (zip l.calls l.paths)))
+invariant-loop-index g l = IsAppendedBefore g.W.Write.contents g.W.Destination.may_refuse l.fn.text l.fn.out l.text l.out (flat_map call_lines (enumerate_from l.index (zip (drop l.index l.calls) (drop l.index l.paths)))) (flat_map call_lines (enumerate_from 0 (zip l.calls l.paths)))

@@ -5,4 +5,4 @@ use Rattle.receipts.specs.Text.{more_fields}
 use Rattle.conflicts.proofs.text.push_more_calls.Given as goal
 
 abbrev pub invariant-loop-call : goal.invariant-loop-call
-invariant-loop-call g l = IsAppendedBefore g.W.Write.contents g.W.Destination.may_fail g.W.Destination.may_take_nothing l.fn.text l.fn.out l.text l.out (more_fields (map decimal (drop l.call-index l.calls))) (more_fields (map decimal l.fn.calls))
+invariant-loop-call g l = IsAppendedBefore g.W.Write.contents g.W.Destination.may_refuse l.fn.text l.fn.out l.text l.out (more_fields (map decimal (drop l.call-index l.calls))) (more_fields (map decimal l.fn.calls))

@@ -5,4 +5,4 @@ use Rattle.conflicts.specs.Text.{wait_line}
 use Rattle.conflicts.proofs.text.push_waits.Given as goal
 
 abbrev pub invariant-loop-wait : goal.invariant-loop-wait
-invariant-loop-wait g l = IsAppendedBefore g.W.Write.contents g.W.Destination.may_fail g.W.Destination.may_take_nothing l.fn.text l.fn.out l.text l.out (flat_map (wait_line l.fn.index) (drop l.wait-index l.waits)) (flat_map (wait_line l.fn.index) l.fn.waits)
+invariant-loop-wait g l = IsAppendedBefore g.W.Write.contents g.W.Destination.may_refuse l.fn.text l.fn.out l.text l.out (flat_map (wait_line l.fn.index) (drop l.wait-index l.waits)) (flat_map (wait_line l.fn.index) l.fn.waits)

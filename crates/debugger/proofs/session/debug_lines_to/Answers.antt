@@ -13,7 +13,7 @@ loop-turn-init g c = (
   Consumes-nil (g.R.Read.remaining c.args.lines.now),
   rw c.new-line.ensures.items (start_heard c.args.has_more c.args.replay.now [] (g.W.Write.contents c.args.out.now) (All-nil IsInLine)),
   (λ h. h),
-  (λ h. h, λ h. h),
+  (λ fault h. h),
   lit≤ tt,
   λ none. cc,
 )
@@ -31,7 +31,7 @@ loop-turn-preserved g c = (
   part_heard c.args.has_more c.args.replay.now c.loop-turn.replay c.loop-turn.invariant.0 c.loop-turn.line.items _ _ c.loop-turn.invariant.2 (take c.in-Ok.count c.read_behind.new.part) c.hear.new.line.items c.hear.new.replay _
       (rw c.in-Ok-true.field-0-test at c.in-Ok-true.ensures.ok),
   (λ h. c.loop-turn.invariant.3 (c.read_behind.ensures.same h)),
-  (λ h. c.loop-turn.invariant.4.0 (c.hear.ensures.same.0 h), λ h. c.loop-turn.invariant.4.1 (c.hear.ensures.same.1 h)),
+  (λ fault h. c.loop-turn.invariant.4 fault (c.hear.ensures.same fault h)),
   one_more c.loop-turn._turn c.loop-turn.invariant.0 c.read_behind.new.part c.in-Ok.count c.loop-turn.invariant.5 (omega arith) c.in-Ok.ensures.bound.0,
   c.in-Ok-true.ensures.flushed,
 )
@@ -80,7 +80,7 @@ returns-clause-unreadable g c _ =
     too_long (g.R.Source.may_fail c.args.lines.now) (g.R.Read.remaining c.args.lines.now) (g.R.Read.remaining c.loop-turn.lines) c.loop-turn.invariant.0 (omega arith) c.loop-turn.invariant.1
 
 pub returns-in-Err-clause-cause : goal.returns-in-Err-clause-cause
-returns-in-Err-clause-cause g c = possible_before c.in-Err.fault _ _ _ _ c.loop-turn.invariant.4 c.in-Err.ensures.cause
+returns-in-Err-clause-cause g c = possible_before c.in-Err.fault _ _ c.loop-turn.invariant.4 c.in-Err.ensures.cause
 
 pub returns-in-Err-hear-clause-cause : goal.returns-in-Err-hear-clause-cause
-returns-in-Err-hear-clause-cause g c = possible_before c.in-Err-hear.fault _ _ _ _ c.loop-turn.invariant.4 c.in-Err-hear.ensures.cause
+returns-in-Err-hear-clause-cause g c = possible_before c.in-Err-hear.fault _ _ c.loop-turn.invariant.4 c.in-Err-hear.ensures.cause

@@ -4,7 +4,7 @@ use Rattle.debugger.proofs.SessionInputs.{hear_byte, hear_line, hear_quit, start
 use Rattle.debugger.proofs.session.hear.Goals as goal
 
 pub loop-byte-init : goal.loop-byte-init
-loop-byte-init g c = (start_heard c.args.has_more c.args.replay.now c.args.line.now.items (g.W.Write.contents c.args.out.now) c.requires.begun, λ h. h, λ h. h, c.requires.flushed, λ _. refl)
+loop-byte-init g c = (start_heard c.args.has_more c.args.replay.now c.args.line.now.items (g.W.Write.contents c.args.out.now) c.requires.begun, λ fault h. h, c.requires.flushed, λ _. refl)
 
 pub loop-byte-preserved-in-Ok : goal.loop-byte-preserved-in-Ok
 loop-byte-preserved-in-Ok g c = (
@@ -13,7 +13,6 @@ loop-byte-preserved-in-Ok g c = (
   c.loop-byte.invariant.1,
   c.loop-byte.invariant.2,
   c.loop-byte.invariant.3,
-  c.loop-byte.invariant.4,
 )
 
 pub returns-in-Ok-false-clause-ok : goal.returns-in-Ok-false-clause-ok
@@ -30,8 +29,7 @@ loop-byte-preserved g c = (
       c.answer_line.new.replay _ c.if-byte-ne-LINE_END.false
       (rw c.as_slice.ensures.value at c.in-Ok-true.ensures.replay) (rw c.as_slice.ensures.value at c.in-Ok-true.ensures.text)
       (sym c.in-Ok-true.field-0-test ∙ rw c.as_slice.ensures.value at c.in-Ok-true.ensures.goes_on)),
-  λ h. c.loop-byte.invariant.1 (c.in-Ok-true.ensures.same.0 h),
-  λ h. c.loop-byte.invariant.2 (c.in-Ok-true.ensures.same.1 h),
+  λ fault h. c.loop-byte.invariant.1 fault (c.in-Ok-true.ensures.same fault h),
   λ _. c.in-Ok-true.ensures.flushed,
   λ none. cc,
 )
@@ -50,4 +48,4 @@ returns-in-Err-answer_line-clause-err g c =
 
 pub returns-in-Err-answer_line-clause-cause : goal.returns-in-Err-answer_line-clause-cause
 returns-in-Err-answer_line-clause-cause g c =
-    possible_before c.in-Err-answer_line.fault _ _ _ _ (c.loop-byte.invariant.1, c.loop-byte.invariant.2) c.in-Err-answer_line.ensures.cause
+    possible_before c.in-Err-answer_line.fault _ _ c.loop-byte.invariant.1 c.in-Err-answer_line.ensures.cause

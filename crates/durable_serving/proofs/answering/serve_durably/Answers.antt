@@ -13,7 +13,7 @@ pub loop-answers-init : goal.loop-answers-init
 loop-answers-init g c = record {
   flushed = λ some. absurd (omega (arith, some));
   same = λ h. h;
-  no_worse = (λ h. h, λ h. h);
+  no_worse = λ fault h. h;
   kept = c.requires.kept;
   sound = c.requires.sound;
   clean = omega arith;
@@ -24,7 +24,7 @@ pub loop-answers-preserved : goal.loop-answers-preserved
 loop-answers-preserved g c = record {
   flushed = λ _. c.in-Ok-write_reply.ensures.flushed;
   same = λ h. c.loop-answers.invariant.same (c.in-Ok.ensures.same h);
-  no_worse = (λ h. c.loop-answers.invariant.no_worse.0 (c.write_reply.ensures.no_worse.0 h), λ h. c.loop-answers.invariant.no_worse.1 (c.write_reply.ensures.no_worse.1 h));
+  no_worse = λ fault h. c.loop-answers.invariant.no_worse fault (c.write_reply.ensures.no_worse fault h);
   kept = c.take_asked.ensures.kept;
   sound = c.in-Answers.ensures.ready.1;
   clean = omega (arith, c.loop-answers.invariant.clean, c.take_asked.ensures.clean);

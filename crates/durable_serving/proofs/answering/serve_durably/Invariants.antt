@@ -1,4 +1,5 @@
 use Rattle.std.proofs.Common.{◌≡◌, ◌<◌, ◌≤◌, false}
+use Rattle.byte_streams.specs.Written.{AtMostAs}
 use Rattle.requests.specs.Reading.{WhereKnown}
 use Rattle.serving.proofs.Serves.{IsServing}
 use Rattle.session_states.specs.States.{file_state}
@@ -11,7 +12,7 @@ abbrev pub invariant-loop-answers : goal.invariant-loop-answers
 invariant-loop-answers g l = record {
   flushed : 0 < l.answers → g.W.Destination.is_flushed l.out;
   same : g.R.BufferedSource.may_fail l.input → g.R.BufferedSource.may_fail l.fn.input;
-  no_worse : (g.W.Destination.may_fail l.out → g.W.Destination.may_fail l.fn.out) × (g.W.Destination.may_take_nothing l.out → g.W.Destination.may_take_nothing l.fn.out);
+  no_worse : AtMostAs (g.W.Destination.may_refuse l.out) (g.W.Destination.may_refuse l.fn.out);
   kept : IsKeptBy l.settings (g.S.Store.view l.session.file) (file_state l.session.state l.session.found);
   sound : IsClean (g.S.Store.view l.session.file) → (g.S.Store.view l.session.file).is_broken ≡ false;
   clean : doubt (g.S.Store.view l.fn.session.file).is_clean ≤ doubt (g.S.Store.view l.session.file).is_clean;

@@ -1,6 +1,5 @@
 use Rattle.std.proofs.Common.{ℕ, Bool, List, Option, IfSome}
 use Rattle.std.proofs.lemmas.Option.{IfSome_then}
-use Rattle.byte_streams.specs.Written.{MayRefuse}
 use Rattle.byte_streams.specs.declared.fault.WriteFault.{WriteFault}
 use Rattle.byte_streams.specs.declared.fault.WriteFault.TheVariants as output
 use Rattle.debugger.specs.declared.fault.DebugFault.{DebugFault}
@@ -33,11 +32,11 @@ returns-in-Err-Memory-clause-cut g c =
     (g.W.Write.contents c.args.out.now) (g.W.Write.contents c.debug_lines_to.new.out) c.in-Err-Memory.ensures.err
 
 -- a refusal of a session's output
-of_output : (lines_may_fail may_fail may_take_nothing : Type 0) (fault : WriteFault) → IsPossibleFault may_fail may_take_nothing (debug.Output fault) → IsSessionFault lines_may_fail (MayRefuse may_fail may_take_nothing) (Output fault)
-of_output lines_may_fail may_fail may_take_nothing output.Io h = h
-of_output lines_may_fail may_fail may_take_nothing output.WroteNothing h = h
-of_output lines_may_fail may_fail may_take_nothing output.Memory h = h
+of_output : (lines_may_fail : Type 0) (may_refuse : WriteFault → Type 0) (fault : WriteFault) → IsPossibleFault may_refuse (debug.Output fault) → IsSessionFault lines_may_fail may_refuse (Output fault)
+of_output lines_may_fail may_refuse output.Io h = h
+of_output lines_may_fail may_refuse output.WroteNothing h = h
+of_output lines_may_fail may_refuse output.Memory h = absurd h
 
 pub returns-in-Err-Output-clause-refused : goal.returns-in-Err-Output-clause-refused
 returns-in-Err-Output-clause-refused g c =
-    of_output (MayBeCutOff (g.L.Source.may_fail c.args.lines.now) (g.L.Read.remaining c.args.lines.now)) (g.W.Destination.may_fail c.args.out.now) (g.W.Destination.may_take_nothing c.args.out.now) c.in-Err-Output.fault (rw c.in-Err-Output.field-0-is at c.in-Err-Output.ensures.cause)
+    of_output (MayBeCutOff (g.L.Source.may_fail c.args.lines.now) (g.L.Read.remaining c.args.lines.now)) (g.W.Destination.may_refuse c.args.out.now) c.in-Err-Output.fault (rw c.in-Err-Output.field-0-is at c.in-Err-Output.ensures.cause)

@@ -3,7 +3,7 @@ use Rattle.std.proofs.lemmas.List.{append-nil, take-append-drop}
 use Rattle.std.specs.Prelude.{◌≢◌, Option, Result, Ok, Err, IfErr, OnOk, OnErr}
 use Rattle.std.specs.Io.KnownBytes.{Appends}
 use Rattle.debugger.specs.Session.{AppendsBeginning}
-use Rattle.byte_streams.specs.Written.{AppendsPart, MayRefuse}
+use Rattle.byte_streams.specs.Written.{AppendsPart}
 use Rattle.byte_streams.specs.declared.fault.WriteFault.{WriteFault}
 use Rattle.byte_streams.specs.declared.fault.WriteFault.TheVariants.{Io, WroteNothing, Memory}
 use Rattle.engines.specs.Faults.{refusal_line}
@@ -19,12 +19,12 @@ returns-clause-line g c =
     beginning c.write_refusal.result (g.W.Write.contents c.args.out.now) (g.W.Write.contents c.write_refusal.new.out) (refusal_line c.args.refusal.now) c.write_refusal.ensures.written c.write_refusal.ensures.cut
 
 -- where no write may be refused, all of it is written
-whole : {X : Type 0} (r : Result X WriteFault) (may_fail may_take_nothing : Type 0) (old new : Option (List ℕ)) (text : List ℕ) → OnOk r (Appends old new text) → IfErr r (MayRefuse may_fail may_take_nothing) → IfErr r (λ e. e ≢ Memory) → ¬ may_fail → ¬ may_take_nothing → Appends old new text
-whole (Ok x) may_fail may_take_nothing old new text all told room fails nothing = all
-whole (Err Io) may_fail may_take_nothing old new text all told room fails nothing = absurd (fails told)
-whole (Err WroteNothing) may_fail may_take_nothing old new text all told room fails nothing = absurd (nothing told)
-whole (Err Memory) may_fail may_take_nothing old new text all told room fails nothing = absurd (room refl)
+whole : {X : Type 0} (r : Result X WriteFault) (may_refuse : WriteFault → Type 0) (old new : Option (List ℕ)) (text : List ℕ) → OnOk r (Appends old new text) → IfErr r may_refuse → IfErr r (λ e. e ≢ Memory) → ¬ (may_refuse Io) → ¬ (may_refuse WroteNothing) → Appends old new text
+whole (Ok x) may_refuse old new text all told room fails nothing = all
+whole (Err Io) may_refuse old new text all told room fails nothing = absurd (fails told)
+whole (Err WroteNothing) may_refuse old new text all told room fails nothing = absurd (nothing told)
+whole (Err Memory) may_refuse old new text all told room fails nothing = absurd (room refl)
 
 pub returns-clause-whole : goal.returns-clause-whole
 returns-clause-whole g c fails nothing =
-    whole c.write_refusal.result (g.W.Destination.may_fail c.args.out.now) (g.W.Destination.may_take_nothing c.args.out.now) (g.W.Write.contents c.args.out.now) (g.W.Write.contents c.write_refusal.new.out) (refusal_line c.args.refusal.now) c.write_refusal.ensures.written c.write_refusal.ensures.cause c.write_refusal.ensures.room fails nothing
+    whole c.write_refusal.result (g.W.Destination.may_refuse c.args.out.now) (g.W.Write.contents c.args.out.now) (g.W.Write.contents c.write_refusal.new.out) (refusal_line c.args.refusal.now) c.write_refusal.ensures.written c.write_refusal.ensures.cause c.write_refusal.ensures.room fails nothing

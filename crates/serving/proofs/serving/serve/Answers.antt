@@ -10,7 +10,7 @@ pub loop-answers-init : goal.loop-answers-init
 loop-answers-init g c = record {
   flushed = λ some. absurd (omega (arith, some));
   same = λ h. h;
-  no_worse = (λ h. h, λ h. h);
+  no_worse = λ fault h. h;
   serves = serve_start (IsAnswer c.args.settings) c.args.state.now (g.W.Write.contents c.args.out.now) (g.R.Read.remaining c.args.input.now);
 }
 
@@ -41,7 +41,7 @@ pub loop-answers-preserved : goal.loop-answers-preserved
 loop-answers-preserved g c = record {
   flushed = λ _. c.in-Ok-write_answer.ensures.flushed;
   same = λ h. c.loop-answers.invariant.same (c.in-Ok.ensures.same h);
-  no_worse = (λ h. c.loop-answers.invariant.no_worse.0 (c.write_answer.ensures.no_worse.0 h), λ h. c.loop-answers.invariant.no_worse.1 (c.write_answer.ensures.no_worse.1 h));
+  no_worse = λ fault h. c.loop-answers.invariant.no_worse fault (c.write_answer.ensures.no_worse fault h);
   serves = serve_next (IsAnswer c.args.settings) c.args.settings.frame_limit c.in-Ok.asked c.args.state.now c.loop-answers.state c.take_asked.new.state (answer_text (reply_in c.take_asked.new.state c.in-Answers.answer))
       (g.W.Write.contents c.args.out.now) (g.W.Write.contents c.loop-answers.out) (g.W.Write.contents c.write_answer.new.out) c.loop-answers.answers
       (g.R.Read.remaining c.args.input.now) (g.R.Read.remaining c.loop-answers.input) (g.R.Read.remaining c.next_behind.new.input) c.loop-answers.invariant.serves c.in-Ok.ensures.says

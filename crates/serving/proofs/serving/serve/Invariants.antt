@@ -1,4 +1,5 @@
 use Rattle.std.specs.Prelude.{◌<◌}
+use Rattle.byte_streams.specs.Written.{AtMostAs}
 use Rattle.requests.specs.Reading.{WhereKnown}
 use Rattle.turns.specs.Failures.{IsAnswer}
 use Rattle.serving.proofs.Serves.{IsServing}
@@ -8,6 +9,6 @@ abbrev pub invariant-loop-answers : goal.invariant-loop-answers
 invariant-loop-answers g l = record {
   flushed : 0 < l.answers → g.W.Destination.is_flushed l.out;
   same : g.R.BufferedSource.may_fail l.input → g.R.BufferedSource.may_fail l.fn.input;
-  no_worse : (g.W.Destination.may_fail l.out → g.W.Destination.may_fail l.fn.out) × (g.W.Destination.may_take_nothing l.out → g.W.Destination.may_take_nothing l.fn.out);
+  no_worse : AtMostAs (g.W.Destination.may_refuse l.out) (g.W.Destination.may_refuse l.fn.out);
   serves : WhereKnown (g.R.Read.remaining l.fn.input) (g.R.Read.remaining l.input) (IsServing (IsAnswer l.settings) l.fn.state l.state (g.W.Write.contents l.fn.out) (g.W.Write.contents l.out) l.answers);
 }

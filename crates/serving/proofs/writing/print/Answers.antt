@@ -1,4 +1,5 @@
-use Rattle.serving.proofs.Writes.{flushed, part_of, refused_before}
+use Rattle.std.proofs.lemmas.Result.{IfErr-weaker}
+use Rattle.serving.proofs.Writes.{flushed, part_of}
 use Rattle.serving.proofs.writing.print.Goals as goal
 
 pub returns-in-Err : goal.returns-in-Err
@@ -13,6 +14,6 @@ pub returns-in-Ok : goal.returns-in-Ok
 returns-in-Ok g c = record {
   says = flushed c.flush.result c.args.text.now (g.W.Write.contents c.args.out.now) (g.W.Write.contents c.write_whole.new.out) (g.W.Write.contents c.flush.new.out) c.in-Ok.ensures.ok c.flush.ensures.keeps;
   flushed = c.flush.ensures.flushed;
-  refused = refused_before c.flush.result _ _ _ _ c.write_whole.ensures.same c.flush.ensures.refused;
-  no_worse = (λ h. c.write_whole.ensures.same.0 (c.flush.ensures.no_worse.0 h), λ h. c.write_whole.ensures.same.1 (c.flush.ensures.no_worse.1 h));
+  refused = IfErr-weaker c.flush.result _ _ c.write_whole.ensures.same c.flush.ensures.refused;
+  no_worse = λ fault h. c.write_whole.ensures.same fault (c.flush.ensures.no_worse fault h);
 }

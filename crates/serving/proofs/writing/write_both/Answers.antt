@@ -1,4 +1,5 @@
-use Rattle.serving.proofs.Writes.{part_before, refused_before, says_behind}
+use Rattle.std.proofs.lemmas.Result.{IfErr-weaker}
+use Rattle.serving.proofs.Writes.{part_before, says_behind}
 use Rattle.serving.proofs.writing.write_both.Goals as goal
 
 pub returns-in-Err : goal.returns-in-Err
@@ -13,6 +14,6 @@ pub returns-in-Ok : goal.returns-in-Ok
 returns-in-Ok g c = record {
   says = says_behind c.print.result c.args.line.now c.args.bytes.now (g.W.Write.contents c.args.out.now) (g.W.Write.contents c.write_whole.new.out) (g.W.Write.contents c.print.new.out) c.in-Ok.ensures.ok c.print.ensures.says;
   flushed = c.print.ensures.flushed;
-  refused = refused_before c.print.result _ _ _ _ c.write_whole.ensures.same c.print.ensures.refused;
-  no_worse = (λ h. c.write_whole.ensures.same.0 (c.print.ensures.no_worse.0 h), λ h. c.write_whole.ensures.same.1 (c.print.ensures.no_worse.1 h));
+  refused = IfErr-weaker c.print.result _ _ c.write_whole.ensures.same c.print.ensures.refused;
+  no_worse = λ fault h. c.write_whole.ensures.same fault (c.print.ensures.no_worse fault h);
 }

@@ -9,6 +9,6 @@ use Rattle.turns.proofs.dump.push_head.Goals as goal
 pub returns : goal.returns
 returns g c =
     let number : c.from.result ≡ rules_number c.args.rules = c.from.ensures ∙ c.number_of.ensures in
-    subst (Appended g.W.Write.contents g.W.Destination.may_fail g.W.Destination.may_take_nothing c.args.text.now c.args.out.now c.push-2.new.self c.push-2.new.out)
+    subst (Appended g.W.Write.contents g.W.Destination.may_refuse c.args.text.now c.args.out.now c.push-2.new.self c.push-2.new.out)
     (ap (λ n. codes "rvblock 2\ngas " ++ (decimal n ++ codes "\n")) number)
     (appended_then c.push.ensures (appended_then c.push_decimal.ensures c.push-2.ensures))

@@ -8,6 +8,6 @@ use Rattle.turns.proofs.state_lines.push_settings.Goals as goal
 pub returns : goal.returns
 returns g c =
     let last = subst
-    (λ (n : ℕ). Appended g.W.Write.contents g.W.Destination.may_fail g.W.Destination.may_take_nothing c.push_gas.new.text c.push_gas.new.out c.push_number-2.new.text c.push_number-2.new.out (number_line (codes "brief") n))
+    (λ (n : ℕ). Appended g.W.Write.contents g.W.Destination.may_refuse c.push_gas.new.text c.push_gas.new.out c.push_number-2.new.text c.push_number-2.new.out (number_line (codes "brief") n))
     c.one_if.ensures c.push_number-2.ensures in
     appended_then (appended_then c.push_number.ensures c.push_gas.ensures) last

@@ -6,4 +6,4 @@ use Rattle.turns.specs.Telling.{is_from, listed}
 use Rattle.turns.proofs.telling.push_listed.Given as goal
 
 abbrev pub invariant-loop-key : goal.invariant-loop-key
-invariant-loop-key g l = IsAppendedBefore g.W.Write.contents g.W.Destination.may_fail g.W.Destination.may_take_nothing l.fn.text l.fn.out l.text l.out (flat_map store_line (take l.left (filter (is_from l.from) l.key-iterator))) (listed l.fn.store l.fn.from l.fn.count)
+invariant-loop-key g l = IsAppendedBefore g.W.Write.contents g.W.Destination.may_refuse l.fn.text l.fn.out l.text l.out (flat_map store_line (take l.left (filter (is_from l.from) l.key-iterator))) (listed l.fn.store l.fn.from l.fn.count)
