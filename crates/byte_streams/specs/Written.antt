@@ -1,5 +1,5 @@
 -- Writing bytes to a writer.
-use Rattle.std.specs.Prelude.{◌≡◌, ℕ, List, ◌<◌, ◌++◌, Option, Result, Ok, Err, take, length, ◌==◌, if◌then◌else◌}
+use Rattle.std.specs.Prelude.{◌≡◌, ℕ, List, ◌<◌, ◌++◌, Option, Result, Ok, Err, take, length, ◌==◌, if◌then◌else◌, IfErr, OnErr, OnOk}
 use Rattle.std.specs.Io.KnownBytes.{Appends}
 use Rattle.byte_streams.specs.declared.fault.WriteFault.{WriteFault}
 use Rattle.byte_streams.specs.declared.fault.WriteFault.TheVariants.{Io, WroteNothing}
@@ -11,6 +11,13 @@ AppendsPart old new bs = (n : ℕ) × (n < length bs) × Appends old new (take n
 -- what refuses so may refuse at most as this did
 abbrev pub AtMostAs : (WriteFault → Type 0) → (WriteFault → Type 0) → Type 0
 AtMostAs may_refuse before = (fault : WriteFault) → may_refuse fault → before fault
+
+-- a text was written, or a beginning of it, and not all, since a write was refused as the writer had said; it refuses at most as before
+pub record WritesText {S X : Type 0} (contents : S → Option (List ℕ)) (may_refuse : S → WriteFault → Type 0) (result : Result X WriteFault) (old new : S) (text : List ℕ) : Type 0 where
+  pub ok : OnOk result (Appends (contents old) (contents new) text)
+  pub err : OnErr result (AppendsPart (contents old) (contents new) text)
+  pub cause : IfErr result (may_refuse old)
+  pub same : AtMostAs (may_refuse new) (may_refuse old)
 
 -- what a writer's answer means: the number of bytes that it took, at least one, or the fault
 abbrev pub taken_by : {E : Type 0} → Result ℕ E → Result ℕ WriteFault

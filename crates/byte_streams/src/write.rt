@@ -1,8 +1,8 @@
 //! How bytes are written whole.
 
-ghost use Rattle.std.specs.Prelude.{◌≡◌, ◌≢◌, ◌<◌, ◌≤◌, length, take, IfOk, IfErr, OnErr, OnOk};
+ghost use Rattle.std.specs.Prelude.{◌≡◌, ◌≢◌, ◌<◌, ◌≤◌, length, take, IfOk, IfErr, OnErr};
 ghost use Rattle.std.specs.Io.KnownBytes.{Appends, Keeps};
-ghost use Rattle.byte_streams.specs.Written.{AppendsPart, AtMostAs, taken_by};
+ghost use Rattle.byte_streams.specs.Written.{AtMostAs, WritesText, taken_by};
 
 use crate::destination::Destination;
 use crate::fault::WriteFault;
@@ -11,11 +11,8 @@ use std::io;
 /// Writes all the bytes. Refused as Io where a write failed, and as WroteNothing where a write took
 /// no bytes; then a beginning of the bytes was written, and not all of them.
 pub fn write_whole<W: Destination>(bytes: &[u8], out: &mut W) -> Result<(), WriteFault>
-    ensures ok { OnOk result (Appends (W.contents out.old) (W.contents out.new) bytes.now) }
-    ensures err { OnErr result (AppendsPart (W.contents out.old) (W.contents out.new) bytes.now) }
+    ensures writes { WritesText W.contents W.may_refuse result out.old out.new bytes.now }
     ensures fault { IfErr result (λ e. e ≢ WriteFault.Memory) }
-    ensures cause { IfErr result (W.may_refuse out.old) }
-    ensures same { AtMostAs (W.may_refuse out.new) (W.may_refuse out.old) }
 {
     let mut rest = bytes;
     while !rest.is_empty() {

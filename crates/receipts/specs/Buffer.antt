@@ -1,7 +1,6 @@
 -- Text on its way to a writer.
-use Rattle.std.specs.Prelude.{ℕ, List, ◌++◌, MatchOption, Option}
-use Rattle.std.specs.Io.KnownBytes.{Appends}
-use Rattle.byte_streams.specs.Written.{AppendsPart, AtMostAs, IsWrittenBefore}
+use Rattle.std.specs.Prelude.{ℕ, List, ◌++◌, MatchOption, Option, Result}
+use Rattle.byte_streams.specs.Written.{AppendsPart, AtMostAs, IsWrittenBefore, WritesText}
 use Rattle.byte_streams.specs.declared.fault.WriteFault.{WriteFault}
 use Rattle.receipts.specs.declared.buffer.TextBuffer.{TextBuffer}
 
@@ -21,19 +20,7 @@ Holds contents may_refuse buffer start now text =
 pub record Appended {S : Type 0} (contents : S → Option (List ℕ)) (may_refuse : S → WriteFault → Type 0) (old : TextBuffer) (before : S) (new : TextBuffer) (after : S) (bytes : List ℕ) : Type 0 where
   pub holds : (start : S) (text : List ℕ) → Holds contents may_refuse old start before text → Holds contents may_refuse new start after (text ++ bytes)
 
--- a text that was appended, whatever it is, is written
-abbrev pub IsWritten : {S : Type 0} → (S → Option (List ℕ)) → (S → WriteFault → Type 0) → TextBuffer → S → S → Type 0
-IsWritten {S} contents may_refuse buffer now after =
-    (start : S) (text : List ℕ) → Holds contents may_refuse buffer start now text → Appends (contents start) (contents after) text
-
--- or a beginning of it, and not all, since a write was refused so
-abbrev pub IsCutOff : {S : Type 0} → (S → Option (List ℕ)) → (S → WriteFault → Type 0) → TextBuffer → S → S → WriteFault → Type 0
-IsCutOff {S} contents may_refuse buffer now after fault =
-    (start : S) (text : List ℕ) → Holds contents may_refuse buffer start now text
-    → AppendsPart (contents start) (contents after) text × may_refuse start fault
-
--- what may be refused after a text was appended and written might be refused before it
-abbrev pub IsNoWorse : {S : Type 0} → (S → Option (List ℕ)) → (S → WriteFault → Type 0) → TextBuffer → S → S → Type 0
-IsNoWorse {S} contents may_refuse buffer now after =
-    (start : S) (text : List ℕ) → Holds contents may_refuse buffer start now text
-    → AtMostAs (may_refuse after) (may_refuse start)
+-- a text that was appended, whatever it is, is written, as `WritesText` says
+abbrev pub IsFinished : {S X : Type 0} → (S → Option (List ℕ)) → (S → WriteFault → Type 0) → Result X WriteFault → TextBuffer → S → S → Type 0
+IsFinished {S} contents may_refuse result buffer now after =
+    (start : S) (text : List ℕ) → Holds contents may_refuse buffer start now text → WritesText contents may_refuse result start after text

@@ -25,8 +25,8 @@ pub struct TextBuffer {
 }
 
 impl TextBuffer {
-    ghost use Rattle.std.specs.Prelude.{◌≡◌, ◌≢◌, ◌≤◌, ◌+◌, [], None, IfErr, IfOk, OnOk, length};
-    ghost use Rattle.receipts.specs.Buffer.{Appended, IsCutOff, IsNoWorse, IsWritten};
+    ghost use Rattle.std.specs.Prelude.{◌≡◌, ◌≢◌, ◌≤◌, ◌+◌, [], None, IfErr, IfOk, length};
+    ghost use Rattle.receipts.specs.Buffer.{Appended, IsFinished};
 
     /// No text; refused where memory ran out. Nothing that is appended takes memory.
     pub fn new(alloc: Global) -> Result<TextBuffer, AllocError>
@@ -77,10 +77,8 @@ impl TextBuffer {
 
     /// Writes what waits. Refused as the first write that was refused.
     pub fn finish<W: Destination>(self, out: &mut W) -> Result<(), WriteFault>
-        ensures ok { OnOk result (IsWritten W.contents W.may_refuse self out.old out.new) }
-        ensures err { IfErr result (IsCutOff W.contents W.may_refuse self out.old out.new) }
+        ensures writes { IsFinished W.contents W.may_refuse result self out.old out.new }
         ensures fault { IfErr result (λ e. e ≢ WriteFault.Memory) }
-        ensures same { IsNoWorse W.contents W.may_refuse self out.old out.new }
     {
         let mut text = self;
         text.write_waiting(out);

@@ -1,8 +1,7 @@
 //! How the text is written.
 
-ghost use Rattle.std.specs.Prelude.{◌≡◌, IfErr, OnErr, OnOk};
-ghost use Rattle.std.specs.Io.KnownBytes.{Appends};
-ghost use Rattle.byte_streams.specs.Written.{AppendsPart, AtMostAs};
+ghost use Rattle.std.specs.Prelude.{◌≡◌, IfErr};
+ghost use Rattle.byte_streams.specs.Written.{WritesText};
 ghost use Rattle.receipts.specs.Text.{result_text};
 
 use crate::buffer::TextBuffer;
@@ -19,13 +18,8 @@ pub fn write_result<W: Destination>(
     store: &Store,
     out: &mut W,
 ) -> Result<(), WriteFault>
-    ensures ok { OnOk result (Appends (W.contents out.old) (W.contents out.new)
-        (result_text receipts.now store.now)) }
-    ensures err { OnErr result (AppendsPart (W.contents out.old) (W.contents out.new)
-        (result_text receipts.now store.now)) }
-    ensures cause { IfErr result (W.may_refuse out.old) }
+    ensures writes { WritesText W.contents W.may_refuse result out.old out.new (result_text receipts.now store.now) }
     ensures memory { IfErr result (λ e. e ≡ WriteFault.Memory → out.new ≡ out.old) }
-    ensures same { AtMostAs (W.may_refuse out.new) (W.may_refuse out.old) }
 {
     let Ok(mut text) = TextBuffer::new(alloc) else {
         return Err(WriteFault::Memory);

@@ -9,10 +9,12 @@ loop-rest-preserved g c = record {
   same = λ fault h. c.loop-rest.invariant.same fault (c.in-Ok.ensures.same fault h);
 }
 
-pub returns-in-Err-clause-err : goal.returns-in-Err-clause-err
-returns-in-Err-clause-err g c =
+pub returns-in-Err-clause-writes : goal.returns-in-Err-clause-writes
+returns-in-Err-clause-writes g c =
     let left : 0 < length c.loop-rest.rest.now = grind (arith, nat_tests) in
-    written_part _ _ _ _ _ left c.loop-rest.invariant.written c.in-Err.ensures.err
-
-pub returns-in-Err-clause-cause : goal.returns-in-Err-clause-cause
-returns-in-Err-clause-cause g c = c.loop-rest.invariant.same c.in-Err.fault c.in-Err.ensures.cause
+    record {
+      ok = tt;
+      err = written_part _ _ _ _ _ left c.loop-rest.invariant.written c.in-Err.ensures.err;
+      cause = c.loop-rest.invariant.same c.in-Err.fault c.in-Err.ensures.cause;
+      same = λ fault h. c.loop-rest.invariant.same fault (c.in-Err.ensures.same fault h);
+    }

@@ -8,4 +8,4 @@ use Rattle.receipts.proofs.text.result_text.Goals as goal
 pub returns-in-Ok : goal.returns-in-Ok
 returns-in-Ok c =
     let held = c.push_result.ensures.holds c.new-text.result [] (holds_nothing (λ v. Some v.items) (λ _ fault. fault ≢ WroteNothing) c.in_ok-waiting.waiting c.new-text.result c.in_ok-waiting.ensures.0 c.in_ok-waiting.ensures.1) in
-    c.in-Ok.ensures.ok c.new-text.result _ held ∙ ap (λ items. items ++ result_text c.args.receipts.now c.args.store.now) c.new-text.ensures.items
+    (c.in-Ok.ensures.writes c.new-text.result _ held).ok ∙ ap (λ items. items ++ result_text c.args.receipts.now c.args.store.now) c.new-text.ensures.items
