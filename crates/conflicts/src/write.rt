@@ -1,8 +1,7 @@
 //! How the conflicts of a block are written.
 
-ghost use Rattle.std.specs.Prelude.{◌≡◌, IfErr, OnErr, OnOk};
-ghost use Rattle.std.specs.Io.KnownBytes.{Appends};
-ghost use Rattle.byte_streams.specs.Written.{AppendsPart, AtMostAs};
+ghost use Rattle.std.specs.Prelude.{◌≡◌, IfErr};
+ghost use Rattle.byte_streams.specs.Written.{WritesText};
 ghost use Rattle.conflicts.specs.Text.{conflicts_text};
 
 use crate::block::Conflicts;
@@ -18,13 +17,9 @@ pub fn write_conflicts<W: Destination>(
     conflicts: &Conflicts,
     out: &mut W,
 ) -> Result<(), WriteFault>
-    ensures ok { OnOk result (Appends (W.contents out.old) (W.contents out.new)
-        (conflicts_text conflicts.now.calls.items conflicts.now.paths.items conflicts.now.keys.items)) }
-    ensures err { OnErr result (AppendsPart (W.contents out.old) (W.contents out.new)
-        (conflicts_text conflicts.now.calls.items conflicts.now.paths.items conflicts.now.keys.items)) }
-    ensures cause { IfErr result (W.may_refuse out.old) }
+    ensures writes { WritesText W.contents W.may_refuse result out.old out.new
+        (conflicts_text conflicts.now.calls.items conflicts.now.paths.items conflicts.now.keys.items) }
     ensures memory { IfErr result (λ e. e ≡ WriteFault.Memory → out.new ≡ out.old) }
-    ensures same { AtMostAs (W.may_refuse out.new) (W.may_refuse out.old) }
 {
     let Ok(mut text) = TextBuffer::new(alloc) else {
         return Err(WriteFault::Memory);

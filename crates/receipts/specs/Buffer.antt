@@ -21,6 +21,6 @@ pub record Appended {S : Type 0} (contents : S → Option (List ℕ)) (may_refus
   pub holds : (start : S) (text : List ℕ) → Holds contents may_refuse old start before text → Holds contents may_refuse new start after (text ++ bytes)
 
 -- a text that was appended, whatever it is, is written, as `WritesText` says
-abbrev pub IsFinished : {S X : Type 0} → (S → Option (List ℕ)) → (S → WriteFault → Type 0) → Result X WriteFault → TextBuffer → S → S → Type 0
-IsFinished {S} contents may_refuse result buffer now after =
+abbrev pub FinishesText : {S X : Type 0} → (S → Option (List ℕ)) → (S → WriteFault → Type 0) → Result X WriteFault → TextBuffer → S → S → Type 0
+FinishesText {S} contents may_refuse result buffer now after =
     (start : S) (text : List ℕ) → Holds contents may_refuse buffer start now text → WritesText contents may_refuse result start after text

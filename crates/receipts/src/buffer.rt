@@ -26,7 +26,7 @@ pub struct TextBuffer {
 
 impl TextBuffer {
     ghost use Rattle.std.specs.Prelude.{◌≡◌, ◌≢◌, ◌≤◌, ◌+◌, [], None, IfErr, IfOk, length};
-    ghost use Rattle.receipts.specs.Buffer.{Appended, IsFinished};
+    ghost use Rattle.receipts.specs.Buffer.{Appended, FinishesText};
 
     /// No text; refused where memory ran out. Nothing that is appended takes memory.
     pub fn new(alloc: Global) -> Result<TextBuffer, AllocError>
@@ -77,7 +77,7 @@ impl TextBuffer {
 
     /// Writes what waits. Refused as the first write that was refused.
     pub fn finish<W: Destination>(self, out: &mut W) -> Result<(), WriteFault>
-        ensures writes { IsFinished W.contents W.may_refuse result self out.old out.new }
+        ensures writes { FinishesText W.contents W.may_refuse result self out.old out.new }
         ensures fault { IfErr result (λ e. e ≢ WriteFault.Memory) }
     {
         let mut text = self;

@@ -1,5 +1,5 @@
 -- Private help of proofs: no public clause cites it, but `IsTurn`, `IsAnswered` and `left_of`. How a request is answered stage by stage.
-use Rattle.std.specs.Prelude.{◌≡◌, ⊤, ℕ, List, true, false, map, Result, Ok, Err, Option, Some, None, Vec}
+use Rattle.std.specs.Prelude.{◌≡◌, ◌≢◌, ⊤, ℕ, List, true, false, map, Result, Ok, Err, Option, Some, None, Vec}
 use Rattle.std.specs.declared.alloc.Global.{Global}
 use Rattle.std.specs.Arc.{arc_value}
 use Rattle.std.specs.FinMap.{contains_key}
@@ -10,7 +10,8 @@ use Rattle.elf32.specs.Layout.{Layout}
 use Rattle.overlay.specs.Overlay.{with_changes}
 use Rattle.requests.specs.Requests.{Ask, Dump}
 use Rattle.rv_ledger.specs.Key.{Storage}
-use Rattle.receipts.specs.Buffer.{IsWritten}
+use Rattle.byte_streams.specs.declared.fault.WriteFault.TheVariants.{WroteNothing}
+use Rattle.receipts.specs.Buffer.{FinishesText}
 use Rattle.receipts.specs.declared.buffer.TextBuffer.{TextBuffer}
 use Rattle.turns.specs.Failures.{MayFail}
 use Rattle.turns.specs.Replies.{Reply, Done, Refused, Failed}
@@ -105,4 +106,4 @@ IsLoaded programs name file (Some image) = (contains_key programs name ≡ false
 
 -- a text in memory whose end waited in a buffer is whole
 abbrev pub IsFinished : TextBuffer → Vec ℕ Global → Vec ℕ Global → Type 0
-IsFinished waiting text whole = IsWritten (λ v. Some v.items) (λ _. ⊤) (λ _. ⊥) waiting text whole
+IsFinished waiting text whole = FinishesText {X = Unit {0}} (λ v. Some v.items) (λ _ fault. fault ≢ WroteNothing) (Ok tt) waiting text whole

@@ -1,10 +1,10 @@
 //! The text of a storage.
 
-ghost use Rattle.std.specs.Prelude.{◌≡◌, ◌≢◌, ◌<◌, ◌≤◌, ◌^◌, IfErr, OnOk, OnErr, [], None, length};
+ghost use Rattle.std.specs.Prelude.{◌≡◌, ◌≢◌, ◌<◌, ◌≤◌, ◌^◌, IfErr, [], None, length};
 ghost use Rattle.std.specs.Io.KnownBytes.{Appends};
 ghost use Rattle.std.specs.FinMap.{entries};
 ghost use Rattle.std.specs.List.{flat_map};
-ghost use Rattle.byte_streams.specs.Written.{AppendsPart, AtMostAs};
+ghost use Rattle.byte_streams.specs.Written.{WritesText};
 ghost use Rattle.receipts.specs.Buffer.{Appended};
 ghost use Rattle.receipts.specs.Text.{bytes_text, store_line};
 ghost use Rattle.turns.specs.Telling.{dump_head, dump_text};
@@ -85,11 +85,8 @@ pub fn write_dump<W: Destination>(
     store: &Store,
     out: &mut W,
 ) -> Result<(), WriteFault>
-    ensures ok { OnOk result (Appends (W.contents out.old) (W.contents out.new) (dump_text rules store.now)) }
-    ensures err { OnErr result (AppendsPart (W.contents out.old) (W.contents out.new) (dump_text rules store.now)) }
+    ensures writes { WritesText W.contents W.may_refuse result out.old out.new (dump_text rules store.now) }
     ensures fault { IfErr result (λ fault. fault ≢ WriteFault.Memory) }
-    ensures cause { IfErr result (W.may_refuse out.old) }
-    ensures same { AtMostAs (W.may_refuse out.new) (W.may_refuse out.old) }
 {
     let EmptyBuffer { buffer } = buffer;
     let mut text = buffer;

@@ -11,19 +11,19 @@ returns-in-Err-clause-says g c =
     let text = dump_text c.args.state.now.rules c.args.state.now.store in
     let line : c.as_bytes.result.now ≡ answer_line (Done text) = first_of (cc, search rules) in
     subst (λ (l : List ℕ). (part : List ℕ) × (left : List ℕ) × (part ++ left ≡ l ++ text) × Appends (g.W.Write.contents c.args.out.now) (g.W.Write.contents c.write_whole.new.out) part) line
-    (part_before c.as_bytes.result.now text (g.W.Write.contents c.args.out.now) (g.W.Write.contents c.write_whole.new.out) c.in-Err.ensures.err)
+    (part_before c.as_bytes.result.now text (g.W.Write.contents c.args.out.now) (g.W.Write.contents c.write_whole.new.out) c.in-Err.ensures.writes.err)
 
 pub returns-in-Ok-write_dump-clause-says : goal.returns-in-Ok-write_dump-clause-says
 returns-in-Ok-write_dump-clause-says g c =
     let text = dump_text c.args.state.now.rules c.args.state.now.store in
     let line : c.as_bytes.result.now ≡ answer_line (Done text) = first_of (cc, search rules) in
     subst (λ (l : List ℕ). Says c.flush.result (g.W.Write.contents c.args.out.now) (g.W.Write.contents c.flush.new.out) (l ++ text)) line
-    (says_behind c.flush.result c.as_bytes.result.now text (g.W.Write.contents c.args.out.now) (g.W.Write.contents c.write_whole.new.out) (g.W.Write.contents c.flush.new.out) c.in-Ok.ensures.ok
-    (flushed c.flush.result text (g.W.Write.contents c.write_whole.new.out) (g.W.Write.contents c.write_dump.new.out) (g.W.Write.contents c.flush.new.out) c.in-Ok-write_dump.ensures.ok c.flush.ensures.keeps))
+    (says_behind c.flush.result c.as_bytes.result.now text (g.W.Write.contents c.args.out.now) (g.W.Write.contents c.write_whole.new.out) (g.W.Write.contents c.flush.new.out) c.in-Ok.ensures.writes.ok
+    (flushed c.flush.result text (g.W.Write.contents c.write_whole.new.out) (g.W.Write.contents c.write_dump.new.out) (g.W.Write.contents c.flush.new.out) c.in-Ok-write_dump.ensures.writes.ok c.flush.ensures.keeps))
 
 pub returns-in-Err-write_dump-clause-says : goal.returns-in-Err-write_dump-clause-says
 returns-in-Err-write_dump-clause-says g c =
     let text = dump_text c.args.state.now.rules c.args.state.now.store in
     let line : c.as_bytes.result.now ≡ answer_line (Done text) = first_of (cc, search rules) in
     subst (λ (l : List ℕ). (part : List ℕ) × (left : List ℕ) × (part ++ left ≡ l ++ text) × Appends (g.W.Write.contents c.args.out.now) (g.W.Write.contents c.write_dump.new.out) part) line
-    (part_behind c.as_bytes.result.now text (g.W.Write.contents c.args.out.now) (g.W.Write.contents c.write_whole.new.out) (g.W.Write.contents c.write_dump.new.out) c.in-Ok.ensures.ok c.in-Err-write_dump.ensures.err)
+    (part_behind c.as_bytes.result.now text (g.W.Write.contents c.args.out.now) (g.W.Write.contents c.write_whole.new.out) (g.W.Write.contents c.write_dump.new.out) c.in-Ok.ensures.writes.ok c.in-Err-write_dump.ensures.writes.err)
