@@ -1,8 +1,6 @@
 //! What a session over a file answers.
 
-ghost use Rattle.std.specs.Prelude.{IfErr, OnOk};
-ghost use Rattle.byte_streams.specs.Written.{AtMostAs};
-ghost use Rattle.serving.specs.Writing.{Says};
+ghost use Rattle.serving.specs.Writing.{Prints};
 ghost use Rattle.durable_serving.specs.Keeping.{HasReply, reply_text};
 
 use crate::session::FileSession;
@@ -30,10 +28,7 @@ pub(crate) fn write_reply<S: Store, W: Destination>(
     out: &mut W,
 ) -> Result<(), WriteFault>
     requires { HasReply session.now.found reply }
-    ensures says { Says result (W.contents out.old) (W.contents out.new) (reply_text session.now.state session.now.found reply) }
-    ensures flushed { OnOk result (W.is_flushed out.new) }
-    ensures refused { IfErr result (W.may_refuse out.old) }
-    ensures no_worse { AtMostAs (W.may_refuse out.new) (W.may_refuse out.old) }
+    ensures { Prints W.contents W.may_refuse W.is_flushed result out.old out.new (reply_text session.now.state session.now.found reply) }
 {
     match reply {
         FileReply::Turn(answer) => write_answer(&session.state, answer, out),

@@ -4,7 +4,7 @@ ghost use Rattle.std.specs.Prelude.{◌++◌, IfErr, OnOk, Some};
 ghost use Rattle.std.specs.Io.KnownBytes.{Keeps};
 ghost use Rattle.byte_streams.specs.Written.{AtMostAs};
 ghost use Rattle.serving.specs.Serving.{end_text};
-ghost use Rattle.serving.specs.Writing.{Says};
+ghost use Rattle.serving.specs.Writing.{Prints};
 ghost use Rattle.turns.specs.Replies.{Done, answer_text, kept_reply};
 ghost use Rattle.turns.specs.Stages.{reply_in};
 ghost use Rattle.turns.specs.Telling.{dump_text};
@@ -26,10 +26,7 @@ pub fn write_answer<W: Destination>(
     answer: Answer,
     out: &mut W,
 ) -> Result<(), WriteFault>
-    ensures says { Says result (W.contents out.old) (W.contents out.new) (answer_text (reply_in state.now answer)) }
-    ensures flushed { OnOk result (W.is_flushed out.new) }
-    ensures refused { IfErr result (W.may_refuse out.old) }
-    ensures no_worse { AtMostAs (W.may_refuse out.new) (W.may_refuse out.old) }
+    ensures { Prints W.contents W.may_refuse W.is_flushed result out.old out.new (answer_text (reply_in state.now answer)) }
 {
     match answer {
         Answer::Done(bytes) => {
@@ -51,10 +48,7 @@ pub fn write_answer<W: Destination>(
 
 /// Writes the answer that is kept of the last frame, or the refusal where there is none.
 fn print_last<W: Destination>(state: &State, out: &mut W) -> Result<(), WriteFault>
-    ensures says { Says result (W.contents out.old) (W.contents out.new) (answer_text (last_reply state.now.last)) }
-    ensures flushed { OnOk result (W.is_flushed out.new) }
-    ensures refused { IfErr result (W.may_refuse out.old) }
-    ensures no_worse { AtMostAs (W.may_refuse out.new) (W.may_refuse out.old) }
+    ensures { Prints W.contents W.may_refuse W.is_flushed result out.old out.new (answer_text (last_reply state.now.last)) }
 {
     match &state.last {
         Some(kept) => print_kept(kept, out),
@@ -67,10 +61,7 @@ fn print_last<W: Destination>(state: &State, out: &mut W) -> Result<(), WriteFau
 
 /// Writes an answer that is kept.
 fn print_kept<W: Destination>(kept: &KeptAnswer, out: &mut W) -> Result<(), WriteFault>
-    ensures says { Says result (W.contents out.old) (W.contents out.new) (answer_text (kept_reply kept.now)) }
-    ensures flushed { OnOk result (W.is_flushed out.new) }
-    ensures refused { IfErr result (W.may_refuse out.old) }
-    ensures no_worse { AtMostAs (W.may_refuse out.new) (W.may_refuse out.old) }
+    ensures { Prints W.contents W.may_refuse W.is_flushed result out.old out.new (answer_text (kept_reply kept.now)) }
 {
     let line = line_of_kept(kept);
     write_both(line.as_str().as_bytes(), bytes_of_kept(kept), out)
@@ -82,10 +73,7 @@ fn print_storage<W: Destination>(
     buffer: EmptyBuffer,
     out: &mut W,
 ) -> Result<(), WriteFault>
-    ensures says { Says result (W.contents out.old) (W.contents out.new) (answer_text (Done (dump_text state.now.rules state.now.store))) }
-    ensures flushed { OnOk result (W.is_flushed out.new) }
-    ensures refused { IfErr result (W.may_refuse out.old) }
-    ensures no_worse { AtMostAs (W.may_refuse out.new) (W.may_refuse out.old) }
+    ensures { Prints W.contents W.may_refuse W.is_flushed result out.old out.new (answer_text (Done (dump_text state.now.rules state.now.store))) }
 {
     let line = done_line(dump_length(state.rules, &state.store));
     match write_whole(line.as_str().as_bytes(), out) {
@@ -100,10 +88,7 @@ fn print_storage<W: Destination>(
 
 /// Answers bytes that are no request: writes the refusal, and flushes it. Refused where a write failed.
 pub(crate) fn print_end<W: Destination>(fault: RequestFault, out: &mut W) -> Result<(), WriteFault>
-    ensures says { Says result (W.contents out.old) (W.contents out.new) (end_text (Some fault)) }
-    ensures flushed { OnOk result (W.is_flushed out.new) }
-    ensures refused { IfErr result (W.may_refuse out.old) }
-    ensures no_worse { AtMostAs (W.may_refuse out.new) (W.may_refuse out.old) }
+    ensures { Prints W.contents W.may_refuse W.is_flushed result out.old out.new (end_text (Some fault)) }
 {
     let line = refusal_line("refused ", parts_of(fault));
     print(line.as_str().as_bytes(), out)
@@ -111,10 +96,7 @@ pub(crate) fn print_end<W: Destination>(fault: RequestFault, out: &mut W) -> Res
 
 /// Writes a line and the bytes behind it, and flushes them.
 pub fn write_both<W: Destination>(line: &[u8], bytes: &[u8], out: &mut W) -> Result<(), WriteFault>
-    ensures says { Says result (W.contents out.old) (W.contents out.new) (line.now ++ bytes.now) }
-    ensures flushed { OnOk result (W.is_flushed out.new) }
-    ensures refused { IfErr result (W.may_refuse out.old) }
-    ensures no_worse { AtMostAs (W.may_refuse out.new) (W.may_refuse out.old) }
+    ensures { Prints W.contents W.may_refuse W.is_flushed result out.old out.new (line.now ++ bytes.now) }
 {
     match write_whole(line, out) {
         Ok(()) => print(bytes, out),
@@ -124,10 +106,7 @@ pub fn write_both<W: Destination>(line: &[u8], bytes: &[u8], out: &mut W) -> Res
 
 /// Writes a text and flushes it, so that it is seen before the next request is read.
 fn print<W: Destination>(text: &[u8], out: &mut W) -> Result<(), WriteFault>
-    ensures says { Says result (W.contents out.old) (W.contents out.new) text.now }
-    ensures flushed { OnOk result (W.is_flushed out.new) }
-    ensures refused { IfErr result (W.may_refuse out.old) }
-    ensures no_worse { AtMostAs (W.may_refuse out.new) (W.may_refuse out.old) }
+    ensures { Prints W.contents W.may_refuse W.is_flushed result out.old out.new text.now }
 {
     match write_whole(text, out) {
         Ok(()) => flush(out),
