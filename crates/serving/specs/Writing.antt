@@ -9,7 +9,8 @@ abbrev pub Says : {X E : Type 0} → Result X E → Option (List ℕ) → Option
 Says (Ok x) before after text = Appends before after text
 Says (Err e) before after text = (part : List ℕ) × (left : List ℕ) × (part ++ left ≡ text) × Appends before after part
 
--- a text was written in whole and flushed, or a beginning of it was written, and it was refused as the writer had said; it refuses at most as before
+-- a text was written in whole and flushed; or it was refused as it might be, and a beginning of it was written. Whatever may be
+-- refused behind it might be refused before it
 pub record Prints {S X : Type 0} (contents : S → Option (List ℕ)) (may_refuse : S → WriteFault → Type 0) (is_flushed : S → Type 0) (result : Result X WriteFault) (old new : S) (text : List ℕ) : Type 0 where
   pub says : Says result (contents old) (contents new) text
   pub flushed : OnOk result (is_flushed new)
