@@ -7,7 +7,7 @@ ghost use Rattle.rv_step.specs.Fold.{receipts_of, store_after};
 
 use crate::batches::{Batches, FIRST_CALLS};
 use overlay::Overlay;
-use rv_ledger::{Block, Call, Job, Receipt, Store};
+use rv_ledger::{Call, LentBlock, Receipt, Store};
 use seq_exec::{run_counted, run_over};
 use std::alloc::{AllocError, Global};
 use std::sync::Wait;
@@ -107,9 +107,7 @@ impl<'a, R: Threads + Wait + Sync> ByThreads<'a, R> {
         ensures store { OnSome result (with_changes base.now over.new ≡ store_after calls.now (with_changes base.now over.old)) }
         ensures none { result ≡ None → over.new ≡ over.old }
     {
-        let Ok(Some(block)) = block_of(alloc, calls) else {
-            return None;
-        };
+        let block = LentBlock::of(calls)?;
         match self.executor.run_over_changes_within(
             self.threads,
             alloc,
@@ -143,28 +141,4 @@ impl<R: Threads + Wait + Sync> CallRunner for ByThreads<'_, R> {
         receipts.append(&mut more)?;
         Ok(receipts)
     }
-}
-
-/// The block of these calls; None where there are more than 1,024. Refused where memory ran out.
-fn block_of(alloc: Global, calls: &[Call]) -> Result<Option<Block>, AllocError>
-    ensures { IfOk result (λ block. IfSome block (λ b. b ≡ calls.now)) }
-{
-    match Job::new(copies(alloc, calls)?, Store::new(alloc)) {
-        Ok(job) => {
-            let Job { block, store: _ } = job;
-            Ok(Some(block))
-        }
-        Err(_) => Ok(None),
-    }
-}
-
-/// Equal calls, in the same order; refused where memory ran out.
-fn copies(alloc: Global, calls: &[Call]) -> Result<Vec<Call>, AllocError>
-    ensures { IfOk result (λ v. v.items ≡ calls.now) }
-{
-    let mut copies = Vec::with_capacity(alloc, calls.len())?;
-    for call in calls {
-        copies.push(call.copy()?)?;
-    }
-    Ok(copies)
 }

@@ -2,18 +2,19 @@
 
 ghost use Rattle.std.specs.FinMap as map;
 ghost use Rattle.std.specs.Option.{option_copied};
-ghost use Rattle.std.specs.Prelude.{◌≡◌};
+ghost use Rattle.std.specs.Prelude.{◌≡◌, ◌≤◌, length};
 ghost use Rattle.rv_ledger.specs.declared.job.Job.{Job};
 
-use rv_ledger::{Block, Contents, Job, Key, StoredValue};
+use rv_ledger::{Call, Contents, Job, Key, LentBlock, StoredValue};
 
 /// What holds a job: its calls, and its storage or what stands for one.
 pub trait JobSource: Drop {
     ghost job: { Self → Job };
 
-    /// The calls.
-    fn block(&self) -> &Block
-        ensures { result.now ≡ (job self.now).block };
+    /// The calls, at most 1,024.
+    fn calls(&self) -> &[Call]
+        ensures value { result.now ≡ (job self.now).block }
+        ensures count { length (job self.now).block ≤ 1024 };
 
     /// What the storage before the first call has at a key, or None where the key is absent.
     fn content(&self, key: &Key) -> Option<&StoredValue>
@@ -23,8 +24,8 @@ pub trait JobSource: Drop {
 impl JobSource for Job {
     ghost job = { λ j. j };
 
-    fn block(&self) -> &Block {
-        &self.block
+    fn calls(&self) -> &[Call] {
+        self.block.calls()
     }
 
     fn content(&self, key: &Key) -> Option<&StoredValue> {
@@ -37,16 +38,16 @@ impl JobSource for Job {
 #[derive(Drop)]
 pub struct LentJob<'a, S: Contents> {
     /// The calls.
-    pub block: &'a Block,
+    pub block: LentBlock<'a>,
     /// What the calls read.
     pub contents: &'a S,
 }
 
 impl<S: Contents> JobSource for LentJob<'_, S> {
-    ghost job = { λ l. record { block = l.block.now; store = S.storage l.contents.now } };
+    ghost job = { λ l. record { block = l.block.calls.now; store = S.storage l.contents.now } };
 
-    fn block(&self) -> &Block {
-        self.block
+    fn calls(&self) -> &[Call] {
+        self.block.calls()
     }
 
     fn content(&self, key: &Key) -> Option<&StoredValue> {

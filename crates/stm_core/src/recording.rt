@@ -19,7 +19,7 @@ use crate::ready_record::ReadyRecord;
 use crate::same::same_answers;
 use crate::versions::{recorded_count, written_count};
 use mvmap::MvMap;
-use rv_ledger::{Block, VALUE_LIMIT, Writes, same_call};
+use rv_ledger::{Call, VALUE_LIMIT, Writes, same_call};
 use rv_step::{EndedRun, StorageAnswer};
 use scheduler::{INCARNATION_LIMIT, Scheduler};
 use std::alloc::AllocError;
@@ -32,11 +32,11 @@ pub struct SpentRun {
     pub(crate) left: ReadyRecord,
 }
 
-/// Whether a run is a run of the block's call at an index. Takes no memory.
-pub(crate) fn is_run_of(block: &Block, call: u16, run: &EndedRun) -> bool
-    ensures { (result ≡ true) ↔ (slice_get block.now call ≡ Some run.now.call) }
+/// Whether a run is a run of the call at an index among these. Takes no memory.
+pub(crate) fn is_run_of(calls: &[Call], call: u16, run: &EndedRun) -> bool
+    ensures { (result ≡ true) ↔ (slice_get calls.now call ≡ Some run.now.call) }
 {
-    match block.calls().get(usize::from(call)) {
+    match calls.get(usize::from(call)) {
         Some(own) => same_call(own, &run.call),
         None => false,
     }

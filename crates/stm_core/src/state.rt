@@ -88,7 +88,7 @@ impl<H: JobSource> Core<H> {
         ensures back { IfErr result (λ a. a ≡ emptied arena) }
     {
         let map = MvMap::over(alloc, arena);
-        match Scheduler::new(alloc, job.block().calls().len(), workers) {
+        match Scheduler::new(alloc, job.calls().len(), workers) {
             Ok(scheduler) => Ok(Core {
                 job,
                 map,
@@ -302,7 +302,7 @@ impl<H: JobSource> Core<H> {
         let TaskKind::Running { call, .. } = self.scheduler.task_kind(worker) else {
             unreachable!();
         };
-        if !is_run_of(self.job.block(), call, &run)
+        if !is_run_of(self.job.calls(), call, &run)
             || !has_own_answers(&self.scheduler, worker, &run.answers)
         {
             return Err(Refused {

@@ -19,7 +19,7 @@ use crate::gate::{Gate, Open};
 use crate::shared::Shared;
 use crate::worker::work;
 use overlay::copy_with_receipts;
-use rv_ledger::{Block, Contents, Job, Outcome};
+use rv_ledger::{Contents, Job, LentBlock, Outcome};
 use std::alloc::{AllocError, Global};
 use std::marker::Brand;
 use std::sync::Wait;
@@ -122,7 +122,13 @@ impl Executor {
         ensures kept { result ≡ Err faults.BadCount → self.new ≡ self.old }
     {
         let Finished { receipts, counts } = self.run_lent(
-            rt, alloc, &job.block, &job.store, workers, None, gate,
+            rt,
+            alloc,
+            job.block.lent(),
+            &job.store,
+            workers,
+            None,
+            gate,
         )?;
         always_ends::work_is_bounded();
         match copy_with_receipts(&job.store, receipts.as_slice()) {
@@ -144,21 +150,21 @@ impl Executor {
         &mut self,
         rt: &R,
         alloc: Global,
-        block: &Block,
+        block: LentBlock<'_>,
         contents: &S,
         workers: usize,
         work_limit: Option<u64>,
         gate: &G,
     ) -> Result<Finished, RunFault>
         ensures bad_count { (result ≡ Err faults.BadCount) ↔ ((workers ≡ 0) ⊎ (32 < workers)) }
-        ensures receipts { IfOk result (λ f. f.receipts.items ≡ receipts_of block.now (S.storage contents.now)) }
-        ensures history { IfOk result (λ f. HasHistory (record { block = block.now; store = S.storage contents.now }) workers f.counts.items) }
-        ensures one_worker { IfOk result (λ f. workers ≡ 1 → AreOneWorkerCounts (length block.now) f.counts.items) }
+        ensures receipts { IfOk result (λ f. f.receipts.items ≡ receipts_of block.entry.calls.now (S.storage contents.now)) }
+        ensures history { IfOk result (λ f. HasHistory (record { block = block.entry.calls.now; store = S.storage contents.now }) workers f.counts.items) }
+        ensures one_worker { IfOk result (λ f. workers ≡ 1 → AreOneWorkerCounts (length block.entry.calls.now) f.counts.items) }
         ensures shares { IfOk result (λ f. AreSharesOf f.counts.items self.new.shares.items) }
         ensures within { OnOk result (All (λ share. KeepsLimit work_limit share.counts) self.new.shares.items) }
-        ensures full { IfErr result (λ e. e ≡ faults.ArenaFull → HasLimit (record { block = block.now; store = S.storage contents.now }) workers steps.ArenaFull) }
-        ensures limit { IfErr result (λ e. e ≡ faults.IncarnationLimit → HasLimit (record { block = block.now; store = S.storage contents.now }) workers steps.IncarnationLimit) }
-        ensures step_limit { IfErr result (λ e. e ≡ faults.StepLimit → HasStepLimit (record { block = block.now; store = S.storage contents.now }) workers work_limit) }
+        ensures full { IfErr result (λ e. e ≡ faults.ArenaFull → HasLimit (record { block = block.entry.calls.now; store = S.storage contents.now }) workers steps.ArenaFull) }
+        ensures limit { IfErr result (λ e. e ≡ faults.IncarnationLimit → HasLimit (record { block = block.entry.calls.now; store = S.storage contents.now }) workers steps.IncarnationLimit) }
+        ensures step_limit { IfErr result (λ e. e ≡ faults.StepLimit → HasStepLimit (record { block = block.entry.calls.now; store = S.storage contents.now }) workers work_limit) }
         ensures left { result ≢ Err faults.BadCount → AreLeft work_limit workers self.new.shares.items }
         ensures kept { result ≡ Err faults.BadCount → self.new ≡ self.old }
     {
@@ -182,14 +188,14 @@ fn run_over<J: JobName + Send + Sync, S: Contents + Sync, R: Threads + Wait + Sy
     rt: &R,
     alloc: Global,
     arena: Arena,
-    block: &Block,
+    block: LentBlock<'_>,
     contents: &S,
     workers: usize,
     work_limit: Option<u64>,
     gate: &G,
 ) -> (Result<Finished, RunFault>, Arena, Vec<Share>)
     requires count { (1 ≤ workers) × (workers ≤ 32) }
-    requires job { J.job ≡ record { block = block.now; store = S.storage contents.now } }
+    requires job { J.job ≡ record { block = block.calls.now; store = S.storage contents.now } }
     ensures bad_count { IfErr result.0 (λ e. e ≢ faults.BadCount) }
     ensures receipts { IfOk result.0 (λ f. f.receipts.items ≡ receipts_of J.job.block J.job.store) }
     ensures history { IfOk result.0 (λ f. HasHistory J.job workers f.counts.items) }
@@ -246,13 +252,13 @@ fn answer_by(
 fn share_out<'a, J: JobName, S: Contents>(
     alloc: Global,
     arena: Arena,
-    block: &'a Block,
+    block: LentBlock<'a>,
     contents: &'a S,
     workers: usize,
     work_limit: Option<u64>,
 ) -> Result<(Shared<J, LentJob<'a, S>>, Vec<Share>), Arena>
     requires count { (1 ≤ workers) × (workers ≤ 32) }
-    requires job { J.job ≡ record { block = block.now; store = S.storage contents.now } }
+    requires job { J.job ≡ record { block = block.calls.now; store = S.storage contents.now } }
     ensures passes { IfOk result (λ made. All (λ share. IsPassOf made.0.cell share.pass) made.1.items) }
     ensures limits { IfOk result (λ made. All (IsWithinLimit work_limit) made.1.items) }
     ensures shares { IfOk result (λ made. map counts_of_share made.1.items ≡ zero_counts_of_all workers) }

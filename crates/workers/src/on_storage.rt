@@ -4,7 +4,7 @@ use crate::executor::Executor;
 use crate::fault::RunFault;
 use crate::gate::Open;
 use overlay::{Layers, Overlay, apply_receipts, commit};
-use rv_ledger::{Block, Contents, Receipt, Store};
+use rv_ledger::{Block, Contents, LentBlock, Receipt, Store};
 use std::alloc::{AllocError, Global};
 use std::sync::Wait;
 use std::thread::Threads;
@@ -43,40 +43,24 @@ impl Executor {
         ensures kept { result ≡ Err faults.BadCount → self.new ≡ self.old }
     {
         let mut changes = Overlay::new(alloc);
-        let receipts = self.run_over_changes(rt, alloc, store, &mut changes, block, workers)?;
+        let receipts = self.run_over_changes_within(
+            rt,
+            alloc,
+            store,
+            &mut changes,
+            block.lent(),
+            workers,
+            None,
+        )?;
         match commit(store, changes) {
             Ok(()) => Ok(receipts),
             Err(AllocError) => Err(RunFault::Memory),
         }
     }
 
-    /// The same on a storage with changes over it. It adds the changes of the calls to these, and where it is refused
-    /// it leaves these as they were.
-    pub fn run_over_changes<R: Threads + Wait + Sync>(
-        &mut self,
-        rt: &R,
-        alloc: Global,
-        base: &Store,
-        over: &mut Overlay,
-        block: Block,
-        workers: usize,
-    ) -> Result<Vec<Receipt>, RunFault>
-        ensures bad_count { (result ≡ Err faults.BadCount) ↔ ((workers ≡ 0) ⊎ (32 < workers)) }
-        ensures receipts { IfOk result (λ r. r.items ≡ receipts_of block (with_changes base.now over.old)) }
-        ensures store { OnOk result (with_changes base.now over.new ≡ store_after block (with_changes base.now over.old)) }
-        ensures err { OnErr result (over.new ≡ over.old) }
-        ensures history { OnOk result (IsRunWithShares (record { block = block; store = with_changes base.now over.old }) workers self.new.shares.items) }
-        ensures full { IfErr result (λ e. e ≡ faults.ArenaFull → HasLimit (record { block = block; store = with_changes base.now over.old }) workers steps.ArenaFull) }
-        ensures limit { IfErr result (λ e. e ≡ faults.IncarnationLimit → HasLimit (record { block = block; store = with_changes base.now over.old }) workers steps.IncarnationLimit) }
-        ensures step_limit { IfErr result (λ e. e ≡ faults.StepLimit → HasStepLimit (record { block = block; store = with_changes base.now over.old }) workers None) }
-        ensures left { result ≢ Err faults.BadCount → AreLeft None workers self.new.shares.items }
-        ensures kept { result ≡ Err faults.BadCount → self.new ≡ self.old }
-    {
-        self.run_over_changes_within(rt, alloc, base, over, block, workers, None)
-    }
-
-    /// The same with a limit: where there is one, it is refused as StepLimit also where a worker has made so many steps, asks
-    /// aside. Where it answers Ok, each worker has made no more steps, asks aside, than the limit.
+    /// The same with calls that are lent, on a storage with changes over it. It adds the changes of the calls to these, and where it
+    /// is refused it leaves these as they were. Where there is a limit, it is refused as StepLimit also where a worker has made so
+    /// many steps, asks aside. Where it answers Ok, each worker has made no more steps, asks aside, than the limit.
     #[tactic(auto, using(rv_step::proofs::CallsInOrder::receipts_applied))]
     pub fn run_over_changes_within<R: Threads + Wait + Sync>(
         &mut self,
@@ -84,26 +68,26 @@ impl Executor {
         alloc: Global,
         base: &Store,
         over: &mut Overlay,
-        block: Block,
+        block: LentBlock<'_>,
         workers: usize,
         work_limit: Option<u64>,
     ) -> Result<Vec<Receipt>, RunFault>
         ensures bad_count { (result ≡ Err faults.BadCount) ↔ ((workers ≡ 0) ⊎ (32 < workers)) }
-        ensures receipts { IfOk result (λ r. r.items ≡ receipts_of block (with_changes base.now over.old)) }
-        ensures store { OnOk result (with_changes base.now over.new ≡ store_after block (with_changes base.now over.old)) }
+        ensures receipts { IfOk result (λ r. r.items ≡ receipts_of block.entry.calls.now (with_changes base.now over.old)) }
+        ensures store { OnOk result (with_changes base.now over.new ≡ store_after block.entry.calls.now (with_changes base.now over.old)) }
         ensures err { OnErr result (over.new ≡ over.old) }
-        ensures history { OnOk result (IsRunWithShares (record { block = block; store = with_changes base.now over.old }) workers self.new.shares.items) }
+        ensures history { OnOk result (IsRunWithShares (record { block = block.entry.calls.now; store = with_changes base.now over.old }) workers self.new.shares.items) }
         ensures within { OnOk result (All (λ share. KeepsLimit work_limit share.counts) self.new.shares.items) }
-        ensures full { IfErr result (λ e. e ≡ faults.ArenaFull → HasLimit (record { block = block; store = with_changes base.now over.old }) workers steps.ArenaFull) }
-        ensures limit { IfErr result (λ e. e ≡ faults.IncarnationLimit → HasLimit (record { block = block; store = with_changes base.now over.old }) workers steps.IncarnationLimit) }
-        ensures step_limit { IfErr result (λ e. e ≡ faults.StepLimit → HasStepLimit (record { block = block; store = with_changes base.now over.old }) workers work_limit) }
+        ensures full { IfErr result (λ e. e ≡ faults.ArenaFull → HasLimit (record { block = block.entry.calls.now; store = with_changes base.now over.old }) workers steps.ArenaFull) }
+        ensures limit { IfErr result (λ e. e ≡ faults.IncarnationLimit → HasLimit (record { block = block.entry.calls.now; store = with_changes base.now over.old }) workers steps.IncarnationLimit) }
+        ensures step_limit { IfErr result (λ e. e ≡ faults.StepLimit → HasStepLimit (record { block = block.entry.calls.now; store = with_changes base.now over.old }) workers work_limit) }
         ensures left { result ≢ Err faults.BadCount → AreLeft work_limit workers self.new.shares.items }
         ensures kept { result ≡ Err faults.BadCount → self.new ≡ self.old }
     {
         let receipts = self.receipts_by(
             rt,
             alloc,
-            &block,
+            block,
             &Layers { base, over },
             workers,
             work_limit,
@@ -121,18 +105,18 @@ impl Executor {
         &mut self,
         rt: &R,
         alloc: Global,
-        block: &Block,
+        block: LentBlock<'_>,
         contents: &S,
         workers: usize,
         work_limit: Option<u64>,
     ) -> Result<Vec<Receipt>, RunFault>
         ensures bad_count { (result ≡ Err faults.BadCount) ↔ ((workers ≡ 0) ⊎ (32 < workers)) }
-        ensures receipts { IfOk result (λ r. r.items ≡ receipts_of block.now (S.storage contents.now)) }
-        ensures history { OnOk result (IsRunWithShares (record { block = block.now; store = S.storage contents.now }) workers self.new.shares.items) }
+        ensures receipts { IfOk result (λ r. r.items ≡ receipts_of block.entry.calls.now (S.storage contents.now)) }
+        ensures history { OnOk result (IsRunWithShares (record { block = block.entry.calls.now; store = S.storage contents.now }) workers self.new.shares.items) }
         ensures within { OnOk result (All (λ share. KeepsLimit work_limit share.counts) self.new.shares.items) }
-        ensures full { IfErr result (λ e. e ≡ faults.ArenaFull → HasLimit (record { block = block.now; store = S.storage contents.now }) workers steps.ArenaFull) }
-        ensures limit { IfErr result (λ e. e ≡ faults.IncarnationLimit → HasLimit (record { block = block.now; store = S.storage contents.now }) workers steps.IncarnationLimit) }
-        ensures step_limit { IfErr result (λ e. e ≡ faults.StepLimit → HasStepLimit (record { block = block.now; store = S.storage contents.now }) workers work_limit) }
+        ensures full { IfErr result (λ e. e ≡ faults.ArenaFull → HasLimit (record { block = block.entry.calls.now; store = S.storage contents.now }) workers steps.ArenaFull) }
+        ensures limit { IfErr result (λ e. e ≡ faults.IncarnationLimit → HasLimit (record { block = block.entry.calls.now; store = S.storage contents.now }) workers steps.IncarnationLimit) }
+        ensures step_limit { IfErr result (λ e. e ≡ faults.StepLimit → HasStepLimit (record { block = block.entry.calls.now; store = S.storage contents.now }) workers work_limit) }
         ensures left { result ≢ Err faults.BadCount → AreLeft work_limit workers self.new.shares.items }
         ensures kept { result ≡ Err faults.BadCount → self.new ≡ self.old }
     {

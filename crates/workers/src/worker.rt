@@ -358,7 +358,7 @@ fn run_call<J: JobName, H: JobSource, R: Wait, G: Gate, S: Spin + Drop>(
     ensures limit { share.new.work_limit ≡ share.old.work_limit }
     ensures dones { OnOk result (share.new.dones ≡ share.old.dones) }
 {
-    let own = &shared.job.block().calls()[usize::from(call)];
+    let own = &shared.job.calls()[usize::from(call)];
     let Ok(mut run) = Run::start_in(alloc, replace(&mut kept.spare, SpareRun::new(alloc)), own)
     else {
         return Err(WorkFault::Met(shared.refuse(rt, OutsideFault::Memory)));
