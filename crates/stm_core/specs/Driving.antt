@@ -1,4 +1,4 @@
--- What the engine's refusals say of its list of worker numbers, and how a run under way fits its worker's task.
+-- What the refusals of a run along a list of worker numbers say of the list, and how a run under way fits its worker's task.
 use Rattle.std.specs.Prelude.{◌≡◌, List, [], Option, None, Some, Result, Err, slice_get}
 use Rattle.rv_ledger.specs.Call.{Invocation}
 use Rattle.rv_step.specs.Run.{RunView}

@@ -1,4 +1,4 @@
-//! The engine: a job's run along a list of worker numbers.
+//! A job's run along a list of worker numbers.
 
 ghost use Rattle.std.specs.Prelude.{◌≡◌, ◌<◌, ◌≤◌, None, Ok, Some, [], length, get_or, replicate, IfErr, IfOk, OnOk};
 ghost use Rattle.rv_step.specs.Fold.{receipts_of, store_after};
@@ -222,7 +222,7 @@ fn step(
         NextStep::Ask => {
             let _ = core.ask(worker);
         }
-        NextStep::Run { call, .. } => *run = run_on(alloc, core, worker, call, run.take())?,
+        NextStep::Run { call, .. } => *run = continue_run(alloc, core, worker, call, run.take())?,
         NextStep::Make { kind, .. } => make(core, worker, kind)?,
     }
     Ok(())
@@ -242,7 +242,7 @@ fn make(core: &mut Core, worker: usize, kind: StepKind) -> Result<(), DriveFault
 
 /// Takes a worker's run on to its next read or its end, and makes that step. Starts the run where
 /// none is under way. Returns the run that is under way after the step.
-fn run_on(
+fn continue_run(
     alloc: Global,
     core: &mut Core,
     worker: usize,

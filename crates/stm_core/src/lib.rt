@@ -1,5 +1,5 @@
-//! The state of a job's speculative run (Block-STM), the steps that workers make on it, and the engine
-//! that makes them along a list of worker numbers.
+//! The state of a job's speculative run (Block-STM), the steps that workers make on it, and a job's run
+//! along a list of worker numbers.
 #![tactic(auto)]
 
 mod engine;

@@ -19,7 +19,7 @@ ghost use Rattle.stm_core.specs.Inner.{room_of, value_room_of};
 
 use crate::next_step::{NextStep, ReadResult, StepKind};
 use crate::passed_lists::{PassedLists, larger, replace};
-use crate::value_rooms::{Contents, ValueRooms};
+use crate::value_rooms::{ReadContents, ValueRooms};
 use mvmap::{LentAnswer, MvMap};
 use read_set::Version;
 use rv_ledger::{Key, VALUE_LIMIT};
@@ -256,7 +256,7 @@ fn give(
     lists: &mut PassedLists,
     worker: usize,
     key: &Key,
-    contents: Contents,
+    contents: ReadContents,
     bottom: Option<Version>,
 ) -> ReadResult
     requires counts { MayCount worker scheduler.old }

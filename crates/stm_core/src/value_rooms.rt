@@ -21,7 +21,7 @@ pub(crate) struct ValueRooms {
 
 /// What a read found at a key, twice.
 #[derive(Drop)]
-pub(crate) struct Contents {
+pub(crate) struct ReadContents {
     /// The value that is kept, or None for absence.
     pub(crate) kept: Option<StoredValue>,
     /// The value that is handed out, or None for absence.
@@ -46,7 +46,7 @@ impl ValueRooms {
 
     /// What a key has after an amount is added, if there is one, twice. Takes no memory.
     #[inline(always)]
-    pub(crate) fn contents(&mut self, content: Option<&[u8]>, sum: Option<u64>) -> Contents
+    pub(crate) fn contents(&mut self, content: Option<&[u8]>, sum: Option<u64>) -> ReadContents
         requires short { IfSome content (λ bytes. length bytes.now ≤ 256) }
         requires room { HasValueRoom (value_room_of self.old) }
         ensures kept { result.kept ≡ with_amount (option_copied content.entry) sum }
@@ -64,7 +64,7 @@ impl ValueRooms {
 
     /// A value, or None for None, twice. More than 16 bytes take the lists with them. Takes no memory.
     #[inline(always)]
-    fn copies(&mut self, content: Option<&[u8]>) -> Contents
+    fn copies(&mut self, content: Option<&[u8]>) -> ReadContents
         requires short { IfSome content (λ bytes. length bytes.now ≤ 256) }
         requires room { HasValueRoom (value_room_of self.old) }
         ensures kept { result.kept ≡ option_copied content.entry }
@@ -72,11 +72,11 @@ impl ValueRooms {
         ensures stay { IsInPlace (option_copied content.entry) → self.new ≡ self.old }
     {
         match content {
-            Some(bytes) => Contents {
+            Some(bytes) => ReadContents {
                 kept: Some(StoredValue::of_room(bytes, &mut self.kept)),
                 lent: Some(StoredValue::of_room(bytes, &mut self.lent)),
             },
-            None => Contents {
+            None => ReadContents {
                 kept: None,
                 lent: None,
             },

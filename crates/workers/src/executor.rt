@@ -172,7 +172,7 @@ impl Executor {
             return Err(RunFault::BadCount);
         }
         let arena = mem::replace(&mut self.arena, Arena::new(alloc));
-        let (answer, arena, shares) = run_over::<Brand, S, R, G>(
+        let (answer, arena, shares) = run_on_threads::<Brand, S, R, G>(
             rt, alloc, arena, block, contents, workers, work_limit, gate,
         );
         self.arena = arena;
@@ -184,7 +184,12 @@ impl Executor {
 /// Runs a block on threads over an arena and over what is lent in place of a storage. The arena comes back without
 /// records. Refused as `Executor::run_lent` is, but never as BadCount. Beside it the shares that the threads gave back, one of each
 /// worker, which has made no more steps, asks aside, than the limit; or none.
-fn run_over<J: JobName + Send + Sync, S: Contents + Sync, R: Threads + Wait + Sync, G: Gate + Sync>(
+fn run_on_threads<
+    J: JobName + Send + Sync,
+    S: Contents + Sync,
+    R: Threads + Wait + Sync,
+    G: Gate + Sync,
+>(
     rt: &R,
     alloc: Global,
     arena: Arena,

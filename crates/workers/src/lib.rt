@@ -1,5 +1,4 @@
-//! The parallel engine. Its threads run the calls of a block outside one lock, and make their steps on the
-//! core under it.
+//! Runs of blocks by threads, which run the calls outside one lock, and make their steps on the core under it.
 #![tactic(auto)]
 
 mod answer;

@@ -4,7 +4,7 @@ use Rattle.workers.specs.Book.{zero_counts_of_all}
 use Rattle.workers.specs.Settle.{AreLeft, AreSharesOf}
 use Rattle.workers.proofs.GivenBack.{new_count}
 use Rattle.workers.proofs.Histories.{full_is, history_is, limit_is, never_bad_count, one_worker_is, receipts_are, shares_are, size_is, step_limit_is}
-use Rattle.workers.proofs.executor.run_over.Goals as goal
+use Rattle.workers.proofs.executor.run_on_threads.Goals as goal
 
 pub shares_back-back-requires-clause-shares : goal.shares_back-back-requires-clause-shares
 shares_back-back-requires-clause-shares g c κs within =
