@@ -1,7 +1,7 @@
 -- What the answer of a settled book says of the history of its core.
-use Rattle.std.proofs.Common.{◌≡◌, ◌≢◌, ◌⊎◌, ◌<◌, ◌+◌, ◌*◌, ℕ, List, [], ◌∷◌, length, get_or, Option, None, Some, Result, Ok, Err, IfOk, IfErr, slice_get, arith, sym, ap, subst, ◌∙◌, refl, inl, inr}
+use Rattle.std.proofs.Common.{◌≡◌, ◌≢◌, ◌⊎◌, ◌<◌, ◌+◌, ◌*◌, ℕ, All, List, [], ◌∷◌, length, get_or, Option, None, Some, Result, Ok, Err, IfOk, IfErr, slice_get, arith, sym, ap, subst, ◌∙◌, refl, inl, inr}
 use Rattle.std.proofs.lemmas.Option.{slice_get-get_or}
-use Rattle.std.proofs.lemmas.Result.{IfOk-weaker, IfErr-weaker}
+use Rattle.std.proofs.lemmas.Result.{IfErr-weaker}
 use Rattle.rv_ledger.specs.declared.job.Job.{Job}
 use Rattle.rv_ledger.specs.declared.outcome.Counts.{Counts}
 use Rattle.rv_step.specs.Fold.{receipts_of}
@@ -18,9 +18,10 @@ use Rattle.stm_core.specs.declared.outcome.Finished.{Finished}
 use Rattle.workers.specs.declared.book.share.Share.{Share}
 use Rattle.workers.specs.declared.fault.RunFault.{RunFault}
 use Rattle.workers.specs.declared.fault.RunFault.TheVariants as faults
-use Rattle.workers.specs.Book.{BookState, FaultFits, HasSpentWorker, IsAtLimit, MayWrite, counts_of_share}
-use Rattle.workers.specs.Settle.{AreSettled, AreSharesOf, IsShareOf, IsFinishedOf, IsThatOrMemory, IsFinishedAfter}
+use Rattle.workers.specs.Book.{BookState, FaultFits, HasSpentWorker, IsAtLimit, KeepsLimit, MayWrite, counts_of_share}
+use Rattle.workers.specs.Settle.{AreLeft, AreSettled, AreSharesOf, IsShareOf, IsFinishedOf, IsThatOrMemory, IsFinishedAfter}
 use Rattle.workers.specs.History.{HasHistory, HasLimit, HasStepLimit, AreOneWorkerCounts}
+use Rattle.workers.specs.Run.{IsRun}
 
 -- ---- what an answer says of the book
 
@@ -97,29 +98,20 @@ size_is core b found same is = is ∙ ap (λ (x : CoreState). length x.state.tas
 module _ (job : Job) (workers : ℕ) (shares : List Share) (b : BookState) (same : b.core.job ≡ job) (settled_answer : Result Finished RunFault) (settled : IsFinishedAfter b.fault b.core shares settled_answer)
     (reached : Reached (block_in b.core) (length b.core.state.tasks) b.core.state) (sized : IsSized (length b.core.job.block) (length b.core.state.tasks) b.core.state)
     (fits : FaultFits b.work_limit b.core b.fault) (found : ℕ) (size : found ≡ length b.core.state.tasks) where
-  module _ (answer : Result Finished RunFault) (ok : IfOk answer (λ o. (settled_answer ≡ Ok o) × (found ≡ workers))) where
-    pub receipts_are : IfOk answer (λ o. o.receipts.items ≡ receipts_of job.block job.store)
-    receipts_are = IfOk-weaker answer _ _ (λ o h. let k = ok_after b.fault b.core shares settled_answer o settled h.0 in k.1.receipts ∙ ap (λ (j : Job). receipts_of j.block j.store) same) ok
-
-    pub shares_are : IfOk answer (λ o. AreSharesOf o.counts.items shares)
-    shares_are = IfOk-weaker answer _ _ (λ o h.
-        let k = ok_after b.fault b.core shares settled_answer o settled h.0 in
-        subst (λ (counts : List Counts). AreSharesOf counts shares) (sym k.1.counts) (settled_shares b.core shares k.0 sized)) ok
-
-    pub history_is : ReachedByList → LastEntryIsDone → IfOk answer (λ o. HasHistory job workers o.counts.items)
-    history_is by_list last = IfOk-weaker answer _ _ (λ o h.
-        let k = ok_after b.fault b.core shares settled_answer o settled h.0 in
-        let counts = k.1.counts in
+  -- where it is Ok
+  finished_is : (o : Finished) → settled_answer ≡ Ok o → found ≡ workers → ReachedByList → LastEntryIsDone → OneWorkerCountsWhereReached
+      → (o.receipts.items ≡ receipts_of job.block job.store) × HasHistory job workers o.counts.items × (workers ≡ 1 → AreOneWorkerCounts (length job.block) o.counts.items) × AreSharesOf o.counts.items shares
+  finished_is o is asked by_list last law =
+      let k = ok_after b.fault b.core shares settled_answer o settled is in
+      let counts = k.1.counts in (
+        k.1.receipts ∙ ap (λ (j : Job). receipts_of j.block j.store) same,
         subst (λ (j : Job). HasHistory j workers o.counts.items) same
-        (subst (λ n. HasHistory b.core.job n o.counts.items) (sym size ∙ h.1)
-        (subst (HasHistory b.core.job (length b.core.state.tasks)) (sym counts) (has_history b.core shares k.0 reached by_list last)))) ok
-
-    pub one_worker_is : OneWorkerCountsWhereReached → IfOk answer (λ o. workers ≡ 1 → AreOneWorkerCounts (length job.block) o.counts.items)
-    one_worker_is law = IfOk-weaker answer _ _ (λ o h one.
-        let k = ok_after b.fault b.core shares settled_answer o settled h.0 in
-        let counts = k.1.counts in
-        subst (λ (j : Job). AreOneWorkerCounts (length j.block) o.counts.items) same
-        (subst (AreOneWorkerCounts (length b.core.job.block)) (sym counts) (are_one_worker_counts b.core shares k.0 reached law (sym size ∙ h.1 ∙ one)))) ok
+            (subst (λ n. HasHistory b.core.job n o.counts.items) (sym size ∙ asked)
+            (subst (HasHistory b.core.job (length b.core.state.tasks)) (sym counts) (has_history b.core shares k.0 reached by_list last))),
+        (λ one. subst (λ (j : Job). AreOneWorkerCounts (length j.block) o.counts.items) same
+            (subst (AreOneWorkerCounts (length b.core.job.block)) (sym counts) (are_one_worker_counts b.core shares k.0 reached law (sym size ∙ asked ∙ one)))),
+        subst (λ (found : List Counts). AreSharesOf found shares) (sym counts) (settled_shares b.core shares k.0 sized),
+      )
 
   -- a limit that was written is met by some list
   limit_met : (limit : Limit) → IsAtLimit limit b.core → found ≡ workers → HasLimit job workers limit
@@ -132,8 +124,12 @@ module _ (job : Job) (workers : ℕ) (shares : List Share) (b : BookState) (same
       (record { state = b.core.state; reached = reached; worker = at.worker; within = at.within; spent = at.spent }))
 
   module _ (own limit : Option ℕ) (limited : own ≡ b.work_limit) where
+    -- a fault that is answered: that of the settled answer, and the core has so many workers and the book this limit; or Foreign
+    abbrev pub IsAnswered : RunFault → Type 0
+    IsAnswered f = ((settled_answer ≡ Err f) × (found ≡ workers) × (own ≡ limit)) ⊎ ((f ≡ faults.Foreign) × ((found ≢ workers) ⊎ (own ≢ limit)))
+
     -- a fault that is neither Foreign nor Memory was written
-    written : (f : RunFault) → ((settled_answer ≡ Err f) × (found ≡ workers) × (own ≡ limit)) ⊎ ((f ≡ faults.Foreign) × ((found ≢ workers) ⊎ (own ≢ limit))) → f ≢ faults.Foreign → f ≢ faults.Memory
+    written : (f : RunFault) → IsAnswered f → f ≢ faults.Foreign → f ≢ faults.Memory
         → MayWrite f b.work_limit b.core × (found ≡ workers) × (own ≡ limit)
     written f (inl h) foreign memory = elim (err_after b.fault b.core shares settled_answer f settled h.0) [
       | inl k ↦ (subst (FaultFits b.work_limit b.core) k fits, h.1, h.2)
@@ -142,17 +138,15 @@ module _ (job : Job) (workers : ℕ) (shares : List Share) (b : BookState) (same
     ]
     written f (inr h) foreign memory = absurd (foreign h.0)
 
-    module _ (answer : Result Finished RunFault) (err : IfErr answer (λ f. ((settled_answer ≡ Err f) × (found ≡ workers) × (own ≡ limit)) ⊎ ((f ≡ faults.Foreign) × ((found ≢ workers) ⊎ (own ≢ limit))))) where
-      pub never_bad_count : IfErr answer (λ f. f ≢ faults.BadCount)
-      never_bad_count = IfErr-weaker answer _ _ (λ f h e. (subst (λ (g : RunFault). MayWrite g b.work_limit b.core) e (written f h (λ k. cc) (λ k. cc)).0)) err
+    pub never_bad_count : (answer : Result Finished RunFault) → IfErr answer IsAnswered → IfErr answer (λ f. f ≢ faults.BadCount)
+    never_bad_count answer err = IfErr-weaker answer _ _ (λ f h e. (written faults.BadCount (subst IsAnswered e h) (λ k. cc) (λ k. cc)).0) err
 
-      pub full_is : IfErr answer (λ f. f ≡ faults.ArenaFull → HasLimit job workers steps.ArenaFull)
-      full_is = IfErr-weaker answer _ _ (λ f h e. let w = written f h (λ k. cc) (λ k. cc) in limit_met steps.ArenaFull (subst (λ (g : RunFault). MayWrite g b.work_limit b.core) e w.0) w.1) err
-
-      pub limit_is : IfErr answer (λ f. f ≡ faults.IncarnationLimit → HasLimit job workers steps.IncarnationLimit)
-      limit_is = IfErr-weaker answer _ _ (λ f h e. let w = written f h (λ k. cc) (λ k. cc) in limit_met steps.IncarnationLimit (subst (λ (g : RunFault). MayWrite g b.work_limit b.core) e w.0) w.1) err
-
-      pub step_limit_is : IfErr answer (λ f. f ≡ faults.StepLimit → HasStepLimit job workers limit)
-      step_limit_is = IfErr-weaker answer _ _ (λ f h e.
-          let w = written f h (λ k. cc) (λ k. cc) in
-          subst (HasStepLimit job workers) (sym limited ∙ w.2) (step_limit_met (subst (λ (g : RunFault). MayWrite g b.work_limit b.core) e w.0) w.1)) err
+    pub is_run : ReachedByList → LastEntryIsDone → OneWorkerCountsWhereReached → AreLeft limit workers shares → All (λ share. KeepsLimit limit share.counts) shares
+        → (answer : Result Finished RunFault) → IfOk answer (λ o. (settled_answer ≡ Ok o) × (found ≡ workers)) → IfErr answer IsAnswered → IsRun job workers limit shares answer
+    is_run by_list last law left keeps (Ok o) ok err = let made = finished_is o ok.0 ok.1 by_list last law in (made.0, made.1, made.2, made.3, keeps, left)
+    is_run by_list last law left keeps (Err f) ok err = (
+      (λ e. let w = written faults.ArenaFull (subst IsAnswered e err) (λ k. cc) (λ k. cc) in limit_met steps.ArenaFull w.0 w.1),
+      (λ e. let w = written faults.IncarnationLimit (subst IsAnswered e err) (λ k. cc) (λ k. cc) in limit_met steps.IncarnationLimit w.0 w.1),
+      (λ e. let w = written faults.StepLimit (subst IsAnswered e err) (λ k. cc) (λ k. cc) in subst (HasStepLimit job workers) (sym limited ∙ w.2) (step_limit_met w.0 w.1)),
+      (λ _. left),
+    )

@@ -1,13 +1,11 @@
 //! Runs the calls of blocks on several threads, over one arena.
 
-ghost use Rattle.std.specs.Prelude.{◌≡◌, ◌≢◌, ◌≤◌, ◌⊎◌, [], All, Err, IfErr, IfOk, Ok, length, map, true};
+ghost use Rattle.std.specs.Prelude.{◌≡◌, ◌≢◌, ◌≤◌, ◌⊎◌, [], All, Err, IfErr, IfOk, Ok, length, map};
 ghost use Rattle.std.specs.Vec.{vec_capacity};
-ghost use Rattle.rv_step.specs.Fold.{receipts_of};
-ghost use Rattle.stm_state.specs.Steps as steps;
 ghost use Rattle.workers.specs.Book.{IsWithinLimit, KeepsLimit, counts_of_share, zero_counts_of_all};
 ghost use Rattle.workers.specs.DoneCell.{IsPassOf};
-ghost use Rattle.workers.specs.History.{HasHistory, HasLimit, HasStepLimit, AreOneWorkerCounts};
-ghost use Rattle.workers.specs.Settle.{AreLeft, AreSharesOf, IsGivenBack};
+ghost use Rattle.workers.specs.Run.{IsRun};
+ghost use Rattle.workers.specs.Settle.{AreLeft, IsGivenBack};
 ghost use Rattle.workers.specs.Work.{AreGivenBy, HasPromised, HoldFrom, IsGivenBy};
 ghost use Rattle.workers.specs.declared.fault.OutsideFault.TheVariants as outside;
 ghost use Rattle.workers.specs.declared.fault.RunFault.TheVariants as faults;
@@ -38,14 +36,14 @@ pub struct Executor {
 }
 
 impl Executor {
-    ghost use Rattle.std.specs.Prelude.{◌≡◌, ◌≢◌, ◌<◌, ◌⊎◌, ◌↔◌, ℕ, [], All, Err, IfErr, IfOk, None, OnOk, length};
+    ghost use Rattle.std.specs.Prelude.{◌≡◌, ◌≢◌, ◌<◌, ◌⊎◌, ◌↔◌, ℕ, [], Err, IfErr, IfOk, None, length};
     ghost use Rattle.rv_step.specs.Fold.{receipts_of, store_after};
     ghost use Rattle.stm_state.specs.Steps as steps;
     ghost use Rattle.workers.specs.declared.fault.RunFault.TheVariants as faults;
     ghost use Rattle.never_stuck.specs.Far.{HasAtMostGas};
     ghost use Rattle.workers.specs.History.{HasHistory, HasLimit, HasStepLimit, AreOneWorkerCounts, IsBoundedHistory};
+    ghost use Rattle.workers.specs.Run.{IsRun};
     ghost use Rattle.workers.specs.Settle.{AreLeft, AreSharesOf};
-    ghost use Rattle.workers.specs.Book.{KeepsLimit};
 
     /// An executor without shares, whose arena has room for no record yet. Takes no memory.
     pub fn new(alloc: Global) -> Executor
@@ -98,7 +96,7 @@ impl Executor {
 
     /// `run_block` with a gate. Each thread passes it between the end of a run and its record, and may be
     /// held there.
-    #[tactic(auto, using(rv_step::proofs::CallsInOrder::receipts_applied, crate::proofs::Runs::history_is_bounded))]
+    #[tactic(auto, using(rv_step::proofs::CallsInOrder::receipts_applied))]
     pub fn run_block_with<R: Threads + Wait + Sync, G: Gate + Sync>(
         &mut self,
         rt: &R,
@@ -157,15 +155,7 @@ impl Executor {
         gate: &G,
     ) -> Result<Finished, RunFault>
         ensures bad_count { (result ≡ Err faults.BadCount) ↔ ((workers ≡ 0) ⊎ (32 < workers)) }
-        ensures receipts { IfOk result (λ f. f.receipts.items ≡ receipts_of block.entry.calls.now (S.storage contents.now)) }
-        ensures history { IfOk result (λ f. HasHistory (record { block = block.entry.calls.now; store = S.storage contents.now }) workers f.counts.items) }
-        ensures one_worker { IfOk result (λ f. workers ≡ 1 → AreOneWorkerCounts (length block.entry.calls.now) f.counts.items) }
-        ensures shares { IfOk result (λ f. AreSharesOf f.counts.items self.new.shares.items) }
-        ensures within { OnOk result (All (λ share. KeepsLimit work_limit share.counts) self.new.shares.items) }
-        ensures full { IfErr result (λ e. e ≡ faults.ArenaFull → HasLimit (record { block = block.entry.calls.now; store = S.storage contents.now }) workers steps.ArenaFull) }
-        ensures limit { IfErr result (λ e. e ≡ faults.IncarnationLimit → HasLimit (record { block = block.entry.calls.now; store = S.storage contents.now }) workers steps.IncarnationLimit) }
-        ensures step_limit { IfErr result (λ e. e ≡ faults.StepLimit → HasStepLimit (record { block = block.entry.calls.now; store = S.storage contents.now }) workers work_limit) }
-        ensures left { result ≢ Err faults.BadCount → AreLeft work_limit workers self.new.shares.items }
+        ensures run { IsRun (record { block = block.entry.calls.now; store = S.storage contents.now }) workers work_limit self.new.shares.items result }
         ensures kept { result ≡ Err faults.BadCount → self.new ≡ self.old }
     {
         if workers == 0 || workers > WORKER_LIMIT {
@@ -202,15 +192,7 @@ fn run_on_threads<
     requires count { (1 ≤ workers) × (workers ≤ 32) }
     requires job { J.job ≡ record { block = block.calls.now; store = S.storage contents.now } }
     ensures bad_count { IfErr result.0 (λ e. e ≢ faults.BadCount) }
-    ensures receipts { IfOk result.0 (λ f. f.receipts.items ≡ receipts_of J.job.block J.job.store) }
-    ensures history { IfOk result.0 (λ f. HasHistory J.job workers f.counts.items) }
-    ensures one_worker { IfOk result.0 (λ f. workers ≡ 1 → AreOneWorkerCounts (length J.job.block) f.counts.items) }
-    ensures shares { IfOk result.0 (λ f. AreSharesOf f.counts.items result.2.items) }
-    ensures within { All (λ share. KeepsLimit work_limit share.counts) result.2.items }
-    ensures left { AreLeft work_limit workers result.2.items }
-    ensures full { IfErr result.0 (λ e. e ≡ faults.ArenaFull → HasLimit J.job workers steps.ArenaFull) }
-    ensures limit { IfErr result.0 (λ e. e ≡ faults.IncarnationLimit → HasLimit J.job workers steps.IncarnationLimit) }
-    ensures step_limit { IfErr result.0 (λ e. e ≡ faults.StepLimit → HasStepLimit J.job workers work_limit) }
+    ensures run { IsRun J.job workers work_limit result.2.items result.0 }
     ensures arena { result.1.records ≡ [] }
 {
     let (shared, shares) = match share_out::<J, S>(

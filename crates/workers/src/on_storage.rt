@@ -4,7 +4,7 @@ use crate::executor::Executor;
 use crate::fault::RunFault;
 use crate::gate::Open;
 use overlay::{Layers, Overlay, apply_receipts, commit};
-use rv_ledger::{Block, Contents, LentBlock, Receipt, Store};
+use rv_ledger::{Block, LentBlock, Receipt, Store};
 use std::alloc::{AllocError, Global};
 use std::sync::Wait;
 use std::thread::Threads;
@@ -61,7 +61,7 @@ impl Executor {
     /// The same with calls that are lent, on a storage with changes over it. It adds the changes of the calls to these, and where it
     /// is refused it leaves these as they were. Where there is a limit, it is refused as StepLimit also where a worker has made so
     /// many steps, asks aside. Where it answers Ok, each worker has made no more steps, asks aside, than the limit.
-    #[tactic(auto, using(rv_step::proofs::CallsInOrder::receipts_applied))]
+    #[tactic(auto, using(rv_step::proofs::CallsInOrder::receipts_applied, crate::proofs::Runs::run_with_shares))]
     pub fn run_over_changes_within<R: Threads + Wait + Sync>(
         &mut self,
         rt: &R,
@@ -84,47 +84,18 @@ impl Executor {
         ensures left { result ≢ Err faults.BadCount → AreLeft work_limit workers self.new.shares.items }
         ensures kept { result ≡ Err faults.BadCount → self.new ≡ self.old }
     {
-        let receipts = self.receipts_by(
+        let Finished { receipts, .. } = self.run_lent(
             rt,
             alloc,
             block,
             &Layers { base, over },
             workers,
             work_limit,
+            &Open,
         )?;
         match apply_receipts(base, over, receipts.as_slice()) {
             Ok(()) => Ok(receipts),
             Err(AllocError) => Err(RunFault::Memory),
         }
-    }
-
-    /// The receipts of a block by threads, over what is lent in place of a storage. Refused as `run_lent` is. Each worker has made
-    /// no more steps, asks aside, than the limit.
-    #[tactic(auto, using(crate::proofs::Runs::run_with_shares))]
-    fn receipts_by<S: Contents + Sync, R: Threads + Wait + Sync>(
-        &mut self,
-        rt: &R,
-        alloc: Global,
-        block: LentBlock<'_>,
-        contents: &S,
-        workers: usize,
-        work_limit: Option<u64>,
-    ) -> Result<Vec<Receipt>, RunFault>
-        ensures bad_count { (result ≡ Err faults.BadCount) ↔ ((workers ≡ 0) ⊎ (32 < workers)) }
-        ensures receipts { IfOk result (λ r. r.items ≡ receipts_of block.entry.calls.now (S.storage contents.now)) }
-        ensures history { OnOk result (IsRunWithShares (record { block = block.entry.calls.now; store = S.storage contents.now }) workers self.new.shares.items) }
-        ensures within { OnOk result (All (λ share. KeepsLimit work_limit share.counts) self.new.shares.items) }
-        ensures full { IfErr result (λ e. e ≡ faults.ArenaFull → HasLimit (record { block = block.entry.calls.now; store = S.storage contents.now }) workers steps.ArenaFull) }
-        ensures limit { IfErr result (λ e. e ≡ faults.IncarnationLimit → HasLimit (record { block = block.entry.calls.now; store = S.storage contents.now }) workers steps.IncarnationLimit) }
-        ensures step_limit { IfErr result (λ e. e ≡ faults.StepLimit → HasStepLimit (record { block = block.entry.calls.now; store = S.storage contents.now }) workers work_limit) }
-        ensures left { result ≢ Err faults.BadCount → AreLeft work_limit workers self.new.shares.items }
-        ensures kept { result ≡ Err faults.BadCount → self.new ≡ self.old }
-    {
-        let finished = self.run_lent(rt, alloc, block, contents, workers, work_limit, &Open)?;
-        let Finished {
-            receipts,
-            counts: _,
-        } = finished;
-        Ok(receipts)
     }
 }

@@ -1,0 +1,10 @@
+use Rattle.std.proofs.Common.{List, subst}
+use Rattle.rv_ledger.specs.Call.{Invocation}
+use Rattle.workers.specs.History.{HasHistory}
+use Rattle.workers.proofs.Runs.{history_is_bounded}
+use Rattle.workers.proofs.executor.Executor.run_block_with.Goals as goal
+
+pub returns-in-Ok-clause-bounded : goal.returns-in-Ok-clause-bounded
+returns-in-Ok-clause-bounded g c =
+    let counts = c.in_ok-receipts.field-0.counts.items in
+    history_is_bounded c.work_is_bounded.ensures.lists c.args.job c.args.workers counts (subst (λ (calls : List Invocation). HasHistory (record { block = calls; store = c.args.job.store }) c.args.workers counts) c.lent.ensures c.in_ok-receipts.ensures.run.1)
