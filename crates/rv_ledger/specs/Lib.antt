@@ -1,4 +1,5 @@
 pub mod Change
+pub mod Lent
 pub mod Key
 pub mod Entries
 pub mod Rules

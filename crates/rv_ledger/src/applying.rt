@@ -18,7 +18,7 @@ pub fn apply_writes(store: &mut Store, writes: &Writes) -> Result<(), AllocError
 {
     for (key, change) in writes.as_slice() {
         match change {
-            Change::Value(value) => store.insert_copy(*key, value)?,
+            Change::Value(value) => store.insert_lent(*key, value.lend())?,
             Change::Gone => store.remove(key),
             Change::Sum(amount) => store.add(key, *amount)?,
         }

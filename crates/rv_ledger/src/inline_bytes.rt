@@ -7,6 +7,7 @@ ghost use Rattle.std.proofs.Common.{rules};
 ghost use Rattle.std.specs.Cmp.Rules.{comparing};
 ghost use Rattle.std.specs.Cmp.Lexicographic.{pointwise};
 
+use crate::lent_value::LentValue;
 use std::alloc::AllocError;
 use std::fmt;
 use std::marker::Model;
@@ -102,6 +103,15 @@ impl<const LIMIT: usize> InlineBytes<LIMIT> {
             Some(bytes) => Some(bytes.copy()),
             None => None,
         }
+    }
+}
+
+impl Value {
+    /// The value, lent.
+    pub fn lend(&self) -> LentValue<'_>
+        ensures { result.bytes.now ≡ self.now }
+    {
+        LentValue::of(self.bytes())
     }
 }
 

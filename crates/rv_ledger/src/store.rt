@@ -7,6 +7,7 @@ use crate::change::add;
 use crate::entry_table::{ENTRY_LIMIT, EntryTable};
 use crate::inline_bytes::Value;
 use crate::key::Key;
+use crate::lent_value::LentValue;
 use crate::store_iter::StoreIter;
 use crate::stored_bytes::StoredValue;
 use std::alloc::{AllocError, Global};
@@ -36,7 +37,7 @@ impl Model for Store {
 }
 
 impl Store {
-    ghost use Rattle.std.specs.Prelude.{◌≡◌, ◌≤◌, None, OnOk, OnErr, IfOk, length};
+    ghost use Rattle.std.specs.Prelude.{◌≡◌, None, OnOk, OnErr, IfOk};
     ghost use Rattle.std.specs.Option.{option_copied};
     ghost use Rattle.std.specs.FinMap as map;
     ghost use Rattle.rv_ledger.specs.Change.{add};
@@ -87,25 +88,15 @@ impl Store {
         ensures ok { OnOk result (self.new ≡ map.insert self.old key value) }
         ensures err { OnErr result (self.new ≡ self.old) }
     {
-        self.insert_bytes(key, value.bytes())
+        self.insert_lent(key, value.lend())
     }
 
-    /// Sets the value at a key to at most 256 lent bytes; refused where memory ran out, and then nothing changes.
-    pub fn insert_bytes(&mut self, key: Key, bytes: &[u8]) -> Result<(), AllocError>
-        requires { length bytes.now ≤ 256 }
-        ensures ok { OnOk result (self.new ≡ map.insert self.old key bytes.now) }
+    /// Sets the value at a key to a copy of one that is lent; refused where memory ran out, and then nothing changes.
+    pub fn insert_lent(&mut self, key: Key, value: LentValue) -> Result<(), AllocError>
+        ensures ok { OnOk result (self.new ≡ map.insert self.old key value.entry.bytes.now) }
         ensures err { OnErr result (self.new ≡ self.old) }
     {
-        self.put(key, StoredValue::of_bytes(self.alloc, bytes)?)
-    }
-
-    /// Sets the value at a key to a copy of one that a map keeps; refused where memory ran out, and then
-    /// nothing changes.
-    pub fn insert_copy(&mut self, key: Key, value: &StoredValue) -> Result<(), AllocError>
-        ensures ok { OnOk result (self.new ≡ map.insert self.old key value.now) }
-        ensures err { OnErr result (self.new ≡ self.old) }
-    {
-        self.put(key, value.clone()?)
+        self.put(key, StoredValue::of_lent(self.alloc, value)?)
     }
 
     /// Adds an amount to the number at a key, modulo 2^64; the key then has a value of eight bytes. Refused
@@ -114,7 +105,7 @@ impl Store {
         ensures ok { OnOk result (self.new ≡ map.insert self.old key.now (add (map.get self.old key.now) amount)) }
         ensures err { OnErr result (self.new ≡ self.old) }
     {
-        let value = add(StoredValue::bytes_of(self.get(key)), amount);
+        let value = add(LentValue::of_stored(self.get(key)), amount);
         self.insert(*key, value)
     }
 

@@ -1,9 +1,10 @@
 //! Byte strings as the maps and the receipts keep them.
 
-ghost use Rattle.std.specs.Prelude.{◌≡◌, ◌<◌, ◌≤◌, [], IfOk, IfSome, IsOk, length, vec_capacity};
+ghost use Rattle.std.specs.Prelude.{◌≡◌, ◌<◌, ◌≤◌, [], IfOk, IsOk, length, vec_capacity};
 ghost use Rattle.std.specs.Option.{option_copied};
 
 use crate::inline_bytes::Value;
+use crate::lent_value::LentValue;
 use smallvec::SmallVec;
 use std::alloc::{AllocError, Global};
 use std::marker::Model;
@@ -41,33 +42,31 @@ impl StoredBytes {
     pub fn of(alloc: Global, value: &Value) -> Result<StoredBytes, AllocError>
         ensures { IfOk result (λ v. v ≡ value.now) }
     {
-        StoredBytes::of_bytes(alloc, value.bytes())
+        StoredBytes::of_lent(alloc, value.lend())
     }
 
-    /// Keeps at most 256 bytes; refused where memory ran out. At most 16 bytes take none, and are never refused.
-    pub fn of_bytes(alloc: Global, bytes: &[u8]) -> Result<StoredBytes, AllocError>
-        requires { length bytes.now ≤ 256 }
-        ensures value { IfOk result (λ v. v ≡ bytes.now) }
-        ensures succeeds { length bytes.now ≤ 16 → IsOk result }
+    /// Keeps what is lent; refused where memory ran out. At most 16 bytes take none, and are never refused.
+    pub fn of_lent(alloc: Global, lent: LentValue) -> Result<StoredBytes, AllocError>
+        ensures value { IfOk result (λ v. v ≡ lent.entry.bytes.now) }
+        ensures succeeds { length lent.entry.bytes.now ≤ 16 → IsOk result }
     {
-        let kept = SmallVec::from_slice(alloc, bytes)?;
+        let kept = SmallVec::from_slice(alloc, lent.bytes())?;
         Ok(StoredBytes { kept })
     }
 
-    /// Keeps at most 256 bytes. More than 16 bytes take a list with them, which must have room for them; at most 16 leave
-    /// it. Takes no memory.
-    pub fn of_room(bytes: &[u8], room: &mut Vec<u8>) -> StoredBytes
-        requires short { length bytes.now ≤ 256 }
-        requires room { 16 < length bytes.now → length bytes.now ≤ vec_capacity room.old }
-        ensures value { result ≡ bytes.now }
-        ensures stays { length bytes.now ≤ 16 → room.new ≡ room.old }
+    /// Keeps what is lent. More than 16 bytes take a list with them, which must have room for them; at most 16 leave it.
+    /// Takes no memory.
+    pub fn of_room(lent: LentValue, room: &mut Vec<u8>) -> StoredBytes
+        requires { let bytes = lent.bytes.now in 16 < length bytes → length bytes ≤ vec_capacity room.old }
+        ensures value { result ≡ lent.entry.bytes.now }
+        ensures stays { length lent.entry.bytes.now ≤ 16 → room.new ≡ room.old }
     {
         let alloc = *room.allocator();
-        if bytes.len() <= IN_PLACE_LIMIT {
-            return StoredBytes::of_bytes(alloc, bytes).unwrap();
+        if lent.bytes().len() <= IN_PLACE_LIMIT {
+            return StoredBytes::of_lent(alloc, lent).unwrap();
         }
         room.clear();
-        room.extend_from_slice(bytes).unwrap();
+        room.extend_from_slice(lent.bytes()).unwrap();
         let filled = mem::replace(room, Vec::new(alloc));
         StoredBytes {
             kept: SmallVec::from_vec(filled),
@@ -91,25 +90,18 @@ impl StoredBytes {
         self.kept.as_slice()
     }
 
-    /// The bytes, at most 256, or None for None.
-    pub fn bytes_of(stored: Option<&StoredBytes>) -> Option<&[u8]>
-        ensures value { option_copied result ≡ option_copied stored.entry }
-        ensures short { IfSome result (λ bytes. length bytes.now ≤ 256) }
+    /// The bytes, lent.
+    pub fn lend(&self) -> LentValue<'_>
+        ensures { result.bytes.now ≡ self.now }
     {
-        match stored {
-            Some(stored) => Some(stored.bytes()),
-            None => None,
-        }
+        LentValue::of(self.bytes())
     }
 
     /// The same value with an array of its own. Takes no memory.
     pub fn value(&self) -> Value
         ensures { result ≡ self.now }
     {
-        match Value::of(self.bytes()) {
-            Some(value) => value,
-            None => unreachable!(),
-        }
+        self.lend().value()
     }
 
     /// The same value with an array of its own, or None for None. Takes no memory.
@@ -127,7 +119,7 @@ impl Clone for StoredBytes {
     ghost is_clone = { λ a b. b ≡ a };
 
     fn clone(&self) -> Result<StoredBytes, AllocError> {
-        StoredBytes::of_bytes(*self.kept.allocator(), self.bytes())
+        StoredBytes::of_lent(*self.kept.allocator(), self.lend())
     }
 }
 
