@@ -1,8 +1,9 @@
 //! The list of a block's records.
 
-ghost use Rattle.std.specs.Prelude.{◌≡◌, ◌+◌, ◌<◌, ◌≤◌, ◌↔◌, [], Err, IfSome, Ok, OnErr, OnOk, length, max, nat_lt, slice_get, take};
+ghost use Rattle.std.specs.Prelude.{◌≡◌, ◌+◌, ◌<◌, ◌≤◌, ◌↔◌, [], Err, Ok, OnErr, OnOk, length, max, nat_lt, slice_get, take};
 ghost use Rattle.std.specs.Option.{option_map};
-ghost use Rattle.rv_ledger.specs.Change.{IfValue, change_copied};
+ghost use Rattle.rv_ledger.specs.Change.{change_copied};
+ghost use Rattle.rv_ledger.specs.Lent.{lent_change};
 ghost use Rattle.version_arena.specs.ArenaState.{bytes_of, emptied, with_record};
 ghost use Rattle.version_arena.specs.Lent.{lent};
 ghost use Rattle.version_arena.specs.declared.fault.ReserveFault.TheVariants.{ArenaFull};
@@ -11,7 +12,7 @@ use crate::fault::ReserveFault;
 use crate::pool::Pool;
 use crate::record::{Record, VersionId};
 use crate::stored_record::StoredRecord;
-use rv_ledger::{Change, Value};
+use rv_ledger::{Change, LentValue, Value, lend_change};
 use std::alloc::{AllocError, Global};
 use std::marker::Model;
 
@@ -96,16 +97,20 @@ impl Arena {
         ensures id { result ≡ length self.old.records }
         ensures placed { self.new ≡ with_record writer incarnation (change_copied change.entry) self.old }
     {
-        self.place_bytes(writer, incarnation, lend_bytes(change))
+        self.place_lent(writer, incarnation, lend_change(change))
     }
 
-    /// The same with a value that is lent by its bytes, at most 256.
-    pub fn place_bytes(&mut self, writer: u16, incarnation: u16, change: Change<&[u8]>) -> VersionId
-        requires short { IfValue change (λ bytes. length bytes.now ≤ 256) }
+    /// The same with a value that is lent.
+    pub fn place_lent(
+        &mut self,
+        writer: u16,
+        incarnation: u16,
+        change: Change<LentValue>,
+    ) -> VersionId
         requires room { 1 ≤ self.old.room }
-        requires bytes { bytes_of (change_copied change) ≤ self.old.bytes }
+        requires bytes { bytes_of (lent_change change) ≤ self.old.bytes }
         ensures id { result ≡ length self.old.records }
-        ensures placed { self.new ≡ with_record writer incarnation (change_copied change.entry) self.old }
+        ensures placed { self.new ≡ with_record writer incarnation (lent_change change.entry) self.old }
     {
         let place = self.len;
         let bytes = len_of(&change);
@@ -117,8 +122,7 @@ impl Arena {
 
     /// The record that has a name, or None where none has it.
     pub fn get(&self, id: VersionId) -> Option<Record<'_>>
-        ensures record { option_map lent result ≡ slice_get self.now.records id }
-        ensures short { IfSome result (λ r. IfValue r.change (λ bytes. length bytes.now ≤ 256)) }
+        ensures { option_map lent result ≡ slice_get self.now.records id }
     {
         let place = id.place();
         if place >= self.len {
@@ -166,23 +170,11 @@ fn grow(stored: &mut Vec<StoredRecord>, count: usize) -> Result<(), AllocError>
 }
 
 /// The number of bytes that a change takes: those of a value.
-fn len_of(change: &Change<&[u8]>) -> usize
-    ensures { result ≡ bytes_of (change_copied change.now) }
+fn len_of(change: &Change<LentValue>) -> usize
+    ensures { result ≡ bytes_of (lent_change change.now) }
 {
     match change {
-        Change::Value(bytes) => bytes.len(),
+        Change::Value(value) => value.bytes().len(),
         Change::Gone | Change::Sum(_) => 0,
-    }
-}
-
-/// The same change with its value lent by its bytes.
-pub fn lend_bytes(change: Change<&Value>) -> Change<&[u8]>
-    ensures value { change_copied result ≡ change_copied change.entry }
-    ensures short { IfValue result (λ bytes. length bytes.now ≤ 256) }
-{
-    match change {
-        Change::Value(value) => Change::Value(value.bytes()),
-        Change::Gone => Change::Gone,
-        Change::Sum(amount) => Change::Sum(amount),
     }
 }

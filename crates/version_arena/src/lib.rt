@@ -10,6 +10,6 @@ mod raw;
 mod record;
 mod stored_record;
 
-pub use arena::{Arena, RECORD_LIMIT, lend_bytes};
+pub use arena::{Arena, RECORD_LIMIT};
 pub use fault::ReserveFault;
 pub use record::{Record, VersionId};

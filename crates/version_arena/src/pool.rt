@@ -2,8 +2,10 @@
 
 ghost use Rattle.std.specs.Prelude.{◌≡◌, ◌+◌, ◌<◌, ◌≤◌, OnErr, OnOk, Ok, [], drop, get_or, length, map};
 ghost use Rattle.version_arena.specs.Chunks.{KeepsBytes, LiesWithin, capacity_of, empty_chunk, free, part, rewound, spare, with_room};
+ghost use Rattle.version_arena.specs.StoredRecords.{IsShortSpan};
 
 use crate::chunk::Chunk;
+use rv_ledger::LentValue;
 use std::alloc::{AllocError, Global};
 use std::marker::Model;
 
@@ -89,16 +91,15 @@ impl Pool {
         Ok(())
     }
 
-    /// Writes at most 256 bytes, fewer than there is room for, and returns where they lie. Takes no memory.
-    pub(crate) fn write(&mut self, bytes: &[u8]) -> Span
-        requires short { length bytes.now ≤ 256 }
-        requires room { length bytes.now < self.old.room }
-        ensures within { LiesWithin self.new.chunks result }
-        ensures bytes { part self.new.chunks result ≡ bytes.now }
-        ensures len { result.len ≡ length bytes.now }
+    /// Writes the bytes of a value, fewer than there is room for, and returns where they lie. Takes no memory.
+    pub(crate) fn write(&mut self, value: LentValue) -> Span
+        requires { length value.bytes.now < self.old.room }
+        ensures short { IsShortSpan self.new.chunks result }
+        ensures bytes { part self.new.chunks result ≡ value.entry.bytes.now }
         ensures keeps { KeepsBytes self.old.chunks self.new.chunks }
-        ensures room { self.new.room + length bytes.now ≡ self.old.room }
+        ensures room { self.new.room + length value.entry.bytes.now ≡ self.old.room }
     {
+        let bytes = value.bytes();
         let chunk = find(&self.chunks, self.current, bytes.len());
         let start = self.chunks[chunk].used();
         self.chunks[chunk].append(bytes);

@@ -1,6 +1,6 @@
 //! A record as an arena lends it, and the name of a record.
 
-use rv_ledger::Change;
+use rv_ledger::{Change, LentValue};
 use std::marker::Model;
 
 /// The name of a record: its place in the arena's list. A record that was placed later has a greater one.
@@ -47,6 +47,6 @@ pub struct Record<'a> {
     pub writer: u16,
     /// Which run of that call wrote it.
     pub incarnation: u16,
-    /// What it did to the key; a value is lent by its bytes.
-    pub change: Change<&'a [u8]>,
+    /// What it did to the key; a value is lent.
+    pub change: Change<LentValue<'a>>,
 }

@@ -1,7 +1,8 @@
 //! The records as an arena keeps them.
 
-ghost use Rattle.std.specs.Prelude.{◌≡◌, ◌+◌, ◌<◌, ◌≤◌, length};
-ghost use Rattle.rv_ledger.specs.Change.{IfValue, change_copied, change_map};
+ghost use Rattle.std.specs.Prelude.{◌≡◌, ◌+◌, ◌<◌};
+ghost use Rattle.rv_ledger.specs.Change.{IfValue, change_map};
+ghost use Rattle.rv_ledger.specs.Lent.{lent_change};
 ghost use Rattle.version_arena.specs.ArenaState.{bytes_of};
 ghost use Rattle.version_arena.specs.Chunks.{KeepsBytes, part};
 ghost use Rattle.version_arena.specs.Lent.{lent};
@@ -9,7 +10,7 @@ ghost use Rattle.version_arena.specs.StoredRecords.{IsShortSpan, IsStored, recor
 
 use crate::pool::{Pool, Span};
 use crate::record::Record;
-use rv_ledger::Change;
+use rv_ledger::{Change, LentValue};
 
 /// A record as an arena keeps it: who wrote it, and what it did to its key, with where the bytes of a value lie.
 #[derive(Drop)]
@@ -20,20 +21,19 @@ pub(crate) struct StoredRecord {
 }
 
 impl StoredRecord {
-    /// The record with this writer, incarnation and change. The bytes of a value, at most 256, are copied into room
-    /// that was reserved. Takes no memory.
+    /// The record with this writer, incarnation and change. The bytes of a value are copied into room that was
+    /// reserved. Takes no memory.
     pub(crate) fn of(
         pool: &mut Pool,
         writer: u16,
         incarnation: u16,
-        change: Change<&[u8]>,
+        change: Change<LentValue>,
     ) -> StoredRecord
-        requires short { IfValue change (λ bytes. length bytes.now ≤ 256) }
-        requires room { bytes_of (change_copied change) < pool.old.room }
-        ensures record { record_of pool.new.chunks result ≡ record { writer = writer; incarnation = incarnation; change = change_copied change.entry } }
+        requires { bytes_of (lent_change change) < pool.old.room }
+        ensures record { record_of pool.new.chunks result ≡ record { writer = writer; incarnation = incarnation; change = lent_change change.entry } }
         ensures stored { IsStored pool.new.chunks result }
         ensures keeps { KeepsBytes pool.old.chunks pool.new.chunks }
-        ensures room { pool.new.room + bytes_of (change_copied change.entry) ≡ pool.old.room }
+        ensures room { pool.new.room + bytes_of (lent_change change.entry) ≡ pool.old.room }
     {
         StoredRecord {
             writer,
@@ -54,8 +54,7 @@ impl StoredRecord {
     /// The record, as it is lent.
     pub(crate) fn record<'a>(&self, pool: &'a Pool) -> Record<'a>
         requires { IsStored pool.now.chunks self.now }
-        ensures record { lent result ≡ record_of pool.now.chunks self.now }
-        ensures short { IfValue result.change (λ bytes. length bytes.now ≤ 256) }
+        ensures { lent result ≡ record_of pool.now.chunks self.now }
     {
         Record {
             writer: self.writer,
@@ -65,30 +64,28 @@ impl StoredRecord {
     }
 }
 
-/// Copies the bytes of a value, at most 256, into the pool.
-fn store(pool: &mut Pool, change: Change<&[u8]>) -> Change<Span>
-    requires short { IfValue change (λ bytes. length bytes.now ≤ 256) }
-    requires room { bytes_of (change_copied change) < pool.old.room }
-    ensures value { change_map (part pool.new.chunks) result ≡ change_copied change.entry }
+/// Copies the bytes of a value into the pool.
+fn store(pool: &mut Pool, change: Change<LentValue>) -> Change<Span>
+    requires { bytes_of (lent_change change) < pool.old.room }
+    ensures value { change_map (part pool.new.chunks) result ≡ lent_change change.entry }
     ensures stored { IfValue result (IsShortSpan pool.new.chunks) }
     ensures keeps { KeepsBytes pool.old.chunks pool.new.chunks }
-    ensures room { pool.new.room + bytes_of (change_copied change.entry) ≡ pool.old.room }
+    ensures room { pool.new.room + bytes_of (lent_change change.entry) ≡ pool.old.room }
 {
     match change {
-        Change::Value(bytes) => Change::Value(pool.write(bytes)),
+        Change::Value(value) => Change::Value(pool.write(value)),
         Change::Gone => Change::Gone,
         Change::Sum(amount) => Change::Sum(amount),
     }
 }
 
-/// Lends the bytes of a value.
-fn load<'a>(pool: &'a Pool, change: &Change<Span>) -> Change<&'a [u8]>
+/// Lends a value.
+fn load<'a>(pool: &'a Pool, change: &Change<Span>) -> Change<LentValue<'a>>
     requires { IfValue change.now (IsShortSpan pool.now.chunks) }
-    ensures value { change_copied result ≡ change_map (part pool.now.chunks) change.now }
-    ensures short { IfValue result (λ bytes. length bytes.now ≤ 256) }
+    ensures { lent_change result ≡ change_map (part pool.now.chunks) change.now }
 {
     match change {
-        Change::Value(span) => Change::Value(pool.read(*span)),
+        Change::Value(span) => Change::Value(LentValue::of(pool.read(*span))),
         Change::Gone => Change::Gone,
         Change::Sum(amount) => Change::Sum(*amount),
     }

@@ -4,7 +4,7 @@ use Rattle.std.proofs.lemmas.List.Elements.{All-push, All-same}
 use Rattle.version_arena.specs.ArenaState.{ArenaState}
 use Rattle.version_arena.specs.StoredRecords.{IsStored, record_of}
 use Rattle.version_arena.proofs.StoredRecords.{all_stored, map_push, records_same, state_is}
-use Rattle.version_arena.proofs.arena.Arena.place_bytes.Goals as goal
+use Rattle.version_arena.proofs.arena.Arena.place_lent.Goals as goal
 
 -- there is a place
 there : (c : goal.After-at) → c.self.inside.len < length c.self.inside.stored.items
