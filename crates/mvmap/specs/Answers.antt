@@ -1,7 +1,7 @@
 -- What the answer to a read says.
-use Rattle.std.specs.Prelude.{◌≡◌, ◌<◌, ◌≤◌, ℕ, List, Option, None, Some, IfSome, length}
-use Rattle.std.specs.Option.{option_copied}
-use Rattle.rv_ledger.specs.Change.{Content, IfValue, add, change_copied}
+use Rattle.std.specs.Prelude.{◌≡◌, ◌<◌, ℕ, List, Option, None, Some}
+use Rattle.rv_ledger.specs.Change.{Content, add}
+use Rattle.rv_ledger.specs.Lent.{lent_change, lent_content}
 use Rattle.read_set.specs.declared.origin.Version.{Version}
 use Rattle.mvmap.specs.Versions.{Stands}
 use Rattle.mvmap.specs.Reading.{Visible, Base, Blocked, blocker, origin_in, value_seen, visible_over}
@@ -28,27 +28,16 @@ Tells (answer.Found version content) passed seen =
     × ((base : Content) → value_seen base seen ≡ content)
 Tells (answer.Estimate writer) passed seen = blocker seen ≡ Some writer
 
--- the answer that lent bytes stand for, once the passed amounts are added
+-- the answer that a lent one stands for, once the passed amounts are added
 abbrev pub added : LentAnswer → Answer
 added (lent.Base sum) = answer.Base sum
-added (lent.Found version content sum) = answer.Found version (with_amount (option_copied content) sum)
+added (lent.Found version content sum) = answer.Found version (with_amount (lent_content content) sum)
 added (lent.Estimate writer) = answer.Estimate writer
-
--- lent bytes are at most 256
-abbrev pub IsShortAnswer : LentAnswer → Type 0
-IsShortAnswer (lent.Found version content sum) = IfSome content (λ bytes. length bytes.now ≤ 256)
-IsShortAnswer other = Unit {0}
-
--- the value of a version has at most 256 bytes
-abbrev pub IsShort : Nearest → Type 0
-IsShort nearest.Nothing = Unit {0}
-IsShort (nearest.Standing version c) = IfValue c (λ bytes. length bytes.now ≤ 256)
-IsShort (nearest.Waiting writer) = Unit {0}
 
 -- what the nearest entry below call i says of what the calls see; only private functions use this
 abbrev pub IsNearest : Nearest → (ℕ → Visible) → ℕ → Type 0
 IsNearest nearest.Nothing seen i = seen i ≡ Base
 IsNearest (nearest.Standing version c) seen i =
     (version.writer < i)
-    × (seen i ≡ visible_over version.writer (Some (Stands version.incarnation (change_copied c))) (seen version.writer))
+    × (seen i ≡ visible_over version.writer (Some (Stands version.incarnation (lent_change c))) (seen version.writer))
 IsNearest (nearest.Waiting writer) seen i = seen i ≡ Blocked writer

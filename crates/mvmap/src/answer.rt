@@ -1,7 +1,7 @@
 //! What a call sees of a key.
 
 use read_set::Version;
-use rv_ledger::Value;
+use rv_ledger::{LentValue, Value};
 
 /// What a call sees of a key, below the versions that a read passes.
 #[derive(Debug, Drop)]
@@ -16,15 +16,15 @@ pub enum Answer {
     Estimate(u16),
 }
 
-/// The same, where what a version has is lent by its bytes, before the passed amounts are added.
+/// The same, where the value of a version is lent, before the passed amounts are added.
 #[derive(Drop)]
 pub enum LentAnswer<'a> {
     /// The storage before the block; and the sum of the amounts of the versions that were passed, if any was,
     /// modulo 2^64.
     Base(Option<u64>),
-    /// A version, the bytes of its value, at most 256, or None where it removes the key, and the sum of the amounts of
-    /// the versions that were passed above it.
-    Found(Version, Option<&'a [u8]>, Option<u64>),
+    /// A version, its value, or None where it removes the key, and the sum of the amounts of the versions that were passed
+    /// above it.
+    Found(Version, Option<LentValue<'a>>, Option<u64>),
     /// An estimate: the call of this index is expected to write the key again.
     Estimate(u16),
 }

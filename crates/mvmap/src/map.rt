@@ -6,10 +6,10 @@ use crate::slots::Slots;
 use crate::snapshot::apply_slots;
 use crate::walk::{has_walk, walk, with_amount};
 use read_set::{Origin, Version};
-use rv_ledger::{Change, Key, Store, StoredValue, Value};
+use rv_ledger::{Change, Key, LentValue, Store, StoredValue, Value, lend_change};
 use std::alloc::{AllocError, Global};
 use std::marker::Model;
-use version_arena::{Arena, ReserveFault, lend_bytes};
+use version_arena::{Arena, ReserveFault};
 
 /// For each key the entries of the calls that write it: versions, whose bytes are in the map's arena,
 /// and estimates.
@@ -38,7 +38,8 @@ impl Model for MvMap {
 
 impl MvMap {
     ghost use Rattle.std.specs.Prelude.{◌≡◌, ◌≢◌, ◌≤◌, ◌+◌, ◌<◌, ◌↔◌, ℕ, [], Err, IsTrue, List, None, Ok, OnErr, OnOk, length, vec_capacity};
-    ghost use Rattle.rv_ledger.specs.Change.{IfValue, change_copied};
+    ghost use Rattle.rv_ledger.specs.Change.{change_copied};
+    ghost use Rattle.rv_ledger.specs.Lent.{lent_change};
     ghost use Rattle.std.specs.List.{All};
     ghost use Rattle.std.specs.FinMap as map;
     ghost use Rattle.std.specs.FinSet as set;
@@ -46,7 +47,7 @@ impl MvMap {
     ghost use Rattle.version_arena.specs.declared.fault.ReserveFault.TheVariants.{ArenaFull};
     ghost use Rattle.mvmap.specs.Versions.{Estimate, HasNoEstimate, Place, Stands, entry_at};
     ghost use Rattle.mvmap.specs.Reading.{is_origin, reading, value_seen};
-    ghost use Rattle.mvmap.specs.Answers.{IsShortAnswer, Tells, added};
+    ghost use Rattle.mvmap.specs.Answers.{Tells, added};
 
     /// A map without versions over an arena. The arena's records are removed, and their room stays.
     /// Takes no memory.
@@ -85,7 +86,7 @@ impl MvMap {
         ensures count { length passed.new.items ≤ i }
         ensures room { vec_capacity passed.new ≡ vec_capacity passed.old }
     {
-        match self.read_bytes(key, i, passed) {
+        match self.read_lent(key, i, passed) {
             LentAnswer::Base(sum) => Answer::Base(sum),
             LentAnswer::Found(version, content, sum) => {
                 Answer::Found(version, with_amount(content, sum))
@@ -94,11 +95,10 @@ impl MvMap {
         }
     }
 
-    /// The same, where what a version has is lent by its bytes and no amount is added yet.
-    pub fn read_bytes(&self, key: &Key, i: u16, passed: &mut Vec<Version>) -> LentAnswer<'_>
+    /// The same, where the value of a version is lent and no amount is added yet.
+    pub fn read_lent(&self, key: &Key, i: u16, passed: &mut Vec<Version>) -> LentAnswer<'_>
         requires { i ≤ vec_capacity passed.old }
         ensures tells { Tells (added result) passed.new.items (reading self.now.versions key.now i) }
-        ensures short { IsShortAnswer result }
         ensures count { length passed.new.items ≤ i }
         ensures room { vec_capacity passed.new ≡ vec_capacity passed.old }
     {
@@ -154,20 +154,25 @@ impl MvMap {
         ensures places { self.new.places ≡ self.old.places }
         ensures arena { self.new.arena ≡ with_record writer incarnation (change_copied change.entry) self.old.arena }
     {
-        self.publish_bytes(key, writer, incarnation, lend_bytes(change));
+        self.publish_lent(key, writer, incarnation, lend_change(change));
     }
 
-    /// The same with a value that is lent by its bytes, at most 256.
-    pub fn publish_bytes(&mut self, key: &Key, writer: u16, incarnation: u16, change: Change<&[u8]>)
-        requires short { IfValue change (λ bytes. length bytes.now ≤ 256) }
+    /// The same with a value that is lent.
+    pub fn publish_lent(
+        &mut self,
+        key: &Key,
+        writer: u16,
+        incarnation: u16,
+        change: Change<LentValue>,
+    )
         requires place { IsTrue (set.contains self.old.places (key.now, writer)) }
         requires room { 1 ≤ self.old.arena.room }
-        requires bytes { bytes_of (change_copied change) ≤ self.old.arena.bytes }
-        ensures versions { self.new.versions ≡ map.insert self.old.versions (key.now, writer) (Stands incarnation (change_copied change.entry)) }
+        requires bytes { bytes_of (lent_change change) ≤ self.old.arena.bytes }
+        ensures versions { self.new.versions ≡ map.insert self.old.versions (key.now, writer) (Stands incarnation (lent_change change.entry)) }
         ensures places { self.new.places ≡ self.old.places }
-        ensures arena { self.new.arena ≡ with_record writer incarnation (change_copied change.entry) self.old.arena }
+        ensures arena { self.new.arena ≡ with_record writer incarnation (lent_change change.entry) self.old.arena }
     {
-        let id = self.arena.place_bytes(writer, incarnation, change);
+        let id = self.arena.place_lent(writer, incarnation, change);
         self.slots.put(key, writer, Slot::Placed(id));
     }
 

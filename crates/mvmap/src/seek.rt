@@ -1,15 +1,14 @@
 //! The search for the nearest entry below a call.
 
 ghost use Rattle.std.specs.Prelude.{◌≡◌, ◌≤◌, ◌<◌, ℕ, length};
-ghost use Rattle.rv_ledger.specs.Change.{IfValue};
-ghost use Rattle.mvmap.specs.Answers.{IsNearest, IsShort};
+ghost use Rattle.mvmap.specs.Answers.{IsNearest};
 ghost use Rattle.mvmap.specs.Slots.{ArePlacedIn, seen_in};
 ghost use Rattle.mvmap.specs.Writers.{AreAscending, writer_at};
 ghost use Rattle.mvmap.specs.declared.seek.Nearest.TheVariants.{Standing};
 
 use crate::slot::Slot;
 use read_set::Version;
-use rv_ledger::Change;
+use rv_ledger::{Change, LentValue};
 use version_arena::{Arena, Record};
 
 /// The nearest entry below a call at a key.
@@ -18,7 +17,7 @@ pub(crate) enum Nearest<'a> {
     /// No lower call has an entry.
     Nothing,
     /// A version, and what it did to the key.
-    Standing(Version, Change<&'a [u8]>),
+    Standing(Version, Change<LentValue<'a>>),
     /// An estimate of the call of this index.
     Waiting(u16),
 }
@@ -29,8 +28,7 @@ pub(crate) enum Nearest<'a> {
 pub(crate) fn seek<'a>(at_key: &[(u16, Slot)], arena: &'a Arena, i: u16) -> Nearest<'a>
     requires ascending { AreAscending at_key.now }
     requires placed { ArePlacedIn arena.now.records at_key.now }
-    ensures nearest { IsNearest result (seen_in arena.now.records at_key.now) i }
-    ensures short { IsShort result }
+    ensures { IsNearest result (seen_in arena.now.records at_key.now) i }
 {
     let mut place = count_below(at_key, i);
     while place > 0 {
@@ -62,9 +60,7 @@ fn count_below(at_key: &[(u16, Slot)], i: u16) -> usize
 
 /// The entry that a record of a call is: its version, with what it did to the key.
 fn standing<'a>(writer: u16, version_record: Record<'a>) -> Nearest<'a>
-    requires { IfValue version_record.change (λ bytes. length bytes.now ≤ 256) }
-    ensures is { result ≡ Standing (record { writer = writer; incarnation = version_record.entry.incarnation }) version_record.entry.change }
-    ensures short { IsShort result }
+    ensures { result ≡ Standing (record { writer = writer; incarnation = version_record.entry.incarnation }) version_record.entry.change }
 {
     let version = Version {
         writer,

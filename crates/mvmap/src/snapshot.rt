@@ -1,8 +1,9 @@
 //! The storage after a block.
 
-ghost use Rattle.std.specs.Prelude.{◌≡◌, ◌≤◌, ℕ, List, OnOk, cond, length};
+ghost use Rattle.std.specs.Prelude.{◌≡◌, ℕ, List, OnOk, cond};
 ghost use Rattle.std.specs.FinMap as map;
-ghost use Rattle.rv_ledger.specs.Change.{IfValue, apply_change, change_copied};
+ghost use Rattle.rv_ledger.specs.Change.{apply_change};
+ghost use Rattle.rv_ledger.specs.Lent.{lent_change};
 ghost use Rattle.std.specs.List.Sorted.{IsStrictlySortedBy};
 ghost use Rattle.std.specs.Map.{keys_of};
 ghost use Rattle.std.specs.Ordering.{eq_by_cmp};
@@ -12,7 +13,7 @@ ghost use Rattle.mvmap.specs.Slots.{at_places, entry_of, value_over, value_over_
 
 use crate::slot::Slot;
 use crate::slots::Slots;
-use rv_ledger::{Change, Key, Store};
+use rv_ledger::{Change, Key, LentValue, Store};
 use std::alloc::AllocError;
 use version_arena::Arena;
 
@@ -60,12 +61,11 @@ fn apply_slot(slot: &Slot, arena: &Arena, key: &Key, store: &mut Store) -> Resul
 }
 
 /// Makes a change to a key of a storage. Refused where memory ran out, and then the storage is to be dropped.
-fn write(key: &Key, change: &Change<&[u8]>, store: &mut Store) -> Result<(), AllocError>
-    requires { IfValue change.now (λ bytes. length bytes.now ≤ 256) }
-    ensures { OnOk result ((k : List ℕ) → map.get store.new k ≡ cond (eq_by_cmp key_cmp k key.now) (apply_change (change_copied change.now) (map.get store.old k)) (map.get store.old k)) }
+fn write(key: &Key, change: &Change<LentValue>, store: &mut Store) -> Result<(), AllocError>
+    ensures { OnOk result ((k : List ℕ) → map.get store.new k ≡ cond (eq_by_cmp key_cmp k key.now) (apply_change (lent_change change.now) (map.get store.old k)) (map.get store.old k)) }
 {
     match change {
-        Change::Value(bytes) => store.insert_bytes(*key, bytes)?,
+        Change::Value(value) => store.insert_lent(*key, *value)?,
         Change::Gone => store.remove(key),
         Change::Sum(amount) => store.add(key, *amount)?,
     }

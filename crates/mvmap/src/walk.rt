@@ -1,9 +1,10 @@
 //! What a call sees of a key: a walk over the versions that add an amount, down to what is below them.
 
-ghost use Rattle.std.specs.Prelude.{◌≡◌, ◌≤◌, ℕ, IfSome, List, Option, length, vec_capacity};
+ghost use Rattle.std.specs.Prelude.{◌≡◌, ◌≤◌, ℕ, List, Option, length, vec_capacity};
 ghost use Rattle.std.specs.Option.{option_copied};
 ghost use Rattle.read_set.specs.declared.origin.Version.{Version};
-ghost use Rattle.mvmap.specs.Answers.{IsShortAnswer, Tells, added, with_amount};
+ghost use Rattle.rv_ledger.specs.Lent.{lent_content};
+ghost use Rattle.mvmap.specs.Answers.{Tells, added, with_amount};
 ghost use Rattle.mvmap.specs.Laws.{total_amount};
 ghost use Rattle.mvmap.specs.Reading.{Found, Passed, Visible, is_origin, is_walk};
 ghost use Rattle.mvmap.specs.Slots.{ArePlacedIn, seen_in, walk_after};
@@ -13,7 +14,7 @@ use crate::answer::LentAnswer;
 use crate::seek::{Nearest, seek};
 use crate::slot::Slot;
 use read_set::{Origin, Version};
-use rv_ledger::{Change, Value, add, wrapping_sum};
+use rv_ledger::{Change, LentValue, Value, add, wrapping_sum};
 use version_arena::Arena;
 
 /// What the call of index `i` sees of a key with these slots, with the versions that it passes, the nearest
@@ -28,7 +29,6 @@ pub(crate) fn walk<'a>(
     requires placed { ArePlacedIn arena.now.records at_key.now }
     requires room { i ≤ vec_capacity passed.old }
     ensures tells { Tells (added result) passed.new.items (seen_in arena.now.records at_key.now i) }
-    ensures short { IsShortAnswer result }
     ensures count { length passed.new.items ≤ i }
     ensures room { vec_capacity passed.new ≡ vec_capacity passed.old }
 {
@@ -44,8 +44,8 @@ pub(crate) fn walk<'a>(
                 sum = Some(total_amount(amount, sum));
                 below = version.writer;
             }
-            Nearest::Standing(version, Change::Value(bytes)) => {
-                return LentAnswer::Found(version, Some(bytes), sum);
+            Nearest::Standing(version, Change::Value(value)) => {
+                return LentAnswer::Found(version, Some(value), sum);
             }
             Nearest::Standing(version, Change::Gone) => {
                 return LentAnswer::Found(version, None, sum);
@@ -108,15 +108,13 @@ fn total_amount(amount: u64, sum: Option<u64>) -> u64
     }
 }
 
-/// What a key has after an amount is added, if there is one. A value must have at most 256 bytes. Takes no
-/// memory.
-pub fn with_amount(content: Option<&[u8]>, sum: Option<u64>) -> Option<Value>
-    requires { IfSome content (λ bytes. length bytes.now ≤ 256) }
-    ensures { result ≡ with_amount (option_copied content.entry) sum }
+/// What a key has after an amount is added, if there is one. Takes no memory.
+pub fn with_amount(content: Option<LentValue>, sum: Option<u64>) -> Option<Value>
+    ensures { result ≡ with_amount (lent_content content.entry) sum }
 {
     match (sum, content) {
         (Some(amount), _) => Some(add(content, amount)),
-        (None, Some(bytes)) => Value::of(bytes),
+        (None, Some(value)) => Some(value.value()),
         (None, None) => None,
     }
 }

@@ -3,7 +3,7 @@ use Rattle.mvmap.specs.Answers.{Tells, added}
 use Rattle.mvmap.specs.Reading.{Visible, reading}
 use Rattle.mvmap.specs.Table.{Table}
 use Rattle.mvmap.proofs.Walks.{seen_at_key}
-use Rattle.mvmap.proofs.map.MvMap.read_bytes.Goals as goal
+use Rattle.mvmap.proofs.map.MvMap.read_lent.Goals as goal
 
 pub returns-clause-tells : goal.returns-clause-tells
 returns-clause-tells c =
