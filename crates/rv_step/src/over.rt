@@ -12,7 +12,7 @@ use crate::run::{receipt, run_until_stop};
 use crate::spare_machine::SpareMachine;
 use crate::stage::{Stage, is_ended};
 use elf32::BasePages;
-use rv_ledger::{Call, Contents, Receipt, StoredValue};
+use rv_ledger::{Call, Contents, LentValue, Receipt};
 use std::alloc::{AllocError, Global};
 
 /// The receipt of a call that is run over a storage. It takes no room for the storage's answers. The call's machine
@@ -59,7 +59,7 @@ fn go_on_over<S: Contents>(
         Stage::Running => run_until_stop(machine, program, stage),
         Stage::Asked(key) => {
             let key = *key;
-            let content = StoredValue::bytes_of(store.get(&key));
+            let content = LentValue::of_stored(store.get(&key));
             *stage = Stage::Running;
             machine.answer(&key, content, stage)
         }

@@ -1,7 +1,7 @@
 //! A run of one call, which stops where it needs an answer from the storage.
 
-ghost use Rattle.std.specs.Prelude.{◌≡◌, ◌≤◌, IfOk, IfSome, length};
-ghost use Rattle.std.specs.Option.{option_copied};
+ghost use Rattle.std.specs.Prelude.{◌≡◌, ◌<◌, ◌≤◌, IfOk, OnOk, vec_capacity, vec_len};
+ghost use Rattle.rv_ledger.specs.Lent.{lent_content};
 ghost use Rattle.rv_mem.specs.Code.{HasCode};
 ghost use Rattle.rv_step.specs.Chain.{receipt_of};
 ghost use Rattle.rv_step.specs.Meets.{MeetsSteps};
@@ -14,10 +14,9 @@ use crate::outcome::InstructionOutcome;
 use crate::page_walk::is_at;
 use crate::spare_run::SpareRun;
 use crate::stage::{Stage, end_with};
-use crate::storage_calls::bytes_of;
 use elf32::BasePages;
 use read_set::Origin;
-use rv_ledger::{Call, End, Key, Receipt, StoredOutput, StoredValue, Value, Writes};
+use rv_ledger::{Call, End, Key, LentValue, Receipt, StoredOutput, StoredValue, Value, Writes};
 use std::alloc::{AllocError, Global};
 use std::marker::Model;
 use std::mem::replace;
@@ -59,8 +58,9 @@ pub enum Pause {
 }
 
 impl Run {
-    ghost use Rattle.std.specs.Prelude.{◌≡◌, ◌<◌, ◌≤◌, ℕ, false, IsTrue, IsSome, IfSome, IfOk, OnOk, OnErr, length};
+    ghost use Rattle.std.specs.Prelude.{◌≡◌, ◌<◌, ◌≤◌, ℕ, false, IsTrue, IsSome, IfSome, IfOk, OnOk, OnErr};
     ghost use Rattle.std.specs.Option.{option_copied};
+    ghost use Rattle.rv_ledger.specs.Lent.{lent_content};
     ghost use Rattle.rv_step.specs.Growth.{TakesMemory};
     ghost use Rattle.rv_step.specs.Step.{step};
     ghost use Rattle.rv_step.specs.Asked.{asked_by, asked_of};
@@ -244,14 +244,32 @@ impl Run {
         ensures fewer { OnOk result (steps_left self.new < steps_left self.old) }
         ensures err { OnErr result (self.new ≡ self.old) }
     {
-        self.answer_bytes(bytes_of(content), origin)
+        self.answer_lent(content.map(|value| value.lend()), origin)
     }
 
-    /// The same with a value that is lent by its bytes, at most 256.
-    pub fn answer_bytes(&mut self, content: Option<&[u8]>, origin: Origin) -> Result<(), AllocError>
-        requires asked { IsSome (asked_key self.old.stage) }
-        requires short { IfSome content (λ bytes. length bytes.now ≤ 256) }
-        ensures ok { OnOk result (IfSome (asked_key self.old.stage) (λ key. self.new ≡ after_answer key (option_copied content.entry) origin self.old)) }
+    /// The same with a value that is lent.
+    pub fn answer_lent(
+        &mut self,
+        content: Option<LentValue>,
+        origin: Origin,
+    ) -> Result<(), AllocError>
+        requires { IsSome (asked_key self.old.stage) }
+        ensures ok { OnOk result (IfSome (asked_key self.old.stage) (λ key. self.new ≡ after_answer key (lent_content content.entry) origin self.old)) }
+        ensures fewer { OnOk result (steps_left self.new < steps_left self.old) }
+        ensures err { OnErr result (self.new ≡ self.old) }
+    {
+        let value = stored(*self.answers.allocator(), content)?;
+        self.answer_stored(value, origin)
+    }
+
+    /// The same with a value that is moved in.
+    pub fn answer_stored(
+        &mut self,
+        value: Option<StoredValue>,
+        origin: Origin,
+    ) -> Result<(), AllocError>
+        requires { IsSome (asked_key self.old.stage) }
+        ensures ok { OnOk result (IfSome (asked_key self.old.stage) (λ key. self.new ≡ after_answer key value origin self.old)) }
         ensures fewer { OnOk result (steps_left self.new < steps_left self.old) }
         ensures err { OnErr result (self.new ≡ self.old) }
     {
@@ -259,14 +277,16 @@ impl Run {
             Stage::Asked(key) => *key,
             _ => unreachable!(),
         };
-        let value = stored(*self.answers.allocator(), content)?;
         make_room(&mut self.answers)?;
-        self.answers.push(StorageAnswer { key, value, origin })?;
         self.stage = Stage::Running;
+        let content = LentValue::of_stored(value.as_ref());
         match self.machine.answer(&key, content, &mut self.stage) {
-            Ok(()) => Ok(()),
+            Ok(()) => {
+                let answer = StorageAnswer { key, value, origin };
+                self.answers.push_reserved(answer);
+                Ok(())
+            }
             Err(refused) => {
-                let _ = self.answers.pop();
                 self.stage = Stage::Asked(key);
                 Err(refused)
             }
@@ -326,25 +346,25 @@ impl Run {
     }
 }
 
-/// Keeps a value of at most 256 bytes, or None for None; refused where memory ran out.
-fn stored(alloc: Global, content: Option<&[u8]>) -> Result<Option<StoredValue>, AllocError>
-    requires { IfSome content (λ bytes. length bytes.now ≤ 256) }
-    ensures { IfOk result (λ value. value ≡ option_copied content.entry) }
+/// Keeps a value, or None for None; refused where memory ran out.
+fn stored(alloc: Global, content: Option<LentValue>) -> Result<Option<StoredValue>, AllocError>
+    ensures { IfOk result (λ value. value ≡ lent_content content.entry) }
 {
     match content {
-        Some(bytes) => Ok(Some(StoredValue::of_bytes(alloc, bytes)?)),
+        Some(value) => Ok(Some(StoredValue::of_lent(alloc, value)?)),
         None => Ok(None),
     }
 }
 
-/// Makes room for the first answers; refused where memory ran out.
+/// Makes room for one more answer, and for the first ones at once; refused where memory ran out.
 fn make_room(answers: &mut Vec<StorageAnswer>) -> Result<(), AllocError>
-    ensures { answers.new.items ≡ answers.old.items }
+    ensures items { answers.new.items ≡ answers.old.items }
+    ensures room { OnOk result (vec_len answers.new < vec_capacity answers.new) }
 {
     if answers.is_empty() {
-        answers.reserve_exact(FIRST_ROOM)?;
+        return answers.reserve_exact(FIRST_ROOM);
     }
-    Ok(())
+    answers.reserve(1)
 }
 
 /// Makes steps of a machine that is running, up to and including the first ECALL, or up to the end of the

@@ -1,7 +1,7 @@
 //! The storage calls of a machine. Each writes how far the run is into a stage that stands elsewhere, since
 //! a stage may hold an output and is dear to move.
 
-ghost use Rattle.std.specs.Prelude.{◌≡◌, ◌≤◌, if◌then◌else◌, [], IfSome, length};
+ghost use Rattle.std.specs.Prelude.{◌≡◌, ◌≤◌, if◌then◌else◌, [], length};
 ghost use Rattle.std.specs.Option.{option_copied};
 ghost use Rattle.std.specs.FinMap as map;
 ghost use Rattle.ecalls.specs.StorageCalls.{a1, ecall_charge, late_charge, length_of, request_by};
@@ -10,6 +10,7 @@ ghost use Rattle.rv_isa.specs.Registers.{written};
 ghost use Rattle.rv_ledger.specs.declared.end.End.TheVariants.{OutOfGas, Returned, Reverted};
 ghost use Rattle.rv_step.specs.Meets.{MeetsOutput, MeetsStage, is_asked};
 ghost use Rattle.rv_ledger.specs.Change.{change_copied};
+ghost use Rattle.rv_ledger.specs.Lent.{lent_content};
 ghost use Rattle.rv_step.specs.Step.{Going, Leads, answered, change_after_add, charged, delivered, delivery_result, ecall_result, next_instruction, read_result, storage_call_result, value_result, write_result};
 ghost use Rattle.rv_step.specs.declared.stage.Stage.TheVariants.{Ended, Running};
 
@@ -22,8 +23,8 @@ use ecalls::{
 use gas::Meter;
 use rv_isa::Reg;
 use rv_ledger::{
-    Change, End, IN_PLACE_LIMIT, Key, OUTPUT_LIMIT, StoredOutput, StoredValue, Value, add,
-    wrapping_sum,
+    Change, End, IN_PLACE_LIMIT, Key, LentValue, OUTPUT_LIMIT, StoredOutput, StoredValue, Value,
+    add, wrapping_sum,
 };
 use std::alloc::AllocError;
 
@@ -73,26 +74,28 @@ impl Machine {
     pub(crate) fn answer(
         &mut self,
         key: &Key,
-        content: Option<&[u8]>,
+        content: Option<LentValue>,
         stage: &mut Stage,
     ) -> Result<(), AllocError>
-        requires running { stage.old ≡ Running }
-        requires short { IfSome content (λ bytes. length bytes.now ≤ 256) }
-        ensures { MeetsStage result stage.new (Leads (answered self.old (delivered self.old key.now (option_copied content.entry)))) self.old self.new }
+        requires { stage.old ≡ Running }
+        ensures { MeetsStage result stage.new (Leads (answered self.old (delivered self.old key.now (lent_content content.entry)))) self.old self.new }
     {
         let Some(Change::Sum(amount)) = self.own.get(key) else {
             return self.answer_with(content, stage);
         };
         let sum = add(content, *amount);
-        self.answer_with(Some(sum.bytes()), stage)
+        self.answer_with(Some(sum.lend()), stage)
     }
 
     /// Gives what the READ at which the machine stands is delivered. Charges and refuses as `answer` does.
     #[tactic(auto, unfolding(crate::specs::Step::answered))]
-    fn answer_with(&mut self, content: Option<&[u8]>, stage: &mut Stage) -> Result<(), AllocError>
-        requires running { stage.old ≡ Running }
-        requires short { IfSome content (λ bytes. length bytes.now ≤ 256) }
-        ensures { MeetsStage result stage.new (Leads (answered self.old (option_copied content.entry))) self.old self.new }
+    fn answer_with(
+        &mut self,
+        content: Option<LentValue>,
+        stage: &mut Stage,
+    ) -> Result<(), AllocError>
+        requires { stage.old ≡ Running }
+        ensures { MeetsStage result stage.new (Leads (answered self.old (lent_content content.entry))) self.old self.new }
     {
         let gas = self.gas;
         if !self.gas.charge(READ_CHARGE) {
@@ -167,7 +170,7 @@ impl Machine {
                 return Ok(());
             }
         };
-        self.deliver(bytes_of(content.as_ref()), stage)
+        self.deliver(content.as_ref().map(|value| value.lend()), stage)
     }
 
     /// Writes a value to a key; traps MemoryFault unless both may be read.
@@ -299,23 +302,25 @@ impl Machine {
     {
         let (at, len) = (self.regs.get(Reg::a0()), self.regs.get(Reg::a1()));
         match bytes_at::<LIMIT>(&self.memory, at, len) {
-            Some(bytes) => Ok(Some(StoredOutput::of_bytes(self.own.allocator(), bytes.bytes())?)),
+            Some(bytes) => Ok(Some(StoredOutput::of_lent(
+                self.own.allocator(),
+                LentValue::of(bytes.bytes()),
+            )?)),
             None => Ok(None),
         }
     }
 
     /// Delivers the answer to a READ: sets a0, and charges and copies a value that fits into the buffer.
     #[tactic(auto, unfolding(crate::specs::Step::delivery_result))]
-    fn deliver(&mut self, content: Option<&[u8]>, stage: &mut Stage) -> Result<(), AllocError>
-        requires running { stage.old ≡ Running }
-        requires short { IfSome content (λ bytes. length bytes.now ≤ 256) }
-        ensures { MeetsStage result stage.new (Leads (delivery_result self.old (option_copied content.entry))) self.old self.new }
+    fn deliver(&mut self, content: Option<LentValue>, stage: &mut Stage) -> Result<(), AllocError>
+        requires { stage.old ≡ Running }
+        ensures { MeetsStage result stage.new (Leads (delivery_result self.old (lent_content content.entry))) self.old self.new }
     {
         let Some(value) = content else {
             self.end_read(ABSENT);
             return Ok(());
         };
-        if value.len() > self.regs.get(Reg::a2()) as usize {
+        if value.bytes().len() > self.regs.get(Reg::a2()) as usize {
             self.end_read(TOO_LONG);
             return Ok(());
         }
@@ -324,13 +329,12 @@ impl Machine {
 
     /// Charges the bytes of a value and copies it. The call ends out of gas, and nothing is copied, where
     /// less gas is left. Refused where memory ran out, and then nothing changes.
-    fn deliver_charged(&mut self, value: &[u8], stage: &mut Stage) -> Result<(), AllocError>
-        requires running { stage.old ≡ Running }
-        requires short { length value.now ≤ 256 }
-        ensures { MeetsStage result stage.new (Leads (charged (late_charge self.old.rules (length value.now)) self.old (λ t. value_result t value.now))) self.old self.new }
+    fn deliver_charged(&mut self, value: LentValue, stage: &mut Stage) -> Result<(), AllocError>
+        requires { stage.old ≡ Running }
+        ensures { let bytes = value.entry.bytes.now in MeetsStage result stage.new (Leads (charged (late_charge self.old.rules (length bytes)) self.old (λ t. value_result t bytes))) self.old self.new }
     {
         let gas = self.gas;
-        let cost = late_charge(self.rules, value.len() as u32);
+        let cost = late_charge(self.rules, value.bytes().len() as u32);
         if !self.gas.charge(cost) {
             end_with(stage, self.own.allocator(), self.run_out());
             return Ok(());
@@ -345,13 +349,13 @@ impl Machine {
     }
 
     /// Copies a value into the buffer of a READ. Refused where memory ran out, and then nothing changes.
-    fn copy_value(&mut self, value: &[u8], stage: &mut Stage) -> Result<(), AllocError>
-        requires running { stage.old ≡ Running }
-        requires short { length value.now ≤ 256 }
-        ensures { MeetsStage result stage.new (Leads (value_result self.old value.now)) self.old self.new }
+    fn copy_value(&mut self, value: LentValue, stage: &mut Stage) -> Result<(), AllocError>
+        requires { stage.old ≡ Running }
+        ensures { MeetsStage result stage.new (Leads (value_result self.old value.entry.bytes.now)) self.old self.new }
     {
-        match self.memory.copy_in(self.regs.get(Reg::a1()), value) {
-            Ok(()) => self.end_read(value.len() as u32),
+        let bytes = value.bytes();
+        match self.memory.copy_in(self.regs.get(Reg::a1()), bytes) {
+            Ok(()) => self.end_read(bytes.len() as u32),
             Err(fault) => end_with(stage, self.own.allocator(), refusal(fault)?),
         }
         Ok(())
@@ -374,18 +378,7 @@ fn change_after_add(own: Option<&Change<StoredValue>>, amount: u64) -> Change<Va
     match own {
         None => Change::Sum(amount),
         Some(Change::Sum(sum)) => Change::Sum(wrapping_sum(*sum, amount)),
-        Some(Change::Value(value)) => Change::Value(add(Some(value.bytes()), amount)),
+        Some(Change::Value(value)) => Change::Value(add(Some(value.lend()), amount)),
         Some(Change::Gone) => Change::Value(add(None, amount)),
-    }
-}
-
-/// The bytes of a value, or None for None.
-pub(crate) fn bytes_of(content: Option<&Value>) -> Option<&[u8]>
-    ensures value { option_copied result ≡ option_copied content.entry }
-    ensures short { IfSome result (λ bytes. length bytes.now ≤ 256) }
-{
-    match content {
-        Some(value) => Some(value.bytes()),
-        None => None,
     }
 }

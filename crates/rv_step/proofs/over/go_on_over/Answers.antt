@@ -1,6 +1,6 @@
 use Rattle.std.proofs.Common.{◌≡◌, ap, rules}
 use Rattle.std.specs.FinMap as map
-use Rattle.std.specs.Option.{option_copied}
+use Rattle.rv_ledger.specs.Lent.{lent_content}
 use Rattle.rv_step.proofs.Stops.{stops_fewer}
 use Rattle.rv_step.proofs.StorageRuns.{asked_fewer, asked_over, stops_over}
 use Rattle.rv_step.specs.Run.{is_running}
@@ -14,7 +14,7 @@ returns-in-Running g c = record {
 
 pub returns-in-Asked-clause-over : goal.returns-in-Asked-clause-over
 returns-in-Asked-clause-over g c =
-    let told : option_copied c.bytes_of-content.result ≡ map.get (g.S.Contents.storage c.args.store.now) c.in-Asked.key = search rules in
+    let told : lent_content c.of_stored-content.result ≡ map.get (g.S.Contents.storage c.args.store.now) c.in-Asked.key = search rules in
     asked_over c.answer.result (g.S.Contents.storage c.args.store.now) c.args.machine.now c.answer.new.self c.args.stage.now c.answer.new.stage c.in-Asked.key _ c.in-Asked.is told c.answer.ensures
 
 pub returns-in-Asked-clause-fewer : goal.returns-in-Asked-clause-fewer
