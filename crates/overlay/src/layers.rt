@@ -8,7 +8,7 @@ ghost use Rattle.rv_ledger.specs.Applied.{apply_receipts, set_content};
 ghost use Rattle.overlay.specs.Overlay.{with_changes};
 
 use crate::overlay::Overlay;
-use rv_ledger::{Change, Contents, Key, Receipt, Store, StoredValue, Writes, add};
+use rv_ledger::{Change, Contents, Key, LentValue, Receipt, Store, StoredValue, Writes, add};
 use std::alloc::AllocError;
 
 /// A storage with changes over it. It stands for the storage that has them.
@@ -93,7 +93,7 @@ fn apply_write(
         Change::Value(value) => over.set(*key, Some(value.clone()?)),
         Change::Gone => over.set(*key, None),
         Change::Sum(amount) => {
-            let value = add(StoredValue::bytes_of(content(base, over, key)), *amount);
+            let value = add(LentValue::of_stored(content(base, over, key)), *amount);
             over.set(*key, Some(StoredValue::of(over.allocator(), &value)?))
         }
     }
