@@ -73,7 +73,7 @@ fn echo(alloc: Global) -> Result<Receipt, Fail> {
         end: End::Returned,
         gas: 13,
         pc: 0x0001_0004,
-        out: StoredOutput::of(alloc, &value(&[1, 2])?)?,
+        out: StoredOutput::of(alloc, value(&[1, 2])?.lend())?,
         regs,
         writes: Writes::new(alloc),
     })

@@ -94,7 +94,7 @@ fn apply_write(
         Change::Gone => over.set(*key, None),
         Change::Sum(amount) => {
             let value = add(LentValue::of_stored(content(base, over, key)), *amount);
-            over.set(*key, Some(StoredValue::of(over.allocator(), &value)?))
+            over.set(*key, Some(StoredValue::of(over.allocator(), value.lend())?))
         }
     }
 }

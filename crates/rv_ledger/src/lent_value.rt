@@ -4,7 +4,6 @@ ghost use Rattle.std.specs.Prelude.{◌≤◌, length};
 
 use crate::inline_bytes::Value;
 use crate::stored_bytes::StoredValue;
-use std::fmt;
 
 /// The bytes of a value or of an output, at most 256, which are lent.
 #[derive(Clone, Copy)]
@@ -49,11 +48,5 @@ impl<'a> LentValue<'a> {
             Some(value) => value,
             None => unreachable!(),
         }
-    }
-}
-
-impl fmt::Debug for LentValue<'_> {
-    fn fmt<W: fmt::Write>(&self, f: &mut fmt::Formatter<W>) -> fmt::Result {
-        self.bytes.fmt(f)
     }
 }

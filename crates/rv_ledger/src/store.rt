@@ -96,7 +96,7 @@ impl Store {
         ensures ok { OnOk result (self.new ≡ map.insert self.old key value.entry.bytes.now) }
         ensures err { OnErr result (self.new ≡ self.old) }
     {
-        self.put(key, StoredValue::of_lent(self.alloc, value)?)
+        self.put(key, StoredValue::of(self.alloc, value)?)
     }
 
     /// Adds an amount to the number at a key, modulo 2^64; the key then has a value of eight bytes. Refused

@@ -48,7 +48,7 @@ impl StoreBuilder {
         ensures ok { OnOk result (self.new ≡ map.insert self.old key value.now) }
         ensures err { OnErr result (self.new ≡ self.old) }
     {
-        let value = StoredValue::of(self.alloc, value)?;
+        let value = StoredValue::of(self.alloc, value.lend())?;
         self.entries.push((key, value))?;
         Ok(())
     }

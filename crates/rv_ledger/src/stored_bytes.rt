@@ -38,15 +38,8 @@ impl Model for StoredBytes {
 }
 
 impl StoredBytes {
-    /// Keeps a value; refused where memory ran out.
-    pub fn of(alloc: Global, value: &Value) -> Result<StoredBytes, AllocError>
-        ensures { IfOk result (λ v. v ≡ value.now) }
-    {
-        StoredBytes::of_lent(alloc, value.lend())
-    }
-
     /// Keeps what is lent; refused where memory ran out. At most 16 bytes take none, and are never refused.
-    pub fn of_lent(alloc: Global, lent: LentValue) -> Result<StoredBytes, AllocError>
+    pub fn of(alloc: Global, lent: LentValue) -> Result<StoredBytes, AllocError>
         ensures value { IfOk result (λ v. v ≡ lent.entry.bytes.now) }
         ensures succeeds { length lent.entry.bytes.now ≤ 16 → IsOk result }
     {
@@ -63,7 +56,7 @@ impl StoredBytes {
     {
         let alloc = *room.allocator();
         if lent.bytes().len() <= IN_PLACE_LIMIT {
-            return StoredBytes::of_lent(alloc, lent).unwrap();
+            return StoredBytes::of(alloc, lent).unwrap();
         }
         room.clear();
         room.extend_from_slice(lent.bytes()).unwrap();
@@ -119,7 +112,7 @@ impl Clone for StoredBytes {
     ghost is_clone = { λ a b. b ≡ a };
 
     fn clone(&self) -> Result<StoredBytes, AllocError> {
-        StoredBytes::of_lent(*self.kept.allocator(), self.lend())
+        StoredBytes::of(*self.kept.allocator(), self.lend())
     }
 }
 

@@ -206,7 +206,7 @@ fn stored(alloc: Global, change: Change<&Value>) -> Result<Change<StoredValue>, 
     ensures { IfOk result (λ kept. kept ≡ change_copied change.entry) }
 {
     match change {
-        Change::Value(value) => Ok(Change::Value(StoredValue::of(alloc, value)?)),
+        Change::Value(value) => Ok(Change::Value(StoredValue::of(alloc, value.lend())?)),
         Change::Gone => Ok(Change::Gone),
         Change::Sum(amount) => Ok(Change::Sum(amount)),
     }

@@ -351,7 +351,7 @@ fn stored(alloc: Global, content: Option<LentValue>) -> Result<Option<StoredValu
     ensures { IfOk result (λ value. value ≡ lent_content content.entry) }
 {
     match content {
-        Some(value) => Ok(Some(StoredValue::of_lent(alloc, value)?)),
+        Some(value) => Ok(Some(StoredValue::of(alloc, value)?)),
         None => Ok(None),
     }
 }

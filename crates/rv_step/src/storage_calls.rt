@@ -302,7 +302,7 @@ impl Machine {
     {
         let (at, len) = (self.regs.get(Reg::a0()), self.regs.get(Reg::a1()));
         match bytes_at::<LIMIT>(&self.memory, at, len) {
-            Some(bytes) => Ok(Some(StoredOutput::of_lent(
+            Some(bytes) => Ok(Some(StoredOutput::of(
                 self.own.allocator(),
                 LentValue::of(bytes.bytes()),
             )?)),

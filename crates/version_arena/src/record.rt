@@ -41,7 +41,7 @@ impl VersionId {
 }
 
 /// A record, lent by its arena: what one run of a call did to one key.
-#[derive(Debug, Drop)]
+#[derive(Drop)]
 pub struct Record<'a> {
     /// The index of the call that wrote it.
     pub writer: u16,
