@@ -1,7 +1,7 @@
 //! Writing the parts of a session into the open transaction. Each call leaves the transaction as far as it came.
 
-ghost use Rattle.std.specs.Prelude.{◌≡◌, ◌<◌, ◌^◌, [], ◌∷◌, ◌++◌, false, length, pos, IfErr, IsTrue, OnErr, OnOk};
-ghost use Rattle.std.specs.Option.{ForSome};
+ghost use Rattle.std.specs.Prelude.{◌≡◌, ◌<◌, ◌≤◌, ◌^◌, [], ◌∷◌, ◌++◌, false, length, pos, IfErr, IfSome, IsTrue, OnErr, OnOk};
+ghost use Rattle.std.specs.Option.{ForSome, option_copied};
 ghost use Rattle.sqlite_disk.specs.Disk.{MoreFaults};
 ghost use Rattle.sqlite_trees.specs.View.{HasCause, IsClean, IsQuiet, IsRolledBack, KeepsCommitted, KeepsSchema, OnlyWrites, SetsTree, Tells};
 ghost use Rattle.sqlite_trees.specs.Tree.{put_row, without_rowid};
@@ -64,11 +64,19 @@ pub(crate) fn change_entries<S: Store>(
     ensures quiet { IsQuiet S.Store.view S.Store.faults S.Store.recovers S.Store.is_shielded store.old store.new }
 {
     for (key, content) in changes.iter() {
-        let old = StoredValue::bytes_of(base.get(key));
-        let new = StoredValue::bytes_of(content.as_ref());
+        let old = value_bytes(base.get(key));
+        let new = value_bytes(content.as_ref());
         change_entry(store, STORAGE_TREE, row, key.bytes(), old, new)?;
     }
     Ok(())
+}
+
+/// The bytes of a value, at most 256, or None for None.
+fn value_bytes(stored: Option<&StoredValue>) -> Option<&[u8]>
+    ensures value { option_copied result ≡ option_copied stored.entry }
+    ensures short { IfSome result (λ bytes. length bytes.now ≤ 256) }
+{
+    stored.map(|value| value.bytes())
 }
 
 /// Removes all entries of a storage from its tree.

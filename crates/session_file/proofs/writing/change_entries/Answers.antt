@@ -50,6 +50,6 @@ returns-in_err-change_entry-clause-cause g c clean =
     let early : IsClean was = omega (arith, c.change_entry.ensures.quiet.clean) in
     let same = ap (λ (w : View). w.is_broken) (c.loop-key.invariant.2 early) in
     let count : length c.bytes.result.now ≡ 32 = ap length c.bytes.ensures.value ∙ c.bytes.ensures.count in
-    let short = copied_short c.bytes_of-new.result c.bytes_of-new.ensures.short in
+    let short = copied_short c.value_bytes-new.result c.value_bytes-new.ensures.short in
     let p = err_from_is_err_and c.from_residual.result c.from_residual.ensures.1 in
-    rw (p.1, p.2) (later_cause old was _ _ _ _ ⊥ c.in_err-change_entry.field-0.0 c.loop-key.invariant.4.counts same (never_long c.bytes.result.now (option_copied c.bytes_of-new.result) count short) (c.in_err-change_entry.ensures.cause clean))
+    rw (p.1, p.2) (later_cause old was _ _ _ _ ⊥ c.in_err-change_entry.field-0.0 c.loop-key.invariant.4.counts same (never_long c.bytes.result.now (option_copied c.value_bytes-new.result) count short) (c.in_err-change_entry.ensures.cause clean))
