@@ -20,10 +20,12 @@ fn value(byte: u8) -> Value
 fn shown(record: Option<Record<'_>>) -> Option<(u16, u16, u64)> {
     let record = record?;
     let number = match record.change {
-        Change::Value([byte]) => u64::from(*byte),
+        Change::Value(value) => match value.bytes() {
+            [byte] => u64::from(*byte),
+            _ => return None,
+        },
         Change::Gone => 0,
         Change::Sum(amount) => amount,
-        Change::Value(_) => return None,
     };
     Some((record.writer, record.incarnation, number))
 }
