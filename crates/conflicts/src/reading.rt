@@ -9,7 +9,7 @@ ghost use Rattle.rv_step.specs.Run.{asked_key, steps_left};
 
 use crate::keys::KeySet;
 use read_set::Origin;
-use rv_ledger::{Call, Key, Receipt, Store, StoredValue};
+use rv_ledger::{Call, Key, LentValue, Receipt, Store};
 use rv_step::{EndedRun, Pause, Run, SpareRun, StorageAnswer};
 use std::alloc::{AllocError, Global};
 use std::mem::replace;
@@ -67,8 +67,8 @@ fn answer_from(alloc: Global, run: &mut Run, key: &Key, store: &Store) -> Result
     ensures from { OnOk result (AreFrom store.now (replies_of run.old.answers) → AreFrom store.now (replies_of run.new.answers)) }
     ensures fewer { OnOk result (steps_left run.new < steps_left run.old) }
 {
-    let content = StoredValue::bytes_of(store.get(key));
-    run.answer_bytes(content, Origin::base(alloc))
+    let content = LentValue::of_stored(store.get(key));
+    run.answer_lent(content, Origin::base(alloc))
 }
 
 /// The keys of some answers. Refused where memory ran out.
