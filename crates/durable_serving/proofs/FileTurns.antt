@@ -25,8 +25,8 @@ use Rattle.turns.specs.declared.kept.KeptAnswer.{KeptAnswer}
 use Rattle.turns.specs.declared.pending.Pending.TheVariants as pending
 use Rattle.turns.specs.declared.refusal.Failure.{Failure}
 use Rattle.turns.specs.declared.refusal.Failure.TheVariants as want
-use Rattle.turns.specs.declared.refusal.Refusal.{Refusal}
-use Rattle.turns.specs.declared.refusal.Refusal.TheVariants.{FileTooLong, NoProgram, TooHigh}
+use Rattle.turns.specs.declared.refusal.FrameRefusal.{FrameRefusal}
+use Rattle.turns.specs.declared.refusal.FrameRefusal.TheVariants.{FileTooLong, NoProgram, TooHigh}
 use Rattle.turns.specs.declared.settings.Settings.{Settings}
 use Rattle.turns.specs.declared.state.State.{State}
 use Rattle.durable_serving.specs.Durable.{IsFileAnswer, IsFileReply, last_behind, last_if_begun, last_text, moment}
@@ -56,7 +56,7 @@ either : (b : Bool) (x y : Turn) (last : Option KeptAnswer) → x.after.last ≡
 either true x y last h k = h
 either false x y last h k = k
 
-loaded_last : (s : State) (name : List ℕ) (r : Result Layout Refusal) → (with_program s name r).after.last ≡ s.last
+loaded_last : (s : State) (name : List ℕ) (r : Result Layout FrameRefusal) → (with_program s name r).after.last ≡ s.last
 loaded_last s name (Ok image) = refl
 loaded_last s name (Err refusal) = refl
 
@@ -71,7 +71,7 @@ next_height : (n : ℕ) → n + 1 ≡ n → ⊥
 next_height n e = omega arith
 
 -- a frame behind which all is as it was
-uncounted : (settings : Settings) (s : State) (last : Option (List ℕ × List ℕ)) (high : Bool) (wanted : Result Accepted Refusal)
+uncounted : (settings : Settings) (s : State) (last : Option (List ℕ × List ℕ)) (high : Bool) (wanted : Result Accepted FrameRefusal)
     → (cond high (told s (Refused TooHigh)) (frame_answer settings s wanted)).after ≡ s
     → last_of (cond high (told (bare s) (Refused TooHigh)) (frame_answer settings (bare s) wanted)).after.last last ≡ last
 uncounted settings s last true wanted is = refl

@@ -31,8 +31,8 @@ use Rattle.turns.specs.declared.pending.Pending.TheVariants as pending
 use Rattle.turns.specs.declared.pending.PendingFrame.{PendingFrame}
 use Rattle.turns.specs.declared.pending.PendingRun.{PendingRun}
 use Rattle.turns.specs.declared.refusal.Failure.{Failure}
-use Rattle.turns.specs.declared.refusal.Refusal.{Refusal}
-use Rattle.turns.specs.declared.refusal.Refusal.TheVariants.{FileTooLong}
+use Rattle.turns.specs.declared.refusal.FrameRefusal.{FrameRefusal}
+use Rattle.turns.specs.declared.refusal.FrameRefusal.TheVariants.{FileTooLong}
 use Rattle.turns.specs.declared.settings.Settings.{Settings}
 use Rattle.turns.specs.declared.state.State.{State}
 use Rattle.durable_serving.specs.Durable.{HoldsState, IsBeyondFormat, IsFileAnswer, IsLater, MayChange, MayRefuse, behind_turn, failed_store, file_turn, last_behind, last_if_begun, moment}
@@ -137,7 +137,7 @@ turned settings s ask p last is other same changes = record {
   changes = changes;
 }
 
-not_refused : (reply : Reply) (bytes : List ℕ) (refusal : Refusal) → reply ≡ Done bytes → reply ≡ Refused refusal → ⊥
+not_refused : (reply : Reply) (bytes : List ℕ) (refusal : FrameRefusal) → reply ≡ Done bytes → reply ≡ Refused refusal → ⊥
 not_refused reply bytes refusal done refused = cc
 
 pub changed : (settings : Settings) (s : State) (ask : Ask) (p : Pending) (last : Option (List ℕ × List ℕ)) → IsPending settings s ask p → IsDue s ask p → ((told : Answer) → p ≡ pending.Nothing told → ⊥)

@@ -21,8 +21,8 @@ use Rattle.turns.specs.Failures.{MayFail}
 use Rattle.turns.specs.Replies.{Failed, Refused, Reply, answer_text}
 use Rattle.turns.specs.Turn.{Turn, turn}
 use Rattle.turns.specs.declared.refusal.Failure.{Failure}
-use Rattle.turns.specs.declared.refusal.Refusal.{Refusal as Refusals}
-use Rattle.turns.specs.declared.refusal.Refusal.TheVariants.{NoFrame}
+use Rattle.turns.specs.declared.refusal.FrameRefusal.{FrameRefusal as Refusals}
+use Rattle.turns.specs.declared.refusal.FrameRefusal.TheVariants.{NoFrame}
 use Rattle.turns.specs.declared.settings.Settings.{Settings}
 use Rattle.turns.specs.declared.state.State.{State}
 use Rattle.durable_serving.specs.declared.answering.DurableFault.{DurableFault}

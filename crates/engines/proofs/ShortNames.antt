@@ -4,8 +4,8 @@ use Rattle.rv_text.specs.Faults as asm
 use Rattle.rv_text.specs.declared.fault.AsmCause.{AsmCause}
 use Rattle.rv_text.specs.declared.fault.AsmCause.TheVariants as asm_cause
 use Rattle.stm_core.specs.Faults as drive
-use Rattle.stm_core.specs.declared.engine.DriveFault.{DriveFault}
-use Rattle.stm_core.specs.declared.engine.DriveFault.TheVariants as drive_fault
+use Rattle.stm_core.specs.declared.driving.DriveFault.{DriveFault}
+use Rattle.stm_core.specs.declared.driving.DriveFault.TheVariants as drive_fault
 use Rattle.workers.specs.Faults as run
 use Rattle.workers.specs.declared.fault.RunFault.{RunFault}
 use Rattle.workers.specs.declared.fault.RunFault.TheVariants as run_fault

@@ -9,8 +9,8 @@ use Rattle.rv_ledger.specs.declared.job.Job.{Job}
 use Rattle.rv_step.specs.Fold.{receipts_of, store_after}
 use Rattle.stm_state.specs.Drive as list
 use Rattle.stm_state.specs.Steps.{ArenaFull, IncarnationLimit}
-use Rattle.stm_core.specs.declared.engine.DriveFault.{DriveFault}
-use Rattle.stm_core.specs.declared.engine.DriveFault.TheVariants as drive
+use Rattle.stm_core.specs.declared.driving.DriveFault.{DriveFault}
+use Rattle.stm_core.specs.declared.driving.DriveFault.TheVariants as drive
 use Rattle.receipts.specs.Text.{result_text}
 use Rattle.byte_streams.specs.declared.fault.WriteFault.{WriteFault}
 use Rattle.block_file.specs.Block.{BlockValue}

@@ -12,8 +12,8 @@ use Rattle.turns.specs.Replies.{Reply, Done, Refused, answer_text}
 use Rattle.turns.specs.Telling.{names_text}
 use Rattle.turns.specs.Turn.{Accepted, Turn, ◌>>=◌, accepted, agree, begun_with, frame_answer, is_dump, program_of_file, told, turn, unless, with_program}
 use Rattle.turns.specs.declared.kept.KeptAnswer.{KeptAnswer}
-use Rattle.turns.specs.declared.refusal.Refusal.{Refusal}
-use Rattle.turns.specs.declared.refusal.Refusal.TheVariants.{Block, FileTooLong, NoProgram, NotADump, OtherDigest, TooHigh}
+use Rattle.turns.specs.declared.refusal.FrameRefusal.{FrameRefusal}
+use Rattle.turns.specs.declared.refusal.FrameRefusal.TheVariants.{Block, FileTooLong, NoProgram, NotADump, OtherDigest, TooHigh}
 use Rattle.turns.specs.declared.settings.Settings.{Settings}
 use Rattle.turns.specs.declared.state.State.{State}
 use Rattle.round_trips.specs.Begun.{EqualButLast, asks_last_late}
@@ -49,7 +49,7 @@ equal_but_last e = record {
 -- ---- a request
 
 -- the block that `begin` takes, or its refusal, where a digest comes as one is kept or not
-abbrev pub begun_block : Bool → Result BlockValue BlockFault → Result BlockValue Refusal
+abbrev pub begun_block : Bool → Result BlockValue BlockFault → Result BlockValue FrameRefusal
 begun_block agrees text = result_map_both (λ block. block) Block text >>= (λ block.
     unless (not (is_dump block)) NotADump (
     unless (not agrees) OtherDigest (Ok block)))
@@ -71,12 +71,12 @@ module _ (s : State) (last : Option KeptAnswer) where
   alike_told : (reply : Reply) → IsAlike (told s reply) (told twin reply)
   alike_told reply = (refl, other_last s last)
 
-  loaded : (name : List ℕ) (image : Result Layout Refusal) → IsAlike (with_program s name image) (with_program twin name image)
+  loaded : (name : List ℕ) (image : Result Layout FrameRefusal) → IsAlike (with_program s name image) (with_program twin name image)
   loaded name (Err refusal) = alike_told (Refused refusal)
   loaded name (Ok image) = (refl, other_last (record s { programs = insert s.programs name image }) last)
 
   -- a program that is too long, or here, or neither
-  handed_in : (long here : Bool) (name : List ℕ) (image : Result Layout Refusal)
+  handed_in : (long here : Bool) (name : List ℕ) (image : Result Layout FrameRefusal)
       → IsAlike
       (if long then told s (Refused FileTooLong) else if here then told s (Done (names_text (name ∷ []))) else with_program s name image)
       (if long then told twin (Refused FileTooLong) else if here then told twin (Done (names_text (name ∷ []))) else with_program twin name image)
@@ -91,27 +91,27 @@ module _ (s : State) (last : Option KeptAnswer) where
   forgotten true left = (refl, other_last left last)
   forgotten false left = alike_told (Refused NoProgram)
 
-  begun : (height : ℕ) (digest : Option (List ℕ)) (block : Result BlockValue Refusal) → IsAlike (begun_with s height digest block) (begun_with twin height digest block)
+  begun : (height : ℕ) (digest : Option (List ℕ)) (block : Result BlockValue FrameRefusal) → IsAlike (begun_with s height digest block) (begun_with twin height digest block)
   begun height digest (Err refusal) = alike_told (Refused refusal)
   begun height digest (Ok block) = (refl, equal_but_last refl)
 
   -- a frame that counts leaves the same
-  counts_alike : (settings : Settings) (wanted : Result Accepted Refusal) → frame_answer settings s wanted ≡ frame_answer settings twin wanted
+  counts_alike : (settings : Settings) (wanted : Result Accepted FrameRefusal) → frame_answer settings s wanted ≡ frame_answer settings twin wanted
   counts_alike settings (Ok frame) = refl
   counts_alike settings (Err refusal) = refl
 
-  abbrev framed : State → Settings → Bool → Result Accepted Refusal → Turn
+  abbrev framed : State → Settings → Bool → Result Accepted FrameRefusal → Turn
   framed u settings high wanted = if high then told u (Refused TooHigh) else frame_answer settings u wanted
 
-  frame_counts : (settings : Settings) (high : Bool) (wanted : Result Accepted Refusal) → high ≡ false → framed s settings high wanted ≡ framed twin settings high wanted
+  frame_counts : (settings : Settings) (high : Bool) (wanted : Result Accepted FrameRefusal) → high ≡ false → framed s settings high wanted ≡ framed twin settings high wanted
   frame_counts settings false wanted low = counts_alike settings wanted
   frame_counts settings true wanted low = cc
 
-  frame_alike : (settings : Settings) (high : Bool) (wanted : Result Accepted Refusal) → IsAlike (framed s settings high wanted) (framed twin settings high wanted)
+  frame_alike : (settings : Settings) (high : Bool) (wanted : Result Accepted FrameRefusal) → IsAlike (framed s settings high wanted) (framed twin settings high wanted)
   frame_alike settings true wanted = alike_told (Refused TooHigh)
   frame_alike settings false wanted = let same = counts_alike settings wanted in (ap (λ (u : Turn). u.reply) same, equal_but_last (ap (λ (u : Turn). u.after) same))
 
-  frame_high : (settings : Settings) (high : Bool) (wanted : Result Accepted Refusal) → high ≡ true → (framed s settings high wanted).after ≡ s
+  frame_high : (settings : Settings) (high : Bool) (wanted : Result Accepted FrameRefusal) → high ≡ true → (framed s settings high wanted).after ≡ s
   frame_high settings true wanted h = refl
   frame_high settings false wanted h = cc
 

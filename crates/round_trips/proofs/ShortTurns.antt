@@ -21,8 +21,8 @@ use Rattle.turns.specs.Failures.{IsAnswer}
 use Rattle.turns.specs.Telling.{rules_number}
 use Rattle.turns.specs.Turn.{Accepted, Turn, ◌>>=◌, accepted, accepted_block, agree, begun_with, frame_answer, gas_of, is_above, is_dump, new_session, program_of_file, turn, unless, with_program}
 use Rattle.turns.specs.Programs.{programs_of}
-use Rattle.turns.specs.declared.refusal.Refusal.{Refusal}
-use Rattle.turns.specs.declared.refusal.Refusal.TheVariants.{Block, NotADump, OlderRules, OtherDigest, TooLong, TooMuchGas}
+use Rattle.turns.specs.declared.refusal.FrameRefusal.{FrameRefusal}
+use Rattle.turns.specs.declared.refusal.FrameRefusal.TheVariants.{Block, NotADump, OlderRules, OtherDigest, TooLong, TooMuchGas}
 use Rattle.turns.specs.declared.settings.Settings.{Settings}
 use Rattle.turns.specs.declared.state.State.{State}
 use Rattle.round_trips.specs.Chained.{AreShort}
@@ -70,11 +70,11 @@ record IsShortFor (s : State) (block : BlockValue) : Type 0 where
 abbrev IsShortFrame : State → Accepted → Type 0
 IsShortFrame s frame = IsShortFor s frame.block
 
-unless_short : {A : Type 0} (P : A → Type 0) (b : Bool) (refusal : Refusal) (rest : Result A Refusal) → (b ≡ false → IfOk rest P) → IfOk (unless b refusal rest) P
+unless_short : {A : Type 0} (P : A → Type 0) (b : Bool) (refusal : FrameRefusal) (rest : Result A FrameRefusal) → (b ≡ false → IfOk rest P) → IfOk (unless b refusal rest) P
 unless_short P b refusal rest h = cond_both b (Err refusal) rest (λ r. IfOk r P) (λ _. tt) h
 
 -- what a block becomes keeps its block, and what is read becomes a block
-with_images : (s : State) (block : BlockValue) → IsShortFor s block → (images : Result (List Layout) Refusal)
+with_images : (s : State) (block : BlockValue) → IsShortFor s block → (images : Result (List Layout) FrameRefusal)
     → IfOk (result_map_both (λ images. record { block = block; images = images }) (λ refusal. refusal) images) (IsShortFrame s)
 with_images s block h (Ok images) = h
 with_images s block h (Err refusal) = tt
@@ -85,7 +85,7 @@ block_taken settings s block own =
     unless_short (IsShortFrame s) (nat_lt (rules_number block.rules) (rules_number s.rules)) OlderRules _ (λ newer.
     with_images s block (record { own = own; more = allowed_more s.rules block.rules newer }) (programs_of s.programs block.programs)))
 
-text_taken : (bytes : List ℕ) (A : Type 0) (P : A → Type 0) (next : BlockValue → Result A Refusal) → ((block : BlockValue) → AreShort block.rules block.store → IfOk (next block) P)
+text_taken : (bytes : List ℕ) (A : Type 0) (P : A → Type 0) (next : BlockValue → Result A FrameRefusal) → ((block : BlockValue) → AreShort block.rules block.store → IfOk (next block) P)
     → IfOk (result_map_both (λ block. block) Block (block_of bytes) >>= next) P
 text_taken bytes A P next h = by (block_of bytes) refl
   where
@@ -99,7 +99,7 @@ frame_taken settings s bytes =
     text_taken bytes Accepted (IsShortFrame s) (accepted_block settings s) (block_taken settings s))
 
 -- what a frame leaves
-frame_short : (settings : Settings) (s : State) (wanted : Result Accepted Refusal) → IsShortState s → IfOk wanted (IsShortFrame s) → IsShortState (frame_answer settings s wanted).after
+frame_short : (settings : Settings) (s : State) (wanted : Result Accepted FrameRefusal) → IsShortState s → IfOk wanted (IsShortFrame s) → IsShortState (frame_answer settings s wanted).after
 frame_short settings s (Err refusal) h taken = h
 frame_short settings s (Ok frame) h taken =
     let rules = frame.block.rules in
@@ -112,11 +112,11 @@ frame_short settings s (Ok frame) h taken =
 abbrev IsShortRead : BlockValue → Type 0
 IsShortRead block = AreShort block.rules block.store
 
-begun_short : (s : State) (height : ℕ) (digest : Option (List ℕ)) (text : Result BlockValue Refusal) → IsShortState s → IfOk text IsShortRead → IsShortState (begun_with s height digest text).after
+begun_short : (s : State) (height : ℕ) (digest : Option (List ℕ)) (text : Result BlockValue FrameRefusal) → IsShortState s → IfOk text IsShortRead → IsShortState (begun_with s height digest text).after
 begun_short s height digest (Ok block) h taken = taken
 begun_short s height digest (Err refusal) h taken = h
 
-loaded_short : (s : State) (name : List ℕ) (image : Result Layout Refusal) → IsShortState s → IsShortState (with_program s name image).after
+loaded_short : (s : State) (name : List ℕ) (image : Result Layout FrameRefusal) → IsShortState s → IsShortState (with_program s name image).after
 loaded_short s name (Ok image) h = h
 loaded_short s name (Err refusal) h = h
 

@@ -7,7 +7,7 @@ ghost use Rattle.rvstm_c.specs.Refusals.{handed_out, padded, parts_given, parts_
 
 use crate::given::Given;
 use byte_streams::LineParts;
-use turns::{Answer, KeptAnswer, Refusal, State};
+use turns::{Answer, FrameRefusal, KeptAnswer, State};
 
 /// The room for an area, in bytes: no area has more than 7.
 const AREA_ROOM: usize = 8;
@@ -59,7 +59,7 @@ fn parts_of_last(last: &Option<KeptAnswer>) -> RefusalParts
             Some(refusal) => handed_out(refusal.parts()),
             None => NO_PARTS,
         },
-        None => handed_out(Refusal::NoFrame.parts()),
+        None => handed_out(FrameRefusal::NoFrame.parts()),
     }
 }
 

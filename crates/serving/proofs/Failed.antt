@@ -11,7 +11,7 @@ use Rattle.turns.specs.Replies.{Done, Failed, Refused, Reply, answer_text, refus
 use Rattle.turns.specs.Turn.{Accepted, Turn, accepted, begun_with, frame_answer, last_reply, named_turn, program_of_file, turn, with_program}
 use Rattle.turns.specs.declared.kept.KeptAnswer.{KeptAnswer}
 use Rattle.turns.specs.declared.refusal.Failure.{Failure}
-use Rattle.turns.specs.declared.refusal.Refusal.{Refusal}
+use Rattle.turns.specs.declared.refusal.FrameRefusal.{FrameRefusal}
 use Rattle.turns.specs.declared.settings.Settings.{Settings}
 use Rattle.turns.specs.declared.state.State.{State}
 
@@ -24,7 +24,7 @@ either : (b : Bool) (x y : Turn) → Tells x.reply → Tells y.reply → Tells (
 either true x y h k = h
 either false x y h k = k
 
-kept : (refusal : Option Refusal) (bytes : List ℕ) → Tells (refused_or_done refusal bytes)
+kept : (refusal : Option FrameRefusal) (bytes : List ℕ) → Tells (refused_or_done refusal bytes)
 kept None bytes = tt
 kept (Some refusal) bytes = tt
 
@@ -32,15 +32,15 @@ last : (o : Option KeptAnswer) → Tells (last_reply o)
 last None = tt
 last (Some answer) = kept answer.refusal answer.bytes
 
-loaded : (s : State) (name : List ℕ) (r : Result Layout Refusal) → Tells (with_program s name r).reply
+loaded : (s : State) (name : List ℕ) (r : Result Layout FrameRefusal) → Tells (with_program s name r).reply
 loaded s name (Ok image) = tt
 loaded s name (Err refusal) = tt
 
-framed : (settings : Settings) (s : State) (r : Result Accepted Refusal) → Tells (frame_answer settings s r).reply
+framed : (settings : Settings) (s : State) (r : Result Accepted FrameRefusal) → Tells (frame_answer settings s r).reply
 framed settings s (Ok frame) = tt
 framed settings s (Err refusal) = tt
 
-begun : (s : State) (height : ℕ) (digest : Option (List ℕ)) (r : Result BlockValue Refusal) → Tells (begun_with s height digest r).reply
+begun : (s : State) (height : ℕ) (digest : Option (List ℕ)) (r : Result BlockValue FrameRefusal) → Tells (begun_with s height digest r).reply
 begun s height digest (Ok block) = tt
 begun s height digest (Err refusal) = tt
 

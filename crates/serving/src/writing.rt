@@ -15,7 +15,7 @@ use byte_streams::{Destination, WriteFault, refusal_line, write_whole};
 use requests::RequestFault;
 use std::io;
 use turns::{
-    Answer, EmptyBuffer, KeptAnswer, Refusal, State, bytes_of_kept, done_line, dump_length,
+    Answer, EmptyBuffer, FrameRefusal, KeptAnswer, State, bytes_of_kept, done_line, dump_length,
     failed_line, line_of_kept, refused_line, write_dump,
 };
 
@@ -53,7 +53,7 @@ fn print_last<W: Destination>(state: &State, out: &mut W) -> Result<(), WriteFau
     match &state.last {
         Some(kept) => print_kept(kept, out),
         None => {
-            let line = refused_line(Refusal::NoFrame);
+            let line = refused_line(FrameRefusal::NoFrame);
             print(line.as_str().as_bytes(), out)
         }
     }

@@ -8,8 +8,8 @@ use Rattle.stm_state.specs.State.{State, start, is_done}
 use Rattle.stm_state.specs.Steps.{Limit}
 use Rattle.stm_state.specs.Drive.{BadWorker, NotDone, drive_of, driven, due_result, continue_drive}
 use Rattle.stm_state.proofs.Tests.{lt_is, not_lt_is}
-use Rattle.stm_core.specs.declared.engine.DriveFault.{DriveFault}
-use Rattle.stm_core.specs.declared.engine.DriveFault.TheVariants as fault
+use Rattle.stm_core.specs.declared.driving.DriveFault.{DriveFault}
+use Rattle.stm_core.specs.declared.driving.DriveFault.TheVariants as fault
 use Rattle.stm_core.specs.CoreState.{CoreState}
 use Rattle.stm_core.specs.Driving.{IsRefusal, IsStepRefusal}
 

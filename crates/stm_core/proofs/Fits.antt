@@ -15,7 +15,7 @@ use Rattle.stm_core.specs.declared.next_step.NextStep.{NextStep}
 use Rattle.stm_core.specs.declared.next_step.NextStep.TheVariants as next_step
 use Rattle.stm_core.specs.declared.next_step.StepKind.{StepKind}
 use Rattle.stm_core.specs.declared.next_step.StepKind.TheVariants as kinds
-use Rattle.stm_core.proofs.Turns.{LeavesTask}
+use Rattle.stm_core.proofs.TaskChanges.{LeavesTask}
 use Rattle.stm_core.specs.Driving.{FitsTask, HasNoAnswers, IsRunOf}
 
 -- a worker's step is to let a run go on, which may end

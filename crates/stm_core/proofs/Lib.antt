@@ -1,10 +1,10 @@
 pub mod Readied
-pub mod Open
-pub mod Parted
-pub mod Made
-pub mod Handed
+pub mod EntryPlaces
+pub mod StepParts
+pub mod MadeSteps
+pub mod HandedRuns
 pub mod Ended
-pub mod Turns
+pub mod TaskChanges
 pub mod Promises
 pub mod Fits
 pub mod Answered

@@ -24,8 +24,8 @@ use Rattle.stm_state.proofs.Invariant.{Invariant, owned_by}
 use Rattle.stm_state.proofs.Writes.{entries_found}
 use Rattle.stm_core.specs.CoreState.{is_due}
 use Rattle.stm_core.specs.Inner.{AreOpen, IsGrown, IsPromised, KeepsPromises, unpublished, with_write, writes_at}
-use Rattle.stm_core.proofs.Open.{open_grown}
-use Rattle.stm_core.proofs.Turns.{KeepsLasts, LeavesTask, Turn, has_moved, has_recorded, moved_by}
+use Rattle.stm_core.proofs.EntryPlaces.{open_grown}
+use Rattle.stm_core.proofs.TaskChanges.{KeepsLasts, LeavesTask, Turn, has_moved, has_recorded, moved_by}
 
 -- ---- sums
 

@@ -7,8 +7,8 @@ use Rattle.stm_state.specs.declared.state.Task.TheVariants.{Running}
 use Rattle.stm_state.specs.State.{State}
 use Rattle.stm_state.specs.Steps.{Limit, ArenaFull, IncarnationLimit}
 use Rattle.stm_state.specs.Drive.{DriveRefusal, NotDone, BadWorker, Limited}
-use Rattle.stm_core.specs.declared.engine.DriveFault.{DriveFault}
-use Rattle.stm_core.specs.declared.engine.DriveFault.TheVariants as fault
+use Rattle.stm_core.specs.declared.driving.DriveFault.{DriveFault}
+use Rattle.stm_core.specs.declared.driving.DriveFault.TheVariants as fault
 
 -- what a list comes to, by its refusal; where memory ran out nothing is said of it
 abbrev pub IsRefusal : DriveFault → Result State DriveRefusal → Type 0

@@ -1,8 +1,8 @@
 -- What a refusal prints.
 use Rattle.std.specs.Prelude.{List, ℕ, ◌++◌, codes}
 use Rattle.std.specs.Fmt.{decimal}
-use Rattle.stm_core.specs.declared.engine.DriveFault.{DriveFault}
-use Rattle.stm_core.specs.declared.engine.DriveFault.TheVariants.{NotDone, BadWorker, ArenaFull, IncarnationLimit, Memory}
+use Rattle.stm_core.specs.declared.driving.DriveFault.{DriveFault}
+use Rattle.stm_core.specs.declared.driving.DriveFault.TheVariants.{NotDone, BadWorker, ArenaFull, IncarnationLimit, Memory}
 use Rattle.stm_core.specs.declared.fault.RecordFault.{RecordFault}
 use Rattle.stm_core.specs.declared.fault.RecordFault.TheVariants as record_fault
 

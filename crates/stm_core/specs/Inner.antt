@@ -24,7 +24,7 @@ use Rattle.stm_state.specs.Done.{Reached, block_of}
 use Rattle.scheduler.specs.Schedule.{Schedule, state_of}
 use Rattle.stm_core.specs.CoreState.{CoreState, PassedRoom, ValueRoom}
 use Rattle.stm_core.specs.declared.passed_lists.PassedLists.{PassedLists}
-use Rattle.stm_core.specs.declared.value_rooms.ValueRooms.{ValueRooms}
+use Rattle.stm_core.specs.declared.value_lists.ValueLists.{ValueLists}
 
 -- a call has a place at the key of each write
 abbrev pub AreOpen : FinSet place_cmp → ℕ → List (List ℕ × ContentChange) → Type 0
@@ -88,7 +88,7 @@ abbrev pub room_of : PassedLists → PassedRoom
 room_of lists = record { kept = vec_capacity lists.kept; lent = vec_capacity lists.lent }
 
 -- how long a value two lists have room for
-abbrev pub value_room_of : ValueRooms → ValueRoom
+abbrev pub value_room_of : ValueLists → ValueRoom
 value_room_of lists = record { kept = vec_capacity lists.kept; lent = vec_capacity lists.lent }
 
 -- some list of worker steps leads to the state, each version has a place, and the promises are kept

@@ -2,7 +2,7 @@
 //! along a list of worker numbers.
 #![tactic(auto)]
 
-mod engine;
+mod driving;
 mod fault;
 mod job_source;
 mod next_step;
@@ -15,10 +15,10 @@ mod ready_record;
 mod recording;
 mod same;
 mod state;
-mod value_rooms;
+mod value_lists;
 mod versions;
 
-pub use engine::{DriveFault, WORKER_LIMIT, drive};
+pub use driving::{DriveFault, WORKER_LIMIT, drive};
 pub use fault::{IncarnationLimit, RecordFault, Refused};
 pub use job_source::{JobSource, LentJob};
 pub use next_step::{AskResult, NextStep, ReadResult, StepKind};

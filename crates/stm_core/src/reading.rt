@@ -19,7 +19,7 @@ ghost use Rattle.stm_core.specs.Inner.{room_of, value_room_of};
 
 use crate::next_step::{NextStep, ReadResult, StepKind};
 use crate::passed_lists::{PassedLists, larger, replace};
-use crate::value_rooms::{ReadContents, ValueRooms};
+use crate::value_lists::{ReadContents, ValueLists};
 use mvmap::{LentAnswer, MvMap};
 use read_set::Version;
 use rv_ledger::{Key, VALUE_LIMIT};
@@ -150,7 +150,7 @@ pub(crate) fn make_read_room(
     worker: usize,
     spare: &mut Vec<StorageAnswer>,
     lists: &mut PassedLists,
-    values: &mut ValueRooms,
+    values: &mut ValueLists,
 ) -> Result<(), AllocError>
     requires { worker < length scheduler.old.tasks }
     ensures room { OnOk result (1 ≤ get_or scheduler.new.rooms worker 0) }
@@ -184,7 +184,7 @@ pub(crate) fn has_read_room(
     scheduler: &Scheduler,
     worker: usize,
     lists: &PassedLists,
-    values: &ValueRooms,
+    values: &ValueLists,
 ) -> bool
     requires { worker < length scheduler.now.tasks }
     ensures answer { IsTrue result → 1 ≤ get_or scheduler.now.rooms worker 0 }
@@ -214,7 +214,7 @@ pub(crate) fn read_at(
     map: &MvMap,
     scheduler: &mut Scheduler,
     lists: &mut PassedLists,
-    values: &mut ValueRooms,
+    values: &mut ValueLists,
     worker: usize,
     call: u16,
     key: &Key,

@@ -14,7 +14,7 @@ use crate::reading::{has_read_room, make_read_room, next_step_of, read_at};
 use crate::reads::next_stands;
 use crate::ready_record::{ReadyRecord, reads_made};
 use crate::recording::{SpentRun, check_limits, has_own_answers, is_run_of, record_run};
-use crate::value_rooms::ValueRooms;
+use crate::value_lists::ValueLists;
 use crate::versions::{mark_key, move_key};
 use mvmap::MvMap;
 use rv_ledger::{Counts, Job, Key, StoredValue};
@@ -37,7 +37,7 @@ pub struct Core<H: JobSource = Job> {
     /// The lists of the versions that a read passes.
     passed: PassedLists,
     /// The lists of the bytes of a value that a read finds.
-    values: ValueRooms,
+    values: ValueLists,
     /// A list that takes the place of a run's answers while room is made for one more.
     spare_answers: Vec<StorageAnswer>,
     pub(crate) job: H,
@@ -96,7 +96,7 @@ impl<H: JobSource> Core<H> {
                 promised: 0,
                 spare_answers: Vec::new(alloc),
                 passed: PassedLists::new(alloc),
-                values: ValueRooms::new(alloc),
+                values: ValueLists::new(alloc),
             }),
             Err(AllocError) => Err(map.into_arena()),
         }

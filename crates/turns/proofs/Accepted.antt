@@ -8,19 +8,19 @@ use Rattle.block_file.specs.declared.block_text.CallLine.{CallLine}
 use Rattle.std.specs.Result.{result_map_both}
 use Rattle.elf32.specs.Layout.{Layout}
 use Rattle.turns.specs.Programs.{before}
-use Rattle.turns.specs.declared.refusal.Refusal.{Refusal}
+use Rattle.turns.specs.declared.refusal.FrameRefusal.{FrameRefusal}
 
 -- programs behind others, or the first refusal
-abbrev pub behind : List Layout → Result (List Layout) Refusal → Result (List Layout) Refusal
+abbrev pub behind : List Layout → Result (List Layout) FrameRefusal → Result (List Layout) FrameRefusal
 behind images rest = result_map_both (λ more. images ++ more) (λ refusal. refusal) rest
 
 -- none yet
-pub behind_none : (rest : Result (List Layout) Refusal) → rest ≡ behind [] rest
+pub behind_none : (rest : Result (List Layout) FrameRefusal) → rest ≡ behind [] rest
 behind_none (Ok more) = refl
 behind_none (Err refusal) = refl
 
 -- one more
-pub behind_next : (images : List Layout) (image : Layout) (rest : Result (List Layout) Refusal) → behind images (before (Ok image) rest) ≡ behind (images ++ image ∷ []) rest
+pub behind_next : (images : List Layout) (image : Layout) (rest : Result (List Layout) FrameRefusal) → behind images (before (Ok image) rest) ≡ behind (images ++ image ∷ []) rest
 behind_next images image (Ok more) = ap Ok (sym (append_assoc images (image ∷ []) more))
 behind_next images image (Err refusal) = refl
 

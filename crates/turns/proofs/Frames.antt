@@ -21,8 +21,8 @@ use Rattle.turns.specs.declared.pending.Pending.TheVariants as pending
 use Rattle.turns.specs.declared.pending.PendingRun.{PendingRun}
 use Rattle.turns.specs.declared.refusal.Failure.{Failure}
 use Rattle.turns.specs.declared.refusal.Failure.TheVariants as want
-use Rattle.turns.specs.declared.refusal.Refusal.{Refusal}
-use Rattle.turns.specs.declared.refusal.Refusal.TheVariants.{Block, NoProgram, OlderRules, TooHigh, TooLong, TooMuchGas}
+use Rattle.turns.specs.declared.refusal.FrameRefusal.{FrameRefusal}
+use Rattle.turns.specs.declared.refusal.FrameRefusal.TheVariants.{Block, NoProgram, OlderRules, TooHigh, TooLong, TooMuchGas}
 use Rattle.turns.specs.declared.run.Left.{Left}
 use Rattle.turns.specs.declared.settings.Settings.{Settings}
 use Rattle.turns.specs.declared.stages.AcceptedFrame.{AcceptedFrame}
@@ -39,17 +39,17 @@ fails_weaker P Q (Err (stop.Failed f)) h p = h f p
 fails_weaker P Q (Err (stop.Refused r)) h p = tt
 
 -- memory may run out whatever is wanted
-pub answers_failed : {A X : Type 0} (is : A → X → Type 0) (wanted : Result A Refusal) (f : Failure) → Answers is wanted (Err (stop.Failed f))
+pub answers_failed : {A X : Type 0} (is : A → X → Type 0) (wanted : Result A FrameRefusal) (f : Failure) → Answers is wanted (Err (stop.Failed f))
 answers_failed is (Ok w) f = tt
 answers_failed is (Err w) f = tt
 
 -- ---- the text
 
-text_is : (b : Bool) (text : Result BlockValue BlockFault) (block : BlockValue) (f : BlockValue → Result Accepted Refusal) → b ≡ false → text ≡ Ok block → unless b TooLong (result_map_both (λ x. x) Block text >>= f) ≡ f block
+text_is : (b : Bool) (text : Result BlockValue BlockFault) (block : BlockValue) (f : BlockValue → Result Accepted FrameRefusal) → b ≡ false → text ≡ Ok block → unless b TooLong (result_map_both (λ x. x) Block text >>= f) ≡ f block
 text_is false text block f short is = ap (λ (t : Result BlockValue BlockFault). result_map_both (λ x. x) Block t >>= f) is
 text_is true text block f short is = cc
 
-text_stops : (b : Bool) (text : Result BlockValue BlockFault) (f : BlockValue → Result Accepted Refusal) (why : Stop) → b ≡ false → StopsAt text why → Answers IsAccepted (unless b TooLong (result_map_both (λ x. x) Block text >>= f)) (Err why)
+text_stops : (b : Bool) (text : Result BlockValue BlockFault) (f : BlockValue → Result Accepted FrameRefusal) (why : Stop) → b ≡ false → StopsAt text why → Answers IsAccepted (unless b TooLong (result_map_both (λ x. x) Block text >>= f)) (Err why)
 text_stops true text f why short is = cc
 text_stops false text f (stop.Failed failure) short is = answers_failed IsAccepted (result_map_both (λ x. x) Block text >>= f) failure
 text_stops false (Err fault) f (stop.Refused refusal) short is = is
@@ -63,12 +63,12 @@ accepted_is settings s bytes block short is =
 -- behind a text that was read
 pub says_block : (settings : Settings) (s : State) (bytes : List ℕ) (block : BlockValue) (given : Result AcceptedFrame Stop) → length bytes ≤ settings.frame_limit → block_of bytes ≡ Ok block
     → Answers IsAccepted (accepted_block settings s block) given → Answers IsAccepted (accepted settings s bytes) given
-says_block settings s bytes block given short is says = subst (λ (r : Result Accepted Refusal). Answers IsAccepted r given) (sym (accepted_is settings s bytes block short is)) says
+says_block settings s bytes block given short is says = subst (λ (r : Result Accepted FrameRefusal). Answers IsAccepted r given) (sym (accepted_is settings s bytes block short is)) says
 
 pub fails_block : (settings : Settings) (s : State) (bytes : List ℕ) (block : BlockValue) (given : Result AcceptedFrame Stop) → length bytes ≤ settings.frame_limit → block_of bytes ≡ Ok block
     → FailsOnlyWhere (λ failure. (failure ≡ want.Program) × IfErr (accepted_block settings s block) (λ refusal. refusal ≡ NoProgram)) given → FailsOnlyWhere (MayFailFrame settings s bytes) given
 fails_block settings s bytes block given short is fails = fails_weaker _ (MayFailFrame settings s bytes) given
-    (λ f p. subst (MayFailFrame settings s bytes) (sym p.0) (subst (λ (r : Result Accepted Refusal). IfErr r (λ refusal. refusal ≡ NoProgram)) (sym (accepted_is settings s bytes block short is)) p.1)) fails
+    (λ f p. subst (MayFailFrame settings s bytes) (sym p.0) (subst (λ (r : Result Accepted FrameRefusal). IfErr r (λ refusal. refusal ≡ NoProgram)) (sym (accepted_is settings s bytes block short is)) p.1)) fails
 
 -- where it was not read
 pub says_stopped : (settings : Settings) (s : State) (bytes : List ℕ) (why : Stop) → length bytes ≤ settings.frame_limit → StopsAt (block_of bytes) why → Answers IsAccepted (accepted settings s bytes) (Err why)
@@ -85,7 +85,7 @@ fails_stopped settings s bytes (stop.Failed failure) short is =
 -- ---- the programs
 
 -- a program that is not here is the only fault of programs
-before_refuses : (first : Result Layout Refusal) (rest : Result (List Layout) Refusal) → IfErr first (λ r. r ≡ NoProgram) → IfErr rest (λ r. r ≡ NoProgram) → IfErr (before first rest) (λ r. r ≡ NoProgram)
+before_refuses : (first : Result Layout FrameRefusal) (rest : Result (List Layout) FrameRefusal) → IfErr first (λ r. r ≡ NoProgram) → IfErr rest (λ r. r ≡ NoProgram) → IfErr (before first rest) (λ r. r ≡ NoProgram)
 before_refuses (Err r) rest p q = p
 before_refuses (Ok image) (Err r) p q = q
 before_refuses (Ok image) (Ok images) p q = tt
@@ -97,11 +97,11 @@ programs_refuse : (programs : ProgramsByName) (paths : List (List ℕ)) → IfEr
 programs_refuse programs [] = tt
 programs_refuse programs (path ∷ paths) = before_refuses (program_named programs path) (programs_of programs paths) (named_refuses programs path) (programs_refuse programs paths)
 
-map_refuses : (block : BlockValue) (images : Result (List Layout) Refusal) → IfErr images (λ r. r ≡ NoProgram) → IfErr {T = Accepted} (result_map_both (λ images. record { block = block; images = images }) (λ refusal. refusal) images) (λ r. r ≡ NoProgram)
+map_refuses : (block : BlockValue) (images : Result (List Layout) FrameRefusal) → IfErr images (λ r. r ≡ NoProgram) → IfErr {T = Accepted} (result_map_both (λ images. record { block = block; images = images }) (λ refusal. refusal) images) (λ r. r ≡ NoProgram)
 map_refuses block (Ok images) h = tt
 map_refuses block (Err r) h = h
 
-tests_refuse : (a b : Bool) (rest : Result Accepted Refusal) → a ≡ false → b ≡ false → IfErr rest (λ r. r ≡ NoProgram) → IfErr (unless a TooMuchGas (unless b OlderRules rest)) (λ r. r ≡ NoProgram)
+tests_refuse : (a b : Bool) (rest : Result Accepted FrameRefusal) → a ≡ false → b ≡ false → IfErr rest (λ r. r ≡ NoProgram) → IfErr (unless a TooMuchGas (unless b OlderRules rest)) (λ r. r ≡ NoProgram)
 tests_refuse false false rest p q h = h
 tests_refuse true b rest p q h = cc
 tests_refuse false true rest p q h = cc
@@ -122,15 +122,15 @@ fails_programs settings s block why gas rules (inr p) = subst
 abbrev pub Ran : Type 0
 Ran = Vec ℕ Global × Rules × Left
 
-accepted_ok : (wanted : Result Accepted Refusal) (frame : AcceptedFrame) → Answers IsAccepted wanted (Ok frame) → IsOk wanted
+accepted_ok : (wanted : Result Accepted FrameRefusal) (frame : AcceptedFrame) → Answers IsAccepted wanted (Ok frame) → IsOk wanted
 accepted_ok (Ok w) frame is = refl
 accepted_ok (Err r) frame is = absurd is
 
-ran_ok : (settings : Settings) (s : State) (wanted : Result Accepted Refusal) (ran : Ran) → Answers (IsRan settings s) wanted (Ok ran) → IsOk wanted
+ran_ok : (settings : Settings) (s : State) (wanted : Result Accepted FrameRefusal) (ran : Ran) → Answers (IsRan settings s) wanted (Ok ran) → IsOk wanted
 ran_ok settings s (Ok w) ran is = refl
 ran_ok settings s (Err r) ran is = absurd is
 
-pub ran_answers : (settings : Settings) (s : State) (wanted : Result Accepted Refusal) (frame : AcceptedFrame) (ran : Ran) → Answers IsAccepted wanted (Ok frame) → IsRan settings s (accepted_value frame) ran → Answers (IsRan settings s) wanted (Ok ran)
+pub ran_answers : (settings : Settings) (s : State) (wanted : Result Accepted FrameRefusal) (frame : AcceptedFrame) (ran : Ran) → Answers IsAccepted wanted (Ok frame) → IsRan settings s (accepted_value frame) ran → Answers (IsRan settings s) wanted (Ok ran)
 ran_answers settings s (Err r) frame ran is done = absurd is
 ran_answers settings s (Ok w) frame ran is done =
     let same : accepted_value frame ≡ w = λ j. record { block = is.0 j; images = is.1 j } in
@@ -152,7 +152,7 @@ turn_is settings s bytes low =
     by_test false x y e = refl
     by_test true x y e = cc
 
-answer_kept : (settings : Settings) (s : State) (wanted : Result Accepted Refusal) (ran : Ran) → Answers (IsRan settings s) wanted (Ok ran) → counted (record s { store = left_of s.store ran.2; rules = ran.1 }) (done_answer ran.0.items) ≡ frame_answer settings s wanted
+answer_kept : (settings : Settings) (s : State) (wanted : Result Accepted FrameRefusal) (ran : Ran) → Answers (IsRan settings s) wanted (Ok ran) → counted (record s { store = left_of s.store ran.2; rules = ran.1 }) (done_answer ran.0.items) ≡ frame_answer settings s wanted
 answer_kept settings s (Ok w) ran is = λ j. counted (record s { store = is.2 j; rules = is.1 j }) (done_answer (is.0 j))
 answer_kept settings s (Err r) ran is = absurd is
 
@@ -169,9 +169,9 @@ frame_kept settings s bytes ran low is = record {
 none_ran : (P : Type 0) → IsSome {T = PendingRun} None → P
 none_ran P some = cc
 
-stop_refused : (settings : Settings) (s : State) (wanted : Result Accepted Refusal) (refusal : Refusal) → Answers (IsRan settings s) wanted (Err (stop.Refused refusal)) → counted s (refused_answer refusal) ≡ frame_answer settings s wanted
+stop_refused : (settings : Settings) (s : State) (wanted : Result Accepted FrameRefusal) (refusal : FrameRefusal) → Answers (IsRan settings s) wanted (Err (stop.Refused refusal)) → counted s (refused_answer refusal) ≡ frame_answer settings s wanted
 stop_refused settings s (Ok w) refusal is = absurd is
-stop_refused settings s (Err r) refusal is = ap (λ (x : Refusal). counted s (refused_answer x)) is
+stop_refused settings s (Err r) refusal is = ap (λ (x : FrameRefusal). counted s (refused_answer x)) is
 
 -- one that stopped before is refused, or fails
 pub frame_stopped : (settings : Settings) (s : State) (bytes : List ℕ) (why : Stop) → s.height < 9999999999 → Answers (IsRan settings s) (accepted settings s bytes) (Err why)

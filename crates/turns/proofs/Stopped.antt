@@ -11,7 +11,7 @@ use Rattle.turns.specs.Stages.{IsAnswered, StopsAt, stopped_answer}
 use Rattle.turns.specs.Turn.{Turn, ◌>>=◌, agree, begin_turn, begun_with, is_dump, unless}
 use Rattle.turns.specs.declared.pending.Pending.TheVariants as pending
 use Rattle.turns.specs.declared.refusal.Failure.TheVariants as want
-use Rattle.turns.specs.declared.refusal.Refusal.TheVariants.{Block, NotADump, OtherDigest}
+use Rattle.turns.specs.declared.refusal.FrameRefusal.TheVariants.{Block, NotADump, OtherDigest}
 use Rattle.turns.specs.declared.settings.Settings.{Settings}
 use Rattle.turns.specs.declared.stages.Stop.{Stop}
 use Rattle.turns.specs.declared.stages.Stop.TheVariants as stop

@@ -5,8 +5,8 @@ use Rattle.turns.specs.Turn.{accepted, program_turn, turn}
 use Rattle.turns.specs.Replies.{Failed, Refused, answer_text}
 use Rattle.turns.specs.declared.refusal.Failure.{Failure}
 use Rattle.turns.specs.declared.refusal.Failure.TheVariants as want
-use Rattle.turns.specs.declared.refusal.Refusal.{Refusal}
-use Rattle.turns.specs.declared.refusal.Refusal.TheVariants.{NoProgram}
+use Rattle.turns.specs.declared.refusal.FrameRefusal.{FrameRefusal}
+use Rattle.turns.specs.declared.refusal.FrameRefusal.TheVariants.{NoProgram}
 use Rattle.turns.specs.declared.settings.Settings.{Settings}
 use Rattle.turns.specs.declared.state.State.{State}
 
@@ -22,7 +22,7 @@ abbrev pub MayFail : Settings → State → Ask → Failure → Type 0
 MayFail settings s (Frame bytes) failure = (s.height < 9999999999) × MayFailFrame settings s bytes failure
 MayFail settings s (Try bytes) failure = (s.height < 9999999999) × MayFailFrame settings s bytes failure
 MayFail settings s (Program file) want.Program = nat_lt 131072 (length file) ≡ false
-MayFail settings s (Program file) want.Answer = (refusal : Refusal) → (program_turn s file).reply ≢ Refused refusal
+MayFail settings s (Program file) want.Answer = (refusal : FrameRefusal) → (program_turn s file).reply ≢ Refused refusal
 MayFail settings s (Begin height digest bytes) want.Block = ⊤
 MayFail settings s Programs want.Answer = ⊤
 MayFail settings s (Get key) want.Answer = ⊤

@@ -21,7 +21,7 @@ use Rattle.turns.specs.declared.pending.PendingFrame.{PendingFrame}
 use Rattle.turns.specs.declared.pending.PendingRun.{PendingRun}
 use Rattle.turns.specs.declared.refusal.Failure.{Failure}
 use Rattle.turns.specs.declared.refusal.Failure.TheVariants as want
-use Rattle.turns.specs.declared.refusal.Refusal.TheVariants.{TooHigh, TooLong}
+use Rattle.turns.specs.declared.refusal.FrameRefusal.TheVariants.{TooHigh, TooLong}
 use Rattle.turns.specs.declared.room.Room.{Room}
 use Rattle.turns.specs.declared.run.Left.{Left}
 use Rattle.turns.specs.declared.run.Left.TheVariants as left

@@ -6,8 +6,8 @@ use Rattle.std.specs.Result.{result_map_both, result_ok}
 use Rattle.block_file.specs.Line.{key_of}
 use Rattle.elf32.specs.Layout.{Layout}
 use Rattle.rv_ledger.specs.Key.{key_cmp}
-use Rattle.turns.specs.declared.refusal.Refusal.{Refusal}
-use Rattle.turns.specs.declared.refusal.Refusal.TheVariants.{NoProgram}
+use Rattle.turns.specs.declared.refusal.FrameRefusal.{FrameRefusal}
+use Rattle.turns.specs.declared.refusal.FrameRefusal.TheVariants.{NoProgram}
 
 -- programs by their names, which are 32 bytes
 abbrev pub ProgramsByName : Type 0
@@ -18,15 +18,15 @@ abbrev pub program_by : ProgramsByName → Option (List ℕ) → Option Layout
 program_by programs None = None
 program_by programs (Some name) = get programs name
 
-abbrev pub program_named : ProgramsByName → List ℕ → Result Layout Refusal
+abbrev pub program_named : ProgramsByName → List ℕ → Result Layout FrameRefusal
 program_named programs path = ok_or (program_by programs (result_ok (key_of path))) NoProgram
 
 -- a program before others, or the first refusal
-abbrev pub before : Result Layout Refusal → Result (List Layout) Refusal → Result (List Layout) Refusal
+abbrev pub before : Result Layout FrameRefusal → Result (List Layout) FrameRefusal → Result (List Layout) FrameRefusal
 before (Err refusal) rest = Err refusal
 before (Ok image) rest = result_map_both (λ images. image ∷ images) (λ refusal. refusal) rest
 
 -- the programs of a frame, or the refusal of the first name that is none of a program that is here
-abbrev pub programs_of : ProgramsByName → List (List ℕ) → Result (List Layout) Refusal
+abbrev pub programs_of : ProgramsByName → List (List ℕ) → Result (List Layout) FrameRefusal
 programs_of programs [] = Ok []
 programs_of programs (path ∷ paths) = before (program_named programs path) (programs_of programs paths)

@@ -5,19 +5,19 @@ use Rattle.byte_streams.specs.Refusals.{Parts, line_text, without_line}
 use Rattle.block_file.specs.Faults as block
 use Rattle.elf32.specs.Refusals as elf
 use Rattle.turns.specs.declared.kept.KeptAnswer.{KeptAnswer}
-use Rattle.turns.specs.declared.refusal.Refusal.{Refusal}
-use Rattle.turns.specs.declared.refusal.Refusal.TheVariants.{Block, Elf, FileTooLong, OlderRules, NoProgram, TooLong, TooMuchGas, NotADump, NoFrame, OtherDigest, TooHigh}
+use Rattle.turns.specs.declared.refusal.FrameRefusal.{FrameRefusal}
+use Rattle.turns.specs.declared.refusal.FrameRefusal.TheVariants.{Block, Elf, FileTooLong, OlderRules, NoProgram, TooLong, TooMuchGas, NotADump, NoFrame, OtherDigest, TooHigh}
 use Rattle.turns.specs.declared.refusal.Failure.{Failure}
 use Rattle.turns.specs.declared.refusal.Failure.TheVariants as want
 
 -- a request is done, and these are the bytes of its answer; or it is refused; or this machine failed
 pub data Reply : Type 0 where
   Done : List ℕ → Reply
-  Refused : Refusal → Reply
+  Refused : FrameRefusal → Reply
   Failed : Failure → Reply
 
 -- the parts of what a refusal prints
-abbrev pub parts_of : Refusal → Parts
+abbrev pub parts_of : FrameRefusal → Parts
 parts_of (Block fault) = record { area = codes "block"; line = Some fault.line; name = block.name_of fault.cause; number = block.number_of fault.cause }
 parts_of (Elf fault) = without_line (codes "elf") (elf.name_of fault) (elf.number_of fault)
 parts_of FileTooLong = without_line (codes "file") (codes "TooLong") 3
@@ -56,10 +56,10 @@ answer_text reply = answer_line reply ++ answer_bytes reply
 abbrev pub done_answer : List ℕ → KeptAnswer
 done_answer bytes = record { refusal = None; bytes = bytes }
 
-abbrev pub refused_answer : Refusal → KeptAnswer
+abbrev pub refused_answer : FrameRefusal → KeptAnswer
 refused_answer refusal = record { refusal = Some refusal; bytes = [] }
 
-abbrev pub refused_or_done : Option Refusal → List ℕ → Reply
+abbrev pub refused_or_done : Option FrameRefusal → List ℕ → Reply
 refused_or_done None bytes = Done bytes
 refused_or_done (Some refusal) bytes = Refused refusal
 

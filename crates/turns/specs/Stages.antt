@@ -29,8 +29,8 @@ use Rattle.turns.specs.declared.answer.Answer.{Answer}
 use Rattle.turns.specs.declared.answer.Answer.TheVariants as answer
 use Rattle.turns.specs.declared.refusal.Failure.{Failure}
 use Rattle.turns.specs.declared.refusal.Failure.TheVariants as failure
-use Rattle.turns.specs.declared.refusal.Refusal.{Refusal}
-use Rattle.turns.specs.declared.refusal.Refusal.TheVariants as refusal
+use Rattle.turns.specs.declared.refusal.FrameRefusal.{FrameRefusal}
+use Rattle.turns.specs.declared.refusal.FrameRefusal.TheVariants as refusal
 use Rattle.turns.specs.declared.run.Left.{Left}
 use Rattle.turns.specs.declared.run.Left.TheVariants as left
 use Rattle.turns.specs.declared.settings.Settings.{Settings}
@@ -61,7 +61,7 @@ stopped_answer (stop.Refused why) = answer.Refused why
 stopped_answer (stop.Failed want) = answer.Failed want
 
 -- a stage gave what is wanted, or its refusal; or memory ran out
-abbrev pub Answers : {A X : Type 0} → (A → X → Type 0) → Result A Refusal → Result X Stop → Type 0
+abbrev pub Answers : {A X : Type 0} → (A → X → Type 0) → Result A FrameRefusal → Result X Stop → Type 0
 Answers is (Ok wanted) (Ok given) = is wanted given
 Answers is (Err refusal) (Ok given) = ⊥
 Answers is wanted (Err (stop.Failed failure)) = ⊤

@@ -18,8 +18,8 @@ use Rattle.turns.specs.Telling.{content_line, dump_text, listed, names_text, rul
 use Rattle.programs.specs.Programs.{calls_over}
 use Rattle.turns.specs.Programs.{programs_of}
 use Rattle.turns.specs.declared.kept.KeptAnswer.{KeptAnswer}
-use Rattle.turns.specs.declared.refusal.Refusal.{Refusal}
-use Rattle.turns.specs.declared.refusal.Refusal.TheVariants.{Block, Elf, FileTooLong, OlderRules, NoProgram, TooLong, TooMuchGas, NotADump, NoFrame, OtherDigest, TooHigh}
+use Rattle.turns.specs.declared.refusal.FrameRefusal.{FrameRefusal}
+use Rattle.turns.specs.declared.refusal.FrameRefusal.TheVariants.{Block, Elf, FileTooLong, OlderRules, NoProgram, TooLong, TooMuchGas, NotADump, NoFrame, OtherDigest, TooHigh}
 use Rattle.turns.specs.declared.settings.Settings.{Settings}
 use Rattle.turns.specs.declared.state.State.{State}
 
@@ -60,11 +60,11 @@ is_above (Some most) gas = nat_lt most gas
 
 -- the second step, where the first gave a value, else its refusal
 infixl 10 ◌>>=◌
-abbrev pub ◌>>=◌ : {A B : Type 0} → Result A Refusal → (A → Result B Refusal) → Result B Refusal
+abbrev pub ◌>>=◌ : {A B : Type 0} → Result A FrameRefusal → (A → Result B FrameRefusal) → Result B FrameRefusal
 (Ok x) >>= f = f x
 (Err refusal) >>= f = Err refusal
 
-abbrev pub unless : Bool → Refusal → {A : Type 0} → Result A Refusal → Result A Refusal
+abbrev pub unless : Bool → FrameRefusal → {A : Type 0} → Result A FrameRefusal → Result A FrameRefusal
 unless holds refusal rest = if holds then Err refusal else rest
 
 -- a frame's block over the programs that it names, or its first fault: its text, the gas of its calls, its rules, its programs
@@ -72,13 +72,13 @@ pub record Accepted : Type 0 where
   pub block : BlockValue
   pub images : List Layout
 
-abbrev pub accepted_block : Settings → State → BlockValue → Result Accepted Refusal
+abbrev pub accepted_block : Settings → State → BlockValue → Result Accepted FrameRefusal
 accepted_block settings s block =
     unless (is_above settings.frame_gas (gas_of block)) TooMuchGas (
     unless (nat_lt (rules_number block.rules) (rules_number s.rules)) OlderRules (
     result_map_both (λ images. record { block = block; images = images }) (λ refusal. refusal) (programs_of s.programs block.programs)))
 
-abbrev pub accepted : Settings → State → List ℕ → Result Accepted Refusal
+abbrev pub accepted : Settings → State → List ℕ → Result Accepted FrameRefusal
 accepted settings s bytes =
     unless (nat_lt settings.frame_limit (length bytes)) TooLong (
     result_map_both (λ block. block) Block (block_of bytes) >>= accepted_block settings s)
@@ -108,12 +108,12 @@ counted s answer = record {
   after = record s { height = s.height + 1; digest = next_digest s.digest (kept_reply answer); last = Some answer };
 }
 
-abbrev pub frame_answer : Settings → State → Result Accepted Refusal → Turn
+abbrev pub frame_answer : Settings → State → Result Accepted FrameRefusal → Turn
 frame_answer settings s (Err refusal) = counted s (refused_answer refusal)
 frame_answer settings s (Ok frame) = counted (after_run s frame) (receipts_answer settings s frame)
 
 -- a frame that is refused for what is known of it before its text
-abbrev pub refused_frame : State → Refusal → Turn
+abbrev pub refused_frame : State → FrameRefusal → Turn
 refused_frame s refusal = if nat_le 9999999999 s.height then told s (Refused TooHigh) else counted s (refused_answer refusal)
 
 -- at the greatest height no frame is run, and none counts
@@ -128,10 +128,10 @@ try_turn settings s bytes = told s (frame_turn settings s bytes).reply
 -- ---- other requests
 
 -- a program's file has at most 131,072 bytes; its name is its SHA-256
-abbrev pub program_of_file : List ℕ → Result Layout Refusal
+abbrev pub program_of_file : List ℕ → Result Layout FrameRefusal
 program_of_file file = result_map_both (λ image. image) Elf (image_of file)
 
-abbrev pub with_program : State → List ℕ → Result Layout Refusal → Turn
+abbrev pub with_program : State → List ℕ → Result Layout FrameRefusal → Turn
 with_program s name (Err refusal) = told s (Refused refusal)
 with_program s name (Ok image) = record { reply = Done (names_text (name ∷ [])); after = record s { programs = fin.insert s.programs name image } }
 
@@ -162,7 +162,7 @@ agree None None = true
 agree (Some one) (Some other) = true
 agree one other = false
 
-abbrev pub begun_with : State → ℕ → Option (List ℕ) → Result BlockValue Refusal → Turn
+abbrev pub begun_with : State → ℕ → Option (List ℕ) → Result BlockValue FrameRefusal → Turn
 begun_with s height digest (Err refusal) = told s (Refused refusal)
 begun_with s height digest (Ok block) = record {
   reply = Done [];

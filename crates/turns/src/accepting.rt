@@ -13,7 +13,7 @@ ghost use Rattle.turns.specs.Telling.{rules_number};
 ghost use Rattle.turns.specs.Turn.{accepted, accepted_block, is_above};
 
 use crate::program_table::ProgramTable;
-use crate::refusal::{Failure, Refusal};
+use crate::refusal::{Failure, FrameRefusal};
 use crate::settings::Settings;
 use crate::stages::{AcceptedFrame, Stop};
 use crate::state::State;
@@ -36,7 +36,7 @@ pub(crate) fn accepted(
     ensures fails { FailsOnlyWhere (MayFailFrame settings state.now bytes.now) result }
 {
     if bytes.len() as u64 > settings.frame_limit {
-        return Err(Stop::Refused(Refusal::TooLong));
+        return Err(Stop::Refused(FrameRefusal::TooLong));
     }
     match parsed(alloc, bytes) {
         Ok(block) => accepted_block(alloc, settings, state, block),
@@ -57,7 +57,7 @@ pub(crate) fn parsed(alloc: Global, bytes: &[u8]) -> Result<BlockText, Stop>
                 cause: Cause::Memory,
             },
         ) => Err(Stop::Failed(Failure::Block)),
-        Err(fault) => Err(Stop::Refused(Refusal::Block(fault))),
+        Err(fault) => Err(Stop::Refused(FrameRefusal::Block(fault))),
     }
 }
 
@@ -69,13 +69,13 @@ fn accepted_block(
     block: BlockText,
 ) -> Result<AcceptedFrame, Stop>
     ensures says { Answers IsAccepted (accepted_block settings state.now (block_value block)) result }
-    ensures fails { FailsOnlyWhere (λ failure. (failure ≡ Failure.Program) × IfErr (accepted_block settings state.now (block_value block)) (λ refusal. refusal ≡ Refusal.NoProgram)) result }
+    ensures fails { FailsOnlyWhere (λ failure. (failure ≡ Failure.Program) × IfErr (accepted_block settings state.now (block_value block)) (λ refusal. refusal ≡ FrameRefusal.NoProgram)) result }
 {
     if is_above(settings.frame_gas, gas_of(block.calls.as_slice())) {
-        return Err(Stop::Refused(Refusal::TooMuchGas));
+        return Err(Stop::Refused(FrameRefusal::TooMuchGas));
     }
     if number_of(block.rules) < number_of(state.rules) {
-        return Err(Stop::Refused(Refusal::OlderRules));
+        return Err(Stop::Refused(FrameRefusal::OlderRules));
     }
     match programs_of(alloc, &state.programs, block.programs.as_slice()) {
         Ok(images) => Ok(AcceptedFrame { block, images }),
@@ -120,12 +120,12 @@ fn programs_of(
 ) -> Result<Vec<Arc<Image>>, Stop>
     ensures all { IfOk result (λ images. vec_len images ≡ length names.now) }
     ensures ok { IfOk result (λ images. programs_of programs.now (map string_bytes names.now) ≡ Ok (map arc_value images.items)) }
-    ensures err { IfErr result (λ stop. (stop ≡ Stop.Failed Failure.Program) ⊎ (programs_of programs.now (map string_bytes names.now) ≡ Err Refusal.NoProgram × (stop ≡ Stop.Refused Refusal.NoProgram))) }
+    ensures err { IfErr result (λ stop. (stop ≡ Stop.Failed Failure.Program) ⊎ (programs_of programs.now (map string_bytes names.now) ≡ Err FrameRefusal.NoProgram × (stop ≡ Stop.Refused FrameRefusal.NoProgram))) }
 {
     let mut images = Vec::new(alloc);
     for name in names {
         let Some(image) = program_named(programs, name.as_str().as_bytes()) else {
-            return Err(Stop::Refused(Refusal::NoProgram));
+            return Err(Stop::Refused(FrameRefusal::NoProgram));
         };
         match pushed(&mut images, image) {
             Ok(()) => {}
@@ -137,7 +137,7 @@ fn programs_of(
 
 /// The program that a name of 64 digits names, if it is here.
 fn program_named<'a>(programs: &'a ProgramTable, name: &[u8]) -> Option<&'a Arc<Image>>
-    ensures { program_named programs.now name.now ≡ ok_or (option_map (λ image. arc_value image.now) result) Refusal.NoProgram }
+    ensures { program_named programs.now name.now ≡ ok_or (option_map (λ image. arc_value image.now) result) FrameRefusal.NoProgram }
 {
     match fields::key(name) {
         Ok(name) => programs.get(&name),

@@ -6,7 +6,7 @@ ghost use Rattle.turns.specs.Replies.{Done, Failed, Refused, answer_bytes, answe
 
 use crate::dump::EmptyBuffer;
 use crate::kept::KeptAnswer;
-use crate::refusal::{Failure, Refusal};
+use crate::refusal::{Failure, FrameRefusal};
 use arrayvec::ArrayString;
 use byte_streams::{LINE_ROOM, refusal_line};
 
@@ -20,7 +20,7 @@ pub enum Answer {
     /// It is done, and the answer's bytes are the text of the session's storage, which goes through this buffer.
     Storage(EmptyBuffer),
     /// It is refused.
-    Refused(Refusal),
+    Refused(FrameRefusal),
     /// This machine ran out of memory.
     Failed(Failure),
 }
@@ -40,7 +40,7 @@ pub fn done_line(length: u128) -> AnswerLine
 }
 
 /// The line of a refusal.
-pub fn refused_line(refusal: Refusal) -> AnswerLine
+pub fn refused_line(refusal: FrameRefusal) -> AnswerLine
     ensures { result.bytes ≡ answer_line (Refused refusal) }
 {
     refusal_line("refused ", refusal.parts())

@@ -7,7 +7,7 @@ ghost use Rattle.turns.specs.declared.settings.Settings.{Settings};
 use crate::accepting::parsed;
 use crate::answer::Answer;
 use crate::pending::{Pending, PendingBegin};
-use crate::refusal::Refusal;
+use crate::refusal::FrameRefusal;
 use crate::state::State;
 use block_file::BlockText;
 use std::alloc::Global;
@@ -36,10 +36,10 @@ pub(crate) fn begin(
         calls,
     } = block;
     if !programs.is_empty() || !calls.is_empty() {
-        return Pending::Nothing(Answer::Refused(Refusal::NotADump));
+        return Pending::Nothing(Answer::Refused(FrameRefusal::NotADump));
     }
     if digest.is_none() != state.digest.is_none() {
-        return Pending::Nothing(Answer::Refused(Refusal::OtherDigest));
+        return Pending::Nothing(Answer::Refused(FrameRefusal::OtherDigest));
     }
     Pending::Begin(PendingBegin {
         store,

@@ -13,7 +13,7 @@ use crate::answer::Answer;
 use crate::digest::next_digest;
 use crate::kept::{KeptAnswer, KeptBytes};
 use crate::pending::{Pending, PendingFrame, PendingRun};
-use crate::refusal::{Failure, Refusal};
+use crate::refusal::{Failure, FrameRefusal};
 use crate::run::{Left, run_beside};
 use crate::runner::CallRunner;
 use crate::settings::Settings;
@@ -44,7 +44,7 @@ pub(crate) fn frame<C: CallRunner>(
     ensures due { IsDue state.now (Frame bytes.now) result }
 {
     if state.height >= MOST_HEIGHT {
-        return Pending::Nothing(Answer::Refused(Refusal::TooHigh));
+        return Pending::Nothing(Answer::Refused(FrameRefusal::TooHigh));
     }
     match ran(alloc, runner, settings, state, bytes) {
         Ok(ran) => kept_frame(state, ran),
@@ -64,7 +64,7 @@ pub(crate) fn try_frame<C: CallRunner>(
     ensures { IsAnswered (λ failure. (state.now.height < 9999999999) × MayFailFrame settings state.now bytes.now failure) state.now (try_turn settings state.now bytes.now) result state.now }
 {
     if state.height >= MOST_HEIGHT {
-        return Answer::Refused(Refusal::TooHigh);
+        return Answer::Refused(FrameRefusal::TooHigh);
     }
     match ran(alloc, runner, settings, state, bytes) {
         Ok((text, _, left)) => {
@@ -157,7 +157,7 @@ fn stopped_frame(alloc: Global, state: &State, stop: Stop) -> Pending
 fn counting(
     state: &State,
     run: Option<PendingRun>,
-    refusal: Option<Refusal>,
+    refusal: Option<FrameRefusal>,
     bytes: KeptBytes,
 ) -> Pending
     requires { state.now.height < 9999999999 }
@@ -177,27 +177,32 @@ pub(crate) fn long_frame(alloc: Global, state: &State) -> Pending
     ensures { result ≡ long_frame state.now }
 {
     if state.height >= MOST_HEIGHT {
-        return Pending::Nothing(Answer::Refused(Refusal::TooHigh));
+        return Pending::Nothing(Answer::Refused(FrameRefusal::TooHigh));
     }
-    counting(state, None, Some(Refusal::TooLong), KeptBytes::none(alloc))
+    counting(
+        state,
+        None,
+        Some(FrameRefusal::TooLong),
+        KeptBytes::none(alloc),
+    )
 }
 
 /// Why such a frame is refused that is only tried.
-pub(crate) fn long_try(state: &State) -> Refusal
-    ensures { Refused result ≡ (refused_frame state.now Refusal.TooLong).reply }
+pub(crate) fn long_try(state: &State) -> FrameRefusal
+    ensures { Refused result ≡ (refused_frame state.now FrameRefusal.TooLong).reply }
 {
     if state.height >= MOST_HEIGHT {
-        return Refusal::TooHigh;
+        return FrameRefusal::TooHigh;
     }
-    Refusal::TooLong
+    FrameRefusal::TooLong
 }
 
 /// Answers a frame for whose bytes memory ran out.
 pub(crate) fn unkept_frame(state: &State) -> Answer
-    ensures { result ≡ (if nat_le 9999999999 state.now.height then Answer.Refused Refusal.TooHigh else Answer.Failed Failure.Block) }
+    ensures { result ≡ (if nat_le 9999999999 state.now.height then Answer.Refused FrameRefusal.TooHigh else Answer.Failed Failure.Block) }
 {
     if state.height >= MOST_HEIGHT {
-        return Answer::Refused(Refusal::TooHigh);
+        return Answer::Refused(FrameRefusal::TooHigh);
     }
     Answer::Failed(Failure::Block)
 }

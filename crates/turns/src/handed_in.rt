@@ -15,7 +15,7 @@ ghost use Rattle.turns.specs.declared.settings.Settings.{Settings};
 use crate::answer::Answer;
 use crate::pending::Pending;
 use crate::program_table::ProgramTable;
-use crate::refusal::{Failure, Refusal};
+use crate::refusal::{Failure, FrameRefusal};
 use crate::state::State;
 use crate::texts::finished;
 use byte_streams::Destination;
@@ -35,13 +35,13 @@ pub(crate) fn hand_in(alloc: Global, state: &State, file: &[u8]) -> Pending
     ensures { (settings : Settings) → IsPending settings state.now (Program file.now) result }
 {
     if file.len() > FILE_LIMIT {
-        return Pending::Nothing(Answer::Refused(Refusal::FileTooLong));
+        return Pending::Nothing(Answer::Refused(FrameRefusal::FileTooLong));
     }
     let name = Key::new(Sha256::digest(file));
     let loaded = match loaded(alloc, &state.programs, &name, file) {
         Ok(loaded) => loaded,
         Err(ElfError::Memory) => return Pending::Nothing(Answer::Failed(Failure::Program)),
-        Err(fault) => return Pending::Nothing(Answer::Refused(Refusal::Elf(fault))),
+        Err(fault) => return Pending::Nothing(Answer::Refused(FrameRefusal::Elf(fault))),
     };
     let text = match name_line(alloc, &name) {
         Ok(text) => text,
@@ -79,7 +79,7 @@ pub(crate) fn forget(state: &State, name: Key) -> Pending
 {
     match state.programs.get(&name) {
         Some(_) => Pending::Forget(name),
-        None => Pending::Nothing(Answer::Refused(Refusal::NoProgram)),
+        None => Pending::Nothing(Answer::Refused(FrameRefusal::NoProgram)),
     }
 }
 

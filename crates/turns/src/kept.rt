@@ -1,6 +1,6 @@
 //! The answer that is kept of a frame.
 
-use crate::refusal::Refusal;
+use crate::refusal::FrameRefusal;
 use std::alloc::Global;
 use std::marker::Model;
 
@@ -52,7 +52,7 @@ impl KeptBytes {
 #[derive(Drop)]
 pub struct KeptAnswer {
     /// Why the frame was refused, where it was.
-    pub refusal: Option<Refusal>,
+    pub refusal: Option<FrameRefusal>,
     /// The bytes behind the answer's line; none of a refusal.
     pub bytes: KeptBytes,
 }

@@ -36,7 +36,7 @@ pub use kept::{KeptAnswer, KeptBytes};
 pub use making::{make, take_pending};
 pub use pending::{Pending, PendingBegin, PendingFrame, PendingRun};
 pub use program_table::{ProgramTable, SharedImage};
-pub use refusal::{Failure, Refusal};
+pub use refusal::{Failure, FrameRefusal};
 pub use room::{Room, give_back, make_room};
 pub use run::Left;
 pub use runner::{CallRunner, InOrder};

@@ -6,7 +6,7 @@ use elf32::ElfError;
 /// Why a request is refused. It follows from the requests so far and the settings alone, so each node that got the same
 /// requests tells the same.
 #[derive(Clone, Copy, Debug, PartialEq, Eq)]
-pub enum Refusal {
+pub enum FrameRefusal {
     /// The text of a frame, or of a storage that is to begin with.
     Block(BlockFault),
     /// The bytes of a program.

@@ -4,32 +4,36 @@ ghost use Rattle.std.specs.Prelude.{◌≡◌};
 ghost use Rattle.byte_streams.specs.Refusals.{parts_in};
 ghost use Rattle.turns.specs.Replies.{parts_of, parts_of_failure};
 
-use crate::refusal::{Failure, Refusal};
+use crate::refusal::{Failure, FrameRefusal};
 use byte_streams::LineParts;
 
-impl Refusal {
+impl FrameRefusal {
     /// The parts of what it prints.
     #[tactic(auto, using(crate::proofs::ShortNames::short_cause, crate::proofs::ShortNames::short_elf))]
     pub fn parts(self) -> LineParts
         ensures { parts_in result ≡ parts_of self }
     {
         match self {
-            Refusal::Block(fault) => LineParts {
+            FrameRefusal::Block(fault) => LineParts {
                 area: "block",
                 line: Some(fault.line),
                 name: fault.cause.name(),
                 number: fault.cause.number(),
             },
-            Refusal::Elf(fault) => LineParts::without_line("elf", fault.name(), fault.number()),
-            Refusal::FileTooLong => LineParts::without_line("file", "TooLong", 3),
-            Refusal::OlderRules => LineParts::without_line("frame", "OlderRules", 2),
-            Refusal::NoProgram => LineParts::without_line("frame", "NoProgram", 3),
-            Refusal::TooLong => LineParts::without_line("frame", "TooLong", 4),
-            Refusal::TooMuchGas => LineParts::without_line("frame", "TooMuchGas", 5),
-            Refusal::NotADump => LineParts::without_line("frame", "NotADump", 6),
-            Refusal::NoFrame => LineParts::without_line("frame", "NoFrame", 7),
-            Refusal::OtherDigest => LineParts::without_line("frame", "OtherDigest", 8),
-            Refusal::TooHigh => LineParts::without_line("frame", "TooHigh", 9),
+            FrameRefusal::Elf(fault) => LineParts::without_line(
+                "elf",
+                fault.name(),
+                fault.number(),
+            ),
+            FrameRefusal::FileTooLong => LineParts::without_line("file", "TooLong", 3),
+            FrameRefusal::OlderRules => LineParts::without_line("frame", "OlderRules", 2),
+            FrameRefusal::NoProgram => LineParts::without_line("frame", "NoProgram", 3),
+            FrameRefusal::TooLong => LineParts::without_line("frame", "TooLong", 4),
+            FrameRefusal::TooMuchGas => LineParts::without_line("frame", "TooMuchGas", 5),
+            FrameRefusal::NotADump => LineParts::without_line("frame", "NotADump", 6),
+            FrameRefusal::NoFrame => LineParts::without_line("frame", "NoFrame", 7),
+            FrameRefusal::OtherDigest => LineParts::without_line("frame", "OtherDigest", 8),
+            FrameRefusal::TooHigh => LineParts::without_line("frame", "TooHigh", 9),
         }
     }
 }

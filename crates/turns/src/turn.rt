@@ -16,7 +16,7 @@ use crate::frame::{frame, long_frame, long_try, unkept_frame};
 use crate::handed_in::{forget, hand_in, names};
 use crate::making::take_pending;
 use crate::pending::Pending;
-use crate::refusal::{Failure, Refusal};
+use crate::refusal::{Failure, FrameRefusal};
 use crate::runner::CallRunner;
 use crate::settings::Settings;
 use crate::state::State;
@@ -120,7 +120,7 @@ fn last(state: &State) -> Answer
 {
     match state.last {
         Some(_) => Answer::Last,
-        None => Answer::Refused(Refusal::NoFrame),
+        None => Answer::Refused(FrameRefusal::NoFrame),
     }
 }
 
@@ -144,7 +144,7 @@ pub fn pending_long(alloc: Global, state: &State, line: RequestLine) -> Pending
     match line {
         RequestLine::Frame(_) => long_frame(alloc, state),
         RequestLine::Try(_) => Pending::Nothing(Answer::Refused(long_try(state))),
-        _ => Pending::Nothing(Answer::Refused(Refusal::FileTooLong)),
+        _ => Pending::Nothing(Answer::Refused(FrameRefusal::FileTooLong)),
     }
 }
 

@@ -2,7 +2,7 @@
 use Rattle.std.proofs.Common.{◌<◌, ℕ, length, arith}
 use Rattle.stm_state.specs.Steps.{Step}
 use Rattle.stm_core.specs.CoreState.{CoreState, Makes, block_in}
-use Rattle.stm_core.proofs.Turns.{turn_workers}
+use Rattle.stm_core.proofs.TaskChanges.{turn_workers}
 
 -- a worker is one of the workers after its step too
 pub stays : (w : ℕ) (step : Step) (old new : CoreState) → Makes w step old new → w < length old.state.tasks → w < length new.state.tasks

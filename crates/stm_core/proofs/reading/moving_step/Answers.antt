@@ -3,7 +3,7 @@ use Rattle.stm_state.specs.declared.state.CallState.{CallState}
 use Rattle.scheduler.specs.Schedule.{state_of}
 use Rattle.stm_core.specs.declared.next_step.NextStep.TheVariants as next_step
 use Rattle.stm_core.specs.declared.next_step.StepKind.TheVariants as kinds
-use Rattle.stm_core.proofs.Parted.{moves_next, moves_none}
+use Rattle.stm_core.proofs.StepParts.{moves_next, moves_none}
 use Rattle.stm_core.proofs.reading.moving_step.Goals as goal
 
 pub returns-in-Some : goal.returns-in-Some

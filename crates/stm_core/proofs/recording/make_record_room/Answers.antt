@@ -3,7 +3,7 @@ use Rattle.std.specs.List.{All}
 use Rattle.std.specs.FinMap.{entries}
 use Rattle.std.specs.FinSet.{contains}
 use Rattle.rv_ledger.specs.Change.{ContentChange}
-use Rattle.stm_core.proofs.Open.{open_writes}
+use Rattle.stm_core.proofs.EntryPlaces.{open_writes}
 use Rattle.stm_core.proofs.recording.make_record_room.Goals as goal
 
 pub returns-clause-open_ : goal.returns-clause-open_

@@ -6,7 +6,7 @@ use Rattle.stm_state.proofs.Serials.{versions_at_done}
 use Rattle.rv_step.specs.Fold.{receipts_of, store_after}
 use Rattle.stm_core.specs.CoreState.{CoreState}
 use Rattle.stm_core.proofs.Ended.{receipts_are, store_is, versions_alone}
-use Rattle.stm_core.proofs.Made.{invariant_at}
+use Rattle.stm_core.proofs.MadeSteps.{invariant_at}
 use Rattle.stm_core.proofs.owned_job.Core.outcome.Goals as goal
 
 pub outcome_of-requires-clause-versions : goal.outcome_of-requires-clause-versions

@@ -3,9 +3,9 @@ use Rattle.stm_state.specs.declared.state.Task.TheVariants.{Idle}
 use Rattle.stm_state.specs.Steps.{Ask}
 use Rattle.stm_state.specs.Done.{block_of}
 use Rattle.stm_core.specs.Inner.{state_in}
-use Rattle.stm_core.proofs.Parted.{asks_idle}
-use Rattle.stm_core.proofs.Made.{ask_made, due_at, execution_in, goes_on_quietly, may_count}
-use Rattle.stm_core.proofs.Turns.{turn_workers}
+use Rattle.stm_core.proofs.StepParts.{asks_idle}
+use Rattle.stm_core.proofs.MadeSteps.{ask_made, due_at, execution_in, goes_on_quietly, may_count}
+use Rattle.stm_core.proofs.TaskChanges.{turn_workers}
 use Rattle.stm_core.proofs.state.Core.ask.Goals as goal
 
 pub ask-requires-clause-counts : goal.ask-requires-clause-counts

@@ -4,8 +4,8 @@ use Rattle.stm_state.specs.declared.state.Task.TheVariants.{Idle, Validating}
 use Rattle.stm_state.specs.Steps.{CheckRead, after_check_read, counted, next_stands, one_step, read_stands, reads_of}
 use Rattle.stm_state.specs.Done.{block_of}
 use Rattle.stm_core.specs.Inner.{state_in}
-use Rattle.stm_core.proofs.Made.{check_made, due_at, goes_on_quietly, may_count, named_in}
-use Rattle.stm_core.proofs.Parted.{checks_next, names_validating}
+use Rattle.stm_core.proofs.MadeSteps.{check_made, due_at, goes_on_quietly, may_count, named_in}
+use Rattle.stm_core.proofs.StepParts.{checks_next, names_validating}
 use Rattle.stm_core.proofs.state.Core.check_read.Goals as goal
 
 pub call-requires : goal.call-requires

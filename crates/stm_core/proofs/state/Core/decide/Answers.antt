@@ -3,8 +3,8 @@ use Rattle.stm_state.specs.declared.state.Task.TheVariants.{Idle}
 use Rattle.stm_state.specs.Steps.{Decide}
 use Rattle.stm_state.specs.Done.{block_of}
 use Rattle.stm_core.specs.Inner.{state_in}
-use Rattle.stm_core.proofs.Made.{decide_made, due_at, goes_on_quietly, may_count, named_in}
-use Rattle.stm_core.proofs.Parted.{names_validating, validates_at}
+use Rattle.stm_core.proofs.MadeSteps.{decide_made, due_at, goes_on_quietly, may_count, named_in}
+use Rattle.stm_core.proofs.StepParts.{names_validating, validates_at}
 use Rattle.stm_core.proofs.state.Core.decide.Goals as goal
 
 pub try_abort-requires-clause-counts : goal.try_abort-requires-clause-counts

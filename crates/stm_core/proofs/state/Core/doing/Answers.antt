@@ -3,8 +3,8 @@ use Rattle.stm_state.specs.declared.state.Task.TheVariants.{Idle}
 use Rattle.stm_state.proofs.Invariant.{named_by}
 use Rattle.stm_core.specs.CoreState.{CoreState, IsWithin}
 use Rattle.stm_core.specs.Inner.{state_in}
-use Rattle.stm_core.proofs.Parted.{within_doing}
-use Rattle.stm_core.proofs.Made.{invariant_at, named_in}
+use Rattle.stm_core.proofs.StepParts.{within_doing}
+use Rattle.stm_core.proofs.MadeSteps.{invariant_at, named_in}
 use Rattle.stm_core.proofs.state.Core.doing.Goals as goal
 
 pub next_step_of-requires-clause-running : goal.next_step_of-requires-clause-running

@@ -3,8 +3,8 @@ use Rattle.stm_state.specs.declared.state.Task.TheVariants.{Idle}
 use Rattle.stm_state.specs.Steps.{FinishAbort}
 use Rattle.stm_state.specs.Done.{block_of}
 use Rattle.stm_core.specs.Inner.{state_in}
-use Rattle.stm_core.proofs.Made.{abort_made, due_at, goes_on_quietly, marked_low, may_count, named_in}
-use Rattle.stm_core.proofs.Parted.{finishes_marking, names_marking}
+use Rattle.stm_core.proofs.MadeSteps.{abort_made, due_at, goes_on_quietly, marked_low, may_count, named_in}
+use Rattle.stm_core.proofs.StepParts.{finishes_marking, names_marking}
 use Rattle.stm_core.proofs.state.Core.finish_abort.Goals as goal
 
 pub finish_abort-requires-clause-counts : goal.finish_abort-requires-clause-counts

@@ -3,8 +3,8 @@ use Rattle.stm_state.specs.declared.state.Task.TheVariants.{Idle}
 use Rattle.stm_state.specs.Steps.{FinishExecution}
 use Rattle.stm_state.specs.Done.{block_of}
 use Rattle.stm_core.specs.Inner.{state_in}
-use Rattle.stm_core.proofs.Made.{aborting_low, due_at, finish_made, goes_on_quietly, may_count, named_in}
-use Rattle.stm_core.proofs.Parted.{finishes_moving, names_moving}
+use Rattle.stm_core.proofs.MadeSteps.{aborting_low, due_at, finish_made, goes_on_quietly, may_count, named_in}
+use Rattle.stm_core.proofs.StepParts.{finishes_moving, names_moving}
 use Rattle.stm_core.proofs.state.Core.finish_execution.Goals as goal
 
 pub finish_execution-requires-clause-counts : goal.finish_execution-requires-clause-counts

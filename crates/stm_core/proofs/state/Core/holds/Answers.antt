@@ -8,7 +8,7 @@ use Rattle.stm_state.proofs.Parted.{attended_kept, borne_out_kept, estimates_kep
 use Rattle.scheduler.specs.Schedule.{Schedule}
 use Rattle.stm_core.specs.CoreState.{CoreState, PassedRoom, ValueRoom, block_in}
 use Rattle.stm_core.specs.Inner.{IsReached, core_state_of}
-use Rattle.stm_core.proofs.Made.{invariant_at}
+use Rattle.stm_core.proofs.MadeSteps.{invariant_at}
 use Rattle.stm_core.proofs.state.Core.holds.Goals as goal
 
 -- what holds of each state that is reached holds of a core's

@@ -5,7 +5,7 @@ use Rattle.stm_state.proofs.Orders.{in_order_at_done}
 use Rattle.rv_step.specs.Fold.{receipts_of}
 use Rattle.stm_core.specs.CoreState.{CoreState}
 use Rattle.stm_core.proofs.Ended.{receipts_are}
-use Rattle.stm_core.proofs.Made.{invariant_at}
+use Rattle.stm_core.proofs.MadeSteps.{invariant_at}
 use Rattle.stm_core.proofs.state.Core.into_finished.Goals as goal
 
 pub finished_of-finished-requires : goal.finished_of-finished-requires

@@ -5,9 +5,9 @@ use Rattle.stm_state.specs.declared.state.Task.TheVariants.{Idle}
 use Rattle.stm_state.specs.Steps.{MarkEstimate}
 use Rattle.stm_core.specs.CoreState.{Makes}
 use Rattle.stm_core.specs.Inner.{IsReached, core_state_of, room_of, value_room_of}
-use Rattle.stm_core.proofs.Handed.{mark_makes, mark_reached}
-use Rattle.stm_core.proofs.Made.{due_at, mark_has_place, may_count}
-use Rattle.stm_core.proofs.Parted.{marking_has_keys, marks_key, marks_some_key}
+use Rattle.stm_core.proofs.HandedRuns.{mark_makes, mark_reached}
+use Rattle.stm_core.proofs.MadeSteps.{due_at, mark_has_place, may_count}
+use Rattle.stm_core.proofs.StepParts.{marking_has_keys, marks_key, marks_some_key}
 use Rattle.stm_core.proofs.state.Core.mark_estimate.Goals as goal
 
 pub next_key-requires-clause-keys : goal.next_key-requires-clause-keys

@@ -5,9 +5,9 @@ use Rattle.stm_state.specs.declared.state.Task.TheVariants.{Idle}
 use Rattle.stm_state.specs.State.{call_at}
 use Rattle.stm_state.specs.Steps.{MoveKey, counted, after_move_key, one_step, version_of}
 use Rattle.stm_core.specs.Inner.{AreOpen, state_in, writes_at}
-use Rattle.stm_core.proofs.Handed.{key_has_place, key_is_promised, move_makes, move_reached}
-use Rattle.stm_core.proofs.Made.{due_at, may_count, named_in}
-use Rattle.stm_core.proofs.Parted.{moved_is, moving_has_keys, moves_key, moves_some_key, names_moving}
+use Rattle.stm_core.proofs.HandedRuns.{key_has_place, key_is_promised, move_makes, move_reached}
+use Rattle.stm_core.proofs.MadeSteps.{due_at, may_count, named_in}
+use Rattle.stm_core.proofs.StepParts.{moved_is, moving_has_keys, moves_key, moves_some_key, names_moving}
 use Rattle.stm_core.proofs.state.Core.move_key.Goals as goal
 
 pub next_key-requires-clause-keys : goal.next_key-requires-clause-keys

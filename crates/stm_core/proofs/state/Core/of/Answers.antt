@@ -1,6 +1,6 @@
 use Rattle.std.proofs.Common.{◌∙◌, length, ap}
 use Rattle.stm_state.specs.State.{start}
-use Rattle.stm_core.proofs.Made.{start_is, start_reached}
+use Rattle.stm_core.proofs.MadeSteps.{start_is, start_reached}
 use Rattle.stm_core.proofs.state.Core.of.Goals as goal
 
 pub invariant_of-result : goal.invariant_of-result

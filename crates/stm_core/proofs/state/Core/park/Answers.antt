@@ -7,8 +7,8 @@ use Rattle.stm_state.specs.declared.state.CallState.{CallState}
 use Rattle.stm_state.proofs.Invariant.{named_by}
 use Rattle.scheduler.specs.declared.worker.TaskKind.TheVariants as task_kind
 use Rattle.stm_core.specs.Inner.{state_in}
-use Rattle.stm_core.proofs.Parted.{running_at}
-use Rattle.stm_core.proofs.Made.{blocked_in, goes_on_quietly, limit_at, may_count, named_in, park_made}
+use Rattle.stm_core.proofs.StepParts.{running_at}
+use Rattle.stm_core.proofs.MadeSteps.{blocked_in, goes_on_quietly, limit_at, may_count, named_in, park_made}
 use Rattle.stm_core.proofs.state.Core.park.Goals as goal
 
 pub call-requires : goal.call-requires

@@ -5,8 +5,8 @@ use Rattle.stm_state.specs.Done.{block_of}
 use Rattle.std.specs.FinMap as map
 use Rattle.stm_core.specs.CoreState.{CoreState}
 use Rattle.stm_core.specs.Inner.{room_of, state_in, value_room_of}
-use Rattle.stm_core.proofs.Parted.{reads_running}
-use Rattle.stm_core.proofs.Made.{due_at, goes_on_quietly, makes_read, may_count, read_made}
+use Rattle.stm_core.proofs.StepParts.{reads_running}
+use Rattle.stm_core.proofs.MadeSteps.{due_at, goes_on_quietly, makes_read, may_count, read_made}
 use Rattle.stm_core.proofs.state.Core.read_over.Goals as goal
 
 pub read_at-requires-clause-counts : goal.read_at-requires-clause-counts

@@ -5,8 +5,8 @@ use Rattle.stm_state.specs.declared.state.Task.TheVariants.{Idle}
 use Rattle.stm_state.specs.Steps.{Record}
 use Rattle.stm_core.specs.CoreState.{IsTaken}
 use Rattle.stm_core.specs.Inner.{state_in}
-use Rattle.stm_core.proofs.Parted.{names_running, records_running}
-use Rattle.stm_core.proofs.Made.{due_at, named_in, own_made}
+use Rattle.stm_core.proofs.StepParts.{names_running, records_running}
+use Rattle.stm_core.proofs.MadeSteps.{due_at, named_in, own_made}
 use Rattle.stm_core.proofs.state.Core.record.Goals as goal
 
 pub call-requires : goal.call-requires

@@ -4,9 +4,9 @@ use Rattle.stm_state.specs.declared.state.Task.TheVariants.{Idle}
 use Rattle.stm_state.specs.Steps.{Record}
 use Rattle.stm_core.specs.CoreState.{IsTaken}
 use Rattle.stm_core.specs.Inner.{state_in}
-use Rattle.stm_core.proofs.Parted.{names_running, records_running, runs_one}
-use Rattle.stm_core.proofs.Made.{both_ways, due_at, executing_at, grown_reached, may_count, named_in, nobody_moves, own_made, placed_within}
-use Rattle.stm_core.proofs.Handed.{had_before, is_ready_handed, record_reached}
+use Rattle.stm_core.proofs.StepParts.{names_running, records_running, runs_one}
+use Rattle.stm_core.proofs.MadeSteps.{both_ways, due_at, executing_at, grown_reached, may_count, named_in, nobody_moves, own_made, placed_within}
+use Rattle.stm_core.proofs.HandedRuns.{had_before, is_ready_handed, record_reached}
 use Rattle.stm_core.proofs.state.Core.record_ready.Goals as goal
 
 pub has_own_answers-requires-clause-running : goal.has_own_answers-requires-clause-running

@@ -3,7 +3,7 @@ use Rattle.stm_state.specs.declared.state.Task.{Task}
 use Rattle.stm_state.specs.State.{State, task_at}
 use Rattle.stm_core.specs.CoreState.{CoreState, IsRoomFor}
 use Rattle.stm_core.specs.Inner.{room_of}
-use Rattle.stm_core.proofs.Made.{same_reached}
+use Rattle.stm_core.proofs.MadeSteps.{same_reached}
 use Rattle.stm_core.proofs.state.Core.room_for_read.Goals as goal
 
 all_ok : {X E : Type 0} (r : Result X E) {P Q R S : Type 0} → OnOk r P → OnOk r Q → OnOk r R → (P → Q → R → S) → OnOk r S

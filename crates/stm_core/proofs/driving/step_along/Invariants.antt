@@ -2,7 +2,7 @@ use Rattle.std.proofs.Common.{◌≡◌, ◌≤◌, ℕ, None, length, get_or, d
 use Rattle.stm_state.specs.Drive.{driven}
 use Rattle.stm_state.specs.State.{no_counts, task_at}
 use Rattle.stm_core.specs.Driving.{FitsTask}
-use Rattle.stm_core.proofs.engine.step_along.Given as goal
+use Rattle.stm_core.proofs.driving.step_along.Given as goal
 
 abbrev pub invariant-loop-entry : goal.invariant-loop-entry
 invariant-loop-entry l = record {

@@ -12,7 +12,7 @@ use std::alloc::Global;
 /// Two lists for the bytes of the value that a read finds: one for the answer that the core keeps, and one for
 /// the answer that it hands out. A read of a value that is kept in place leaves them their room.
 #[derive(Drop)]
-pub(crate) struct ValueRooms {
+pub(crate) struct ValueLists {
     /// The list for the value that is kept.
     pub(crate) kept: Vec<u8>,
     /// The list for the value that is handed out.
@@ -28,10 +28,10 @@ pub(crate) struct ReadContents {
     pub(crate) lent: Option<StoredValue>,
 }
 
-impl ValueRooms {
+impl ValueLists {
     /// Lists without room. Takes no memory.
-    pub(crate) fn new(alloc: Global) -> ValueRooms {
-        ValueRooms {
+    pub(crate) fn new(alloc: Global) -> ValueLists {
+        ValueLists {
             kept: Vec::new(alloc),
             lent: Vec::new(alloc),
         }

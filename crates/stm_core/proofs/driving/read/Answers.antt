@@ -3,7 +3,7 @@ use Rattle.stm_state.specs.State.{State, task_at}
 use Rattle.stm_core.specs.CoreState.{block_in}
 use Rattle.stm_core.specs.Driving.{IsRunOf}
 use Rattle.stm_core.proofs.Answered.{read_fits}
-use Rattle.stm_core.proofs.engine.read.Goals as goal
+use Rattle.stm_core.proofs.driving.read.Goals as goal
 
 pub returns-in_ok-answer_bytes-in-Given-clause-fits : goal.returns-in_ok-answer_bytes-in-Given-clause-fits
 returns-in_ok-answer_bytes-in-Given-clause-fits c =

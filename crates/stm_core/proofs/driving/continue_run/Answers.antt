@@ -1,7 +1,7 @@
 use Rattle.stm_state.specs.Steps.{Record}
 use Rattle.stm_core.specs.CoreState.{block_in}
-use Rattle.stm_core.proofs.Turns.{turn_own}
-use Rattle.stm_core.proofs.engine.continue_run.Goals as goal
+use Rattle.stm_core.proofs.TaskChanges.{turn_own}
+use Rattle.stm_core.proofs.driving.continue_run.Goals as goal
 
 pub returns-in_ok-hand_in-in-Ended-clause-fits : goal.returns-in_ok-hand_in-in-Ended-clause-fits
 returns-in_ok-hand_in-in-Ended-clause-fits c =

@@ -6,8 +6,8 @@ use Rattle.stm_state.specs.Drive.{due_result, due_step}
 use Rattle.stm_core.specs.Driving.{IsRefusal, IsStepRefusal}
 use Rattle.stm_core.proofs.Drives.{entry_bad, entry_made, entry_refused}
 use Rattle.stm_core.proofs.Fits.{all_fit}
-use Rattle.stm_core.proofs.Turns.{turn_others, turn_steps, turn_workers}
-use Rattle.stm_core.proofs.engine.step_along.Goals as goal
+use Rattle.stm_core.proofs.TaskChanges.{turn_others, turn_steps, turn_workers}
+use Rattle.stm_core.proofs.driving.step_along.Goals as goal
 
 pub returns-then-worker-workers-clause-refused : goal.returns-then-worker-workers-clause-refused
 returns-then-worker-workers-clause-refused c =

@@ -3,8 +3,8 @@ use Rattle.stm_state.specs.State.{task_at}
 use Rattle.stm_state.specs.Steps.{Ask}
 use Rattle.stm_core.specs.CoreState.{block_in, step_of}
 use Rattle.stm_core.proofs.Fits.{next_fits, no_record, rests_after}
-use Rattle.stm_core.proofs.Turns.{turn_own}
-use Rattle.stm_core.proofs.engine.step.Goals as goal
+use Rattle.stm_core.proofs.TaskChanges.{turn_own}
+use Rattle.stm_core.proofs.driving.step.Goals as goal
 
 pub returns-in-Ask-clause-fits : goal.returns-in-Ask-clause-fits
 returns-in-Ask-clause-fits c =

@@ -10,7 +10,7 @@ ghost use Rattle.stm_state.specs.Drive.{drive_of, driven, due_result};
 ghost use Rattle.stm_state.specs.declared.state.Task.TheVariants.{Running};
 ghost use Rattle.stm_core.specs.CoreState.{IsDue, IsRefused, Makes, answers_of, block_in, step_of};
 ghost use Rattle.stm_core.specs.Driving.{FitsTask, IsRefusal, IsStepRefusal};
-ghost use Rattle.stm_core.specs.declared.engine.DriveFault.TheVariants.{Memory};
+ghost use Rattle.stm_core.specs.declared.driving.DriveFault.TheVariants.{Memory};
 
 use crate::fault::RecordFault;
 use crate::next_step::{NextStep, ReadResult, StepKind};

@@ -1,6 +1,6 @@
 use Rattle.std.proofs.Common.{sym}
 use Rattle.stm_core.proofs.Drives.{ends_done, ends_early}
-use Rattle.stm_core.proofs.engine.drive_core.Goals as goal
+use Rattle.stm_core.proofs.driving.drive_core.Goals as goal
 
 pub returns-then-not-done-clause-refused : goal.returns-then-not-done-clause-refused
 returns-then-not-done-clause-refused c =

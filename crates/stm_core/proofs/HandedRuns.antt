@@ -18,8 +18,8 @@ use Rattle.scheduler.specs.Schedule.{KeepsRooms, Schedule}
 use Rattle.stm_core.specs.CoreState.{CoreState, IsDue, IsReadyOf, Makes, PassedRoom, ValueRoom, runs}
 use Rattle.stm_core.specs.declared.ready_record.ReadyRecord.{ReadyRecord}
 use Rattle.stm_core.specs.Inner.{AreOpen, IsGrown, IsHanded, IsPromised, IsReached, KeepsPromises, core_state_of, state_in, writes_at}
-use Rattle.stm_core.proofs.Open.{Within, marked_within, moved_within}
-use Rattle.stm_core.proofs.Made.{due_at, goes_on, goes_on_quietly, invariant_at, makes, mark_has_place, mark_made, move_made, named_in, own_made}
+use Rattle.stm_core.proofs.EntryPlaces.{Within, marked_within, moved_within}
+use Rattle.stm_core.proofs.MadeSteps.{due_at, goes_on, goes_on_quietly, invariant_at, makes, mark_has_place, mark_made, move_made, named_in, own_made}
 use Rattle.stm_core.proofs.Promises.{moved_kept, next_has_place, next_is_promised, recorded_kept}
 
 module _ (job : Job) (table : Table) (promised : ℕ) (schedule : Schedule) (h : IsReached job table promised schedule) {passed : PassedRoom} {values : ValueRoom} (b : CoreState) (is : core_state_of job table promised schedule passed values ≡ b) (w i : ℕ) where

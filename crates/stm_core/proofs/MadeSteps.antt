@@ -30,7 +30,7 @@ use Rattle.scheduler.specs.Schedule.{KeepsRooms, Schedule, MayCount, state_of}
 use Rattle.scheduler.specs.Workers.{NobodyMoves}
 use Rattle.stm_core.specs.CoreState.{CoreState, IsDue, Makes, PassedRoom, ValueRoom, is_due, is_read}
 use Rattle.stm_core.specs.Inner.{HasPlaces, IsGrown, IsHanded, IsReached, KeepsPromises, core_state_of, state_in}
-use Rattle.stm_core.proofs.Turns.{turn}
+use Rattle.stm_core.proofs.TaskChanges.{turn}
 use Rattle.stm_core.proofs.Promises.{IsQuiet, grown_kept, none_promised, quiet_kept}
 
 both : {b : Bool} → b ≡ true → b ≡ false → ⊥

@@ -1,5 +1,5 @@
 use Rattle.stm_core.proofs.Fits.{own_run}
-use Rattle.stm_core.proofs.engine.hand_in.Goals as goal
+use Rattle.stm_core.proofs.driving.hand_in.Goals as goal
 
 pub unreachable-requires : goal.unreachable-requires
 unreachable-requires c =
