@@ -4,7 +4,7 @@ ghost use Rattle.std.specs.Prelude.{◌≡◌};
 ghost use Rattle.std.specs.Option.{option_copied};
 ghost use Rattle.debugger.specs.More.{content_with};
 
-use rv_ledger::{Change, StoredValue, Value, add};
+use rv_ledger::{Change, LentValue, StoredValue, Value, add};
 
 /// What a READ of a key finds that the call has changed so, or not at all, and that has this in the storage.
 pub(crate) fn content_with(
@@ -17,6 +17,6 @@ pub(crate) fn content_with(
         None => StoredValue::value_of(stored),
         Some(Change::Value(value)) => Some(value.value()),
         Some(Change::Gone) => None,
-        Some(Change::Sum(amount)) => Some(add(StoredValue::bytes_of(stored), *amount)),
+        Some(Change::Sum(amount)) => Some(add(LentValue::of_stored(stored), *amount)),
     }
 }

@@ -8,7 +8,7 @@ ghost use Rattle.debugger.specs.Further.{GoesOver};
 ghost use Rattle.debugger.specs.ReplayMoment.{GoesOn, IsAnswered, IsRunAt, advance_over};
 
 use read_set::Origin;
-use rv_ledger::{Call, Store, StoredValue};
+use rv_ledger::{Call, LentValue, Store};
 use rv_step::{Run, Stage};
 use std::alloc::{AllocError, Global};
 
@@ -65,8 +65,8 @@ fn answer_from(alloc: Global, run: &mut Run, store: &Store) -> Result<(), AllocE
 {
     if let Stage::Asked(key) = run.stage() {
         let key = *key;
-        let content = StoredValue::bytes_of(store.get(&key));
-        run.answer_bytes(content, Origin::base(alloc))?;
+        let content = LentValue::of_stored(store.get(&key));
+        run.answer_lent(content, Origin::base(alloc))?;
     }
     Ok(())
 }
