@@ -16,7 +16,7 @@ use crate::fault::RecordFault;
 use crate::next_step::{NextStep, ReadResult, StepKind};
 use crate::ready_record::{ReadyRecord, reads_made};
 use crate::state::Core;
-use rv_ledger::{Job, Key, Outcome, StoredValue};
+use rv_ledger::{Job, Key, Outcome};
 use rv_step::{Pause, Run};
 use scheduler::COUNT_LIMIT;
 use std::alloc::{AllocError, AllocFailed, Global};
@@ -301,7 +301,7 @@ fn read(core: &mut Core, worker: usize, mut run: Run, key: &Key) -> Result<Optio
     core.room_for_read(worker)?;
     match core.read(worker, key) {
         ReadResult::Given(value, origin) => {
-            run.answer_bytes(StoredValue::bytes_of(value.as_ref()), origin)?;
+            run.answer_stored(value, origin)?;
             Ok(Some(run))
         }
         ReadResult::Blocked => Ok(None),

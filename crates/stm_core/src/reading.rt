@@ -1,9 +1,9 @@
 //! The step that a worker owes, and a read of its run.
 
-ghost use Rattle.std.specs.Prelude.{◌≡◌, ◌<◌, ◌≤◌, ℕ, [], Bool, IsTrue, List, length, get_or, vec_capacity, Option, None, Ok, IfSome, OnErr, OnOk};
-ghost use Rattle.std.specs.Option.{option_copied};
+ghost use Rattle.std.specs.Prelude.{◌≡◌, ◌<◌, ◌≤◌, ℕ, [], Bool, IsTrue, List, length, get_or, vec_capacity, Option, None, Ok, OnErr, OnOk};
 ghost use Rattle.std.specs.FinMap as finite;
 ghost use Rattle.rv_ledger.specs.Key.{Storage};
+ghost use Rattle.rv_ledger.specs.Lent.{lent_content};
 ghost use Rattle.rv_step.specs.declared.answer.StorageAnswer.{StorageAnswer};
 ghost use Rattle.mvmap.specs.Versions.{Versions};
 ghost use Rattle.mvmap.specs.Reading.{passed_in, reading};
@@ -22,7 +22,7 @@ use crate::passed_lists::{PassedLists, larger, replace};
 use crate::value_lists::{ReadContents, ValueLists};
 use mvmap::{LentAnswer, MvMap};
 use read_set::Version;
-use rv_ledger::{Key, VALUE_LIMIT};
+use rv_ledger::{Key, LentValue, VALUE_LIMIT};
 use rv_step::StorageAnswer;
 use scheduler::{Scheduler, TaskKind};
 use std::alloc::AllocError;
@@ -206,11 +206,11 @@ fn index_run(kind: TaskKind) -> usize
 }
 
 /// A worker's run reads a key for its call, in room that was made; the storage before the block has `base`
-/// at the key, whose bytes are lent. From the highest call below downwards the read passes the versions that
+/// at the key, which is lent. From the highest call below downwards the read passes the versions that
 /// add an amount. What it then finds decides: the run is given the value that this version or the storage has,
 /// with the amounts added, or is blocked where it is an estimate. Takes no memory.
 pub(crate) fn read_at(
-    base: Option<&[u8]>,
+    base: Option<LentValue>,
     map: &MvMap,
     scheduler: &mut Scheduler,
     lists: &mut PassedLists,
@@ -223,16 +223,15 @@ pub(crate) fn read_at(
     requires room { 1 ≤ get_or scheduler.old.rooms worker 0 }
     requires kept { call ≤ vec_capacity lists.old.kept }
     requires lent { call ≤ vec_capacity lists.old.lent }
-    requires short { IfSome base (λ bytes. length bytes.now ≤ 256) }
     requires values { HasValueRoom (value_room_of values.old) }
-    ensures answers { (store : Storage) → option_copied base.entry ≡ finite.get store key.now → result ≡ read_result_of store key.now (reading map.now.versions key.now call) }
-    ensures state { (store : Storage) → option_copied base.entry ≡ finite.get store key.now → (answers : List StorageAnswer) → get_or scheduler.old.tasks worker task.Idle ≡ task.Running call answers None → (v : Versions) (p : ℕ) →
+    ensures answers { (store : Storage) → lent_content base.entry ≡ finite.get store key.now → result ≡ read_result_of store key.now (reading map.now.versions key.now call) }
+    ensures state { (store : Storage) → lent_content base.entry ≡ finite.get store key.now → (answers : List StorageAnswer) → get_or scheduler.old.tasks worker task.Idle ≡ task.Running call answers None → (v : Versions) (p : ℕ) →
         state_of v p scheduler.new ≡ counted one_step worker (with_task worker (answered_with store key.now call answers (reading map.now.versions key.now call)) (state_of v p scheduler.old)) }
     ensures rooms { KeepsRooms worker scheduler.old.rooms scheduler.new.rooms }
     ensures passed { passed_in (reading map.now.versions key.now call) ≡ [] → room_of lists.new ≡ room_of lists.old }
     ensures stay { GivesInPlace result → values.new ≡ values.old }
 {
-    match map.read_bytes(key, call, &mut lists.kept) {
+    match map.read_lent(key, call, &mut lists.kept) {
         LentAnswer::Base(sum) => {
             let found = values.contents(base, sum);
             give(scheduler, lists, worker, key, found, None)

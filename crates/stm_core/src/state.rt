@@ -17,7 +17,7 @@ use crate::recording::{SpentRun, check_limits, has_own_answers, is_run_of, recor
 use crate::value_lists::ValueLists;
 use crate::versions::{mark_key, move_key};
 use mvmap::MvMap;
-use rv_ledger::{Counts, Job, Key, StoredValue};
+use rv_ledger::{Counts, Job, Key, LentValue, StoredValue};
 use rv_step::{EndedRun, StorageAnswer};
 use scheduler::{INCARNATION_LIMIT, Scheduler, TaskKind};
 use std::alloc::{AllocError, Global};
@@ -64,9 +64,9 @@ impl<H: JobSource> Model for Core<H> {
 }
 
 impl<H: JobSource> Core<H> {
-    ghost use Rattle.std.specs.Prelude.{◌≡◌, ◌≢◌, ◌<◌, ◌≤◌, ◌↔◌, ℕ, Some, true, length, get_or, slice_get, [], IfOk, IfErr, IfSome, OnOk, OnErr, Ok};
-    ghost use Rattle.std.specs.Option.{option_copied};
+    ghost use Rattle.std.specs.Prelude.{◌≡◌, ◌≢◌, ◌<◌, ◌≤◌, ◌↔◌, ℕ, Some, true, length, get_or, slice_get, [], IfOk, IfErr, OnOk, OnErr, Ok};
     ghost use Rattle.std.specs.FinMap as finite;
+    ghost use Rattle.rv_ledger.specs.Lent.{lent_content};
     ghost use Rattle.version_arena.specs.ArenaState.{emptied};
     ghost use Rattle.mvmap.specs.Reading.{passed_in, reading};
     ghost use Rattle.rv_step.specs.Fold.{receipts_of, store_after};
@@ -210,15 +210,14 @@ impl<H: JobSource> Core<H> {
         ensures values { GivesInPlace result → self.new.values ≡ self.old.values }
     {
         let base = StoredValue::value_of(self.job.content(key));
-        self.read_over(worker, key, base.as_ref().map(|base| base.bytes()))
+        self.read_over(worker, key, base.as_ref().map(|base| base.lend()))
     }
 
-    /// The same, where the caller lends the bytes that the storage before the block has at the key.
-    pub fn read_over(&mut self, worker: usize, key: &Key, base: Option<&[u8]>) -> ReadResult
+    /// The same, where the caller lends what the storage before the block has at the key.
+    pub fn read_over(&mut self, worker: usize, key: &Key, base: Option<LentValue>) -> ReadResult
         requires due { IsDue worker (steps.ReadKey key.now) self.old }
         requires room { HasReadRoom worker self.old }
-        requires short { IfSome base (λ bytes. length bytes.now ≤ 256) }
-        requires base { option_copied base ≡ finite.get self.old.job.store key.now }
+        requires base { lent_content base ≡ finite.get self.old.job.store key.now }
         ensures makes { Makes worker (steps.ReadKey key.now) self.old self.new }
         ensures answers { (i : ℕ) → runs (task_at self.old.state worker) i ≡ true → result ≡ read_result_of self.old.job.store key.now (reading self.old.state.versions key.now i) }
         ensures passed { (i : ℕ) → runs (task_at self.old.state worker) i ≡ true → passed_in (reading self.old.state.versions key.now i) ≡ [] → self.new.passed ≡ self.old.passed }

@@ -1,12 +1,12 @@
 //! The lists that a read writes the bytes of a long value into.
 
-ghost use Rattle.std.specs.Prelude.{◌≡◌, ◌≤◌, IfSome, IsTrue, None, length};
-ghost use Rattle.std.specs.Option.{option_copied};
+ghost use Rattle.std.specs.Prelude.{◌≡◌, IsTrue, None};
+ghost use Rattle.rv_ledger.specs.Lent.{lent_content};
 ghost use Rattle.mvmap.specs.Answers.{with_amount};
 ghost use Rattle.stm_core.specs.CoreState.{HasValueRoom, IsInPlace};
 ghost use Rattle.stm_core.specs.Inner.{value_room_of};
 
-use rv_ledger::{StoredValue, VALUE_LIMIT, add};
+use rv_ledger::{LentValue, StoredValue, VALUE_LIMIT, add};
 use std::alloc::Global;
 
 /// Two lists for the bytes of the value that a read finds: one for the answer that the core keeps, and one for
@@ -46,17 +46,16 @@ impl ValueLists {
 
     /// What a key has after an amount is added, if there is one, twice. Takes no memory.
     #[inline(always)]
-    pub(crate) fn contents(&mut self, content: Option<&[u8]>, sum: Option<u64>) -> ReadContents
-        requires short { IfSome content (λ bytes. length bytes.now ≤ 256) }
-        requires room { HasValueRoom (value_room_of self.old) }
-        ensures kept { result.kept ≡ with_amount (option_copied content.entry) sum }
-        ensures lent { result.lent ≡ with_amount (option_copied content.entry) sum }
-        ensures stay { IsInPlace (with_amount (option_copied content.entry) sum) → self.new ≡ self.old }
+    pub(crate) fn contents(&mut self, content: Option<LentValue>, sum: Option<u64>) -> ReadContents
+        requires { HasValueRoom (value_room_of self.old) }
+        ensures kept { result.kept ≡ with_amount (lent_content content.entry) sum }
+        ensures lent { result.lent ≡ with_amount (lent_content content.entry) sum }
+        ensures stay { IsInPlace (with_amount (lent_content content.entry) sum) → self.new ≡ self.old }
     {
         match sum {
             Some(amount) => {
                 let value = add(content, amount);
-                self.copies(Some(value.bytes()))
+                self.copies(Some(value.lend()))
             }
             None => self.copies(content),
         }
@@ -64,17 +63,16 @@ impl ValueLists {
 
     /// A value, or None for None, twice. More than 16 bytes take the lists with them. Takes no memory.
     #[inline(always)]
-    fn copies(&mut self, content: Option<&[u8]>) -> ReadContents
-        requires short { IfSome content (λ bytes. length bytes.now ≤ 256) }
-        requires room { HasValueRoom (value_room_of self.old) }
-        ensures kept { result.kept ≡ option_copied content.entry }
-        ensures lent { result.lent ≡ option_copied content.entry }
-        ensures stay { IsInPlace (option_copied content.entry) → self.new ≡ self.old }
+    fn copies(&mut self, content: Option<LentValue>) -> ReadContents
+        requires { HasValueRoom (value_room_of self.old) }
+        ensures kept { result.kept ≡ lent_content content.entry }
+        ensures lent { result.lent ≡ lent_content content.entry }
+        ensures stay { IsInPlace (lent_content content.entry) → self.new ≡ self.old }
     {
         match content {
-            Some(bytes) => ReadContents {
-                kept: Some(StoredValue::of_room(bytes, &mut self.kept)),
-                lent: Some(StoredValue::of_room(bytes, &mut self.lent)),
+            Some(value) => ReadContents {
+                kept: Some(StoredValue::of_room(value, &mut self.kept)),
+                lent: Some(StoredValue::of_room(value, &mut self.lent)),
             },
             None => ReadContents {
                 kept: None,

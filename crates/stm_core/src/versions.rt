@@ -5,14 +5,14 @@ ghost use Rattle.std.specs.Prelude.{◌≡◌, ◌≤◌, ◌+◌, ◌*◌, ◌�
 ghost use Rattle.std.specs.Option.{option_copied};
 ghost use Rattle.std.specs.FinMap.{entries};
 ghost use Rattle.std.specs.FinSet.{contains};
-ghost use Rattle.rv_ledger.specs.Change.{IfValue, change_copied};
+ghost use Rattle.rv_ledger.specs.Lent.{lent_change};
 ghost use Rattle.version_arena.specs.ArenaState.{bytes_of};
 ghost use Rattle.mvmap.specs.Versions.{Estimate, changed};
 ghost use Rattle.stm_state.specs.Steps.{version_of, write_of, written_by};
 ghost use Rattle.stm_core.specs.Inner.{AreOpen, writes_at};
 
 use mvmap::MvMap;
-use rv_ledger::{Change, Key, StoredValue, VALUE_LIMIT, Writes};
+use rv_ledger::{Change, Key, LentValue, StoredValue, VALUE_LIMIT, Writes};
 use stm_state::{CallState, Recorded};
 
 /// The number of keys that are written.
@@ -59,7 +59,7 @@ pub(crate) fn move_key(
 {
     match write_at(&state.last, key) {
         Some(change) => {
-            map.publish_bytes(key, call, state.incarnation, lend_bytes(change));
+            map.publish_lent(key, call, state.incarnation, lend_stored(change));
             *promised -= 1;
         }
         None => map.withdraw(key, call),
@@ -76,14 +76,13 @@ fn write_at<'a>(last: &'a Option<Recorded>, key: &Key) -> Option<&'a Change<Stor
     }
 }
 
-/// The same change with its value lent by its bytes, at most VALUE_LIMIT.
-fn lend_bytes(change: &Change<StoredValue>) -> Change<&[u8]>
-    ensures value { change_copied result ≡ change.now }
-    ensures short { IfValue result (λ bytes. length bytes.now ≤ 256) }
-    ensures limit { bytes_of (change_copied result) ≤ VALUE_LIMIT }
+/// The same change with its value lent.
+fn lend_stored(change: &Change<StoredValue>) -> Change<LentValue<'_>>
+    ensures value { lent_change result ≡ change.now }
+    ensures limit { bytes_of (lent_change result) ≤ VALUE_LIMIT }
 {
     match change {
-        Change::Value(value) => Change::Value(value.bytes()),
+        Change::Value(value) => Change::Value(value.lend()),
         Change::Gone => Change::Gone,
         Change::Sum(amount) => Change::Sum(*amount),
     }

@@ -11,7 +11,7 @@ ghost use Rattle.rv_ledger.specs.declared.job.Job.{Job};
 
 use crate::fault::{OutsideFault, RunFault};
 pub use asked::{AllDone, Asked};
-use rv_ledger::{Job, Key, StoredValue};
+use rv_ledger::{Job, Key, LentValue, StoredValue};
 use scheduler::COUNT_LIMIT;
 pub use share::Share;
 use share::is_spent;
@@ -64,8 +64,8 @@ impl<J: JobName, H: JobSource> Model for Book<J, H> {
 }
 
 impl<J: JobName, H: JobSource> Book<J, H> {
-    ghost use Rattle.std.specs.Prelude.{◌≡◌, ◌<◌, ◌↔◌, ◌≤◌, ⊤, None, Some, true, length, get_or, slice_get, IfErr, IfOk, IfSome, OnOk};
-    ghost use Rattle.std.specs.Option.{option_copied};
+    ghost use Rattle.std.specs.Prelude.{◌≡◌, ◌<◌, ◌↔◌, ⊤, None, Some, true, length, get_or, slice_get, IfErr, IfOk, OnOk};
+    ghost use Rattle.rv_ledger.specs.Lent.{lent_content};
     ghost use Rattle.mvmap.specs.Reading.{reading};
     ghost use Rattle.stm_state.specs.Done.{Reached};
     ghost use Rattle.stm_state.specs.Parts.{CallsAreAttended, IsSized, OthersHaveEstimates, ReadsAreWatched, RunsAreBorneOut};
@@ -224,12 +224,11 @@ impl<J: JobName, H: JobSource> Book<J, H> {
             call,
             incarnation,
             key,
-            base.as_ref().map(|base| base.bytes()),
+            base.as_ref().map(|base| base.lend()),
         )
     }
 
-    /// The same, where the caller has looked up what the storage before the block has at the key, and lends its
-    /// bytes.
+    /// The same, where the caller has looked up what the storage before the block has at the key, and lends it.
     #[tactic(auto, using(crate::proofs::Stays::stays, crate::proofs::Causes::unready_cause))]
     pub(crate) fn read_over(
         &mut self,
@@ -237,10 +236,9 @@ impl<J: JobName, H: JobSource> Book<J, H> {
         call: u16,
         incarnation: u16,
         key: &Key,
-        base: Option<&[u8]>,
+        base: Option<LentValue>,
     ) -> Result<ReadResult, WrittenFault>
-        requires short { IfSome base (λ bytes. length bytes.now ≤ 256) }
-        requires base { option_copied base ≡ finite.get J.job.store key.now }
+        requires { lent_content base ≡ finite.get J.job.store key.now }
         ensures { IsReadCall key.now call incarnation self.old self.new share.old share.new result }
     {
         self.ready(share, NextStep::Run { call, incarnation })?;

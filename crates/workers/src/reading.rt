@@ -1,8 +1,8 @@
 //! The reads of a call's run outside the lock.
 
 ghost use Rattle.std.specs.FinMap as finite;
-ghost use Rattle.std.specs.Option.{option_copied};
-ghost use Rattle.std.specs.Prelude.{◌≡◌, ◌≤◌, false, true, length, IfErr, IfOk, IfSome, OnOk};
+ghost use Rattle.std.specs.Prelude.{◌≡◌, false, true, IfErr, IfOk, OnOk};
+ghost use Rattle.rv_ledger.specs.Lent.{lent_content};
 ghost use Rattle.rv_step.specs.Run.{IsEnded};
 ghost use Rattle.rv_step.specs.declared.stage.Stage.TheVariants as stages;
 ghost use Rattle.stm_core.specs.declared.next_step.NextStep.TheVariants as next_step;
@@ -15,7 +15,7 @@ use crate::fault::OutsideFault;
 use crate::gate::Spin;
 use crate::shared::Shared;
 use crate::worker::{WorkFault, go_on};
-use rv_ledger::{Key, StoredValue};
+use rv_ledger::{Key, LentValue};
 use rv_step::{Pause, Run};
 use std::alloc::AllocError;
 use std::sync::Wait;
@@ -81,10 +81,10 @@ fn read<J: JobName, H: JobSource, R: Wait, S: Spin>(
         Ok(()) => {}
         Err(written) => return Err(WorkFault::Refused(written)),
     }
-    let base = StoredValue::bytes_of(shared.job.content(key));
+    let base = LentValue::of_stored(shared.job.content(key));
     match read_book(rt, shared, share, spin, call, incarnation, key, base) {
         Ok(ReadResult::Given(value, origin)) => {
-            match run.answer_bytes(StoredValue::bytes_of(value.as_ref()), origin) {
+            match run.answer_stored(value, origin) {
                 Ok(()) => Ok(true),
                 Err(AllocError) => Err(WorkFault::Met(shared.refuse(rt, OutsideFault::Memory))),
             }
@@ -94,7 +94,7 @@ fn read<J: JobName, H: JobSource, R: Wait, S: Spin>(
     }
 }
 
-/// Asks the book under the lock what a call's run reads at a key, where the storage before the block has these bytes there.
+/// Asks the book under the lock what a call's run reads at a key, where the storage before the block has `base` there.
 fn read_book<J: JobName, H: JobSource, R: Wait, S: Spin>(
     rt: &R,
     shared: &Shared<J, H>,
@@ -103,10 +103,9 @@ fn read_book<J: JobName, H: JobSource, R: Wait, S: Spin>(
     call: u16,
     incarnation: u16,
     key: &Key,
-    base: Option<&[u8]>,
+    base: Option<LentValue>,
 ) -> Result<ReadResult, WrittenFault>
-    requires short { IfSome base (λ bytes. length bytes.now ≤ 256) }
-    requires base { option_copied base ≡ finite.get J.job.store key.now }
+    requires { lent_content base ≡ finite.get J.job.store key.now }
     ensures answer { IsReadAnswer J.job key.now call incarnation share.old share.new result }
     ensures refused { IfErr result (λ e. IsRefusedBy J.job (next_step.Run call incarnation) share.new e) }
     ensures blocked { IfOk result (λ read. read ≡ read_result.Blocked → IsBlocked J.job call incarnation share.new) }

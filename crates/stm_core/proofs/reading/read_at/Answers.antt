@@ -15,7 +15,7 @@ pub returns-in-Base-clause-state : goal.returns-in-Base-clause-state
 returns-in-Base-clause-state c = λ store is answers runs v p.
     let seen = reading c.args.map.now.versions c.args.key.now c.args.call in
     let tells = c.in-Base.ensures.tells in
-    let from : Origin = record { passed = c.read_bytes.new.passed.items; bottom = None } in
+    let from : Origin = record { passed = c.read_lent.new.passed.items; bottom = None } in
     let value_is : value_seen (map.get store c.args.key.now) seen ≡ c.contents-found.result.kept =
     tells.2 (map.get store c.args.key.now) ∙ ap (λ x. with_amount x c.in-Base.sum) (sym is) ∙ sym c.contents-found.ensures.kept in
     c.give.ensures.state v p
@@ -26,7 +26,7 @@ pub returns-in-Found-clause-state : goal.returns-in-Found-clause-state
 returns-in-Found-clause-state c = λ store is answers runs v p.
     let seen = reading c.args.map.now.versions c.args.key.now c.args.call in
     let tells = c.in-Found.ensures.tells in
-    let from : Origin = record { passed = c.read_bytes.new.passed.items; bottom = Some c.in-Found.version } in
+    let from : Origin = record { passed = c.read_lent.new.passed.items; bottom = Some c.in-Found.version } in
     c.give-in-Found.ensures.state v p
     ∙ ap (λ (t : Task). counted one_step c.args.worker (with_task c.args.worker (with_answer (record { key = c.args.key.now; value = c.contents-found-in-Found.result.kept; origin = from }) t) (state_of v p c.args.scheduler.now))) runs
     ∙ ap (λ (t : Task). counted one_step c.args.worker (with_task c.args.worker t (state_of v p c.args.scheduler.now))) (given_task store c.args.key.now c.args.call answers seen tells.0 c.contents-found-in-Found.result.kept from (tells.2 (map.get store c.args.key.now) ∙ sym c.contents-found-in-Found.ensures.kept) tells.1)
