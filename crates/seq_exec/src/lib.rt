@@ -20,20 +20,10 @@ pub fn run_in_order(alloc: Global, job: &Job) -> Result<Outcome, AllocError>
     ensures store { IfOk result (λ o. o.store ≡ store_after job.now.block job.now.store) }
     ensures counts { IfOk result (λ o. o.counts.items ≡ []) }
 {
-    into_outcome(alloc, job.copy()?)
-}
-
-/// The same, but the job is moved into the outcome.
-pub fn into_outcome(alloc: Global, job: Job) -> Result<Outcome, AllocError>
-    ensures job { IfOk result (λ o. o.job ≡ job) }
-    ensures receipts { IfOk result (λ o. o.receipts.items ≡ receipts_of job.block job.store) }
-    ensures store { IfOk result (λ o. o.store ≡ store_after job.block job.store) }
-    ensures counts { IfOk result (λ o. o.counts.items ≡ []) }
-{
     let mut store = job.store.copy()?;
     let receipts = run_all(alloc, job.block.calls(), &mut store)?;
     Ok(Outcome {
-        job,
+        job: job.copy()?,
         receipts,
         store,
         counts: Vec::new(alloc),
