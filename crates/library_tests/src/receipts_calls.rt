@@ -1,7 +1,7 @@
 //! The text, compared with one that was written by hand.
 
 use crate::asserts::assert_right;
-use receipts::{end_name, one_text_of, result_text, write_result};
+use receipts::{end_name, one_text_of, result_text, write_outcome};
 use rv_isa::{Reg, Regs};
 use rv_ledger::{
     Change, End, InlineBytes, Job, Key, Outcome, Receipt, Store, StoredOutput, Trap, Value,
@@ -116,7 +116,7 @@ fn write(writes: &mut Writes, key: [u8; 32], change: Change<Value>) -> Result<()
 fn is_written(alloc: Global, outcome: &Outcome) -> Result<bool, Fail> {
     let mut out = Vec::new(alloc);
     out.push(7)?;
-    write_result(alloc, outcome.receipts.as_slice(), &outcome.store, &mut out)?;
+    write_outcome(alloc, outcome, &mut out)?;
     Ok(match out.as_slice() {
         [7, rest @ ..] => rest == TEXT.as_bytes(),
         _ => false,

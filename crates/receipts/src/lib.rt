@@ -16,4 +16,4 @@ pub use digits::{push_bytes, push_decimal, push_key};
 pub use laws::{one_text, one_text_of};
 pub use lines::{bytes_text, end_name, regs_line, word_text};
 pub use text::{push_entry, result_text};
-pub use write::write_result;
+pub use write::{write_outcome, write_result};

@@ -7,7 +7,7 @@ ghost use Rattle.receipts.specs.Text.{result_text};
 use crate::buffer::TextBuffer;
 use crate::text::push_result;
 use byte_streams::{Destination, WriteFault};
-use rv_ledger::{Receipt, Store};
+use rv_ledger::{Outcome, Receipt, Store};
 use std::alloc::Global;
 
 /// Writes the text of receipts and a storage, in pieces of 64 KiB. Refused as Memory before anything is
@@ -26,4 +26,16 @@ pub fn write_result<W: Destination>(
     };
     push_result(&mut text, receipts, store, out);
     text.finish(out)
+}
+
+/// Writes the text of an outcome's receipts and storage, as `write_result` does, and is refused as it is.
+pub fn write_outcome<W: Destination>(
+    alloc: Global,
+    outcome: &Outcome,
+    out: &mut W,
+) -> Result<(), WriteFault>
+    ensures writes { WritesText W.contents W.may_refuse result out.old out.new (result_text outcome.now.receipts.items outcome.now.store) }
+    ensures memory { IfErr result (λ e. e ≡ WriteFault.Memory → out.new ≡ out.old) }
+{
+    write_result(alloc, outcome.receipts.as_slice(), &outcome.store, out)
 }

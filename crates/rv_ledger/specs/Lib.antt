@@ -8,4 +8,5 @@ pub mod Job
 pub mod Inserted
 pub mod KeyHash
 pub mod Positions
+pub mod Ranges
 pub mod Applied

@@ -2,14 +2,16 @@
 
 ghost use Rattle.std.specs.Prelude.{◌≡◌, ◌<◌, ◌↔◌, ◌^◌, [], IfOk, IsTrue, None, OnErr, OnOk, Some, length};
 ghost use Rattle.std.specs.FinMap.{from_entries};
+ghost use Rattle.std.specs.List.{filter};
 ghost use Rattle.rv_ledger.specs.Entries.{AreAscending};
 ghost use Rattle.rv_ledger.specs.Inserted.{inserted};
+ghost use Rattle.rv_ledger.specs.Ranges.{is_from};
 ghost use Rattle.rv_ledger.specs.Positions.{IsGoneAt, IsIndexed, IsSetAt, by_key, key_at, position_of};
 
 use crate::hash::key_hash;
 use crate::hints::{Hints, position_in};
 use crate::key::Key;
-use crate::store_iter::StoreIter;
+use crate::store_iter::{StoreIter, StoreRange};
 use crate::stored_bytes::StoredValue;
 use std::alloc::{AllocError, Global};
 use std::collections::BTreeMap;
@@ -170,6 +172,15 @@ impl EntryTable {
         ensures ascending { AreAscending (by_key self.now) }
     {
         StoreIter::new(self.tree.iter(), self.list.as_slice())
+    }
+
+    /// The keys from one on, ascending, each with its value. The first is found by the tree.
+    pub(crate) fn iter_from(&self, from: &Key) -> StoreRange<'_>
+        requires { IsIndexed self.now }
+        ensures all { result ≡ filter (is_from from.now) (by_key self.now) }
+        ensures ascending { AreAscending (by_key self.now) }
+    {
+        StoreRange::new(self.tree.range(*from..), self.list.as_slice())
     }
 
     /// An equal table; refused where memory ran out.

@@ -43,6 +43,6 @@ pub use rules::{Rules, SHORT_VALUE_LIMIT};
 pub use same::{same_call, same_job, same_store};
 pub use store::Store;
 pub use store_builder::StoreBuilder;
-pub use store_iter::StoreIter;
+pub use store_iter::{StoreIter, StoreRange};
 pub use stored_bytes::{IN_PLACE_LIMIT, StoredBytes, StoredOutput, StoredValue};
 pub use writes::{WRITE_LIMIT, Write, Writes};

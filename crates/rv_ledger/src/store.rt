@@ -8,7 +8,7 @@ use crate::entry_table::{ENTRY_LIMIT, EntryTable};
 use crate::inline_bytes::Value;
 use crate::key::Key;
 use crate::lent_value::LentValue;
-use crate::store_iter::StoreIter;
+use crate::store_iter::{StoreIter, StoreRange};
 use crate::stored_bytes::StoredValue;
 use std::alloc::{AllocError, Global};
 use std::cmp::Ordering;
@@ -40,8 +40,10 @@ impl Store {
     ghost use Rattle.std.specs.Prelude.{◌≡◌, None, OnOk, OnErr, IfOk};
     ghost use Rattle.std.specs.Option.{option_copied};
     ghost use Rattle.std.specs.FinMap as map;
+    ghost use Rattle.std.specs.List.{filter};
     ghost use Rattle.rv_ledger.specs.Change.{add};
     ghost use Rattle.rv_ledger.specs.Inserted.{inserted};
+    ghost use Rattle.rv_ledger.specs.Ranges.{is_from};
 
     /// An empty storage.
     pub fn new(alloc: Global) -> Store
@@ -131,6 +133,14 @@ impl Store {
         ensures { result ≡ map.entries self.now }
     {
         self.table.iter()
+    }
+
+    /// The keys from one on, itself included, ascending, each with its value. Takes no memory. The first key is found in time
+    /// that grows with the logarithm of the number of keys.
+    pub fn iter_from(&self, from: &Key) -> StoreRange<'_>
+        ensures { result ≡ filter (is_from from.now) (map.entries self.now) }
+    {
+        self.table.iter_from(from)
     }
 
     /// An equal storage; refused where memory ran out.

@@ -1,12 +1,12 @@
 -- What a session tells of its state.
-use Rattle.std.specs.Prelude.{ℕ, List, [], ◌∷◌, ◌++◌, codes, take, flat_map, Bool, not, Option, Some, None, if◌then◌else◌}
+use Rattle.std.specs.Prelude.{ℕ, List, [], ◌∷◌, ◌++◌, codes, take, flat_map, Option, Some, None, if◌then◌else◌}
 use Rattle.std.specs.Fmt.{decimal}
 use Rattle.std.specs.FinMap.{entries, len}
 use Rattle.std.specs.List.{filter}
-use Rattle.std.specs.Ordering.{is_lt}
 use Rattle.hex.specs.Hex.{encode_lower}
 use Rattle.receipts.specs.Text.{bytes_text, line_of, store_line}
-use Rattle.rv_ledger.specs.Key.{Storage, key_cmp}
+use Rattle.rv_ledger.specs.Key.{Storage}
+use Rattle.rv_ledger.specs.Ranges.{is_from}
 use Rattle.rv_ledger.specs.declared.rules.Rules.{Rules}
 use Rattle.rv_ledger.specs.declared.rules.Rules.TheVariants.{One, Two, Three}
 use Rattle.turns.specs.declared.settings.Settings.{Settings}
@@ -24,9 +24,6 @@ content_line (Some value) = line_of (codes "value") (bytes_text value ∷ [])
 content_line None = codes "absent\n"
 
 -- `list FROM COUNT`: the first COUNT entries from FROM on, itself included
-abbrev pub is_from : List ℕ → List ℕ × List ℕ → Bool
-is_from key entry = not (is_lt (key_cmp entry.0 key))
-
 abbrev pub listed : Storage → List ℕ → ℕ → List ℕ
 listed store from count = flat_map store_line (take count (filter (is_from from) (entries store)))
 

@@ -1,11 +1,9 @@
 //! What a session tells of its state.
 
-ghost use Rattle.std.specs.Prelude.{◌≡◌, IfOk, Some, not};
+ghost use Rattle.std.specs.Prelude.{IfOk, Some};
 ghost use Rattle.std.specs.FinMap.{get};
 ghost use Rattle.std.specs.Option.{option_copied};
-ghost use Rattle.std.specs.Ordering.{is_lt};
 ghost use Rattle.receipts.specs.Buffer.{Appended};
-ghost use Rattle.rv_ledger.specs.Key.{key_cmp};
 ghost use Rattle.turns.specs.Telling.{content_line, listed, state_text};
 
 use crate::settings::Settings;
@@ -72,23 +70,13 @@ fn push_listed<W: Destination>(
     ensures { Appended W.contents W.may_refuse text.old out.old text.new out.new (listed store.now from.now count) }
 {
     let mut left = count;
-    for (key, value) in store.iter() {
+    for (key, value) in store.iter_from(from) {
         if left == 0 {
             return;
-        }
-        if !is_from(key, from) {
-            continue;
         }
         push_entry(text, key, value, out);
         left -= 1;
     }
-}
-
-/// Whether a key is another one or behind it.
-fn is_from(key: &Key, from: &Key) -> bool
-    ensures { result ≡ not (is_lt (key_cmp key.now from.now)) }
-{
-    !key.cmp(from).is_lt()
 }
 
 /// The counts and settings of a session, a line each; refused where memory ran out.

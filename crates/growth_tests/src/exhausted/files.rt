@@ -5,7 +5,7 @@ use crate::images::{NotMade, TOUCH, outcome_of_source};
 use block_file::{BlockFault, Cause, parse};
 use byte_streams::WriteFault;
 use elf32::{ElfError, Image, load, write};
-use receipts::write_result;
+use receipts::write_outcome;
 use rv_ledger::Outcome;
 use rv_program::Program;
 use rv_text::{AsmCause, AsmError, assemble};
@@ -125,8 +125,7 @@ struct Printing {
 
 impl Attempt for Printing {
     fn attempt(&mut self, alloc: Global) -> Tried {
-        let receipts = self.outcome.receipts.as_slice();
-        let answer = write_result(alloc, receipts, &self.outcome.store, &mut self.text);
+        let answer = write_outcome(alloc, &self.outcome, &mut self.text);
         let is_beginning = TOUCH_TEXT.starts_with(self.text.as_slice());
         match answer {
             Ok(()) => done(self.text.as_slice() == TOUCH_TEXT),
