@@ -3,6 +3,7 @@
 
 mod items;
 mod origin;
+mod shared;
 
 ghost use Rattle.std.specs.Prelude.{◌≡◌, ◌++◌, ◌∷◌, [], List, IfOk, OnOk, OnErr};
 ghost use Rattle.read_set.specs.declared.Read.{Read};
@@ -10,6 +11,7 @@ ghost use Rattle.read_set.specs.declared.Read.{Read};
 use items::Items;
 pub use origin::{Origin, Version};
 use rv_ledger::Key;
+pub use shared::SharedVersions;
 use std::alloc::{AllocError, Global};
 use std::marker::Model;
 
