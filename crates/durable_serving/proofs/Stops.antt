@@ -1,17 +1,17 @@
 -- What a crash leaves where a session stops.
-use Rattle.std.proofs.Common.{◌≡◌, ◌⊎◌, ℕ, List, [], ◌∷◌, ◌++◌, Option, Some, None, IfSome, inl, inr, refl, sym, ap, subst, ◌∙◌, append-nil}
+use Rattle.std.proofs.Common.{◌≡◌, ◌+◌, ℕ, List, [], ◌∷◌, ◌++◌, Option, Some, None, IfSome, inl, inr, refl, sym, ap, subst, ◌∙◌, append-nil}
 use Rattle.std.specs.Io.KnownBytes.{Appends}
 use Rattle.std.proofs.KnownBytes.{Appends-nil, Appends-trans}
 use Rattle.requests.specs.Reading.{Tells, WhereKnown}
 use Rattle.requests.specs.Requests.{Ask, requests_of}
 use Rattle.requests.specs.declared.request.Asked.{Asked}
 use Rattle.requests.specs.declared.request.RequestFault.{RequestFault}
-use Rattle.requests.proofs.Taken.{known_map, known_then}
+use Rattle.requests.proofs.Taken.{known_then}
 use Rattle.serving.specs.Asking.{ComesFirst, IsTold, NothingComes}
-use Rattle.serving.specs.Serving.{AreAnswered, end_text, fault_of, until_quit}
+use Rattle.serving.specs.Serving.{end_text, fault_of, until_quit}
 use Rattle.serving.specs.declared.serving.ServeFault.{ServeFault}
 use Rattle.serving.specs.declared.serving.ServeFault.TheVariants.{Broken, Output, Unreadable}
-use Rattle.serving.proofs.Serves.{IsServing, known_some}
+use Rattle.serving.proofs.Serves.{IsServing, known_some, serve_next}
 use Rattle.session_states.specs.declared.fault.StoreFault.{StoreFault}
 use Rattle.sqlite_trees.specs.Tree.{Trees}
 use Rattle.turns.specs.declared.settings.Settings.{Settings}
@@ -128,19 +128,6 @@ module _ (settings : Settings) (old now : FileMoment) (before mid : Option (List
     λ db found. elim (crash db found) [ inl before ↦ inl (leaves db before) | inr next ↦ inr next ],
   )
 
-  -- where a write failed in an answer
-  pub stopped_cut : (limit : ℕ) (asked : Asked) (next : FileMoment) (answer : List ℕ) (last : Option (List ℕ)) (was recovers : Trees → Type 0) (a b c : Option (List ℕ))
-      → ((db : Trees) → was db → HoldsState settings now.session db) → WhereKnown a b Serving → WhereKnown b c (Tells limit asked)
-      → ((xs ys : List ℕ) → Tells limit asked xs ys → (ask : Ask) × ComesFirst ask xs ys × IsFileAnswer settings now ask answer next × Leaves settings now.session ask was recovers)
-      → (part : List ℕ) × (left : List ℕ) × (part ++ left ≡ answer) × Appends mid last part
-      → IfSome a (λ bytes. IsStopped settings old bytes before last recovers)
-  stopped_cut limit asked next answer last was recovers a b c leaves so read took (part, left, whole, wrote) =
-      known_some _ a c (known_then _ (Tells limit asked) (λ xs ys. IsStopped settings old xs before last recovers) a b c so read
-      (λ xs ys zs s t.
-      let (ask, comes, is, crash) = took ys zs t in
-      in_request ask was recovers leaves crash xs ys zs s comes last part wrote
-      (inr (left, next, subst (λ (text : List ℕ). IsFileAnswer settings now ask text next) (sym whole) is))))
-
   -- where the file is shut
   pub stopped_shut : (limit : ℕ) (asked : Asked) (was recovers : Trees → Type 0) (a b c : Option (List ℕ))
       → ((db : Trees) → was db → HoldsState settings now.session db) → WhereKnown a b Serving → WhereKnown b c (Tells limit asked)
@@ -151,3 +138,22 @@ module _ (settings : Settings) (old now : FileMoment) (before mid : Option (List
       (λ xs ys zs s t.
       let (ask, comes, crash) = took ys zs t in
       in_request ask was recovers leaves crash xs ys zs s comes mid [] (Appends-nil mid) (inl refl)))
+
+-- where a write failed in an answer: of that a proper part was written, or all
+pub stopped_cut : (settings : Settings) (old now : FileMoment) (before mid : Option (List ℕ)) (count limit : ℕ) (asked : Asked) (next : FileMoment) (answer : List ℕ) (last : Option (List ℕ)) (was recovers : Trees → Type 0) (a b c : Option (List ℕ))
+    → ((db : Trees) → was db → HoldsState settings now.session db) → ((db : Trees) → recovers db → HoldsState settings next.session db)
+    → WhereKnown a b (IsServing (IsFileAnswer settings) old now before mid count) → WhereKnown b c (Tells limit asked)
+    → ((xs ys : List ℕ) → Tells limit asked xs ys → (ask : Ask) × ComesFirst ask xs ys × IsFileAnswer settings now ask answer next × Leaves settings now.session ask was recovers)
+    → (part : List ℕ) × (left : List ℕ) × (part ++ left ≡ answer) × Appends mid last part
+    → IfSome a (λ bytes. IsStopped settings old bytes before last recovers)
+stopped_cut settings old now before mid count limit asked next answer last was recovers a b c leaves kept so read took (part, [], whole, wrote) =
+    stopped_between settings old next before last (count + 1) recovers a c kept
+    (serve_next (IsFileAnswer settings) limit asked old now next answer before mid last count a b c so read
+    (λ xs ys t. let (ask, comes, is, crash) = took xs ys t in (ask, comes, is))
+    (subst (λ (t : List ℕ). Appends mid last t) (sym (append-nil part) ∙ whole) wrote))
+stopped_cut settings old now before mid count limit asked next answer last was recovers a b c leaves kept so read took (part, byte ∷ left, whole, wrote) =
+    known_some _ a c (known_then _ (Tells limit asked) (λ xs ys. IsStopped settings old xs before last recovers) a b c so read
+    (λ xs ys zs s t.
+    let (ask, comes, is, crash) = took ys zs t in
+    in_request settings old now before mid count ask was recovers leaves crash xs ys zs s comes last part wrote
+    (inr (answer, next, is, (byte ∷ left, (λ none. cc), whole)))))

@@ -7,7 +7,6 @@ use Rattle.byte_streams.specs.declared.fault.WriteFault.{WriteFault}
 use Rattle.requests.specs.Requests.{Ask, Program, Forget, Frame, Last, Begin, requests_of}
 use Rattle.requests.specs.declared.request.RequestFault.{RequestFault}
 use Rattle.serving.specs.Serving.{AreAnswered, IsEndedBy, MayEnd, end_text, fault_of, until_quit}
-use Rattle.serving.specs.declared.serving.ServeFault.{ServeFault}
 use Rattle.session_file.specs.Kept.{HoldsIn, Kept}
 use Rattle.session_file.specs.Limits.{HasSmallNumbers, IsLongAnswer}
 use Rattle.session_states.specs.Faults.{parts_of}
@@ -128,13 +127,19 @@ abbrev pub HoldsNext : Settings → FileState → List Ask → Trees → Type 0
 HoldsNext settings f [] db = ⊥
 HoldsNext settings f (ask ∷ asks) db = HoldsState settings (file_turn settings f ask).1 db
 
--- nothing, or a part of the answer to the next request; where none is left, a part of what is written last
+-- a part of a text that is not all of it
+abbrev pub IsProperPart : List ℕ → List ℕ → Type 0
+IsProperPart part text = (left : List ℕ) × (left ≢ []) × (part ++ left ≡ text)
+
+-- nothing, or a proper part of the answer to the next request: an answer that is whole counts as given; if no request is left, a
+-- part of what is written last, or all of it, which changes nothing
 abbrev pub IsPart : Settings → Option RequestFault → FileMoment → List Ask → List ℕ → Type 0
 IsPart settings fault now [] part = (left : List ℕ) × (part ++ left ≡ end_text fault)
-IsPart settings fault now (ask ∷ asks) part = (part ≡ []) ⊎ ((left : List ℕ) × (next : FileMoment) × IsFileAnswer settings now ask (part ++ left) next)
+IsPart settings fault now (ask ∷ asks) part = (part ≡ []) ⊎ ((text : List ℕ) × (next : FileMoment) × IsFileAnswer settings now ask text next × IsProperPart part text)
 
--- Wherever a session stops: the first requests of its input were answered in whole, and of the next answer a part; and a crash
--- leaves what the answered requests leave, or the next one too.
+-- Wherever a session stops: the first requests of its input were answered in whole, and of the next answer a proper part at most;
+-- and a crash leaves what the answered requests leave, or the next one too. So as soon as an answer is whole, a crash leaves the
+-- session behind it.
 abbrev pub IsStopped : Settings → FileMoment → List ℕ → Option (List ℕ) → Option (List ℕ) → (Trees → Type 0) → Type 0
 IsStopped settings old bytes before now recovers =
     (heard : List Ask) × (rest : List Ask) × (text : List ℕ) × (mid : FileMoment) × (part : List ℕ)

@@ -12,8 +12,8 @@ abbrev pub IsNext : Settings → FileState → List Ask → FileState → Type 0
 IsNext settings f [] next = ⊥
 IsNext settings f (ask ∷ asks) next = next ≡ (file_turn settings f ask).1
 
--- The first requests of an input were answered in whole, and of the next answer a part; and what is found is the session that
--- they left, or that the next one left too.
+-- The first requests of an input were answered in whole, and of the next answer a proper part at most; and what is found is the
+-- session that they left, or that the next one left too.
 abbrev pub IsResumed : Settings → FileMoment → List ℕ → Option (List ℕ) → Option (List ℕ) → FileState → Type 0
 IsResumed settings old bytes before now found =
     (heard : List Ask) × (rest : List Ask) × (text : List ℕ) × (mid : FileMoment) × (part : List ℕ)

@@ -1,5 +1,4 @@
-use Rattle.std.proofs.Common.{◌≡◌, ◌≤◌, arith}
-use Rattle.requests.specs.Reading.{WhereKnown}
+use Rattle.std.proofs.Common.{◌≡◌, arith}
 use Rattle.serving.proofs.Serves.{serve_all, serve_broken, serve_cut, serve_end, serve_next, serve_start, serve_unread}
 use Rattle.session_states.specs.States.{file_state}
 use Rattle.sqlite_trees.specs.View.{IsClean}
@@ -121,6 +120,8 @@ returns-in-Err-write_reply-clause-stopped g c clean =
     (g.R.Read.remaining c.args.input.now) (g.R.Read.remaining c.loop-answers.input) (g.R.Read.remaining c.next_behind.new.input)
     (leaves_kept c.args.settings (g.S.Store.view c.loop-answers.session.file) (file_state c.loop-answers.session.state c.loop-answers.session.found) (g.S.Store.recovers c.loop-answers.session.file)
     (g.met.S.Store.broken_if_shut c.loop-answers.session.file) (g.met.S.Store.settled c.loop-answers.session.file) (c.loop-answers.invariant.sound early) c.loop-answers.invariant.kept)
+    (leaves_kept c.args.settings (g.S.Store.view c.take_asked.new.session.file) (file_state c.take_asked.new.session.state c.take_asked.new.session.found) (g.S.Store.recovers c.take_asked.new.session.file)
+    (g.met.S.Store.broken_if_shut c.take_asked.new.session.file) (g.met.S.Store.settled c.take_asked.new.session.file) (c.in-Answers.ensures.ready.1 clean) c.take_asked.ensures.kept)
     c.loop-answers.invariant.serves c.in-Ok.ensures.says
     (λ xs ys told. let (ask, comes, (is, crash)) = c.in-Answers.ensures.says xs ys told in (ask, comes, is, crash)) c.in-Err-write_reply.ensures.says
 
