@@ -1,10 +1,9 @@
 -- What comes of what was read, over a file.
-use Rattle.std.proofs.Common.{◌≡◌, ◌<◌, ℕ, List, Bool, true, false, Option, Some, None, inl, inr, refl, sym, ap, subst, ◌∙◌, arith}
+use Rattle.std.proofs.Common.{◌≡◌, ◌<◌, ℕ, List, Bool, true, false, Option, Some, None, inl, refl, sym, subst, arith}
 use Rattle.std.specs.Prelude.{IsSome}
 use Rattle.std.specs.Option.{option_map}
-use Rattle.requests.specs.Reading.{ask_of, is_too_long}
+use Rattle.requests.specs.Reading.{is_too_long}
 use Rattle.requests.specs.Requests.{Ask, Program, Forget, Programs, Frame, Try, Last, Get, ListEntries, Dump, Begin, Quit, State as AskState, body_length, with_body}
-use Rattle.requests.specs.declared.request.Request.{Request}
 use Rattle.requests.specs.declared.request.RequestLine.{RequestLine}
 use Rattle.requests.specs.declared.request.RequestLine.TheVariants as line
 use Rattle.serving.specs.Asking.{ComesFirst}

@@ -1,12 +1,11 @@
 -- The turns of a session over a file, and those of its state in memory.
-use Rattle.std.proofs.Common.{◌≡◌, ◌≢◌, ◌+◌, ◌<◌, ℕ, List, [], ◌∷◌, ◌++◌, Bool, true, false, cond, length, Option, Some, None, Result, Ok, Err, inl, inr, refl, sym, ap, subst, ◌∙◌, arith}
+use Rattle.std.proofs.Common.{◌≡◌, ◌≢◌, ◌+◌, ℕ, List, Bool, true, false, cond, length, Option, Some, None, Result, Ok, Err, inl, inr, refl, sym, ap, subst, ◌∙◌, arith}
 use Rattle.std.specs.Prelude.{nat_le, nat_lt}
 use Rattle.std.specs.FinMap.{contains_key}
 use Rattle.std.specs.Option.{option_map}
 use Rattle.sha2.specs.Sha256.{sha256}
-use Rattle.block_file.specs.Block.{BlockValue}
 use Rattle.elf32.specs.Layout.{Layout}
-use Rattle.requests.specs.Requests.{Ask, Program, Forget, Programs, Frame, Try, Last, Get, ListEntries, Dump, Begin, Quit, State as AskState}
+use Rattle.requests.specs.Requests.{Ask, Program, Forget, Programs, Frame, Try, Last, Get, ListEntries, Dump, Begin, State as AskState}
 use Rattle.round_trips.specs.Begun.{EqualButLast}
 use Rattle.round_trips.proofs.Alike.{after_alike, reply_alike}
 use Rattle.session_file.specs.Opening.{answer_parts}

@@ -1,5 +1,5 @@
 -- A change that was kept.
-use Rattle.std.proofs.Common.{◌≡◌, ◌≢◌, ◌≤◌, ◌⊎◌, ℕ, Bool, true, List, Option, Some, None, Result, Ok, Err, OnErr, OnOk, IsTrue, false, inl, inr, refl, sym, ap, subst, ◌∙◌, arith}
+use Rattle.std.proofs.Common.{◌≡◌, ◌≤◌, ◌⊎◌, ℕ, Bool, true, List, Option, Some, None, IsTrue, false, inl, inr, refl, sym, ap, subst, ◌∙◌, arith}
 use Rattle.std.specs.Option.{option_map}
 use Rattle.session_file.specs.Kept.{HoldsIn, Kept}
 use Rattle.session_file.specs.Opening.{answer_parts}
@@ -19,7 +19,7 @@ use Rattle.turns.specs.declared.pending.PendingRun.{PendingRun}
 use Rattle.turns.specs.declared.settings.Settings.{Settings}
 use Rattle.turns.specs.declared.state.State.{State}
 use Rattle.durable_serving.specs.Durable.{HoldsState}
-use Rattle.durable_serving.specs.Keeping.{IsFoundBehind, IsKeptBy, Spares, Stages, next_state, over}
+use Rattle.durable_serving.specs.Keeping.{IsFoundBehind, IsKeptBy, Spares, Stages, next_state}
 
 -- the state behind what was made
 pub made_after : (s : State) (p : Pending) (given : Answer) (after : State) → IsMade s p given after → after ≡ (turn_of s p).after

@@ -1,17 +1,14 @@
 -- What an open finds.
-use Rattle.std.proofs.Common.{◌≡◌, ◌≢◌, ◌⊎◌, Bool, true, false, Option, Some, Result, Ok, Err, IfOk, IfSome, IsTrue, inl, inr, refl, sym, ap, subst, ◌∙◌}
+use Rattle.std.proofs.Common.{◌≡◌, ◌⊎◌, Bool, true, false, Result, Ok, Err, IfOk, IsTrue, inl, inr, sym, subst, ◌∙◌}
 use Rattle.sqlite_exec.specs.Calls.{OnlyReads}
 use Rattle.sqlite_trees.specs.Tree.{Trees}
 use Rattle.sqlite_trees.specs.View.{View}
-use Rattle.sqlite_trees.specs.declared.error.StoreError.{StoreError}
-use Rattle.sqlite_trees.specs.declared.error.StoreError.TheVariants.{OutOfMemory}
 use Rattle.session_file.specs.Kept.{HoldsIn, Kept}
 use Rattle.session_file.specs.Opening.{IsFresh}
 use Rattle.session_file.specs.Staging.{IsKeeping}
-use Rattle.session_file.specs.declared.rows.SessionRow.{SessionRow}
 use Rattle.session_file.proofs.Once.{holds_once}
 use Rattle.session_file.proofs.Staged.{sound_open}
-use Rattle.session_states.specs.States.{FileState, HasSettings, IsUnloadable, KeepsState, Loads, LoadsAs, file_state, new_state, nothing_kept, row_of}
+use Rattle.session_states.specs.States.{FileState, IsUnloadable, KeepsState, Loads, LoadsAs, file_state, new_state, nothing_kept}
 use Rattle.session_states.specs.declared.loading.LoadFault.{LoadFault}
 use Rattle.session_states.specs.declared.loading.LoadFault.TheVariants as load
 use Rattle.session_states.specs.declared.loading.Loaded.{Loaded}
@@ -19,8 +16,7 @@ use Rattle.session_states.proofs.Changes.{session_made}
 use Rattle.turns.specs.declared.settings.Settings.{Settings}
 use Rattle.durable_serving.specs.Durable.{HoldsState}
 use Rattle.durable_serving.specs.Keeping.{IsKeptBy}
-use Rattle.durable_serving.specs.Opened.{IsFoundIn, IsUnopened, new_kept, fault_of_load}
-use Rattle.durable_serving.specs.declared.opening.SessionFault.TheVariants.{Store}
+use Rattle.durable_serving.specs.Opened.{IsUnopened, new_kept, fault_of_load}
 
 -- rows that are no state of a session
 pub unloaded : (settings : Settings) (v : View) (disk : Type 0) (k : Kept) (fault : LoadFault) → HoldsIn v.trees k → IsUnloadable settings k fault → IsUnopened settings v disk (fault_of_load fault)
@@ -51,31 +47,6 @@ pub new_is_held : (settings : Settings) (db : Trees) (before : Type 0) → setti
 new_is_held settings db before digest (inl was) = inl was
 new_is_held settings db before digest (inr now) = inr (new_kept settings, now, session_made settings digest)
 
--- what was loaded, either way
-either : (settings : Settings) (db : Trees) (k : Kept) (loaded : Loaded) (b : Bool) → loaded.is_new ≡ b → HoldsIn db k → Loads settings k loaded → IsFoundIn settings db (file_state loaded.state loaded.answer)
-either settings db k loaded true is holds loads = (k, holds, inr (loads_new settings k loaded loads is))
-either settings db k loaded false is holds loads = (k, holds, inl (loads_kept settings k loaded loads is))
-
-pub found_in : (settings : Settings) (db : Trees) (k : Kept) (loaded : Loaded) → HoldsIn db k → Loads settings k loaded → IsFoundIn settings db (file_state loaded.state loaded.answer)
-found_in settings db k loaded holds loads = either settings db k loaded loaded.is_new refl holds loads
-
 pub ok_both : {X E : Type 0} {P Q R : X → Type 0} (r : Result X E) → ((x : X) → P x → Q x → R x) → IfOk r P → IfOk r Q → IfOk r R
 ok_both (Ok x) f p q = f x p q
 ok_both (Err e) f p q = tt
-
--- a file that keeps a session of these settings is refused for want of memory alone
-other_row : (settings : Settings) (f : FileState) (k : Kept) → KeepsState settings f k → ((row : SessionRow) × (k.session ≡ Some row) × ¬ HasSettings settings row) → ⊥
-other_row settings f k keeps (row, is, other) =
-    let same : Some (row_of settings f.state.rules f.state.height keeps.session.0) ≡ Some row = sym keeps.session.2 ∙ is in
-    other (subst (λ (o : Option SessionRow). IfSome o (HasSettings settings)) same (record { frame_limit = refl; frame_gas = refl; is_brief = refl }))
-
-pub only_memory : (settings : Settings) (f : FileState) (k : Kept) (fault : LoadFault) → KeepsState settings f k → IsUnloadable settings k fault → (error : StoreError) × (fault_of_load fault ≡ Store error)
-only_memory settings f k load.OtherSettings keeps is = absurd (other_row settings f k keeps is)
-only_memory settings f k load.Damaged keeps is = absurd (is.1 f keeps)
-only_memory settings f k load.Memory keeps is = (OutOfMemory, refl)
-
--- and it is told as that
-pub wants_memory : (settings : Settings) (f : FileState) (k : Kept) (fault : LoadFault) → KeepsState settings f k → IsUnloadable settings k fault → fault_of_load fault ≡ Store OutOfMemory
-wants_memory settings f k load.OtherSettings keeps is = absurd (other_row settings f k keeps is)
-wants_memory settings f k load.Damaged keeps is = absurd (is.1 f keeps)
-wants_memory settings f k load.Memory keeps is = refl

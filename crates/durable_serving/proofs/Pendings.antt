@@ -1,12 +1,11 @@
 -- What is pending of a request, and what a session over a file answers it.
-use Rattle.std.proofs.Common.{◌≡◌, ◌≢◌, ◌<◌, ◌≤◌, ◌⊎◌, ℕ, List, [], length, Bool, true, false, cond, IsTrue, Option, Some, None, Result, Ok, inl, inr, refl, sym, ap, subst, ◌∙◌, arith}
+use Rattle.std.proofs.Common.{◌≡◌, ◌≢◌, ◌<◌, ◌≤◌, ◌⊎◌, ℕ, List, [], length, Bool, true, false, cond, IsTrue, Option, Some, None, inl, inr, refl, sym, ap, subst, ◌∙◌, arith}
 use Rattle.std.proofs.lemmas.Bool.Decides.{nat_tests}
 use Rattle.std.specs.Prelude.{nat_lt}
-use Rattle.std.specs.Arc.{arc_value}
 use Rattle.std.specs.Option.{option_map}
 use Rattle.sha2.specs.Sha256.{sha256}
 use Rattle.elf32.specs.Image.{image_of}
-use Rattle.requests.specs.Requests.{Ask, Program, Forget, Programs, Frame, Try, Last, Get, ListEntries, Dump, Begin, Quit, State as AskState}
+use Rattle.requests.specs.Requests.{Ask, Program, Forget, Frame, Last, Begin}
 use Rattle.round_trips.specs.Begun.{EqualButLast}
 use Rattle.round_trips.proofs.Alike.{after_alike, frame_after, reply_alike}
 use Rattle.session_file.specs.Opening.{answer_parts}
@@ -18,10 +17,9 @@ use Rattle.sqlite_trees.specs.Tree.{Trees}
 use Rattle.sqlite_trees.specs.View.{View, HasCause, IsClean}
 use Rattle.sqlite_trees.specs.declared.error.StoreError.{StoreError}
 use Rattle.sqlite_trees.specs.declared.error.StoreError.TheVariants as store
-use Rattle.turns.specs.Failures.{MayFail}
 use Rattle.turns.specs.Pending.{IsDue, IsMade, IsNewProgram, IsPending, IsPendingChange, IsRefusal, after_run_of, turn_of}
 use Rattle.turns.specs.Replies.{Done, Refused, Reply, answer_text}
-use Rattle.turns.specs.Stages.{IsTurn, reply_in}
+use Rattle.turns.specs.Stages.{reply_in}
 use Rattle.turns.specs.Turn.{Turn, named_turn, program_turn, told, turn}
 use Rattle.turns.specs.declared.answer.Answer.{Answer}
 use Rattle.turns.specs.declared.answer.Answer.TheVariants as answer
@@ -30,12 +28,11 @@ use Rattle.turns.specs.declared.pending.Pending.{Pending}
 use Rattle.turns.specs.declared.pending.Pending.TheVariants as pending
 use Rattle.turns.specs.declared.pending.PendingFrame.{PendingFrame}
 use Rattle.turns.specs.declared.pending.PendingRun.{PendingRun}
-use Rattle.turns.specs.declared.refusal.Failure.{Failure}
 use Rattle.turns.specs.declared.refusal.FrameRefusal.{FrameRefusal}
 use Rattle.turns.specs.declared.refusal.FrameRefusal.TheVariants.{FileTooLong}
 use Rattle.turns.specs.declared.settings.Settings.{Settings}
 use Rattle.turns.specs.declared.state.State.{State}
-use Rattle.durable_serving.specs.Durable.{HoldsState, IsBeyondFormat, IsFileAnswer, IsLater, MayChange, MayRefuse, behind_turn, failed_store, file_turn, last_behind, last_if_begun, moment}
+use Rattle.durable_serving.specs.Durable.{HoldsState, IsBeyondFormat, IsFileAnswer, IsLater, MayChange, MayRefuse, behind_turn, file_turn, last_behind, last_if_begun, moment}
 use Rattle.durable_serving.specs.Keeping.{IsAnsweredBy, IsBeyond, IsKeepCause, IsStorable, IsWanted, Leaves, body_in, course_of, next_state, over, pending_last}
 use Rattle.durable_serving.specs.declared.keeping.KeepFault.{KeepFault}
 use Rattle.durable_serving.specs.declared.keeping.KeepFault.TheVariants.{Room, Store}

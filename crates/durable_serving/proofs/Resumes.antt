@@ -1,7 +1,7 @@
 -- What is found where a machine stopped.
-use Rattle.std.proofs.Common.{◌≡◌, ◌⊎◌, ℕ, List, [], ◌∷◌, ◌++◌, Option, Some, None, inl, inr, refl, sym, ap, subst, ◌∙◌}
+use Rattle.std.proofs.Common.{◌≡◌, ℕ, List, [], ◌∷◌, Option, Some, None, inl, inr, sym, ap, subst, ◌∙◌}
 use Rattle.requests.specs.Requests.{Ask}
-use Rattle.session_file.specs.Kept.{HoldsIn, Kept}
+use Rattle.session_file.specs.Kept.{Kept}
 use Rattle.session_file.proofs.Once.{holds_once}
 use Rattle.session_states.specs.States.{FileState, KeepsState, nothing_kept}
 use Rattle.session_states.proofs.Once.{kept_once}

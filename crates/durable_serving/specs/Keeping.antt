@@ -1,19 +1,17 @@
 -- Private help of proofs; no public clause cites it, but `IsKeptBy`. How a change is staged and kept, and what comes of what was read.
-use Rattle.std.specs.Prelude.{◌≡◌, ◌≤◌, ◌⊎◌, ⊤, ℕ, length, Bool, true, false, List, [], ◌∷◌, ◌++◌, Option, Some, None, Ok, IsSome}
+use Rattle.std.specs.Prelude.{◌≡◌, ◌≤◌, ◌⊎◌, ⊤, ℕ, length, Bool, true, false, List, [], ◌++◌, Option, Some, None, Ok, IsSome}
 use Rattle.std.specs.Arc.{arc_value}
 use Rattle.std.specs.Option.{option_map}
 use Rattle.sha2.specs.Sha256.{sha256}
 use Rattle.elf32.specs.Image.{image_of}
 use Rattle.requests.specs.Requests.{Ask, Last, Program}
-use Rattle.requests.specs.declared.request.RequestFault.{RequestFault}
 use Rattle.serving.specs.Asking.{ComesFirst, NothingComes}
 use Rattle.session_file.specs.Kept.{Kept}
 use Rattle.session_file.specs.Opening.{answer_parts}
 use Rattle.session_file.specs.Staging.{IsKeeping, IsStaged}
 use Rattle.session_file.specs.declared.rows.AnswerRow.{AnswerRow}
-use Rattle.session_states.specs.States.{FileState, KeepsState, last_of, text_of}
+use Rattle.session_states.specs.States.{FileState, KeepsState, text_of}
 use Rattle.session_states.specs.Faults.{fault_of_store}
-use Rattle.session_states.specs.declared.fault.StoreFault.{StoreFault}
 use Rattle.session_states.specs.declared.fault.StoreFault.TheVariants.{Memory}
 use Rattle.sqlite_trees.specs.Tree.{Trees}
 use Rattle.sqlite_trees.specs.View.{View, HasCause, IsClean}
@@ -25,7 +23,7 @@ use Rattle.turns.specs.declared.pending.Pending.{Pending}
 use Rattle.turns.specs.declared.pending.Pending.TheVariants as pending
 use Rattle.turns.specs.declared.settings.Settings.{Settings}
 use Rattle.turns.specs.declared.state.State.{State}
-use Rattle.durable_serving.specs.Durable.{FileMoment, HoldsState, IsBeyondFormat, IsFileAnswer, IsShutBy, failed_store, file_turn, last_text}
+use Rattle.durable_serving.specs.Durable.{FileMoment, HoldsState, IsBeyondFormat, IsFileAnswer, IsShutBy, failed_store, file_turn}
 use Rattle.durable_serving.specs.declared.asking.FileCourse.{FileCourse}
 use Rattle.durable_serving.specs.declared.asking.FileCourse.TheVariants.{Answers, Ends, Breaks, Shuts}
 use Rattle.durable_serving.specs.declared.keeping.KeepFault.{KeepFault}

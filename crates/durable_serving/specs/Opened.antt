@@ -1,5 +1,5 @@
 -- What an open of a session's store gives, and why it may be refused.
-use Rattle.std.specs.Prelude.{◌≡◌, ◌≢◌, ◌⊎◌, ⊤, Some, replicate}
+use Rattle.std.specs.Prelude.{◌≡◌, ◌≢◌, ◌⊎◌, Some, replicate}
 use Rattle.rv_ledger.specs.declared.rules.Rules.TheVariants.{One}
 use Rattle.session_file.specs.Kept.{HoldsIn, Kept, session_tree}
 use Rattle.session_file.specs.Opening.{IsOfOtherVersion}

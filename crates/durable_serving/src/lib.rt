@@ -8,12 +8,10 @@ mod keeping;
 mod laws;
 mod opening;
 mod reply;
-mod restarting;
 mod session;
 mod staging;
 
 pub use answering::{DurableFault, serve_durably};
 pub use laws::stopped_session_goes_on;
 pub use opening::{SessionFault, open_durably};
-pub use restarting::restart_durably;
 pub use session::FileSession;

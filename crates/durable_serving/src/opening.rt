@@ -136,7 +136,7 @@ fn keep_new<S: Store>(file: &mut SessionFile<S>, settings: Settings) -> Result<(
 }
 
 /// The fault of rows that are none of a session.
-pub(crate) fn fault_of_open(fault: OpenFault) -> SessionFault
+fn fault_of_open(fault: OpenFault) -> SessionFault
     ensures { result ≡ fault_of_open fault }
 {
     match fault {
@@ -148,7 +148,7 @@ pub(crate) fn fault_of_open(fault: OpenFault) -> SessionFault
 }
 
 /// The fault of rows that are no state of a session.
-pub(crate) fn fault_of_load(fault: LoadFault) -> SessionFault
+fn fault_of_load(fault: LoadFault) -> SessionFault
     ensures { result ≡ fault_of_load fault }
 {
     match fault {

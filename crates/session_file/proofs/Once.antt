@@ -1,13 +1,11 @@
 -- Trees hold one state of a session.
-use Rattle.std.proofs.Common.{◌≡◌, ◌⊎◌, ℕ, Bool, true, false, List, [], ◌∷◌, map, Option, Some, None, refl, sym, ap, subst, ◌∙◌, inl, inr, arith}
+use Rattle.std.proofs.Common.{◌≡◌, ℕ, Bool, true, false, List, [], ◌∷◌, map, Option, Some, None, refl, sym, ap, ◌∙◌, arith}
 use Rattle.std.specs.FinMap.{entries, same_entries_map}
 use Rattle.sqlite_trees.specs.Tree.{Trees}
-use Rattle.sqlite_trees.specs.View.{View}
 use Rattle.rv_ledger.specs.declared.rules.Rules.{Rules}
 use Rattle.rv_ledger.specs.declared.rules.Rules.TheVariants as rules
 use Rattle.entry_tree.specs.Entries.{ByteMap, row_of, rows_of}
 use Rattle.session_file.specs.Kept.{HoldsIn, Kept, answer_row, flag, number_or_null, rows_if_any, rules_number, session_row}
-use Rattle.session_file.specs.Staging.{Holds}
 use Rattle.session_file.specs.declared.rows.SessionRow.{SessionRow}
 
 one_of : (e f : List ℕ × List ℕ) → row_of e ≡ row_of f → e ≡ f

@@ -1,17 +1,15 @@
 -- What an open finds, and when it is refused.
-use Rattle.std.proofs.Common.{◌≡◌, ◌≤◌, ℕ, Option, Some, None, Result, Ok, Err, IfErr, IfOk, false, arith, ◌⊎◌, inl, inr, refl, sym, ap, subst, ◌∙◌}
+use Rattle.std.proofs.Common.{◌≡◌, ◌≤◌, ℕ, Option, Some, None, refl, sym, ap, subst, ◌∙◌}
 use Rattle.sqlite_disk.specs.Disk.{MoreFaults}
 use Rattle.sqlite_exec.specs.Calls.{OnlyReads}
 use Rattle.sqlite_trees.specs.Tree.{Trees}
 use Rattle.sqlite_trees.specs.View.{View}
-use Rattle.sqlite_trees.specs.declared.error.StoreError.{StoreError}
-use Rattle.sqlite_trees.specs.declared.error.StoreError.TheVariants.{OutOfMemory, Io, Corrupt, Full, Broken, Unstorable}
 use Rattle.entry_tree.proofs.Causes.{later_cause}
 use Rattle.entry_tree.specs.Entries.{rows_of}
 use Rattle.session_file.specs.Kept.{HoldsIn, IsInLimits, Kept, answer_row, answer_tree, program_tree, rows_if_any, session_row, session_tree, storage_tree}
 use Rattle.session_file.specs.Opening.{IsFresh, IsOfOtherVersion, IsRefused}
 use Rattle.session_file.specs.Rows.{IsReadFault}
-use Rattle.session_file.specs.Staging.{HasTrees, Holds, IsShaped}
+use Rattle.session_file.specs.Staging.{Holds}
 use Rattle.session_file.specs.declared.fault.OpenFault.{OpenFault}
 use Rattle.session_file.specs.declared.fault.OpenFault.TheVariants.{Damaged, NotASession, OtherVersion, Store}
 use Rattle.session_file.specs.declared.rows.SessionRow.{SessionRow}
@@ -62,43 +60,3 @@ keeps_read v now k fresh reads holds =
       committed = subst (λ db. HoldsIn db k) same holds;
       written = holds;
     }
-
--- where the trees are a session's, only the store can refuse
-pub only_store : (v : View) (disk : Type 0) (k : Kept) (fault : OpenFault) → HasTrees v → HoldsIn v.trees k → IsRefused v disk fault → (error : StoreError) × (fault ≡ Store error)
-only_store v disk k NotASession trees holds f = absurd (f trees)
-only_store v disk k OtherVersion trees holds f = absurd (not_other k.session (subst IsOfOtherVersion holds.session f))
-only_store v disk k Damaged trees holds f = absurd (f.1 k holds)
-only_store v disk k (Store e) trees holds f = (e, refl)
-
--- trees are there after a reopen
-pub trees_again : (old new : View) → IsShaped old → (old.shape ≡ old.committed_shape → new.shape ≡ old.shape) → (old.reals ≡ old.committed_reals → new.reals ≡ old.reals) → HasTrees new
-trees_again old new was same alike =
-    let is = same (sym was.committed) in
-    let reals = alike (sym was.committed_reals) in record {
-      storage = ap (λ f. f storage_tree) is ∙ was.trees.storage;
-      programs = ap (λ f. f program_tree) is ∙ was.trees.programs;
-      session = ap (λ f. f session_tree) is ∙ was.trees.session;
-      answer = ap (λ f. f answer_tree) is ∙ was.trees.answer;
-      session_reals = ap (λ f. f session_tree) reals ∙ was.trees.session_reals;
-      answer_reals = ap (λ f. f answer_tree) reals ∙ was.trees.answer_reals;
-    }
-
-pub ok_both : {X E : Type 0} {P Q R : X → Type 0} (r : Result X E) → ((x : X) → P x → Q x → R x) → IfOk r P → IfOk r Q → IfOk r R
-ok_both (Ok x) f p q = f x p q
-ok_both (Err e) f p q = tt
-
-pub err_both : {X E : Type 0} {P Q R : E → Type 0} (r : Result X E) → ((e : E) → P e → Q e → R e) → IfErr r P → IfErr r Q → IfErr r R
-err_both (Ok x) f p q = tt
-err_both (Err e) f p q = f e p q
-
--- trees that hold a session, in a store that was just opened, are refused for want of memory, or where the disk failed
-pub why_refused : (v : View) (a b c : ℕ) (k : Kept) (fault : OpenFault) → v.is_broken ≡ false → HasTrees v → HoldsIn v.trees k → a ≤ b → IsRefused v (MoreFaults b c) fault → (fault ≡ Store OutOfMemory) ⊎ MoreFaults a c
-why_refused v a b c k NotASession sound trees holds up f = absurd (f trees)
-why_refused v a b c k OtherVersion sound trees holds up f = absurd (not_other k.session (subst IsOfOtherVersion holds.session f))
-why_refused v a b c k Damaged sound trees holds up f = absurd (f.1 k holds)
-why_refused v a b c k (Store OutOfMemory) sound trees holds up f = inl refl
-why_refused v a b c k (Store Io) sound trees holds up f = inr (omega (arith, f))
-why_refused v a b c k (Store Corrupt) sound trees holds up f = inr (omega (arith, f))
-why_refused v a b c k (Store Full) sound trees holds up f = inr (omega (arith, f))
-why_refused v a b c k (Store Broken) sound trees holds up f = cc
-why_refused v a b c k (Store Unstorable) sound trees holds up f = absurd f

@@ -9,7 +9,6 @@ mod file;
 mod laws;
 mod opening;
 mod reading;
-mod restarting;
 mod rows;
 mod writing;
 
@@ -17,5 +16,4 @@ pub use fault::OpenFault;
 pub use file::SessionFile;
 pub use laws::held_session_is_one;
 pub use opening::open_session;
-pub use restarting::restart;
 pub use rows::{AnswerRow, Found, ProgramRow, SessionRow};

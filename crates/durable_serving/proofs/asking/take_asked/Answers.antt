@@ -1,4 +1,4 @@
-use Rattle.std.proofs.Common.{◌≡◌, ℕ, List, Some, None, inl, refl, sym, subst}
+use Rattle.std.proofs.Common.{ℕ, List, Some, None, inl, refl, sym, subst}
 use Rattle.requests.specs.Reading.{Tells}
 use Rattle.requests.specs.Requests.{with_body}
 use Rattle.requests.specs.declared.request.Asked.{Asked}
