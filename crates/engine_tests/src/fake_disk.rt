@@ -1,7 +1,8 @@
 //! A disk in memory, which keeps a record of what it was asked, and of which one request can fail.
 
-ghost use Rattle.std.specs.Prelude.{None};
+ghost use Rattle.std.specs.Prelude.{⊤, None};
 
+use byte_streams::Source;
 use engines::Disk;
 use std::alloc::{AllocError, Global};
 use std::cell::{Cell, Ref, RefCell, RefMut};
@@ -254,6 +255,14 @@ impl<'a> Read for FakeReader<'a> {
     }
 }
 
+impl<'a> Source for FakeReader<'a> {
+    ghost may_fail = { λ _. ⊤ };
+
+    fn read_part(&mut self, part: &mut [u8]) -> io::Result<usize> {
+        self.read(part)
+    }
+}
+
 /// A file that is written.
 #[derive(Drop)]
 pub struct FakeWriter<'a> {
@@ -282,6 +291,8 @@ impl<'a> Write for FakeWriter<'a> {
 
 impl<'a> Disk for FakeDisk<'a> {
     type File = FakeReader<'a>;
+
+    ghost content = { λ _ _. None };
 
     fn open(&self, path: &str) -> io::Result<FakeReader<'a>> {
         self.stored.note("open", path)?;

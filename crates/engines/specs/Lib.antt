@@ -9,3 +9,5 @@ pub mod Conflicts
 pub mod Run
 pub mod Counts
 pub mod Debug
+pub mod Named
+pub mod Program

@@ -1,6 +1,7 @@
 -- What a session over a file asks of the stores, in which order.
 use Rattle.std.specs.Prelude.{◌≡◌, ◌⊎◌, ⊤, ℕ, List, [], ◌∷◌, Option}
 use Rattle.session_states.specs.declared.fault.StoreFault.TheVariants.{Busy, HotJournal, NotASession, OtherVersion, OtherSettings}
+use Rattle.sqlite_trees.specs.View.{View}
 use Rattle.engines.specs.Opened.{Asks}
 use Rattle.engines.specs.declared.fault.Refusal.{Refusal}
 use Rattle.engines.specs.declared.fault.Refusal.TheVariants.{Store}
@@ -43,3 +44,7 @@ IsOfSession (Store NotASession) = ⊥
 IsOfSession (Store OtherVersion) = ⊥
 IsOfSession (Store OtherSettings) = ⊥
 IsOfSession fault = ⊤
+
+-- files have what some store showed, whatever a crash leaves: a store was closed, and that was done
+abbrev pub AreClosed : {F : Type 0} → (F → View → Type 0) → Type 0
+AreClosed {F} are_folded = (files : F) × (v : View) × are_folded files v

@@ -1,212 +1,80 @@
-//! What the program does for a command line, over any files, input and writers.
+//! What the program does for each request, over any files, input and writers.
 
-ghost use Rattle.std.specs.Prelude.{◌≡◌};
-ghost use Rattle.std.specs.Option.{unwrap_or};
+ghost use Rattle.std.specs.Prelude.{◌≡◌, ◌⊎◌, option_map, Err, IfErr, IfOk, IfSome, None, Ok, OnErr, OnOk};
+ghost use Rattle.block_file.specs.Migrate.{migrated};
+ghost use Rattle.cmdline.specs.Line.{AsmOf, ConflictsOf, DebugOf, DisOf, DriveOf, MigrateOf, RunOf, SeqOf, asked_by};
+ghost use Rattle.engines.specs.Dis.{IsSourceFault, file_of_source};
+ghost use Rattle.engines.specs.Engine.{IsBlockFault};
+ghost use Rattle.engines.specs.Program.{AreCountsAsked, AsksStores, ClosesStore, IsRefusedAs, IsRefusedSession, Prints, PrintsSession, PutsFile, settings_of};
+ghost use Rattle.engines.specs.Stores.{AreClosed, AsksForSession};
+ghost use Rattle.system_files.specs.Entries.{IsPut, Stays};
 
 use crate::asm::{SOURCE_MEMORY, file_of_source};
 use crate::by_threads::ByThreads;
 use crate::conflicts_command::conflicts_to;
-use crate::counts::{RunCounts, write_counts};
+use crate::counts::RunCounts;
 use crate::debug::debug_block_to;
 use crate::dis::dis_to;
-use crate::disk::{Disk, LateFile, ProgramFiles};
+use crate::disk::{Disk, NamedFile, ProgramFiles};
 use crate::drive::drive_to;
 use crate::fault::{FileFault, Refusal};
 use crate::loading::BLOCK_MEMORY;
 use crate::migrate::migrated_file;
-use crate::reporting::report;
 use crate::run::run_to;
 use crate::seq::seq_to;
 use crate::sessions::chain;
 use crate::stores::SessionStores;
-use byte_streams::{Destination, FallibleReader, FallibleWriter, WriteFault, write_whole};
-use cmdline::{Request, request_of};
+use byte_streams::{Destination, Source};
+use cmdline::Request;
 use std::alloc::Global;
-use std::fs::File;
-use std::io::{Read, Stderr, Stdin, Stdout, Write};
-use std::process::ExitCode;
-use std::rt::{Env, Files};
 use std::sync::Wait;
 use std::thread::Threads;
-use std::{env, io};
-use system_files::{OutputDisk, ReplaceFault, SystemDisk, replace};
+use system_files::{OutputDisk, ReplaceFault, replace};
 use turns::{InOrder, Settings};
 
-/// The exit status of a wrong command line.
-const WRONG_LINE: u8 = 2;
-
-/// Does what a runtime's command line asks for, over its files and the standard streams, and returns the exit
-/// code, as `status` does.
-pub fn exit_code<R, K>(
-    rt: &R,
-    stores: &mut K,
-    mut input: Stdin,
-    mut out: Stdout,
-    mut errors: Stderr,
-) -> ExitCode
-where
-    R: Env + Files<File = File> + AllocGlobal + Threads + Wait + Sync,
-    K: SessionStores,
-{
-    let mut disk = SystemDisk { rt };
-    ExitCode::from(status(rt, rt, &mut disk, stores, &mut input, &mut out, &mut errors))
-}
-
-/// Does what the command line asks for, and returns the exit status: 0 where it is done, 1 where it is
-/// refused, 2 where the line is wrong. The lines of `debug` and the requests of `chain` are read from `input`. Results,
-/// answers, help and the version are written to `out`. Refusals, what is wrong with the line, and counts are written to
-/// `errors`.
-pub fn status<R, T, D, K, I, W, E>(
-    rt: &R,
-    threads: &T,
-    disk: &mut D,
-    stores: &mut K,
-    input: &mut I,
-    out: &mut W,
-    errors: &mut E,
-) -> u8
-where
-    R: Env + AllocGlobal,
+/// Does a request, and returns what the workers did, where that is to be printed.
+pub(crate) fn answer<
     T: Threads + Wait + Sync,
     D: Disk,
     K: SessionStores,
-    I: Read,
-    W: Write,
-    E: Write,
-{
-    let mut out = FallibleWriter { writer: out };
-    let mut errors = FallibleWriter { writer: errors };
-    let words = match words_of(rt) {
-        Ok(words) => words,
-        Err(error) => return refuse_line(error_text(&error), &mut errors),
-    };
-    match read_request(rt.alloc(), words.as_slice(), &mut out, &mut errors) {
-        Ok(request) => match answer(
-            threads,
-            rt.alloc(),
-            disk,
-            stores,
-            request,
-            input,
-            &mut out,
-            &mut errors,
-        ) {
-            Ok(()) => 0,
-            Err(refusal) => report(&refusal, &mut errors),
-        },
-        Err(status) => status,
-    }
-}
-
-/// What is printed where clap takes a line that asks for nothing.
-const NO_REQUEST: &str = "error: a value is missing, or a number has a sign or a leading zero";
-
-/// The request of a command line. Where there is none, prints why, and refuses with the exit status.
-fn read_request<'a, W: Destination, E: Destination>(
-    alloc: Global,
-    words: &'a [String],
-    out: &mut W,
-    errors: &mut E,
-) -> Result<Request<'a>, u8> {
-    match request_of(alloc, words) {
-        Ok(Some(request)) => Ok(request),
-        Ok(None) => Err(refuse_line(NO_REQUEST, errors)),
-        Err(error) => Err(print_error(alloc, &error, out, errors)),
-    }
-}
-
-/// Prints the help or the version to `out`, or what is wrong with a line to `errors`, and returns the exit
-/// status.
-fn print_error<W: Destination, E: Destination>(
-    alloc: Global,
-    error: &clap::Error,
-    out: &mut W,
-    errors: &mut E,
-) -> u8 {
-    if error.use_stderr() {
-        let _ = write!(errors, "{error}");
-        return WRONG_LINE;
-    }
-    match print_help(alloc, error, out) {
-        Ok(()) => 0,
-        Err(fault) => report(&Refusal::Output(fault), errors),
-    }
-}
-
-/// Prints the help or the version. Refused as Memory before anything is written, or as `write_whole` is.
-fn print_help<W: Destination>(
-    alloc: Global,
-    help: &clap::Error,
-    out: &mut W,
-) -> Result<(), WriteFault> {
-    let Ok(text) = format!(in alloc; "{help}") else {
-        return Err(WriteFault::Memory);
-    };
-    write_whole(text.as_str().as_bytes(), out)
-}
-
-/// Prints what is wrong with a command line, and returns the exit status.
-fn refuse_line<E: Destination>(message: &str, errors: &mut E) -> u8 {
-    let _ = writeln!(errors, "{message}");
-    WRONG_LINE
-}
-
-/// The words of the command line, the program's name first.
-fn words_of<R: Env + AllocGlobal>(rt: &R) -> io::Result<Vec<String>> {
-    let words = env::args(rt)?;
-    Ok(words.collect::<Vec<String>>(rt.alloc())?)
-}
-
-/// The message for a command line that can't be read.
-fn error_text(error: &io::Error) -> &'static str {
-    match error.kind() {
-        io::ErrorKind::InvalidData => "error: a word of the command line is not UTF-8",
-        _ => "error: out of memory",
-    }
-}
-
-/// Does a request.
-fn answer<
-    T: Threads + Wait + Sync,
-    D: Disk,
-    K: SessionStores,
-    I: Read,
+    I: Source,
     W: Destination,
-    E: Destination,
 >(
     threads: &T,
     alloc: Global,
+    request: Request<'_>,
     disk: &mut D,
     stores: &mut K,
-    request: Request<'_>,
     input: &mut I,
     out: &mut W,
-    errors: &mut E,
-) -> Result<(), Refusal> {
+) -> Result<Option<RunCounts>, Refusal>
+    ensures printed { OnOk result (Prints (D.content disk.old) (I.remaining input.old) (W.contents out.old) (W.contents out.new) (asked_by request.entry)) }
+    ensures counted { IfOk result (AreCountsAsked (D.content disk.old) (asked_by request.entry)) }
+    ensures put { OnOk result (PutsFile (D.content disk.old) (D.leads disk.old) (D.entries disk.old) (D.entries disk.new) (asked_by request.entry)) }
+    ensures stored { OnOk result (AsksStores (K.asked stores.old) (K.asked stores.new) (asked_by request.entry)) }
+    ensures closed { OnOk result (ClosesStore K.are_folded (asked_by request.entry)) }
+    ensures refused { IfErr result (IsRefusedAs (D.content disk.old) (I.may_fail input.old) (I.remaining input.old) (W.may_refuse out.old) (W.contents out.old) (W.contents out.new) (asked_by request.entry)) }
+{
     match request {
         Request::Run {
             file,
             workers,
             counts,
-        } => {
-            let found = run(threads, alloc, disk, file, workers, out)?;
-            print_counts(alloc, counts, &found, errors)
-        }
-        Request::Seq { file } => seq(alloc, disk, file, out),
-        Request::Conflicts { file } => conflicts(alloc, disk, file, out),
+        } => run(threads, alloc, disk, file, workers, counts, out),
+        Request::Seq { file } => uncounted(seq(alloc, disk, file, out)),
+        Request::Conflicts { file } => uncounted(conflicts(alloc, disk, file, out)),
         Request::Drive {
             file,
             workers,
             schedule,
             counts,
-        } => {
-            let found = drive(alloc, disk, file, workers, schedule, out)?;
-            print_counts(alloc, counts, &found, errors)
+        } => drive(alloc, disk, file, workers, schedule, counts, out),
+        Request::Asm { file, out } => uncounted(asm(alloc, disk, file, out)),
+        Request::Dis { file } => uncounted(dis(alloc, disk, file, out)),
+        Request::Migrate { file, out } => uncounted(migrate(alloc, disk, file, out)),
+        Request::Debug { file, call, more } => {
+            uncounted(debug(alloc, disk, file, call, more, input, out))
         }
-        Request::Asm { file, out } => asm(alloc, disk, file, out),
-        Request::Dis { file } => dis(alloc, disk, file, out),
-        Request::Migrate { file, out } => migrate(alloc, disk, file, out),
-        Request::Debug { file, call, more } => debug(alloc, disk, file, call, more, input, out),
         Request::Chain {
             workers,
             frame_limit,
@@ -216,46 +84,74 @@ fn answer<
             store,
         } => {
             let settings = settings_of(frame_limit, frame_gas, digest, brief);
-            match workers {
-                None => chain(alloc, stores, store, &mut InOrder, settings, input, out),
-                Some(workers) => {
-                    let mut runner = ByThreads::new(threads, alloc, workers);
-                    chain(alloc, stores, store, &mut runner, settings, input, out)
-                }
-            }
+            uncounted(session(threads, alloc, stores, store, workers, settings, input, out))
         }
     }
 }
 
-/// Prints what the workers of a run did, where that is asked for.
-fn print_counts<E: Destination>(
-    alloc: Global,
-    is_asked: bool,
-    counts: &RunCounts,
-    errors: &mut E,
-) -> Result<(), Refusal> {
-    if !is_asked {
-        return Ok(());
+/// What came of a request of which no counts are printed.
+fn uncounted(done: Result<(), Refusal>) -> Result<Option<RunCounts>, Refusal>
+    ensures done { OnOk done (result ≡ Ok None) }
+    ensures refused { IfErr done (λ e. result ≡ Err e) }
+{
+    match done {
+        Ok(()) => Ok(None),
+        Err(refusal) => Err(refusal),
     }
-    match write_counts(alloc, counts, errors) {
-        Ok(()) => Ok(()),
-        Err(fault) => Err(Refusal::Output(fault)),
+}
+
+/// Answers the requests of the input in one session, whose calls are run by so many workers, or in order.
+fn session<T: Threads + Wait + Sync, K: SessionStores, I: Source, W: Destination>(
+    threads: &T,
+    alloc: Global,
+    stores: &mut K,
+    store: Option<&str>,
+    workers: Option<usize>,
+    settings: Settings,
+    input: &mut I,
+    out: &mut W,
+) -> Result<(), Refusal>
+    ensures printed { OnOk result (IfSome (I.remaining input.old) (PrintsSession settings (option_map (λ file. file.now) store.entry) (W.contents out.old) (W.contents out.new))) }
+    ensures closed { OnOk result (IfSome store.entry (λ _. AreClosed K.are_folded)) }
+    ensures refused { IfErr result (λ e. IfSome (I.remaining input.old) (λ bytes. IsRefusedSession settings (option_map (λ file. file.now) store.entry) (W.contents out.old) (W.contents out.new) bytes e)) }
+    ensures none { store.entry ≡ None → K.asked stores.new ≡ K.asked stores.old }
+    ensures stored { OnOk result (IfSome store.entry (λ path. AsksForSession (K.asked stores.old) (K.asked stores.new) path.now)) }
+{
+    match workers {
+        None => chain(alloc, stores, store, &mut InOrder, settings, input, out),
+        Some(workers) => {
+            let mut runner = ByThreads::new(threads, alloc, workers);
+            chain(alloc, stores, store, &mut runner, settings, input, out)
+        }
     }
 }
 
 /// Runs the calls of a block file on workers, each on a thread of its own, and prints the result. Returns what
-/// the workers did.
+/// the workers did, where that is asked for.
 fn run<T: Threads + Wait + Sync, D: Disk, W: Destination>(
     threads: &T,
     alloc: Global,
     disk: &D,
     file: &str,
     workers: usize,
+    counts: bool,
     out: &mut W,
-) -> Result<RunCounts, Refusal> {
-    let mut block = opened(disk, file)?;
+) -> Result<Option<RunCounts>, Refusal>
+    ensures printed { OnOk result (Prints (D.content disk.now) None (W.contents out.old) (W.contents out.new) (RunOf file.now workers counts)) }
+    ensures counted { IfOk result (AreCountsAsked (D.content disk.now) (RunOf file.now workers counts)) }
+    ensures refused { IfErr result (IsRefusedAs (D.content disk.now) ⊥ None (W.may_refuse out.old) (W.contents out.old) (W.contents out.new) (RunOf file.now workers counts)) }
+{
+    let mut block = NamedFile {
+        disk,
+        path: file,
+        file: None,
+    };
     let mut programs = ProgramFiles { disk };
-    run_to(threads, alloc, &mut block, &mut programs, workers, out)
+    match run_to(threads, alloc, &mut block, &mut programs, workers, out) {
+        Ok(found) if counts => Ok(Some(found)),
+        Ok(_) => Ok(None),
+        Err(refusal) => Err(refusal),
+    }
 }
 
 /// Runs the calls of a block file in order and prints the result.
@@ -264,8 +160,15 @@ fn seq<D: Disk, W: Destination>(
     disk: &D,
     file: &str,
     out: &mut W,
-) -> Result<(), Refusal> {
-    let mut block = opened(disk, file)?;
+) -> Result<(), Refusal>
+    ensures printed { OnOk result (Prints (D.content disk.now) None (W.contents out.old) (W.contents out.new) (SeqOf file.now)) }
+    ensures refused { IfErr result (IsRefusedAs (D.content disk.now) ⊥ None (W.may_refuse out.old) (W.contents out.old) (W.contents out.new) (SeqOf file.now)) }
+{
+    let mut block = NamedFile {
+        disk,
+        path: file,
+        file: None,
+    };
     seq_to(alloc, &mut block, &mut ProgramFiles { disk }, out)
 }
 
@@ -275,57 +178,99 @@ fn conflicts<D: Disk, W: Destination>(
     disk: &D,
     file: &str,
     out: &mut W,
-) -> Result<(), Refusal> {
-    let mut block = opened(disk, file)?;
+) -> Result<(), Refusal>
+    ensures printed { OnOk result (Prints (D.content disk.now) None (W.contents out.old) (W.contents out.new) (ConflictsOf file.now)) }
+    ensures refused { IfErr result (IsRefusedAs (D.content disk.now) ⊥ None (W.may_refuse out.old) (W.contents out.old) (W.contents out.new) (ConflictsOf file.now)) }
+{
+    let mut block = NamedFile {
+        disk,
+        path: file,
+        file: None,
+    };
     conflicts_to(alloc, &mut block, &mut ProgramFiles { disk }, out)
 }
 
-/// Runs the calls of a block file along a schedule, and prints the result. Returns what the workers did. The
-/// schedule file is opened after the files of the programs.
+/// Runs the calls of a block file along a schedule, and prints the result. Returns what the workers did, where that is
+/// asked for. The schedule file is opened after the files of the programs.
 fn drive<D: Disk, W: Destination>(
     alloc: Global,
     disk: &D,
     file: &str,
     workers: usize,
     schedule: &str,
+    counts: bool,
     out: &mut W,
-) -> Result<RunCounts, Refusal> {
-    let mut block = opened(disk, file)?;
-    let mut schedule = FallibleReader {
-        reader: LateFile {
-            disk,
-            path: schedule,
-            file: None,
-        },
+) -> Result<Option<RunCounts>, Refusal>
+    ensures printed { OnOk result (Prints (D.content disk.now) None (W.contents out.old) (W.contents out.new) (DriveOf file.now workers schedule.now counts)) }
+    ensures counted { IfOk result (AreCountsAsked (D.content disk.now) (DriveOf file.now workers schedule.now counts)) }
+    ensures refused { IfErr result (IsRefusedAs (D.content disk.now) ⊥ None (W.may_refuse out.old) (W.contents out.old) (W.contents out.new) (DriveOf file.now workers schedule.now counts)) }
+{
+    let mut block = NamedFile {
+        disk,
+        path: file,
+        file: None,
     };
-    drive_to(
-        alloc,
-        &mut block,
-        &mut ProgramFiles { disk },
-        &mut schedule,
-        workers,
-        out,
-    )
+    let mut list = NamedFile {
+        disk,
+        path: schedule,
+        file: None,
+    };
+    let mut programs = ProgramFiles { disk };
+    match drive_to(alloc, &mut block, &mut programs, &mut list, workers, out) {
+        Ok(found) if counts => Ok(Some(found)),
+        Ok(_) => Ok(None),
+        Err(refusal) => Err(refusal),
+    }
 }
 
 /// Assembles a source and puts its ELF file at a path. Where this is refused, an ordinary file at the path
 /// stays as it was. Refused as Unwritable where both paths name one file, since the source would be lost.
-fn asm<D: Disk>(alloc: Global, disk: &mut D, file: &str, out: &str) -> Result<(), Refusal> {
+fn asm<D: Disk>(alloc: Global, disk: &mut D, file: &str, out: &str) -> Result<(), Refusal>
+    ensures put { OnOk result (PutsFile (D.content disk.old) (D.leads disk.old) (D.entries disk.old) (D.entries disk.new) (AsmOf file.now out.now)) }
+    ensures refused { IfErr result (λ e. (e ≡ Refusal.File FileFault.Unwritable) ⊎ IfSome (D.content disk.old file.now) (λ bytes. IsSourceFault (D.content disk.old file.now ≡ None) bytes e)) }
+{
     let memory = Refusal::Asm(SOURCE_MEMORY);
-    let mut source = opened(disk, file)?;
+    let bytes = assembled(alloc, disk, file)?;
     keep_apart(disk, file, out, memory)?;
-    let bytes = file_of_source(alloc, &mut source)?;
     put(alloc, disk, out, bytes.as_slice(), memory)
+}
+
+/// The ELF file of a source.
+fn assembled<D: Disk>(alloc: Global, disk: &D, file: &str) -> Result<Vec<u8>, Refusal>
+    ensures ok { IfOk result (λ made. IfSome (D.content disk.now file.now) (λ bytes. file_of_source bytes ≡ Ok made.items)) }
+    ensures err { IfErr result (λ e. IfSome (D.content disk.now file.now) (λ bytes. IsSourceFault (D.content disk.now file.now ≡ None) bytes e)) }
+{
+    let mut source = NamedFile {
+        disk,
+        path: file,
+        file: None,
+    };
+    file_of_source(alloc, &mut source)
 }
 
 /// Rewrites a block file of format 1 as format 2 and puts it at a path. Where this is refused, an ordinary
 /// file at the path stays as it was. Refused as Unwritable where both paths name one file, so that it stays.
-fn migrate<D: Disk>(alloc: Global, disk: &mut D, file: &str, out: &str) -> Result<(), Refusal> {
+fn migrate<D: Disk>(alloc: Global, disk: &mut D, file: &str, out: &str) -> Result<(), Refusal>
+    ensures put { OnOk result (PutsFile (D.content disk.old) (D.leads disk.old) (D.entries disk.old) (D.entries disk.new) (MigrateOf file.now out.now)) }
+    ensures refused { IfErr result (λ e. (e ≡ Refusal.File FileFault.Unwritable) ⊎ IfSome (D.content disk.old file.now) (λ bytes. IsBlockFault (D.content disk.old file.now ≡ None) (migrated bytes) e)) }
+{
     let memory = Refusal::Block(BLOCK_MEMORY);
-    let mut block = opened(disk, file)?;
+    let bytes = rewritten(alloc, disk, file)?;
     keep_apart(disk, file, out, memory)?;
-    let bytes = migrated_file(alloc, &mut block)?;
     put(alloc, disk, out, bytes.as_slice(), memory)
+}
+
+/// The file of format 2 of a block file.
+fn rewritten<D: Disk>(alloc: Global, disk: &D, file: &str) -> Result<Vec<u8>, Refusal>
+    ensures ok { IfOk result (λ made. IfSome (D.content disk.now file.now) (λ bytes. migrated bytes ≡ Ok made.items)) }
+    ensures err { IfErr result (λ e. IfSome (D.content disk.now file.now) (λ bytes. IsBlockFault (D.content disk.now file.now ≡ None) (migrated bytes) e)) }
+{
+    let mut block = NamedFile {
+        disk,
+        path: file,
+        file: None,
+    };
+    migrated_file(alloc, &mut block)
 }
 
 /// Refused as Unwritable where two paths name one file or that can't be told, and as `memory` where memory ran out.
@@ -334,7 +279,9 @@ fn keep_apart<D: OutputDisk>(
     file: &str,
     out: &str,
     memory: Refusal,
-) -> Result<(), Refusal> {
+) -> Result<(), Refusal>
+    ensures { IfErr result (λ e. (e ≡ Refusal.File FileFault.Unwritable) ⊎ (e ≡ memory)) }
+{
     match disk.is_one_file(file, out) {
         Ok(false) => Ok(()),
         Ok(true) => Err(Refusal::File(FileFault::Unwritable)),
@@ -350,7 +297,11 @@ fn put<D: OutputDisk>(
     path: &str,
     bytes: &[u8],
     memory: Refusal,
-) -> Result<(), Refusal> {
+) -> Result<(), Refusal>
+    ensures put { OnOk result (IsPut (D.entries disk.old) (D.entries disk.new) (D.leads disk.old path.now) bytes.now) }
+    ensures stays { OnErr result (Stays (D.entries disk.old) (D.entries disk.new) (D.leads disk.old path.now)) }
+    ensures refused { IfErr result (λ e. (e ≡ Refusal.File FileFault.Unwritable) ⊎ (e ≡ memory)) }
+{
     match replace(alloc, disk, path, bytes) {
         Ok(()) => Ok(()),
         Err(fault) => Err(refusal_of(fault, memory)),
@@ -374,13 +325,20 @@ fn dis<D: Disk, W: Destination>(
     disk: &D,
     file: &str,
     out: &mut W,
-) -> Result<(), Refusal> {
-    let mut file = opened(disk, file)?;
-    dis_to(alloc, &mut file, out)
+) -> Result<(), Refusal>
+    ensures printed { OnOk result (Prints (D.content disk.now) None (W.contents out.old) (W.contents out.new) (DisOf file.now)) }
+    ensures refused { IfErr result (IsRefusedAs (D.content disk.now) ⊥ None (W.may_refuse out.old) (W.contents out.old) (W.contents out.new) (DisOf file.now)) }
+{
+    let mut program = NamedFile {
+        disk,
+        path: file,
+        file: None,
+    };
+    dis_to(alloc, &mut program, out)
 }
 
 /// Replays a call of a block file along the lines of the input.
-fn debug<D: Disk, I: Read, W: Destination>(
+fn debug<D: Disk, I: Source, W: Destination>(
     alloc: Global,
     disk: &D,
     file: &str,
@@ -388,19 +346,17 @@ fn debug<D: Disk, I: Read, W: Destination>(
     has_more: bool,
     input: &mut I,
     out: &mut W,
-) -> Result<(), Refusal> {
-    let mut block = opened(disk, file)?;
+) -> Result<(), Refusal>
+    ensures printed { OnOk result (Prints (D.content disk.now) (I.remaining input.old) (W.contents out.old) (W.contents out.new) (DebugOf file.now call has_more)) }
+    ensures refused { IfErr result (IsRefusedAs (D.content disk.now) (I.may_fail input.old) (I.remaining input.old) (W.may_refuse out.old) (W.contents out.old) (W.contents out.new) (DebugOf file.now call has_more)) }
+{
+    let mut block = NamedFile {
+        disk,
+        path: file,
+        file: None,
+    };
     let mut programs = ProgramFiles { disk };
-    let mut lines = FallibleReader { reader: input };
-    debug_block_to(
-        alloc,
-        has_more,
-        &mut block,
-        &mut programs,
-        call,
-        &mut lines,
-        out,
-    )
+    debug_block_to(alloc, has_more, &mut block, &mut programs, call, input, out)
 }
 
 /// The settings of a session, by the options of `chain`.
@@ -410,7 +366,7 @@ fn settings_of(
     digest: bool,
     brief: bool,
 ) -> Settings
-    ensures { result ≡ record { frame_limit = unwrap_or frame_limit 67108864; frame_gas = frame_gas; keeps_digest = digest; is_brief = brief } }
+    ensures { result ≡ settings_of frame_limit frame_gas digest brief }
 {
     let mut settings = Settings::new();
     if let Some(most) = frame_limit {
@@ -422,12 +378,4 @@ fn settings_of(
     settings.keeps_digest = digest;
     settings.is_brief = brief;
     settings
-}
-
-/// Opens a file to read it.
-fn opened<D: Disk>(disk: &D, path: &str) -> Result<FallibleReader<D::File>, Refusal> {
-    match disk.open(path) {
-        Ok(reader) => Ok(FallibleReader { reader }),
-        Err(io::Error { .. }) => Err(Refusal::File(FileFault::Unreadable)),
-    }
 }

@@ -1,9 +1,10 @@
 //! Files by their paths.
 
-ghost use Rattle.std.specs.Prelude.{None};
+ghost use Rattle.std.specs.Prelude.{◌≡◌, ℕ, List, Option, None, Some, IfOk, IfSome, OnErr, OnOk};
+ghost use Rattle.engines.specs.Named.{bytes_of, may_fail_of};
 
 use crate::program_source::Programs;
-use byte_streams::FallibleReader;
+use byte_streams::{FallibleReader, Source};
 use std::fs::File;
 use std::io::Read;
 use std::rt::Files;
@@ -13,17 +14,28 @@ use system_files::{OutputDisk, SystemDisk};
 /// Files by their paths, which are read, made and replaced.
 pub trait Disk: OutputDisk {
     /// A file that is open to be read.
-    type File: Read + Drop;
+    type File: Source + Drop;
+
+    /// The bytes of the file at a path, where they are known and nothing keeps them from being read.
+    ghost content: { Self → List ℕ → Option (List ℕ) };
 
     /// Opens a file to read it.
-    fn open(&self, path: &str) -> io::Result<Self::File>;
+    fn open(&self, path: &str) -> io::Result<Self::File>
+        ensures opened { IfOk result (λ f. IfSome (content self.now path.now) (λ bytes. Self.File.remaining f ≡ Some bytes)) }
+        ensures readable { IfOk result (λ f. Self.File.may_fail f → content self.now path.now ≡ None) }
+        ensures refused { OnErr result (content self.now path.now ≡ None) };
 }
 
 impl<'a, R: Files<File = File>> Disk for SystemDisk<'a, R> {
-    type File = File;
+    type File = FallibleReader<File>;
 
-    fn open(&self, path: &str) -> io::Result<File> {
-        fs::open(self.rt, path)
+    ghost content = { λ _ _. None };
+
+    fn open(&self, path: &str) -> io::Result<FallibleReader<File>> {
+        match fs::open(self.rt, path) {
+            Ok(reader) => Ok(FallibleReader { reader }),
+            Err(error) => Err(error),
+        }
     }
 }
 
@@ -35,25 +47,22 @@ pub(crate) struct ProgramFiles<'a, D: Disk> {
 }
 
 impl<'a, D: Disk> Programs for ProgramFiles<'a, D> {
-    type File = FallibleReader<D::File>;
+    type File = D::File;
 
-    ghost content = { λ _ _. None };
+    ghost content = { λ p path. D.content p.disk.now path };
 
     ghost asked = { λ _. None };
 
-    fn open(&mut self, path: &str) -> io::Result<FallibleReader<D::File>> {
-        match self.disk.open(path) {
-            Ok(reader) => Ok(FallibleReader { reader }),
-            Err(error) => Err(error),
-        }
+    fn open(&mut self, path: &str) -> io::Result<D::File> {
+        self.disk.open(path)
     }
 
-    fn close(&mut self, _file: FallibleReader<D::File>) {}
+    fn close(&mut self, _file: D::File) {}
 }
 
 /// A file that is opened when it is first read.
 #[derive(Drop)]
-pub(crate) struct LateFile<'a, D: Disk> {
+pub(crate) struct NamedFile<'a, D: Disk> {
     /// Where the file is.
     pub disk: &'a D,
     /// Its path.
@@ -62,14 +71,39 @@ pub(crate) struct LateFile<'a, D: Disk> {
     pub file: Option<D::File>,
 }
 
-impl<'a, D: Disk> Read for LateFile<'a, D> {
+impl<'a, D: Disk> NamedFile<'a, D> {
+    /// Takes the file out, which is opened where it was not yet.
+    fn take_open(&mut self) -> io::Result<D::File>
+        ensures bytes { IfOk result (λ file. IfSome (bytes_of D.File.remaining (D.content self.old.disk.now self.old.path.now) self.old.file) (λ bytes. D.File.remaining file ≡ Some bytes)) }
+        ensures readable { IfOk result (λ file. D.File.may_fail file → may_fail_of D.File.may_fail (D.content self.old.disk.now self.old.path.now) self.old.file) }
+        ensures refused { OnErr result (may_fail_of D.File.may_fail (D.content self.old.disk.now self.old.path.now) self.old.file) }
+        ensures kept { OnErr result (self.new ≡ self.old) }
+    {
+        match self.file.take() {
+            Some(file) => Ok(file),
+            None => self.disk.open(self.path),
+        }
+    }
+}
+
+impl<'a, D: Disk> Read for NamedFile<'a, D> {
+    ghost remaining = { λ f. bytes_of D.File.remaining (D.content f.disk.now f.path.now) f.file };
+
     fn read(&mut self, buf: &mut [u8]) -> io::Result<usize> {
-        if self.file.is_none() {
-            self.file = Some(self.disk.open(self.path)?);
-        }
-        match &mut self.file {
-            Some(file) => file.read(buf),
-            None => Ok(0),
-        }
+        let mut file = self.take_open()?;
+        let count = file.read(buf);
+        self.file = Some(file);
+        count
+    }
+}
+
+impl<'a, D: Disk> Source for NamedFile<'a, D> {
+    ghost may_fail = { λ f. may_fail_of D.File.may_fail (D.content f.disk.now f.path.now) f.file };
+
+    fn read_part(&mut self, part: &mut [u8]) -> io::Result<usize> {
+        let mut file = self.take_open()?;
+        let count = file.read_part(part);
+        self.file = Some(file);
+        count
     }
 }

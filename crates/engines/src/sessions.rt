@@ -1,10 +1,12 @@
 //! The command `chain`: one session, in memory or over a file.
 
-ghost use Rattle.std.specs.Prelude.{◌≡◌, [], ◌∷◌, false, true, IfErr, IfSome, None, OnErr, OnOk};
+ghost use Rattle.std.specs.Prelude.{◌≡◌, [], ◌∷◌, false, true, option_map, IfErr, IfSome, None, OnErr, OnOk};
 ghost use Rattle.durable_serving.specs.Keeping.{IsKeptBy};
 ghost use Rattle.engines.specs.Opened.{Asks};
-ghost use Rattle.engines.specs.Stores.{AsksAsTold, AsksForSession, AsksInVain, Close, IsOfSession};
+ghost use Rattle.engines.specs.Program.{IsCutKept, IsRefusedSession, PrintsKept, PrintsSession};
+ghost use Rattle.engines.specs.Stores.{AreClosed, AsksAsTold, AsksForSession, AsksInVain, Close, IsOfSession};
 ghost use Rattle.session_states.specs.States.{file_state};
+ghost use Rattle.session_states.specs.declared.fault.StoreFault.{StoreFault};
 ghost use Rattle.sqlite_trees.specs.View.{IsClean};
 
 use crate::chain::{chain_to, durable_chain_to};
@@ -28,6 +30,9 @@ pub(crate) fn chain<K: SessionStores, C: CallRunner, I: Read, W: Destination>(
     out: &mut W,
 ) -> Result<(), Refusal>
     requires ready { C.ready }
+    ensures printed { OnOk result (IfSome (I.remaining input.old) (PrintsSession settings (option_map (λ file. file.now) store.entry) (W.contents out.old) (W.contents out.new))) }
+    ensures refused { IfErr result (λ e. IfSome (I.remaining input.old) (λ bytes. IsRefusedSession settings (option_map (λ file. file.now) store.entry) (W.contents out.old) (W.contents out.new) bytes e)) }
+    ensures closed { OnOk result (IfSome store.entry (λ _. AreClosed K.are_folded)) }
     ensures none { store.entry ≡ None → K.asked stores.new ≡ K.asked stores.old }
     ensures ok { OnOk result (IfSome store.entry (λ path. AsksForSession (K.asked stores.old) (K.asked stores.new) path.now)) }
     ensures err { OnErr result (IfSome store.entry (λ path. AsksInVain (K.asked stores.old) (K.asked stores.new) path.now)) }
@@ -54,6 +59,9 @@ fn chain_in<K: SessionStores, R: BufferedSource, C: CallRunner, W: Destination>(
     out: &mut W,
 ) -> Result<(), Refusal>
     requires ready { C.ready }
+    ensures printed { OnOk result (IfSome (R.remaining requests.old) (PrintsKept (record settings { keeps_digest = true }) (W.contents out.old) (W.contents out.new))) }
+    ensures refused { IfErr result (λ e. IfSome (R.remaining requests.old) (λ bytes. IsCutKept (R.may_fail requests.old) (record settings { keeps_digest = true }) (W.contents out.old) (W.contents out.new) bytes e)) }
+    ensures closed { OnOk result (AreClosed K.are_folded) }
     ensures ok { OnOk result (AsksForSession (K.asked stores.old) (K.asked stores.new) path.now) }
     ensures err { OnErr result (AsksInVain (K.asked stores.old) (K.asked stores.new) path.now) }
     ensures told { IfErr result (λ e. IfSome (R.remaining requests.old) (λ _. AsksAsTold (K.asked stores.old) (K.asked stores.new) path.now e)) }
@@ -86,6 +94,9 @@ fn chain_and_close<K: SessionStores, R: BufferedSource, C: CallRunner, W: Destin
     requires ready { C.ready }
     requires kept { IsKeptBy settings (K.Kept.view session.file) (file_state session.state session.found) }
     requires sound { IsClean (K.Kept.view session.file) → (K.Kept.view session.file).is_broken ≡ false }
+    ensures printed { OnOk result (IfSome (R.remaining requests.old) (PrintsKept settings (W.contents out.old) (W.contents out.new))) }
+    ensures refused { IfErr result (λ e. IfSome (R.remaining requests.old) (λ bytes. IsCutKept (R.may_fail requests.old) settings (W.contents out.old) (W.contents out.new) bytes e)) }
+    ensures closed { OnOk result (AreClosed K.are_folded) }
     ensures asks { Asks (K.asked stores.old) (K.asked stores.new) (Close ∷ []) }
     ensures told { IfErr result (λ e. IfSome (R.remaining requests.old) (λ _. IsOfSession e)) }
 {
@@ -101,8 +112,10 @@ fn chain_and_close<K: SessionStores, R: BufferedSource, C: CallRunner, W: Destin
 
 /// Closes the store of a session. What the close gives back is dropped here, which unlocks the file.
 fn close<K: SessionStores>(stores: &mut K, store: K::Kept) -> Result<(), Refusal>
+    ensures closed { OnOk result (AreClosed K.are_folded) }
     ensures asks { Asks (K.asked stores.old) (K.asked stores.new) (Close ∷ []) }
     ensures told { IfErr result IsOfSession }
+    ensures refused { IfErr result (λ e. (fault : StoreFault) × (e ≡ Refusal.Store fault)) }
 {
     match stores.close_store(store) {
         Ok(_) => Ok(()),

@@ -1,5 +1,7 @@
+use Rattle.std.proofs.Common.{inl, inr}
 use Rattle.std.proofs.lemmas.Result.{IfErr-weaker}
-use Rattle.engines.proofs.Orders.{if_any, of_session}
+use Rattle.std.proofs.lemmas.Option.{IfSome_then}
+use Rattle.engines.proofs.Orders.{if_any, if_done, of_session}
 use Rattle.engines.proofs.sessions.chain_and_close.Goals as goal
 
 -- the session was ended by a fault
@@ -10,3 +12,18 @@ returns-clause-told g c =
 -- or by its close
 pub returns-in-Ok-clause-told : goal.returns-in-Ok-clause-told
 returns-in-Ok-clause-told g c = IfErr-weaker c.close-closed.result _ _ (λ _ told. if_any (g.R.Read.remaining c.args.requests.now) _ told) c.close-closed.ensures.told
+
+-- what was answered
+pub returns-in-Ok-clause-printed : goal.returns-in-Ok-clause-printed
+returns-in-Ok-clause-printed g c =
+    if_done c.close-closed.result _ (IfSome_then (g.R.Read.remaining c.args.requests.now) c.in-Ok.ensures.ok (λ _ served. (_, _, served)))
+
+-- how it was refused: as the session that a fault ended
+pub returns-clause-refused : goal.returns-clause-refused
+returns-clause-refused g c =
+    let told = c.in-Err.ensures.err in IfSome_then (g.R.Read.remaining c.args.requests.now) told.2 (λ _ ended. inr (inl (told.0, _, _, told.1, ended)))
+
+-- or by the close behind all answers
+pub returns-in-Ok-clause-refused : goal.returns-in-Ok-clause-refused
+returns-in-Ok-clause-refused g c =
+    IfErr-weaker c.close-closed.result _ _ (λ _ told. IfSome_then (g.R.Read.remaining c.args.requests.now) c.in-Ok.ensures.ok (λ _ served. inr (inr ((_, _, served), told)))) c.close-closed.ensures.refused

@@ -1,0 +1,194 @@
+-- What the program does for a command line: a table from what is asked to what an engine says of it.
+use Rattle.std.specs.Prelude.{◌≡◌, ◌⊎◌, ⊤, ℕ, Bool, true, codes, List, [], ◌∷◌, Option, Some, None, IfSome, IsOkAnd}
+use Rattle.std.specs.Io.KnownBytes.{Appends}
+use Rattle.std.specs.Option.{option_map, unwrap_or}
+use Rattle.block_file.specs.Block.{block_of}
+use Rattle.block_file.specs.Migrate.{migrated}
+use Rattle.block_file.specs.Schedule.{schedule_of}
+use Rattle.byte_streams.specs.declared.fault.WriteFault.{WriteFault}
+use Rattle.byte_streams.specs.declared.fault.WriteFault.TheVariants.{Io, WroteNothing}
+use Rattle.byte_streams.specs.Written.{AppendsPart}
+use Rattle.clap.specs.Words.{IsAmong, Kinds, Text, fault_of}
+use Rattle.clap.specs.declared.error.kind.ErrorKind.TheVariants as kind
+use Rattle.cmdline.specs.Line.{Asked, RunOf, SeqOf, ConflictsOf, DriveOf, AsmOf, DisOf, DebugOf, MigrateOf, ChainOf, requested, rvstm_app}
+use Rattle.debugger.specs.Session.{AppendsBeginning, MayBeCutOff}
+use Rattle.durable_serving.specs.Durable.{FileMoment, IsDurablyEndedBy, IsFileAnswer}
+use Rattle.durable_serving.specs.declared.answering.DurableFault.{DurableFault}
+use Rattle.serving.specs.Serving.{IsEndedBy, IsServed}
+use Rattle.serving.specs.declared.serving.ServeFault.{ServeFault}
+use Rattle.session_states.specs.declared.fault.StoreFault.{StoreFault}
+use Rattle.stm_core.specs.declared.driving.DriveFault.TheVariants as drive
+use Rattle.sqlite_trees.specs.View.{View}
+use Rattle.system_files.specs.Entries.{Entries, IsPut}
+use Rattle.turns.specs.Failures.{IsAnswer}
+use Rattle.turns.specs.Turn.{new_session}
+use Rattle.turns.specs.declared.settings.Settings.{Settings}
+use Rattle.turns.specs.declared.state.State.{State}
+use Rattle.workers.specs.declared.fault.RunFault.TheVariants as run
+use Rattle.engines.specs.Chain.{cut_of, durably_cut}
+use Rattle.engines.specs.Conflicts.{AppendsConflicts, IsConflictsFault}
+use Rattle.engines.specs.Counts.{AreCountsAlong, AreCountsOfRun, counts_text}
+use Rattle.engines.specs.Debug.{replayed_text, IsReplayedFault}
+use Rattle.engines.specs.Dis.{IsListingFault, IsSourceFault, file_of_source, listing_of_file}
+use Rattle.engines.specs.Drive.{driven_answer, IsScheduledFault}
+use Rattle.engines.specs.Engine.{answer_of, loaded_job, IsBlockFault, IsRefusedJob, IsRunFault}
+use Rattle.engines.specs.Faults.{refusal_line}
+use Rattle.engines.specs.Run.{IsWorkersFault}
+use Rattle.engines.specs.Stores.{AreClosed, AsksForSession, StoreOrder}
+use Rattle.engines.specs.declared.counts.RunCounts.{RunCounts}
+use Rattle.engines.specs.declared.fault.FileFault.TheVariants.{Unwritable}
+use Rattle.engines.specs.declared.fault.Refusal.{Refusal}
+use Rattle.engines.specs.declared.fault.Refusal.TheVariants.{Drive, File, Output, Run, Seq, Store}
+use Rattle.engines.specs.declared.fault.SeqFault.TheVariants.{Memory}
+
+-- the bytes of the files, by their paths; None where they are not known
+abbrev pub Contents : Type 0
+Contents = List ℕ → Option (List ℕ)
+
+-- ---- what a command line asks for
+
+-- what was found on a line that has no fault
+abbrev pub if_right : Kinds → Option Asked → Option Asked
+if_right [] asked = asked
+if_right (kind ∷ kinds) asked = None
+
+-- what a line asks for, with the program's name first; None where it has a fault, or asks for help or the version
+unfoldable pub asked_on : List Text → Option Asked
+asked_on words = if_right (fault_of rvstm_app words) (requested words)
+
+-- ---- what is printed
+
+-- what is printed of a job where it is run
+abbrev pub PrintsResult : Contents → Option (List ℕ) → Option (List ℕ) → Text → Type 0
+PrintsResult content old new file = IfSome (content file) (λ input.
+    IfSome (answer_of content (block_of input)) (λ answer. IsOkAnd answer (Appends old new)))
+
+-- the settings of a session, by the options
+abbrev pub settings_of : Option ℕ → Option ℕ → Bool → Bool → Settings
+settings_of limit gas digest brief = record { frame_limit = unwrap_or limit 67108864; frame_gas = gas; keeps_digest = digest; is_brief = brief }
+
+-- what a session prints that a file keeps: it goes on from what the file has
+abbrev pub PrintsKept : Settings → Option (List ℕ) → Option (List ℕ) → List ℕ → Type 0
+PrintsKept settings old new bytes = (first after : FileMoment) × IsServed (IsFileAnswer settings) None first bytes after old new
+
+-- what a session prints: that of a new one, or of one that a file keeps, which has a digest
+abbrev pub PrintsSession : Settings → Option Text → Option (List ℕ) → Option (List ℕ) → List ℕ → Type 0
+PrintsSession settings None old new bytes = (after : State) × IsServed (IsAnswer settings) None (new_session settings) bytes after old new
+PrintsSession settings (Some file) old new bytes = PrintsKept (record settings { keeps_digest = true }) old new bytes
+
+-- what a command that is done prints, over the bytes of the files and of the input
+abbrev pub Prints : Contents → Option (List ℕ) → Option (List ℕ) → Option (List ℕ) → Asked → Type 0
+Prints content typed old new (RunOf file workers counts) = PrintsResult content old new file
+Prints content typed old new (SeqOf file) = PrintsResult content old new file
+Prints content typed old new (ConflictsOf file) = IfSome (content file) (λ input.
+    IfSome (loaded_job content (block_of input)) (λ wanted. IsOkAnd wanted (λ job. AppendsConflicts job old new)))
+Prints content typed old new (DriveOf file workers schedule counts) = IfSome (content file) (λ input.
+    IfSome (driven_answer content (block_of input) workers (option_map schedule_of (content schedule))) (λ answer. IsOkAnd answer (Appends old new)))
+Prints content typed old new (AsmOf file out) = new ≡ old
+Prints content typed old new (DisOf file) = IfSome (content file) (λ bytes. IsOkAnd (listing_of_file bytes) (Appends old new))
+Prints content typed old new (DebugOf file call more) = IfSome (content file) (λ input. IfSome typed (λ lines.
+    IfSome (loaded_job content (block_of input)) (λ job. IsOkAnd (replayed_text more job call lines) (Appends old new))))
+Prints content typed old new (MigrateOf file out) = new ≡ old
+Prints content typed old new (ChainOf workers limit gas digest brief store) =
+    IfSome typed (PrintsSession (settings_of limit gas digest brief) store old new)
+
+-- the counts that it prints on standard error, where `--counts` stands: those of the run
+abbrev pub AreCountsAsked : Contents → Asked → Option RunCounts → Type 0
+AreCountsAsked content (RunOf file workers true) (Some counts) = IfSome (content file) (λ input.
+    IfSome (loaded_job content (block_of input)) (λ wanted. IsOkAnd wanted (λ job. AreCountsOfRun job workers counts)))
+AreCountsAsked content (RunOf file workers true) None = ⊥
+AreCountsAsked content (DriveOf file workers schedule true) (Some counts) = IfSome (content file) (λ input. IfSome (content schedule) (λ bytes.
+    IfSome (loaded_job content (block_of input)) (λ wanted. IsOkAnd wanted (λ job.
+    IsOkAnd (schedule_of bytes) (λ entries. AreCountsAlong job workers entries counts)))))
+AreCountsAsked content (DriveOf file workers schedule true) None = ⊥
+AreCountsAsked content asked counts = counts ≡ None
+
+-- ---- what is put into files
+
+-- what it puts at a path, `leads` being where a path leads to
+abbrev pub PutsFile : Contents → (List ℕ → List ℕ) → Option Entries → Option Entries → Asked → Type 0
+PutsFile content leads old new (AsmOf file out) = IfSome (content file) (λ source. IsOkAnd (file_of_source source) (IsPut old new (leads out)))
+PutsFile content leads old new (MigrateOf file out) = IfSome (content file) (λ block. IsOkAnd (migrated block) (IsPut old new (leads out)))
+PutsFile content leads old new asked = new ≡ old
+
+-- which store it opens and closes
+abbrev pub AsksStores : Option (List StoreOrder) → Option (List StoreOrder) → Asked → Type 0
+AsksStores old new (ChainOf workers limit gas digest brief (Some file)) = AsksForSession old new file
+AsksStores old new asked = new ≡ old
+
+-- the store that it opened is closed: files have what a store showed, whatever a crash leaves
+abbrev pub ClosesStore : {F : Type 0} → (F → View → Type 0) → Asked → Type 0
+ClosesStore {F} are_folded (ChainOf workers limit gas digest brief (Some file)) = AreClosed are_folded
+ClosesStore {F} are_folded asked = ⊤
+
+-- ---- refusals
+
+-- how a session is refused, and what it answered by then: want of memory for its input, or a fault that ended it
+abbrev pub IsCutSession : Settings → Option (List ℕ) → Option (List ℕ) → List ℕ → Refusal → Type 0
+IsCutSession settings old new bytes e = ((new ≡ old) × (e ≡ Seq Memory))
+    ⊎ ((fault : ServeFault) × (after : State) × (e ≡ cut_of fault) × IsEndedBy ⊤ (IsAnswer settings) fault (new_session settings) bytes after old new)
+
+-- the same of one that a file keeps: also what the file is refused as, before the session or where it is closed behind it
+abbrev pub IsCutKept : Type 0 → Settings → Option (List ℕ) → Option (List ℕ) → List ℕ → Refusal → Type 0
+IsCutKept may_fail settings old new bytes e = ((new ≡ old) × ((e ≡ Seq Memory) ⊎ ((fault : StoreFault) × (e ≡ Store fault))))
+    ⊎ ((fault : DurableFault) × (first after : FileMoment) × (e ≡ durably_cut fault) × IsDurablyEndedBy may_fail settings fault first bytes after old new)
+    ⊎ (PrintsKept settings old new bytes × ((fault : StoreFault) × (e ≡ Store fault)))
+
+abbrev pub IsRefusedSession : Settings → Option Text → Option (List ℕ) → Option (List ℕ) → List ℕ → Refusal → Type 0
+IsRefusedSession settings None old new bytes e = IsCutSession settings old new bytes e
+IsRefusedSession settings (Some file) old new bytes e = IsCutKept ⊤ (record settings { keeps_digest = true }) old new bytes e
+
+-- how it is refused, and what it printed by then
+abbrev pub IsRefusedAs : Contents → Type 0 → Option (List ℕ) → (WriteFault → Type 0) → Option (List ℕ) → Option (List ℕ) → Asked → Refusal → Type 0
+IsRefusedAs content may_fail typed may_refuse old new (RunOf file workers counts) =
+    IsRefusedJob (Run run.Memory) (IsWorkersFault may_refuse workers) (content file ≡ None) (content file) content old new
+IsRefusedAs content may_fail typed may_refuse old new (SeqOf file) =
+    IsRefusedJob (Seq Memory) (IsRunFault may_refuse) (content file ≡ None) (content file) content old new
+IsRefusedAs content may_fail typed may_refuse old new (ConflictsOf file) =
+    IsRefusedJob (Seq Memory) (IsConflictsFault may_refuse) (content file ≡ None) (content file) content old new
+IsRefusedAs content may_fail typed may_refuse old new (DriveOf file workers schedule counts) =
+    IsRefusedJob (Drive drive.Memory) (IsScheduledFault (content schedule ≡ None) may_refuse workers (option_map schedule_of (content schedule)))
+    (content file ≡ None) (content file) content old new
+IsRefusedAs content may_fail typed may_refuse old new (AsmOf file out) =
+    λ e. (new ≡ old) × ((e ≡ File Unwritable) ⊎ IfSome (content file) (λ bytes. IsSourceFault (content file ≡ None) bytes e))
+IsRefusedAs content may_fail typed may_refuse old new (DisOf file) =
+    IsListingFault (content file ≡ None) may_refuse (content file) old new
+IsRefusedAs content may_fail typed may_refuse old new (DebugOf file call more) =
+    IsRefusedJob (Seq Memory) (IsReplayedFault (MayBeCutOff may_fail typed) may_refuse call) (content file ≡ None) (content file) content old new
+IsRefusedAs content may_fail typed may_refuse old new (MigrateOf file out) =
+    λ e. (new ≡ old) × ((e ≡ File Unwritable) ⊎ IfSome (content file) (λ bytes. IsBlockFault (content file ≡ None) (migrated bytes) e))
+IsRefusedAs content may_fail typed may_refuse old new (ChainOf workers limit gas digest brief store) =
+    λ e. IfSome typed (λ bytes. IsRefusedSession (settings_of limit gas digest brief) store old new bytes e)
+
+-- ---- what is told on standard error
+
+-- the counts were printed, where some are to be
+abbrev pub TellsCounts : Option (List ℕ) → Option (List ℕ) → Option RunCounts → Type 0
+TellsCounts old new None = new ≡ old
+TellsCounts old new (Some counts) = Appends old new (counts_text counts)
+
+-- they could not all be printed, and that is told
+abbrev pub CutsCounts : Option (List ℕ) → Option (List ℕ) → RunCounts → Type 0
+CutsCounts old new counts = (mid : Option (List ℕ)) × (fault : WriteFault) × AppendsPart old mid (counts_text counts)
+    × AppendsBeginning mid new (refusal_line (Output fault))
+
+-- the counts that are asked for are told
+abbrev pub TellsAsked : (Option RunCounts → Type 0) → Option (List ℕ) → Option (List ℕ) → Type 0
+TellsAsked counted old new = (counts : Option RunCounts) × counted counts × TellsCounts old new counts
+
+-- a text is told: a beginning of it, and all of it where no write may fail
+abbrev pub TellsText : (WriteFault → Type 0) → Option (List ℕ) → Option (List ℕ) → List ℕ → Type 0
+TellsText may_refuse old new text = AppendsBeginning old new text × (¬ (may_refuse Io) → ¬ (may_refuse WroteNothing) → Appends old new text)
+
+-- a command was refused, and it is told why; or it was done, and its counts could not all be printed
+abbrev pub IsTold : (WriteFault → Type 0) → (Refusal → Type 0) → Type 0 → (Option RunCounts → Type 0) → Option (List ℕ) → Option (List ℕ) → Type 0
+IsTold may_refuse refused printed counted old new = ((e : Refusal) × refused e × TellsText may_refuse old new (refusal_line e))
+    ⊎ ((counts : RunCounts) × printed × counted (Some counts) × CutsCounts old new counts)
+
+-- a line has the fault that it asks for help or the version
+abbrev pub IsShown : List Text → Type 0
+IsShown words = IsAmong kind.DisplayHelp (fault_of rvstm_app words) ⊎ IsAmong kind.DisplayVersion (fault_of rvstm_app words)
+
+-- what is told where memory for a line ran out
+abbrev pub no_memory : List ℕ
+no_memory = codes "error: out of memory\n"
