@@ -16,7 +16,7 @@ use crate::fault::RecordFault;
 use crate::next_step::{NextStep, ReadResult, StepKind};
 use crate::ready_record::{ReadyRecord, reads_made};
 use crate::state::Core;
-use rv_ledger::{Job, Key, Outcome};
+use rv_ledger::{Job, Key, Outcome, StoredValue};
 use rv_step::{Pause, Run};
 use scheduler::COUNT_LIMIT;
 use std::alloc::{AllocError, AllocFailed, Global};
@@ -299,7 +299,8 @@ fn read(core: &mut Core, worker: usize, mut run: Run, key: &Key) -> Result<Optio
     ensures memory { IfErr result (λ e. e ≡ Memory) }
 {
     core.room_for_read(worker)?;
-    match core.read(worker, key) {
+    let base = StoredValue::value_of(core.job().store.get(key));
+    match core.read_sharing(worker, key, base.as_ref().map(|base| base.lend())) {
         ReadResult::Given(value, origin) => {
             run.answer_stored(value, origin)?;
             Ok(Some(run))

@@ -2,18 +2,24 @@
 
 ghost use Rattle.std.specs.Prelude.{◌≡◌, ◌<◌, ◌≤◌, [], IfOk, IfSome, None, Ok, length, vec_capacity};
 
-use read_set::{Origin, Version};
+use read_set::{Origin, SharedVersions, Version};
+use rv_ledger::Key;
 use std::alloc::{AllocError, Global};
+use std::collections::BTreeMap;
 use std::mem;
 
 /// Two lists for the versions that a read passes: one for the origin that the core keeps, and one for the
-/// origin that it hands out. A read that passes nothing leaves them their room.
+/// origin that it hands out. A read that passes nothing leaves them their room. And the versions that each worker's last
+/// read of a key passed, which later reads may share.
 #[derive(Drop)]
 pub(crate) struct PassedLists {
     /// The list for the origin that is kept; the map writes into it.
     pub(crate) kept: Vec<Version>,
     /// The list for the origin that is handed out.
     pub(crate) lent: Vec<Version>,
+    /// What the last read of a worker passed at a key, if it passed something.
+    last: BTreeMap<(usize, Key), SharedVersions>,
+    alloc: Global,
 }
 
 impl PassedLists {
@@ -24,6 +30,8 @@ impl PassedLists {
         PassedLists {
             kept: Vec::new(alloc),
             lent: Vec::new(alloc),
+            last: BTreeMap::new(alloc),
+            alloc,
         }
     }
 
@@ -42,21 +50,58 @@ impl PassedLists {
         ensures lent { result.1 ≡ record { passed = self.old.kept.items; bottom = bottom } }
         ensures stay { self.old.kept.items ≡ [] → self.new ≡ self.old }
     {
-        let alloc = *self.kept.allocator();
         if self.kept.is_empty() {
-            return (
-                Origin::new(Vec::new(alloc), bottom),
-                Origin::new(Vec::new(alloc), bottom),
-            );
+            return (Origin::plain(bottom), Origin::plain(bottom));
         }
         self.lent.clear();
         match self.lent.extend_from_slice(self.kept.as_slice()) {
             Ok(()) => {}
             Err(_) => unreachable!(),
         }
-        let kept = mem::replace(&mut self.kept, Vec::new(alloc));
-        let lent = mem::replace(&mut self.lent, Vec::new(alloc));
+        let kept = mem::replace(&mut self.kept, Vec::new(self.alloc));
+        let lent = mem::replace(&mut self.lent, Vec::new(self.alloc));
         (Origin::new(kept, bottom), Origin::new(lent, bottom))
+    }
+
+    /// A list of the versions that a worker's read of a key passed: the one that its last read of the key had, if it
+    /// has the same versions, and else a new one, which its next read may share. None where memory ran out.
+    pub(crate) fn shared(
+        &mut self,
+        worker: usize,
+        key: &Key,
+        versions: &[Version],
+    ) -> Option<SharedVersions>
+        ensures list { IfSome result (λ list. list ≡ versions.now) }
+        ensures kept { self.new.kept ≡ self.old.kept }
+        ensures lent { self.new.lent ≡ self.old.lent }
+    {
+        if let Some(list) = self.last.get(&(worker, *key)) {
+            if list.is(versions) {
+                return owner_of(list);
+            }
+        }
+        let list = match SharedVersions::of(self.alloc, versions) {
+            Ok(list) => list,
+            Err(_) => return None,
+        };
+        let Some(owner) = owner_of(&list) else {
+            return None;
+        };
+        match self.last.insert((worker, *key), owner) {
+            Ok(_) => {}
+            Err(_) => {}
+        }
+        Some(list)
+    }
+}
+
+/// The same list for one more owner; None where it has too many.
+fn owner_of(list: &SharedVersions) -> Option<SharedVersions>
+    ensures { IfSome result (λ owner. owner ≡ list.now) }
+{
+    match list.copy() {
+        Ok(owner) => Some(owner),
+        Err(_) => None,
     }
 }
 
@@ -81,5 +126,17 @@ pub(crate) fn replace<T: Drop>(list: &mut Vec<T>, larger: Option<Vec<T>>)
 {
     if let Some(larger) = larger {
         *list = larger;
+    }
+}
+
+/// Takes a list back in the place of another, if it has more room.
+pub(crate) fn take_back(list: &mut Vec<Version>, back: Option<Vec<Version>>)
+    ensures back { IfSome back (λ back. vec_capacity back ≤ vec_capacity list.new) }
+    ensures kept { vec_capacity list.old ≤ vec_capacity list.new }
+{
+    if let Some(back) = back {
+        if back.capacity() > list.capacity() {
+            *list = back;
+        }
     }
 }

@@ -18,10 +18,10 @@ ghost use Rattle.stm_core.specs.CoreState.{GivesInPlace, HasValueRoom, IsNoLess,
 ghost use Rattle.stm_core.specs.Inner.{room_of, value_room_of};
 
 use crate::next_step::{NextStep, ReadResult, StepKind};
-use crate::passed_lists::{PassedLists, larger, replace};
+use crate::passed_lists::{PassedLists, larger, replace, take_back};
 use crate::value_lists::{ReadContents, ValueLists};
 use mvmap::{LentAnswer, MvMap};
-use read_set::Version;
+use read_set::{Origin, SharedVersions, Version};
 use rv_ledger::{Key, LentValue, VALUE_LIMIT};
 use rv_step::StorageAnswer;
 use scheduler::{Scheduler, TaskKind};
@@ -229,6 +229,7 @@ pub(crate) fn read_at(
         state_of v p scheduler.new ≡ counted one_step worker (with_task worker (answered_with store key.now call answers (reading map.now.versions key.now call)) (state_of v p scheduler.old)) }
     ensures rooms { KeepsRooms worker scheduler.old.rooms scheduler.new.rooms }
     ensures passed { passed_in (reading map.now.versions key.now call) ≡ [] → room_of lists.new ≡ room_of lists.old }
+    ensures workers { length scheduler.new.tasks ≡ length scheduler.old.tasks }
     ensures stay { GivesInPlace result → values.new ≡ values.old }
 {
     match map.read_lent(key, call, &mut lists.kept) {
@@ -275,4 +276,75 @@ fn give(
     };
     scheduler.answer(worker, answer);
     ReadResult::Given(contents.lent, lent)
+}
+
+/// The same. Then the two origins share a list of the versions that they passed with the worker's last read of the key, if
+/// that passed the same, and else with its next one. So it may take memory; where that ran out they keep lists of
+/// their own. `spare` holds the answers meanwhile.
+pub(crate) fn read_sharing_at(
+    base: Option<LentValue>,
+    map: &MvMap,
+    scheduler: &mut Scheduler,
+    spare: &mut Vec<StorageAnswer>,
+    lists: &mut PassedLists,
+    values: &mut ValueLists,
+    worker: usize,
+    call: u16,
+    key: &Key,
+) -> ReadResult
+    requires counts { MayCount worker scheduler.old }
+    requires room { 1 ≤ get_or scheduler.old.rooms worker 0 }
+    requires kept { call ≤ vec_capacity lists.old.kept }
+    requires lent { call ≤ vec_capacity lists.old.lent }
+    requires values { HasValueRoom (value_room_of values.old) }
+    ensures answers { (store : Storage) → lent_content base.entry ≡ finite.get store key.now → result ≡ read_result_of store key.now (reading map.now.versions key.now call) }
+    ensures state { (store : Storage) → lent_content base.entry ≡ finite.get store key.now → (answers : List StorageAnswer) → get_or scheduler.old.tasks worker task.Idle ≡ task.Running call answers None → (v : Versions) (p : ℕ) →
+        state_of v p scheduler.new ≡ counted one_step worker (with_task worker (answered_with store key.now call answers (reading map.now.versions key.now call)) (state_of v p scheduler.old)) }
+    ensures rooms { KeepsRooms worker scheduler.old.rooms scheduler.new.rooms }
+    ensures stay { GivesInPlace result → values.new ≡ values.old }
+{
+    let mut read = read_at(base, map, scheduler, lists, values, worker, call, key);
+    if let ReadResult::Given(_, origin) = &mut read {
+        if !origin.passed().is_empty() {
+            share_passed(scheduler, spare, lists, worker, key, origin);
+        }
+    }
+    read
+}
+
+/// Lets the last answer of a worker's run and an equal origin that is handed out share a list of the versions that they
+/// passed. Where memory ran out they keep lists of their own. `spare` holds the answers meanwhile.
+#[cold]
+#[inline(never)]
+fn share_passed(
+    scheduler: &mut Scheduler,
+    spare: &mut Vec<StorageAnswer>,
+    lists: &mut PassedLists,
+    worker: usize,
+    key: &Key,
+    origin: &mut Origin,
+)
+    requires { worker < length scheduler.old.tasks }
+    ensures origin { origin.new ≡ origin.old }
+    ensures same { (v : Versions) (p : ℕ) → state_of v p scheduler.new ≡ state_of v p scheduler.old }
+    ensures rooms { KeepsRooms worker scheduler.old.rooms scheduler.new.rooms }
+{
+    let Some(list) = lists.shared(worker, key, origin.passed()) else {
+        return;
+    };
+    take_back(&mut lists.lent, origin.share(&list));
+    scheduler.swap_answers(worker, spare);
+    take_back(&mut lists.kept, share_last(spare, &list));
+    scheduler.swap_answers(worker, spare);
+}
+
+/// Lets the last of some answers share a list of versions, if it passed the same, and hands out the list that it had.
+fn share_last(answers: &mut Vec<StorageAnswer>, list: &SharedVersions) -> Option<Vec<Version>>
+    ensures items { answers.new.items ≡ answers.old.items }
+    ensures room { vec_capacity answers.new ≡ vec_capacity answers.old }
+{
+    match answers.as_mut_slice() {
+        [.., last] if list.is(last.origin.passed()) => last.origin.share(list),
+        _ => None,
+    }
 }

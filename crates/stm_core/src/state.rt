@@ -10,7 +10,7 @@ use crate::job_source::JobSource;
 use crate::next_step::{AskResult, NextStep, ReadResult, StepKind};
 use crate::outcome::{Finished, finished_of};
 use crate::passed_lists::PassedLists;
-use crate::reading::{has_read_room, make_read_room, next_step_of, read_at};
+use crate::reading::{has_read_room, make_read_room, next_step_of, read_at, read_sharing_at};
 use crate::reads::next_stands;
 use crate::ready_record::{ReadyRecord, reads_made};
 use crate::recording::{SpentRun, check_limits, has_own_answers, is_run_of, record_run};
@@ -230,6 +230,33 @@ impl<H: JobSource> Core<H> {
             base,
             &self.map,
             &mut self.scheduler,
+            &mut self.passed,
+            &mut self.values,
+            worker,
+            call,
+            key,
+        )
+    }
+
+    /// The same. Then the answer that is kept and the one that is handed out share a list of the versions that the read
+    /// passed with the worker's last read of the key, if that passed the same, and else with its next one. So it may take
+    /// memory, but it does not refuse: where memory ran out, they keep lists of their own.
+    pub fn read_sharing(&mut self, worker: usize, key: &Key, base: Option<LentValue>) -> ReadResult
+        requires due { IsDue worker (steps.ReadKey key.now) self.old }
+        requires room { HasReadRoom worker self.old }
+        requires base { lent_content base ≡ finite.get self.old.job.store key.now }
+        ensures makes { Makes worker (steps.ReadKey key.now) self.old self.new }
+        ensures answers { (i : ℕ) → runs (task_at self.old.state worker) i ≡ true → result ≡ read_result_of self.old.job.store key.now (reading self.old.state.versions key.now i) }
+        ensures values { GivesInPlace result → self.new.values ≡ self.old.values }
+    {
+        let TaskKind::Running { call, .. } = self.scheduler.task_kind(worker) else {
+            unreachable!();
+        };
+        read_sharing_at(
+            base,
+            &self.map,
+            &mut self.scheduler,
+            &mut self.spare_answers,
             &mut self.passed,
             &mut self.values,
             worker,

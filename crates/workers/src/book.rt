@@ -246,7 +246,7 @@ impl<J: JobName, H: JobSource> Book<J, H> {
         if self.core.room_for_read(share.worker).is_err() {
             return Err(self.write(RunFault::Memory));
         }
-        let answer = self.core.read_over(share.worker, key, base);
+        let answer = self.core.read_sharing(share.worker, key, base);
         self.update(share);
         Ok(answer)
     }

@@ -1,10 +1,10 @@
-use Rattle.std.proofs.Common.{◌≡◌, ◌∙◌, None, Some, sym, ap}
+use Rattle.std.proofs.Common.{◌≡◌, ◌∙◌, None, Some, length, length-set, sym, ap}
 use Rattle.std.specs.FinMap as map
 use Rattle.read_set.specs.Origin.{Origin}
 use Rattle.mvmap.specs.Answers.{with_amount}
 use Rattle.mvmap.specs.Reading.{reading, value_seen}
 use Rattle.stm_state.specs.declared.state.Task.{Task}
-use Rattle.stm_state.specs.State.{with_task}
+use Rattle.stm_state.specs.State.{State, with_task}
 use Rattle.stm_state.specs.Steps.{counted, one_step}
 use Rattle.scheduler.specs.Schedule.{state_of}
 use Rattle.scheduler.specs.Workers.{blocked_on, with_answer}
@@ -37,3 +37,12 @@ returns-in-Estimate-clause-state c = λ store is answers runs v p.
     ∙ ap (λ (t : Task). counted one_step c.args.worker (with_task c.args.worker (blocked_on c.in-Estimate.writer t) (state_of v p c.args.scheduler.now))) runs
     ∙ ap (λ (t : Task). counted one_step c.args.worker (with_task c.args.worker t (state_of v p c.args.scheduler.now)))
     (blocked_task store c.args.key.now c.args.call answers (reading c.args.map.now.versions c.args.key.now c.args.call) c.in-Estimate.writer c.in-Estimate.ensures.tells)
+
+pub returns-in-Base-clause-workers : goal.returns-in-Base-clause-workers
+returns-in-Base-clause-workers c = ap (λ (s : State). length s.tasks) (c.give.ensures.state c.args.map.now.versions 0) ∙ length-set c.args.scheduler.now.tasks c.args.worker _
+
+pub returns-in-Found-clause-workers : goal.returns-in-Found-clause-workers
+returns-in-Found-clause-workers c = ap (λ (s : State). length s.tasks) (c.give-in-Found.ensures.state c.args.map.now.versions 0) ∙ length-set c.args.scheduler.now.tasks c.args.worker _
+
+pub returns-in-Estimate-clause-workers : goal.returns-in-Estimate-clause-workers
+returns-in-Estimate-clause-workers c = ap (λ (s : State). length s.tasks) (c.block.ensures.state c.args.map.now.versions 0) ∙ length-set c.args.scheduler.now.tasks c.args.worker _
