@@ -4,3 +4,5 @@ pub mod Sessions
 pub mod Opening
 pub mod Closing
 pub mod Logs
+pub mod Looks
+pub mod Named
