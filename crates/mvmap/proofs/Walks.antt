@@ -78,6 +78,20 @@ cut_there ws i place in_range cut = record {
   above = λ j l within. ltb-false _ _ (cut.1 j (0, slot.Vacant) l within);
 }
 
+-- they end where the slot before is of a lower call, and the one there is not
+pub cut_at : (ws : ByWriter) (i place : ℕ) → AreAscending ws → place ≤ length ws → (0 < place → writer_at ws (place - 1) < i) → (place < length ws → i ≤ writer_at ws place) → IsCut ws i place
+cut_at ws i place up in_range before after = record {
+  bound = in_range;
+  below = λ j l. elim (cases_lt j (place - 1)) [
+    | inl less ↦ omega (arith, ascending_at ws up j (place - 1) less (omega (arith, in_range, l)), before (omega (arith, l)))
+    | inr same ↦ let p : j ≡ place - 1 = omega (arith, l, same) in omega (arith, ap (writer_at ws) p, before (omega (arith, l)))
+  ];
+  above = λ j l within. elim (cases_lt place j) [
+    | inl less ↦ omega (arith, ascending_at ws up place j less within, after (omega (arith, l, within)))
+    | inr same ↦ let p : place ≡ j = omega (arith, l, same) in omega (arith, ap (writer_at ws) p, after (omega (arith, l, within)))
+  ];
+}
+
 -- at its start it is where the slots of lower calls end
 pub walk_starts : (ws : ByWriter) (i place : ℕ) → IsCut ws i place → IsWalked ws i place
 walk_starts ws i place cut = record {

@@ -35,8 +35,9 @@ pub(crate) fn walk<'a>(
     passed.clear();
     let mut sum = None;
     let mut below = i;
+    let mut hint = 0;
     loop {
-        match seek(at_key, arena, below) {
+        match seek(at_key, arena, below, &mut hint) {
             Nearest::Nothing => return LentAnswer::Base(sum),
             Nearest::Waiting(writer) => return LentAnswer::Estimate(writer),
             Nearest::Standing(version, Change::Sum(amount)) => {
@@ -64,8 +65,9 @@ pub(crate) fn has_walk(at_key: &[(u16, Slot)], arena: &Arena, i: u16, origin: &O
     let bottom = origin.bottom();
     let mut left = origin.passed();
     let mut below = i;
+    let mut hint = 0;
     loop {
-        match seek(at_key, arena, below) {
+        match seek(at_key, arena, below, &mut hint) {
             Nearest::Nothing => return left.is_empty() && bottom.is_none(),
             Nearest::Waiting(_) => return false,
             Nearest::Standing(version, Change::Sum(_)) => match after(left, version) {
