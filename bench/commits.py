@@ -13,7 +13,7 @@ import tempfile
 import time
 
 FOLDER = os.path.dirname(os.path.abspath(__file__))
-sys.path.append(os.path.join(FOLDER, "../scripts"))
+sys.path.append(os.path.join(FOLDER, "../tools/developers"))
 import block_texts
 import sessions
 from sessions import Request, Settings

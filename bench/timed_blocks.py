@@ -6,7 +6,7 @@ import subprocess
 import sys
 
 FOLDER = os.path.dirname(os.path.abspath(__file__))
-sys.path.append(os.path.join(FOLDER, "../scripts"))
+sys.path.append(os.path.join(FOLDER, "../tools/developers"))
 import block_texts
 from block_texts import key, word
 

@@ -34,7 +34,7 @@ static struct result wanted;
 static struct result came;
 static int differs;
 
-/* As scripts/test prints outputs: the most bytes that are shown in full, the bytes of a piece, and those of them
+/* As rvstm-tools test prints outputs: the most bytes that are shown in full, the bytes of a piece, and those of them
    before the place where two outputs part. */
 enum { LONGEST_BYTES = 40, PIECE_BYTES = 20, BYTES_BEFORE = 4 };
 

@@ -8,12 +8,12 @@ import sys
 import time
 from pathlib import Path
 
-import transfers  # first: it finds scripts/
+import transfers  # first: it finds tools/
 import audits
+import engines
 import etcd
 import ledger
-import program
-import sessions
+from rvstm_tools.sessions.processes import Session, Settings
 from clusters import HERE, MEMBERS, WITH_FILES, changed_program, say
 
 CALLS, PAUSE = 20, 0.3
@@ -350,7 +350,7 @@ def flip_in_a_program(path):
     """Changes one bit of a program in a file, when a session has brought all that was kept into it."""
     of_session = {word: transfers.SETTINGS[word] for word in ("frame_limit", "frame_gas", "brief")}
     for _ in range(TRIES_FOR_A_FILE):  # the engine of a killed node may have it for a moment
-        if sessions.Session(program.rvstm(), sessions.Settings(digest=True, store=str(path), **of_session)).end()[2] == 0:
+        if Session(engines.rvstm(), Settings(digest=True, store=str(path), **of_session)).end().status == 0:
             break
         time.sleep(0.1)
     data = bytearray(path.read_bytes())
@@ -362,7 +362,7 @@ def clock_wrong(trial):
     if not FAKETIME.exists():
         return "there is no faketime here"
     name, plain = trial.node(), trial.cluster.folder / "rvstm-in-time"  # an engine reads no clock, and a preview takes no faketime
-    plain.write_text(f'#!/bin/sh\nunset LD_PRELOAD\nexec {program.rvstm()} "$@"\n')
+    plain.write_text(f'#!/bin/sh\nunset LD_PRELOAD\nexec {engines.rvstm()} "$@"\n')
     plain.chmod(0o755)
     trial.cluster.kill(name)
     clock = {"LD_PRELOAD": str(FAKETIME), "FAKETIME": trial.random.choice(["+1d", "-1d"])}

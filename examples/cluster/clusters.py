@@ -11,12 +11,12 @@ import sys
 import time
 from pathlib import Path
 
-import transfers  # first: it finds scripts/
+import transfers  # first: it finds tools/
 import audits
+import engines
 import etcd
 import ledger
 import networks
-import program
 from engines import BUILT, C_LIBRARY, PR_SET_PDEATHSIG
 
 HERE = Path(__file__).resolve().parent
@@ -46,7 +46,7 @@ def end_with_parent():
 
 def changed_program(path):
     """Makes a program that differs from rvstm in one letter of what it answers."""
-    data = Path(program.rvstm()).read_bytes()
+    data = Path(engines.rvstm()).read_bytes()
     if b"returned" not in data:
         raise ValueError("the program has no word to change")
     path.write_bytes(data.replace(b"returned", b"Returned"))

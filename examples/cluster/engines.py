@@ -10,10 +10,14 @@ import time
 from pathlib import Path
 
 TOP = Path(__file__).resolve().parent.parent.parent
-sys.path.insert(0, str(TOP / "scripts"))
-import program
-import sessions
-from sessions import Answer
+sys.path.insert(0, str(TOP / "tools"))
+from rvstm_tools.errors import UserError
+from rvstm_tools.options import ProgramChoice
+from rvstm_tools.programs import finding
+from rvstm_tools.sessions import answers
+from rvstm_tools.sessions.answers import Done, Kind
+from rvstm_tools.sessions.processes import Session
+from rvstm_tools.sessions.requests import WITH_BODY
 
 BUILT = TOP / "crates/rvstm_c/out/embedded/librvstm.so"
 C_LIBRARY = ctypes.CDLL(None)
@@ -28,6 +32,11 @@ class Ended(Exception):
     """The engine died, or failed, which says nothing of the block: another engine runs it again."""
 
 
+def rvstm():
+    """The path of the program rvstm."""
+    return str(finding.find(ProgramChoice(), finding.home(), os.environ))
+
+
 def end_with_node(node):
     """Ends the process where the thread of the node that started it ends."""
     C_LIBRARY.prctl(PR_SET_PDEATHSIG, signal.SIGKILL)
@@ -35,12 +44,12 @@ def end_with_node(node):
         os._exit(1)
 
 
-class Process(sessions.Session):
+class Process(Session):
     """A process that ends with its node, and is killed where it does not answer in time."""
 
     def __init__(self, settings):
         pipe, node = subprocess.PIPE, os.getpid()
-        words = [program.rvstm(), *settings.words()]
+        words = [rvstm(), *settings.words()]
         self.process = subprocess.Popen(words, stdin=pipe, stdout=pipe, stderr=pipe, preexec_fn=lambda: end_with_node(node))
         self.pid, self.until = self.process.pid, None
         self.patience = SECONDS_BESIDE + (settings.frame_gas or 0) / GAS_A_SECOND
@@ -58,7 +67,7 @@ class Process(sessions.Session):
             answer = super().ask(request)
             if answer is None:
                 raise Ended(self.told_at_its_end() or "the process died")
-        except (OSError, ValueError) as error:
+        except (OSError, UserError) as error:
             raise Ended(str(error)) from error
         finally:
             self.until = None
@@ -124,20 +133,19 @@ class Library:
         for field in request.fields:
             is_number = len(field) <= 10 and field.isdigit()
             words += [ctypes.c_uint64(int(field))] if is_number else [field, ctypes.c_size_t(len(field))]
-        words += [request.body, ctypes.c_size_t(len(request.body))] if request.word in sessions.WITH_BODY else []
+        words += [request.body, ctypes.c_size_t(len(request.body))] if request.word in WITH_BODY else []
         status = self.library["rvstm_" + request.word.decode()](ctypes.byref(self.handle), *words)
         if status == DONE:
-            return sessions.done(self.body())
+            return Done(self.body())
         if status not in (REFUSED, FAILED):
             raise Ended(f"rvstm_{request.word.decode()} answers {status}")
-        kind = b"refused" if status == REFUSED else b"failed"
-        return Answer(kind, kind + b" " + self.reason())
+        return answers.refused(self.reason(), Kind.REFUSED if status == REFUSED else Kind.FAILED)
 
     def reason(self):
         parts = Parts()
         self.library.rvstm_refusal(ctypes.byref(self.handle), ctypes.byref(parts))
-        line = (parts.line,) if parts.line else ()
-        return sessions.line_of(parts.area, *line, parts.name, parts.number)
+        line = b" %d" % parts.line if parts.line else b""
+        return b"%s%s %s %d" % (parts.area, line, parts.name, parts.number)
 
     def body(self):
         length = self.library.rvstm_answer_length(ctypes.byref(self.handle))

@@ -16,11 +16,12 @@ from pathlib import Path
 import engines
 import etcd
 import ledger
-import sessions
 import status
 from etcd import is_absent, keys, put, read
 from ledger import DIGESTS, DUMPS, GENESIS, NODES, NO_DIGEST, PROGRAMS, Mark
-from sessions import Request
+from rvstm_tools.sessions import answers
+from rvstm_tools.sessions.processes import Settings
+from rvstm_tools.sessions.requests import Request
 
 KEPT_DUMPS = 3
 KEPT_ANSWERS = 64
@@ -105,14 +106,14 @@ class Node:
     def kept(self):
         """Where the session in the file is; None where it has run no block, or where the node begins anew."""
         try:
-            told = sessions.state_of(self.need(b"state"))
+            told = answers.state_of(self.need(b"state"))
         except engines.Ended as error:
             if str(error) not in UNFIT:
                 raise
             self.need_anew(f"its file {self.store} is refused: {error}")
             self.put_file_aside()
             return None
-        height = int(told[b"height"])
+        height = told.height
         revision = ledger.revision_at(self.client, height, self.name) if height else 0
         if revision is None:
             self.need_anew(f"its file {self.store} is at height {height}, and the log behind that is pruned")
@@ -242,10 +243,10 @@ class Node:
         block = self.block_of(pair)
         times.append(time.monotonic())
         answer = self.ask(b"frame", body=block or b"")
-        told = sessions.state_of(self.need(b"state"))
+        told = answers.state_of(self.need(b"state"))
         times.append(time.monotonic())
-        if int(told[b"height"]) != self.mark.height + 1:
-            raise Stop(f"the engine is at height {int(told[b'height'])} behind block {self.mark.height + 1}")
+        if told.height != self.mark.height + 1:
+            raise Stop(f"the engine is at height {told.height} behind block {self.mark.height + 1}")
         self.mark = Mark(self.mark.height + 1, self.digest_told(told), pair.made)
         self.answers[self.mark.height] = answer
         if len(self.answers) > KEPT_ANSWERS:
@@ -259,7 +260,7 @@ class Node:
             self.make_dump()
 
     def digest_told(self, told):
-        return told[b"digest"].decode()
+        return told.digest.hex()
 
     def count(self, block, answer, times, is_refused):
         counts = self.counts
@@ -269,8 +270,7 @@ class Node:
         counts.seconds["fetch"] += times[1] - times[0]
         counts.seconds["run"] += times[2] - times[1]
         if answer.kind == b"refused":
-            line, _, _, name = sessions.parts_of(answer)
-            counts.refusals["NoBlock" if is_refused else name.decode()] += 1
+            counts.refusals["NoBlock" if is_refused else answer.name] += 1
             self.say(f"height {self.mark.height}: {'no block, ' if is_refused else ''}{answer.line.decode().strip()}")
 
     # ---- what is published
@@ -353,7 +353,7 @@ class Node:
             time.sleep(0.1)
         self.told = json.loads(self.client.get(ledger.SETTINGS).value)
         of_session = {word: self.told[word] for word in ("frame_limit", "frame_gas", "brief")}
-        self.settings = sessions.Settings(digest=True, workers=self.workers, store=self.store, **of_session)
+        self.settings = Settings(digest=True, workers=self.workers, store=self.store, **of_session)
 
     def follow(self):
         log = ledger.Log(self.urls, self.mark.revision)

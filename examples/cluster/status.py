@@ -19,7 +19,7 @@ import engines
 import etcd
 import ledger
 from ledger import BLOCKS
-from sessions import Request
+from rvstm_tools.sessions.requests import Request
 
 SECONDS_A_READER = 10
 SECONDS_FOR_THE_ENGINE = 0.05

@@ -1,6 +1,6 @@
 """Tests of a whole ledger, which need etcd and the program rvstm: python3 -m unittest, in this folder.
 
-What answers have to be is told by scripts/session_model.py, which runs each block by `rvstm seq`, and by docs/formats.md.
+What answers have to be is told by tools/rvstm_tools/models/sessions.py, which runs each block by `rvstm seq`, and by docs/formats.md.
 """
 
 import hashlib
@@ -17,16 +17,18 @@ import time
 import unittest
 from pathlib import Path
 
-import transfers  # first: it finds scripts/
+import transfers  # first: it finds tools/
 import audits
 import clusters
 import engines
 import etcd
 import ledger
-import program
-import session_model
-import sessions
-from sessions import Request
+from rvstm_tools.errors import UserError
+from rvstm_tools.models.sessions import Model
+from rvstm_tools.programs.running import Program
+from rvstm_tools.sessions import answers
+from rvstm_tools.sessions.processes import Settings
+from rvstm_tools.sessions.requests import Request
 
 CALLS, BLOCKS = 6, 45
 
@@ -34,7 +36,11 @@ CALLS, BLOCKS = 6, 45
 def missing():
     """What the tests of this file lack, or nothing."""
     lacks = [] if shutil.which("etcd") else ["etcd (Debian's package etcd-server)"]
-    return ", ".join(lacks + ([] if os.path.isfile(program.path()) else ["the program rvstm (RVSTM names it)"]))
+    try:
+        engines.rvstm()
+    except UserError:
+        lacks.append("the program rvstm (RVSTM names it)")
+    return ", ".join(lacks)
 
 
 def setUpModule():
@@ -42,7 +48,7 @@ def setUpModule():
         print(f"skipped, for want of {missing()}: all tests of test_cluster.py", file=sys.stderr)
         raise unittest.SkipTest(missing())
     if "n4" not in clusters.engines_known():
-        print("skipped, for want of the library for C (scripts/library): a node by it", file=sys.stderr)
+        print("skipped, for want of the library for C (`rvstm-tools library`): a node by it", file=sys.stderr)
 
 
 def wait(is_so, seconds=120):
@@ -74,7 +80,7 @@ class Forgetful(etcd.Etcd):
 
 class Engines(unittest.TestCase):
     def test_an_engine_ends_with_its_node(self):
-        code = "import engines, sessions, time; e = engines.engine(sessions.Settings()); print(e.pid, flush=True); time.sleep(60)"
+        code = "import engines, time; from rvstm_tools.sessions.processes import Settings; e = engines.engine(Settings()); print(e.pid, flush=True); time.sleep(60)"
         with subprocess.Popen([sys.executable, "-c", code], stdout=subprocess.PIPE, cwd=clusters.HERE) as node:
             pid = int(node.stdout.readline())
             self.assertTrue(is_running(pid))
@@ -82,14 +88,14 @@ class Engines(unittest.TestCase):
         self.assertTrue(wait(lambda: not is_running(pid)))
 
     def test_an_engine_that_does_not_answer_is_killed(self):
-        engine = engines.Process(sessions.Settings())
+        engine = engines.Process(Settings())
         engine.patience = 0.5
         os.kill(engine.pid, signal.SIGSTOP)
         self.assertRaises(engines.Ended, engine.ask, Request(b"state"))
         engine.close()
 
     def test_a_dead_engine_gives_no_answer(self):
-        engine = engines.Process(sessions.Settings())
+        engine = engines.Process(Settings())
         os.kill(engine.pid, signal.SIGKILL)
         self.assertRaises(engines.Ended, engine.ask, Request(b"dump"))
         engine.close()
@@ -138,8 +144,8 @@ class Ledger(unittest.TestCase):
             self.append(block)
         self.transfers(3)
         self.settle()
-        settings = sessions.Settings(transfers.SETTINGS["frame_limit"], transfers.SETTINGS["frame_gas"], True, True)
-        model = session_model.Model(program.rvstm(), settings)
+        settings = Settings(transfers.SETTINGS["frame_limit"], transfers.SETTINGS["frame_gas"], True, True)
+        model = Model(Program(Path(engines.rvstm())), settings)
         self.addCleanup(model.place.cleanup)
         for file in transfers.FILES:
             model.answer(Request(b"program", (), file))
@@ -158,9 +164,9 @@ class Ledger(unittest.TestCase):
             self.assertEqual(self.page("n2", f"/receipts/{height}")[1].decode().strip(), answer)
 
     def test_3_pages(self):
-        state = sessions.state_of(self.page("n1", "/state")[1])
-        self.assertEqual(int(state[b"height"]), len(self.blocks))
-        self.assertEqual(self.digest(len(self.blocks)), {state[b"digest"].decode()})
+        state = answers.state_of(self.page("n1", "/state")[1])
+        self.assertEqual(state.height, len(self.blocks))
+        self.assertEqual(self.digest(len(self.blocks)), {state.digest.hex()})
         status, value = self.page("n1", f"/get/{transfers.ACCOUNTS[0]}")
         self.assertEqual((status, value[:6]), (200, b"value "))
         self.assertEqual(self.page("n1", f"/get/{'0' * 64}"), (200, b"absent\n"))
@@ -235,7 +241,7 @@ class Ledger(unittest.TestCase):
 
     def test_5_a_file_is_kept_by_one_ledger(self):
         path = self.cluster.folder / "other.store"
-        words = [program.rvstm(), "chain", "--store", path]
+        words = [engines.rvstm(), "chain", "--store", path]
         subprocess.run(words, input=b"state\nq\n", stdout=subprocess.DEVNULL, check=True)
         self.cluster.node("other", "--store", path)
         self.assertIn("rvstm: store OtherSettings 6", self.cluster.wait_for("other", "STOPS"))

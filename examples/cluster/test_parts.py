@@ -8,13 +8,16 @@ import unittest.mock
 import zlib
 from pathlib import Path
 
-import transfers  # first: it finds scripts/
+import transfers  # first: it finds tools/
 import audits
 import engines
 import etcd
 import ledger
 import nodes
-import sessions
+from rvstm_tools.sessions import answers
+from rvstm_tools.sessions.answers import Done, Kind
+from rvstm_tools.sessions.processes import Settings
+from rvstm_tools.sessions.requests import Request
 import status
 from etcd import Pair
 
@@ -173,13 +176,18 @@ class Revisions(unittest.TestCase):
         self.assertRaisesRegex(ValueError, "at height 5, and the log ends at 4", self.at, self.shelf(), 5)
 
 
+def answer_of(line):
+    kind, _, words = line.partition(b" ")
+    return Done() if kind == b"ok" else answers.refused(words, Kind(kind))
+
+
 class Answering:
     """An engine that gives these answers."""
 
     pid = None
 
     def __init__(self, *lines):
-        self.answers, self.asked = [sessions.Answer(line.split()[0], line + b"\n") for line in lines], []
+        self.answers, self.asked = [answer_of(line) for line in lines], []
 
     def ask(self, request):
         self.asked.append(request)
@@ -219,8 +227,8 @@ class Files(unittest.TestCase):
             stub.write_text("#!/bin/sh\necho $* > $0.words\necho rvstm: store Busy 1 >&2\nexit 1\n")
             stub.chmod(0o755)
             with unittest.mock.patch.dict(os.environ, {"RVSTM": str(stub)}):
-                engine = engines.Process(sessions.Settings(digest=True, store=f"{place}/FILE"))
-            self.assertRaisesRegex(engines.Ended, "rvstm: store Busy 1", engine.ask, sessions.Request(b"state"))
+                engine = engines.Process(Settings(digest=True, store=f"{place}/FILE"))
+            self.assertRaisesRegex(engines.Ended, "rvstm: store Busy 1", engine.ask, Request(b"state"))
             self.assertIn(f"--store {place}/FILE", Path(f"{stub}.words").read_text())
             engine.close()
 
@@ -264,9 +272,8 @@ class Anew(unittest.TestCase):
         return said
 
     def at_height(self, height):
-        state = b"height %d\ndigest %s\n" % (height, ONE.encode())
-        engine = Answering(b"ok %d" % len(state), b"refused frame NoFrame 7")
-        engine.answers[0] = engine.answers[0]._replace(body=state)
+        engine = Answering(b"ok", b"refused frame NoFrame 7")
+        engine.answers[0] = Done(answers.state_text(answers.State(1, height, 0, 0, 100, None, False, bytes.fromhex(ONE))))
         return engine
 
     def files(self):
@@ -365,13 +372,13 @@ class Texts(unittest.TestCase):
             to._obj.line, to._obj.number, to._obj.area, to._obj.name = parts.line, parts.number, parts.area, parts.name
 
         library.library = type("Stub", (), {"rvstm_refusal": staticmethod(tell)})
-        self.assertEqual(library.reason(), b"block 7 BadLine 2\n")
+        self.assertEqual(library.reason(), b"block 7 BadLine 2")
         parts = engines.Parts(0, 5, b"frame", b"TooMuchGas")
-        self.assertEqual(library.reason(), b"frame TooMuchGas 5\n")
+        self.assertEqual(library.reason(), b"frame TooMuchGas 5")
 
     def test_strange_blocks_are_as_the_page_of_a_session_says(self):
         for what, (block, answer) in transfers.strange(__import__("random").Random(1)).items():
-            self.assertTrue(sessions.ANSWER.fullmatch(answer.encode() + b"\n"), what)
+            self.assertTrue(answers.ANSWER.fullmatch(answer.encode() + b"\n"), what)
 
 
 if __name__ == "__main__":

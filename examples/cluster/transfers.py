@@ -2,12 +2,12 @@
 
 import hashlib
 
-import engines  # first: it finds scripts/
-import block_texts
+import engines  # first: it finds tools/
 import ledger
+from rvstm_tools.texts.blocks import Rules
 
 ACCOUNTS = [hashlib.sha256(b"account %d" % number).hexdigest() for number in range(1000)]
-HEAD = block_texts.head(3)
+HEAD = Rules.THREE.head
 GAS = 5000
 FILES = [(engines.TOP / f"examples/{name}/{name}.elf").read_bytes() for name in ("token", "fees", "digest")]
 TOKEN, FEES, DIGEST = map(ledger.sha256, FILES)
@@ -15,7 +15,7 @@ SETTINGS = {"as": "frame", "frame_limit": 16_000_000, "frame_gas": 2_000_000_000
 
 
 def number(amount):
-    return block_texts.word(amount, 8).hex()
+    return amount.to_bytes(8, "little").hex()
 
 
 def programs(*names):

@@ -1,4 +1,4 @@
-target remote | ../../scripts/gdb token.block --call 2
+target remote | ../../tools/rvstm-tools gdb token.block --call 2
 continue
 backtrace
 monitor calls

@@ -1,4 +1,4 @@
-target remote | ../../scripts/gdb token.block --call 1
+target remote | ../../tools/rvstm-tools gdb token.block --call 1
 break take
 continue
 watch balance

@@ -4,7 +4,7 @@ key and the session's counts.
 
 usage: embed.py LIBRARY RVSTM
 
-LIBRARY is librvstm.so as scripts/library makes it, and RVSTM the built program. Started in examples/token. embed.expect has what it
+LIBRARY is librvstm.so as rvstm-tools library makes it, and RVSTM the built program. Started in examples/token. embed.expect has what it
 prints.
 """
 

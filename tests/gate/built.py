@@ -1,0 +1,98 @@
+"""What a green `rt ci` proved of these sources is taken over: the program is noted as built of them, and the library for C is built
+over the libraries that `rt ci` left. So examples and the library start at once after it, and so do the cases.
+
+`rt ci` checks the library for C, whose crate is a static library, and builds no archive of it; and the libraries below it have no
+stamp, so `rt lib` would prove all of them again. The kit's `rattle build` takes them as they are, and checks this one crate.
+"""
+
+import argparse
+import os
+import subprocess
+import sys
+from collections.abc import Sequence
+from pathlib import Path
+
+from gate.calls import tool_words
+from gate.cases import TOP
+
+sys.path.append(str(TOP / "tools"))
+from rvstm_tools.commands.library import CRATE, Linker  # after the path of the tools is set
+from rvstm_tools.errors import UserError
+from rvstm_tools.programs import checkouts
+from rvstm_tools.programs.checkouts import Checkout
+from rvstm_tools.releases.products import Product, Products
+
+OF_LIBRARY = (Product.ARCHIVE, Product.SHARED)
+
+
+def libraries_of_kit(checkout: Checkout) -> list[str]:
+    """The kit's libraries that the crate names, in their order in crates.txt."""
+    rows = (line.split(":") for line in (checkout.top / "crates.txt").read_text().splitlines() if not line.startswith("#"))
+    named = next(row[1].split() for row in rows if len(row) == 2 and row[0].split()[:1] == [CRATE])
+    return ["std", *(name for name in named if name not in checkout.needs)]
+
+
+def words_of_build(checkout: Checkout, kit: Path, jobs: int) -> list[str]:
+    """The command line that builds the archive over the libraries below it: what `rt lib` calls, without what it keeps."""
+    below = checkout.crates_of(CRATE)[:-1]
+    rlibs = {name: checkout.crate(name) / f"out/rlib/{name}.rlib" for name in below}
+    missing = [name for name in below if not rlibs[name].is_dir()]
+    if missing:
+        raise UserError(f"there is no library of {', '.join(missing)}, which `rt ci` leaves")
+    words = [str(kit / "bin/rattle"), "build", "--crate-name", CRATE, "src/lib.rt"]
+    for name in libraries_of_kit(checkout):
+        words += ["--extern", f"{name}={kit}/rlibs/{name}.rlib"]
+    words += ["-L", f"dependency={kit}/rlibs"]
+    for name in checkout.needs[CRATE]:
+        words += ["--extern", f"{name}={rlibs[name]}"]
+    for name in below:
+        words += ["-L", f"dependency={rlibs[name].parent}"]
+    words += ["--antt-project", f"{kit}/rattle/logic/antt-project.json", "--logic-built", f"{kit}/logic_built"]
+    words += ["--jobs", str(jobs), "--links", f"{CRATE}=", "--crate-type", "staticlib", "--toolchain", f"{kit}/toolchain"]
+    return [*words, "--backend", "llvm", "-o", f"out/lib{CRATE}.a"]
+
+
+def build_library(checkout: Checkout, products: Products) -> None:
+    """Builds the archive and the shared object."""
+    linker, folder = Linker(products), checkout.crate(CRATE)
+    words = words_of_build(checkout, linker.in_kit("bin/rattle").parents[1], len(os.sched_getaffinity(0)))
+    (folder / "out").mkdir(exist_ok=True)
+    done = subprocess.run(words, cwd=folder, stdin=subprocess.DEVNULL, stdout=subprocess.PIPE, stderr=subprocess.STDOUT, text=True)
+    if done.returncode:
+        raise UserError(f"rattle build of {CRATE} ended with status {done.returncode}: {' | '.join(done.stdout.splitlines()[-3:])}")
+    products.path(Product.ARCHIVE).parent.mkdir(parents=True, exist_ok=True)
+    linker.link()
+
+
+def take_over(checkout: Checkout, has_older: bool) -> None:
+    """Notes what is built of which sources, and builds the library for C, if that is not done."""
+    products = Products(checkout)
+    program = products.path(Product.PROGRAM)
+    checkouts.note_built(program, checkout.sum_of_sources(checkout.crates_of(Product.PROGRAM.crate)))
+    sources = checkout.sum_of_sources(checkout.crates_of(CRATE))
+    if all(checkouts.is_built(products.path(product), sources) for product in OF_LIBRARY):
+        return
+    if has_older:
+        if subprocess.run(tool_words("library"), stdout=subprocess.DEVNULL).returncode:
+            raise UserError("the library for C is not built")
+        return
+    build_library(checkout, products)
+    for product in OF_LIBRARY:
+        checkouts.note_built(products.path(product), sources)
+
+
+def main(words: Sequence[str] | None = None) -> int:
+    """Takes over what `rt ci` left here."""
+    parser = argparse.ArgumentParser(prog="tests/built", description=__doc__, formatter_class=argparse.RawDescriptionHelpFormatter)
+    parser.add_argument(
+        "--again",
+        action="store_true",
+        help="libraries of earlier runs were here before, which `rt ci` put back: `rt lib` builds the library for C",
+    )
+    given = parser.parse_args(words)
+    try:
+        take_over(Checkout(TOP), given.again)
+    except (UserError, OSError) as error:
+        print(f"tests/built: {error}", file=sys.stderr)
+        return 1
+    return 0

@@ -1,0 +1,323 @@
+"""Each command of the program and each tool, once by its documented form. What is printed stands in the pages, or follows from
+the block by hand."""
+
+import re
+import xml.etree.ElementTree
+from collections.abc import Callable, Sequence
+
+
+from gate import pages
+from gate.calls import command, rvstm, tool, tool_words
+from gate.cases import TOP, Case, Differs, Run, holds, same
+from gate.machine import Tool
+from gate.texts import written
+
+EXAMPLES = TOP / "examples"
+COUNTER, TOKEN = EXAMPLES / "counter", EXAMPLES / "token"
+KEY = f"{1:064x}"
+# README has this text, and says by hand what it means.
+COUNTED = f"""\
+call 0 returned gas 639 pc 00010034 out -
+regs 00000000 00000000 00110000 ..
+write 0 {KEY} 01000000
+call 1 returned gas 639 pc 00010034 out -
+regs 00000000 00000000 00110000 ..
+write 1 {KEY} 02000000
+call 2 returned gas 639 pc 00010034 out -
+regs 00000000 00000000 00110000 ..
+write 2 {KEY} 03000000
+store {KEY} 03000000
+end
+"""
+# Three calls of 639 gas, of which each reads what the one before wrote.
+WAITS = f"""\
+writers {KEY} 0 1 2
+call 0 gas 639 path 639
+wait 1 0 {KEY}
+call 1 gas 639 path 1278
+wait 2 1 {KEY}
+call 2 gas 639 path 1917
+key {KEY} writers 3 waits 2
+all calls 3 gas 1917 path 1917
+"""
+LISTING = """\
+00010000 fc010593 addi x11,x2,-64
+00010004 04000613 addi x12,x0,64
+00010008 00050413 addi x8,x10,0
+0001000c 00000073 ecall
+"""
+NEW_STATE = "rules 1\nheight 0\nkeys 0\nprograms 0\nframe-limit 67108864\nframe-gas none\nbrief 0\n"
+TOO_SMALL = b"the balance is too small".hex()
+
+
+def printed(came: str, wanted: str) -> None:
+    """The case ends if a text is not this one, in which `..` is cut."""
+    difference = pages.first_difference(wanted.splitlines(), came.splitlines())
+    if difference:
+        raise Differs(difference)
+
+
+# ---- commands of the program
+
+
+def seq(run: Run) -> None:
+    """The calls in order."""
+    printed(rvstm(run, "seq", "counter.block", folder=COUNTER).done(), COUNTED)
+
+
+def run_by_workers(run: Run) -> None:
+    """The same by threads, and what these counted."""
+    done = rvstm(run, "run", "counter.block", "--workers", "4", "--counts", folder=COUNTER)
+    printed(done.done(), COUNTED)
+    counts = [re.sub(r"\d+", "N", line) for line in done.errors.splitlines()]
+    worker = "worker N steps N asks N executions N validations N"
+    same(counts, [worker] * 4 + ["all steps N asks N executions N validations N repeated N"])
+
+
+def drive(run: Run) -> None:
+    """The same along a schedule."""
+    words = ("drive", "counter.block", "--workers", "2", "--schedule", "turns.schedule")
+    printed(rvstm(run, *words, folder=COUNTER).done(), COUNTED)
+    short = written(run.place / "short", "0\n")
+    rvstm(run, *words[:-1], short, folder=COUNTER).refused("rvstm: drive NotDone 1")
+
+
+def conflicts(run: Run) -> None:
+    """Which calls wait for which."""
+    same(rvstm(run, "conflicts", "counter.block", folder=COUNTER).done(), WAITS)
+
+
+def asm(run: Run) -> None:
+    """A source to its program."""
+    made = run.place / "made.elf"
+    same(rvstm(run, "asm", "counter.s", "--out", made, folder=COUNTER).done(), "")
+    holds(made.read_bytes() == (COUNTER / "counter.elf").read_bytes(), "another file", "the bytes of counter.elf")
+    wrong = written(run.place / "wrong.s", "add\n")
+    holds(rvstm(run, "asm", wrong, "--out", made).errors.startswith("rvstm: asm 1 "), "no refusal", "rvstm: asm 1 ..")
+
+
+def dis(run: Run) -> None:
+    """A program's instructions."""
+    printed(rvstm(run, "dis", "counter.elf", folder=COUNTER).done(), f"{LISTING}..")
+
+
+def debug(run: Run) -> None:
+    """A replay, with the lines that `--more` adds."""
+    words = ("debug", "token.block", "--call", "2")
+    lines = "g 00010368\nb\nm 0010fff0 16\nwhat\nq\n"
+    wanted = "64 00010368 ecall\n63 00010364 addi x17,x0,4\n00000000000000002300000000000000\nwhat\n"
+    same(rvstm(run, *words, folder=TOKEN, data=lines).done(), wanted)
+    more = rvstm(run, *words, "--more", folder=TOKEN, data=f"e\nt 64\nt 66\nv {'b' * 64}\n").done()
+    wanted = f"ends reverted {TOO_SMALL} 310 65\n64 00010368 ecall\nrefused AtEnd 2\nvalue 2300000000000000\n"
+    same(more, wanted)
+
+
+def migrate(run: Run) -> None:
+    """A block of format 1 under rules one, as one of format 2."""
+    made = run.place / "made.block"
+    rvstm(run, "migrate", "counter.block", "--out", made, folder=COUNTER).done()
+    same(made.read_text(), (COUNTER / "counter.block").read_text().replace("rvblock 1\n", "rvblock 2\ngas 1\n", 1))
+
+
+def chain(run: Run) -> None:
+    """A session without a frame."""
+    asks = f"state\nget {KEY}\nlast\nq\nwhat stands behind q is not read"
+    wanted = f"ok {len(NEW_STATE)}\n{NEW_STATE}ok 7\nabsent\nrefused frame NoFrame 7\n"
+    same(rvstm(run, "chain", data=asks).done(), wanted)
+
+
+def help_and_version(run: Run) -> None:
+    """The commands that help names are those that have a case; each has help of its own."""
+    text = rvstm(run, "--help").done()
+    names = re.findall(r"^  ([a-z]+) +[A-Z]", text.split("Options:")[0], re.M)
+    same(sorted(names), sorted([*COMMANDS, "help"]))
+    for name in names:
+        for words in (("help", name), (name, "--help")) if name != "help" else ():
+            holds("Usage: " in rvstm(run, *words).done(), " ".join(words), "a line of usage")
+    newest = re.search(r"^## (\d+\.\d+\.\d+)", (TOP / "CHANGELOG.md").read_text(), re.M)
+    same(rvstm(run, "--version").done(), f"rvstm {newest[1] if newest else ''}\n")
+
+
+def refusals(run: Run) -> None:
+    """A refused command ends with status 1 and one line, a wrong command line with 2."""
+    rvstm(run, "seq", "no.block").refused("rvstm: file Unreadable 1")
+    rvstm(run, "seq", written(run.place / "empty", "")).refused("rvstm: block 1 BadHeader 1")
+    for words in (["seq"], ["run", "a", "--workers", "33"], ["debug", "a", "--call", "1024"], ["what"]):
+        done = rvstm(run, *words)
+        same((done.status, done.out), (2, ""), " ".join(words))
+
+
+COMMANDS: dict[str, Callable[[Run], None]] = {
+    "seq": seq,
+    "run": run_by_workers,
+    "drive": drive,
+    "conflicts": conflicts,
+    "asm": asm,
+    "dis": dis,
+    "debug": debug,
+    "migrate": migrate,
+    "chain": chain,
+}
+
+
+# ---- tools
+
+
+def block(run: Run) -> None:
+    """A list to its block."""
+    same(tool(run, "block", COUNTER / "counter.list").done(), (COUNTER / "counter.block").read_text())
+
+
+def test(run: Run) -> None:
+    """A list as a test; one that is not met, and one that is wrong."""
+    last = tool(run, "test", COUNTER / "counter.list").done().splitlines()[-1]
+    holds(last.startswith("1 test: 1 passed, 0 failed;"), last, "1 test: 1 passed, 0 failed; ..")
+    text = f"program counter {COUNTER}/counter.elf\ncall counter 1000 {KEY}\nexpect gas at most %s\n"
+    same(tool(run, "test", written(run.place / "one.list", text % 639)).status, 0)
+    same(tool(run, "test", written(run.place / "one.list", text % 638)).status, 1)
+    same(tool(run, "test", written(run.place / "one.list", text % "x")).status, 2)
+
+
+def result(run: Run) -> None:
+    """A result as a table."""
+    text = rvstm(run, "seq", "counter.block", folder=COUNTER).done()
+    wanted = "call  end                   gas  pc        output\n   0  returned              639  00010034  ..\n..\nstorage\n..\n"
+    printed(tool(run, "result", data=text).done(), wanted)
+    same(tool(run, "result", "--json", data=text).done().count("\n"), 3 + 1 + 1)
+
+
+def picture(run: Run) -> None:
+    """The waits of a block as a picture."""
+    made = run.place / "waits.svg"
+    tool(run, "conflicts", "counter.block", "--svg", made, folder=COUNTER).done()
+    same(xml.etree.ElementTree.parse(made).getroot().tag, "{http://www.w3.org/2000/svg}svg")
+
+
+def schedule(run: Run) -> None:
+    """Schedules, and the entries until the workers are done."""
+    same(tool(run, "schedule", "2", "4").done(), "0\n1\n0\n1\n")
+    same(tool(run, "schedule", "3", "2", "worker", "2").done(), "2\n2\n")
+    first = written(run.place / "first", "0\n1\n")
+    more = tool(run, "schedule", "2", "--to-done", "counter.block", "--from", first, folder=COUNTER).done()
+    whole = written(run.place / "whole", first.read_text() + more)
+    printed(rvstm(run, "drive", "counter.block", "--workers", "2", "--schedule", whole, folder=COUNTER).done(), COUNTED)
+
+
+def node(run: Run) -> None:
+    """The example of a node, in memory and over a file."""
+    tool(run, "node", folder=run.place).done()
+    tool(run, "node", "--store", "ledger.sqlite", "--seconds", "3", folder=run.place).done()
+
+
+def trace(run: Run) -> None:
+    """The storage calls and the gas of a call."""
+    wanted = "call 2 of token.block: reverted, 65 steps, gas 310 of 5000, pc 00010368\n..\n"
+    printed(tool(run, "trace", "token.block", "--call", "2", folder=TOKEN).done(), wanted)
+
+
+def coverage(run: Run) -> None:
+    """The lines that a list reaches; the program needs lines."""
+    for name in ("token.elf", "token.list"):
+        (run.place / name).write_bytes((TOKEN / name).read_bytes())
+    done = tool(run, "coverage", "token.list", folder=run.place)
+    holds(done.status == 1 and "there is no" in done.errors and "token.lines.elf" in done.errors, done.errors, "there is no ..token.lines.elf")
+
+
+def explore(run: Run) -> None:
+    """Random calls that keep what a description says."""
+    last = tool(run, "explore", COUNTER / "counter.explore", "--calls", "300", "--seed", "1").done().splitlines()[-1]
+    same(last, "nothing is broken")
+
+
+def gdb(run: Run) -> None:
+    """A packet of gdb's protocol: why the call stops, which it does at its first instruction, by signal 5."""
+    done = tool(run, "gdb", "counter.block", "--call", "0", folder=COUNTER, data="+$?#3f")
+    holds(bool(re.match(r"\+\$[ST]05.*#[0-9a-f]{2}", done.out)), done.out, "+$S05#.. or +$T05..#..")
+
+
+def verify(run: Run) -> None:
+    """A program beside the checksum of a release."""
+    made = run.place / "rvstm"
+    command(["llvm-objcopy", "--strip-all", "-R", ".note.gnu.build-id", run.program, made]).done()
+    digest = command(["sha256sum", made]).done().split()[0]
+    sums = written(run.place / "SHA256SUMS", f"{digest}  rvstm\n")
+    tool(run, "verify", run.program, "--sums", sums).done()
+    same(tool(run, "verify", run.program, "--sums", written(sums, f"{'0' * 64}  rvstm\n")).status, 1)
+
+
+def man_page(run: Run) -> None:
+    """The man page is what the help of the program makes."""
+    command([*tool_words("man-page"), run.program, "--check"]).done()
+
+
+def unknown(run: Run, name: str) -> None:
+    """A tool refuses an example that is not there, by one line with its name."""
+    done = tool(run, name, "none")
+    came = (done.status, done.out, done.errors.count("\n"), "none" in done.errors)
+    holds(came == (1, "", 1, True), f"status {done.status}, {done.errors}", f"status 1 and one line with none, of {name} none")
+
+
+def preview(run: Run) -> None:
+    """The example by the unproved program, which is there at once."""
+    if run.setting.is_preview:
+        printed(tool(run, "preview", "counter").done(), COUNTED)
+    unknown(run, "preview")
+
+
+def example(run: Run) -> None:
+    """The example by the proved program, which is there at once after the gate."""
+    if not run.setting.is_preview and run.program == TOP / "crates/rvstm/out/rvstm":
+        printed(tool(run, "example", "counter").done(), COUNTED)
+    unknown(run, "example")
+
+
+def library(run: Run) -> None:
+    """Help alone: the cases of the library run it, and the gate builds it."""
+    same(tool(run, "library", "what").status, 2)
+
+
+def release(run: Run) -> None:
+    """The files of a release, if this checkout has the program and the library as its sources make them, which the gate sees to."""
+    folder = run.place / "release"
+    if run.setting.library and run.program == TOP / "crates/rvstm/out/rvstm" and (run.program.parent / "rvstm.sources").is_file():
+        tool(run, "release", folder).done()
+        command(["sha256sum", "--check", "--quiet", "SHA256SUMS"], folder).done()
+    else:
+        same(tool(run, "release").status, 2)
+
+
+TOOLS: dict[str, tuple[Callable[[Run], None], Sequence[Tool]]] = {
+    "block": (block, ()),
+    "test": (test, ()),
+    "result": (result, ()),
+    "conflicts": (picture, ()),
+    "schedule": (schedule, ()),
+    "node": (node, ()),
+    "trace": (trace, ()),
+    "coverage": (coverage, ()),
+    "explore": (explore, ()),
+    "gdb": (gdb, ()),
+    "verify": (verify, (Tool.LLVM,)),
+    "preview": (preview, ()),
+    "example": (example, ()),
+    "library": (library, ()),
+    "man-page": (man_page, ()),
+    "release": (release, (Tool.LLVM,)),
+}
+
+
+def names_of_tools(run: Run) -> None:
+    """The subcommands of the package of tools are those that have a case; each has help of its own."""
+    launcher = TOP / "tools/rvstm-tools"
+    names = re.findall(r"^    ([a-z][a-z-]*)(?: +\S.*)?$", command([launcher, "--help"]).done(), re.M)
+    holds(set(names) <= set(TOOLS), sorted(set(names) - set(TOOLS)), "a case for each subcommand")
+    for name in names:
+        holds("usage: " in command([launcher, name, "--help"]).done(), name, "a line of usage")
+
+
+def cases() -> list[Case]:
+    """All of them."""
+    found = [Case(f"rvstm {name}", call, cost=0.5) for name, call in COMMANDS.items()]
+    found += [Case(f"tool {name}", call, needs, cost=2) for name, (call, needs) in TOOLS.items()]
+    found += [Case("rvstm help and version", help_and_version), Case("rvstm refusals", refusals)]
+    return [*found, Case("tools: each has a case", names_of_tools)]

@@ -1,0 +1,277 @@
+"""The examples as they are committed, with the programs of both compilers, and their contracts built again by clang."""
+
+import re
+import shutil
+from collections.abc import Sequence
+from functools import partial
+from pathlib import Path
+
+from gate.calls import command, rvstm, tool
+from gate.cases import TOP, Case, Run, holds, same
+from gate.machine import CONTRACTS, Tool
+from gate.texts import written
+
+EXAMPLES = TOP / "examples"
+MAKEFILE = TOP / "sdk/Makefile"
+EXPECTED = ("auction", "digest", "fees", "token")
+"""The examples that have a text of what their block prints."""
+PLANTED = {"auction-77": ("auction", 2, 1), "auction-own": ("auction", 3, 1), "fees-late": ("fees", 1, 17), "token-doubles": ("token", 1, 1)}
+"""The programs with a planted bug: the example, how many calls are left, and the seed."""
+DESCRIPTIONS = (
+    ("call echo 100 u8:{other}", "explore: FILE, line 3: other: no line `draw` above has this name"),
+    ("call echo 100 u8:{some}\nreturned other == 1", "explore: FILE, line 4: other: there is no such name here"),
+    ("call echo 100 u8:{some}\nreturned =", "explore: FILE, line 4: not an expression of Python: invalid syntax"),
+    (
+        "let other = 1\ndraw more 1\ncall echo 100 u8:{other=more}",
+        "explore: FILE, line 5: other: this name is taken; {OTHER=more} gives another one",
+    ),
+    (
+        'let size = len(value("key:a"))\ncall echo 100 u8:{some}',
+        "# line 3: let size = len(value(\"key:a\")): TypeError: object of type 'NoneType' has no len()",
+    ),
+    ("returned True", "explore: FILE, line 3: returned: no call is above it; `always` holds after each call"),
+    ("call echo 0 u8:{some}", "explore: FILE, line 3: 0: gas is a number of 1 to 10000000"),
+    ("draw much 0..256\ncall echo 100 u8:{much}", "explore: FILE, line 4: u8:256: a number of 8 bits is at most 255"),
+    ("call echo 100 u8:{some}\nreturned number(output) == some", "nothing is broken"),
+    ("call echo 2 u8:{some}", "call echo 2 u8:1"),
+    ("call echo 2 u8:{some}\nmay-end out-of-gas", "nothing is broken"),
+    ("call echo 100 u8:{some}\nstorage\nholds keys()", "# line 5: holds keys()"),
+)
+"""Texts of descriptions, with a line that is printed of each."""
+SLOW = ("auction", "lock")
+"""The examples whose calls have many steps."""
+FAILING = ("parts", "files", "tables")
+CHARGES = re.compile(r" gas \d+ pc [0-9a-f]+")
+
+
+def folders() -> list[str]:
+    """The examples that have a block of their name."""
+    return sorted(path.parent.name for path in EXAMPLES.glob("*/*.block") if path.stem == path.parent.name)
+
+
+def without_registers(text: str) -> str:
+    """A result without its registers."""
+    return "".join(line for line in text.splitlines(keepends=True) if not line.startswith("regs "))
+
+
+def in_order_and_by_workers(run: Run, name: str) -> None:
+    """A block by `seq` and by four workers; what it prints, if that is written down; and the same by the program of GCC."""
+    folder = EXAMPLES / name
+    wanted = rvstm(run, "seq", f"{name}.block", folder=folder).done()
+    same(wanted.splitlines()[-1], "end")
+    same(rvstm(run, "run", f"{name}.block", "--workers", "4", folder=folder).done(), wanted, "4 workers")
+    if name not in EXPECTED:
+        return
+    expect = (folder / f"{name}.expect").read_text()
+    same(without_registers(wanted), expect, f"{name}.expect")
+    text = (folder / f"{name}.block").read_text().replace(f"{name}.elf", f"{name}-gnu.elf")
+    other = rvstm(run, "seq", written(run.place / "gnu.block", text), folder=folder).done()
+    same(CHARGES.sub("", without_registers(other)), CHARGES.sub("", expect), f"{name}-gnu.elf")
+
+
+def in_rust(run: Run) -> None:
+    """The tally in Rust does what the one in C does, but for gas and pc."""
+    texts = [rvstm(run, "seq", f"{name}.block", folder=EXAMPLES / name).done() for name in ("tally", "tally-rust")]
+    one, other = (CHARGES.sub("", without_registers(text)) for text in texts)
+    same(other, one)
+
+
+def block_of_list(run: Run, name: str) -> None:
+    """A list makes the block that is committed."""
+    same(tool(run, "block", EXAMPLES / name / f"{name}.list").done(), (EXAMPLES / name / f"{name}.block").read_text())
+
+
+def lists(run: Run) -> None:
+    """Each list as a test, with the programs of both compilers."""
+    tool(run, "test", "--variant", "gnu", ".", folder=EXAMPLES).done()
+
+
+def described(run: Run, name: str, program: str) -> None:
+    """A description, with the program of one compiler: nothing is broken."""
+    words = ("--seconds", "1", "--seed", str(run.setting.seed % 1000), "--replace", f"{name}={EXAMPLES / program}")
+    done = tool(run, "explore", EXAMPLES / name / f"{name}.explore", *words).done()
+    same(done.splitlines()[-1], "nothing is broken")
+
+
+def planted(run: Run, name: str) -> None:
+    """A planted bug is found, and leaves a list that passes with it and fails without it."""
+    example, calls, seed = PLANTED[name]
+    folder = EXAMPLES / example
+    for path in (EXAMPLES / f"explored/{name}.elf", folder / f"{example}.elf"):
+        shutil.copy(path, run.place)
+    found = run.place / "found.list"
+    words = ("--replace", f"{example}={run.place}/{name}.elf", "--seed", str(seed), "--out", found)
+    same(tool(run, "explore", folder / f"{example}.explore", *words).status, 1, "explore")
+    same(len(re.findall("^call ", found.read_text(), re.M)), calls, "calls that are left")
+    same(tool(run, "test", found).status, 0, "with the bug")
+    right = written(run.place / "right.list", found.read_text().replace(f"{name}.elf", f"{example}.elf"))
+    same(tool(run, "test", right).status, 1, "without the bug")
+
+
+def traced(run: Run, name: str) -> None:
+    """Each call of a block: the gas of its steps is that of its receipt, which the tool compares."""
+    folder = EXAMPLES / name
+    calls = len(re.findall("^call ", (folder / f"{name}.block").read_text(), re.M))
+    for call in range(calls):
+        tool(run, "trace", f"{name}.block", "--call", str(call), folder=folder).done()
+
+
+def made(run: Run, source: Path, *targets: str, more: Sequence[str] = ()) -> None:
+    """Builds programs of a source in the folder of the case."""
+    shutil.copy(source, run.place)
+    command(["make", "-s", "-f", MAKEFILE, *more, *targets], run.place).done()
+
+
+def rebuilt(run: Run, name: str, program: str) -> None:
+    """A contract built again has the bytes that are committed."""
+    folder = EXAMPLES / name
+    made(run, folder / f"{name}.c", program)
+    holds((run.place / program).read_bytes() == (folder / program).read_bytes(), "other bytes", f"those of {program}")
+
+
+def rebuilt_bug(run: Run, name: str) -> None:
+    """A program with a planted bug is the example with the difference beside it, built by clang."""
+    example = PLANTED[name][0]
+    source = run.place / f"{name}.c"
+    command(["patch", "-s", "-o", source, EXAMPLES / example / f"{example}.c", EXAMPLES / f"explored/{name}.diff"]).done()
+    command(["make", "-s", "-f", MAKEFILE, f"{name}.elf"], run.place).done()
+    same((run.place / f"{name}.elf").read_bytes() == (EXAMPLES / f"explored/{name}.elf").read_bytes(), True)
+
+
+def by_lines(run: Run) -> None:
+    """A call traced by the lines of its source, in which each case of a switch is a part of its function."""
+    folder = EXAMPLES / "reckon"
+    shutil.copy(folder / "reckon.block", run.place)
+    made(run, folder / "reckon.c", "reckon.elf", "reckon.lines.elf")
+    text = tool(run, "trace", "reckon.block", "--call", "0", folder=run.place).done()
+    found = sorted(re.findall(r" %  (\S.*)$", text, re.M))
+    same("\n".join(found), (folder / "reckon.functions").read_text().strip())
+
+
+def covered(run: Run) -> None:
+    """The lines and branches that lists reach, and the sums of the file for lcov."""
+    for name in ("token.elf", "token.list", "refusals.list"):
+        shutil.copy(EXAMPLES / "token" / name, run.place)
+    made(run, EXAMPLES / "token/token.c", "token.lines.elf")
+    one = tool(run, "coverage", "token.list", folder=run.place).done()
+    both = tool(run, "coverage", "token.list", "refusals.list", "--sdk", "--lcov", "info", folder=run.place).done()
+    came = re.sub(r"^[^ ]*/sdk/", "sdk/", one + both, flags=re.M)
+    same(came, (EXAMPLES / "covered/token.covered").read_text())
+    shown = re.findall(r"^[^ ].*: lines (\d+) of (\d+).*; branches (\d+) of (\d+)", both, re.M)
+    info = (run.place / "info").read_text()
+    for at, word in enumerate(("LH", "LF", "BRH", "BRF")):
+        same(re.findall(rf"^{word}:(\d+)$", info, re.M), [row[at] for row in shown], word)
+
+
+def on_this_machine(run: Run, name: str) -> None:
+    """The tests of a contract, compiled for this machine."""
+    shutil.copy(EXAMPLES / name / f"{name}.c", run.place)
+    made(run, EXAMPLES / name / f"{name}-test.c", f"{name}-test", more=["CC=cc"])
+    holds(bool(re.search(r"^[1-9]\d* passed, 0 failed$", command([run.place / f"{name}-test"]).done(), re.M)), "a failure", "0 failed")
+
+
+def failing_on_this_machine(run: Run) -> None:
+    """Checks that do not hold, and what they print."""
+    folder = EXAMPLES / "told"
+    shutil.copy(folder / "failing.c", run.place)
+    made(run, folder / "failing-test.c", "failing-test", more=["CC=cc"])
+    same(command([run.place / "failing-test"]).out, (folder / "host.told").read_text())
+
+
+def failing(run: Run, name: str) -> None:
+    """Lists that are refused or not met, and what is said of them."""
+    folder = EXAMPLES / "told"
+    same(tool(run, "test", f"{name}.failing", folder=folder).out, (folder / f"{name}.told").read_text())
+
+
+def keys_of_tables(run: Run) -> None:
+    """Keys of tables by the words of their list."""
+    folder, told = EXAMPLES / "auction", EXAMPLES / "told"
+    result = rvstm(run, "seq", "auction.block", folder=folder).done()
+    table = tool(run, "result", "--list", "auction.list", folder=folder, data=result).done()
+    keys = sorted({found for found in re.findall(r"^ *(?:wrote )*([^ ]*): .*", table, re.M)})
+    same("\n".join(keys) + "\n", (told / "keys.told").read_text())
+    svg = run.place / "picture"
+    tool(run, "conflicts", "auction.block", "--svg", svg, "--list", "auction.list", folder=folder).done()
+    same("\n".join(re.findall(r">(table:[^<]*)", svg.read_text())) + "\n", (told / "waits.told").read_text())
+
+
+def refused_by_tools(run: Run) -> None:
+    """The last line of tools whose list or block is refused: it names the line and the program."""
+    folder, file = EXAMPLES / "told", "../tally/tally.list"
+    made = run.place / "files.block"
+    done = tool(run, "block", "files.failing", folder=folder)
+    written(made, done.out)
+    for ended, wanted in (
+        (done, f"block: files.failing, line 3: {file} is not an ELF file; rvstm refuses the block"),
+        (tool(run, "trace", made, "--call", "0", folder=folder), f"trace: {made}, line 3, {file}: rvstm: elf BadMagic 2"),
+        (tool(run, "conflicts", made, "--svg", run.place / "svg", folder=folder), f"conflicts: {made}, line 3, {file}: rvstm: elf BadMagic 2"),
+        (tool(run, "result"), "result: nothing was read: rvstm was refused or did not run, and its own line says why"),
+    ):
+        same(ended.errors.splitlines()[-1:], [wanted], " ".join(ended.words))
+
+
+def wrong_description(run: Run, text: str, wanted: str) -> None:
+    """A line that is printed of a description which ends with this text; FILE is the description."""
+    path = written(run.place / "description", f"program echo {EXAMPLES}/echo/echo.elf\ndraw some 1..9\n{text}\n")
+    done = tool(run, "explore", path, "--calls", "100")
+    line, lines = wanted.replace("FILE", str(path)), (done.out + done.errors).splitlines()
+    holds(line in lines, lines[-1:], line)
+
+
+def debugged(run: Run, name: str, contract: str, make: Sequence[str]) -> None:
+    """What gdb prints at the lines of a script, with each line before it. Sources of the sdk are named by their paths from here."""
+    folder = run.place / "examples" / contract.partition("/")[0]
+    folder.mkdir(parents=True)
+    for part in ("sdk", "tools"):
+        (run.place / part).symlink_to(TOP / part)
+    for ending in (".c", ".block"):
+        shutil.copy(EXAMPLES / f"{contract}{ending}", folder)
+    program = contract.partition("/")[2]
+    command(["make", "-s", "-f", "../../sdk/Makefile", *make, f"{program}.elf", f"{program}.lines.elf"], folder).done()
+    lines = ["set width 110", "set confirm off", "set remotetimeout 600", "set trace-commands on"]
+    lines += (EXAMPLES / f"debugged/{name}.gdb").read_text().splitlines()
+    words = ["gdb-multiarch", "-nx", "-q", "-batch", *(word for line in lines for word in ("-ex", line)), f"{program}.lines.elf"]
+    # In a shell, since the order of what gdb says on its two outputs counts.
+    done = command(["sh", "-c", 'exec "$@" 2>&1', "sh", *words], folder, more={"RVSTM": str(run.program), "DEBUGINFOD_URLS": ""})
+    came = re.sub(r"^\+[a-z]* \n", "", done.out, flags=re.M)
+    same(came, (EXAMPLES / f"debugged/{name}.told").read_text())
+
+
+def cases() -> list[Case]:
+    """All of them."""
+    names, found = folders(), list[Case]()
+    listed = [name for name in names if (EXAMPLES / name / f"{name}.list").is_file()]
+    explored = [name for name in names if (EXAMPLES / name / f"{name}.explore").is_file()]
+    clang = [name for name in names if (EXAMPLES / name / f"{name}.c").is_file()]
+    programs = [(name, f"{name}/{file.name}") for name in explored for file in sorted((EXAMPLES / name).glob("*.elf"))]
+    found += [Case(f"example {name} in order and by 4 workers", partial(in_order_and_by_workers, name=name)) for name in names]
+    found += [Case(f"example {name} from its list", partial(block_of_list, name=name)) for name in listed]
+    found += [Case(f"example {name} traced", partial(traced, name=name), cost=4, needs_speed=name in SLOW) for name in listed]
+    found += [Case(f"description {name} with {program}", partial(described, name=name, program=program), cost=2) for name, program in programs]
+    found.append(Case("description tally with tally-rust", partial(described, name="tally", program="tally-rust/tally-rust.elf"), cost=2))
+    found += [Case(f"planted bug {name} found", partial(planted, name=name), cost=3, needs_speed=PLANTED[name][0] in SLOW) for name in PLANTED]
+    found += [Case(f"contract {name} built again", partial(rebuilt, name=name, program=f"{name}.elf"), CONTRACTS) for name in clang]
+    gnu = (Tool.GCC, Tool.MAKE)
+    found += [Case(f"contract {name}-gnu built again", partial(rebuilt, name=name, program=f"{name}-gnu.elf"), gnu) for name in EXPECTED]
+    found += [Case(f"contract {name} built again", partial(rebuilt_bug, name=name), (*CONTRACTS, Tool.PATCH)) for name in PLANTED]
+    found += [Case(f"tests of {name} on this machine", partial(on_this_machine, name=name), (Tool.CC, Tool.MAKE)) for name in ("digest", "tally")]
+    found += [Case(f"lists that fail: {name}", partial(failing, name=name), cost=2) for name in FAILING]
+    found += [
+        Case("checks that fail on this machine", failing_on_this_machine, (Tool.CC, Tool.MAKE)),
+        Case("example tally-rust as tally", in_rust),
+        Case("keys of tables by their words", keys_of_tables),
+        Case("lists as tests", lists, cost=10),
+        Case("reckon traced by its lines", by_lines, (*CONTRACTS, Tool.LLVM), cost=2),
+        Case("lines that lists reach", covered, (*CONTRACTS, Tool.LLVM), cost=3),
+        Case("lists and blocks that tools refuse", refused_by_tools, cost=2),
+    ]
+    for name, contract, make, needs in (
+        ("token", "token/token", ("TOOLS=clang",), CONTRACTS),
+        ("watch", "token/token", ("TOOLS=gnu", "MORE=-O0"), (Tool.GCC, Tool.MAKE)),
+        ("ends", "debugged/ends", ("TOOLS=clang",), CONTRACTS),
+    ):
+        run = partial(debugged, name=name, contract=contract, make=make)
+        found.append(Case(f"calls debugged by gdb: {name}", run, (*needs, Tool.GDB), cost=8))
+    said = [partial(wrong_description, text=text, wanted=wanted) for text, wanted in DESCRIPTIONS]
+    return [*found, *(Case(f"a description and its line, {number}", run) for number, run in enumerate(said, 1))]

@@ -1,0 +1,96 @@
+"""The library for C: the examples in C, C++ and Python by the archive and by the shared object, its header, the names that it shows,
+and random sessions beside `rvstm chain`."""
+
+import re
+from collections.abc import Sequence
+from functools import partial
+from pathlib import Path
+
+from gate.calls import command, tool_words
+from gate.cases import TOP, Case, Run, holds, same
+from gate.machine import Tool
+from gate.outside import last_lines
+from gate.texts import written
+
+EMBED, TOKEN, INCLUDE = TOP / "examples/embed", TOP / "examples/token", TOP / "include"
+STRICT = ("-Wall", "-Wextra", "-Wpedantic", "-Werror", f"-I{INCLUDE}")
+PAIRS = 3
+"""Of random sessions, side by side in one process."""
+
+
+def folder(run: Run) -> Path:
+    """Where the library is."""
+    assert run.setting.library
+    return run.setting.library
+
+
+def built(run: Run, compiler: Sequence[str], source: str, is_shared: bool) -> None:
+    """An example is built without a warning, by the archive or by the shared object, and prints what embed.expect has."""
+    made = run.place / "program"
+    links = [f"-L{folder(run)}", "-lrvstm"] if is_shared else [str(folder(run) / "librvstm.a")]
+    done = command([*compiler, *STRICT, EMBED / source, *links, "-o", made])
+    same((done.status, done.errors), (0, ""), "the compiler")
+    prints(run, made, run.program)
+
+
+def prints(run: Run, *words: str | Path) -> None:
+    """A command prints embed.expect in the folder of the token."""
+    done = command(words, TOKEN, more={"LD_LIBRARY_PATH": str(folder(run)), "PYTHONDONTWRITEBYTECODE": "1"})
+    same(done.done(), (EMBED / "embed.expect").read_text())
+
+
+def in_python(run: Run) -> None:
+    """The example in Python, by ctypes."""
+    prints(run, "python3", EMBED / "embed.py", folder(run) / "librvstm.so", run.program)
+
+
+def header(run: Run) -> None:
+    """The header alone, as C of 1999 and as C++ of 2011."""
+    source = written(run.place / "header.c", '#include "rvstm.h"\n')
+    for words in (("cc", "-std=c99"), ("c++", "-std=c++11", "-x", "c++")):
+        done = command([*words, *STRICT, "-fsyntax-only", source])
+        same((done.status, done.errors), (0, ""), words[0])
+
+
+def shown_names(run: Run) -> None:
+    """The functions of the header are all that the archive and the shared object show."""
+    declared = sorted(re.findall(r"^[a-z].* (rvstm_[a-z_]*)\(", (INCLUDE / "rvstm.h").read_text(), re.M))
+    holds(len(declared) > 10, declared, "the functions of the header")
+    for words in (("librvstm.a",), ("-D", "librvstm.so")):
+        text = command(["nm", "-g", "--defined-only", *words], folder(run)).done()
+        same(sorted(re.findall(r"^[0-9a-f]+ [A-Z] (\S+)$", text, re.M)), declared, words[-1])
+
+
+def two_copies(run: Run) -> None:
+    """Two copies of the library in one program."""
+    declared = re.findall(r"^[a-z].* (rvstm_([a-z_]*))\(", (INCLUDE / "rvstm.h").read_text(), re.M)
+    names = written(run.place / "names", "".join(f"{name} second_{rest}\n" for name, rest in declared))
+    second, made = run.place / "second.a", run.place / "two"
+    command(["objcopy", f"--redefine-syms={names}", folder(run) / "librvstm.a", second]).done()
+    command(["cc", *STRICT, EMBED / "two.c", folder(run) / "librvstm.a", second, "-o", made]).done()
+    command([made, TOKEN / "token.elf"]).done()
+
+
+def beside_chain(run: Run) -> None:
+    """Random sessions by a driver in C, two side by side in one process: each answer is that of `rvstm chain`."""
+    run.note(f"seed {run.setting.seed}")
+    done = command([*tool_words("embedded"), run.program, str(PAIRS), str(run.setting.seed)])
+    holds(done.status == 0, last_lines(done.out + done.errors), "no difference")
+    run.note(last_lines(done.out, 1))
+
+
+def cases() -> list[Case]:
+    """All of them."""
+    found = []
+    for compiler, source, needs in ((("cc",), "embed.c", Tool.CC), (("c++", "-std=c++11"), "embed.cpp", Tool.CPP)):
+        for is_shared in (False, True):
+            run = partial(built, compiler=compiler, source=source, is_shared=is_shared)
+            found.append(Case(f"library: {source} by the {'shared object' if is_shared else 'archive'}", run, (needs,), needs_library=True))
+    return [
+        *found,
+        Case("library: embed.py", in_python, needs_library=True),
+        Case("library: its header", header, (Tool.CC, Tool.CPP)),
+        Case("library: the names that it shows", shown_names, (Tool.NM,), needs_library=True),
+        Case("library: two copies in one program", two_copies, (Tool.CC, Tool.NM), needs_library=True),
+        Case("library: random sessions beside chain", beside_chain, (Tool.CC, Tool.NM), needs_library=True, cost=8),
+    ]

@@ -1,0 +1,68 @@
+"""Block files and results, as the cases write and read them. docs/formats.md has both."""
+
+import itertools
+from collections.abc import Iterable, Mapping, Sequence
+from dataclasses import dataclass
+from pathlib import Path
+
+FORMAT_1, MOST_GAS = "rvblock 1\n", 10_000_000
+
+
+def field(data: str) -> str:
+    """Bytes as a field: hex, or `-` for none."""
+    return data or "-"
+
+
+@dataclass(frozen=True)
+class Call:
+    """A call of a block: the number of its program, its gas and its input in hex."""
+
+    program: int = 0
+    gas: int = MOST_GAS
+    data: str = ""
+
+
+def block(programs: Sequence[str], calls: Iterable[Call], store: Mapping[str, str] | None = None, head: str = FORMAT_1) -> str:
+    """The text of a block file."""
+    lines = [f"program {number} {path}\n" for number, path in enumerate(programs)]
+    lines += [f"store {key} {field(value)}\n" for key, value in sorted((store or {}).items())]
+    lines += [f"call {call.program} {call.gas} {field(call.data)}\n" for call in calls]
+    return head + "".join(lines)
+
+
+@dataclass(frozen=True)
+class Receipt:
+    """The `call` line of a result."""
+
+    end: str
+    gas: int
+    output: str
+
+
+def receipts(result: str) -> list[Receipt]:
+    """The calls of a result."""
+    words = [line.split(" ") for line in result.splitlines() if line.startswith("call ")]
+    return [Receipt(word[2], int(word[4]), word[8]) for word in words]
+
+
+def ends(result: str) -> list[tuple[str, str]]:
+    """The end and the output of each call of a result."""
+    return [(one.end, one.output) for one in receipts(result)]
+
+
+def storage(result: str) -> dict[str, str]:
+    """The storage at the end of a result."""
+    words = [line.split(" ") for line in result.splitlines() if line.startswith("store ")]
+    return {word[1]: word[2] for word in words}
+
+
+def written(path: Path, text: str) -> Path:
+    """A file with a text."""
+    path.write_text(text)
+    return path
+
+
+def mixed(workers: int, entries: int) -> str:
+    """A schedule: worker numbers as a linear congruential generator gives them."""
+    seeds = itertools.accumulate(range(entries), lambda seed, _: (seed * 1103515245 + 12345) % 2**32, initial=1)
+    return "".join(f"{(seed >> 16) % workers}\n" for seed in itertools.islice(seeds, 1, None))

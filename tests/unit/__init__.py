@@ -1,0 +1,1 @@
+"""The tests of the gate and of what runs its cases."""

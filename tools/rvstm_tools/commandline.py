@@ -1,0 +1,58 @@
+"""The command line of `rvstm-tools`: the parser of all subcommands, and how each of them ends."""
+
+import argparse
+import importlib
+import io
+import sys
+from collections.abc import Sequence
+
+from rvstm_tools import errors
+from rvstm_tools.options import Command
+
+NAMES = (
+    "block", "conflicts", "coverage", "example", "explore", "gdb", "library", "node", "preview", "release", "result", "schedule",
+    "test", "trace", "verify",
+)
+"""Of the commands. Each is the `COMMAND` of the module of its name, which is loaded only if it is asked for: most of the time of
+a short run goes into loading modules."""
+
+
+def command_of(name: str) -> Command:
+    """The command of a name."""
+    command: Command = importlib.import_module(f"rvstm_tools.commands.{name}").COMMAND
+    return command
+
+
+def parser_of(commands: Sequence[Command]) -> argparse.ArgumentParser:
+    """The parser of the whole command line."""
+    parser = argparse.ArgumentParser(prog="rvstm-tools", description="Writes, builds, tests and debugs contracts for rvstm.")
+    subparsers = parser.add_subparsers(title="commands", metavar="COMMAND", required=True)
+    for command in commands:
+        subparser = subparsers.add_parser(
+            command.name,
+            help=command.summary,
+            description=f"{command.summary}\n\n{command.details}",
+            epilog=f"example:\n  {command.example}",
+            formatter_class=argparse.RawDescriptionHelpFormatter,
+            parents=[shared() for shared in command.shared],
+        )
+        command.add_options(subparser)
+        subparser.set_defaults(command=command)
+    return parser
+
+
+def subparsers_of(parser: argparse.ArgumentParser) -> dict[str, argparse.ArgumentParser]:
+    """The parsers of the commands, by their names."""
+    (choices,) = (action.choices for action in parser._actions if isinstance(action.choices, dict))
+    return choices
+
+
+def main(words: Sequence[str] | None = None) -> int:
+    """Runs the command that the words name, by default those of the command line."""
+    words = sys.argv[1:] if words is None else words
+    if isinstance(sys.stdout, io.TextIOWrapper):
+        sys.stdout.reconfigure(errors="backslashreplace")  # a file's name may be no text of the terminal's encoding
+    names = words[:1] if words and words[0] in NAMES else NAMES
+    given = parser_of([command_of(name) for name in names]).parse_args(words)
+    command: Command = given.command
+    return errors.ended(command.name, lambda: command.run(given))

@@ -1,0 +1,98 @@
+"""`rvstm-tools block`: makes a block file of a list."""
+
+import argparse
+import sys
+from pathlib import Path
+
+from rvstm_tools.errors import Status, UserError
+from rvstm_tools.options import Command
+from rvstm_tools.texts import lists, results
+from rvstm_tools.texts.blocks import Block
+
+ELF_MAGIC = b"\x7fELF"
+DETAILS = """\
+LIST has a line for each program, key and call; # at the beginning of a word begins a comment:
+
+    rules 1
+    program counter counter.elf
+    store u32:1 u32:7
+    call counter 1000 key:votes
+
+    rules N                   the rules of the block, 1, 2 or 3; the line may be left out, and comes before all others
+    program NAME PATH         a program, and the path of its file from where rvstm is run
+    store KEY BYTES..         a key of the storage before the block, and its value
+    call NAME GAS BYTES..     a call of a program with at most this gas, and its input
+
+Each of BYTES is one of these, and all of them are put one after the other:
+
+    0a0b0c                    bytes in hex
+    "text"                    the bytes of a text, which may have blanks
+    u8:N u16:N u32:N u64:N    a number in 1, 2, 4 or 8 bytes, the lowest first
+    key:text                  the bytes of a text, and zeros up to 32 bytes
+    key:N                     if N is a number of at most 255: N in the last byte of 32
+    table:TAG:text            the key that table_key of sdk/sha256.h derives of TAG and key:text; so with a number N
+
+A KEY is one of them, followed by zeros up to 32 bytes. A NAME has one program line, and a KEY one store line.
+
+The lines of a test, which begin with `expect` or `storage` (`rvstm-tools test --help`), are passed over.
+
+The first wrong line is reported, with the word that is wrong, and nothing is printed. A program that is not
+an ELF file is reported on standard error, if it is found from here or beside LIST."""
+
+
+def add_options(parser: argparse.ArgumentParser) -> None:
+    """Adds the options of the command."""
+    parser.add_argument("list", metavar="LIST", help="the list")
+    parser.add_argument(
+        "result", nargs="?", metavar="RESULT",
+        help="a result that rvstm printed: its `store` lines are the storage before this block, and the `store` lines of LIST "
+        "are put over them. So blocks chain",
+    )
+
+
+def run(given: argparse.Namespace) -> int:
+    """Prints the block file."""
+    block = block_of(given.list, given.result)
+    report_programs(block, given.list)
+    print(block.text(), end="")
+    return Status.DONE
+
+
+def block_of(path: str, result: str | None) -> Block:
+    """The block of a list, over the storage of a result if one is given."""
+    storage = results.read_storage(result) if result is not None else {}
+    block = lists.read_block(path, storage)
+    longest = block.longest_value()
+    if longest > block.rules.longest_value:  # the list is right, so it is a value of the result
+        raise UserError(f"{result}: a value has {longest} bytes, which rules {block.rules} do not allow")
+    return block
+
+
+def report_programs(block: Block, path: str) -> None:
+    """Reports files that are not ELF files, with their lines of the list: rvstm names no file if it refuses one."""
+    for program in block.programs.values():
+        found = found_file(program.path, path)
+        if found and not is_elf(found):
+            print(f"block: {path}, line {program.line}: {found} is not an ELF file; rvstm refuses the block", file=sys.stderr)
+
+
+def found_file(program: str, path: str) -> Path | None:
+    """The file of a program, if it is found from here or beside the list."""
+    places = (folder / program for folder in (Path("."), Path(path).parent))
+    return next((place for place in places if place.is_file()), None)
+
+
+def is_elf(path: Path) -> bool:
+    """Whether a file begins as an ELF file does."""
+    with open(path, "rb") as file:
+        return file.read(len(ELF_MAGIC)) == ELF_MAGIC
+
+
+COMMAND = Command(
+    name="block",
+    summary="Builds a block file from a list that people can read.",
+    details=DETAILS,
+    example="rvstm-tools block votes.list > votes.block",
+    add_options=add_options,
+    run=run,
+)

@@ -1,0 +1,48 @@
+"""`rvstm-tools conflicts`: draws which calls of a block wait for which."""
+
+import argparse
+from pathlib import Path
+
+from rvstm_tools import options
+from rvstm_tools.errors import Status
+from rvstm_tools.options import Command
+from rvstm_tools.pictures.waits import Picture
+from rvstm_tools.programs import finding, running
+from rvstm_tools.texts import conflicts
+
+DETAILS = """\
+`rvstm conflicts` finds the waits. FILE and its programs are taken from the current folder.
+
+A call is a bar, as wide as its gas. It is right of all calls that it waits for, and a line leads to it from each of them.
+The lines of the keys with the most waits have colours, which are explained below them. The calls of the longest path are
+orange: each of them waits for the one before it. If each call began when those that it waits for have ended, `rvstm run`
+would be as many times as fast as one call after another as all gas is of the gas of this path. That is no promise, and no
+limit: a call that computes first and reads late runs beside those that it waits for, up to that read.
+
+The status is 0 if the picture is drawn, 1 if the block is refused or a file cannot be read, and 2 for a wrong command line."""
+
+
+def add_options(parser: argparse.ArgumentParser) -> None:
+    """Adds the options of the command."""
+    parser.add_argument("file", metavar="FILE", help="a block file")
+    parser.add_argument("--svg", type=Path, required=True, metavar="OUT", help="a file for the picture")
+
+
+def run(given: argparse.Namespace) -> int:
+    """Writes the picture."""
+    names = options.table_names(given)
+    program = finding.chosen(options.program_choice(given), "conflicts")
+    found = conflicts.conflicts_of(running.run_file(program, "conflicts", given.file))
+    given.svg.write_text(Picture(Path(given.file).name, found, names).svg(), encoding="ascii", errors="xmlcharrefreplace")
+    return Status.DONE
+
+
+COMMAND = Command(
+    name="conflicts",
+    summary="Draws which calls of a block wait for which.",
+    details=DETAILS,
+    example="rvstm-tools conflicts votes.block --svg votes.svg --list votes.list",
+    add_options=add_options,
+    run=run,
+    shared=(options.program_parser, options.list_parser),
+)

@@ -1,0 +1,90 @@
+"""`rvstm-tools coverage`: says which lines and branches of contracts the calls of lists ran."""
+
+import argparse
+import os
+from collections import defaultdict
+from pathlib import Path
+
+from rvstm_tools import options
+from rvstm_tools.debugging import coverage
+from rvstm_tools.debugging.coverage import Covered, SourceFile, Steps
+from rvstm_tools.debugging.sessions import CallOf
+from rvstm_tools.errors import Status, UserError
+from rvstm_tools.options import Command
+from rvstm_tools.programs import finding, running
+from rvstm_tools.programs.running import Program
+from rvstm_tools.texts import lists
+
+DETAILS = """\
+`rvstm debug` replays each call of a LIST, a test or not, step by step, in the folder of the list. Several lists count together.
+
+Lines come from NAME.lines.elf beside the program NAME.elf, which the SDK makes:
+
+    make -f sdk/Makefile NAME.lines.elf
+
+llvm-addr2line (package llvm) or riscv64-unknown-elf-addr2line finds them.
+
+Of each source file it prints how many of its lines and branches ran, the lines that did not run, and those that have a branch
+which did not go both ways. A line counts if the program has instructions of it. It ran if one of them did, or one of what is
+inlined there. A branch is a conditional branch of the program, and has two ways. Copies of a function that is inlined in several
+places count as one. So lines and branches are those that the compiler left: with MORE=-O0 for both programs they are most like
+the source. Files of the SDK are left out without --sdk.
+
+With --lcov the same is written in the format of lcov; genhtml (package lcov) makes pages of it:
+
+    genhtml --branch-coverage OUT -o FOLDER
+
+A replay lasts one to three seconds for each million steps. The status is 0 if all is printed, 1 if a list is wrong, a block is
+refused or a file cannot be read, and 2 for a wrong command line."""
+
+
+def add_options(parser: argparse.ArgumentParser) -> None:
+    """Adds the options of the command."""
+    parser.add_argument("lists", nargs="+", metavar="LIST", type=Path, help="a list, as `rvstm-tools test` takes it")
+    parser.add_argument("--lcov", metavar="OUT", type=Path, help="a file for the same in the format of lcov")
+    parser.add_argument("--sdk", action="store_true", help="counts the files of the SDK too")
+
+
+def run(given: argparse.Namespace) -> int:
+    """Prints what ran."""
+    program = finding.chosen(options.program_choice(given), "coverage")
+    programs, covered = defaultdict[str, Steps](Steps), Covered(SourceFile)
+    calls = sum(add_list(program, path.absolute(), programs) for path in given.lists)
+    for path, steps in programs.items():
+        coverage.add_program(covered, path, steps)
+    sdk = os.path.realpath(finding.home().top / "sdk") + os.sep
+    shown = {path: covered[path] for path in sorted(covered) if given.sdk or not path.startswith(sdk)}
+    print(f"{calls:,} calls, {sum(steps.total for steps in programs.values()):,} steps")
+    for path, source in shown.items():
+        for line in coverage.source_lines(os.path.relpath(path), source):
+            print(line)
+    if given.lcov:
+        lines = (line for path, source in shown.items() for line in coverage.lcov_lines(path, source))
+        given.lcov.write_text("".join(f"{line}\n" for line in lines), encoding="utf-8")
+    return Status.DONE
+
+
+def add_list(program: Program, path: Path, programs: defaultdict[str, Steps]) -> int:
+    """Replays each call of a list, and adds it to the steps of its program. Returns how many calls there are."""
+    block = lists.read_block(str(path), {})
+    folder = path.parent
+    with running.temporary_file(block.text(), ".block") as made:
+        refusal = program.run(["seq", made], folder).refusal
+        if refusal:
+            refused = running.refused_path(program, block.paths(), refusal, folder)
+            raise UserError(f"{path}{f', {refused}' if refused else ''}: {refusal}")
+        for number, call in enumerate(block.calls):
+            file = os.path.abspath(folder / block.programs[call.program].path)
+            programs[file].add(CallOf(program.path, made, number, folder))
+    return len(block.calls)
+
+
+COMMAND = Command(
+    name="coverage",
+    summary="Says which lines and branches of contracts the calls of lists ran.",
+    details=DETAILS,
+    example="rvstm-tools coverage token.list refusals.list --lcov token.info",
+    add_options=add_options,
+    run=run,
+    shared=(options.program_parser,),
+)

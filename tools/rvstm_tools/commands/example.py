@@ -1,0 +1,52 @@
+"""`rvstm-tools example`: proves and builds rvstm, if that is not done yet, and runs an example."""
+
+import argparse
+
+from rvstm_tools.commands import preview
+from rvstm_tools.options import Command
+from rvstm_tools.programs import checkouts, finding, proving
+from rvstm_tools.programs.checkouts import Checkout
+from rvstm_tools.programs.proving import Prover
+
+COST = "25 minutes to an hour on four free processors, and 6.5 GB of disk"
+DETAILS = """\
+NAME is a folder of examples/ that has a NAME.block. The first run proves every crate of the program. It prints each one as it is
+proved, and how many are left. A later run starts the program at once, as long as no source has changed: a checksum of the sources
+and of the program is beside the program."""
+
+
+def add_options(parser: argparse.ArgumentParser) -> None:
+    """Adds the options of the command."""
+    parser.add_argument("name", metavar="NAME", help="an example, such as counter")
+
+
+def build(checkout: Checkout, name: str) -> None:
+    """Proves and builds the program, if that is not done yet."""
+    crates, made = checkout.crates_of("rvstm"), checkout.top / finding.BUILT
+    sources = checkout.sum_of_sources(crates)
+    if checkouts.is_built(made, sources):
+        return
+    proving.need_rt()
+    proving.tell(f"rvstm is proved first, {len(crates)} crates: from nothing {COST}. What is proved already is not proved again.")
+    proving.tell(f"`rvstm-tools preview {name}` shows the example unproved, in a few minutes.")
+    Prover(checkout, "rvstm", ["run", "--", "--version"]).prove()
+    if sources == checkout.sum_of_sources(crates):
+        checkouts.note_built(made, sources)
+
+
+def run(given: argparse.Namespace) -> int:
+    """Builds the program, and runs the example."""
+    checkout = checkouts.here("example")
+    block = preview.block_of_example(checkout.top / "examples", given.name)
+    build(checkout, given.name)
+    return preview.run_example(checkout.top / finding.BUILT, block)
+
+
+COMMAND = Command(
+    name="example",
+    summary="Proves and builds rvstm, if that is not done yet, and runs an example.",
+    details=DETAILS,
+    example="rvstm-tools example counter",
+    add_options=add_options,
+    run=run,
+)

@@ -1,0 +1,74 @@
+"""`rvstm-tools gdb`: lets gdb debug a call of a block, forward and backward."""
+
+import argparse
+from collections.abc import Callable
+
+from rvstm_tools import options
+from rvstm_tools.debugging.gdb import Server
+from rvstm_tools.debugging.moments import Call
+from rvstm_tools.debugging.packets import Wire
+from rvstm_tools.debugging.sessions import CallOf
+from rvstm_tools.errors import Status, UserError
+from rvstm_tools.options import Command
+from rvstm_tools.programs import finding, running
+
+DETAILS = """\
+It speaks gdb's remote protocol over standard input and output, and drives sessions of `rvstm debug`. gdb starts it:
+
+    make -f ../../sdk/Makefile token.lines.elf
+    gdb-multiarch token.lines.elf -ex "target remote | rvstm-tools gdb token.block --call 2"
+
+gdb must know RISC-V, as Debian's package gdb-multiarch does. If the calls before this one last for seconds, type `set
+remotetimeout 600` first.
+
+The call begins at its first instruction. Breakpoints, `watch`, `step`, `next`, `finish` and all that go back, `reverse-step`,
+`reverse-next`, `reverse-finish` and `reverse-continue`, work as on other targets. Nothing can be changed, since a call is
+replayed. $moment is how many steps the call has made.
+
+The call never exits: it stops at its last instruction, and gdb can go back from there. A call that returns stops as the end of
+the replay. Otherwise the signal says how the call ended: SIGABRT reverted, SIGXCPU out-of-gas, SIGILL illegal, SIGBUS misaligned,
+SIGSEGV memory-fault and fetch-fault, SIGTRAP breakpoint, SIGSYS unknown-call and bad-length, SIGXFSZ too-many-writes. A line
+before it has the end, the output, the steps and the gas.
+
+    monitor end               how the call ends
+    monitor calls             the storage calls up to here, each with its moment
+    monitor value KEY         what a READ of KEY would find here; KEY is a word of a list, such as key:alice, or 64 hex digits
+    monitor go MOMENT         goes to a moment; after it `maintenance flush register-cache` shows gdb the new place
+
+Going forward, to breakpoints and to changes of memory too, is as fast as a run. Going back is a run from the call's start.
+Ctrl-C stops a search. The status is 0 if gdb leaves, 1 if the block is refused or a file cannot be read, and 2 for a wrong
+command line."""
+
+
+def add_options(_: argparse.ArgumentParser) -> None:
+    """The command has no options of its own."""
+
+
+def run(given: argparse.Namespace) -> int:
+    """Serves gdb."""
+    program = finding.chosen(options.program_choice(given), "gdb")
+    names = options.table_names(given)
+
+    def open_call(hear: Callable[[], None]) -> Call:
+        try:
+            return Call(CallOf(program.path, given.file, given.call), names, hear)
+        except UserError as error:
+            raise UserError(running.placed_refusal(program, given.file, str(error))) from error
+
+    server = Server(Wire(), open_call)
+    try:
+        server.serve()
+    finally:
+        server.close()
+    return Status.DONE
+
+
+COMMAND = Command(
+    name="gdb",
+    summary="Lets gdb debug a call of a block forward and backward, by lines of its source.",
+    details=DETAILS,
+    example='gdb-multiarch token.lines.elf -ex "target remote | rvstm-tools gdb token.block --call 2"',
+    add_options=add_options,
+    run=run,
+    shared=(options.program_parser, options.call_parser, options.list_parser),
+)

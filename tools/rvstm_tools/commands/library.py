@@ -1,0 +1,108 @@
+"""`rvstm-tools library`: proves and builds the library for C."""
+
+import argparse
+import subprocess
+import sys
+import tempfile
+from pathlib import Path
+
+from rvstm_tools.errors import Status, UserError
+from rvstm_tools.options import Command
+from rvstm_tools.programs import checkouts, proving
+from rvstm_tools.programs.checkouts import Checkout
+from rvstm_tools.programs.proving import Prover
+from rvstm_tools.releases.products import Product, Products
+
+CRATE = "rvstm_c"
+DETAILS = """\
+The library is an archive and a shared object, with the heap functions of the kit in both. The command writes
+crates/rvstm_c/out/embedded/librvstm.a and librvstm.so, and prints where they are, how large they are, and how to link them. The
+first run proves the crates that the library is built on. It prints each one as it is proved, and how many are left. A later run
+builds again what has changed.
+
+The archive is one object, of which only the calls of include/rvstm.h can be seen from outside: two such archives, or this one and
+another library of Rattle, link into one program. The kit's own tools link both, so no bytes depend on a machine's compiler."""
+
+
+class Linker:
+    """Links the library with the functions of the kit for malloc, realloc and free."""
+
+    def __init__(self, products: Products) -> None:
+        self.products = products
+        self.crate = products.checkout.crate(CRATE)
+
+    def run(self, *words: str | Path, executable: Path | None = None) -> str:
+        """Runs a tool in the crate's folder."""
+        done = subprocess.run(
+            [str(word) for word in words], executable=executable, cwd=self.crate, capture_output=True, text=True, check=False
+        )
+        if done.returncode:
+            sys.stderr.write(done.stdout + done.stderr)
+            raise UserError(f"{words[0]} ended with status {done.returncode}; what it said is above")
+        return done.stdout
+
+    def in_kit(self, path: str) -> Path:
+        """A file of the kit."""
+        found = Path(self.run("rt", "doc").splitlines()[0]).parent / path
+        if not found.is_file():
+            raise UserError(f"the kit has no {found}: it is not whole")
+        return found
+
+    def link(self) -> None:
+        """Links both."""
+        llvm = self.in_kit("toolchain/bin/clang")  # all of LLVM's tools are this one file, by the name that it is called by
+        archive, shared = self.products.path(Product.ARCHIVE), self.products.path(Product.SHARED)
+        with tempfile.TemporaryDirectory() as place:
+            whole, heap = f"{place}/rvstm.o", self.in_kit("c/liblibc_c.a")
+            self.run("ld.lld", "-r", "-o", whole, "--whole-archive", self.crate / "out/librvstm_c.a", heap, executable=llvm)
+            self.run("llvm-objcopy", "--wildcard", "--keep-global-symbol=rvstm_*", whole, executable=llvm)
+            archive.unlink(missing_ok=True)
+            self.run("llvm-ar", "rcsD", archive, whole, executable=llvm)
+        name = self.products.shared_name()
+        words: list[str | Path] = ["-shared", "-soname", name, "-z", "defs", "-z", "now", "--eh-frame-hdr", "-o", shared]
+        below = [self.in_kit("toolchain/lib/libgcc.a"), self.in_kit("toolchain/lib/libc.so.6")]
+        self.run("ld.lld", *words, "--whole-archive", archive, "--no-whole-archive", *below, executable=llvm)
+        asked_for = shared.with_name(name)
+        asked_for.unlink(missing_ok=True)
+        asked_for.symlink_to(shared.name)
+
+
+def build(checkout: Checkout) -> None:
+    """Proves and builds the library, if that is not done yet, and links it."""
+    proving.need_rt()
+    crates = checkout.crates_of(CRATE)
+    proving.tell(f"the library is proved and built first, {len(crates)} crates: from nothing 15 minutes or more")
+    sources, products = checkout.sum_of_sources(crates), Products(checkout)
+    Prover(checkout, CRATE, ["lib"]).prove()
+    products.path(Product.ARCHIVE).parent.mkdir(parents=True, exist_ok=True)
+    Linker(products).link()
+    if sources == checkout.sum_of_sources(crates):
+        for product in (Product.ARCHIVE, Product.SHARED):
+            checkouts.note_built(products.path(product), sources)
+
+
+def add_options(_: argparse.ArgumentParser) -> None:
+    """The command has no options."""
+
+
+def run(_: argparse.Namespace) -> int:
+    """Builds the library, and prints how to link it."""
+    checkout = checkouts.here("library")
+    build(checkout)
+    archive, shared = (checkout.top / product.value for product in (Product.ARCHIVE, Product.SHARED))
+    for path in (archive, shared):
+        print(f"{path}: {path.stat().st_size:,} bytes")
+    print(f"C:      cc -I {checkout.top / 'include'} FILE.c {archive}")
+    print(f"Rust:   rustc FILE.rs -C link-arg={archive}")
+    print(f"others: load {shared}")
+    return Status.DONE
+
+
+COMMAND = Command(
+    name="library",
+    summary="Proves and builds the library for C: an archive and a shared object.",
+    details=DETAILS,
+    example="rvstm-tools library",
+    add_options=add_options,
+    run=run,
+)

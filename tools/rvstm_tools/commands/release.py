@@ -1,0 +1,173 @@
+"""`rvstm-tools release`: makes the files of a release of a commit."""
+
+import argparse
+import email.utils
+import hashlib
+from collections.abc import Iterator, Mapping
+from dataclasses import dataclass, field
+from pathlib import Path
+
+from rvstm_tools.errors import Status
+from rvstm_tools.options import Command
+from rvstm_tools.programs import checkouts
+from rvstm_tools.releases import archives, helps, parts
+from rvstm_tools.releases.archives import EXECUTABLE, Entries, File
+from rvstm_tools.releases.parts import Parts
+from rvstm_tools.releases.products import Product, Products
+
+PROGRAM_TEXT = """executes blocks of contract calls for a ledger node
+ A contract is an RV32IM program, and a block a list of calls over one
+ storage. rvstm runs a block in order or on threads, and both give the same,
+ which is proved of the running code."""
+LIBRARY_TEXT = """executes blocks of contract calls (library for C)
+ Sessions of blocks in a program: a storage in memory, and requests by calls
+ of C, answered as by "rvstm chain". This package has the archive, the shared
+ object, the header, and examples in C, C++, Python and Rust."""
+SDK_TEXT = """writes, builds and tests contracts for rvstm
+ Headers, start-up code, a linker script and a Makefile for contracts in C,
+ a crate for contracts in Rust, examples, and the command rvstm-tools, which
+ tests and traces calls. The SDK is in /usr/share/rvstm-sdk."""
+CLEAN = f"#!/bin/sh\nset -e\nfind /usr/{parts.SDK}/tools -name __pycache__ -prune -exec rm -r {{}} +\n"
+DETAILS = """\
+FOLDER is made. The checkout must be as its commit has it, and the program and the library must be there as its sources make them,
+by `rvstm-tools example` and `rvstm-tools library`. Nothing is proved, built or fetched. FOLDER gets, for version VERSION,
+
+    rvstm_VERSION_amd64.deb            the program, its man page and its completion
+    librvstm-dev_VERSION_amd64.deb     the library for C, and what linking to it needs
+    rvstm-sdk_VERSION_all.deb          what contracts are written, built and tested with
+    rvstm-VERSION-linux-amd64.tar.gz   all of that below one folder
+    rvstm                              the program alone, without symbols, as it is in the packages
+    rvstm.sources                      the checksum of the program's sources, that of rvstm, and the kit that proved it
+    SHA256SUMS                         the checksums of these
+
+The same commit and the same built files give the same bytes. The time of all files is that of the commit."""
+
+
+@dataclass(frozen=True)
+class Package:
+    """A package of Debian: its name, its architecture and section, its text, its files, and what it depends on."""
+
+    name: str
+    architecture: str
+    section: str
+    text: str
+    entries: Entries
+    depends: str
+    more: Mapping[str, str] = field(default_factory=dict)
+    """Further fields."""
+    control: Entries = field(default_factory=dict)
+    """Further files of its control."""
+
+
+class Release:
+    """A release of a commit."""
+
+    def __init__(self, products: Products) -> None:
+        self.products = products
+        self.parts = Parts(products)
+        self.commit = products.commit_of_clean()
+        self.seconds = int(products.git("log", "-1", "--format=%ct"))
+        self.maintainer = products.git("log", "-1", "--format=%cn <%ce>").strip()
+        self.version = products.version()
+
+    def notes(self, package: str) -> Entries:
+        """What each package says of itself: the commit, what is proved, and that no licence is chosen."""
+        folder, product = f"share/doc/{package}", parts.PROVED.get(package)
+        found: Entries = {
+            f"{folder}/copyright": File(parts.NO_LICENCE.encode()),
+            f"{folder}/commit": File(f"{self.commit}\n".encode()),
+        }
+        if product:
+            found[f"{folder}/proved"] = File(f"Proved is {self.products.proof_of(product)}.\n".encode())
+        return found
+
+    def changes(self, package: str) -> Entries:
+        """The list of changes in Debian's form, which names the commit."""
+        date = email.utils.formatdate(self.seconds).replace("-0000", "+0000")
+        head, change = f"{package} ({self.version}) unstable; urgency=medium", f"  * Made of commit {self.commit[:12]}."
+        text = f"{head}\n\n{change}\n\n -- {self.maintainer}  {date}\n"
+        return {f"share/doc/{package}/changelog.gz": File(archives.gzip_of(text.encode()))}
+
+    def packages(self) -> Iterator[Package]:
+        """The packages."""
+        program, library = self.parts.program(), self.parts.library("/usr", f"lib/{parts.TRIPLET}")
+        name, _, number = self.products.shared_name().partition(".so.")
+        linked: Entries = {
+            "shlibs": File(f"{name} {number} librvstm-dev (>= {self.version})\n".encode()),
+            "triggers": File(b"activate-noawait ldconfig\n"),
+        }
+        yield Package("rvstm", "amd64", "misc", PROGRAM_TEXT, program, f"libc6 (>= {parts.glibc(program)})")
+        yield Package(
+            "librvstm-dev", "amd64", "libdevel", LIBRARY_TEXT, library, f"libc6 (>= {parts.glibc(library)})",
+            {"Suggests": "rvstm, rvstm-sdk"}, linked,
+        )
+        yield Package(
+            "rvstm-sdk", "all", "devel", SDK_TEXT, self.parts.sdk(), "clang, lld, llvm, make, python3 (>= 3.11)",
+            {"Recommends": "rvstm"}, {"prerm": File(CLEAN.encode(), EXECUTABLE)},
+        )
+
+    def deb_of(self, package: Package) -> bytes:
+        """The bytes of a package."""
+        name = package.name
+        entries = package.entries | self.parts.pages(name, is_packed=True) | self.notes(name) | self.changes(name)
+        if name in parts.OVERRIDES:
+            entries[f"share/lintian/overrides/{name}"] = File(parts.OVERRIDES[name].encode())
+        fields = {
+            "Package": name, "Version": self.version, "Architecture": package.architecture, "Maintainer": self.maintainer,
+            "Section": package.section, "Priority": "optional", "Depends": package.depends, **package.more,
+            "Description": package.text,
+        }
+        placed: Entries = {f"usr/{path}": entry for path, entry in entries.items()}
+        return archives.deb_of(fields, package.control, placed, self.seconds)
+
+    def archive(self, folder: str) -> bytes:
+        """The bytes of the archive, which may be unpacked anywhere."""
+        entries = self.parts.program() | self.parts.library("${pcfiledir}/../..", "lib") | self.parts.sdk()
+        for package in parts.PAGES:
+            entries |= self.parts.pages(package, is_packed=False) | self.notes(package)
+        placed = {f"{folder}/{path}": entry for path, entry in entries.items()}
+        return archives.gzip_of(archives.tar_of(placed, self.seconds))
+
+    def files(self) -> dict[str, bytes]:
+        """All files of the release, by their names."""
+        program, folder = self.products.built(Product.PROGRAM), f"rvstm-{self.version}"
+        kit = checkouts.kit_of(self.products.path(Product.PROGRAM))
+        noted = f"{self.products.sources(Product.PROGRAM)} {hashlib.sha256(program).hexdigest()}\n{kit}\n"
+        made = {"rvstm": program, "rvstm.sources": noted.encode()}
+        made |= {f"{one.name}_{self.version}_{one.architecture}.deb": self.deb_of(one) for one in self.packages()}
+        made[f"{folder}-linux-amd64.tar.gz"] = self.archive(folder)
+        sums = "".join(f"{hashlib.sha256(data).hexdigest()}  {name}\n" for name, data in sorted(made.items()))
+        return made | {"SHA256SUMS": sums.encode()}
+
+
+def add_options(parser: argparse.ArgumentParser) -> None:
+    """Adds the options of the command."""
+    parser.add_argument("folder", type=Path, metavar="FOLDER", help="a folder that is made for the files")
+
+
+def run(given: argparse.Namespace) -> int:
+    """Makes the files, and prints their lengths."""
+    folder, products = given.folder, Products(checkouts.here("release"))
+    release = Release(products)
+    made = release.files()
+    products.check_versions()
+    helps.check(products.checkout.top, products.path(Product.PROGRAM))
+    folder.mkdir(parents=True)
+    for name, data in made.items():
+        (folder / name).write_bytes(data)
+    (folder / "rvstm").chmod(EXECUTABLE)
+    print(f"version {release.version} of commit {release.commit}")
+    print(f"rvstm: SHA-256 {hashlib.sha256(made['rvstm']).hexdigest()}, proved is {products.proof_of(Product.PROGRAM)}")
+    for name in sorted(made):
+        print(f"{(folder / name).stat().st_size:>10,}  {folder / name}")
+    return Status.DONE
+
+
+COMMAND = Command(
+    name="release",
+    summary="Makes the files of a release: packages for Debian, an archive for other systems, and their checksums.",
+    details=DETAILS,
+    example="rvstm-tools release /tmp/release",
+    add_options=add_options,
+    run=run,
+)

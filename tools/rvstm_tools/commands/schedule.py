@@ -1,0 +1,94 @@
+"""`rvstm-tools schedule`: prints a schedule file for `rvstm drive`."""
+
+import argparse
+import sys
+from collections.abc import Sequence
+from pathlib import Path
+
+from rvstm_tools import options
+from rvstm_tools.errors import MisuseError, Status
+from rvstm_tools.options import Command
+from rvstm_tools.programs import finding, running
+from rvstm_tools.programs.running import Runner
+from rvstm_tools.texts import numbers, schedules
+
+DETAILS = """\
+    rvstm-tools schedule WORKERS LENGTH [turns | worker N | random SEED]
+    rvstm-tools schedule WORKERS --to-done BLOCK --from SCHEDULE
+
+A schedule has one worker number a line:
+
+    turns         each worker in turn, from 0 on; it is so without a word too
+    worker N      worker N alone
+    random SEED   each entry at random; one seed always gives the same list
+
+A list that is longer than needed does no harm: further entries ask for work that is not there. formats.md says how long a
+list must be.
+
+With --to-done it prints what must follow the list SCHEDULE of the block file BLOCK until the workers are done. If they are
+done already, it prints nothing. It runs `rvstm drive` for that. It adds entries of each worker alone, the last worker first,
+and twice as many each time, until `drive` prints a result; then it cuts what is not needed. If `drive` refuses the list for
+another reason, this command reports it."""
+
+
+def worker_count(word: str) -> int:
+    """The number of workers."""
+    return number_in(word, 1, schedules.MOST_WORKERS)
+
+
+def length(word: str) -> int:
+    """The number of entries."""
+    return number_in(word, 0, schedules.MOST_ENTRIES)
+
+
+def number_in(word: str, least: int, most: int) -> int:
+    """A number of the command line, within bounds."""
+    number = numbers.at_most(word, most) if numbers.is_decimal(word) else None
+    if number is None or number < least:
+        raise argparse.ArgumentTypeError(f"{word}: it is a number of {least} to {most}")
+    return number
+
+
+def add_options(parser: argparse.ArgumentParser) -> None:
+    """Adds the options of the command."""
+    parser.add_argument("workers", type=worker_count, metavar="WORKERS", help="how many workers there are, 1 to 32")
+    parser.add_argument("length", type=length, nargs="?", metavar="LENGTH", help="how many entries are printed")
+    parser.add_argument("form", nargs="*", metavar="FORM", help=f"{schedules.FORMS}; without it turns")
+    parser.add_argument("--to-done", metavar="BLOCK", help="prints what must follow a list for this block file")
+    parser.add_argument("--from", type=Path, dest="schedule", metavar="SCHEDULE", help="the list that is continued")
+
+
+def run(given: argparse.Namespace) -> int:
+    """Prints the schedule."""
+    is_continued = given.to_done is not None
+    if is_continued != (given.schedule is not None) or is_continued == (given.length is not None):
+        raise MisuseError("it wants a LENGTH, or --to-done BLOCK and --from SCHEDULE")
+    if is_continued:
+        program = finding.chosen(options.program_choice(given), "schedule")
+        lines = continuation(program, given.to_done, given.workers, given.schedule.read_text(errors="replace"))
+    else:
+        lines = schedules.entries(given.workers, given.length, given.form)
+    sys.stdout.write(schedules.text_of(lines))
+    return Status.DONE
+
+
+def continuation(runner: Runner, block: str, workers: int, begun: str) -> Sequence[int]:
+    """What must follow a list of a block."""
+
+    def refusal(added: Sequence[int]) -> str:
+        with running.temporary_file(begun + schedules.text_of(added), ".schedule") as path:
+            words = ["drive", block, "--workers", str(workers), "--schedule", path]
+            return runner.run(words, Path()).refusal
+
+    return schedules.entries_to_done(refusal, workers)
+
+
+COMMAND = Command(
+    name="schedule",
+    summary="Prints a schedule file for `rvstm drive`: one worker number a line.",
+    details=DETAILS,
+    example="rvstm-tools schedule 4 1000 random 7 > block.schedule",
+    add_options=add_options,
+    run=run,
+    shared=(options.program_parser,),
+)

@@ -1,0 +1,89 @@
+"""`rvstm-tools trace`: traces a call of a block."""
+
+import argparse
+import os
+from pathlib import Path
+
+from rvstm_tools import options
+from rvstm_tools.debugging import traces
+from rvstm_tools.debugging.replays import Replay
+from rvstm_tools.debugging.sessions import CallOf
+from rvstm_tools.debugging.traces import Places
+from rvstm_tools.errors import Status, UserError
+from rvstm_tools.models import charges
+from rvstm_tools.options import Command
+from rvstm_tools.pictures import flames
+from rvstm_tools.programs import finding, running
+from rvstm_tools.programs.running import Runner
+from rvstm_tools.texts import blockfiles, results
+from rvstm_tools.texts.results import Receipt
+
+DETAILS = """\
+It prints the storage calls of the call, and its gas by function. `rvstm debug` replays the call, step by step.
+
+Of each storage call it prints the step at which it is, the gas before it, its own gas, its address, what it is given and what
+it answers. In the line below are the functions that it is in, the innermost last, each with the line of its source. Then it
+prints the gas of each function: of its own instructions, most first, and with all that it calls. A storage call counts as a
+function that is called, by its name. With --svg the same is drawn as a flame graph: a bar is as wide as the gas of the function
+with all that it calls, and is on the bar of its caller.
+
+Functions and lines come from ELF, the program with its symbols and the lines of its source, which the SDK makes:
+
+    make -f sdk/Makefile NAME.lines.elf
+
+Without --lines it is NAME.lines.elf beside the program NAME.elf, if that is there. llvm-addr2line (package llvm) or
+riscv64-unknown-elf-addr2line finds lines, and functions that the compiler inlined. Without such a tool the symbols of the file
+name the functions. A program without symbols is one function, with the name of its file.
+
+A replay lasts one to three seconds for each million steps; how many are done and left is printed on standard error.
+
+The gas is counted by the rules of the block, and its sum is compared with the receipt of the call. The status is 0 if all is
+printed, 1 if the block is refused or a file cannot be read, and 2 for a wrong command line."""
+
+
+def add_options(parser: argparse.ArgumentParser) -> None:
+    """Adds the options of the command."""
+    parser.add_argument("--lines", metavar="ELF", help="the program of the call with its symbols and lines")
+    parser.add_argument("--svg", type=Path, metavar="OUT", help="a file for the flame graph")
+
+
+def run(given: argparse.Namespace) -> int:
+    """Prints the trace."""
+    program = finding.chosen(options.program_choice(given), "trace")
+    names = options.table_names(given)
+    receipt = receipt_of(program, given.file, given.call)
+    head = blockfiles.head_of_call(given.file, given.call)
+    replay = Replay(CallOf(program.path, given.file, given.call), head.rules)
+    replay.end_by(receipt, head.limit)
+    places = Places(head.program, given.lines, replay.addresses())
+    title = f"call {given.call} of {os.path.basename(given.file)}"
+    root = traces.bars_of(replay, places, title)
+    for line in (
+        f"{title}: {receipt.end}, {replay.total} steps, gas {receipt.gas} of {head.limit}, pc {receipt.pc:08x}",
+        "", *traces.storage_lines(replay, places, receipt, names), *traces.end_lines(replay, places, receipt),
+        "", *traces.sum_lines(root),
+    ):
+        print(line)
+    if given.svg:
+        picture = flames.svg(root, f"{title}: {receipt.end}, {receipt.gas:,} gas", charges.NAMES)
+        given.svg.write_text(picture, encoding="utf-8")
+    return Status.DONE
+
+
+def receipt_of(runner: Runner, file: str, number: int) -> Receipt:
+    """The receipt of a call of a block file."""
+    receipts = results.result_of(running.run_file(runner, "seq", file)).receipts
+    if number not in range(len(receipts)):
+        raise UserError(f"{file}: there is no call {number}; its {len(receipts)} calls count from 0")
+    return receipts[number]
+
+
+COMMAND = Command(
+    name="trace",
+    summary="Traces a call of a block: its storage calls, and its gas by function.",
+    details=DETAILS,
+    example="rvstm-tools trace votes.block --call 2 --svg votes.svg",
+    add_options=add_options,
+    run=run,
+    shared=(options.program_parser, options.call_parser, options.list_parser),
+)

@@ -1,0 +1,73 @@
+"""`rvstm-tools verify`: says whether a program or a package has the proved program."""
+
+import argparse
+import shutil
+import sys
+from pathlib import Path
+
+from rvstm_tools.commands import example, library
+from rvstm_tools.errors import Status, UserError
+from rvstm_tools.options import Command
+from rvstm_tools.programs import checkouts, proving
+from rvstm_tools.releases import verifying
+from rvstm_tools.releases.products import Product, Products
+
+COST = "that lasts up to an hour on four free processors"
+DETAILS = """\
+It compares with the program that the proof of this commit builds, or that a release names.
+
+FILE is the program rvstm, a package of Debian, or the tar.gz of a release. Its program and its library are compared without
+symbols and build id, by llvm-objcopy, with those that this checkout builds, whose crates are as their commit has them. If they are
+not there, they are proved and built first: that needs Rattle's kit, and lasts up to an hour. On a terminal the command asks before
+it does so; --yes answers.
+
+With --sums no kit is needed, and nothing is built: SHA256SUMS is the file of a release, from where its makers keep it. The program
+is compared with the checksum that the file has for `rvstm`, and a package with the one that it has for the package.
+
+A line is printed for each comparison. Without --sums another line says what was proved of what is the same, with which logic and of
+which sources. The status is 0 if all are equal, 1 if one is not or cannot be made, and 2 for a wrong command line."""
+
+
+def add_options(parser: argparse.ArgumentParser) -> None:
+    """Adds the options of the command."""
+    parser.add_argument("file", metavar="FILE", help="a program or a package")
+    parser.add_argument("--sums", metavar="SHA256SUMS", help="the checksums of a release")
+    parser.add_argument("--yes", action="store_true", help="proves and builds what is not there, and does not ask")
+
+
+def build(products: Products, product: Product, is_asked: bool) -> None:
+    """Proves and builds a product, after the user agreed if he is asked."""
+    if not shutil.which("rt"):
+        raise UserError(f"{product.value} is not built here, and there is no rt, which proves it: compare with --sums")
+    proving.tell(f"{product.value} is proved and built first; {COST}")
+    if is_asked and input("Go on? [y/N] ").strip().lower() not in ("y", "yes"):
+        raise UserError("nothing was compared; --sums compares with the checksums of a release, and builds nothing")
+    if product is Product.PROGRAM:
+        example.build(products.checkout, "counter")
+    else:
+        library.build(products.checkout)
+
+
+def run(given: argparse.Namespace) -> int:
+    """Compares, and prints each comparison."""
+    data = Path(given.file).read_bytes()
+    if given.sums is not None:
+        comparisons = verifying.by_sums(given.file, data, given.sums)
+    else:
+        products, is_asked = Products(checkouts.here("verify without --sums")), sys.stdin.isatty() and not given.yes
+        comparisons = verifying.by_building(given.file, data, products, lambda product: build(products, product, is_asked))
+    is_same = True
+    for comparison in comparisons:
+        print(comparison.text, flush=True)
+        is_same = is_same and comparison.is_same
+    return Status.DONE if is_same else Status.FAILED
+
+
+COMMAND = Command(
+    name="verify",
+    summary="Says whether a program or a package has the proved program.",
+    details=DETAILS,
+    example="rvstm-tools verify rvstm_0.2.0_amd64.deb --sums SHA256SUMS",
+    add_options=add_options,
+    run=run,
+)

@@ -1,0 +1,71 @@
+"""What is reported if a command cannot continue, and the statuses that commands end with.
+
+A mistake of the user is reported in one line: a wrong word in a list, a file that is missing, a closed pipe. Only `UserError` and
+`OSError` are reported so. Every other exception is a mistake of these tools, and stays a traceback.
+"""
+
+import enum
+import io
+import os
+import sys
+from collections.abc import Callable
+
+
+class Status(enum.IntEnum):
+    """The exit status of a command."""
+
+    DONE = 0
+    FAILED = 1
+    """What was asked for does not hold, or the command cannot continue."""
+    MISUSED = 2
+    """The command line is wrong; in `test` and `explore`, a list is."""
+    INTERRUPTED = 130
+
+
+class UserError(Exception):
+    """What is reported to the user, in one line."""
+
+
+class MisuseError(UserError):
+    """What is wrong with the command line."""
+
+
+def reason(error: Exception) -> str:
+    """What is wrong, in one line."""
+    if isinstance(error, BrokenPipeError):
+        return "the output is closed"
+    if isinstance(error, OSError):
+        name = "" if error.filename is None else f"{error.filename}: "
+        return f"{name}{error.strerror}"
+    return str(error).split("\n")[0]
+
+
+def ended(name: str, run: Callable[[], int], others: tuple[type[Exception], ...] = ()) -> int:
+    """Runs a command and returns its status. A mistake of the user is one line on standard error that begins with the name.
+
+    `others` are exceptions that count as such a mistake too. Only scripts that still raise `ValueError` for one name some.
+    """
+    mistakes: tuple[type[Exception], ...] = (UserError, OSError, *others)
+    try:
+        try:
+            return run()
+        finally:
+            sys.stdout.flush()
+    except KeyboardInterrupt:
+        fault, status = "interrupted", Status.INTERRUPTED
+    except mistakes as error:
+        fault, status = reason(error), Status.MISUSED if isinstance(error, MisuseError) else Status.FAILED
+    drop_output()
+    print(f"{name}: {fault}", file=sys.stderr)
+    return status
+
+
+def drop_output() -> None:
+    """Sends what standard output still holds to nowhere, so that Python does not write it at its end."""
+    try:
+        standard_output = sys.stdout.fileno()
+    except io.UnsupportedOperation:  # a test put a text in its place
+        return
+    nowhere = os.open(os.devnull, os.O_WRONLY)
+    os.dup2(nowhere, standard_output)
+    os.close(nowhere)

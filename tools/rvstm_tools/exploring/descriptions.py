@@ -1,0 +1,211 @@
+"""Descriptions of random calls: what is drawn, the calls, and what has to hold (`rvstm-tools explore --help`)."""
+
+import functools
+import os
+import re
+from collections.abc import Iterable, Mapping
+from dataclasses import dataclass, field
+from pathlib import Path
+from types import CodeType
+
+from rvstm_tools.errors import UserError
+from rvstm_tools.exploring import expressions, places
+from rvstm_tools.exploring.expressions import OF_BEFORE, OF_CALLS, OF_STORAGE, Rule
+from rvstm_tools.exploring.places import Place, Value, Words
+from rvstm_tools.texts import blocks, lists, words
+from rvstm_tools.texts.lists import BlockReader, Line
+from rvstm_tools.texts.results import TRAPS, End
+
+PLACE = re.compile(r"\{(?:([A-Za-z_]\w*)=)?([A-Za-z_]\w*)\}")
+ANY_PLACE, BRACES = re.compile(r"\{[A-Za-z_]\w*\}"), re.compile("[{}]")
+LET = re.compile(r"([A-Za-z_]\w*)\s*=\s*(.*)")
+OTHER_ENDS = (End.OUT_OF_GAS, *TRAPS)
+KINDS = "rules, program, store, draw, let, always, call, returned, reverted, holds, may-end or storage"
+OF_BLOCKS = ("rules", "program", "store")
+OF_RULES = ("always", "returned", "reverted", "holds")
+
+
+@functools.lru_cache(maxsize=1 << 14)
+def bytes_of(word: str) -> bytes:
+    """The bytes of a word of a list; none of an empty one."""
+    return words.bytes_of(word) if word else b""
+
+
+@dataclass
+class Kind:
+    """A line `call`: its number and text, the program, the gas, and the words of the input with places in them."""
+
+    line: int
+    text: str
+    program: str
+    gas: int
+    words: list[str]
+    places: Mapping[str, Place]
+    """What may be there, by the names that calls give it."""
+    rules: list[Rule] = field(default_factory=list)
+    ends: set[End] = field(default_factory=lambda: {End.RETURNED, End.REVERTED})
+    """How it may end."""
+
+    def words_with(self, values: Mapping[str, Value]) -> list[str]:
+        """The words of the input with these values in their places."""
+        return [word.format_map(values) for word in self.words]
+
+    def data(self, values: Mapping[str, Value]) -> bytes:
+        """The bytes of the input."""
+        return b"".join(map(bytes_of, self.words_with(values)))
+
+    def check(self) -> None:
+        """Refuses a word of the input that is not one, whatever is in its places."""
+        simplest = {name: place.samples()[0] for name, place in self.places.items()}
+        self._check_with(simplest)
+        for name, place in self.places.items():
+            for sample in place.samples():
+                self._check_with({**simplest, name: sample})
+
+    def _check_with(self, values: Mapping[str, Value]) -> None:
+        given = [word for word in self.words_with(values) if word]
+        words.joined(given, blocks.LONGEST_INPUT, "an input")
+
+
+class Description:
+    """A file that says which calls there are, and what has to hold."""
+
+    def __init__(self, path: str) -> None:
+        self.path = path
+        self.blocks = BlockReader({})
+        self.places: dict[str, Place] = {}
+        self.lets: dict[str, Rule] = {}
+        self.always: list[Rule] = []
+        self.at_end: list[Rule] = []
+        self.kinds: list[Kind] = []
+        self.stores: list[str] = []
+        """The lines `store`."""
+        self.is_over = False
+        with open(path, encoding="utf-8", errors="surrogateescape") as file:
+            for number, text in enumerate(file, 1):
+                with lists.placed(path, number):
+                    lists.check_encoding(text)
+                    self._take(text.strip(), number)
+        if not self.kinds:
+            raise UserError(f"{path}: there is no line `call`")
+        folder = Path(os.path.abspath(path)).parent
+        self.programs = {name: str(folder / program.path) for name, program in self.blocks.block.programs.items()}
+        """The files of the programs, by their names."""
+
+    def word_places(self) -> dict[str, Words]:
+        """The places for words."""
+        return {name: place for name, place in self.places.items() if isinstance(place, Words)}
+
+    def replace(self, given: Iterable[str]) -> None:
+        """Puts other programs in place of some, each by a word NAME=PATH."""
+        for word in given:
+            name, _, path = word.partition("=")
+            if name not in self.programs or not path:
+                raise UserError(f"{word}: it is NAME=PATH, with the name of a program of {self.path}")
+            self.programs[name] = os.path.abspath(path)
+
+    # ---- lines
+
+    def _take(self, text: str, number: int) -> None:
+        kind, _, rest = text.partition(" ")
+        if kind == "let":
+            self._take_let(rest.strip(), number)
+        elif kind in OF_RULES:
+            self._take_rule(kind, rest.strip(), number)
+        else:
+            found = words.words_of(text)
+            if found:
+                self._take_words(Line(self.path, number, found), text)
+
+    def _take_words(self, line: Line, text: str) -> None:
+        if line.kind in OF_BLOCKS:
+            self.blocks.take(line)
+            if line.kind == "store":
+                self.stores.append(text)
+        elif line.kind == "draw":
+            self._take_draw(line.words[1:])
+        elif line.kind == "call":
+            self._take_call(line, text)
+        elif line.kind == "may-end":
+            self._take_ends(line.words[1:])
+        elif line.kind == "storage":
+            self._take_storage(line.words[1:])
+        else:
+            raise UserError(f"{line.kind}: not {KINDS}")
+
+    def _take_draw(self, given: list[str]) -> None:
+        name = expressions.new_name(given[0] if given else "")
+        if name in self.places:
+            raise UserError(f"{name}: another line `draw` has this name")
+        self.places[name] = places.place_of(given[1:])
+
+    def _take_let(self, text: str, number: int) -> None:
+        found = LET.fullmatch(text)
+        if not found:
+            raise UserError("let: NAME = EXPRESSION follows it")
+        name = expressions.new_name(found[1])
+        if name in self.lets or any(name in kind.places for kind in self.kinds):
+            raise UserError(f"{name}: this name is taken")
+        code = self._code_of(found[2], (OF_STORAGE - {"before"}) | set(self.lets))
+        self.lets[name] = Rule("let", number, text, code)
+
+    def _code_of(self, text: str, known: frozenset[str]) -> CodeType:
+        names = {"": known, "before": OF_BEFORE | set(self.lets), "every": frozenset(self.word_places())}
+        return expressions.code_of(text, self.path, names)
+
+    def _take_rule(self, when: str, text: str, number: int) -> None:
+        known = OF_STORAGE | set(self.lets)
+        if when == "always":
+            rules = self.always
+        elif self.is_over:
+            if when != "holds":
+                raise UserError(f"{when}: only lines `holds` may follow `storage`")
+            rules = self.at_end
+        else:
+            kind = self._last_kind(when)
+            rules, known = kind.rules, known | OF_CALLS | set(kind.places)
+        rules.append(Rule(when, number, text, self._code_of(text, known)))
+
+    def _last_kind(self, word: str) -> Kind:
+        if not self.kinds or self.is_over:
+            raise UserError(f"{word}: no call is above it; `always` holds after each call")
+        return self.kinds[-1]
+
+    def _take_call(self, line: Line, text: str) -> None:
+        if len(line.words) < 3 or self.is_over:
+            raise UserError("call: a program's name, the gas and the input follow it, and no line `storage` is above it")
+        _, program, gas_word, *data = line.words
+        named = self._places_of(" ".join(data))
+        gas = self.blocks.gas_of(program, gas_word)
+        forms = [PLACE.sub(lambda found: f"{{{found[1] or found[2]}}}", word) for word in data]
+        for word in forms:
+            if BRACES.search(ANY_PLACE.sub("", word)):
+                raise UserError(f"{word}: a place is {{NAME}} or {{OTHER=NAME}}")
+        kind = Kind(line.number, text.partition(" #")[0].rstrip(), program, gas, forms, named)
+        kind.check()
+        self.kinds.append(kind)
+
+    def _places_of(self, text: str) -> dict[str, Place]:
+        """The places of a call, by the names that it gives them."""
+        named: dict[str, Place] = {}
+        for found in PLACE.finditer(text):
+            given, name = found.groups()
+            if name not in self.places:
+                raise UserError(f"{name}: no line `draw` above has this name")
+            place = given or name
+            if expressions.new_name(place) in self.lets or place in named:
+                raise UserError(f"{place}: this name is taken; {{OTHER={name}}} gives another one")
+            named[place] = self.places[name]
+        return named
+
+    def _take_ends(self, given: list[str]) -> None:
+        kind = self._last_kind("may-end")
+        wrong = [word for word in given if word not in OTHER_ENDS]
+        if wrong or not given:
+            raise UserError(f"{' '.join(wrong) or 'may-end'}: it is followed by some of {', '.join(OTHER_ENDS)}")
+        kind.ends |= set(map(End, given))
+
+    def _take_storage(self, given: list[str]) -> None:
+        if given or self.is_over:
+            raise UserError("storage: the line has no other word, and comes once")
+        self.is_over = True

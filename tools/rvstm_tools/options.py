@@ -1,0 +1,81 @@
+"""What all subcommands share: their shape, and the options that several of them have."""
+
+import argparse
+from collections.abc import Callable
+from dataclasses import dataclass
+from pathlib import Path
+
+from rvstm_tools.texts import lists
+from rvstm_tools.texts.keys import Names
+
+
+@dataclass(frozen=True)
+class Command:
+    """A subcommand: its name, the texts of its help, its options, and what it does."""
+
+    name: str
+    summary: str
+    details: str
+    example: str
+    add_options: Callable[[argparse.ArgumentParser], None]
+    run: Callable[[argparse.Namespace], int]
+    shared: tuple[Callable[[], argparse.ArgumentParser], ...] = ()
+    """The parsers of the options that it shares with others."""
+
+
+@dataclass(frozen=True)
+class ProgramChoice:
+    """The program that the command line asks for: a path, the unproved one, or whichever there is."""
+
+    path: Path | None = None
+    is_preview: bool = False
+
+
+def program_parser() -> argparse.ArgumentParser:
+    """The options that name the program. All commands that run rvstm have them."""
+    parser = argparse.ArgumentParser(add_help=False)
+    group = parser.add_mutually_exclusive_group()
+    group.add_argument(
+        "--program", type=Path, metavar="PATH",
+        help="the program rvstm; without it the one that RVSTM names, or the one that is found",
+    )
+    group.add_argument(
+        "--preview",
+        action="store_true",
+        help="runs the unproved program that `rvstm-tools preview` makes: slow, but there in a few minutes",
+    )
+    return parser
+
+
+def program_choice(given: argparse.Namespace) -> ProgramChoice:
+    """What the options of `program_parser` say."""
+    return ProgramChoice(given.program, given.preview)
+
+
+def list_parser() -> argparse.ArgumentParser:
+    """The option that names a list, for its words of keys."""
+    parser = argparse.ArgumentParser(add_help=False)
+    parser.add_argument(
+        "--list", metavar="LIST", help="a list; a key that it names table:TAG:text is printed by these words"
+    )
+    return parser
+
+
+def table_names(given: argparse.Namespace) -> Names:
+    """What the list of `list_parser` calls its keys."""
+    return lists.table_names(given.list) if given.list is not None else {}
+
+
+def call_parser() -> argparse.ArgumentParser:
+    """The arguments that name a call of a block file."""
+    parser = argparse.ArgumentParser(add_help=False)
+    parser.add_argument("file", metavar="FILE", help="a block file; it and its programs are taken from the current folder")
+    parser.add_argument("--call", type=int, required=True, metavar="N", help="the number of the call, from 0")
+    return parser
+
+
+def seed_parser() -> argparse.ArgumentParser:
+    """The option that names the seed of what is drawn."""
+    parser = argparse.ArgumentParser(add_help=False)
+    parser.add_argument("--seed", type=int, default=1, metavar="N", help="another number draws other things (1)")
+    return parser

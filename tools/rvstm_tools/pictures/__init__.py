@@ -1,0 +1,1 @@
+"""Pictures in SVG: waits of calls for one another, and flame graphs of gas."""

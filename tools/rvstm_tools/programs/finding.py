@@ -1,0 +1,92 @@
+"""Where the program rvstm is: named on the command line, by RVSTM, or found from the place of these tools."""
+
+import os
+import shutil
+import sys
+from collections.abc import Mapping
+from dataclasses import dataclass
+from pathlib import Path
+
+from rvstm_tools.errors import UserError
+from rvstm_tools.options import ProgramChoice
+from rvstm_tools.programs.running import Program
+
+VARIABLE = "RVSTM"
+BUILT = "crates/rvstm/out/rvstm"
+PREVIEW = "crates/rvstm/out/preview/rvstm"
+WAYS_TO_BUILD = (
+    "`rvstm-tools example counter` proves and builds it; `rvstm-tools preview counter` makes an unproved one, in a few minutes, "
+    "for --preview; --program or RVSTM may name another"
+)
+WAY_TO_PREVIEW = "`rvstm-tools preview counter` makes it, in a few minutes"
+ONLY_IN_CHECKOUT = "only a checkout makes it, by `rvstm-tools preview`"
+WAYS_TO_INSTALL = "the package rvstm has it; --program or RVSTM may name another"
+
+
+@dataclass(frozen=True)
+class Home:
+    """Where these tools are."""
+
+    top: Path
+    """The folder that has the examples and the SDK: a checkout, or share/rvstm-sdk of a package or of an archive."""
+    is_checkout: bool = True
+    beside: Path | None = None
+    """The program of the same archive."""
+
+
+def home_of(package: Path) -> Home:
+    """Where tools are whose package is this folder: TOP/tools/rvstm_tools, or PREFIX/share/rvstm-sdk/tools/rvstm_tools."""
+    top = package.parent.parent
+    if (top / "crates.txt").is_file():
+        return Home(top)
+    beside = top.parent.parent / "bin/rvstm"
+    return Home(top, is_checkout=False, beside=beside if is_program(beside) else None)
+
+
+def home() -> Home:
+    """Where the tools that run are."""
+    return home_of(Path(__file__).resolve().parents[1])
+
+
+def absolute(path: Path | str) -> Path:
+    """A path that holds in every folder, without `..` if that is not needed."""
+    return Path(os.path.abspath(path))
+
+
+def is_program(path: Path) -> bool:
+    """Whether a file is there that may be run."""
+    return path.is_file() and os.access(path, os.X_OK)
+
+
+def find(choice: ProgramChoice, place: Home, environment: Mapping[str, str]) -> Path:
+    """The path of the program, which is there."""
+    path, cure = candidate(choice, place, environment)
+    if not is_program(path):
+        raise UserError(f"{path}: no program; {cure}")
+    return path
+
+
+def candidate(choice: ProgramChoice, place: Home, environment: Mapping[str, str]) -> tuple[Path, str]:
+    """The path at which the program is looked for, and what to do if it is not there."""
+    if choice.path:
+        return absolute(choice.path), "--program names it"
+    if choice.is_preview:
+        return place.top / PREVIEW, WAY_TO_PREVIEW if place.is_checkout else ONLY_IN_CHECKOUT
+    if environment.get(VARIABLE):
+        return absolute(environment[VARIABLE]), "RVSTM names it"
+    if place.is_checkout:
+        return place.top / BUILT, WAYS_TO_BUILD
+    if place.beside:
+        return place.beside, WAYS_TO_INSTALL
+    on_path = shutil.which("rvstm", path=environment.get("PATH"))
+    if on_path is None:
+        raise UserError(f"rvstm: no program; {WAYS_TO_INSTALL}")
+    return Path(on_path), WAYS_TO_INSTALL
+
+
+def chosen(choice: ProgramChoice, command: str) -> Program:
+    """The program that a command runs. An unproved one is reported."""
+    path = find(choice, home(), os.environ)
+    if choice.is_preview:
+        print(f"{command}: by an unproved program, {path}", file=sys.stderr, flush=True)
+    return Program(path)

@@ -1,0 +1,1 @@
+"""Releases: what they are made of, their packages, and whether a package has the proved program."""

@@ -1,0 +1,157 @@
+"""Archives whose bytes depend only on what is put in: tar, tar.gz and Debian's packages."""
+
+import gzip
+import hashlib
+import io
+import lzma
+import posixpath
+import tarfile
+import zlib
+from collections.abc import Iterable, Iterator, Mapping
+from dataclasses import dataclass
+from pathlib import PurePosixPath
+from typing import NamedTuple
+
+from rvstm_tools.errors import UserError
+
+AR_HEAD, AR_MEMBER_HEAD = b"!<arch>\n", 60
+GZIP_HEAD = b"\x1f\x8b"
+EXECUTABLE, PLAIN = 0o755, 0o644
+DEBIAN_MEMBERS = ["debian-binary", "control", "data"]
+LONGEST_CONTENT = 1 << 30  # bytes of all files of a package that are read
+
+
+@dataclass(frozen=True)
+class File:
+    """A file: its bytes and its rights."""
+
+    data: bytes
+    mode: int = PLAIN
+
+
+@dataclass(frozen=True)
+class Link:
+    """A link to another file."""
+
+    target: str
+
+
+Entries = dict[str, File | Link]
+"""Files and links by their paths."""
+
+
+class Member(NamedTuple):
+    """A member of an archive of ar."""
+
+    name: str
+    data: bytes
+
+
+def gzip_of(data: bytes) -> bytes:
+    """Compressed, with no name and no time."""
+    made = io.BytesIO()
+    with gzip.GzipFile(filename="", mode="wb", compresslevel=9, fileobj=made, mtime=0) as file:
+        file.write(data)
+    return made.getvalue()
+
+
+def folders_of(paths: Iterable[str]) -> set[str]:
+    """All folders that some paths are in."""
+    return {str(folder) for path in paths for folder in PurePosixPath(path).parents if str(folder) != "."}
+
+
+def tar_of(entries: Mapping[str, File | Link], seconds: int, root: str = "") -> bytes:
+    """A tar of files and links by their paths: sorted, all of one time, of root. `root` is put before each path."""
+    made = io.BytesIO()
+    with tarfile.open(fileobj=made, mode="w", format=tarfile.GNU_FORMAT) as tar:
+        for path in sorted(folders_of(entries) | set(entries)):
+            entry, info = entries.get(path), tarfile.TarInfo(root + path)
+            info.mtime, info.uname, info.gname, info.mode = seconds, "root", "root", EXECUTABLE
+            data = None
+            if isinstance(entry, File):
+                info.size, info.mode, data = len(entry.data), entry.mode, io.BytesIO(entry.data)
+            elif entry:
+                info.type, info.linkname, info.mode = tarfile.SYMTYPE, entry.target, 0o777
+            else:
+                info.type = tarfile.DIRTYPE
+            tar.addfile(info, data)
+    return made.getvalue()
+
+
+def ar_of(members: Iterable[Member], seconds: int) -> bytes:
+    """An archive of ar: of each member a head of fixed width, and its bytes, to an even number."""
+    made = [AR_HEAD]
+    for name, data in members:
+        made.append(b"%-16s%-12d%-6d%-6d%-8s%-10d`\n" % (name.encode(), seconds, 0, 0, b"100644", len(data)))
+        made.append(data + b"\n" * (len(data) % 2))
+    return b"".join(made)
+
+
+def ar_members(data: bytes) -> Iterator[Member]:
+    """The members of an archive of ar."""
+    at = len(AR_HEAD)
+    while at < len(data):
+        head = data[at : at + AR_MEMBER_HEAD]
+        if len(head) < AR_MEMBER_HEAD or not head[48:58].strip().isdigit():
+            raise UserError("it is a damaged archive of ar")
+        length = int(head[48:58])
+        name = head[:16].decode("ascii", "replace").rstrip(" /")
+        yield Member(name, data[at + AR_MEMBER_HEAD : at + AR_MEMBER_HEAD + length])
+        at += AR_MEMBER_HEAD + length + length % 2
+
+
+def control_of(fields: Mapping[str, str], entries: Mapping[str, File | Link]) -> str:
+    """The control file of a package, with the size of its files in kilobytes, as Debian counts it."""
+    files = [len(entry.data) for entry in entries.values() if isinstance(entry, File)]
+    size = sum((length + 1023) // 1024 for length in files) + len(entries) - len(files) + len(folders_of(entries))
+    names = [name for name in fields if name != "Description"]
+    rows = [f"{name}: {fields[name]}" for name in names] + [f"Installed-Size: {size}", f"Description: {fields['Description']}"]
+    return "\n".join(rows) + "\n"
+
+
+def deb_of(fields: Mapping[str, str], more: Entries, entries: Entries, seconds: int) -> bytes:
+    """A package of Debian: its fields, more files of its control by their names, and its files by their paths."""
+    sums = "".join(
+        f"{hashlib.md5(entry.data).hexdigest()}  {path}\n" for path, entry in sorted(entries.items()) if isinstance(entry, File)
+    )
+    control: Entries = {"control": File(control_of(fields, entries).encode()), "md5sums": File(sums.encode()), **more}
+    parts = {"control.tar.xz": control, "data.tar.xz": entries}
+    packed = [Member(name, lzma.compress(tar_of(part, seconds, "./"), preset=6)) for name, part in parts.items()]
+    return ar_of([Member("debian-binary", b"2.0\n"), *packed], seconds)
+
+
+def is_package(data: bytes) -> bool:
+    """Whether bytes begin as a package or an archive does."""
+    return data.startswith((AR_HEAD, GZIP_HEAD))
+
+
+def files_of_tar(tar: tarfile.TarFile) -> Entries:
+    """The files and links of a tar by their paths. No path is there twice, and everything else is a folder."""
+    found: Entries = {}
+    left = LONGEST_CONTENT
+    for info in tar:
+        path = posixpath.normpath(info.name).lstrip("/")
+        if info.isdir():
+            continue
+        if path in found or not (info.isfile() or info.issym()):
+            raise UserError(f"{path} is there twice, or is neither a file nor a link")
+        left -= info.size
+        if left < 0:
+            raise UserError(f"its files have more than {LONGEST_CONTENT:,} bytes")
+        content = tar.extractfile(info) if info.isfile() else None
+        found[path] = Link(info.linkname) if content is None else File(content.read(), info.mode)
+    return found
+
+
+def files_in(data: bytes) -> Entries:
+    """The files and links of a package of Debian or of a tar.gz, by their paths."""
+    if data.startswith(AR_HEAD):
+        members = list(ar_members(data))
+        if [member.name.rpartition(".tar")[0] or member.name for member in members] != DEBIAN_MEMBERS:
+            raise UserError("it is an archive of ar, and not a package of Debian")
+        data = members[-1].data
+    try:
+        with tarfile.open(fileobj=io.BytesIO(data)) as tar:
+            return files_of_tar(tar)
+    except (tarfile.TarError, lzma.LZMAError, zlib.error, EOFError, OSError, ValueError, OverflowError) as error:
+        raise UserError(f"its files cannot be read: {error}") from error

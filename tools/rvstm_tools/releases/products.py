@@ -1,0 +1,136 @@
+"""What a release is made of: its version, its commit, and the built program and library without what differs by accident."""
+
+import ctypes
+import enum
+import os
+import re
+import shutil
+import subprocess
+import tempfile
+from pathlib import Path
+
+from rvstm_tools.errors import UserError
+from rvstm_tools.programs import checkouts
+from rvstm_tools.programs.checkouts import Checkout
+
+VERSION_FILE = "crates/cmdline/src/commands.rt"
+VERSION = re.compile(r'\.version\("([0-9]+\.[0-9]+\.[0-9]+)"\)')
+STRIPPER = "llvm-objcopy"
+
+
+class Product(enum.Enum):
+    """A file that a checkout builds, by its path."""
+
+    PROGRAM = "crates/rvstm/out/rvstm"
+    ARCHIVE = "crates/rvstm_c/out/embedded/librvstm.a"
+    SHARED = "crates/rvstm_c/out/embedded/librvstm.so"
+
+    @property
+    def crate(self) -> str:
+        """The crate that it is of."""
+        return "rvstm" if self is Product.PROGRAM else "rvstm_c"
+
+    @property
+    def way(self) -> str:
+        """The command that builds it."""
+        return "rvstm-tools example counter" if self is Product.PROGRAM else "rvstm-tools library"
+
+    @property
+    def file(self) -> str:
+        """The name of the file."""
+        return self.value.rpartition("/")[2]
+
+
+def version_of(text: str) -> str:
+    """The version in the text of the program's commands."""
+    found = VERSION.findall(text)
+    if len(found) != 1:
+        raise UserError(f"{VERSION_FILE} has {len(found)} versions, and needs one")
+    return str(found[0])
+
+
+class Products:
+    """What a checkout builds."""
+
+    def __init__(self, checkout: Checkout) -> None:
+        self.checkout = checkout
+
+    def version(self) -> str:
+        """The version that `rvstm --version` prints, from where the program has it."""
+        return version_of((self.checkout.top / VERSION_FILE).read_text())
+
+    def version_number(self) -> int:
+        """The same as one number, as the library and its header have it."""
+        major, minor, patch = map(int, self.version().split("."))
+        return major * 1_000_000 + minor * 1_000 + patch
+
+    def shared_name(self) -> str:
+        """The name by which a program asks for the shared object: while the major number is 0, calls may change with the minor."""
+        return f"librvstm.so.{'.'.join(self.version().split('.')[:2])}"
+
+    def git(self, *words: str) -> str:
+        """What git prints in the checkout."""
+        command = ["git", "-C", str(self.checkout.top), *words]
+        done = subprocess.run(command, check=False, capture_output=True, text=True)
+        if done.returncode:
+            raise UserError(f"git {words[0]}: {done.stderr.strip()}")
+        return done.stdout
+
+    def commit_of_clean(self, *parts: str) -> str:
+        """The commit of the checkout, in which nothing is changed or added, in all or in some parts."""
+        commit = self.git("rev-parse", "HEAD").strip()
+        changed = self.git("status", "--porcelain", "--", *parts).splitlines()
+        if changed:
+            first = f"{changed[0].strip()}, {len(changed)} in all"
+            raise UserError(f"the checkout is not as commit {commit} has it: {first}; commit or remove that")
+        return commit
+
+    def path(self, product: Product) -> Path:
+        """The path of a product."""
+        return self.checkout.top / product.value
+
+    def sources(self, product: Product) -> str:
+        """The checksum of the sources of a product."""
+        return self.checkout.sum_of_sources(self.checkout.crates_of(product.crate))
+
+    def is_built(self, product: Product) -> bool:
+        """Whether a product is there as the sources of the checkout make it."""
+        return checkouts.is_built(self.path(product), self.sources(product))
+
+    def built(self, product: Product) -> bytes:
+        """The bytes of a product, built of the sources of the checkout; without symbols, except the archive."""
+        if not self.is_built(product):
+            raise UserError(f"{product.value} is not there as these sources make it: `{product.way}` builds it")
+        data = self.path(product).read_bytes()
+        return data if product is Product.ARCHIVE else stripped(data)
+
+    def proof_of(self, product: Product) -> str:
+        """What was proved of a product that is built, with which kit, and the checksum of the sources."""
+        below = len(self.checkout.crates_of(product.crate)) - 1
+        kit = checkouts.kit_of(self.path(product)) or "a kit that is not noted"
+        crate, sources = product.crate, self.sources(product)
+        return f"every function of {crate} and of the {below} crates below it, by {kit}; SHA-256 of the sources {sources}"
+
+    def check_versions(self) -> None:
+        """The program and the library say the version."""
+        program, shared = self.path(Product.PROGRAM), self.path(Product.SHARED)
+        said = subprocess.run([program, "--version"], capture_output=True, text=True, check=False).stdout.strip()
+        if said != f"rvstm {self.version()}":
+            raise UserError(f"{program} says {said}, not {self.version()}")
+        number = ctypes.CDLL(os.fspath(shared)).rvstm_version()
+        if number != self.version_number():
+            raise UserError(f"{shared} says version {number}, not {self.version_number()}, which is that of {self.version()}")
+
+
+def stripped(data: bytes) -> bytes:
+    """The bytes of a program or of a shared object without symbols and build id. GNU's objcopy would drop GNU_RELRO, too."""
+    if not shutil.which(STRIPPER):
+        raise UserError(f"there is no {STRIPPER}: install the package llvm")
+    with tempfile.TemporaryDirectory() as place:
+        given, made = Path(place, "given"), Path(place, "made")
+        given.write_bytes(data)
+        words = [STRIPPER, "--strip-all", "-R", ".note.gnu.build-id", str(given), str(made)]
+        done = subprocess.run(words, capture_output=True, text=True, check=False)
+        if done.returncode:
+            raise UserError(f"{STRIPPER} cannot read it: {done.stderr.strip()}")
+        return made.read_bytes()

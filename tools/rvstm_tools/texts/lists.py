@@ -1,0 +1,155 @@
+"""Lists: blocks as people write them, a line for each program, key and call (`rvstm-tools block --help`)."""
+
+import re
+from collections.abc import Iterator
+from contextlib import contextmanager
+from dataclasses import dataclass
+
+from rvstm_tools.errors import UserError
+from rvstm_tools.texts import blocks, numbers, words
+from rvstm_tools.texts.blocks import Block, Call, ProgramFile, Rules
+from rvstm_tools.texts.keys import Key, Storage, table_key
+
+PATH = re.compile("[!-~]+")
+GAS = re.compile("[1-9][0-9]*")
+
+
+@dataclass(frozen=True)
+class Line:
+    """A line of a list that has words: the file, its number from 1 on, and the words."""
+
+    path: str
+    number: int
+    words: list[str]
+
+    @property
+    def kind(self) -> str:
+        """The first word, which says what the line is."""
+        return self.words[0]
+
+
+@contextmanager
+def placed(path: str, number: int) -> Iterator[None]:
+    """Says of what is wrong within it in which file and line that is."""
+    try:
+        yield
+    except UserError as error:
+        raise UserError(f"{path}, line {number}: {error}") from error
+
+
+def lines_of(path: str) -> Iterator[Line]:
+    """The lines of a list that have words. They are read one by one, so that the first wrong line of all is reported."""
+    with open(path, encoding="utf-8", errors="surrogateescape") as file:
+        for number, text in enumerate(file, 1):
+            with placed(path, number):
+                check_encoding(text)
+                found = words.words_of(text)
+            if found:
+                yield Line(path, number, found)
+
+
+def check_encoding(text: str) -> None:
+    """Refuses a line of a file that is not UTF-8."""
+    try:
+        text.encode()
+    except UnicodeEncodeError as error:
+        raise UserError("not UTF-8") from error
+
+
+class BlockReader:
+    """Takes the lines of a list one after another, and makes their block, over a storage. It passes over the lines of a test."""
+
+    def __init__(self, storage: Storage) -> None:
+        self.block = Block(storage)
+        self._stored: set[Key] = set()
+        self._is_begun = False
+        self._is_after_storage = False
+        self._takers = {
+            "rules": self._take_rules,
+            "program": self._take_program,
+            "store": self._take_key,
+            "call": self._take_call,
+        }
+
+    def take(self, line: Line) -> None:
+        """Takes the next line."""
+        if line.kind == "storage":
+            self._is_after_storage = True
+        elif line.kind != "expect":
+            self._take_block_line(line)
+
+    def _take_block_line(self, line: Line) -> None:
+        if self._is_after_storage:
+            raise UserError(f"{line.kind}: only lines `expect` may follow `storage`")
+        if line.kind not in self._takers:
+            raise UserError(f"{line.kind}: not rules, program, store, call, expect or storage")
+        self._takers[line.kind](line.words[1:], line.number)
+        self._is_begun = True
+
+    def _take_rules(self, given: list[str], _: int) -> None:
+        if given not in (["1"], ["2"], ["3"]) or self._is_begun:
+            raise UserError("rules: the line is `rules 1`, `rules 2` or `rules 3`, and comes before all others")
+        self.block.rules = Rules(int(given[0]))
+
+    def _take_program(self, given: list[str], line: int) -> None:
+        if len(given) != 2:
+            raise UserError("program: a name and a path follow it")
+        name, path = map(words.name_of, given)
+        if name in self.block.programs:
+            raise UserError(f"{name}: another program line has this name")
+        if not PATH.fullmatch(path):
+            raise UserError(f"{path}: a path has the printable bytes of ASCII alone")
+        if len(self.block.programs) == blocks.MOST_PROGRAMS:
+            raise UserError(f"{name}: a block has at most {blocks.MOST_PROGRAMS} programs")
+        self.block.programs[name] = ProgramFile(path, line)
+
+    def _take_key(self, given: list[str], _: int) -> None:
+        if not given:
+            raise UserError("store: a key and its value follow it")
+        key = words.key_of(given[0])
+        if key in self._stored:
+            raise UserError(f"{given[0]}: another store line has this key")
+        self._stored.add(key)
+        rules = self.block.rules
+        self.block.storage[key] = words.joined(given[1:], rules.longest_value, f"a value under rules {rules}")
+
+    def _take_call(self, given: list[str], line: int) -> None:
+        if len(given) < 2:
+            raise UserError("call: a program's name, the gas and the input follow it")
+        name, gas_word, *data = given
+        gas = self.gas_of(name, gas_word)
+        if len(self.block.calls) == blocks.MOST_CALLS:
+            raise UserError(f"{name}: a block has at most {blocks.MOST_CALLS} calls")
+        self.block.calls.append(Call(name, gas, words.joined(data, blocks.LONGEST_INPUT, "an input"), line))
+
+    def gas_of(self, name: str, word: str) -> int:
+        """The gas of a call of a program that a line above names."""
+        if name not in self.block.programs:
+            raise UserError(f"{name}: no program line above has this name")
+        return gas_of(word)
+
+
+def gas_of(word: str) -> int:
+    """The gas of a call, without zeros before it."""
+    gas = numbers.at_most(word, blocks.MOST_GAS) if GAS.fullmatch(word) else None
+    if gas is None:
+        raise UserError(f"{word}: gas is a number of 1 to {blocks.MOST_GAS}")
+    return gas
+
+
+def read_block(path: str, storage: Storage) -> Block:
+    """The block of a list, over a storage."""
+    reader = BlockReader(storage)
+    for line in lines_of(path):
+        with placed(path, line.number):
+            reader.take(line)
+    return reader.block
+
+
+def table_names(path: str) -> dict[Key, str]:
+    """The words `table:TAG:TEXT` of a list, by the keys that they stand for."""
+    names: dict[Key, str] = {}
+    for line in lines_of(path):
+        with placed(path, line.number):
+            names |= {table_key(word): word for word in line.words if word.startswith("table:")}
+    return names

@@ -1,0 +1,45 @@
+"""Bytes, keys and changes for people."""
+
+
+from rvstm_tools.texts.keys import Key, Names
+from rvstm_tools.texts.results import Added, Change, Written
+
+NUMBER_SIZES = (1, 2, 4, 8)
+"""Bytes of these lengths are shown as a number, too."""
+
+
+def is_printable(data: bytes) -> bool:
+    """Whether all bytes are printable ones of ASCII, blanks among them."""
+    return all(0x20 <= byte < 0x7F for byte in data)
+
+
+def is_name(data: bytes) -> bool:
+    """Whether bytes can be in quotes as a name: printable, without blanks and quotes."""
+    return all(0x21 <= byte < 0x7F and byte != ord('"') for byte in data)
+
+
+def shown_bytes(data: bytes) -> str:
+    """Bytes in hex, and after it the number or the text that they may be."""
+    if not data:
+        return "-"
+    words = [data.hex()]
+    if len(data) in NUMBER_SIZES:
+        words.append(str(int.from_bytes(data, "little")))
+    if is_printable(data):
+        words.append(f'"{data.decode()}"')
+    return "  ".join(words)
+
+
+def shown_change(change: Change) -> str:
+    """What a call did to a key: the value, `gone`, or the amount with its sign."""
+    if isinstance(change, Written):
+        return shown_bytes(change.value)
+    return f"+{change.amount}" if isinstance(change, Added) else "gone"
+
+
+def shown_key(key: Key, names: Names) -> str:
+    """A key by its name, if it has one, and otherwise without the zeros at its end, as a text or in hex."""
+    if key in names:
+        return names[key]
+    data = key.rstrip(b"\0")
+    return f'"{data.decode()}"' if data and is_name(data) else data.hex() or "00"

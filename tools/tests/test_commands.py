@@ -1,0 +1,190 @@
+"""The commands as a user calls them: output, errors and statuses."""
+
+import os
+import shutil
+import subprocess
+import sys
+import unittest
+from pathlib import Path
+from unittest import mock
+
+from rvstm_tools import commandline
+from rvstm_tools.errors import Status
+from rvstm_tools.options import Command
+from tests.helpers import InFolder, called
+
+LAUNCHER = Path(__file__).resolve().parents[1] / "rvstm-tools"
+EXAMPLES = Path(__file__).resolve().parents[2] / "examples"
+LIST = "program a a.elf\nstore key:1 u8:7\ncall a 9 \"hi\"\nexpect returned \"hi\"\n"
+BLOCK = f"rvblock 1\nprogram 0 a.elf\nstore {'0' * 63}1 07\ncall 0 9 6869\n"
+
+
+class Block(InFolder):
+    def test_a_block(self) -> None:
+        self.assertEqual(called("block", self.write("a.list", LIST)), (0, BLOCK, ""))
+
+    def test_over_a_result(self) -> None:
+        result = self.write("result", f"store {'0' * 63}1 00\nstore {'0' * 63}2 08\nend\n")
+        wanted = BLOCK.replace("call", f"store {'0' * 63}2 08\ncall")
+        self.assertEqual(called("block", self.write("a.list", LIST), result), (0, wanted, ""))
+
+    def test_a_value_of_the_result_that_the_rules_do_not_allow(self) -> None:
+        path, allowed = self.write("a.list", LIST), self.write("allowed", f"store {'0' * 64} {'00' * 64}\nend\n")
+        self.assertEqual(called("block", path, allowed)[0], 0)
+        result = self.write("result", f"store {'0' * 64} {'00' * 65}\nend\n")
+        message = f"block: {result}: a value has 65 bytes, which rules 1 do not allow\n"
+        self.assertEqual(called("block", path, result), (1, "", message))
+
+    def test_a_program_that_is_no_elf_file(self) -> None:
+        path = self.write("a.list", LIST)
+        program = self.write("a.elf", "no program")
+        message = f"block: {path}, line 1: {program} is not an ELF file; rvstm refuses the block\n"
+        self.assertEqual(called("block", path), (0, BLOCK, message))
+        self.write("a.elf", "\x7fELF and more")
+        self.assertEqual(called("block", path), (0, BLOCK, ""))
+
+    def test_messages(self) -> None:
+        missing, wrong = f"{self.folder}/missing", self.write("wrong.list", "call\n")
+        self.assertEqual(called("block", missing), (1, "", f"block: {missing}: No such file or directory\n"))
+        self.assertEqual(called("block", str(self.folder)), (1, "", f"block: {self.folder}: Is a directory\n"))
+        message = f"block: {wrong}, line 1: call: a program's name, the gas and the input follow it\n"
+        self.assertEqual(called("block", wrong), (1, "", message))
+
+
+class Test(InFolder):
+    def program(self) -> str:
+        path = self.write("program", "#!/bin/sh\nprintf 'call 0 returned gas 5 pc 00010000 out 6869\\nend\\n'\n")
+        Path(path).chmod(0o755)
+        return path
+
+    def setUp(self) -> None:
+        super().setUp()
+        self.write("a.elf", "")
+
+    def test_a_list(self) -> None:
+        path = self.write("a.list", LIST)
+        wanted = f"passed  {path}: 1 call, expectations: 1\n1 test: 1 passed, 0 failed; 1 call, 1 expectation, 0 not met\n"
+        self.assertEqual(called("test", "--program", self.program(), path), (0, wanted, ""))
+
+    def test_a_folder_and_a_filter(self) -> None:
+        self.write("b.list", LIST)
+        self.write("a.list", LIST.replace('returned "hi"', "reverted"))
+        self.write("untested.list", "# nothing\n")
+        status, output, _ = called("test", "--program", self.program(), str(self.folder))
+        self.assertEqual(status, 1)
+        self.assertEqual([line for line in output.splitlines() if line[:1] != " "], [
+            f"failed  {self.folder}/a.list: 1 call, expectations: 1 of 1 not met",
+            f"passed  {self.folder}/b.list: 1 call, expectations: 1",
+            "2 tests: 1 passed, 1 failed; 2 calls, 2 expectations, 1 not met",
+        ])
+        status, output, _ = called("test", "--program", self.program(), str(self.folder), "--filter", "b.l")
+        self.assertEqual((status, output.count("passed  ")), (0, 1))
+
+    def test_status_2_before_any_test_is_run(self) -> None:
+        right, wrong = self.write("a.list", LIST), self.write("b.list", LIST + "expect wrong\n")
+        forms = "returned, reverted, out-of-gas, trapped, gas at most, same by, no other or a key"
+        for words, message in {
+            (right, wrong): f"{wrong}, line 5: wrong: none of {forms}",
+            (f"{self.folder}/missing.list",): f"{self.folder}/missing.list: No such file or directory",
+            (self.write("c.list", "# nothing\n"),): f"{self.folder}/c.list: no line `expect`, so it tests nothing",
+            (right, "--filter", "zz"): "none of these lists whose path has zz has a line `expect`",
+            (str(self.folder),): f"{wrong}, line 5: wrong: none of {forms}",
+        }.items():
+            with self.subTest(message):
+                self.assertEqual(called("test", "--program", self.program(), *words), (2, "", f"test: {message}\n"))
+
+    def test_no_program(self) -> None:
+        path = f"{self.folder}/nowhere"
+        with mock.patch.dict(os.environ, {"RVSTM": path}):
+            self.assertEqual(called("test", "x"), (2, "", f"test: {path}: no program; RVSTM names it\n"))
+
+
+class CommandLine(unittest.TestCase):
+    def test_help_has_an_example(self) -> None:
+        for name in commandline.NAMES:
+            with self.subTest(name):
+                status, output, _ = called(name, "--help")
+                self.assertEqual(status, 0)
+                self.assertRegex(output.partition("\nexample:\n")[2], rf"rvstm-tools {name}\b")
+
+    def test_the_help_of_all_names_each(self) -> None:
+        status, output, _ = called("--help")
+        self.assertEqual(status, 0)
+        for name in commandline.NAMES:
+            self.assertRegex(output, f"\n    {name}\\s")
+
+    def test_wrong_command_lines(self) -> None:
+        for words in ((), ("nothing",), ("block",), ("block", "a", "b", "c"), ("block", "--what", "a"), ("test",),
+                      ("test", "--preview", "--program", "x", "y"), ("test", "--variant")):
+            with self.subTest(words):
+                status, output, faults = called(*words)
+                self.assertEqual((status, output), (2, ""))
+                self.assertTrue(faults.startswith("usage: rvstm-tools"))
+
+    def ended(self, raised: BaseException) -> tuple[int, str]:
+        def run(_: object) -> int:
+            raise raised
+
+        command = Command("name", "", "", "", lambda parser: None, run)
+        with mock.patch.object(commandline, "command_of", lambda _: command), mock.patch.object(commandline, "NAMES", ("name",)):
+            status, _, faults = called("name")
+        return status, faults
+
+    def test_ends(self) -> None:
+        self.assertEqual(self.ended(FileNotFoundError(2, "No such file", "x")), (Status.FAILED, "name: x: No such file\n"))
+        self.assertEqual(self.ended(BrokenPipeError()), (Status.FAILED, "name: the output is closed\n"))
+        self.assertEqual(self.ended(KeyboardInterrupt()), (Status.INTERRUPTED, "name: interrupted\n"))
+
+    def test_a_mistake_of_the_tools_is_no_message(self) -> None:
+        for mistake in (KeyError("b"), ValueError("x"), IndexError("y")):
+            with self.subTest(mistake), self.assertRaises(type(mistake)):
+                self.ended(mistake)
+
+
+class Launcher(InFolder):
+    def test_from_another_folder(self) -> None:
+        self.write("a.list", LIST)
+        link = self.folder / "link"
+        link.symlink_to(LAUNCHER)
+        for launcher in (LAUNCHER, link):
+            with self.subTest(launcher):
+                words = [sys.executable, str(launcher), "block", "a.list"]
+                done = subprocess.run(words, cwd=self.folder, capture_output=True, text=True, check=False)
+                self.assertEqual((done.returncode, done.stdout, done.stderr), (0, BLOCK, ""))
+
+    def test_a_closed_output(self) -> None:
+        path = self.write("a.list", "program a a.elf\n" + "call a 9\n" * 1000)
+        line = f"'{LAUNCHER}' block '{path}' | true"
+        done = subprocess.run(["bash", "-c", f"{line}; exit ${{PIPESTATUS[0]}}"], capture_output=True, text=True, check=False)
+        self.assertIn((done.returncode, done.stderr), [(1, "block: the output is closed\n"), (0, "")])
+
+
+@unittest.skipUnless(os.environ.get("RVSTM") and EXAMPLES.is_dir(), "RVSTM names no program, or there are no examples")
+class WithTheProgram(InFolder):
+    """Runs rvstm itself. The output is that of docs/contracts.md, "Test it"."""
+
+    LIST = (
+        "program tally tally.elf\nstore key:bob u64:7\ncall tally 2000 key:alice\nexpect returned u64:1\n"
+        'call tally 2000 key:bob\nexpect returned u64:9\ncall tally 2000 00\nexpect reverted "the input is no key"\n'
+        "storage\nexpect key:alice u64:1\nexpect key:bob u64:8\nexpect no other key\nexpect same by 8 workers\n"
+    )
+
+    def test_votes(self) -> None:
+        shutil.copy(EXAMPLES / "tally/tally.elf", self.folder)
+        path = self.write("votes.list", self.LIST)
+        wanted = (
+            f"failed  {path}: 3 calls, expectations: 1 of 7 not met\n"
+            "    line 5, call 1: call tally 2000 key:bob\n"
+            "        line 6: expect returned u64:9\n"
+            "        wanted  returned  0900000000000000  9\n"
+            "        came    returned  0800000000000000  8\n"
+            "1 test: 0 passed, 1 failed; 3 calls, 7 expectations, 1 not met\n"
+        )
+        self.assertEqual(called("test", path), (1, wanted, ""))
+
+    def test_a_program_that_is_refused(self) -> None:
+        path = self.write("a.list", LIST)
+        self.write("a.elf", "no program")
+        status, output, _ = called("test", path)
+        self.assertEqual(status, 1)
+        self.assertIn(f"        {path}, line 1, a.elf: rvstm: elf Truncated 1\n", output)

@@ -1,0 +1,256 @@
+"""Releases: archives as Debian's tools read them, damaged packages, comparisons, man pages and completions."""
+
+import io
+import shutil
+import struct
+import subprocess
+import tarfile
+import unittest
+from collections.abc import Mapping
+from pathlib import Path
+from unittest import mock
+
+from rvstm_tools import commandline
+from rvstm_tools.errors import UserError
+from rvstm_tools.releases import archives, helps, parsers, parts, products, roff, verifying
+from rvstm_tools.releases.archives import Entries, File, Link, Member
+from rvstm_tools.releases.helps import Item
+from rvstm_tools.releases.products import Product
+from tests.helpers import InFolder, called
+
+TOP = Path(__file__).resolve().parents[2]
+ENTRIES: Entries = {"usr/bin/rvstm": File(b"\x7fELF and more", 0o755), "usr/lib/librvstm.so.1": Link("librvstm.so.1.2.3"),
+                    "usr/lib/librvstm.so.1.2.3": File(b"\x7fELF too")}
+FIELDS = {"Package": "rvstm", "Version": "1.2.3", "Architecture": "amd64", "Maintainer": "A <a@b>", "Description": "what\n more"}
+
+
+def deb() -> bytes:
+    return archives.deb_of(FIELDS, {"prerm": File(b"#!/bin/sh\n", 0o755)}, ENTRIES, 1_700_000_000)
+
+
+class OfArchives(InFolder):
+    def test_what_is_read_is_what_was_written(self) -> None:
+        self.assertEqual(archives.files_in(deb()), ENTRIES)
+        packed = archives.gzip_of(archives.tar_of(ENTRIES, 5))
+        self.assertEqual(archives.files_in(packed), ENTRIES)
+
+    def test_the_same_bytes_each_time(self) -> None:
+        self.assertEqual(deb(), deb())
+
+    @unittest.skipUnless(shutil.which("dpkg-deb"), "there is no dpkg-deb")
+    def test_as_debian_reads_it(self) -> None:
+        path = self.write("a.deb", deb())
+
+        def run(*words: str) -> str:
+            return subprocess.run(["dpkg-deb", *words], capture_output=True, text=True, check=True).stdout
+
+        self.assertEqual(run("--field", path, "Package", "Version", "Installed-Size"),
+                         "Package: rvstm\nVersion: 1.2.3\nInstalled-Size: 6\n")  # two files, a link and three folders
+        rows = [line.split() for line in run("--contents", path).splitlines()]
+        self.assertEqual([row[0] for row in rows], ["drwxr-xr-x", "drwxr-xr-x", "-rwxr-xr-x", "drwxr-xr-x", "lrwxrwxrwx", "-rw-r--r--"])
+        self.assertTrue(all(row[1] == "root/root" for row in rows))
+        self.assertIn("prerm", run("--info", path))
+
+    def test_ar(self) -> None:
+        made = archives.ar_of([Member("one", b"odd"), Member("two", b"even")], 0)
+        self.assertEqual(list(archives.ar_members(made)), [Member("one", b"odd"), Member("two", b"even")])
+        self.assertEqual(len(made), 8 + 60 + 4 + 60 + 4)
+
+    def test_a_cut_at_places(self) -> None:
+        """A cut package is refused, or has all of its files."""
+        data = deb()
+        for end in range(0, len(data), 7):
+            try:
+                self.assertEqual(archives.files_in(data[:end]), ENTRIES)
+            except UserError:
+                pass
+
+    def test_any_byte_may_be_wrong(self) -> None:
+        data = archives.gzip_of(archives.tar_of(ENTRIES, 5))
+        for at in range(0, len(data), 3):
+            wrong = data[:at] + bytes([data[at] ^ 0x55]) + data[at + 1 :]
+            try:
+                archives.files_in(wrong)
+            except UserError:
+                pass
+
+    def test_messages(self) -> None:
+        twice = io.BytesIO()
+        with tarfile.open(fileobj=twice, mode="w") as tar:
+            for name in ("a", "./a"):
+                tar.addfile(tarfile.TarInfo(name))
+        device = io.BytesIO()
+        with tarfile.open(fileobj=device, mode="w") as tar:
+            info = tarfile.TarInfo("d")
+            info.type = tarfile.CHRTYPE
+            tar.addfile(info)
+        for data, message in {
+            archives.gzip_of(twice.getvalue()): "a is there twice, or is neither a file nor a link",
+            archives.gzip_of(device.getvalue()): "d is there twice, or is neither a file nor a link",
+            b"!<arch>\nnonsense": "it is a damaged archive of ar",
+            b"!<arch>\n" + b"x" * 60: "it is a damaged archive of ar",
+            archives.ar_of([Member("x", b"")], 0): "it is an archive of ar, and not a package of Debian",
+        }.items():
+            with self.subTest(message), self.assertRaises(UserError) as caught:
+                archives.files_in(data)
+            self.assertEqual(str(caught.exception), message)
+        with self.assertRaises(UserError) as caught:
+            archives.files_in(archives.gzip_of(b"nonsense"))
+        self.assertTrue(str(caught.exception).startswith("its files cannot be read: "))
+
+
+def program_of_64_bits(code: bytes) -> bytes:
+    """A program with one segment that is loaded and one that is a note."""
+    head = b"\x7fELF\x02\x01\x01" + bytes(9) + struct.pack("<HHIQQQIHHHHHH", 2, 62, 1, 0, 64, 0, 0, 64, 56, 2, 64, 0, 0)
+    end = 64 + 2 * 56
+    loaded = struct.pack("<IIQQQQQQ", 1, 5, 0, 0, 0, end + 8 + len(code), end + 8 + len(code), 4096)
+    note = struct.pack("<IIQQQQQQ", 4, 4, end, 0, 0, 8, 8, 4)
+    return head + loaded + note + b"buildid!" + code
+
+
+class OfComparisons(InFolder):
+    def setUp(self) -> None:
+        super().setUp()
+        self.program = program_of_64_bits(b"the code")
+        self.enterContext(mock.patch.object(products, "stripped", lambda data: data.replace(b"buildid!", bytes(8))))
+
+    def test_what_is_loaded(self) -> None:
+        other = self.program.replace(b"buildid!", b"another!")
+        self.assertTrue(verifying.is_loaded_so(self.program, other))
+        self.assertFalse(verifying.is_loaded_so(self.program, program_of_64_bits(b"bad code")))
+
+    def test_by_sums(self) -> None:
+        bare = self.program.replace(b"buildid!", bytes(8))
+        path = self.write("rvstm", self.program)
+        sums = self.write("sums", f"{verifying.digest(bare)}  rvstm\n")
+        line = f"{path}: SAME as rvstm in {sums}: without symbols and build id, SHA-256 {verifying.digest(bare)}\n"
+        self.assertEqual(called("verify", path, "--sums", sums), (0, line, ""))
+        as_it_is = self.write("sums", f"{verifying.digest(self.program)}  rvstm\n")
+        self.assertIn("bytes as they are", called("verify", path, "--sums", as_it_is)[1])
+        other = self.write("other", program_of_64_bits(b"bad code"))
+        status, output, _ = called("verify", other, "--sums", sums)
+        self.assertEqual((status, output.split()[1]), (1, "NOT"))
+
+    def test_a_package_by_sums(self) -> None:
+        data = archives.gzip_of(archives.tar_of({"rvstm-1.2.3/bin/rvstm": File(self.program, 0o755),
+                                                 "rvstm-1.2.3/bin/rvstm-tools": parts.TOOLS_LINK}, 5))
+        path = self.write("a.tar.gz", data)
+        sums = self.write("sums", f"{verifying.digest(data)}  a.tar.gz\n{verifying.digest(self.program)}  rvstm\n")
+        status, output, _ = called("verify", path, "--sums", sums)
+        self.assertEqual((status, output.count("SAME as")), (0, 2))
+        self.assertIn(f"{path}, rvstm-1.2.3/bin/rvstm: SAME as rvstm", output)
+
+    def packed(self, entries: Mapping[str, File | Link]) -> bytes:
+        return archives.gzip_of(archives.tar_of(entries, 5))
+
+    def test_messages(self) -> None:
+        sums = self.write("sums", f"{'0' * 64}  other\n")
+        for data, message in {
+            b"nonsense": "neither a program nor a package",
+            b"": "neither a program nor a package",
+            self.packed({"usr/bin/rvstm": Link("/bin/sh")}): "it has a link, usr/bin/rvstm, which no release has",
+            self.packed({"usr/lib/librvstm.so": Link("/tmp/x")}): "it has a link, usr/lib/librvstm.so, which no release has",
+            self.packed({"usr/bin/rvstm-tools": Link("/tmp/x")}): "it has a link, usr/bin/rvstm-tools, which no release has",
+        }.items():
+            path = self.write("a", data)
+            with self.subTest(message), self.assertRaises(UserError) as caught:
+                verifying.parts_of(path, data)
+            self.assertEqual(str(caught.exception), f"{path}: {message}")
+        path = self.write("a", self.program)
+        self.assertEqual(called("verify", path, "--sums", sums), (1, "", f"verify: {sums} has no line for rvstm\n"))
+        wrong = self.write("wrong", "nonsense\n")
+        self.assertEqual(called("verify", path, "--sums", wrong), (1, "", f"verify: {wrong}: not a file of checksums and names\n"))
+        self.assertEqual(called("verify")[0], 2)
+
+    def test_cut_programs(self) -> None:
+        for end in range(0, len(self.program)):
+            try:
+                verifying.bare("a", self.program[:end])
+            except UserError as error:
+                self.assertRegex(str(error), "^a: NOT ")
+
+    def test_where_they_differ(self) -> None:
+        self.assertEqual(verifying.parted(b"abc", b"abd"), "3 bytes and 3; they differ from byte 2 on")
+        self.assertEqual(verifying.parted(b"abc", b"ab"), "3 bytes and 2; they differ from byte 2 on")
+
+
+class OfProducts(unittest.TestCase):
+    def test_versions(self) -> None:
+        self.assertEqual(products.version_of('x.version("1.20.3")'), "1.20.3")
+        for text in ("", '.version("1.2")', '.version("1.2.3") .version("1.2.4")'):
+            with self.assertRaises(UserError):
+                products.version_of(text)
+
+    def test_the_c_library(self) -> None:
+        entries = {"bin/rvstm": File(b"GLIBC_2.4\0GLIBC_2.34\0"), "lib/librvstm.so.1": File(b"GLIBC_2.9\0"), "x": File(b"GLIBC_3.0\0")}
+        self.assertEqual(parts.glibc(entries), "2.34")
+        with self.assertRaises(UserError):
+            parts.glibc({})
+
+    def test_pkg_config(self) -> None:
+        self.assertIn("libdir=${prefix}/lib/x\n", parts.pkg_config("/usr", "lib/x", "1.2.3"))
+
+    def test_ways(self) -> None:
+        self.assertEqual((Product.SHARED.file, Product.SHARED.crate, Product.PROGRAM.way), ("librvstm.so", "rvstm_c", "rvstm-tools example counter"))
+
+
+HELP = """\
+Runs the calls.
+
+Usage: rvstm run [OPTIONS] --workers <N> <FILE>
+
+Arguments:
+  <FILE>  The block file
+
+Options:
+      --workers <N>  How many
+  -h, --help         Print help
+"""
+
+
+class OfManPages(InFolder):
+    def test_a_help(self) -> None:
+        found = helps.help_of(HELP, "rvstm run")
+        self.assertEqual((found.about, found.usage), ("Runs the calls.", "rvstm run [OPTIONS] --workers <N> <FILE>"))
+        self.assertEqual(found.parts["Options"], [Item("--workers <N>", "How many"), Item("-h, --help", "Print help")])
+        with self.assertRaises(UserError) as caught:
+            helps.help_of(f"{HELP}nonsense\n", "rvstm run")
+        self.assertEqual(str(caught.exception), "the help of rvstm run has a line that was not looked for: nonsense")
+
+    def test_roff(self) -> None:
+        self.assertEqual(roff.escaped(".a-b\\"), "\\&.a\\-b\\e")
+        self.assertEqual(roff.roman("--workers <N>"), r"\fB\-\-workers \fIN\fB\fR")
+
+    @unittest.skipUnless((TOP / "crates.txt").is_file(), "this is not a checkout")
+    def test_the_pages_of_the_tools_are_what_their_parsers_make(self) -> None:
+        version = products.version_of((TOP / products.VERSION_FILE).read_text())
+        self.assertEqual((TOP / parsers.PAGE).read_text(), parsers.page_of(version), f"{parsers.MAKER} makes it again")
+        self.assertEqual((TOP / parsers.COMPLETION).read_text(), parsers.completion(), f"{parsers.MAKER} makes it again")
+
+    def test_the_page_has_all_commands_and_options(self) -> None:
+        page = parsers.page_of("1.2.3")
+        for name in commandline.NAMES:
+            self.assertIn(f'.SS "rvstm-tools {name}"', page)
+        self.assertIn(r"\fB\-\-preview\fR", page)
+        self.assertIn(r"\fBrvstm\-tools trace [OPTIONS] \-\-call \fIN\fB \fIFILE\fB\fR", page)
+
+    @unittest.skipUnless(shutil.which("man"), "there is no man")
+    def test_the_page_as_man_reads_it(self) -> None:
+        path = self.write("rvstm-tools.1", parsers.page_of("1.2.3"))
+        done = subprocess.run(["man", "--warnings", "-E", "UTF-8", "-l", "-Tutf8", path], capture_output=True, text=True, check=False)
+        self.assertEqual((done.returncode, [line for line in done.stderr.splitlines() if "cannot" in line]), (0, []))
+
+    @unittest.skipUnless(shutil.which("bash"), "there is no bash")
+    def test_completion(self) -> None:
+        path = self.write("completion.bash", parsers.completion())
+        def completed(*words: str) -> list[str]:
+            given = " ".join(f"'{word}'" for word in words)
+            script = f"source {path}; COMP_WORDS=({given}); COMP_CWORD={len(words) - 1}; _rvstm_tools; echo ${{COMPREPLY[@]}}"
+            return subprocess.run(["bash", "-c", script], capture_output=True, text=True, check=True).stdout.split()
+        self.assertEqual(completed("rvstm-tools", "tr"), ["trace"])
+        self.assertEqual(completed("rvstm-tools", "re"), ["release", "result"])
+        self.assertEqual(completed("rvstm-tools", "trace", "--li"), ["--list", "--lines"])
+
+
+if __name__ == "__main__":
+    unittest.main()
