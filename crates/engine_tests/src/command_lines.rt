@@ -192,6 +192,49 @@ const LINES: &[(&str, u8, &str, &str)] = &[
         "",
         "rvstm: asm 1 UnknownMnemonic 1\n",
     ),
+    // FILE that can't be opened comes before OUT that names it, and that before what FILE has.
+    (
+        "rvstm asm no-source.s --out no-source.s",
+        1,
+        "",
+        "rvstm: file Unreadable 1\n",
+    ),
+    (
+        "rvstm asm no.s --out no.s",
+        1,
+        "",
+        "rvstm: file Unwritable 2\n",
+    ),
+    (
+        "rvstm asm no.s --out link/no.s",
+        1,
+        "",
+        "rvstm: file Unwritable 2\n",
+    ),
+    (
+        "rvstm migrate no.block --out no.block",
+        1,
+        "",
+        "rvstm: file Unreadable 1\n",
+    ),
+    (
+        "rvstm migrate wrong.block --out wrong.block",
+        1,
+        "",
+        "rvstm: file Unwritable 2\n",
+    ),
+    (
+        "rvstm migrate wrong.block --out link/wrong.block",
+        1,
+        "",
+        "rvstm: file Unwritable 2\n",
+    ),
+    (
+        "rvstm migrate wrong.block --out new.block",
+        1,
+        "",
+        "rvstm: block 1 BadHeader 1\n",
+    ),
 ];
 
 /// Whether this is the answer to a command line.
@@ -338,6 +381,16 @@ const REQUESTS: &[(&str, &str)] = &[
         "open echo.s\nend echo.s\ncreate .rvstm.new0\nrename new.elf\n",
     ),
     ("rvstm asm no.s --out new.elf", "open no.s\nend no.s\n"),
+    ("rvstm asm no.s --out link/no.s", "open no.s\n"),
+    ("rvstm asm no-source.s --out new.elf", "open no-source.s\n"),
+    (
+        "rvstm migrate wrong.block --out wrong.block",
+        "open wrong.block\n",
+    ),
+    (
+        "rvstm migrate echo.block --out new.block",
+        "open echo.block\nend echo.block\ncreate .rvstm.new0\nrename new.block\n",
+    ),
 ];
 
 /// Whether the disk is asked this by a command line.

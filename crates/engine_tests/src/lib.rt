@@ -45,6 +45,8 @@ mod full_arena;
 #[cfg(test)]
 mod idling;
 #[cfg(test)]
+mod known_disk;
+#[cfg(test)]
 mod large_blocks;
 #[cfg(test)]
 mod large_inputs;
@@ -88,3 +90,5 @@ mod sizes;
 mod sources;
 #[cfg(test)]
 mod threads;
+#[cfg(test)]
+mod trapped_ends;

@@ -1,7 +1,12 @@
 pub mod CallsBehind
 mod Chains
 mod Conflicts
+pub mod Kept
 pub mod Lines
+mod Migrated
+mod OpenFiles
 pub mod Orders
 pub mod ProgramFiles
+pub mod Shares
 pub mod ShortNames
+mod Told

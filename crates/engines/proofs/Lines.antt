@@ -1,12 +1,6 @@
 -- What a line asks for, by its faults.
-use Rattle.std.proofs.Common.{◌≡◌, ℕ, List, [], ◌∷◌, refl, inl, inr, sym, ◌∙◌, ◌⊎◌, subst, take, drop}
-use Rattle.std.proofs.lemmas.List.{append-nil, take-append-drop}
-use Rattle.std.specs.Io.KnownBytes.{Appends}
-use Rattle.byte_streams.specs.Written.{AppendsPart}
-use Rattle.byte_streams.specs.declared.fault.WriteFault.{WriteFault}
-use Rattle.byte_streams.specs.declared.fault.WriteFault.TheVariants.{Io, WroteNothing, Memory}
-use Rattle.debugger.specs.Session.{AppendsBeginning}
-use Rattle.std.specs.Prelude.{◌≢◌, Option, Some, None, Result, Ok, Err, IfErr, IfSome, OnErr, OnOk, option_map}
+use Rattle.std.proofs.Common.{◌≡◌, ℕ, List, [], ◌∷◌, refl, inl, inr, sym, ◌∙◌, ◌⊎◌, subst}
+use Rattle.std.specs.Prelude.{Option, Some, None, IfSome, option_map}
 use Rattle.clap.specs.Kinds.{HasKind}
 use Rattle.clap.specs.Words.{IsAmong, Kinds, Text, fault_of, kind_of}
 use Rattle.clap.specs.declared.error.Error.{Error}
@@ -14,7 +8,7 @@ use Rattle.clap.specs.declared.error.kind.ErrorKind.{ErrorKind}
 use Rattle.clap.specs.declared.error.kind.ErrorKind.TheVariants as kind
 use Rattle.cmdline.specs.Line.{Asked, asked_by, requested, rvstm_app}
 use Rattle.cmdline.specs.declared.Request.{Request}
-use Rattle.engines.specs.Program.{asked_on, if_right, IsShown, TellsText}
+use Rattle.engines.specs.Program.{asked_on, if_right, IsShown}
 
 of_none : (kinds : Kinds) (asked : Option Asked) (a : Asked) → kinds ≡ [] → Some a ≡ asked → if_right kinds asked ≡ Some a
 of_none [] asked a none is = sym is
@@ -76,18 +70,3 @@ right_found words found request is none h = right_line words (asked_by request) 
 -- what holds of what was asked for, where nothing was written before
 pub at_asked : {O E : Type 0} (P : O → E → Asked → Type 0) (o first : O) (e second : E) (asked : Option Asked) (a : Asked) → first ≡ o → second ≡ e → asked ≡ Some a → P first second a → IfSome asked (P o e)
 at_asked P o first e second asked a same kept is h = subst (λ x. IfSome asked (P x e)) same (subst (λ y. IfSome asked (P first y)) kept (rw is h))
-
--- what of a text is written where a writer may refuse it
-beginning : {X : Type 0} (r : Result X WriteFault) (old new : Option (List ℕ)) (text : List ℕ) → OnOk r (Appends old new text) → OnErr r (AppendsPart old new text) → AppendsBeginning old new text
-beginning (Ok x) old new text all part = (text, [], sym (append-nil text), all)
-beginning (Err e) old new text all part = (take part.0 text, drop part.0 text, sym (take-append-drop part.0 text), part.2)
-
-whole : {X : Type 0} (r : Result X WriteFault) (may_refuse : WriteFault → Type 0) (old new : Option (List ℕ)) (text : List ℕ) → OnOk r (Appends old new text) → IfErr r may_refuse → IfErr r (λ e. e ≢ Memory) → ¬ (may_refuse Io) → ¬ (may_refuse WroteNothing) → Appends old new text
-whole (Ok x) may_refuse old new text all told room fails nothing = all
-whole (Err Io) may_refuse old new text all told room fails nothing = absurd (fails told)
-whole (Err WroteNothing) may_refuse old new text all told room fails nothing = absurd (nothing told)
-whole (Err Memory) may_refuse old new text all told room fails nothing = absurd (room refl)
-
-pub text_told : {X : Type 0} (r : Result X WriteFault) (may_refuse : WriteFault → Type 0) (old new : Option (List ℕ)) (text : List ℕ) → OnOk r (Appends old new text) → OnErr r (AppendsPart old new text) → IfErr r may_refuse → IfErr r (λ e. e ≢ Memory)
-    → TellsText may_refuse old new text
-text_told r may_refuse old new text all part told room = (beginning r old new text all part, whole r may_refuse old new text all told room)

@@ -22,7 +22,7 @@ use Rattle.engines.specs.Chain.{cut_of, durably_cut, fault_of}
 use Rattle.engines.specs.Opened.{Asks}
 use Rattle.engines.specs.Stores.{AsksAsTold, AsksForNone, AsksForSession, AsksInVain, IsOfSession, StoreOrder}
 use Rattle.engines.specs.declared.fault.Refusal.{Refusal}
-use Rattle.engines.specs.declared.fault.Refusal.TheVariants.{Store}
+use Rattle.engines.specs.declared.fault.Refusal.TheVariants.{Seq, Store}
 
 -- orders behind orders
 pub asks_then : {X : Type 0} (old mid new : Option (List X)) (first next : List X) → Asks old mid first → Asks mid new next → Asks old new (first ++ next)
@@ -77,6 +77,7 @@ not_wanted input fault told old new path is asks = rw is (if_any input _ (at_non
 
 -- and one whose session ended
 pub ended : (fault : Refusal) (old new : Option (List StoreOrder)) (path : List ℕ) → IsOfSession fault → AsksForSession old new path → AsksAsTold old new path fault
+ended (Seq fault) old new path never asks = absurd never
 ended (Store Busy) old new path never asks = absurd never
 ended (Store HotJournal) old new path never asks = absurd never
 ended (Store NotASession) old new path never asks = absurd never

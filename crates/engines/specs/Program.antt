@@ -1,5 +1,5 @@
 -- What the program does for a command line: a table from what is asked to what an engine says of it.
-use Rattle.std.specs.Prelude.{◌≡◌, ◌⊎◌, ⊤, ℕ, Bool, true, codes, List, [], ◌∷◌, Option, Some, None, IfSome, IsOkAnd}
+use Rattle.std.specs.Prelude.{◌≡◌, ◌⊎◌, ⊤, ℕ, Bool, true, false, codes, List, [], ◌∷◌, Option, Some, None, IfOk, IfSome, IsOkAnd}
 use Rattle.std.specs.Io.KnownBytes.{Appends}
 use Rattle.std.specs.Option.{option_map, unwrap_or}
 use Rattle.block_file.specs.Block.{block_of}
@@ -19,7 +19,7 @@ use Rattle.serving.specs.declared.serving.ServeFault.{ServeFault}
 use Rattle.session_states.specs.declared.fault.StoreFault.{StoreFault}
 use Rattle.stm_core.specs.declared.driving.DriveFault.TheVariants as drive
 use Rattle.sqlite_trees.specs.View.{View}
-use Rattle.system_files.specs.Entries.{Entries, IsPut}
+use Rattle.system_files.specs.Entries.{Entries, IsPut, KeepsFile, Stays}
 use Rattle.turns.specs.Failures.{IsAnswer}
 use Rattle.turns.specs.Turn.{new_session}
 use Rattle.turns.specs.declared.settings.Settings.{Settings}
@@ -34,7 +34,7 @@ use Rattle.engines.specs.Drive.{driven_answer, IsScheduledFault}
 use Rattle.engines.specs.Engine.{answer_of, loaded_job, IsBlockFault, IsRefusedJob, IsRunFault}
 use Rattle.engines.specs.Faults.{refusal_line}
 use Rattle.engines.specs.Run.{IsWorkersFault}
-use Rattle.engines.specs.Stores.{AreClosed, AsksForSession, StoreOrder}
+use Rattle.engines.specs.Stores.{AreClosed, AsksAsTold, AsksForSession, AsksInVain, StoreOrder}
 use Rattle.engines.specs.declared.counts.RunCounts.{RunCounts}
 use Rattle.engines.specs.declared.fault.FileFault.TheVariants.{Unwritable}
 use Rattle.engines.specs.declared.fault.Refusal.{Refusal}
@@ -111,10 +111,29 @@ PutsFile content leads old new (AsmOf file out) = IfSome (content file) (λ sour
 PutsFile content leads old new (MigrateOf file out) = IfSome (content file) (λ block. IsOkAnd (migrated block) (IsPut old new (leads out)))
 PutsFile content leads old new asked = new ≡ old
 
+-- a refused command has put nothing at OUT
+abbrev pub PutsNothing : (List ℕ → List ℕ) → Option Entries → Option Entries → Asked → Type 0
+PutsNothing leads old new (AsmOf file out) = Stays old new (leads out)
+PutsNothing leads old new (MigrateOf file out) = Stays old new (leads out)
+PutsNothing leads old new asked = ⊤
+
+-- whatever comes of a command, `asm` and `migrate` leave FILE as it was, and all others the whole disk
+abbrev pub KeepsDisk : {D : Type 0} → (List ℕ → List ℕ) → (D → Option Entries) → D → D → Asked → Type 0
+KeepsDisk leads entries old new (AsmOf file out) = KeepsFile (entries old) (entries new) (leads file) (leads out)
+KeepsDisk leads entries old new (MigrateOf file out) = KeepsFile (entries old) (entries new) (leads file) (leads out)
+KeepsDisk leads entries old new asked = new ≡ old
+
+-- ---- what is asked of the stores
+
 -- which store it opens and closes
 abbrev pub AsksStores : Option (List StoreOrder) → Option (List StoreOrder) → Asked → Type 0
 AsksStores old new (ChainOf workers limit gas digest brief (Some file)) = AsksForSession old new file
 AsksStores old new asked = new ≡ old
+
+-- what a refused command asked of them
+abbrev pub AsksAsRefused : Option (List ℕ) → Option (List StoreOrder) → Option (List StoreOrder) → Asked → Refusal → Type 0
+AsksAsRefused typed old new (ChainOf workers limit gas digest brief (Some file)) e = AsksInVain old new file × IfSome typed (λ _. AsksAsTold old new file e)
+AsksAsRefused typed old new asked e = new ≡ old
 
 -- the store that it opened is closed: files have what a store showed, whatever a crash leaves
 abbrev pub ClosesStore : {F : Type 0} → (F → View → Type 0) → Asked → Type 0
@@ -154,7 +173,9 @@ IsRefusedAs content may_fail typed may_refuse old new (AsmOf file out) =
 IsRefusedAs content may_fail typed may_refuse old new (DisOf file) =
     IsListingFault (content file ≡ None) may_refuse (content file) old new
 IsRefusedAs content may_fail typed may_refuse old new (DebugOf file call more) =
-    IsRefusedJob (Seq Memory) (IsReplayedFault (MayBeCutOff may_fail typed) may_refuse call) (content file ≡ None) (content file) content old new
+    λ e. IsRefusedJob (Seq Memory) (IsReplayedFault (MayBeCutOff may_fail typed) may_refuse call) (content file ≡ None) (content file) content old new e
+    × IfSome (content file) (λ input. IfSome typed (λ lines. IfSome (loaded_job content (block_of input)) (λ job.
+    IfOk (replayed_text more job call lines) (AppendsBeginning old new))))
 IsRefusedAs content may_fail typed may_refuse old new (MigrateOf file out) =
     λ e. (new ≡ old) × ((e ≡ File Unwritable) ⊎ IfSome (content file) (λ bytes. IsBlockFault (content file ≡ None) (migrated bytes) e))
 IsRefusedAs content may_fail typed may_refuse old new (ChainOf workers limit gas digest brief store) =

@@ -4,7 +4,7 @@ use Rattle.session_states.specs.declared.fault.StoreFault.TheVariants.{Busy, Hot
 use Rattle.sqlite_trees.specs.View.{View}
 use Rattle.engines.specs.Opened.{Asks}
 use Rattle.engines.specs.declared.fault.Refusal.{Refusal}
-use Rattle.engines.specs.declared.fault.Refusal.TheVariants.{Store}
+use Rattle.engines.specs.declared.fault.Refusal.TheVariants.{Seq, Store}
 
 -- a store was opened; one that was open was closed; one was closed that is not to be used, and the log given up that its open
 -- made
@@ -25,9 +25,10 @@ AsksForNone old new path = Asks old new (Open path ∷ Abandon ∷ [])
 abbrev pub AsksInVain : Option (List StoreOrder) → Option (List StoreOrder) → List ℕ → Type 0
 AsksInVain old new path = (new ≡ old) ⊎ AsksForNone old new path ⊎ AsksForSession old new path
 
--- The same by what is told. A store that has another session, or none, is abandoned where it was opened, and never closed as the
+-- The same by what is told. Where memory for the input ran out the store was not opened. A store that has another session, or none, is abandoned where it was opened, and never closed as the
 -- session's; after a fault of the requests or of the output it was closed.
 abbrev pub AsksAsTold : Option (List StoreOrder) → Option (List StoreOrder) → List ℕ → Refusal → Type 0
+AsksAsTold old new path (Seq fault) = new ≡ old
 AsksAsTold old new path (Store Busy) = new ≡ old
 AsksAsTold old new path (Store HotJournal) = new ≡ old
 AsksAsTold old new path (Store NotASession) = (new ≡ old) ⊎ AsksForNone old new path
@@ -38,6 +39,7 @@ AsksAsTold old new path fault = AsksForSession old new path
 
 -- a session that was opened ends otherwise than by what another session, or none, is told as
 abbrev pub IsOfSession : Refusal → Type 0
+IsOfSession (Seq fault) = ⊥
 IsOfSession (Store Busy) = ⊥
 IsOfSession (Store HotJournal) = ⊥
 IsOfSession (Store NotASession) = ⊥

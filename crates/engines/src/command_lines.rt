@@ -8,7 +8,7 @@ ghost use Rattle.clap.specs.Words.{kind_of};
 ghost use Rattle.clap.specs.declared.error.kind.ErrorKind.TheVariants as kind;
 ghost use Rattle.cmdline.specs.Line.{asked_by};
 ghost use Rattle.engines.specs.Counts.{counts_text};
-ghost use Rattle.engines.specs.Program.{AreCountsAsked, AsksStores, ClosesStore, CutsCounts, IsRefusedAs, IsShown, IsTold, Prints, PutsFile, TellsAsked, TellsText, asked_on, no_memory};
+ghost use Rattle.engines.specs.Program.{AreCountsAsked, AsksAsRefused, AsksStores, ClosesStore, CutsCounts, IsRefusedAs, IsShown, IsTold, KeepsDisk, Prints, PutsFile, PutsNothing, TellsAsked, TellsText, asked_on, no_memory};
 
 use crate::commands::answer;
 use crate::counts::{RunCounts, write_counts};
@@ -114,18 +114,32 @@ pub fn answer_words<
     ensures put { result ≡ 0 → IfSome (asked_on (map string_bytes words.now)) (PutsFile (D.content disk.old) (D.leads disk.old) (D.entries disk.old) (D.entries disk.new)) }
     ensures stored { result ≡ 0 → IfSome (asked_on (map string_bytes words.now)) (AsksStores (K.asked stores.old) (K.asked stores.new)) }
     ensures closed { result ≡ 0 → IfSome (asked_on (map string_bytes words.now)) (ClosesStore K.are_folded) }
-    // refused: as its engine is, and it is told why
-    ensures refused { result ≡ 1 → IfSome (asked_on (map string_bytes words.now)) (λ asked.
-        IsTold (E.may_refuse errors.old) (IsRefusedAs (D.content disk.old) (I.may_fail input.old) (I.remaining input.old) (W.may_refuse out.old) (W.contents out.old) (W.contents out.new) asked)
-        (Prints (D.content disk.old) (I.remaining input.old) (W.contents out.old) (W.contents out.new) asked)
+    // refused: as its engine is, and it is told why; or done, and its counts could not all be printed
+    ensures refused { result ≡ 1 → IfSome (asked_on (map string_bytes words.now)) (λ asked. IsTold (E.may_refuse errors.old)
+        (λ e. IsRefusedAs (D.content disk.old) (I.may_fail input.old) (I.remaining input.old) (W.may_refuse out.old) (W.contents out.old) (W.contents out.new) asked e
+        × AsksAsRefused (I.remaining input.old) (K.asked stores.old) (K.asked stores.new) asked e)
+        (Prints (D.content disk.old) (I.remaining input.old) (W.contents out.old) (W.contents out.new) asked × AsksStores (K.asked stores.old) (K.asked stores.new) asked)
         (AreCountsAsked (D.content disk.old) asked) (E.contents errors.old) (E.contents errors.new)) }
+    ensures stays { result ≡ 1 → IfSome (asked_on (map string_bytes words.now)) (PutsNothing (D.leads disk.old) (D.entries disk.old) (D.entries disk.new)) }
+    // either way: what is not asked for stays, and where help or the version is, everything does
+    ensures keeps { result ≢ 2 → IfSome (asked_on (map string_bytes words.now)) (KeepsDisk (D.leads disk.old) D.entries disk.old disk.new) }
+    ensures help { asked_on (map string_bytes words.now) ≡ None → (disk.new ≡ disk.old) × (stores.new ≡ stores.old) }
     // a wrong line: nothing is done. Where it is not wrong, want of memory is told, and where it asks for nothing and is not, for help
     ensures wrong { result ≡ 2 → (out.new ≡ out.old) × (disk.new ≡ disk.old) × (stores.new ≡ stores.old) }
     ensures right { result ≡ 2 → IfSome (asked_on (map string_bytes words.now)) (λ _. TellsText (E.may_refuse errors.old) (E.contents errors.old) (E.contents errors.new) no_memory) }
     ensures shown { result ≢ 2 → asked_on (map string_bytes words.now) ≡ None → IsShown (map string_bytes words.now) }
 {
     match read_request(alloc, words, out, errors) {
-        Ok(request) => do_request(threads, alloc, request, disk, stores, input, out, errors),
+        Ok(request) => do_request(
+            threads,
+            alloc,
+            request,
+            disk,
+            stores,
+            input,
+            out,
+            errors,
+        ),
         Err(status) => status,
     }
 }
@@ -154,9 +168,13 @@ fn do_request<
     ensures put { result ≡ 0 → PutsFile (D.content disk.old) (D.leads disk.old) (D.entries disk.old) (D.entries disk.new) (asked_by request.entry) }
     ensures stored { result ≡ 0 → AsksStores (K.asked stores.old) (K.asked stores.new) (asked_by request.entry) }
     ensures closed { result ≡ 0 → ClosesStore K.are_folded (asked_by request.entry) }
-    ensures refused { result ≡ 1 → IsTold (E.may_refuse errors.old) (IsRefusedAs (D.content disk.old) (I.may_fail input.old) (I.remaining input.old) (W.may_refuse out.old) (W.contents out.old) (W.contents out.new) (asked_by request.entry))
-        (Prints (D.content disk.old) (I.remaining input.old) (W.contents out.old) (W.contents out.new) (asked_by request.entry))
+    ensures refused { result ≡ 1 → IsTold (E.may_refuse errors.old)
+        (λ e. IsRefusedAs (D.content disk.old) (I.may_fail input.old) (I.remaining input.old) (W.may_refuse out.old) (W.contents out.old) (W.contents out.new) (asked_by request.entry) e
+        × AsksAsRefused (I.remaining input.old) (K.asked stores.old) (K.asked stores.new) (asked_by request.entry) e)
+        (Prints (D.content disk.old) (I.remaining input.old) (W.contents out.old) (W.contents out.new) (asked_by request.entry) × AsksStores (K.asked stores.old) (K.asked stores.new) (asked_by request.entry))
         (AreCountsAsked (D.content disk.old) (asked_by request.entry)) (E.contents errors.old) (E.contents errors.new) }
+    ensures stays { result ≡ 1 → PutsNothing (D.leads disk.old) (D.entries disk.old) (D.entries disk.new) (asked_by request.entry) }
+    ensures keeps { KeepsDisk (D.leads disk.old) D.entries disk.old disk.new (asked_by request.entry) }
 {
     match answer(threads, alloc, request, disk, stores, input, out) {
         Ok(None) => 0,

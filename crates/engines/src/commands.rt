@@ -5,9 +5,10 @@ ghost use Rattle.block_file.specs.Migrate.{migrated};
 ghost use Rattle.cmdline.specs.Line.{AsmOf, ConflictsOf, DebugOf, DisOf, DriveOf, MigrateOf, RunOf, SeqOf, asked_by};
 ghost use Rattle.engines.specs.Dis.{IsSourceFault, file_of_source};
 ghost use Rattle.engines.specs.Engine.{IsBlockFault};
-ghost use Rattle.engines.specs.Program.{AreCountsAsked, AsksStores, ClosesStore, IsRefusedAs, IsRefusedSession, Prints, PrintsSession, PutsFile, settings_of};
-ghost use Rattle.engines.specs.Stores.{AreClosed, AsksForSession};
-ghost use Rattle.system_files.specs.Entries.{IsPut, Stays};
+ghost use Rattle.engines.specs.Named.{bytes_of, may_fail_of};
+ghost use Rattle.engines.specs.Program.{AreCountsAsked, AsksAsRefused, AsksStores, ClosesStore, IsRefusedAs, IsRefusedSession, KeepsDisk, Prints, PrintsSession, PutsFile, PutsNothing, settings_of};
+ghost use Rattle.engines.specs.Stores.{AreClosed, AsksAsTold, AsksForSession, AsksInVain};
+ghost use Rattle.system_files.specs.Entries.{AreApart, IsPut, KeepsFile, Stays};
 
 use crate::asm::{SOURCE_MEMORY, file_of_source};
 use crate::by_threads::ByThreads;
@@ -33,13 +34,7 @@ use system_files::{OutputDisk, ReplaceFault, replace};
 use turns::{InOrder, Settings};
 
 /// Does a request, and returns what the workers did, where that is to be printed.
-pub(crate) fn answer<
-    T: Threads + Wait + Sync,
-    D: Disk,
-    K: SessionStores,
-    I: Source,
-    W: Destination,
->(
+pub(crate) fn answer<T: Threads + Wait + Sync, D: Disk, K: SessionStores, I: Source, W: Destination>(
     threads: &T,
     alloc: Global,
     request: Request<'_>,
@@ -54,6 +49,9 @@ pub(crate) fn answer<
     ensures stored { OnOk result (AsksStores (K.asked stores.old) (K.asked stores.new) (asked_by request.entry)) }
     ensures closed { OnOk result (ClosesStore K.are_folded (asked_by request.entry)) }
     ensures refused { IfErr result (IsRefusedAs (D.content disk.old) (I.may_fail input.old) (I.remaining input.old) (W.may_refuse out.old) (W.contents out.old) (W.contents out.new) (asked_by request.entry)) }
+    ensures vain { IfErr result (AsksAsRefused (I.remaining input.old) (K.asked stores.old) (K.asked stores.new) (asked_by request.entry)) }
+    ensures stays { OnErr result (PutsNothing (D.leads disk.old) (D.entries disk.old) (D.entries disk.new) (asked_by request.entry)) }
+    ensures keeps { KeepsDisk (D.leads disk.old) D.entries disk.old disk.new (asked_by request.entry) }
 {
     match request {
         Request::Run {
@@ -84,7 +82,9 @@ pub(crate) fn answer<
             store,
         } => {
             let settings = settings_of(frame_limit, frame_gas, digest, brief);
-            uncounted(session(threads, alloc, stores, store, workers, settings, input, out))
+            uncounted(session(
+                threads, alloc, stores, store, workers, settings, input, out,
+            ))
         }
     }
 }
@@ -116,6 +116,8 @@ fn session<T: Threads + Wait + Sync, K: SessionStores, I: Source, W: Destination
     ensures refused { IfErr result (λ e. IfSome (I.remaining input.old) (λ bytes. IsRefusedSession settings (option_map (λ file. file.now) store.entry) (W.contents out.old) (W.contents out.new) bytes e)) }
     ensures none { store.entry ≡ None → K.asked stores.new ≡ K.asked stores.old }
     ensures stored { OnOk result (IfSome store.entry (λ path. AsksForSession (K.asked stores.old) (K.asked stores.new) path.now)) }
+    ensures err { OnErr result (IfSome store.entry (λ path. AsksInVain (K.asked stores.old) (K.asked stores.new) path.now)) }
+    ensures told { IfErr result (λ e. IfSome store.entry (λ path. IfSome (I.remaining input.old) (λ _. AsksAsTold (K.asked stores.old) (K.asked stores.new) path.now e))) }
 {
     match workers {
         None => chain(alloc, stores, store, &mut InOrder, settings, input, out),
@@ -223,83 +225,112 @@ fn drive<D: Disk, W: Destination>(
     }
 }
 
-/// Assembles a source and puts its ELF file at a path. Where this is refused, an ordinary file at the path
-/// stays as it was. Refused as Unwritable where both paths name one file, since the source would be lost.
+/// Assembles a source and puts its ELF file at a path. Where this is refused, an ordinary file at the path stays as it was. Refused
+/// as Unreadable where the source can't be opened; then as Unwritable where both paths name one file, since the source would be lost;
+/// then for what the source has.
 fn asm<D: Disk>(alloc: Global, disk: &mut D, file: &str, out: &str) -> Result<(), Refusal>
     ensures put { OnOk result (PutsFile (D.content disk.old) (D.leads disk.old) (D.entries disk.old) (D.entries disk.new) (AsmOf file.now out.now)) }
+    ensures stays { OnErr result (Stays (D.entries disk.old) (D.entries disk.new) (D.leads disk.old out.now)) }
+    ensures keeps { KeepsFile (D.entries disk.old) (D.entries disk.new) (D.leads disk.old file.now) (D.leads disk.old out.now) }
     ensures refused { IfErr result (λ e. (e ≡ Refusal.File FileFault.Unwritable) ⊎ IfSome (D.content disk.old file.now) (λ bytes. IsSourceFault (D.content disk.old file.now ≡ None) bytes e)) }
 {
-    let memory = Refusal::Asm(SOURCE_MEMORY);
-    let bytes = assembled(alloc, disk, file)?;
-    keep_apart(disk, file, out, memory)?;
-    put(alloc, disk, out, bytes.as_slice(), memory)
+    let bytes = assembled(alloc, disk, file, out)?;
+    put(alloc, disk, file, out, bytes.as_slice(), Refusal::Asm(SOURCE_MEMORY))
 }
 
-/// The ELF file of a source.
-fn assembled<D: Disk>(alloc: Global, disk: &D, file: &str) -> Result<Vec<u8>, Refusal>
+/// The ELF file of a source, which is not the file at `out`.
+fn assembled<D: Disk>(
+    alloc: Global,
+    disk: &D,
+    file: &str,
+    out: &str,
+) -> Result<Vec<u8>, Refusal>
     ensures ok { IfOk result (λ made. IfSome (D.content disk.now file.now) (λ bytes. file_of_source bytes ≡ Ok made.items)) }
-    ensures err { IfErr result (λ e. IfSome (D.content disk.now file.now) (λ bytes. IsSourceFault (D.content disk.now file.now ≡ None) bytes e)) }
+    ensures apart { OnOk result (AreApart (D.entries disk.now) (D.leads disk.now file.now) (D.leads disk.now out.now)) }
+    ensures err { IfErr result (λ e. (e ≡ Refusal.File FileFault.Unwritable) ⊎ IfSome (D.content disk.now file.now) (λ bytes. IsSourceFault (D.content disk.now file.now ≡ None) bytes e)) }
 {
-    let mut source = NamedFile {
-        disk,
-        path: file,
-        file: None,
+    // Not by `?`: the proof answers this arm.
+    let mut source = match open_apart(disk, file, out, Refusal::Asm(SOURCE_MEMORY)) {
+        Ok(source) => source,
+        Err(refusal) => return Err(refusal),
     };
     file_of_source(alloc, &mut source)
 }
 
-/// Rewrites a block file of format 1 as format 2 and puts it at a path. Where this is refused, an ordinary
-/// file at the path stays as it was. Refused as Unwritable where both paths name one file, so that it stays.
+/// Rewrites a block file of format 1 as format 2 and puts it at a path. Where this is refused, an ordinary file at the path stays as
+/// it was. Refused as `asm` is, and then for what the block file has.
 fn migrate<D: Disk>(alloc: Global, disk: &mut D, file: &str, out: &str) -> Result<(), Refusal>
     ensures put { OnOk result (PutsFile (D.content disk.old) (D.leads disk.old) (D.entries disk.old) (D.entries disk.new) (MigrateOf file.now out.now)) }
+    ensures stays { OnErr result (Stays (D.entries disk.old) (D.entries disk.new) (D.leads disk.old out.now)) }
+    ensures keeps { KeepsFile (D.entries disk.old) (D.entries disk.new) (D.leads disk.old file.now) (D.leads disk.old out.now) }
     ensures refused { IfErr result (λ e. (e ≡ Refusal.File FileFault.Unwritable) ⊎ IfSome (D.content disk.old file.now) (λ bytes. IsBlockFault (D.content disk.old file.now ≡ None) (migrated bytes) e)) }
 {
-    let memory = Refusal::Block(BLOCK_MEMORY);
-    let bytes = rewritten(alloc, disk, file)?;
-    keep_apart(disk, file, out, memory)?;
-    put(alloc, disk, out, bytes.as_slice(), memory)
+    let bytes = rewritten(alloc, disk, file, out)?;
+    put(alloc, disk, file, out, bytes.as_slice(), Refusal::Block(BLOCK_MEMORY))
 }
 
-/// The file of format 2 of a block file.
-fn rewritten<D: Disk>(alloc: Global, disk: &D, file: &str) -> Result<Vec<u8>, Refusal>
+/// The file of format 2 of a block file, which is not the file at `out`.
+fn rewritten<D: Disk>(
+    alloc: Global,
+    disk: &D,
+    file: &str,
+    out: &str,
+) -> Result<Vec<u8>, Refusal>
     ensures ok { IfOk result (λ made. IfSome (D.content disk.now file.now) (λ bytes. migrated bytes ≡ Ok made.items)) }
-    ensures err { IfErr result (λ e. IfSome (D.content disk.now file.now) (λ bytes. IsBlockFault (D.content disk.now file.now ≡ None) (migrated bytes) e)) }
+    ensures apart { OnOk result (AreApart (D.entries disk.now) (D.leads disk.now file.now) (D.leads disk.now out.now)) }
+    ensures err { IfErr result (λ e. (e ≡ Refusal.File FileFault.Unwritable) ⊎ IfSome (D.content disk.now file.now) (λ bytes. IsBlockFault (D.content disk.now file.now ≡ None) (migrated bytes) e)) }
 {
-    let mut block = NamedFile {
-        disk,
-        path: file,
-        file: None,
+    // Not by `?`: the proof answers this arm.
+    let mut block = match open_apart(disk, file, out, Refusal::Block(BLOCK_MEMORY)) {
+        Ok(block) => block,
+        Err(refusal) => return Err(refusal),
     };
     migrated_file(alloc, &mut block)
 }
 
-/// Refused as Unwritable where two paths name one file or that can't be told, and as `memory` where memory ran out.
-fn keep_apart<D: OutputDisk>(
-    disk: &D,
-    file: &str,
+/// Opens a file, which is not to be the one at `out`, and reads nothing of it. Refused as Unreadable where it can't be opened; then
+/// as Unwritable where both paths name one file or that can't be told, and as `memory` where memory ran out.
+fn open_apart<'a, D: Disk>(
+    disk: &'a D,
+    file: &'a str,
     out: &str,
     memory: Refusal,
-) -> Result<(), Refusal>
-    ensures { IfErr result (λ e. (e ≡ Refusal.File FileFault.Unwritable) ⊎ (e ≡ memory)) }
+) -> Result<NamedFile<'a, D>, Refusal>
+    ensures bytes { IfOk result (λ f. IfSome (D.content disk.now file.now) (λ bytes. bytes_of D.File.remaining (D.content f.disk.now f.path.now) f.file ≡ Some bytes)) }
+    ensures readable { IfOk result (λ f. may_fail_of D.File.may_fail (D.content f.disk.now f.path.now) f.file → D.content disk.now file.now ≡ None) }
+    ensures apart { OnOk result (AreApart (D.entries disk.now) (D.leads disk.now file.now) (D.leads disk.now out.now)) }
+    ensures err { IfErr result (λ e. (e ≡ Refusal.File FileFault.Unwritable) ⊎ (e ≡ memory) ⊎ ((e ≡ Refusal.File FileFault.Unreadable) × (D.content disk.now file.now ≡ None))) }
 {
+    let mut found = NamedFile {
+        disk,
+        path: file,
+        file: None,
+    };
+    if found.open().is_err() {
+        return Err(Refusal::File(FileFault::Unreadable));
+    }
     match disk.is_one_file(file, out) {
-        Ok(false) => Ok(()),
+        Ok(false) => Ok(found),
         Ok(true) => Err(Refusal::File(FileFault::Unwritable)),
         Err(error) => Err(refusal_of(ReplaceFault::from(error), memory)),
     }
 }
 
-/// Puts bytes at a path, as `replace` does. Refused as Unwritable where a file can't be made, written or renamed,
-/// and as `memory` where memory ran out.
+/// Puts bytes at a path, as `replace` does, which is not that of a file. Refused as Unwritable where a file can't be made, written or
+/// renamed, and as `memory` where memory ran out.
+#[tactic(auto, using(crate::proofs::Kept::keeps_file))]
 fn put<D: OutputDisk>(
     alloc: Global,
     disk: &mut D,
+    file: &str,
     path: &str,
     bytes: &[u8],
     memory: Refusal,
 ) -> Result<(), Refusal>
+    requires apart { AreApart (D.entries disk.old) (D.leads disk.old file.now) (D.leads disk.old path.now) }
     ensures put { OnOk result (IsPut (D.entries disk.old) (D.entries disk.new) (D.leads disk.old path.now) bytes.now) }
     ensures stays { OnErr result (Stays (D.entries disk.old) (D.entries disk.new) (D.leads disk.old path.now)) }
+    ensures keeps { KeepsFile (D.entries disk.old) (D.entries disk.new) (D.leads disk.old file.now) (D.leads disk.old path.now) }
     ensures refused { IfErr result (λ e. (e ≡ Refusal.File FileFault.Unwritable) ⊎ (e ≡ memory)) }
 {
     match replace(alloc, disk, path, bytes) {
@@ -356,7 +387,19 @@ fn debug<D: Disk, I: Source, W: Destination>(
         file: None,
     };
     let mut programs = ProgramFiles { disk };
-    debug_block_to(alloc, has_more, &mut block, &mut programs, call, input, out)
+    // Not as it is: the proof answers this arm.
+    match debug_block_to(
+        alloc,
+        has_more,
+        &mut block,
+        &mut programs,
+        call,
+        input,
+        out,
+    ) {
+        Ok(()) => Ok(()),
+        Err(refusal) => Err(refusal),
+    }
 }
 
 /// The settings of a session, by the options of `chain`.

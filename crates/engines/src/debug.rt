@@ -12,10 +12,9 @@ use crate::fault::{FileFault, Refusal, SeqFault};
 use crate::loading::load_job;
 use crate::program_source::Programs;
 use byte_streams::{Destination, Source};
-use debugger::{DebugFault, Replay, ReplayFault, debug_lines_to, opens_over_its_storage};
+use debugger::{DebugFault, Replay, ReplayFault, debug_lines_to};
 use rv_ledger::{Call, Job, Store, apply_writes};
 use rv_step::{SpareMachine, receipt_over};
-use seq_exec::run_in_order;
 use std::alloc::{AllocError, Global};
 
 /// Reads a block file to its end and parses it. Opens, reads and loads its programs in the order of their
@@ -47,56 +46,52 @@ pub fn debug_block_to<R: Source, P: Programs, L: Source, W: Destination>(
         Ok(job) => job,
         Err(refusal) => return Err(refusal),
     };
-    let mut replay = match replay_of(alloc, has_more, &job, call) {
+    let mut replay = match replay_of(alloc, has_more, job, call) {
         Ok(replay) => replay,
         Err(refusal) => return Err(refusal),
     };
     debug_lines(alloc, has_more, &mut replay, lines, out)
 }
 
-/// The replay of the call at an index of a job, at its first moment; where `has_more` is true, that call and those behind it
-/// are not run. Refused as NoSuchCall where there is no such call, and as Memory where memory ran out.
-fn replay_of(alloc: Global, has_more: bool, job: &Job, call: usize) -> Result<Replay, Refusal>
-    ensures ok { IfOk result (λ r. first_moment job.now call ≡ Some r) }
-    ensures err { IfErr result (λ e. IsReplayFault job.now call e) }
+/// The replay of the call at an index of a job, at its first moment. The calls before it run on the job's own storage; those from
+/// it on run on a copy, where `has_more` is true not at all. Refused as NoSuchCall where there is no such call, after all calls
+/// ran, and as Memory where memory ran out.
+fn replay_of(alloc: Global, has_more: bool, job: Job, call: usize) -> Result<Replay, Refusal>
+    ensures ok { IfOk result (λ r. first_moment job call ≡ Some r) }
+    ensures err { IfErr result (λ e. IsReplayFault job call e) }
 {
-    if has_more {
-        return replay_behind(alloc, job, call);
-    }
-    let Ok(outcome) = run_in_order(alloc, job) else {
-        return Err(Refusal::Seq(SeqFault::Memory));
-    };
-    opens_over_its_storage();
-    match Replay::open(alloc, &outcome, call) {
-        Ok(replay) => Ok(replay),
-        Err(fault) => Err(Refusal::Debug(fault)),
-    }
-}
-
-/// The same; only the calls before the one at the index are run.
-fn replay_behind(alloc: Global, job: &Job, call: usize) -> Result<Replay, Refusal>
-    ensures ok { IfOk result (λ r. first_moment job.now call ≡ Some r) }
-    ensures err { IfErr result (λ e. IsReplayFault job.now call e) }
-{
-    let calls = job.block.calls();
+    let Job { block, store } = job;
+    let calls = block.calls();
     let Some(shown) = calls.get(call) else {
+        if !has_more && store_behind(alloc, calls, store).is_err() {
+            return Err(Refusal::Seq(SeqFault::Memory));
+        }
         return Err(Refusal::Debug(ReplayFault::NoSuchCall));
     };
-    let Ok(store) = store_behind(alloc, &calls[..call], &job.store) else {
+    let Ok(left) = store_behind(alloc, &calls[..call], store) else {
         return Err(Refusal::Seq(SeqFault::Memory));
     };
-    match Replay::start(alloc, shown, store) {
+    if !has_more && run_on_copy(alloc, &calls[call..], &left).is_err() {
+        return Err(Refusal::Seq(SeqFault::Memory));
+    }
+    match Replay::start(alloc, shown, left) {
         Ok(replay) => Ok(replay),
         Err(AllocError) => Err(Refusal::Debug(ReplayFault::Memory)),
     }
 }
 
-/// The storage that calls leave which are run in order; refused where memory ran out.
+/// Runs calls in order on a copy of a storage, which is dropped; refused where memory ran out.
+fn run_on_copy(alloc: Global, calls: &[Call], store: &Store) -> Result<(), AllocError> {
+    let _ = store_behind(alloc, calls, store.copy()?)?;
+    Ok(())
+}
+
+/// The storage that calls leave which are run in order on one; refused where memory ran out.
 #[tactic(auto, unfolding(rv_step::specs::Fold::store_after))]
-fn store_behind(alloc: Global, calls: &[Call], store: &Store) -> Result<Store, AllocError>
-    ensures { IfOk result (λ s. s ≡ store_after calls.now store.now) }
+fn store_behind(alloc: Global, calls: &[Call], store: Store) -> Result<Store, AllocError>
+    ensures { IfOk result (λ s. s ≡ store_after calls.now store) }
 {
-    let mut left = store.copy()?;
+    let mut left = store;
     let mut spare = SpareMachine::new();
     for call in calls {
         // A `?` would copy the receipt, which is large, once more.

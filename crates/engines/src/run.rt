@@ -1,25 +1,24 @@
 //! The engine of `rvstm run`, over any reader, programs, writer and threads.
 
-ghost use Rattle.std.specs.Prelude.{◌≡◌, ◌≤◌, length, IfErr, IfOk, IfSome, IsOkAnd, OnOk};
+ghost use Rattle.std.specs.Prelude.{◌≡◌, ◌≤◌, map, IfErr, IfOk, IfSome, IsOkAnd, OnOk};
 ghost use Rattle.std.specs.Io.KnownBytes.{Appends};
 ghost use Rattle.block_file.specs.Block.{block_of};
 ghost use Rattle.engines.specs.Counts.{AreCountsOfRun};
 ghost use Rattle.engines.specs.Engine.{answer_of, loaded_job, text_of, IsRefusedJob};
 ghost use Rattle.engines.specs.Run.{IsRefusalOf, IsWorkersFault};
 ghost use Rattle.rv_step.specs.Fold.{receipts_of, store_after};
-ghost use Rattle.workers.specs.History.{AreOneWorkerCounts, HasHistory};
 
 use crate::counts::RunCounts;
 use crate::fault::Refusal;
 use crate::loading::load_job;
 use crate::program_source::Programs;
-use crate::results::write_counted;
+use crate::results::write_run;
 use byte_streams::{Destination, Source};
-use rv_ledger::{Job, Outcome};
-use std::alloc::Global;
+use rv_ledger::{Counts, Job, Receipt, Store};
+use std::alloc::{AllocError, Global};
 use std::sync::Wait;
 use std::thread::Threads;
-use workers::{Executor, RunFault};
+use workers::{Executor, RunFault, Share};
 
 /// Reads a block file to its end and parses it. Opens, reads and loads its programs in the order of
 /// their numbers. Then runs the calls on `workers` workers, each on a thread of its own, and writes the
@@ -60,26 +59,65 @@ fn run_threads<T: Threads + Wait + Sync, W: Destination>(
     ensures workers { OnOk result ((1 ≤ workers) × (workers ≤ 32)) }
     ensures history { IfOk result (AreCountsOfRun job workers) }
 {
-    match run_job(threads, alloc, job, workers) {
-        Ok(outcome) => write_counted(alloc, outcome, out),
-        Err(fault) => Err(Refusal::Run(fault)),
+    let ran = match run_job(threads, alloc, job, workers) {
+        Ok(ran) => ran,
+        Err(fault) => return Err(Refusal::Run(fault)),
+    };
+    match write_run(alloc, ran.receipts.as_slice(), &ran.store, out) {
+        Ok(()) => Ok(ran.counts),
+        Err(refusal) => Err(refusal),
     }
 }
 
-/// Runs a job on so many workers, each on a thread of its own.
+/// What a run by workers leaves.
+#[derive(Drop)]
+struct ThreadsResult {
+    /// What each call did.
+    receipts: Vec<Receipt>,
+    /// The storage after the last call.
+    store: Store,
+    /// What the workers did.
+    counts: RunCounts,
+}
+
+/// Runs a job on so many workers, each on a thread of its own, on the job's own storage.
 fn run_job<T: Threads + Wait + Sync>(
     threads: &T,
     alloc: Global,
     job: Job,
     workers: usize,
-) -> Result<Outcome, RunFault>
-    ensures job { IfOk result (λ o. o.job ≡ job) }
-    ensures receipts { IfOk result (λ o. o.receipts.items ≡ receipts_of job.block job.store) }
-    ensures store { IfOk result (λ o. o.store ≡ store_after job.block job.store) }
-    ensures history { IfOk result (λ o. HasHistory job workers o.counts.items) }
-    ensures one_worker { IfOk result (λ o. workers ≡ 1 → AreOneWorkerCounts (length job.block) o.counts.items) }
+) -> Result<ThreadsResult, RunFault>
+    ensures receipts { IfOk result (λ r. r.receipts.items ≡ receipts_of job.block job.store) }
+    ensures store { IfOk result (λ r. r.store ≡ store_after job.block job.store) }
+    ensures history { IfOk result (λ r. AreCountsOfRun job workers r.counts) }
     ensures refused { IfErr result (λ e. IsRefusalOf job workers e) }
     ensures workers { OnOk result ((1 ≤ workers) × (workers ≤ 32)) }
 {
-    Executor::new(alloc).run_block(threads, alloc, job, workers)
+    let Job { block, mut store } = job;
+    let calls = block.calls().len();
+    let mut executor = Executor::new(alloc);
+    let receipts = executor.run_on(threads, alloc, &mut store, block, workers)?;
+    let Ok(did) = counts_of(alloc, executor.shares()) else {
+        return Err(RunFault::Memory);
+    };
+    let counts = RunCounts {
+        calls,
+        workers: did,
+    };
+    Ok(ThreadsResult {
+        receipts,
+        store,
+        counts,
+    })
+}
+
+/// What each worker did, by its share; refused where memory ran out.
+fn counts_of(alloc: Global, shares: &[Share]) -> Result<Vec<Counts>, AllocError>
+    ensures { IfOk result (λ did. did.items ≡ map (λ share. share.counts) shares.now) }
+{
+    let mut did = Vec::with_capacity(alloc, shares.len())?;
+    for share in shares {
+        did.push(share.counts())?;
+    }
+    Ok(did)
 }

@@ -36,6 +36,7 @@ pub(crate) fn chain<K: SessionStores, C: CallRunner, I: Read, W: Destination>(
     ensures none { store.entry ≡ None → K.asked stores.new ≡ K.asked stores.old }
     ensures ok { OnOk result (IfSome store.entry (λ path. AsksForSession (K.asked stores.old) (K.asked stores.new) path.now)) }
     ensures err { OnErr result (IfSome store.entry (λ path. AsksInVain (K.asked stores.old) (K.asked stores.new) path.now)) }
+    ensures told { IfErr result (λ e. IfSome store.entry (λ path. IfSome (I.remaining input.old) (λ _. AsksAsTold (K.asked stores.old) (K.asked stores.new) path.now e))) }
 {
     let Ok(reader) = BufReader::new(alloc, input) else {
         return Err(Refusal::Seq(SeqFault::Memory));

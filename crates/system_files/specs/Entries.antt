@@ -1,5 +1,5 @@
 -- What stands at the paths of a disk, and how that changes.
-use Rattle.std.specs.Prelude.{◌≡◌, ℕ, ◌<◌, ◌++◌, ◌⊎◌, List, [], length, slice_index, Option, None, Some, ⊤, codes}
+use Rattle.std.specs.Prelude.{◌≡◌, ◌≢◌, ℕ, ◌<◌, ◌++◌, ◌⊎◌, List, [], length, slice_index, Option, None, Some, ⊤, codes}
 use Rattle.std.specs.Fmt.{decimal}
 
 -- what stands at a path: nothing, an ordinary file with its bytes, or something else, such as a device
@@ -29,6 +29,16 @@ abbrev pub IsPut : Option Entries → Option Entries → List ℕ → List ℕ �
 IsPut (Some old) (Some new) path bytes = (old path ≡ Other) ⊎ (new path ≡ Ordinary bytes)
 IsPut old new path bytes = ⊤
 
+-- something else than an ordinary file, or nothing
+abbrev pub IsNoFile : Entry → Type 0
+IsNoFile (Ordinary bytes) = ⊥
+IsNoFile entry = ⊤
+
+-- two paths are not those of one ordinary file
+abbrev pub AreApart : Option Entries → List ℕ → List ℕ → Type 0
+AreApart None left right = ⊤
+AreApart (Some entries) left right = (left ≢ right) ⊎ IsNoFile (entries left)
+
 -- a path has what it had, unless that is a device
 abbrev pub Stays : Option Entries → Option Entries → List ℕ → Type 0
 Stays (Some old) (Some new) path = (old path ≡ Other) ⊎ (new path ≡ old path)
@@ -49,3 +59,10 @@ IsNewPath replaced path = (folder : List ℕ) × (n : ℕ) × IsFolderOf replace
 -- the same, and not the path whose file it is to replace
 abbrev pub IsBeside : List ℕ → List ℕ → Type 0
 IsBeside replaced path = IsNewPath replaced path × (path ≡ replaced → ⊥)
+
+-- where a file is put at `out`, the ordinary file at another path stays, unless it has the name of a new file beside that one: such
+-- a file may be taken for one that was left over
+abbrev pub KeepsFile : Option Entries → Option Entries → List ℕ → List ℕ → Type 0
+KeepsFile None new path out = ⊤
+KeepsFile (Some old) None path out = ⊥
+KeepsFile (Some old) (Some new) path out = IsNoFile (old path) ⊎ IsNewPath out path ⊎ (new path ≡ old path)

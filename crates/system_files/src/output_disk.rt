@@ -1,9 +1,9 @@
 //! Where files are made and replaced.
 
-ghost use Rattle.std.specs.Prelude.{◌≡◌, ◌⊎◌, ℕ, List, [], ◌∷◌, Option, Some, IfOk, IfSome, OnErr, OnOk};
+ghost use Rattle.std.specs.Prelude.{◌≡◌, ◌⊎◌, ℕ, false, List, [], ◌∷◌, Option, Some, IfOk, IfSome, OnErr, OnOk};
 ghost use Rattle.std.specs.Option.{option_map};
 ghost use Rattle.std.specs.String.{string_bytes};
-ghost use Rattle.system_files.specs.Entries.{Entries, IsPathOf, KeepsBut, Ordinary};
+ghost use Rattle.system_files.specs.Entries.{AreApart, Entries, IsPathOf, KeepsBut, Ordinary};
 ghost use Rattle.system_files.specs.Orders.{Asks, Make, Order, RefusedSync, Remove, RemoveLeftOver, Rename, Sync, Write};
 
 use std::alloc::Global;
@@ -42,7 +42,8 @@ pub trait OutputDisk {
 
     /// Whether two paths name one ordinary file; not where nothing is at one of them. Refused where that
     /// can't be told.
-    fn is_one_file(&self, left: &str, right: &str) -> io::Result<bool>;
+    fn is_one_file(&self, left: &str, right: &str) -> io::Result<bool>
+        ensures apart { IfOk result (λ is_one. is_one ≡ false → AreApart (entries self.now) (leads self.now left.now) (leads self.now right.now)) };
 
     /// Opens what is at a path, and writes bytes into it from its start.
     fn write_into(&mut self, path: &str, bytes: &[u8]) -> io::Result<()>

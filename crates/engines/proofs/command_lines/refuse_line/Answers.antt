@@ -1,4 +1,4 @@
-use Rattle.engines.proofs.Lines.{text_told}
+use Rattle.engines.proofs.Told.{text_told}
 use Rattle.engines.proofs.command_lines.refuse_line.Goals as goal
 
 pub returns-clause-told : goal.returns-clause-told

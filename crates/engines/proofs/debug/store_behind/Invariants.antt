@@ -3,4 +3,4 @@ use Rattle.rv_step.specs.Fold.{store_after}
 use Rattle.engines.proofs.debug.store_behind.Given as goal
 
 abbrev pub invariant-loop-call : goal.invariant-loop-call
-invariant-loop-call l = store_after (drop l.call-index l.calls) l.left ≡ store_after l.calls l.store
+invariant-loop-call l = store_after (drop l.call-index l.calls) l.left ≡ store_after l.calls l.fn.store

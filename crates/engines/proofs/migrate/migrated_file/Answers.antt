@@ -11,18 +11,12 @@ use Rattle.engines.specs.declared.fault.FileFault.TheVariants.{Unreadable}
 use Rattle.engines.specs.declared.fault.Refusal.{Refusal}
 use Rattle.engines.specs.declared.fault.Refusal.TheVariants.{Block, File}
 use Rattle.engines.specs.Engine.{IsBlockFault, IsTextFault}
+use Rattle.engines.proofs.Migrated.{memory_is_first}
 use Rattle.engines.proofs.migrate.migrated_file.Goals as goal
-
--- no fault of a block file is before line 1
-behind_header : (first : Bool) (block : Result BlockValue BlockFault) (text : List ℕ) → IfErr block (λ fault. 1 ≤ fault.line)
-    → IfErr (if first then result_map_both (λ _. text) (λ fault. fault) block else Err (record { line = 1; cause = BadHeader })) (λ (fault : BlockFault). 1 ≤ fault.line)
-behind_header true (Ok block) text h = tt
-behind_header true (Err fault) text h = h
-behind_header false block text h = lit≤ tt
 
 reading : (may_fail : Type 0) (input : Option (List ℕ)) (e : Refusal) → (e ≡ Block (record { line = 1; cause = Memory })) ⊎ ((e ≡ File Unreadable) × may_fail) → IfSome input (λ bytes. IsBlockFault may_fail (migrated bytes) e)
 reading may_fail None e h = tt
-reading may_fail (Some bytes) e (inl memory) = rw memory (inr (refl, behind_header (is_first_format bytes) (block_of bytes) (in_second_format bytes) (from_first (cut 10 bytes))))
+reading may_fail (Some bytes) e (inl memory) = rw memory (memory_is_first may_fail bytes)
 reading may_fail (Some bytes) e (inr unreadable) = rw unreadable.0 unreadable.1
 
 pub returns-in-Err-clause-err : goal.returns-in-Err-clause-err

@@ -1,0 +1,27 @@
+-- What stays where a file is put at a path.
+use Rattle.std.proofs.Common.{◌≡◌, ◌⊎◌, ℕ, List, refl, inl, inr}
+use Rattle.std.specs.Prelude.{Option, Some, None}
+use Rattle.cmdline.specs.Line.{Asked, AsmOf, MigrateOf}
+use Rattle.system_files.specs.Entries.{AreApart, Entries, IsNewPath, KeepsBut, KeepsFile, Stays}
+use Rattle.engines.specs.Program.{KeepsDisk, PutsNothing}
+
+at_file : (old : Entries) (new : Entries) (file out : List ℕ) → AreApart (Some old) file out → (IsNewPath out file ⊎ (file ≡ out)) ⊎ (new file ≡ old file) → KeepsFile (Some old) (Some new) file out
+at_file old new file out apart (inl (inl beside)) = inr (inl beside)
+at_file old new file out (inl other) (inl (inr same)) = absurd (other same)
+at_file old new file out (inr none) (inl (inr same)) = inl none
+at_file old new file out apart (inr kept) = inr (inr kept)
+
+-- the other file stays
+pub keeps_file : (old new : Option Entries) (file out : List ℕ) → AreApart old file out → KeepsBut (λ path. IsNewPath out path ⊎ (path ≡ out)) old new → KeepsFile old new file out
+keeps_file None new file out apart kept = tt
+keeps_file (Some old) None file out apart kept = kept
+keeps_file (Some old) (Some new) file out apart kept = at_file old new file out apart (kept file)
+
+-- where nothing is done all stays
+pub same_file : (entries : Option Entries) (file out : List ℕ) → KeepsFile entries entries file out
+same_file None file out = tt
+same_file (Some old) file out = inr (inr refl)
+
+pub same_entry : (entries : Option Entries) (path : List ℕ) → Stays entries entries path
+same_entry None path = tt
+same_entry (Some old) path = inr refl
