@@ -7,7 +7,6 @@ import shutil
 from collections.abc import Sequence
 from dataclasses import dataclass
 from functools import partial
-from itertools import groupby
 
 from gate.calls import command, rvstm
 from gate.cases import TOP, Case, Run, same, shown
@@ -153,10 +152,9 @@ def stumbles(run: Run, rows: Sequence[Row], compiler: str) -> None:
 def cases() -> list[Case]:
     """A case for each source and compiler."""
     found = []
-    for source, group in groupby(ROWS, lambda row: row.source):
-        rows = list(group)
+    for source in dict.fromkeys(row.source for row in ROWS):
         for compiler in BOTH:
-            own = [row for row in rows if compiler in row.compilers]
+            own = [row for row in ROWS if row.source == source and compiler in row.compilers]
             of_gcc = compiler == "gnu" or any("LIBGCC" in row.more for row in own)
             needs = (*CONTRACTS, Tool.GCC) if of_gcc else CONTRACTS
             run = partial(stumbles, rows=own, compiler=compiler)
