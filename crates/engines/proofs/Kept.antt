@@ -1,9 +1,7 @@
 -- What stays where a file is put at a path.
 use Rattle.std.proofs.Common.{◌≡◌, ◌⊎◌, ℕ, List, refl, inl, inr}
 use Rattle.std.specs.Prelude.{Option, Some, None}
-use Rattle.cmdline.specs.Line.{Asked, AsmOf, MigrateOf}
 use Rattle.system_files.specs.Entries.{AreApart, Entries, IsNewPath, KeepsBut, KeepsFile, Stays}
-use Rattle.engines.specs.Program.{KeepsDisk, PutsNothing}
 
 at_file : (old : Entries) (new : Entries) (file out : List ℕ) → AreApart (Some old) file out → (IsNewPath out file ⊎ (file ≡ out)) ⊎ (new file ≡ old file) → KeepsFile (Some old) (Some new) file out
 at_file old new file out apart (inl (inl beside)) = inr (inl beside)

@@ -1,3 +1,5 @@
+pub mod Again
+pub mod AtMost
 pub mod CallsBehind
 mod Chains
 mod Conflicts
@@ -9,4 +11,5 @@ pub mod Orders
 pub mod ProgramFiles
 pub mod Shares
 pub mod ShortNames
+pub mod SameFiles
 mod Told

@@ -1,5 +1,5 @@
 -- What a line asks for, by its faults.
-use Rattle.std.proofs.Common.{◌≡◌, ℕ, List, [], ◌∷◌, refl, inl, inr, sym, ◌∙◌, ◌⊎◌, subst}
+use Rattle.std.proofs.Common.{◌≡◌, List, [], ◌∷◌, refl, inl, inr, sym, ◌∙◌, ◌⊎◌, subst}
 use Rattle.std.specs.Prelude.{Option, Some, None, IfSome, option_map}
 use Rattle.clap.specs.Kinds.{HasKind}
 use Rattle.clap.specs.Words.{IsAmong, Kinds, Text, fault_of, kind_of}

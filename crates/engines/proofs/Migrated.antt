@@ -1,5 +1,5 @@
 -- Faults of a block file that is migrated.
-use Rattle.std.proofs.Common.{◌≡◌, ◌≤◌, Bool, true, false, ℕ, List, lit≤, refl, inr, if◌then◌else◌}
+use Rattle.std.proofs.Common.{◌≤◌, Bool, true, false, ℕ, List, lit≤, refl, inr, if◌then◌else◌}
 use Rattle.std.specs.Prelude.{IfErr, Result, Ok, Err}
 use Rattle.std.specs.Result.{result_map_both}
 use Rattle.block_file.specs.Block.{BlockValue, block_of}

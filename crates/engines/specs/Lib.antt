@@ -11,3 +11,4 @@ pub mod Counts
 pub mod Debug
 pub mod Named
 pub mod Program
+pub mod Headline

@@ -1,5 +1,5 @@
 -- What the program does for a command line: a table from what is asked to what an engine says of it.
-use Rattle.std.specs.Prelude.{◌≡◌, ◌⊎◌, ⊤, ℕ, Bool, true, false, codes, List, [], ◌∷◌, Option, Some, None, IfOk, IfSome, IsOkAnd}
+use Rattle.std.specs.Prelude.{◌≡◌, ◌⊎◌, ⊤, ℕ, Bool, true, codes, List, [], ◌∷◌, Option, Some, None, IfOk, IfSome, IsOkAnd}
 use Rattle.std.specs.Io.KnownBytes.{Appends}
 use Rattle.std.specs.Option.{option_map, unwrap_or}
 use Rattle.block_file.specs.Block.{block_of}

@@ -8,6 +8,7 @@ ghost use Rattle.clap.specs.Words.{kind_of};
 ghost use Rattle.clap.specs.declared.error.kind.ErrorKind.TheVariants as kind;
 ghost use Rattle.cmdline.specs.Line.{asked_by};
 ghost use Rattle.engines.specs.Counts.{counts_text};
+ghost use Rattle.engines.specs.Headline.{PrintsAtMost};
 ghost use Rattle.engines.specs.Program.{AreCountsAsked, AsksAsRefused, AsksStores, ClosesStore, CutsCounts, IsRefusedAs, IsShown, IsTold, KeepsDisk, Prints, PutsFile, PutsNothing, TellsAsked, TellsText, asked_on, no_memory};
 
 use crate::commands::answer;
@@ -120,6 +121,7 @@ pub fn answer_words<
         × AsksAsRefused (I.remaining input.old) (K.asked stores.old) (K.asked stores.new) asked e)
         (Prints (D.content disk.old) (I.remaining input.old) (W.contents out.old) (W.contents out.new) asked × AsksStores (K.asked stores.old) (K.asked stores.new) asked)
         (AreCountsAsked (D.content disk.old) asked) (E.contents errors.old) (E.contents errors.new)) }
+    ensures at_most { result ≡ 1 → IfSome (asked_on (map string_bytes words.now)) (PrintsAtMost (D.content disk.old) (I.remaining input.old) (W.may_refuse out.old) (W.contents out.old) (W.contents out.new)) }
     ensures stays { result ≡ 1 → IfSome (asked_on (map string_bytes words.now)) (PutsNothing (D.leads disk.old) (D.entries disk.old) (D.entries disk.new)) }
     // either way: what is not asked for stays, and where help or the version is, everything does
     ensures keeps { result ≢ 2 → IfSome (asked_on (map string_bytes words.now)) (KeepsDisk (D.leads disk.old) D.entries disk.old disk.new) }
@@ -130,16 +132,7 @@ pub fn answer_words<
     ensures shown { result ≢ 2 → asked_on (map string_bytes words.now) ≡ None → IsShown (map string_bytes words.now) }
 {
     match read_request(alloc, words, out, errors) {
-        Ok(request) => do_request(
-            threads,
-            alloc,
-            request,
-            disk,
-            stores,
-            input,
-            out,
-            errors,
-        ),
+        Ok(request) => do_request(threads, alloc, request, disk, stores, input, out, errors),
         Err(status) => status,
     }
 }
@@ -173,6 +166,7 @@ fn do_request<
         × AsksAsRefused (I.remaining input.old) (K.asked stores.old) (K.asked stores.new) (asked_by request.entry) e)
         (Prints (D.content disk.old) (I.remaining input.old) (W.contents out.old) (W.contents out.new) (asked_by request.entry) × AsksStores (K.asked stores.old) (K.asked stores.new) (asked_by request.entry))
         (AreCountsAsked (D.content disk.old) (asked_by request.entry)) (E.contents errors.old) (E.contents errors.new) }
+    ensures at_most { result ≡ 1 → PrintsAtMost (D.content disk.old) (I.remaining input.old) (W.may_refuse out.old) (W.contents out.old) (W.contents out.new) (asked_by request.entry) }
     ensures stays { result ≡ 1 → PutsNothing (D.leads disk.old) (D.entries disk.old) (D.entries disk.new) (asked_by request.entry) }
     ensures keeps { KeepsDisk (D.leads disk.old) D.entries disk.old disk.new (asked_by request.entry) }
 {

@@ -34,7 +34,13 @@ use system_files::{OutputDisk, ReplaceFault, replace};
 use turns::{InOrder, Settings};
 
 /// Does a request, and returns what the workers did, where that is to be printed.
-pub(crate) fn answer<T: Threads + Wait + Sync, D: Disk, K: SessionStores, I: Source, W: Destination>(
+pub(crate) fn answer<
+    T: Threads + Wait + Sync,
+    D: Disk,
+    K: SessionStores,
+    I: Source,
+    W: Destination,
+>(
     threads: &T,
     alloc: Global,
     request: Request<'_>,
@@ -82,9 +88,7 @@ pub(crate) fn answer<T: Threads + Wait + Sync, D: Disk, K: SessionStores, I: Sou
             store,
         } => {
             let settings = settings_of(frame_limit, frame_gas, digest, brief);
-            uncounted(session(
-                threads, alloc, stores, store, workers, settings, input, out,
-            ))
+            uncounted(session(threads, alloc, stores, store, workers, settings, input, out))
         }
     }
 }
@@ -235,16 +239,18 @@ fn asm<D: Disk>(alloc: Global, disk: &mut D, file: &str, out: &str) -> Result<()
     ensures refused { IfErr result (λ e. (e ≡ Refusal.File FileFault.Unwritable) ⊎ IfSome (D.content disk.old file.now) (λ bytes. IsSourceFault (D.content disk.old file.now ≡ None) bytes e)) }
 {
     let bytes = assembled(alloc, disk, file, out)?;
-    put(alloc, disk, file, out, bytes.as_slice(), Refusal::Asm(SOURCE_MEMORY))
+    put(
+        alloc,
+        disk,
+        file,
+        out,
+        bytes.as_slice(),
+        Refusal::Asm(SOURCE_MEMORY),
+    )
 }
 
 /// The ELF file of a source, which is not the file at `out`.
-fn assembled<D: Disk>(
-    alloc: Global,
-    disk: &D,
-    file: &str,
-    out: &str,
-) -> Result<Vec<u8>, Refusal>
+fn assembled<D: Disk>(alloc: Global, disk: &D, file: &str, out: &str) -> Result<Vec<u8>, Refusal>
     ensures ok { IfOk result (λ made. IfSome (D.content disk.now file.now) (λ bytes. file_of_source bytes ≡ Ok made.items)) }
     ensures apart { OnOk result (AreApart (D.entries disk.now) (D.leads disk.now file.now) (D.leads disk.now out.now)) }
     ensures err { IfErr result (λ e. (e ≡ Refusal.File FileFault.Unwritable) ⊎ IfSome (D.content disk.now file.now) (λ bytes. IsSourceFault (D.content disk.now file.now ≡ None) bytes e)) }
@@ -266,16 +272,18 @@ fn migrate<D: Disk>(alloc: Global, disk: &mut D, file: &str, out: &str) -> Resul
     ensures refused { IfErr result (λ e. (e ≡ Refusal.File FileFault.Unwritable) ⊎ IfSome (D.content disk.old file.now) (λ bytes. IsBlockFault (D.content disk.old file.now ≡ None) (migrated bytes) e)) }
 {
     let bytes = rewritten(alloc, disk, file, out)?;
-    put(alloc, disk, file, out, bytes.as_slice(), Refusal::Block(BLOCK_MEMORY))
+    put(
+        alloc,
+        disk,
+        file,
+        out,
+        bytes.as_slice(),
+        Refusal::Block(BLOCK_MEMORY),
+    )
 }
 
 /// The file of format 2 of a block file, which is not the file at `out`.
-fn rewritten<D: Disk>(
-    alloc: Global,
-    disk: &D,
-    file: &str,
-    out: &str,
-) -> Result<Vec<u8>, Refusal>
+fn rewritten<D: Disk>(alloc: Global, disk: &D, file: &str, out: &str) -> Result<Vec<u8>, Refusal>
     ensures ok { IfOk result (λ made. IfSome (D.content disk.now file.now) (λ bytes. migrated bytes ≡ Ok made.items)) }
     ensures apart { OnOk result (AreApart (D.entries disk.now) (D.leads disk.now file.now) (D.leads disk.now out.now)) }
     ensures err { IfErr result (λ e. (e ≡ Refusal.File FileFault.Unwritable) ⊎ IfSome (D.content disk.now file.now) (λ bytes. IsBlockFault (D.content disk.now file.now ≡ None) (migrated bytes) e)) }
@@ -388,15 +396,7 @@ fn debug<D: Disk, I: Source, W: Destination>(
     };
     let mut programs = ProgramFiles { disk };
     // Not as it is: the proof answers this arm.
-    match debug_block_to(
-        alloc,
-        has_more,
-        &mut block,
-        &mut programs,
-        call,
-        input,
-        out,
-    ) {
+    match debug_block_to(alloc, has_more, &mut block, &mut programs, call, input, out) {
         Ok(()) => Ok(()),
         Err(refusal) => Err(refusal),
     }

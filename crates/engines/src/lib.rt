@@ -41,7 +41,10 @@ pub use disk::Disk;
 pub use drive::drive_to;
 pub use fault::{FileFault, InputFault, Refusal, SeqFault};
 pub use file_loader::FileLoader;
-pub use laws::migrated_runs_alike;
+pub use laws::{
+    listing_is_assembled_again, migrated_runs_alike, run_prints_what_seq_prints,
+    same_files_print_the_same,
+};
 pub use migrate::migrated_file;
 pub use program_source::Programs;
 pub use reporting::{report, write_refusal};

@@ -1,5 +1,4 @@
 use Rattle.std.proofs.Common.{inr}
-use Rattle.std.proofs.lemmas.Option.{IfSome_then}
 use Rattle.std.proofs.lemmas.Result.{IfErr-weaker}
 use Rattle.engines.proofs.OpenFiles.{asm_refused, source_fault}
 use Rattle.engines.proofs.commands.assembled.Goals as goal

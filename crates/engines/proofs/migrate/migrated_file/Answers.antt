@@ -1,12 +1,8 @@
-use Rattle.std.proofs.Common.{◌≡◌, ◌≤◌, ◌⊎◌, ◌∙◌, Bool, true, false, ℕ, List, lit≤, refl, subst, inl, inr, if◌then◌else◌}
-use Rattle.std.specs.Prelude.{Option, Some, None, IfErr, IfSome, Result, Ok, Err}
-use Rattle.std.specs.Result.{result_map_both}
-use Rattle.block_file.specs.Block.{BlockValue, block_of}
-use Rattle.block_file.specs.Line.{cut}
-use Rattle.block_file.specs.Migrate.{in_second_format, is_first_format, migrated}
+use Rattle.std.proofs.Common.{◌≡◌, ◌⊎◌, ◌∙◌, ℕ, List, subst, inl, inr}
+use Rattle.std.specs.Prelude.{Option, Some, None, IfSome}
+use Rattle.block_file.specs.Migrate.{migrated}
 use Rattle.block_file.specs.declared.fault.BlockFault.{BlockFault}
-use Rattle.block_file.specs.declared.fault.Cause.TheVariants.{BadHeader, Memory}
-use Rattle.block_file.proofs.Blocks.{from_first}
+use Rattle.block_file.specs.declared.fault.Cause.TheVariants.{Memory}
 use Rattle.engines.specs.declared.fault.FileFault.TheVariants.{Unreadable}
 use Rattle.engines.specs.declared.fault.Refusal.{Refusal}
 use Rattle.engines.specs.declared.fault.Refusal.TheVariants.{Block, File}
