@@ -19,7 +19,7 @@ use Rattle.sqlite_store.specs.Listing.{IsOurs}
 use Rattle.sqlite_store.specs.Opening.{IsEmptyFile, IsFresh}
 use Rattle.sqlite_store.proofs.BuildLemmas.{new_is_empty}
 use Rattle.session_disk.specs.Tables.{session_schema}
-use Rattle.session_disk.specs.Sessions.{page_size, AreFoundIn, BeginsWell, IsBegun, IsSession}
+use Rattle.session_disk.specs.Sessions.{page_size, AreFoundIn, BeginsWell, IsBereft, IsCutShort, IsSession}
 
 -- a database of a session lists its tables
 pub has_rows : (pages : PageMap) → IsOurs page_size true session_schema pages → ¬ (rows_at page_size (in_use page_size pages) Table 1 ≡ [])
@@ -46,46 +46,60 @@ not_blank image pages found begins other now blank =
     let gate = first_byte page_size (omega arith) in
     begun_is_not_blank (sealed (first_page page_size)) first page_size other now.stored now.found is len (omega arith) (byte ∙ sym gate) (λ none. let never = sym gate ∙ none in omega arith) blank
 
+-- files that stand for pages have a database file
+pub not_bereft : (size : ℕ) (image : Image) (pages : PageMap) → Recovers size image pages → ¬ IsBereft image
+not_bereft size image pages found (none, log) = let some = found.found.present in omega (arith, some, none)
+
+-- nor are files that are not blank
+pub some_not_bereft : (image : Image) → ¬ IsBlankFile page_size image → ¬ IsBereft image
+some_not_bereft image some (none, log) = some (inl none)
+
+-- files without their database file are no session's
+pub bereft_is_foreign : (image : Image) → IsBereft image → ¬ IsSession image
+bereft_is_foreign image bereft (inl file) = not_bereft page_size image file.pages file.found bereft
+bereft_is_foreign image bereft (inr (inl blank)) = blank.1 bereft
+bereft_is_foreign image bereft (inr (inr empty)) = not_bereft page_size image empty.0 empty.1 bereft
+
 -- files of a session that are not blank stand for pages
 pub some_file : (image : Image) → IsSession image → ¬ IsBlankFile page_size image → (pages : PageMap) × Recovers page_size image pages × ((schema : List Wanted) × IsFile page_size schema pages)
 some_file image (inl file) some = (file.pages, file.found, (session_schema, file.ours.file))
-some_file image (inr (inl blank)) some = absurd (some blank)
+some_file image (inr (inl blank)) some = absurd (some blank.0)
 some_file image (inr (inr empty)) some = (empty.0, empty.1, ([], empty.2.0))
 
 pub some_sound : (image : Image) → IsSession image → ¬ IsBlankFile page_size image → (pages : PageMap) × Recovers page_size image pages × IsSoundFile page_size pages
 some_sound image (inl file) some = (file.pages, file.found, file.ours.file.sound)
-some_sound image (inr (inl blank)) some = absurd (some blank)
+some_sound image (inr (inl blank)) some = absurd (some blank.0)
 some_sound image (inr (inr empty)) some = (empty.0, empty.1, empty.2.0.sound)
 
 -- what stands for the same is a session's, too
 pub same_session : (image now : Image) → IsSession image → ¬ IsBlankFile page_size image → RecoversAs page_size image now → IsSession now
 same_session image now (inl file) some alike = inl (record { pages = file.pages; found = carried page_size image now alike file.pages file.found; ours = file.ours })
-same_session image now (inr (inl blank)) some alike = absurd (some blank)
+same_session image now (inr (inl blank)) some alike = absurd (some blank.0)
 same_session image now (inr (inr empty)) some alike = inr (inr (empty.0, carried page_size image now alike empty.0 empty.1, empty.2))
 
 -- so is what a first open leaves on its way
-pub on_the_way : (image : Image) → IsBlankFile page_size image ⊎ ((pages : PageMap) × Recovers page_size image pages × (IsNew page_size pages ⊎ ∥ IsFresh page_size session_schema pages ∥₁)) → ∥ IsSession image ∥₁
-on_the_way image (inl blank) = ∣ inr (inl blank) ∣₁
+pub on_the_way : (image : Image) → IsBlankFile page_size image ⊎ ((pages : PageMap) × Recovers page_size image pages × (IsNew page_size pages ⊎ ∥ IsFresh page_size session_schema pages ∥₁)) → ∥ IsCutShort image ∥₁
+on_the_way image (inl blank) = ∣ inr blank ∣₁
 on_the_way image (inr made) = elim made.2 [
   | inl new ↦
       let whole : AreWhole page_size made.0 = subst (AreWhole page_size) made.1.shows (trimmed_whole page_size made.1.stored made.1.whole) in
-      ∣ inr (inr (made.0, made.1, new_is_empty page_size made.0 whole new)) ∣₁
-  | inr fresh ↦ ∥∥₁_map fresh (λ it. inl (record { pages = made.0; found = made.1; ours = it.0 }))
+      ∣ inl (inr (inr (made.0, made.1, new_is_empty page_size made.0 whole new))) ∣₁
+  | inr fresh ↦ ∥∥₁_map fresh (λ it. inl (inl (record { pages = made.0; found = made.1; ours = it.0 })))
 ]
 
 -- a session with these pages and no table in them is begun, and one with tables is not
 pub begun_again : (image now : Image) (pages : PageMap) → IsSession image → ¬ IsBlankFile page_size image → Recovers page_size image pages → Recovers page_size now pages
-    → rows_at page_size (in_use page_size pages) Table 1 ≡ [] → IsBegun now
+    → rows_at page_size (in_use page_size pages) Table 1 ≡ [] → IsBlankFile page_size now ⊎ ((same : PageMap) × Recovers page_size now same × IsEmptyFile page_size same)
 begun_again image now pages (inl file) some found again none =
     absurd (has_rows pages (subst (IsOurs page_size true session_schema) (recovers_once page_size image file.pages pages file.found found) file.ours) none)
-begun_again image now pages (inr (inl blank)) some found again none = absurd (some blank)
+begun_again image now pages (inr (inl blank)) some found again none = absurd (some blank.0)
 begun_again image now pages (inr (inr empty)) some found again none = inr (pages, again, subst (IsEmptyFile page_size) (recovers_once page_size image empty.0 pages empty.1 found) empty.2)
 
 pub ours_again : (image now : Image) (pages : PageMap) → IsSession image → ¬ IsBlankFile page_size image → Recovers page_size image pages → Recovers page_size now pages
     → ¬ (rows_at page_size (in_use page_size pages) Table 1 ≡ []) → (same : PageMap) × Recovers page_size now same × IsOurs page_size true session_schema same
 ours_again image now pages (inl file) some found again rows =
     (pages, again, subst (IsOurs page_size true session_schema) (recovers_once page_size image file.pages pages file.found found) file.ours)
-ours_again image now pages (inr (inl blank)) some found again rows = absurd (some blank)
+ours_again image now pages (inr (inl blank)) some found again rows = absurd (some blank.0)
 ours_again image now pages (inr (inr empty)) some found again rows =
     absurd (rows (subst (λ p. rows_at page_size (in_use page_size p) Table 1 ≡ []) (recovers_once page_size image empty.0 pages empty.1 found) empty.2.1))
 
@@ -96,7 +110,7 @@ found_before image now pages found again begins db (inl holds) = inl (∥∥₁_
     record { file = record { pages = h.file.pages; found = subst (Recovers page_size image) (sym same) found; ours = h.file.ours }; rows = h.rows }))
 found_before image now pages found again begins db (inr none) = inr (
   ∥∥₁_map none.0 (λ begun. elim begun [
-    | inl blank ↦ absurd (not_blank image pages found begins now again blank)
+    | inl blank ↦ absurd (not_blank image pages found begins now again blank.0)
     | inr empty ↦
         let same = recovers_once page_size now empty.0 pages empty.1 again in
         inr (empty.0, subst (Recovers page_size image) (sym same) found, empty.2)

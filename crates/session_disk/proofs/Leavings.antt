@@ -11,7 +11,7 @@ use Rattle.sqlite_store.specs.declared.store.open.Unopened.{Unopened}
 use Rattle.sqlite_store.specs.Opening.{IsEmptyFile, IsFresh}
 use Rattle.sqlite_store.specs.Unopened.{Creates, IsAsBefore, IsOnTheWay, IsUnstarted, Opens, image, state_of, wanted_by}
 use Rattle.session_disk.specs.Tables.{session_schema}
-use Rattle.session_disk.specs.Sessions.{page_size, BeginsWell, IsSession}
+use Rattle.session_disk.specs.Sessions.{page_size, BeginsWell, IsBereft, IsCutShort, IsSession}
 use Rattle.session_disk.specs.Opening.{LeavesAs}
 use Rattle.session_disk.proofs.Images.{not_blank, on_the_way, same_session}
 
@@ -33,9 +33,9 @@ module _ {D : Type 0} {g : Ghosts D} (old : Unopened D g) (size : (state_of old)
   sized now before = elim before.same [ inl was ↦ inl was | inr alike ↦ inr (subst (λ n. RecoversAs n (image old) now) size alike) ]
 
   a_session : ¬ IsBlankFile page_size (image old) → IsSession (image old) → (now : Image) → (state_of old).may_leave now ⊎ RecoversAs page_size (image old) now
-      → (state_of old).may_leave now ⊎ ∥ IsSession now ∥₁
+      → (state_of old).may_leave now ⊎ ∥ IsCutShort now ∥₁
   a_session some session now (inl was) = inl was
-  a_session some session now (inr alike) = inr ∣ same_session (image old) now session some alike ∣₁
+  a_session some session now (inr alike) = inr ∣ inl (same_session (image old) now session some alike) ∣₁
 
   -- a database is not opened
   pub not_opened : (new : State) → ¬ IsBlankFile page_size (image old) → Opens old new → LeavesAs (image old) (state_of old).may_leave new.may_leave
@@ -44,15 +44,15 @@ module _ {D : Type 0} {g : Ghosts D} (old : Unopened D g) (size : (state_of old)
     other = λ _ now may. sized now (kept.crash now may);
   }
 
-  way : wanted_by old ≡ session_schema → (now : Image) → IsOnTheWay old now → ∥ IsSession now ∥₁
+  way : wanted_by old ≡ session_schema → (now : Image) → IsOnTheWay old now → ∥ IsCutShort now ∥₁
   way schema now made =
       on_the_way now (subst₂ (λ n s. IsBlankFile n now ⊎ ((pages : PageMap) × Recovers n now pages × (IsNew n pages ⊎ ∥ IsFresh n s pages ∥₁))) size schema made)
 
   -- where there was no database, none is made
-  pub not_made : (new : State) → wanted_by old ≡ session_schema → IsBlankFile page_size (image old) → Creates old new → LeavesAs (image old) (state_of old).may_leave new.may_leave
-  not_made new schema blank kept = record {
+  pub not_made : (new : State) → wanted_by old ≡ session_schema → IsBlankFile page_size (image old) → ¬ IsBereft (image old) → Creates old new → LeavesAs (image old) (state_of old).may_leave new.may_leave
+  not_made new schema blank whole kept = record {
     session = λ _ now may. elim (kept.blank (subst (λ n. IsBlankFile n (image old)) (sym size) blank) now may) [ inl was ↦ inl was | inr made ↦ inr (way schema now made) ];
-    other = λ foreign now may. absurd (foreign (inr (inl blank)));
+    other = λ foreign now may. absurd (foreign (inr (inl (blank, whole))));
   }
 
   -- the files are recovered first

@@ -15,7 +15,7 @@ use Rattle.sqlite_store.specs.Unopened.{IsFullFile, StopsCreating, AreUsable, fi
 use Rattle.session_file.specs.Opening.{IsFresh}
 use Rattle.session_file.specs.Staging.{HasTrees}
 use Rattle.session_disk.specs.Tables.{session_schema}
-use Rattle.session_disk.specs.Sessions.{page_size, AreFoundIn, IsSession}
+use Rattle.session_disk.specs.Sessions.{page_size, AreFoundIn, IsCutShort, IsSession}
 use Rattle.session_disk.specs.declared.fault.OpenFault.{OpenFault}
 use Rattle.session_disk.specs.declared.fault.OpenFault.TheVariants.{Busy, HotJournal, Unreadable, NotASession, Full, Memory}
 use Rattle.session_disk.specs.declared.leftover.Leftover.{Leftover}
@@ -30,10 +30,10 @@ MayFail old new AtLimit Wanted NotASession = ¬ Wanted
 MayFail old new AtLimit Wanted Busy = ⊥
 MayFail old new AtLimit Wanted HotJournal = ⊥
 
--- Where the files held this, a crash leaves of a session what it left before or a session, and of others what it left before or
--- what stands for the same.
+-- Where the files held this, a crash leaves of a session what it left before, a session, or one that is cut while it is made, and
+-- of others what it left before or what stands for the same.
 pub record LeavesAs (image : Image) (old new : Image → Type 0) : Type 0 where
-  pub session : IsSession image → (now : Image) → new now → old now ⊎ ∥ IsSession now ∥₁
+  pub session : IsSession image → (now : Image) → new now → old now ⊎ ∥ IsCutShort now ∥₁
   pub other : ¬ IsSession image → (now : Image) → new now → old now ⊎ RecoversAs page_size image now
 
 -- what reads of the two files return

@@ -25,13 +25,22 @@ pub record IsSessionFile (image : Image) : Type 0 where
   pub found : Recovers page_size image pages
   pub ours : IsOurs page_size true session_schema pages
 
+-- an empty database file beside a log with a commit: it is not the file that the log was written for
+abbrev pub IsBereft : Image → Type 0
+IsBereft image = (length image.db ≡ 0) × ((frames : ℕ) × (0 < frames) × raw.Replays page_size image.log frames)
+
 -- there is no database yet, or a sound one with no table
 abbrev pub IsBegun : Image → Type 0
-IsBegun image = IsBlankFile page_size image ⊎ ((pages : PageMap) × Recovers page_size image pages × IsEmptyFile page_size pages)
+IsBegun image = (IsBlankFile page_size image × ¬ IsBereft image) ⊎ ((pages : PageMap) × Recovers page_size image pages × IsEmptyFile page_size pages)
 
 -- a session left them, wherever it was cut
 abbrev pub IsSession : Image → Type 0
 IsSession image = IsSessionFile image ⊎ IsBegun image
+
+-- what a session or the making of its database leaves where it is cut. The kit says of such a making that there may be no database
+-- yet, and not what is in the log then
+abbrev pub IsCutShort : Image → Type 0
+IsCutShort image = IsSession image ⊎ IsBlankFile page_size image
 
 -- the tables of a session hold these rows
 pub record HoldsRows (image : Image) (db : Trees) : Type 0 where

@@ -1,15 +1,16 @@
 //! Opening the files of a session, or making them.
 
-ghost use Rattle.std.specs.Prelude.{◌≡◌, ◌≤◌, ◌↔◌, false, IfErr, IfOk, IsTrue, OnOk};
+ghost use Rattle.std.specs.Prelude.{◌≡◌, ◌≤◌, ◌↔◌, false, length, IfErr, IfOk, IsTrue, OnOk};
+ghost use Rattle.sqlite_disk.specs.Disk.{CountsFault};
 ghost use Rattle.sqlite_wal.specs.Recovery.{Image};
-ghost use Rattle.sqlite_wal.specs.Reads.{AreClean, OnlyReads};
+ghost use Rattle.sqlite_wal.specs.Reads.{AreClean, IsClean as IsCleanFile, OnlyReads};
 ghost use Rattle.sqlite_wal.specs.Files.{IsHuge};
 ghost use Rattle.sqlite_wal.specs.PageSize.{bytes_of};
 ghost use Rattle.sqlite_pool.specs.Opening.{IsBlankFile};
 ghost use Rattle.sqlite_trees.specs.View.{IsClean};
 ghost use Rattle.sqlite_store.specs.FileStore.{is_shielded, state, view};
 ghost use Rattle.sqlite_store.specs.Unopened.{Creates, IsUnstarted, StopsCreating, files_of, image, state_of};
-ghost use Rattle.session_disk.specs.Sessions.{page_size, BeginsWell, IsSession, IsSessionFile};
+ghost use Rattle.session_disk.specs.Sessions.{page_size, BeginsWell, IsBereft, IsSession, IsSessionFile};
 ghost use Rattle.session_file.specs.Opening.{IsFresh};
 ghost use Rattle.session_disk.specs.Opening.{FailsToOpen, IsCleanLeft, IsFullNow, IsOpened, IsUnopened, LeavesAs, LeavesFiles, MayFail, faults_of, image_of};
 
@@ -20,8 +21,9 @@ use sqlite_disk::{Disk, Files};
 use sqlite_pager::{Options, Pager};
 use sqlite_pool::probe_blank;
 use sqlite_store::{FileStore, Unopened};
-use sqlite_wal::{PageSize, probe_first_page};
+use sqlite_wal::{PageSize, probe_first_page, probe_frames};
 use std::alloc::{AllocFailed, Global};
+use std::io;
 
 /// The number of bytes in a page.
 const PAGE_SIZE: usize = 4096;
@@ -74,6 +76,39 @@ fn check_first_byte<D: Disk>(alloc: Global, files: &mut Files<D>) -> Result<(), 
     Ok(())
 }
 
+/// Refuses an empty database file beside a log that has a commit: the log was written for another file, which was taken away.
+fn check_log<D: Disk>(alloc: Global, files: &mut Files<D>) -> Result<(), OpenFault>
+    requires log { IsTrue (D.Disk.is_usable files.old.log) }
+    requires db { IsTrue (D.Disk.is_usable files.old.db) }
+    ensures whole { OnOk result (AreClean D.Disk files.new.log files.new.db → ¬ IsBereft (image_of D.Disk files.old)) }
+    ensures cause { IfErr result (λ e. AreClean D.Disk files.new.log files.new.db → MayFail (faults_of D.Disk files.old) (faults_of D.Disk files.new) (IsHuge page_size (image_of D.Disk files.old)) (IsSession (image_of D.Disk files.old)) e) }
+    ensures counts { faults_of D.Disk files.old ≤ faults_of D.Disk files.new }
+    ensures log { OnlyReads D.Disk files.old.log files.new.log }
+    ensures db { OnlyReads D.Disk files.old.db files.new.db }
+{
+    match is_empty(&mut files.db) {
+        Ok(true) => {}
+        Ok(false) => return Ok(()),
+        Err(error) => return Err(probe_fault(sqlite_wal::Error::Io(error))),
+    }
+    match probe_frames(alloc, &mut files.log, session_page_size()) {
+        Ok(frames) if frames.as_slice().is_empty() => Ok(()),
+        Ok(_) => Err(OpenFault::NotASession),
+        Err(sqlite_wal::Error::Corrupt) => Ok(()),
+        Err(error) => Err(probe_fault(error)),
+    }
+}
+
+/// Whether a file has no byte.
+fn is_empty<D: Disk>(file: &mut D) -> io::Result<bool>
+    requires { IsTrue (D.Disk.is_usable file.old) }
+    ensures ok { IfOk result (λ b. IsCleanFile D.Disk file.new → (IsTrue b ↔ (length (D.Disk.seen file.old) ≡ 0))) }
+    ensures faults { CountsFault result (D.Disk.faults file.old) (D.Disk.faults file.new) }
+    ensures same { OnlyReads D.Disk file.old file.new }
+{
+    Ok(file.len()? == 0)
+}
+
 /// The files with the tables that they are to have, or as they were where memory ran out.
 fn unopened<D: Disk>(alloc: Global, files: Files<D>, seed: u64) -> Result<Unopened<D>, Files<D>>
     requires log { IsTrue (D.Disk.is_usable files.log) }
@@ -98,7 +133,8 @@ fn unopened<D: Disk>(alloc: Global, files: Files<D>, seed: u64) -> Result<Unopen
 
 /// Makes the tables where there is no database, or one with no table.
 fn make<D: Disk>(files: Unopened<D>) -> Result<FileStore<D>, (OpenFault, Unopened<D>)>
-    requires { IsUnopened files }
+    requires unopened { IsUnopened files }
+    requires whole { IsTrue (state_of files).is_clean → ¬ IsBereft (image files) }
     ensures ok { IfOk result (λ store. IsTrue (view store).is_clean → IsOpened (image files) store) }
     ensures honest { IfOk result (λ store. IsTrue (view store).is_clean → IsTrue (state_of files).is_clean) }
     ensures guarded { IfOk result (λ store. IsTrue (view store).is_clean → is_shielded store) }
@@ -134,10 +170,10 @@ fn adopt<D: Disk>(mut files: Unopened<D>) -> Result<FileStore<D>, (OpenFault, Un
     }
 }
 
-/// Makes the database of files that hold none.
+/// Makes the database of files that hold none. An empty database file beside a log with a commit is refused.
 fn make_files<D: Disk>(
     alloc: Global,
-    files: Files<D>,
+    mut files: Files<D>,
     seed: u64,
 ) -> Result<FileStore<D>, (OpenFault, Leftover<D>)>
     requires log { IsTrue (D.Disk.is_usable files.log) }
@@ -149,6 +185,9 @@ fn make_files<D: Disk>(
     ensures cause { IfErr result (λ e. IsCleanLeft e.1 → FailsToOpen files e.1 e.0) }
     ensures unharmed { IfErr result (λ e. IsCleanLeft e.1 → LeavesFiles files e.1) }
 {
+    if let Err(fault) = check_log(alloc, &mut files) {
+        return Err((fault, Leftover::Files(files)));
+    }
     let fresh = match unopened(alloc, files, seed) {
         Ok(fresh) => fresh,
         Err(rest) => return Err((OpenFault::Memory, Leftover::Files(rest))),
@@ -189,7 +228,7 @@ fn adopt_files<D: Disk>(
 
 /// Opens the log and the database file as the store of a session. Where they hold no database, or one with no table, the tables
 /// are made; they have no rows then. Files that a session left are refused only for memory, a fault of the disk or a limit of
-/// the format. Where files are refused they are given back: a crash then leaves those of a session as such files, and others so
+/// the format. An empty database file beside a log with a commit is refused, and no session's. Where files are refused they are given back: a crash then leaves those of a session as such files, and others so
 /// that they stand for what they stood for.
 pub fn open_files<D: Disk>(
     alloc: Global,
