@@ -321,6 +321,14 @@ def killed(run: Run) -> None:
     run.note(last_lines(done.out, 1))
 
 
+def faults(run: Run) -> None:
+    """Files of others, locked files, files that sqlite3 changed, other settings and full disks: each is refused by its name, or read."""
+    done = command([*tool_words("store-faults"), run.program, "--seed", str(run.setting.seed)])
+    wrong = [line for line in done.out.splitlines() if "; BAD, " in line]
+    holds(done.status == 0, " | ".join(wrong[:3]) or last_lines(done.errors), "no bad trial")
+    run.note(last_lines(done.out, 1))
+
+
 def synced(run: Run) -> None:
     """Before each answer to a request that changes something, two syncs, which strace sees."""
     path, log, (program, frame) = run.place / "file", run.place / "log", counter()
@@ -416,6 +424,7 @@ def cases() -> list[Case]:
         Case("session over a file: refused files", refused_files, cost=2),
         Case("session over a file: damage", damaged, cost=2),
         Case("session over a file: a dozen kills", killed, cost=6),
+        Case("session over a file: faults of files and disks", faults, cost=18),
         Case("session over a file: two syncs before an answer", synced, (Tool.STRACE,)),
         Case("three nodes have one digest", nodes, cost=5),
         Case("cluster: tests of its parts", lambda run: cluster_tests(run, "test_parts"), cost=2),
