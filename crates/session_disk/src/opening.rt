@@ -89,7 +89,7 @@ fn check_log<D: Disk>(alloc: Global, files: &mut Files<D>) -> Result<(), OpenFau
     match is_empty(&mut files.db) {
         Ok(true) => {}
         Ok(false) => return Ok(()),
-        Err(error) => return Err(probe_fault(sqlite_wal::Error::Io(error))),
+        Err(io::Error { .. }) => return Err(OpenFault::Unreadable),
     }
     match probe_frames(alloc, &mut files.log, session_page_size()) {
         Ok(frames) if frames.as_slice().is_empty() => Ok(()),
