@@ -24,8 +24,8 @@ class Pipes:
     """A process. As a context it is killed at the end."""
 
     def __init__(self, words: Sequence[str | Path], *, folder: Path = Path(), is_as_here: bool = False) -> None:
-        """Starts the process in a folder. `is_as_here` says that the process ignores the signals that Python ignores: SIGPIPE and SIGXFSZ. Otherwise Python resets
-        them before the process begins."""
+        """Starts the process in a folder. `is_as_here` says that it ignores the signals that Python ignores: SIGPIPE and SIGXFSZ.
+        Otherwise Python resets them before the process begins."""
         pipe = subprocess.PIPE
         self.process = subprocess.Popen(
             words, cwd=folder, stdin=pipe, stdout=pipe, stderr=pipe, restore_signals=not is_as_here

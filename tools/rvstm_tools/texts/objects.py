@@ -1,4 +1,4 @@
-"""A result as lines of JSON: an object for each call, for each key of the storage, and for the end (docs/formats.md has the schema)."""
+"""A result as lines of JSON: an object for each call, for each key of the storage, and for the end (docs/formats.md)."""
 
 import json
 from collections.abc import Iterable, Iterator
