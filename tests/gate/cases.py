@@ -57,7 +57,7 @@ class Case:
     name: str
     run: Callable[[Run], None]
     needs: Sequence[Tool] = ()
-    seconds: int = 60
+    seconds: int = 150
     """It may take so long on a processor of its own, over the built program."""
     needs_library: bool = False
     needs_speed: bool = False

@@ -242,6 +242,6 @@ def cases() -> list[Case]:
     found += parts("waits", block_waits, [f"blocks/{name}.block" for name in blocks], 1, 6)
     found += parts("waits", block_waits, [f"{name}/block" for name in whole[::ONE_IN]], 5, 4)
     found += parts("instructions", torture, sorted(path.stem for path in (FOLDER / "torture").glob("*.s")), 7, 3)
-    found.append(Case("at random: damaged files", fuzzed, seconds=90, cost=RANDOM_SECONDS, needs_speed=True))
-    found.append(Case("at random: blocks and sessions by workers", stressed, seconds=90, cost=RANDOM_SECONDS))
+    found.append(Case("at random: damaged files", fuzzed, cost=RANDOM_SECONDS, needs_speed=True))
+    found.append(Case("at random: blocks and sessions by workers", stressed, cost=RANDOM_SECONDS))
     return found

@@ -332,6 +332,8 @@ def faults(run: Run) -> None:
 def synced(run: Run) -> None:
     """Before each answer to a request that changes something, two syncs, which strace sees."""
     path, log, (program, frame) = run.place / "file", run.place / "log", counter()
+    if command(["strace", "-o", log, "true"]).status:
+        raise Lacks("strace that may trace here")
     changes = [asks("program", program), asks("frame", frame), asks("frame", b""), asks("begin", DUMP, "0", ZEROS), asks("frame", frame)]
     changes.append(asks("forget", None, name_of(program).decode()))
     watched: list[Word] = ["strace", "-f", "-s", "64", "-e", "trace=fdatasync,fsync,write", "-o", log]
@@ -339,11 +341,8 @@ def synced(run: Run) -> None:
         for request in [asks("state"), *changes]:
             session.ask(request)
         session.end()
-    lines = log.read_bytes().splitlines()
-    if not any(b"write(1," in line for line in lines):
-        raise Lacks("strace that may trace here")
     counts, syncs = [], 0
-    for line in lines:
+    for line in log.read_bytes().splitlines():
         syncs += bool(SYNC.search(line))
         if re.search(rb' write\(1, "(?:ok|refused) ', line):
             counts.append(syncs)
