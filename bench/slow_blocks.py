@@ -17,6 +17,7 @@ from machine_code import PAGE, WORD, Segment
 
 GAS = 10_000_000  # the most that a call may have
 MOST_CALLS, MOST_PROGRAMS, MOST_INPUT, MOST_KEYS, LONGEST_VALUE = 1_024, 64, 4_096, 256, 256
+DATA = code.FIRST_ADDRESS + PAGE
 NO_END = word(2**32 - 1)  # rounds that are not reached
 
 Call = tuple[int, int, bytes]  # the number of its program, its gas and its input
@@ -89,33 +90,35 @@ def short(program: str | bytes, gas: int, data: bytes = b"") -> Callable[[int], 
     return lambda _: Content([program], [(0, gas, data)] * MOST_CALLS)
 
 
-def trap(data: bytes = b"") -> bytes:
-    """A program that traps at once."""
-    return code.program_file(code.FIRST_ADDRESS, bytes(WORD), [Segment(code.FIRST_ADDRESS, 0, WORD, code.READ | code.EXECUTE)])
+TRAP = (0,)  # an illegal word
 
 
-def toucher(filled: int = 0, seed: int = 0) -> bytes:
-    """A program that stores a word to each page that it may, and traps. Of its data so many pages are filled from the file, and are
-    mapped to six places."""
-    data, end = code.FIRST_ADDRESS + PAGE, code.END_ADDRESS
-    words = [*code.constant(5, data), *code.constant(6, end), *code.constant(7, PAGE)]
-    words += [code.stored("sw", 6, 5, 0), code.computed("add", 5, 5, 7), code.branch("bne", 5, 6, -2 * WORD), 0]
+def touching() -> list[int]:
+    """The words that store to each page that a call may store to, and trap."""
+    words = [*code.constant(5, DATA), *code.constant(6, code.END_ADDRESS), *code.constant(7, PAGE)]
+    words += [code.stored("sw", 6, 5, 0), code.computed("add", 5, 5, 7), code.branch("bne", 5, 6, -2 * WORD)]
+    return [*words, *TRAP]
+
+
+def paged(words: Sequence[int], filled: int = 0, seed: int = 0) -> bytes:
+    """A program of these words, with all pages of data that it may have. So many of them are filled from the file, and are mapped to
+    six places."""
     text, content = code.text_of(words), random.Random(seed).randbytes(filled * PAGE)
     rights = code.READ | code.WRITE
     segments = [Segment(code.FIRST_ADDRESS, 0, len(text), code.READ | code.EXECUTE)]
     for place in range(6 if filled else 0):
-        segments.append(Segment(data + place * len(content), len(text), len(content), rights))
-    rest = data + (len(segments) - 1) * len(content)
+        segments.append(Segment(DATA + place * len(content), len(text), len(content), rights))
+    rest = DATA + (len(segments) - 1) * len(content)
     segments.append(Segment(rest, 0, 0, rights, code.INPUT_ADDRESS - rest))
     return code.program_file(code.FIRST_ADDRESS, text + content, segments)
 
 
-def many(data: bytes = b"") -> Callable[[int], Content]:
-    """Calls of as many programs as there may be, each with its own pages, in turn."""
+def many(words: Sequence[int], count: int, data: bytes = b"") -> Callable[[int], Content]:
+    """So many calls of as many programs as there may be, each with its own pages, in turn."""
 
     def make(_: int) -> Content:
-        programs = [toucher(slow_programs.MOST_PAGES, number) for number in range(MOST_PROGRAMS)]
-        return Content(programs, [(number % MOST_PROGRAMS, 10_000, data) for number in range(MOST_CALLS)])
+        programs = [paged(words, slow_programs.MOST_PAGES, number) for number in range(MOST_PROGRAMS)]
+        return Content(programs, [(number % MOST_PROGRAMS, 10_000, data) for number in range(count)])
 
     return make
 
@@ -184,11 +187,12 @@ BLOCKS = (
     Block("jumps", "jump to another of 217 pages each time", Share.GAS, (SEQ,), drawn("jumps")),
     Block("random", "random operations over 203 pages", Share.GAS, (SEQ,), drawn("random")),
     Block("writes", "write 256 bytes to each of 256 keys of their own", Share.GAS, (SEQ, RUN), writes),
-    Block("traps", "trap at once", Share.CALL, (SEQ, RUN), short(trap(), 1)),
-    Block("inputs", "the same with inputs of 4,096 bytes", Share.CALL, (SEQ, RUN), short(trap(), 1, bytes(MOST_INPUT))),
-    Block("pages", "store to 255 pages, and trap", Share.CALL, (SEQ, RUN), short(toucher(), 10_000)),
-    Block("programs", "the same, of 64 programs with 186 pages each", Share.CALL, (SEQ, RUN), many()),
-    Block("short", "the same with inputs of 4,096 bytes", Share.CALL, (SEQ, RUN), many(bytes(MOST_INPUT))),
+    Block("traps", "trap at once", Share.CALL, (SEQ, RUN), short(paged(TRAP), 1)),
+    Block("inputs", "the same with inputs of 4,096 bytes", Share.CALL, (SEQ, RUN), short(paged(TRAP), 1, bytes(MOST_INPUT))),
+    Block("loads", "64 calls that trap at once, each of a program of its own", Share.CALL, (SEQ, RUN), many(TRAP, MOST_PROGRAMS)),
+    Block("pages", "store to 255 pages, and trap", Share.CALL, (SEQ, RUN), short(paged(touching()), 10_000)),
+    Block("programs", "the same of 64 programs, with 186 pages from the file each", Share.CALL, (SEQ, RUN), many(touching(), MOST_CALLS)),
+    Block("short", "the same with inputs of 4,096 bytes", Share.CALL, (SEQ, RUN), many(touching(), MOST_CALLS, bytes(MOST_INPUT))),
     Block("one-sum", "1,008 add to a key, 2 read it again and again", Share.GAS, RUNS, one_sum),
     Block("two-sums", "504 add to each of two keys, 2 read both in turn", Share.GAS, RUNS, two_sums),
     Block("sums", "500 add to the same 256 keys, 500 read each once", Share.GAS, RUNS, table_of_sums),
