@@ -314,7 +314,7 @@ fn open_apart<'a, D: Disk>(
         path: file,
         file: None,
     };
-    if found.open().is_err() {
+    if found.open_file().is_err() {
         return Err(Refusal::File(FileFault::Unreadable));
     }
     match disk.is_one_file(file, out) {

@@ -86,7 +86,7 @@ impl<'a, D: Disk> NamedFile<'a, D> {
     }
 
     /// Opens the file where it was not yet, and reads nothing of it: it shows the same bytes as before.
-    pub(crate) fn open(&mut self) -> io::Result<()>
+    pub(crate) fn open_file(&mut self) -> io::Result<()>
         ensures bytes { OnOk result (IfSome (bytes_of D.File.remaining (D.content self.old.disk.now self.old.path.now) self.old.file) (λ bytes. bytes_of D.File.remaining (D.content self.new.disk.now self.new.path.now) self.new.file ≡ Some bytes)) }
         ensures readable { OnOk result (may_fail_of D.File.may_fail (D.content self.new.disk.now self.new.path.now) self.new.file → may_fail_of D.File.may_fail (D.content self.old.disk.now self.old.path.now) self.old.file) }
         ensures refused { OnErr result (may_fail_of D.File.may_fail (D.content self.old.disk.now self.old.path.now) self.old.file) }

@@ -97,7 +97,7 @@ fn run_job<T: Threads + Wait + Sync>(
     let calls = block.calls().len();
     let mut executor = Executor::new(alloc);
     let receipts = executor.run_on(threads, alloc, &mut store, block, workers)?;
-    let Ok(did) = counts_of(alloc, executor.shares()) else {
+    let Ok(did) = counts_by_share(alloc, executor.shares()) else {
         return Err(RunFault::Memory);
     };
     let counts = RunCounts {
@@ -112,7 +112,7 @@ fn run_job<T: Threads + Wait + Sync>(
 }
 
 /// What each worker did, by its share; refused where memory ran out.
-fn counts_of(alloc: Global, shares: &[Share]) -> Result<Vec<Counts>, AllocError>
+fn counts_by_share(alloc: Global, shares: &[Share]) -> Result<Vec<Counts>, AllocError>
     ensures { IfOk result (λ did. did.items ≡ map (λ share. share.counts) shares.now) }
 {
     let mut did = Vec::with_capacity(alloc, shares.len())?;

@@ -1,5 +1,5 @@
 use Rattle.std.proofs.Common.{◌≡◌, ◌++◌, drop, map}
-use Rattle.engines.proofs.run.counts_of.Given as goal
+use Rattle.engines.proofs.run.counts_by_share.Given as goal
 
 -- the counts so far, and those of the shares that are left, make the counts
 abbrev pub invariant-loop-share : goal.invariant-loop-share
