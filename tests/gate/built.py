@@ -22,7 +22,15 @@ from rvstm_tools.programs import checkouts
 from rvstm_tools.programs.checkouts import Checkout
 from rvstm_tools.releases.products import Product, Products
 
-OF_LIBRARY = (Product.ARCHIVE, Product.SHARED)
+PROGRAM, OF_LIBRARY = Product.PROGRAM, (Product.ARCHIVE, Product.SHARED)
+
+
+def are_noted(*made: Product) -> bool:
+    """Whether what the checkout builds is there as its sources make it, so that nothing of it is proved again."""
+    checkout = Checkout(TOP)
+    products = Products(checkout)
+    sums = {crate: checkout.sum_of_sources(checkout.crates_of(crate)) for crate in {product.crate for product in made}}
+    return all(checkouts.is_built(products.path(product), sums[product.crate]) for product in made)
 
 
 def libraries_of_kit(checkout: Checkout) -> list[str]:
@@ -66,11 +74,9 @@ def build_library(checkout: Checkout, products: Products) -> None:
 
 def take_over(checkout: Checkout, has_older: bool) -> None:
     """Notes what is built of which sources, and builds the library for C, if that is not done."""
-    products = Products(checkout)
-    program = products.path(Product.PROGRAM)
-    checkouts.note_built(program, checkout.sum_of_sources(checkout.crates_of(Product.PROGRAM.crate)))
-    sources = checkout.sum_of_sources(checkout.crates_of(CRATE))
-    if all(checkouts.is_built(products.path(product), sources) for product in OF_LIBRARY):
+    products, sources = Products(checkout), checkout.sum_of_sources(checkout.crates_of(CRATE))
+    checkouts.note_built(products.path(PROGRAM), checkout.sum_of_sources(checkout.crates_of(PROGRAM.crate)))
+    if are_noted(*OF_LIBRARY):
         return
     if has_older:
         if subprocess.run(tool_words("library"), stdout=subprocess.DEVNULL).returncode:

@@ -7,6 +7,7 @@ from collections.abc import Callable, Sequence
 
 
 from gate import pages
+from gate.built import OF_LIBRARY, PROGRAM, are_noted
 from gate.calls import command, rvstm, tool, tool_words
 from gate.cases import TOP, Case, Differs, Run, holds, same
 from gate.machine import Tool
@@ -265,21 +266,22 @@ def preview(run: Run) -> None:
 
 
 def example(run: Run) -> None:
-    """The example by the proved program, which is there at once after the gate."""
-    if not run.setting.is_preview and run.program == TOP / "crates/rvstm/out/rvstm":
+    """The example by the proved program, if that is noted as proved of these sources: then it starts at once."""
+    if are_noted(PROGRAM):
         printed(tool(run, "example", "counter").done(), COUNTED)
     unknown(run, "example")
 
 
 def library(run: Run) -> None:
-    """Help alone: the cases of the library run it, and the gate builds it."""
+    """A wrong command line: the gate builds the library, and the cases of the library use it."""
     same(tool(run, "library", "what").status, 2)
 
 
 def release(run: Run) -> None:
-    """The files of a release, if this checkout has the program and the library as its sources make them, which the gate sees to."""
+    """The files of a release, if this checkout has the program and the library as its sources make them, and nothing was changed."""
     folder = run.place / "release"
-    if run.setting.library and run.program == TOP / "crates/rvstm/out/rvstm" and (run.program.parent / "rvstm.sources").is_file():
+    is_clean = not command(["git", "-C", TOP, "status", "--porcelain"]).out
+    if is_clean and are_noted(PROGRAM, *OF_LIBRARY):
         tool(run, "release", folder).done()
         command(["sha256sum", "--check", "--quiet", "SHA256SUMS"], folder).done()
     else:
