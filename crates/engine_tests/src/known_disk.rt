@@ -128,7 +128,14 @@ fn prints<T: Threads + Wait + Sync>(
 fn a_known_file_is_printed(rt: HostRuntime) -> Result<(), Fail> {
     let file = elf_of(rt.alloc(), ECHO)?;
     let listed = "rvstm dis echo.elf";
-    let is_right = prints(&rt, rt.alloc(), listed, "echo.elf", file.as_slice(), ECHO_LISTING)?;
+    let is_right = prints(
+        &rt,
+        rt.alloc(),
+        listed,
+        "echo.elf",
+        file.as_slice(),
+        ECHO_LISTING,
+    )?;
     assert_right(&rt, is_right, listed);
     for line in ["rvstm seq one.block", "rvstm run one.block --workers 3"] {
         let is_right = prints(&rt, rt.alloc(), line, "one.block", BLOCK.as_bytes(), RESULT)?;

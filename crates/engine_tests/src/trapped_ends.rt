@@ -46,7 +46,11 @@ const LINES: &[&str] = &[
 fn disk_of_traps(alloc: Global) -> io::Result<Stored> {
     let stored = Stored::new(alloc, usize::MAX);
     stored.put(alloc, "illegal.elf", elf_of(alloc, ILLEGAL)?.as_slice())?;
-    stored.put(alloc, "breakpoint.elf", elf_of(alloc, BREAKPOINT)?.as_slice())?;
+    stored.put(
+        alloc,
+        "breakpoint.elf",
+        elf_of(alloc, BREAKPOINT)?.as_slice(),
+    )?;
     stored.put(alloc, "traps.block", BLOCK.as_bytes())?;
     Ok(stored)
 }
