@@ -10,7 +10,7 @@ ghost use Rattle.engines.specs.Opened.{Asks};
 ghost use Rattle.engines.specs.Stores.{Abandon, Close, Open, StoreOrder};
 ghost use Rattle.session_disk.specs.Closing.{AreLeftFolded, MayFailToClose};
 
-use session_disk::{NamedDisk, NewLog, OpenFault, SystemFolder, abandon, close_files, open_path};
+use session_disk::{NewLog, OpenFault, SystemFolder, abandon, close_files, open_path};
 use session_states::StoreFault;
 use sqlite_disk::{Disk as StoreDisk, Files, Wary};
 use sqlite_std_file::FileFrom;
@@ -61,9 +61,6 @@ pub trait SessionStores {
         ensures asks { Asks (asked self.old) (asked self.new) (Abandon ∷ []) };
 }
 
-/// A file of the system, which looks at the names of a session's files at each sync.
-type StoreFile<'a> = NamedDisk<FileFrom<Wary>, SystemFolder<'a>>;
-
 /// The stores of the system's files. Each commit is synced twice.
 #[derive(Drop)]
 pub struct SystemStores<'a> {
@@ -72,33 +69,33 @@ pub struct SystemStores<'a> {
 }
 
 impl<'a> SessionStores for SystemStores<'a> {
-    type Kept = FileStore<StoreFile<'a>>;
+    type Kept = FileStore<FileFrom<Wary>>;
 
-    type Files = Files<StoreFile<'a>>;
+    type Files = Files<FileFrom<Wary>>;
 
     type Log = NewLog;
 
     ghost asked = { λ _. None };
 
-    ghost are_folded = { AreLeftFolded ⟦<StoreFile<'a> as StoreDisk>⟧ };
+    ghost are_folded = { AreLeftFolded ⟦<FileFrom<Wary> as StoreDisk>⟧ };
 
-    fn open_store(&mut self, path: &str) -> Result<(FileStore<StoreFile<'a>>, NewLog), OpenFault> {
+    fn open_store(&mut self, path: &str) -> Result<(FileStore<FileFrom<Wary>>, NewLog), OpenFault> {
         let mut folder = SystemFolder { rt: self.rt };
         open_path(self.rt, &mut folder, path, Wary)
     }
 
     fn close_store(
         &mut self,
-        store: FileStore<StoreFile<'a>>,
-    ) -> Result<Files<StoreFile<'a>>, (StoreError, FileStore<StoreFile<'a>>)> {
+        store: FileStore<FileFrom<Wary>>,
+    ) -> Result<Files<FileFrom<Wary>>, (StoreError, FileStore<FileFrom<Wary>>)> {
         close_files(store)
     }
 
     fn abandon_store(
         &mut self,
-        store: FileStore<StoreFile<'a>>,
+        store: FileStore<FileFrom<Wary>>,
         log: NewLog,
-    ) -> Result<Files<StoreFile<'a>>, (StoreError, FileStore<StoreFile<'a>>)> {
+    ) -> Result<Files<FileFrom<Wary>>, (StoreError, FileStore<FileFrom<Wary>>)> {
         let mut folder = SystemFolder { rt: self.rt };
         abandon(&mut folder, store, log)
     }

@@ -6,5 +6,3 @@ pub mod Adoptions
 pub mod Stores
 pub mod Readings
 pub mod Removals
-pub mod Frozen
-pub mod Missing

@@ -4,5 +4,3 @@ pub mod Sessions
 pub mod Opening
 pub mod Closing
 pub mod Logs
-pub mod Looks
-pub mod Named
