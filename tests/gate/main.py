@@ -35,7 +35,6 @@ def parser() -> argparse.ArgumentParser:
     )
     made.add_argument("program", nargs="?", type=Path, metavar="PROGRAM", help="the built program")
     made.add_argument("--preview", action="store_true", help="the unproved program, which is made first if it is not there")
-    made.add_argument("--library", type=Path, metavar="FOLDER", help="the folder of the library for C (crates/rvstm_c/out/embedded)")
     made.add_argument("--only", metavar="WORD", default="", help="the cases alone whose names have this")
     made.add_argument("--jobs", type=int, metavar="N", help="so many cases at once (one for each processor)")
     made.add_argument("--seed", type=int, metavar="N", help="of what is made at random; it is printed")
@@ -50,10 +49,9 @@ def setting_of(given: argparse.Namespace) -> Setting:
     program: Path = PREVIEW if given.preview else given.program
     if not program.is_file() or not os.access(program, os.X_OK):
         raise SystemExit(f"tests/run: {program}: no program")
-    folder: Path = given.library or LIBRARY
     seed = random.randrange(1 << 32) if given.seed is None else given.seed
-    has_library = (folder / "librvstm.a").is_file() and (folder / "librvstm.so").is_file()
-    return Setting(program.resolve(), folder.resolve() if has_library else None, given.preview, seed)
+    has_library = (LIBRARY / "librvstm.a").is_file() and (LIBRARY / "librvstm.so").is_file()
+    return Setting(program.resolve(), LIBRARY if has_library else None, given.preview, seed)
 
 
 def make_preview() -> None:
