@@ -69,10 +69,12 @@ class Linker:
 
 def build(checkout: Checkout) -> None:
     """Proves and builds the library, if that is not done yet, and links it."""
-    proving.need_rt()
     crates = checkout.crates_of(CRATE)
-    proving.tell(f"the library is proved and built first, {len(crates)} crates: from nothing 15 minutes or more")
     sources, products = checkout.sum_of_sources(crates), Products(checkout)
+    if all(checkouts.is_built(products.path(product), sources) for product in (Product.ARCHIVE, Product.SHARED)):
+        return
+    proving.need_rt()
+    proving.tell(f"the library is proved and built first, {len(crates)} crates: from nothing 15 minutes or more")
     Prover(checkout, CRATE, ["lib"]).prove()
     products.path(Product.ARCHIVE).parent.mkdir(parents=True, exist_ok=True)
     Linker(products).link()
