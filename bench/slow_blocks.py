@@ -14,6 +14,7 @@ import machine_code as code
 import slow_programs
 from block_texts import key, word
 from machine_code import PAGE, WORD, Segment
+from rvstm_tools.texts.keys import KEY_LENGTH
 
 GAS = 10_000_000  # the most that a call may have
 MOST_CALLS, MOST_PROGRAMS, MOST_INPUT, MOST_KEYS, LONGEST_VALUE = 1_024, 64, 4_096, 256, 256
@@ -149,9 +150,9 @@ def one_sum(_: int) -> Content:
 
 
 def two_sums(_: int) -> Content:
-    """504 calls that add to each of two keys, and two that read both in turn again and again."""
-    adds = [(0, 1_000, key(1 + number % 2)) for number in range(1_008)]
-    return Content(["bump", "turns"], adds + [(1, GAS, key(1) + key(2))] * 2)
+    """1,008 calls that add to two keys, and two that read both in turn again and again."""
+    both = b"".join(word(number).ljust(KEY_LENGTH, b"\0") for number in (0, 1))
+    return Content(["sweep", "turns"], [(0, 10_000, word(2) + word(0))] * 1_008 + [(1, GAS, both)] * 2)
 
 
 def table_of_sums(_: int) -> Content:
@@ -184,8 +185,8 @@ BLOCKS = (
     Block("both", "the first half `work`, the second `reads`", Share.GAS, ALL_WAYS, halves),
     Block("fence", "FENCE alone", Share.GAS, (SEQ,), drawn("fence")),
     Block("two", "jump from each of two pages to the other", Share.GAS, (SEQ,), drawn("two")),
-    Block("jumps", "jump to another of 217 pages each time", Share.GAS, (SEQ,), drawn("jumps")),
-    Block("random", "random operations over 203 pages", Share.GAS, (SEQ,), drawn("random")),
+    Block("jumps", "jump to another of 217 pages each time", Share.GAS, (SEQ,), drawn("jumps0")),
+    Block("random", "random operations over 217 pages, of which each sixteenth is a jump", Share.GAS, (SEQ,), drawn("random0")),
     Block("writes", "write 256 bytes to each of 256 keys of their own", Share.GAS, (SEQ, RUN), writes),
     Block("traps", "trap at once", Share.CALL, (SEQ, RUN), short(paged(TRAP), 1)),
     Block("inputs", "the same with inputs of 4,096 bytes", Share.CALL, (SEQ, RUN), short(paged(TRAP), 1, bytes(MOST_INPUT))),
@@ -194,7 +195,7 @@ BLOCKS = (
     Block("programs", "the same of 64 programs, with 186 pages from the file each", Share.CALL, (SEQ, RUN), many(touching(), MOST_CALLS)),
     Block("short", "the same with inputs of 4,096 bytes", Share.CALL, (SEQ, RUN), many(touching(), MOST_CALLS, bytes(MOST_INPUT))),
     Block("one-sum", "1,008 add to a key, 2 read it again and again", Share.GAS, RUNS, one_sum),
-    Block("two-sums", "504 add to each of two keys, 2 read both in turn", Share.GAS, RUNS, two_sums),
+    Block("two-sums", "1,008 add to two keys, 2 read both in turn", Share.GAS, RUNS, two_sums),
     Block("sums", "500 add to the same 256 keys, 500 read each once", Share.GAS, RUNS, table_of_sums),
     Block("many-sums", "50,000 keys: 5 add to each, 2 read it", Share.GAS, RUNS, many_sums),
     Block("frame-sums", "22 compute, 900 add to a key, 100 read it 40 times", Share.GAS, (CHAIN, CHAIN_4), sums_of_a_frame),

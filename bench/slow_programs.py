@@ -194,7 +194,7 @@ class Program:
         return self.choice.choice(SOURCES)
 
     def order(self) -> list[int]:
-        """The runs in the order in which leaps lead through them."""
+        """The runs in the order in which leaps lead through them; the first one, at which a copy is entered, comes first."""
         pages_together = {"on": 0, "page": 1, "near": 2, "far": self.shape.pages}[self.shape.reach]
         runs = list(range(self.runs))
         if not pages_together:
@@ -205,7 +205,7 @@ class Program:
             self.choice.shuffle(part)
             if pages_together == 2:
                 part[:] = alternating(part)
-        return [run for part in parts for run in part]
+        return [0, *(run for part in parts for run in part if run)]
 
     def make(self) -> list[int]:
         """All words of the code."""
@@ -275,13 +275,13 @@ class Program:
         return self.choice.randrange(LINE // width) * width
 
     def branch(self, kind: str, at: int) -> list[int]:
-        """A branch to the next word, or to a run that it reaches."""
+        """A branch by the register that is stirred, to the next word, or to a run that it reaches."""
         reach = (code.BRANCH_REACH // WORD - 1) // self.shape.run
         run = at // self.shape.run + self.choice.randint(-reach, reach)
         offset = (run * self.shape.run - at) * WORD
         if not 0 <= run < self.runs or not -code.BRANCH_REACH <= offset < code.BRANCH_REACH or self.choice.random() < 0.3:
             offset = WORD
-        return [code.branch(kind, self.source(), self.source(), offset)]
+        return [code.branch(kind, STIRRED, self.source(), offset)]
 
 
 LONG = frozenset({"jalr", "shake", "address", "place", *CALLS})  # units of more words than one
@@ -357,7 +357,10 @@ KNOWN: Mapping[str, Shape] = {
     "random": Shape(29, 7, 1, 1_024, "on", 0.05, {"jal": 1.0}, PLAIN | {"jal": 1.0}),
     # Each instruction is a jump to another page.
     "jumps": Shape(MOST_PAGES, 7, 1, 1, "far", 0.0, {"jal": 1.0}, {"addi": 1.0}),
-    # The same by two kinds of jumps, in all copies at the same time.
+    # Both, with half of the results going to x0, which no predictor can learn; the first with a jump in sixteen words, too.
+    "random0": Shape(MOST_PAGES, 7, 1, 16, "far", 0.5, {"jal": 1.0}, PLAIN | {"jal": 1.0}),
+    "jumps0": Shape(MOST_PAGES, 7, 1, 1, "far", 0.5, {"jal": 1.0}, {"addi": 1.0}),
+    # Jumps by two kinds of jumps, in all copies at the same time.
     "swaps": Shape(MOST_PAGES, 7, 1, 1, "far", 0.5, {"jal": 1.0, "swap": 1.0}, {"addi": 1.0}),
     # The same between two pages.
     "two": Shape(2, 1, 1, 1, "near", 0.0, {"jal": 1.0}, {"addi": 1.0}),
