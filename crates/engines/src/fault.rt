@@ -17,9 +17,10 @@ use workers::RunFault;
 /// Why a file is refused.
 #[derive(Clone, Copy, Debug, PartialEq, Eq, Error)]
 pub enum FileFault {
-    /// It can't be opened or read, or a source is not UTF-8.
+    /// A file can't be opened or read to its end, or a source is not UTF-8.
     Unreadable = 1,
-    /// It can't be made or written.
+    /// `--out` names the file that is read, its file can't be made, written or renamed, or `rvstm` can't find out where its
+    /// path leads.
     Unwritable = 2,
     /// A program file has more than 131,072 bytes.
     TooLong = 3,
@@ -62,7 +63,7 @@ impl fmt::Display for FileFault {
 /// Why a run in order is refused.
 #[derive(Clone, Copy, Debug, PartialEq, Eq, Error)]
 pub enum SeqFault {
-    /// Memory ran out.
+    /// Memory ran out for a run in order, or for the buffer of a session's input before its first request.
     Memory = 1,
 }
 
@@ -101,11 +102,11 @@ impl fmt::Display for SeqFault {
 /// Why the input of a session ends it.
 #[derive(Clone, Copy, Debug, PartialEq, Eq, Error)]
 pub enum InputFault {
-    /// The next line has none of the forms of a request, or no LF is among its first 128 bytes.
+    /// The next line has none of the forms of a request, has no LF, or has none among its first 128 bytes.
     BadLine = 1,
-    /// The input ends before a request's bytes do.
+    /// The input ends before the last byte of a request's body.
     Cut = 2,
-    /// A read failed.
+    /// A read of standard input failed.
     Unreadable = 3,
 }
 

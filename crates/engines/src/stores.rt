@@ -10,10 +10,9 @@ ghost use Rattle.engines.specs.Opened.{Asks};
 ghost use Rattle.engines.specs.Stores.{Abandon, Close, Open, StoreOrder};
 ghost use Rattle.session_disk.specs.Closing.{AreLeftFolded, MayFailToClose};
 
-use session_disk::{NewLog, OpenFault, SystemFolder, abandon, close_files, open_path};
+use session_disk::{NamedDisk, NewLog, OpenFault, SystemFolder, abandon, close_files, open_path};
 use session_states::StoreFault;
 use sqlite_disk::{Disk as StoreDisk, Files, Wary};
-use sqlite_std_file::FileFrom;
 use sqlite_store::FileStore;
 use sqlite_trees::error::StoreError;
 use sqlite_trees::store::Store;
@@ -61,41 +60,44 @@ pub trait SessionStores {
         ensures asks { Asks (asked self.old) (asked self.new) (Abandon ∷ []) };
 }
 
+/// A file of the system, which looks at the names of a session's files at each sync.
+type StoreFile = NamedDisk<Wary, SystemFolder>;
+
 /// The stores of the system's files. Each commit is synced twice.
 #[derive(Drop)]
-pub struct SystemStores<'a> {
+pub struct SystemStores {
     /// The runtime.
-    pub rt: &'a HostRuntime,
+    pub rt: HostRuntime,
 }
 
-impl<'a> SessionStores for SystemStores<'a> {
-    type Kept = FileStore<FileFrom<Wary>>;
+impl SessionStores for SystemStores {
+    type Kept = FileStore<StoreFile>;
 
-    type Files = Files<FileFrom<Wary>>;
+    type Files = Files<StoreFile>;
 
     type Log = NewLog;
 
     ghost asked = { λ _. None };
 
-    ghost are_folded = { AreLeftFolded ⟦<FileFrom<Wary> as StoreDisk>⟧ };
+    ghost are_folded = { AreLeftFolded ⟦<StoreFile as StoreDisk>⟧ };
 
-    fn open_store(&mut self, path: &str) -> Result<(FileStore<FileFrom<Wary>>, NewLog), OpenFault> {
+    fn open_store(&mut self, path: &str) -> Result<(FileStore<StoreFile>, NewLog), OpenFault> {
         let mut folder = SystemFolder { rt: self.rt };
-        open_path(self.rt, &mut folder, path, Wary)
+        open_path(&self.rt, &mut folder, path, Wary)
     }
 
     fn close_store(
         &mut self,
-        store: FileStore<FileFrom<Wary>>,
-    ) -> Result<Files<FileFrom<Wary>>, (StoreError, FileStore<FileFrom<Wary>>)> {
+        store: FileStore<StoreFile>,
+    ) -> Result<Files<StoreFile>, (StoreError, FileStore<StoreFile>)> {
         close_files(store)
     }
 
     fn abandon_store(
         &mut self,
-        store: FileStore<FileFrom<Wary>>,
+        store: FileStore<StoreFile>,
         log: NewLog,
-    ) -> Result<Files<FileFrom<Wary>>, (StoreError, FileStore<FileFrom<Wary>>)> {
+    ) -> Result<Files<StoreFile>, (StoreError, FileStore<StoreFile>)> {
         let mut folder = SystemFolder { rt: self.rt };
         abandon(&mut folder, store, log)
     }

@@ -6,3 +6,5 @@ pub mod Adoptions
 pub mod Stores
 pub mod Readings
 pub mod Removals
+pub mod Missing
+pub mod TooLarge

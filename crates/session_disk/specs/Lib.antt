@@ -4,3 +4,6 @@ pub mod Sessions
 pub mod Opening
 pub mod Closing
 pub mod Logs
+pub mod Looks
+pub mod Names
+pub mod Named

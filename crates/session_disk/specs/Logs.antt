@@ -6,13 +6,22 @@ use Rattle.sqlite_disk.specs.Disk.{MoreFaults}
 use Rattle.sqlite_disk.specs.declared.Disk.{Ghosts}
 use Rattle.session_disk.specs.declared.fault.OpenFault.{OpenFault}
 use Rattle.session_disk.specs.declared.fault.OpenFault.TheVariants.{NotASession}
+use Rattle.session_disk.specs.declared.log_folder.FileNumber.{FileNumber}
+use Rattle.session_disk.specs.declared.log_folder.Links.{Links}
 use Rattle.session_disk.specs.declared.new_log.NewLog.{NewLog}
 
--- the path that each path leads to, whether nothing is there, and the paths that were removed, the last one last
+-- a look at a path: what is done about a link there, and what was found, if anything
+pub record Look : Type 0 where
+  pub path : List ℕ
+  pub links : Links
+  pub found : Option FileNumber
+
+-- the path that each path leads to, whether nothing is there, and the paths that were removed and the looks, the last one last
 pub record FolderView : Type 0 where
   pub leads : List ℕ → List ℕ
   pub is_free : List ℕ → Bool
   pub removed : List (List ℕ)
+  pub looks : List Look
 
 -- where it is known what was removed, these paths are removed then, and no others
 abbrev pub Removes : Option FolderView → Option FolderView → List (List ℕ) → Type 0

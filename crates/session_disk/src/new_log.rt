@@ -40,7 +40,7 @@ impl NewLog {
 }
 
 /// The path of the log: it stands beside the database file.
-fn log_path(alloc: Global, path: &str) -> Result<String, AllocError>
+pub(crate) fn log_path(alloc: Global, path: &str) -> Result<String, AllocError>
     ensures { IfOk result (λ log. string_bytes log ≡ path.now ++ codes "-wal") }
 {
     format!(in alloc; "{path}-wal")

@@ -9,6 +9,7 @@ ghost use Rattle.sqlite_trees.specs.View.{IsClean};
 ghost use Rattle.sqlite_store.specs.FileStore.{is_shielded, state, view};
 ghost use Rattle.session_disk.specs.Faults.{path_fault, system_fault, told_fault};
 ghost use Rattle.session_file.specs.Opening.{IsFresh};
+ghost use Rattle.session_disk.specs.Named.{IsNamedBy};
 ghost use Rattle.session_disk.specs.Logs.{idle_bound, IsBeside, IsFoundIdle, IsGivenUp, Removes, RemovesOwn};
 ghost use Rattle.session_disk.specs.Opening.{files_left, image_of, FailsToOpen, IsCleanLeft, IsOpened};
 ghost use Rattle.session_disk.specs.declared.leftover.Leftover.{Leftover};
@@ -16,6 +17,7 @@ ghost use Rattle.session_disk.specs.Sessions.{IsSessionFile};
 
 use crate::fault::OpenFault;
 use crate::log_folder::LogFolder;
+use crate::named_disk::NamedDisk;
 use crate::new_log::NewLog;
 use crate::opening::open_files;
 use sqlite_disk::{Disk, Files, Start, Tally};
@@ -52,13 +54,13 @@ fn io_fault(error: io::Error) -> OpenFault
 
 /// Opens the database file at a path, or makes it, as the store of a session, and has it for this process alone until the store
 /// is dropped. A log that this open made is removed again where it refuses the file; where the file is opened and not wanted,
-/// `abandon` removes it.
-pub fn open_path<S: Start, F: LogFolder>(
+/// `abandon` removes it. From then on each sync looks at the names of both files.
+pub fn open_path<S: Start, F: LogFolder + Copy>(
     rt: &HostRuntime,
     folder: &mut F,
     path: &str,
     start: S,
-) -> Result<(FileStore<FileFrom<S>>, NewLog), OpenFault>
+) -> Result<(FileStore<NamedDisk<S, F>>, NewLog), OpenFault>
     ensures ok { IfOk result (λ opened. IsTrue (view opened.0).is_clean → IsOpened (image_at S.Start) opened.0) }
     ensures fresh { IfOk result (λ opened. IsClean (view opened.0) → IsFresh (view opened.0)) }
     ensures left { IfOk result (λ opened. IsTrue (view opened.0).is_clean → (now : Image) → (state opened.0).may_leave now → ∥ IsSessionFile now ∥₁) }
@@ -79,9 +81,44 @@ pub fn open_path<S: Start, F: LogFolder>(
         Ok(files) => files,
         Err(error) => return Err(path_fault(error)),
     };
-    match open_beside(rt.alloc(), folder, files, log, seed) {
+    let named = match named_files(rt.alloc(), *folder, path, files) {
+        Ok(named) => named,
+        Err((error, files)) => {
+            let mut files = files;
+            return Err(give_up(folder, &mut files, log, io_fault(error)));
+        }
+    };
+    match open_beside(rt.alloc(), folder, named, log, seed) {
         Ok(opened) => Ok(opened),
         Err((fault, _)) => Err(fault),
+    }
+}
+
+/// The two files at a path, which look at their names at each sync. They are given back if a name can't be looked at.
+fn named_files<S: Start, F: LogFolder + Copy>(
+    alloc: Global,
+    folder: F,
+    path: &str,
+    files: Files<FileFrom<S>>,
+) -> Result<Files<NamedDisk<S, F>>, (io::Error, Files<FileFrom<S>>)>
+    ensures log { IfOk result (λ named. IsNamedBy F.LogFolder.view folder path.now ⟦<FileFrom<S> as Disk>⟧ files.log named.log) }
+    ensures db { IfOk result (λ named. IsNamedBy F.LogFolder.view folder path.now ⟦<FileFrom<S> as Disk>⟧ files.db named.db) }
+    ensures back { IfErr result (λ e. (e.1.log ≡ files.log) × (e.1.db ≡ files.db)) }
+{
+    let Files { log, db } = files;
+    let log = match NamedDisk::at(alloc, folder, path, log) {
+        Ok(log) => log,
+        Err((error, log)) => return Err((error, Files { log, db })),
+    };
+    match NamedDisk::at(alloc, folder, path, db) {
+        Ok(db) => Ok(Files { log, db }),
+        Err((error, db)) => Err((
+            error,
+            Files {
+                log: log.into_inner(),
+                db,
+            },
+        )),
     }
 }
 
